@@ -1,0 +1,10 @@
+-- What is left has the same text without blanks before it, and each iteration leaves less.
+use Rattle.std.proofs.Common.{◌≡◌, length}
+use Rattle.war_types.specs.Title.{after_blanks}
+use Rattle.war_types.proofs.title.without_blanks_before.Given as goal
+
+abbrev pub invariant-loop-rest : goal.invariant-loop-rest
+invariant-loop-rest l = after_blanks l.rest ≡ after_blanks l.text
+
+abbrev pub decreases-loop-rest : goal.decreases-loop-rest
+decreases-loop-rest l = length l.rest

@@ -1,0 +1,4 @@
+pub mod Fault
+pub mod Settings
+pub mod Title
+pub mod Warrior

@@ -1,0 +1,48 @@
+-- Which settings a hill may have. The first five ranges are those of pMARS's options of these names.
+use Rattle.std.specs.Prelude.{ℕ, ◌*◌, ◌≤◌, Bool, ◌&&◌, nat_le, if◌then◌else◌, Result, Ok, Err}
+use Rattle.war_types.specs.declared.settings.RawSettings.{RawSettings}
+use Rattle.war_types.specs.declared.settings.SettingsFault.{SettingsFault}
+use Rattle.war_types.specs.declared.settings.SettingsFault.TheVariants as faults
+
+-- a number from low to high
+abbrev pub is_from_to : ℕ → ℕ → ℕ → Bool
+is_from_to low high n = nat_le low n && nat_le n high
+
+-- the settings, or the first field in this order that is out of its range
+abbrev pub settings_of : RawSettings → Result RawSettings SettingsFault
+settings_of s =
+    if is_from_to 64 65535 s.core then (
+    if is_from_to 1 1000000 s.cycles then (
+    if is_from_to 1 65535 s.processes then (
+    if is_from_to 1 100 s.length then (
+    if nat_le s.length s.distance && nat_le (2 * s.distance) s.core then (
+    if is_from_to 1 1000 s.rounds then (
+    if is_from_to 1 2147483646 s.seed then (
+    if is_from_to 1 20 s.capacity then Ok s
+    else Err faults.Capacity)
+    else Err faults.Seed)
+    else Err faults.Rounds)
+    else Err faults.Distance)
+    else Err faults.Length)
+    else Err faults.Processes)
+    else Err faults.Cycles)
+    else Err faults.Core
+
+-- each field is in its range
+pub record AreSettings (s : RawSettings) : Type 0 where
+  pub core_least : 64 ≤ s.core
+  pub core_most : s.core ≤ 65535
+  pub cycles_least : 1 ≤ s.cycles
+  pub cycles_most : s.cycles ≤ 1000000
+  pub processes_least : 1 ≤ s.processes
+  pub processes_most : s.processes ≤ 65535
+  pub length_least : 1 ≤ s.length
+  pub length_most : s.length ≤ 100
+  pub distance_least : s.length ≤ s.distance
+  pub distance_most : 2 * s.distance ≤ s.core
+  pub rounds_least : 1 ≤ s.rounds
+  pub rounds_most : s.rounds ≤ 1000
+  pub seed_least : 1 ≤ s.seed
+  pub seed_most : s.seed ≤ 2147483646
+  pub capacity_least : 1 ≤ s.capacity
+  pub capacity_most : s.capacity ≤ 20

@@ -1,0 +1,173 @@
+//! Why a source is refused.
+
+ghost use Rattle.std.specs.Prelude.{◌≡◌};
+
+use std::alloc::{AllocError, AllocFailed};
+use thiserror::Error;
+
+/// What is wrong with an expression.
+#[derive(Clone, Copy, Debug, PartialEq, Eq, Error)]
+pub enum ExprFault {
+    /// There is no expression, or its parts don't make one.
+    #[error("BadExpression")]
+    BadExpression,
+    /// A name that nothing defines.
+    #[error("UnknownName")]
+    UnknownName,
+    /// A division by 0, or a remainder of one.
+    #[error("DivideByZero")]
+    DivideByZero,
+    /// A number or a result that is no 64-bit signed number.
+    #[error("Overflow")]
+    Overflow,
+}
+
+impl ExprFault {
+    ghost use Rattle.war_types.specs.Fault.{expr_fault_name};
+
+    /// The fault's name, as it stands in a refusal.
+    pub fn name(self) -> &'static str
+        ensures { result.now ≡ expr_fault_name self }
+    {
+        match self {
+            ExprFault::BadExpression => "BadExpression",
+            ExprFault::UnknownName => "UnknownName",
+            ExprFault::DivideByZero => "DivideByZero",
+            ExprFault::Overflow => "Overflow",
+        }
+    }
+}
+
+/// The twenty kinds of an assembler's fault.
+#[derive(Clone, Copy, Debug, PartialEq, Eq, Error)]
+pub enum AsmKind {
+    /// The source has more than 65,536 bytes.
+    #[error("SourceTooLong")]
+    SourceTooLong,
+    /// A `FOR` without its `ROF`.
+    #[error("UnmatchedFor")]
+    UnmatchedFor,
+    /// A `ROF` without its `FOR`.
+    #[error("UnmatchedRof")]
+    UnmatchedRof,
+    /// More than 4,096 counted lines.
+    #[error("ForLimit")]
+    ForLimit,
+    /// A label or an EQU name that is defined already.
+    #[error("DuplicateName")]
+    DuplicateName,
+    /// An `EQU` without a name, without a body, or with a reserved word in it.
+    #[error("BadEqu")]
+    BadEqu,
+    /// Sixteen rounds of EQU substitution leave a name, or a list has more than 512 tokens.
+    #[error("EquLimit")]
+    EquLimit,
+    /// The count of a `FOR`.
+    #[error("{0}")]
+    ForCount(ExprFault),
+    /// A growth of memory was refused.
+    #[error("Memory")]
+    Memory,
+    /// A byte that begins no token.
+    #[error("BadToken")]
+    BadToken,
+    /// Where an operation is due, something else stands.
+    #[error("BadOperation")]
+    BadOperation,
+    /// `LDP`, `STP` or `PIN`: there is no P-space.
+    #[error("Pspace")]
+    Pspace,
+    /// A `.` without a modifier's name.
+    #[error("BadModifier")]
+    BadModifier,
+    /// An operand is missing.
+    #[error("MissingOperand")]
+    MissingOperand,
+    /// The expression of an operand, of `ORG`, of `END` or of an assertion.
+    #[error("{0}")]
+    Expression(ExprFault),
+    /// Text after what the line may have.
+    #[error("ExtraText")]
+    ExtraText,
+    /// There is no instruction.
+    #[error("Empty")]
+    Empty,
+    /// There are more instructions than the settings allow.
+    #[error("TooLong")]
+    TooLong,
+    /// The start is no instruction of the warrior.
+    #[error("BadStart")]
+    BadStart,
+    /// An assertion doesn't hold.
+    #[error("AssertFalse")]
+    AssertFalse,
+}
+
+impl AsmKind {
+    ghost use Rattle.war_types.specs.Fault.{kind_name};
+
+    /// The kind's name, as it stands in a refusal: that of the expression's fault where the kind has one.
+    pub fn name(self) -> &'static str
+        ensures { result.now ≡ kind_name self }
+    {
+        match self {
+            AsmKind::SourceTooLong => "SourceTooLong",
+            AsmKind::UnmatchedFor => "UnmatchedFor",
+            AsmKind::UnmatchedRof => "UnmatchedRof",
+            AsmKind::ForLimit => "ForLimit",
+            AsmKind::DuplicateName => "DuplicateName",
+            AsmKind::BadEqu => "BadEqu",
+            AsmKind::EquLimit => "EquLimit",
+            AsmKind::ForCount(fault) | AsmKind::Expression(fault) => fault.name(),
+            AsmKind::Memory => "Memory",
+            AsmKind::BadToken => "BadToken",
+            AsmKind::BadOperation => "BadOperation",
+            AsmKind::Pspace => "Pspace",
+            AsmKind::BadModifier => "BadModifier",
+            AsmKind::MissingOperand => "MissingOperand",
+            AsmKind::ExtraText => "ExtraText",
+            AsmKind::Empty => "Empty",
+            AsmKind::TooLong => "TooLong",
+            AsmKind::BadStart => "BadStart",
+            AsmKind::AssertFalse => "AssertFalse",
+        }
+    }
+}
+
+/// A source's refusal: the line that it names, counted from 1, or 0 where none is to blame, and the kind.
+#[derive(Clone, Copy, Debug, PartialEq, Eq, Error)]
+#[error("{line} {kind}")]
+pub struct AsmFault {
+    pub line: u32,
+    pub kind: AsmKind,
+}
+
+impl AsmFault {
+    /// The refusal for want of memory.
+    pub const MEMORY: AsmFault = AsmFault {
+        line: 0,
+        kind: AsmKind::Memory,
+    };
+}
+
+impl From<AllocError> for AsmFault {
+    ghost use Rattle.std.specs.Prelude.{◌≡◌};
+    ghost use Rattle.war_types.specs.Fault.{no_memory};
+
+    ghost from_gives = { λ _ fault. fault ≡ no_memory };
+
+    fn from(_error: AllocError) -> AsmFault {
+        AsmFault::MEMORY
+    }
+}
+
+impl<T: Drop> From<AllocFailed<T>> for AsmFault {
+    ghost use Rattle.std.specs.Prelude.{◌≡◌};
+    ghost use Rattle.war_types.specs.Fault.{no_memory};
+
+    ghost from_gives = { λ _ fault. fault ≡ no_memory };
+
+    fn from(_error: AllocFailed<T>) -> AsmFault {
+        AsmFault::MEMORY
+    }
+}

@@ -1,0 +1,178 @@
+//! The settings of a hill or of a fight.
+
+ghost use Rattle.std.specs.Prelude.{◌≡◌, ◌*◌, ◌&&◌, nat_le};
+ghost use Rattle.war_types.specs.Settings.{AreSettings, is_from_to, settings_of};
+
+use std::marker::Model;
+use thiserror::Error;
+
+/// Eight numbers that nobody has checked yet.
+#[derive(Clone, Copy, Debug, PartialEq, Eq)]
+pub struct RawSettings {
+    /// Cells of the core, 64 to 65,535.
+    pub core: u32,
+    /// Turns that each side has in a round, 1 to 1,000,000.
+    pub cycles: u32,
+    /// Processes that a side may have at once, 1 to 65,535.
+    pub processes: u32,
+    /// Instructions that a warrior may have, 1 to 100.
+    pub length: u32,
+    /// Cells from the beginning of one warrior to that of the other, at least: from the length to half the core.
+    pub distance: u32,
+    /// Rounds of a match, 1 to 1,000.
+    pub rounds: u32,
+    /// Where the sequence of positions begins, 1 to 2,147,483,646.
+    pub seed: u32,
+    /// Warriors that the hill holds, 1 to 20.
+    pub capacity: u32,
+}
+
+/// The first field of settings that is out of its range.
+#[derive(Clone, Copy, Debug, PartialEq, Eq, Error)]
+pub enum SettingsFault {
+    #[error("Core")]
+    Core,
+    #[error("Cycles")]
+    Cycles,
+    #[error("Processes")]
+    Processes,
+    #[error("Length")]
+    Length,
+    #[error("Distance")]
+    Distance,
+    #[error("Rounds")]
+    Rounds,
+    #[error("Seed")]
+    Seed,
+    #[error("Capacity")]
+    Capacity,
+}
+
+/// Settings with every field in its range.
+#[derive(Clone, Copy, Debug)]
+pub struct Settings {
+    raw: RawSettings,
+}
+
+impl Model for Settings {
+    ghost use Rattle.war_types.specs.declared.settings.RawSettings.{RawSettings};
+
+    ghost Value = { RawSettings };
+
+    ghost use Rattle.war_types.specs.Settings.{AreSettings};
+
+    ghost view = { λ s. s.raw };
+
+    ghost invariant = { λ s. AreSettings s.raw };
+
+    ghost inverse = { λ raw. record { raw = raw } };
+}
+
+impl Settings {
+    /// Checks the fields in the order of `RawSettings`, and names the first that is out of its range.
+    pub fn new(raw: RawSettings) -> Result<Settings, SettingsFault>
+        ensures { result ≡ settings_of raw }
+    {
+        if !is_from_to(64, 65_535, raw.core) {
+            return Err(SettingsFault::Core);
+        }
+        if !is_from_to(1, 1_000_000, raw.cycles) {
+            return Err(SettingsFault::Cycles);
+        }
+        if !is_from_to(1, 65_535, raw.processes) {
+            return Err(SettingsFault::Processes);
+        }
+        if !is_from_to(1, 100, raw.length) {
+            return Err(SettingsFault::Length);
+        }
+        if !is_distance(raw.distance, raw.length, raw.core) {
+            return Err(SettingsFault::Distance);
+        }
+        if !is_from_to(1, 1000, raw.rounds) {
+            return Err(SettingsFault::Rounds);
+        }
+        if !is_from_to(1, 2_147_483_646, raw.seed) {
+            return Err(SettingsFault::Seed);
+        }
+        if !is_from_to(1, 20, raw.capacity) {
+            return Err(SettingsFault::Capacity);
+        }
+        Ok(Settings { raw })
+    }
+
+    /// Cells of the core, 64 to 65,535.
+    pub fn core(&self) -> u16
+        ensures value { result ≡ self.now.core }
+        ensures settings { AreSettings self.now }
+    {
+        self.raw.core as u16
+    }
+
+    /// Turns that each side has in a round, 1 to 1,000,000.
+    pub fn cycles(&self) -> u32
+        ensures value { result ≡ self.now.cycles }
+        ensures settings { AreSettings self.now }
+    {
+        self.raw.cycles
+    }
+
+    /// Processes that a side may have at once, 1 to 65,535.
+    pub fn processes(&self) -> u16
+        ensures value { result ≡ self.now.processes }
+        ensures settings { AreSettings self.now }
+    {
+        self.raw.processes as u16
+    }
+
+    /// Instructions that a warrior may have, 1 to 100.
+    pub fn length(&self) -> u16
+        ensures value { result ≡ self.now.length }
+        ensures settings { AreSettings self.now }
+    {
+        self.raw.length as u16
+    }
+
+    /// Cells from the beginning of one warrior to that of the other, at least.
+    pub fn distance(&self) -> u16
+        ensures value { result ≡ self.now.distance }
+        ensures settings { AreSettings self.now }
+    {
+        self.raw.distance as u16
+    }
+
+    /// Rounds of a match, 1 to 1,000.
+    pub fn rounds(&self) -> u16
+        ensures value { result ≡ self.now.rounds }
+        ensures settings { AreSettings self.now }
+    {
+        self.raw.rounds as u16
+    }
+
+    /// Where the sequence of positions begins, 1 to 2,147,483,646.
+    pub fn seed(&self) -> u32
+        ensures value { result ≡ self.now.seed }
+        ensures settings { AreSettings self.now }
+    {
+        self.raw.seed
+    }
+
+    /// Warriors that the hill holds, 1 to 20.
+    pub fn capacity(&self) -> u16
+        ensures value { result ≡ self.now.capacity }
+        ensures settings { AreSettings self.now }
+    {
+        self.raw.capacity as u16
+    }
+}
+
+fn is_from_to(low: u32, high: u32, number: u32) -> bool
+    ensures { result ≡ is_from_to low high number }
+{
+    (low..=high).contains(&number)
+}
+
+fn is_distance(distance: u32, length: u32, core: u32) -> bool
+    ensures { result ≡ (nat_le length distance && nat_le (2 * distance) core) }
+{
+    length <= distance && distance <= core / 2
+}
