@@ -1,0 +1,15 @@
+pub mod Scanning
+pub mod TextKinds
+pub mod FirstTokens
+pub mod TokenLists
+pub mod Longest
+pub mod ValueRows
+pub mod Numbers
+pub mod Reading
+pub mod ClimbSound
+pub mod ClimbSteps
+pub mod ClimbComplete
+pub mod Splits
+pub mod SplitReads
+pub mod ReadSplits
+pub mod Climbed

@@ -1,0 +1,121 @@
+use Rattle.std.proofs.Common.{◌-◌, Some, None, sym, subst, arith}
+use Rattle.redcode_text.specs.declared.part.Part.TheVariants as parts
+use Rattle.redcode_text.specs.Operators.{Value}
+use Rattle.redcode_text.specs.Climbing.{Climbs, Begin, Continue, parts_of, found}
+use Rattle.redcode_text.proofs.ClimbSteps.{empty_at, at_is, too_deep_at, no_operand_at, operand_at, not_at, sign_at, parentheses_at, unbegun_at, begun_at, over_at, broken_at, on_at, length-parts_of, climbed_shorter, next_shorter}
+use Rattle.redcode_text.proofs.expression.+climb.Goals as goal
+
+pub climb-returns-in_err-value : goal.climb-returns-in_err-value
+climb-returns-in_err-value g t c = rw c.from_residual.ensures (unbegun_at c.args.rank c.args.depth _ c.if-rank-eq0.false c.in_err-value.ensures)
+
+pub climb-loop-operator-init : goal.climb-loop-operator-init
+climb-loop-operator-init g t c =
+    let names = g.N.Names.values c.args.names.now in
+    let ps = parts_of names c.args.tokens.now in
+    let rest = parts_of names c.in_ok-value.rest.now in
+    let climbed : Climbs (c.args.rank - 1) c.args.depth (Begin ps) (Some (c.in_ok-value.value, rest)) = c.in_ok-value.ensures in (
+      λ out h. begun_at c.args.rank c.args.depth ps rest c.in_ok-value.value out c.if-rank-eq0.false climbed h,
+      omega (
+        arith,
+        climbed_shorter (c.args.rank - 1) c.args.depth ps rest c.in_ok-value.value climbed,
+        length-parts_of names c.args.tokens.now,
+        length-parts_of names c.in_ok-value.rest.now,
+      ),
+    )
+
+pub climb-returns-in_err-right : goal.climb-returns-in_err-right
+climb-returns-in_err-right g t c =
+    let names = g.N.Names.values c.args.names.now in
+    rw c.from_residual-in_err-right.ensures (
+    c.loop-operator.invariant.0 None (
+    broken_at c.args.rank c.args.depth (parts_of names c.loop-operator.rest.now) (parts_of names c.in-Some.behind.now) c.loop-operator.value
+    c.in-Some.operator c.if-rank-eq0.false (sym c.in-Some.ensures) c.in_err-right.ensures))
+
+pub climb-loop-operator-smaller : goal.climb-loop-operator-smaller
+climb-loop-operator-smaller g t c =
+    let names = g.N.Names.values c.args.names.now in
+    let rest = parts_of names c.loop-operator.rest.now in
+    let behind = parts_of names c.in-Some.behind.now in
+    let after = parts_of names c.in_ok-right.after.now in
+    omega (
+      arith,
+      next_shorter c.args.rank rest behind c.in-Some.operator (sym c.in-Some.ensures),
+      climbed_shorter (c.args.rank - 1) c.args.depth behind after c.in_ok-right.right c.in_ok-right.ensures,
+      length-parts_of names c.loop-operator.rest.now,
+      length-parts_of names c.in-Some.behind.now,
+      length-parts_of names c.in_ok-right.after.now,
+    )
+
+pub climb-loop-operator-preserved : goal.climb-loop-operator-preserved
+climb-loop-operator-preserved g t c =
+    let names = g.N.Names.values c.args.names.now in
+    let rest = parts_of names c.loop-operator.rest.now in
+    let behind = parts_of names c.in-Some.behind.now in
+    let after = parts_of names c.in_ok-right.after.now in (
+      λ out h.
+          let later = subst (λ (v : Value). Climbs c.args.rank c.args.depth (Continue v after) out) c.applied-value.ensures h in
+          c.loop-operator.invariant.0 out (
+          on_at c.args.rank c.args.depth rest behind after c.loop-operator.value c.in_ok-right.right c.in-Some.operator out c.if-rank-eq0.false
+          (sym c.in-Some.ensures) c.in_ok-right.ensures later),
+      omega (
+        arith,
+        next_shorter c.args.rank rest behind c.in-Some.operator (sym c.in-Some.ensures),
+        climbed_shorter (c.args.rank - 1) c.args.depth behind after c.in_ok-right.right c.in_ok-right.ensures,
+        length-parts_of names c.loop-operator.rest.now,
+        length-parts_of names c.in-Some.behind.now,
+        length-parts_of names c.in_ok-right.after.now,
+      ),
+    )
+
+pub climb-returns : goal.climb-returns
+climb-returns g t c =
+    c.loop-operator.invariant.0 _ (
+    over_at c.args.rank c.args.depth (parts_of (g.N.Names.values c.args.names.now) c.loop-operator.rest.now) c.loop-operator.value c.if-rank-eq0.false (sym c.in_default.ensures))
+
+pub operand-returns-in_err-part : goal.operand-returns-in_err-part
+operand-returns-in_err-part g t c = rw c.from_residual.ensures (empty_at c.args.depth (parts_of (g.N.Names.values c.args.names.now) c.args.tokens.now) c.in_err-part.ensures)
+
+pub operand-returns-in-Operand : goal.operand-returns-in-Operand
+operand-returns-in-Operand g t c =
+    let names = g.N.Names.values c.args.names.now in
+    let ps = parts_of names c.args.tokens.now in
+    let rest = parts_of names c.in_ok-part.rest.now in
+    operand_at c.args.depth ps rest c.in-Operand.value (at_is ps rest c.in_ok-part.part (parts.Operand c.in-Operand.value) c.in_ok-part.ensures c.in-Operand.is)
+
+pub operand-returns-then-depth-eq0 : goal.operand-returns-then-depth-eq0
+operand-returns-then-depth-eq0 g t c =
+    let names = g.N.Names.values c.args.names.now in
+    too_deep_at c.args.depth (parts_of names c.args.tokens.now) (parts_of names c.in_ok-part.rest.now) c.in_ok-part.part c.in_ok-part.ensures c.if-depth-eq0.true c.in_default.not-Operand
+
+pub operand-returns-in-Open : goal.operand-returns-in-Open
+operand-returns-in-Open g t c =
+    let names = g.N.Names.values c.args.names.now in
+    let ps = parts_of names c.args.tokens.now in
+    let rest = parts_of names c.in_ok-part.rest.now in
+    rw c.before_close.ensures (
+    parentheses_at c.args.depth ps rest (found names c.climb.result) c.if-depth-eq0.false
+    (at_is ps rest c.in_ok-part.part parts.Open c.in_ok-part.ensures c.in-Open.is) c.climb.ensures)
+
+pub operand-returns-in-Not : goal.operand-returns-in-Not
+operand-returns-in-Not g t c =
+    let names = g.N.Names.values c.args.names.now in
+    let ps = parts_of names c.args.tokens.now in
+    let rest = parts_of names c.in_ok-part.rest.now in
+    rw (c.behind_not.ensures names) (
+    not_at c.args.depth ps rest (found names c.operand.result) c.if-depth-eq0.false
+    (at_is ps rest c.in_ok-part.part parts.Not c.in_ok-part.ensures c.in-Not.is) c.operand.ensures)
+
+pub operand-returns-in-Operator : goal.operand-returns-in-Operator
+operand-returns-in-Operator g t c =
+    let names = g.N.Names.values c.args.names.now in
+    let ps = parts_of names c.args.tokens.now in
+    let rest = parts_of names c.in_ok-part.rest.now in
+    rw (c.behind_sign.ensures names) (
+    sign_at c.args.depth ps rest c.in-Operator.sign (found names c.operand-in-Operator.result) c.if-depth-eq0.false
+    (at_is ps rest c.in_ok-part.part (parts.Operator c.in-Operator.sign) c.in_ok-part.ensures c.in-Operator.is) c.operand-in-Operator.ensures)
+
+pub operand-returns-in_default-part : goal.operand-returns-in_default-part
+operand-returns-in_default-part g t c =
+    let names = g.N.Names.values c.args.names.now in
+    no_operand_at c.args.depth (parts_of names c.args.tokens.now) (parts_of names c.in_ok-part.rest.now) c.in_ok-part.part c.if-depth-eq0.false c.in_ok-part.ensures
+    c.in_default.not-Operand c.in_default-part.not-Open c.in_default-part.not-Not c.in_default-part.not-Operator

@@ -1,0 +1,5 @@
+pub mod Bytes
+pub mod Tokens
+pub mod Operators
+pub mod Value
+pub mod Climbing

@@ -1,0 +1,146 @@
+-- The value of an expression: its tokens are split at the last of the operators between operands, outside parentheses,
+-- that bind most loosely.
+use Rattle.std.specs.Prelude.{ℕ, zero, suc, pred, ◌+◌, ◌-◌, ◌*◌, ◌^◌, Bool, true, false, nat_le, nat_lt, if◌then◌else◌, List, [], ◌∷◌, length, map, Option, Some, None, Ok, Err, ℤ, pos, codes}
+use Rattle.std.specs.Str.{bytes_eq}
+use Rattle.war_types.specs.declared.fault.ExprFault.TheVariants as faults
+use Rattle.redcode_text.specs.declared.operator.Operator.{Operator}
+use Rattle.redcode_text.specs.declared.operator.Operator.TheVariants as operators
+use Rattle.redcode_text.specs.declared.part.Part.{Part}
+use Rattle.redcode_text.specs.declared.part.Part.TheVariants as parts
+use Rattle.redcode_text.specs.declared.token.TokenKind.{TokenKind}
+use Rattle.redcode_text.specs.declared.token.TokenKind.TheVariants as kinds
+use Rattle.redcode_text.specs.Tokens.{Piece}
+use Rattle.redcode_text.specs.Operators.{Value, rank_of, applied, negated, denied}
+
+-- ---- what a token is in an expression
+
+abbrev pub symbols : List (List ℕ × Part)
+symbols =
+    (codes "(", parts.Open) ∷ (codes ")", parts.Close) ∷ (codes "!", parts.Not)
+    ∷ (codes "*", parts.Operator operators.Times) ∷ (codes "/", parts.Operator operators.Divide) ∷ (codes "%", parts.Operator operators.Remainder)
+    ∷ (codes "+", parts.Operator operators.Plus) ∷ (codes "-", parts.Operator operators.Minus)
+    ∷ (codes "<", parts.Operator operators.Less) ∷ (codes ">", parts.Operator operators.Greater)
+    ∷ (codes "<=", parts.Operator operators.AtMost) ∷ (codes ">=", parts.Operator operators.AtLeast)
+    ∷ (codes "==", parts.Operator operators.Equal) ∷ (codes "!=", parts.Operator operators.NotEqual)
+    ∷ (codes "&&", parts.Operator operators.And) ∷ (codes "||", parts.Operator operators.Or) ∷ []
+
+abbrev pub listed : List (List ℕ × Part) → List ℕ → Part
+listed [] text = parts.Other
+listed (e ∷ es) text = if bytes_eq text e.0 then e.1 else listed es text
+
+-- the number that digits stand for behind those of n
+abbrev pub number_from : ℕ → List ℕ → ℕ
+number_from n [] = n
+number_from n (d ∷ ds) = number_from (10 * n + (d - 48)) ds
+
+-- the number that digits stand for, which has to fit 64 bits with a sign
+abbrev pub number_value : List ℕ → Value
+number_value digits = if nat_lt (number_from 0 digits) (2 ^ 63) then Ok (pos (number_from 0 digits)) else Err faults.Overflow
+
+abbrev pub known : Option ℤ → Value
+known None = Err faults.UnknownName
+known (Some z) = Ok z
+
+abbrev pub part_by_kind : (List ℕ → Option ℤ) → TokenKind → List ℕ → Part
+part_by_kind names kinds.Name text = parts.Operand (known (names text))
+part_by_kind names kinds.Number text = parts.Operand (number_value text)
+part_by_kind names kinds.Symbol text = listed symbols text
+part_by_kind names kinds.Comment text = parts.Other
+part_by_kind names kinds.Bad text = parts.Other
+
+abbrev pub part_of : (List ℕ → Option ℤ) → Piece → Part
+part_of names token = part_by_kind names token.kind token.text
+
+-- ---- where an expression is split
+
+pub record Split : Type 0 where
+  pub left : List Part
+  pub operator : Operator
+  pub right : List Part
+
+-- the split with a further part in front
+abbrev pub behind : Part → Option Split → Option Split
+behind part None = None
+behind part (Some s) = Some (record { left = part ∷ s.left; operator = s.operator; right = s.right })
+
+-- of an operator that may be split at and the split behind it, the one that binds more loosely, or else the later one
+abbrev pub looser : Operator → List Part → Option Split → Option Split
+looser operator others None = Some (record { left = []; operator = operator; right = others })
+looser operator others (Some s) =
+    if nat_le (rank_of operator) (rank_of s.operator) then behind (parts.Operator operator) (Some s)
+    else Some (record { left = []; operator = operator; right = others })
+
+-- the split of what stands behind an operand or not, in so many open parentheses
+abbrev pub split_from : Bool → ℕ → List Part → Option Split
+split_from operand nested [] = None
+split_from operand nested (parts.Operand value ∷ others) = behind (parts.Operand value) (split_from true nested others)
+split_from operand nested (parts.Open ∷ others) = behind parts.Open (split_from false (suc nested) others)
+split_from operand nested (parts.Close ∷ others) = behind parts.Close (split_from true (pred nested) others)
+split_from operand nested (parts.Not ∷ others) = behind parts.Not (split_from false nested others)
+split_from operand nested (parts.Other ∷ others) = behind parts.Other (split_from false nested others)
+split_from true zero (parts.Operator operator ∷ others) = looser operator others (split_from false zero others)
+split_from true (suc nested) (parts.Operator operator ∷ others) = behind (parts.Operator operator) (split_from false (suc nested) others)
+split_from false nested (parts.Operator operator ∷ others) = behind (parts.Operator operator) (split_from false nested others)
+
+-- ---- the value
+
+-- what an operator makes of its sides, where both are expressions
+abbrev pub joined : Operator → Option Value → Option Value → Option Value
+joined operator None right = None
+joined operator (Some l) None = None
+joined operator (Some l) (Some r) = Some (applied operator l r)
+
+abbrev pub option_of : (Value → Value) → Option Value → Option Value
+option_of f None = None
+option_of f (Some v) = Some (f v)
+
+-- a sign before a value
+abbrev pub signed : Operator → Option Value → Option Value
+signed operators.Plus value = value
+signed operators.Minus value = option_of negated value
+signed _ value = None
+
+-- nothing is before a closing parenthesis that stands alone
+abbrev pub if_close : Part → Option (List Part)
+if_close parts.Close = Some []
+if_close _ = None
+
+abbrev pub onto : Part → Option (List Part) → Option (List Part)
+onto part None = None
+onto part (Some others) = Some (part ∷ others)
+
+-- the parts before a closing parenthesis that ends them
+abbrev pub closed : List Part → Option (List Part)
+closed [] = None
+closed (part ∷ []) = if_close part
+closed (part ∷ next ∷ others) = onto part (closed (next ∷ others))
+
+abbrev pub inside_of : (List Part → Option Value) → Option (List Part) → Option Value
+inside_of value None = None
+inside_of value (Some ps) = value ps
+
+-- an expression without a split: a number or a name, a unary operator before the rest, or parentheses; of these so many may be open
+abbrev pub whole : (ℕ → List Part → Option Value) → ℕ → List Part → Option Value
+whole value depth (parts.Operand v ∷ []) = Some v
+whole value (suc depth) (parts.Not ∷ others) = option_of denied (value depth others)
+whole value (suc depth) (parts.Operator operator ∷ others) = signed operator (value depth others)
+whole value (suc depth) (parts.Open ∷ others) = inside_of (value depth) (closed others)
+whole value depth others = None
+
+abbrev pub value_by : (ℕ → List Part → Option Value) → ℕ → List Part → Option Split → Option Value
+value_by value depth expression None = whole value depth expression
+value_by value depth expression (Some s) = joined s.operator (value depth s.left) (value depth s.right)
+
+-- the value of so many parts at most, or nothing where they make no expression
+unfoldable pub value_within : ℕ → ℕ → List Part → Option Value
+value_within zero depth expression = None
+value_within (suc n) depth expression = value_by (value_within n) depth expression (split_from false 0 expression)
+
+abbrev pub or_bad : Option Value → Value
+or_bad None = Err faults.BadExpression
+or_bad (Some value) = value
+
+-- the value of tokens by the values of names: BadExpression where they make no expression, or where more than 64 parentheses
+-- and unary operators stand around one of them
+abbrev pub value_of : (List ℕ → Option ℤ) → List Piece → Value
+value_of names tokens = or_bad (value_within (length tokens) 64 (map (part_of names) tokens))

@@ -1,0 +1,136 @@
+//! Expressions: C's operators and precedence on 64-bit signed numbers.
+
+ghost use Rattle.std.specs.Prelude.{◌≡◌, ℕ, List, Option, ℤ};
+ghost use Rattle.std.specs.Option.{option_map};
+ghost use Rattle.redcode_text.specs.Operators.{denied};
+ghost use Rattle.redcode_text.specs.Tokens.{pieces};
+ghost use Rattle.redcode_text.specs.Value.{value_of};
+ghost use Rattle.redcode_text.specs.Climbing.{Climbs, Begin, parts_of, found, first, first_of, next, next_at, under, signed_found, enclosed};
+
+use crate::names::Names;
+use crate::operator::{Operator, Value, applied, denied, negated, rank_of};
+use crate::part::{Part, part_of};
+use crate::token::Token;
+use war_types::ExprFault;
+
+/// A value at the front of tokens, and the tokens behind it.
+type Found<'t, 'l> = Option<(Value, &'t [Token<'l>])>;
+
+/// How many parentheses and unary operators may stand around a token.
+const DEEPEST: u8 = 64;
+
+/// How loosely the loosest operator binds.
+const LOOSEST: u8 = 6;
+
+/// The value of an expression. `BadExpression` comes before all other faults: there are no tokens, they make no expression,
+/// or more than 64 parentheses and unary operators stand around one.
+pub fn value<N: Names>(tokens: &[Token<'_>], names: &N) -> Result<i64, ExprFault>
+    ensures { result ≡ value_of (N.values names.now) (pieces tokens.now) }
+{
+    let Some((value, rest)) = climb(tokens, names, LOOSEST, DEEPEST) else {
+        return Err(ExprFault::BadExpression);
+    };
+    if rest.is_empty() {
+        value
+    } else {
+        Err(ExprFault::BadExpression)
+    }
+}
+
+/// The operands and operators at the front that bind no more loosely than the rank.
+#[cycle(climb)]
+fn climb<'t, 'l, N: Names>(tokens: &'t [Token<'l>], names: &N, rank: u8, depth: u8) -> Found<'t, 'l>
+    ensures { Climbs rank depth (Begin (parts_of (N.values names.now) tokens.entry.now)) (found (N.values names.now) result) }
+{
+    if rank == 0 {
+        return operand(tokens, names, depth);
+    }
+    let (mut value, mut rest) = climb(tokens, names, rank - 1, depth)?;
+    while let Some((operator, behind)) = operator_at(rest, names, rank) {
+        let (right, after) = climb(behind, names, rank - 1, depth)?;
+        value = applied(operator, value, right);
+        rest = after;
+    }
+    Some((value, rest))
+}
+
+/// A number, a name, or a unary operator or parentheses around what is left of the depth.
+#[cycle(climb)]
+fn operand<'t, 'l, N: Names>(tokens: &'t [Token<'l>], names: &N, depth: u8) -> Found<'t, 'l>
+    ensures { Climbs 0 depth (Begin (parts_of (N.values names.now) tokens.entry.now)) (found (N.values names.now) result) }
+{
+    let (part, rest) = first_part(tokens, names)?;
+    if let Part::Operand(value) = part {
+        return Some((value, rest));
+    }
+    if depth == 0 {
+        return None;
+    }
+    match part {
+        Part::Open => before_close(climb(rest, names, LOOSEST, depth - 1), names),
+        Part::Not => behind_not(operand(rest, names, depth - 1)),
+        Part::Operator(sign) => behind_sign(sign, operand(rest, names, depth - 1)),
+        _ => None,
+    }
+}
+
+/// What the token at the front is, and the tokens behind it.
+fn first_part<'t, 'l, N: Names>(
+    tokens: &'t [Token<'l>],
+    names: &N,
+) -> Option<(Part, &'t [Token<'l>])>
+    ensures { option_map (first (N.values names.now)) result ≡ first_of (parts_of (N.values names.now) tokens.entry.now) }
+{
+    let [first, behind @ ..] = tokens else {
+        return None;
+    };
+    Some((part_of(first, names), behind))
+}
+
+/// The operator of this rank at the front, and what is behind it.
+fn operator_at<'t, 'l, N: Names>(
+    tokens: &'t [Token<'l>],
+    names: &N,
+    rank: u8,
+) -> Option<(Operator, &'t [Token<'l>])>
+    ensures { option_map (next (N.values names.now)) result ≡ next_at rank (parts_of (N.values names.now) tokens.entry.now) }
+{
+    let [first, behind @ ..] = tokens else {
+        return None;
+    };
+    match part_of(first, names) {
+        Part::Operator(operator) if rank_of(operator) == rank => Some((operator, behind)),
+        _ => None,
+    }
+}
+
+/// The value with a `!` before it.
+fn behind_not<'t, 'l>(inner: Found<'t, 'l>) -> Found<'t, 'l>
+    ensures { (names : List ℕ → Option ℤ) → found names result ≡ under denied (found names inner.entry) }
+{
+    let (value, rest) = inner?;
+    Some((denied(value), rest))
+}
+
+/// The value with a `+` or a `-` before it. No other operator stands before an operand.
+fn behind_sign<'t, 'l>(sign: Operator, inner: Found<'t, 'l>) -> Found<'t, 'l>
+    ensures { (names : List ℕ → Option ℤ) → found names result ≡ signed_found sign (found names inner.entry) }
+{
+    let (value, rest) = inner?;
+    match sign {
+        Operator::Plus => Some((value, rest)),
+        Operator::Minus => Some((negated(value), rest)),
+        _ => None,
+    }
+}
+
+/// The value, where a closing parenthesis stands behind it.
+fn before_close<'t, 'l, N: Names>(inner: Found<'t, 'l>, names: &N) -> Found<'t, 'l>
+    ensures { found (N.values names.now) result ≡ enclosed (found (N.values names.now) inner.entry) }
+{
+    let (value, rest) = inner?;
+    match first_part(rest, names)? {
+        (Part::Close, behind) => Some((value, behind)),
+        _ => None,
+    }
+}
