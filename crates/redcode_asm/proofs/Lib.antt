@@ -1,0 +1,12 @@
+pub mod Rows
+pub mod Scanning
+pub mod Numbers
+pub mod Lines
+pub mod Steps
+pub mod LineLemmas
+pub mod TokenLemmas
+pub mod OperandLemmas
+pub mod InstrLemmas
+pub mod LoadLemmas
+pub mod AssemblyLemmas
+pub mod RoundTrip

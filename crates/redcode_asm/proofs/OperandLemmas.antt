@@ -1,0 +1,248 @@
+-- The numbers and the operands of the load text, as they are read.
+use Rattle.std.proofs.Common.{◌≡◌, ℕ, zero, suc, ◌-◌, ◌*◌, ◌%◌, ◌^◌, ◌==◌, ◌≤◌, ◌<◌, false, List, [], ◌∷◌, ◌++◌, length, Option, Some, Ok, ℤ, pos, neg_ℤ, refl, ap, ◌∙◌, inl, inr, arith, rules, ne_eqb, lt-ltb, le-ltb, append_assoc}
+use Rattle.std.specs.Prelude.{nat_lt, if◌then◌else◌}
+use Rattle.std.specs.Fmt.{decimal}
+use Rattle.std.specs.List.{AllByRecursion, take_while}
+use Rattle.std.specs.Str.Parse.{AllDigits, IsNumeral}
+use Rattle.std.proofs.Math.Nat.{mod-eq_of_lt}
+use Rattle.std.proofs.lemmas.Bool.{cases_lt}
+use Rattle.std.proofs.lemmas.List.{length-append, length-replicate}
+use Rattle.std.proofs.lemmas.Fmt.{decimal_is_IsNumeral, digits_value-decimal, length-decimal-le}
+use Rattle.std.proofs.lemmas.Str.Parse.{IsNumeralModel, numerals_by_fold, tells_digits, digit_from_value}
+use Rattle.war_types.specs.declared.instr.Mode.{Mode}
+use Rattle.war_types.specs.declared.instr.Mode.TheVariants as modes
+use Rattle.redcode_asm.specs.declared.token.TokenKind.TheVariants as kinds
+use Rattle.redcode_asm.specs.declared.statement.Operand.{Operand}
+use Rattle.redcode_asm.specs.Tokens.{Piece, is_digit, tokens_of}
+use Rattle.redcode_asm.specs.Name.{named, mode_names, mode_text}
+use Rattle.redcode_asm.specs.Statement.{Value, number_from, unsigned_at, number_at, operand_at}
+use Rattle.redcode_asm.specs.Instruction.{address_of}
+use Rattle.redcode_asm.specs.LoadText.{spaces, signed_number, right_in, operand_text}
+use Rattle.redcode_asm.proofs.LineLemmas.{AreInLine, in_line-append}
+use Rattle.redcode_asm.proofs.TokenLemmas.{piece, IsDigitByte, tokens_of-spaces, tokens_of-digits, tokens_of-mode, tokens_of-minus}
+
+-- a text of digits has digit bytes only
+pub digit_bytes : (ds : List ℕ) → AllDigits 10 ds → AllByRecursion IsDigitByte ds
+digit_bytes [] all = tt
+digit_bytes (d ∷ ds) all = (digit_from_value d all.0, digit_bytes ds all.1)
+
+-- a text of digits with a value
+pub record Writes (ds : List ℕ) (n : ℕ) : Type 0 where
+  pub numeral : IsNumeral 10 ds
+  pub value : number_from 0 ds ≡ n
+  pub small : n < 65536
+
+-- what digits stand for is what std's words say of them
+numerals : IsNumeralModel (AllDigits 10) (number_from 0)
+numerals = numerals_by_fold (AllDigits 10) tells_digits number_from (search rules)
+
+-- a number below 65,536 in decimal has that number as its value
+pub Writes-decimal : (n : ℕ) → n < 65536 → Writes (decimal n) n
+Writes-decimal n small =
+    record { numeral = (decimal_is_IsNumeral n (omega arith)).0; value = digits_value-decimal numerals n (omega arith); small = small }
+
+-- what is read from the front of a text
+abbrev pub reading : ℤ → List ℕ → Option (Value × List Piece)
+reading z rest = Some (Ok z, tokens_of rest)
+
+-- digits are read as their value
+pub unsigned_at-digits : (ds : List ℕ) (n : ℕ) (rest : List ℕ) → Writes ds n → take_while is_digit rest ≡ []
+    → unsigned_at (tokens_of (ds ++ rest)) ≡ reading (pos n) rest
+unsigned_at-digits [] n rest h stops = absurd (omega (arith, h.numeral.0))
+unsigned_at-digits (d ∷ ds) n rest h stops =
+    let bytes = digit_bytes (d ∷ ds) h.numeral.1 in
+    ap unsigned_at (tokens_of-digits d ds rest bytes.0 bytes.1 stops) ∙ rw (h.value, lt-ltb n (2 ^ 63) (omega (arith, h.small))) refl
+
+-- digits without a sign
+pub number_at-digits : (ds : List ℕ) (n : ℕ) (rest : List ℕ) → Writes ds n → take_while is_digit rest ≡ []
+    → number_at (tokens_of (ds ++ rest)) ≡ reading (pos n) rest
+number_at-digits [] n rest h stops = absurd (omega (arith, h.numeral.0))
+number_at-digits (d ∷ ds) n rest h stops =
+    let bytes = digit_bytes (d ∷ ds) h.numeral.1 in
+    ap number_at (tokens_of-digits d ds rest bytes.0 bytes.1 stops)
+    ∙ rw (ne_eqb d 45 (λ e. omega (arith, bytes.0)), ne_eqb d 43 (λ e. omega (arith, bytes.0)), h.value, lt-ltb n (2 ^ 63) (omega (arith, h.small))) refl
+
+-- digits behind a minus sign
+pub number_at-minus : (ds : List ℕ) (n : ℕ) (rest : List ℕ) → Writes ds n → take_while is_digit rest ≡ []
+    → number_at (tokens_of (45 ∷ (ds ++ rest))) ≡ reading (neg_ℤ (pos n)) rest
+number_at-minus [] n rest h stops = absurd (omega (arith, h.numeral.0))
+number_at-minus (d ∷ ds) n rest h stops =
+    let bytes = digit_bytes (d ∷ ds) h.numeral.1 in
+    ap number_at (tokens_of-minus d (ds ++ rest) (ne_eqb d 61 (λ e. omega (arith, bytes.0)))) ∙ rw (unsigned_at-digits (d ∷ ds) n rest h stops) refl
+
+-- ---- a number of the load text
+
+-- the number that the load text gives for an address
+abbrev pub value_of : ℕ → ℕ → ℤ
+value_of core n = if nat_lt core (2 * n) then neg_ℤ (pos (core - n)) else pos n
+
+-- the number of the load text is read as that number
+pub number_at-signed : (core n : ℕ) (rest : List ℕ) → n < core → core ≤ 65535 → take_while is_digit rest ≡ []
+    → number_at (tokens_of (signed_number core n ++ rest)) ≡ reading (value_of core n) rest
+number_at-signed core n rest below most stops =
+    elim (cases_lt core (2 * n)) [
+      | inl lt ↦ rw (lt-ltb core (2 * n) lt) (number_at-minus (decimal (core - n)) (core - n) rest (Writes-decimal (core - n) (omega arith)) stops)
+      | inr le ↦ rw (le-ltb core (2 * n) le) (number_at-digits (decimal n) n rest (Writes-decimal n (omega arith)) stops)
+    ]
+
+-- a negative number from -1 on as an address
+address_of-negative : (core k : ℕ) → 0 < k → k < core → address_of core (neg_ℤ (pos k)) ≡ core - k
+address_of-negative core zero positive below = absurd (omega arith)
+address_of-negative core (suc k) positive below =
+    let remainder : k % core ≡ k = mod-eq_of_lt (omega arith) in
+    rw remainder (omega arith)
+
+-- and its address is the one that it was written for
+pub address_of-value : (core n : ℕ) → n < core → address_of core (value_of core n) ≡ n
+address_of-value core n below =
+    elim (cases_lt core (2 * n)) [
+      | inl lt ↦ rw (lt-ltb core (2 * n) lt) (address_of-negative core (core - n) (omega arith) (omega arith) ∙ omega arith)
+      | inr le ↦ rw (le-ltb core (2 * n) le) (mod-eq_of_lt below)
+    ]
+
+-- a number takes 6 places at most
+pub length-signed : (core n : ℕ) → n < core → core ≤ 65535 → length (signed_number core n) ≤ 6
+length-signed core n below most =
+    elim (cases_lt core (2 * n)) [
+      | inl lt ↦
+          let short : length (decimal (core - n)) ≤ 5 = length-decimal-le 5 (core - n) (omega arith) (omega arith) (omega arith) in
+          rw (lt-ltb core (2 * n) lt) (omega arith)
+      | inr le ↦
+          let short : length (decimal n) ≤ 5 = length-decimal-le 5 n (omega arith) (omega arith) (omega arith) in
+          rw (le-ltb core (2 * n) le) (omega arith)
+    ]
+
+-- digits have no line feed
+in_line-digits : (ds : List ℕ) → AllByRecursion IsDigitByte ds → AreInLine ds
+in_line-digits [] all = tt
+in_line-digits (d ∷ ds) all = (ne_eqb d 10 (λ e. omega (arith, all.0)), in_line-digits ds all.1)
+
+-- nor has a number in decimal
+pub in_line-decimal : (n : ℕ) → n < 65536 → AreInLine (decimal n)
+in_line-decimal n small = in_line-digits (decimal n) (digit_bytes (decimal n) (Writes-decimal n small).numeral.1)
+
+-- nor has a number of the load text
+pub in_line-signed : (core n : ℕ) → n < core → core ≤ 65535 → AreInLine (signed_number core n)
+in_line-signed core n below most =
+    elim (cases_lt core (2 * n)) [
+      | inl lt ↦ rw (lt-ltb core (2 * n) lt) (refl, in_line-decimal (core - n) (omega arith))
+      | inr le ↦ rw (le-ltb core (2 * n) le) (in_line-decimal n (omega arith))
+    ]
+
+-- ---- what may stand behind a mode
+
+-- a text that begins with no equals sign
+abbrev pub Follows : List ℕ → Type 0
+Follows [] = ⊥
+Follows (c ∷ cs) = (c == 61) ≡ false
+
+-- what begins with another byte still does before a further text
+Follows-append : (xs ys : List ℕ) → Follows xs → Follows (xs ++ ys)
+Follows-append [] ys h = absurd h
+Follows-append (x ∷ xs) ys h = h
+
+-- and behind spaces
+Follows-spaces : (k : ℕ) (text : List ℕ) → Follows text → Follows (spaces k ++ text)
+Follows-spaces zero text h = h
+Follows-spaces (suc k) text h = refl
+
+-- digits begin with another byte
+Follows-digits : (ds : List ℕ) (n : ℕ) → Writes ds n → Follows ds
+Follows-digits [] n h = absurd (omega (arith, h.numeral.0))
+Follows-digits (d ∷ ds) n h = ne_eqb d 61 (λ e. omega (arith, (digit_bytes (d ∷ ds) h.numeral.1).0))
+
+-- so does a number of the load text
+Follows-signed : (core n : ℕ) → n < core → core ≤ 65535 → Follows (signed_number core n)
+Follows-signed core n below most =
+    elim (cases_lt core (2 * n)) [
+      | inl lt ↦ rw (lt-ltb core (2 * n) lt) refl
+      | inr le ↦ rw (le-ltb core (2 * n) le) (Follows-digits (decimal n) n (Writes-decimal n (omega arith)))
+    ]
+
+-- before such a text a mode is a token of its own
+tokens_of-mode_before : (mode : Mode) (text : List ℕ) → Follows text → tokens_of (mode_text mode ++ text) ≡ piece kinds.Symbol (mode_text mode) ∷ tokens_of text
+tokens_of-mode_before mode [] h = absurd h
+tokens_of-mode_before mode (c ∷ text) h = tokens_of-mode mode c text h
+
+-- ---- operands
+
+-- a mode's text is its name
+named-mode : (mode : Mode) → named mode_names (mode_text mode) ≡ Some mode
+named-mode modes.Immediate = refl
+named-mode modes.Direct = refl
+named-mode modes.AIndirect = refl
+named-mode modes.BIndirect = refl
+named-mode modes.APre = refl
+named-mode modes.BPre = refl
+named-mode modes.APost = refl
+named-mode modes.BPost = refl
+
+-- an operand without where it lies, as the load text gives it
+abbrev pub operand_of : ℕ → Mode → ℕ → Operand
+operand_of core mode n = record { mode = mode; value = Ok (value_of core n) }
+
+-- an operand's text is a mode, and then its number
+pub tokens_of-operand : (core : ℕ) (mode : Mode) (n : ℕ) (rest : List ℕ) → n < core → core ≤ 65535
+    → tokens_of (operand_text core mode n ++ rest) ≡ piece kinds.Symbol (mode_text mode) ∷ tokens_of (signed_number core n ++ rest)
+tokens_of-operand core mode n rest below most =
+    let text = signed_number core n in
+    let blanks = spaces (6 - length text) in
+    let follows = Follows-spaces (6 - length text) (text ++ rest) (Follows-append text rest (Follows-signed core n below most)) in
+    ap tokens_of (append_assoc (mode_text mode) (blanks ++ text) rest ∙ ap (λ (t : List ℕ). mode_text mode ++ t) (append_assoc blanks text rest))
+    ∙ tokens_of-mode_before mode (blanks ++ (text ++ rest)) follows
+    ∙ ap (λ (ts : List Piece). piece kinds.Symbol (mode_text mode) ∷ ts) (tokens_of-spaces (6 - length text) (text ++ rest))
+
+-- a mode's symbol and a number are an operand
+operand_at-mode : (mode : Mode) (tokens behind : List Piece) (z : ℤ) → number_at tokens ≡ Some (Ok z, behind)
+    → operand_at (piece kinds.Symbol (mode_text mode) ∷ tokens) ≡ Some (record { mode = mode; value = Ok z }, behind)
+operand_at-mode mode tokens behind z h = rw (named-mode mode, h) refl
+
+-- an operand's text is read as that operand
+pub operand_at-text : (core : ℕ) (mode : Mode) (n : ℕ) (rest : List ℕ) → n < core → core ≤ 65535 → take_while is_digit rest ≡ []
+    → operand_at (tokens_of (operand_text core mode n ++ rest)) ≡ Some (operand_of core mode n, tokens_of rest)
+operand_at-text core mode n rest below most stops =
+    ap operand_at (tokens_of-operand core mode n rest below most)
+    ∙ operand_at-mode mode (tokens_of (signed_number core n ++ rest)) (tokens_of rest) (value_of core n) (number_at-signed core n rest below most stops)
+
+-- a mode's text has no line feed
+in_line-mode : (mode : Mode) → AreInLine (mode_text mode)
+in_line-mode modes.Immediate = (refl, tt)
+in_line-mode modes.Direct = (refl, tt)
+in_line-mode modes.AIndirect = (refl, tt)
+in_line-mode modes.BIndirect = (refl, tt)
+in_line-mode modes.APre = (refl, tt)
+in_line-mode modes.BPre = (refl, tt)
+in_line-mode modes.APost = (refl, tt)
+in_line-mode modes.BPost = (refl, tt)
+
+-- a mode's text is one byte
+length-mode : (mode : Mode) → length (mode_text mode) ≡ 1
+length-mode modes.Immediate = refl
+length-mode modes.Direct = refl
+length-mode modes.AIndirect = refl
+length-mode modes.BIndirect = refl
+length-mode modes.APre = refl
+length-mode modes.BPre = refl
+length-mode modes.APost = refl
+length-mode modes.BPost = refl
+
+-- spaces have no line feed
+pub in_line-spaces : (k : ℕ) → AreInLine (spaces k)
+in_line-spaces zero = tt
+in_line-spaces (suc k) = (refl, in_line-spaces k)
+
+-- an operand's text has no line feed
+pub in_line-operand : (core : ℕ) (mode : Mode) (n : ℕ) → n < core → core ≤ 65535 → AreInLine (operand_text core mode n)
+in_line-operand core mode n below most =
+    let text = signed_number core n in
+    in_line-append (mode_text mode) (right_in 6 text) (in_line-mode mode)
+    (in_line-append (spaces (6 - length text)) text (in_line-spaces (6 - length text)) (in_line-signed core n below most))
+
+-- and takes 7 places
+pub length-operand : (core : ℕ) (mode : Mode) (n : ℕ) → n < core → core ≤ 65535 → length (operand_text core mode n) ≡ 7
+length-operand core mode n below most =
+    let text = signed_number core n in
+    let short : length text ≤ 6 = length-signed core n below most in
+    let outer = length-append (mode_text mode) (right_in 6 text) in
+    let inner = length-append (spaces (6 - length text)) text in
+    omega (arith, outer, inner, length-mode mode, length-replicate {A = ℕ} (6 - length text) 32)

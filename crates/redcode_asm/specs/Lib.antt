@@ -1,0 +1,9 @@
+pub mod Name
+pub mod Tokens
+pub mod Statement
+pub mod Instruction
+pub mod Source
+pub mod Assembly
+pub mod LoadText
+pub mod Gives
+pub mod RoundTrip
