@@ -1,0 +1,6 @@
+pub mod Rows
+pub mod Cores
+pub mod Variants
+pub mod Windows
+pub mod Turns
+pub mod Loads

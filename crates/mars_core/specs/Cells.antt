@@ -1,0 +1,45 @@
+-- Cells, and sums and differences in a core of so many cells.
+use Rattle.std.specs.Prelude.{ℕ, ◌+◌, ◌-◌, ◌%◌, ◌≤◌, ◌≡◌, List, length, slice_index_or, All}
+use Rattle.war_types.specs.declared.instr.Op.TheVariants as ops
+use Rattle.war_types.specs.declared.instr.Modifier.TheVariants as modifiers
+use Rattle.war_types.specs.declared.instr.Mode.TheVariants as modes
+use Rattle.war_types.specs.declared.instr.Instr.{Instr}
+use Rattle.war_types.specs.Warrior.{HasNumbersBelow}
+use Rattle.mars_core.specs.declared.field.Field.{Field}
+use Rattle.mars_core.specs.declared.field.Field.TheVariants as fields
+
+-- what a cell holds that nothing was loaded into: DAT.F $0,$0
+abbrev pub blank : Instr
+blank = record { op = ops.Dat; modifier = modifiers.F; a_mode = modes.Direct; a = 0; b_mode = modes.Direct; b = 0 }
+
+-- all numbers and addresses are modulo the core size
+abbrev pub plus : ℕ → ℕ → ℕ → ℕ
+plus size m n = (m + n) % size
+
+abbrev pub minus : ℕ → ℕ → ℕ → ℕ
+minus size m n = (m + (size - n)) % size
+
+abbrev pub cell : List Instr → ℕ → Instr
+cell core at = slice_index_or core at blank
+
+-- the A number or the B number of an instruction
+abbrev pub number : Field → Instr → ℕ
+number fields.A i = i.a
+number fields.B i = i.b
+
+abbrev pub with_number : Field → ℕ → Instr → Instr
+with_number fields.A n i = record { op = i.op; modifier = i.modifier; a_mode = i.a_mode; a = n; b_mode = i.b_mode; b = i.b }
+with_number fields.B n i = record { op = i.op; modifier = i.modifier; a_mode = i.a_mode; a = i.a; b_mode = i.b_mode; b = n }
+
+-- an instruction with one of its numbers raised, or lowered, by 1
+abbrev pub raised : ℕ → Field → Instr → Instr
+raised size field i = with_number field (plus size (number field i) 1) i
+
+abbrev pub lowered : ℕ → Field → Instr → Instr
+lowered size field i = with_number field (minus size (number field i) 1) i
+
+-- a core of so many cells, each number in it below that
+pub record IsCore (size : ℕ) (core : List Instr) : Type 0 where
+  pub some : 1 ≤ size
+  pub length : length core ≡ size
+  pub numbers : All (HasNumbersBelow size) core

@@ -1,0 +1,186 @@
+-- What each operation does (the 1994 draft standard, "Instructions"; SEQ, SNE and NOP as in pMARS).
+use Rattle.std.specs.Prelude.{ℕ, ◌*◌, ◌/◌, ◌%◌, Bool, ◌&&◌, ◌==◌, not, nat_lt, if◌then◌else◌, List, [], ◌∷◌, Option, Some, None, slice_set}
+use Rattle.std.specs.Option.{is_some}
+use Rattle.std.specs.List.{list_all}
+use Rattle.war_types.specs.declared.instr.Op.{Op}
+use Rattle.war_types.specs.declared.instr.Op.TheVariants as ops
+use Rattle.war_types.specs.declared.instr.Modifier.{Modifier}
+use Rattle.war_types.specs.declared.instr.Modifier.TheVariants as modifiers
+use Rattle.war_types.specs.declared.instr.Mode.{Mode}
+use Rattle.war_types.specs.declared.instr.Mode.TheVariants as modes
+use Rattle.war_types.specs.declared.instr.Instr.{Instr}
+use Rattle.mars_core.specs.declared.field.Field.{Field}
+use Rattle.mars_core.specs.declared.field.Pair.{Pair}
+use Rattle.mars_core.specs.declared.arithmetic.Arithmetic.{Arithmetic}
+use Rattle.mars_core.specs.declared.arithmetic.Arithmetic.TheVariants as arithmetics
+use Rattle.mars_core.specs.declared.effect.Queued.{Queued}
+use Rattle.mars_core.specs.declared.effect.Queued.TheVariants as queueds
+use Rattle.mars_core.specs.declared.operand.Operand.{Operand}
+use Rattle.mars_core.specs.Cells.{cell, number, with_number, lowered, plus, minus}
+use Rattle.mars_core.specs.Pairs.{pairs}
+
+-- MOV: each target field is the A register's field of its pair
+abbrev pub moved : List Pair → Instr → Instr → Instr
+moved [] a target = target
+moved (p ∷ ps) a target = moved ps a (with_number p.target (number p.source a) target)
+
+-- under .I the whole instruction
+abbrev pub copied : Modifier → Instr → Instr → Instr
+copied modifiers.I a target = a
+copied modifier a target = moved (pairs modifier) a target
+
+-- y, of the B operand, with x, of the A operand; nothing where y is to be divided by 0
+abbrev pub combined : ℕ → Arithmetic → ℕ → ℕ → Option ℕ
+combined size arithmetics.Sum y x = Some (plus size y x)
+combined size arithmetics.Difference y x = Some (minus size y x)
+combined size arithmetics.Product y x = Some ((y * x) % size)
+combined size arithmetics.Quotient y x = if x == 0 then None else Some (y / x)
+combined size arithmetics.Remainder y x = if x == 0 then None else Some (y % x)
+
+-- the value of a pair, by the registers
+abbrev pub value : ℕ → Arithmetic → Instr → Instr → Pair → Option ℕ
+value size arithmetic a b p = combined size arithmetic (number p.target b) (number p.source a)
+
+abbrev pub with_value : Field → Option ℕ → Instr → Instr
+with_value field None target = target
+with_value field (Some n) target = with_number field n target
+
+-- each target field is the value of its pair, where it has one
+abbrev pub calculated : ℕ → Arithmetic → Instr → Instr → List Pair → Instr → Instr
+calculated size arithmetic a b [] target = target
+calculated size arithmetic a b (p ∷ ps) target = calculated size arithmetic a b ps (with_value p.target (value size arithmetic a b p) target)
+
+abbrev pub have_values : ℕ → Arithmetic → Instr → Instr → List Pair → Bool
+have_values size arithmetic a b ps = list_all (λ p. is_some (value size arithmetic a b p)) ps
+
+-- DJN: the target's fields lowered by 1
+abbrev pub all_lowered : ℕ → List Pair → Instr → Instr
+all_lowered size [] target = target
+all_lowered size (p ∷ ps) target = all_lowered size ps (lowered size p.target target)
+
+-- every B field of the pairs is 0
+abbrev pub are_zero : Modifier → Instr → Bool
+are_zero modifier b = list_all (λ p. number p.target b == 0) (pairs modifier)
+
+-- every B field of the pairs is 0 once it is lowered by 1
+abbrev pub fall_to_zero : ℕ → Modifier → Instr → Bool
+fall_to_zero size modifier b = list_all (λ p. minus size (number p.target b) 1 == 0) (pairs modifier)
+
+abbrev pub numbers_equal : Modifier → Instr → Instr → Bool
+numbers_equal modifier a b = list_all (λ p. number p.source a == number p.target b) (pairs modifier)
+
+-- a number of its own for each operation, each modifier and each mode
+abbrev pub op_number : Op → ℕ
+op_number ops.Dat = 0
+op_number ops.Mov = 1
+op_number ops.Add = 2
+op_number ops.Sub = 3
+op_number ops.Mul = 4
+op_number ops.Div = 5
+op_number ops.Mdl = 6
+op_number ops.Jmp = 7
+op_number ops.Jmz = 8
+op_number ops.Jmn = 9
+op_number ops.Djn = 10
+op_number ops.Seq = 11
+op_number ops.Sne = 12
+op_number ops.Slt = 13
+op_number ops.Spl = 14
+op_number ops.Nop = 15
+
+abbrev pub modifier_number : Modifier → ℕ
+modifier_number modifiers.A = 0
+modifier_number modifiers.B = 1
+modifier_number modifiers.AB = 2
+modifier_number modifiers.BA = 3
+modifier_number modifiers.F = 4
+modifier_number modifiers.X = 5
+modifier_number modifiers.I = 6
+
+abbrev pub mode_number : Mode → ℕ
+mode_number modes.Immediate = 0
+mode_number modes.Direct = 1
+mode_number modes.AIndirect = 2
+mode_number modes.BIndirect = 3
+mode_number modes.APre = 4
+mode_number modes.BPre = 5
+mode_number modes.APost = 6
+mode_number modes.BPost = 7
+
+-- the same operation, modifier and modes
+abbrev pub kinds_equal : Instr → Instr → Bool
+kinds_equal a b =
+    op_number a.op == op_number b.op
+    && modifier_number a.modifier == modifier_number b.modifier
+    && mode_number a.a_mode == mode_number b.a_mode
+    && mode_number a.b_mode == mode_number b.b_mode
+
+-- SEQ: all pairs are equal; under .I all else too
+abbrev pub are_equal : Modifier → Instr → Instr → Bool
+are_equal modifiers.I a b = kinds_equal a b && numbers_equal modifiers.I a b
+are_equal modifier a b = numbers_equal modifier a b
+
+-- SLT: in every pair the A field is below the B field
+abbrev pub are_less : Modifier → Instr → Instr → Bool
+are_less modifier a b = list_all (λ p. nat_lt (number p.source a) (number p.target b)) (pairs modifier)
+
+-- the core after an operation, and the addresses queued in place of the process
+pub record Effect : Type 0 where
+  pub core : List Instr
+  pub queued : List ℕ
+
+abbrev pub queues : List Instr → List ℕ → Effect
+queues core queued = record { core = core; queued = queued }
+
+-- the next instruction is queued, or, on a skip, the one after it
+abbrev pub next : ℕ → ℕ → List ℕ
+next size pc = plus size pc 1 ∷ []
+
+abbrev pub skip_where : ℕ → ℕ → Bool → List ℕ
+skip_where size pc test = plus size pc (if test then 2 else 1) ∷ []
+
+-- the A pointer is queued, elsewhere the next instruction
+abbrev pub jump_where : ℕ → ℕ → Operand → Bool → List ℕ
+jump_where size pc a test = (if test then a.pointer else plus size pc 1) ∷ []
+
+-- the cell that the B operand points to, and the core with another instruction there
+abbrev pub target : Operand → List Instr → Instr
+target b core = cell core b.pointer
+
+abbrev pub put : Operand → Instr → List Instr → List Instr
+put b i core = slice_set core b.pointer i
+
+-- the process ends where a pair has no value
+abbrev pub calculates : ℕ → ℕ → Arithmetic → Modifier → Operand → Operand → List Instr → Effect
+calculates size pc arithmetic m a b core =
+    queues (put b (calculated size arithmetic a.register b.register (pairs m) (target b core)) core)
+    (if have_values size arithmetic a.register b.register (pairs m) then next size pc else [])
+
+-- a line for each operation
+abbrev pub by_op : ℕ → ℕ → Op → Modifier → Operand → Operand → List Instr → Effect
+by_op size pc ops.Dat m a b core = queues core []
+by_op size pc ops.Mov m a b core = queues (put b (copied m a.register (target b core)) core) (next size pc)
+by_op size pc ops.Add m a b core = calculates size pc arithmetics.Sum m a b core
+by_op size pc ops.Sub m a b core = calculates size pc arithmetics.Difference m a b core
+by_op size pc ops.Mul m a b core = calculates size pc arithmetics.Product m a b core
+by_op size pc ops.Div m a b core = calculates size pc arithmetics.Quotient m a b core
+by_op size pc ops.Mdl m a b core = calculates size pc arithmetics.Remainder m a b core
+by_op size pc ops.Jmp m a b core = queues core (a.pointer ∷ [])
+by_op size pc ops.Jmz m a b core = queues core (jump_where size pc a (are_zero m b.register))
+by_op size pc ops.Jmn m a b core = queues core (jump_where size pc a (not (are_zero m b.register)))
+by_op size pc ops.Djn m a b core =
+    queues (put b (all_lowered size (pairs m) (target b core)) core) (jump_where size pc a (not (fall_to_zero size m b.register)))
+by_op size pc ops.Seq m a b core = queues core (skip_where size pc (are_equal m a.register b.register))
+by_op size pc ops.Sne m a b core = queues core (skip_where size pc (not (are_equal m a.register b.register)))
+by_op size pc ops.Slt m a b core = queues core (skip_where size pc (are_less m a.register b.register))
+by_op size pc ops.Spl m a b core = queues core (plus size pc 1 ∷ a.pointer ∷ [])
+by_op size pc ops.Nop m a b core = queues core (next size pc)
+
+unfoldable pub effect : ℕ → ℕ → Op → Modifier → Operand → Operand → List Instr → Effect
+effect size pc op m a b core = by_op size pc op m a b core
+
+-- the addresses that the code names one by one
+abbrev pub addresses : Queued → List ℕ
+addresses queueds.Nothing = []
+addresses (queueds.One a) = a ∷ []
+addresses (queueds.Two a b) = a ∷ b ∷ []

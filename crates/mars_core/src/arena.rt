@@ -1,0 +1,162 @@
+//! The arena in which rounds are played.
+
+ghost use Rattle.std.specs.Prelude.{◌≡◌, ◌-◌, ◌*◌, ◌≤◌, Bool, true, false, Option, length, slice_get, IfOk};
+ghost use Rattle.mars_core.specs.Queue.{is_empty};
+ghost use Rattle.mars_core.specs.Round.{is_over, queue_of, after_turn, turned, after_turns, outcome, fresh, opening, IsRound, CanBegin};
+
+use crate::load::load;
+use crate::operand::BLANK;
+use crate::queue::Queue;
+use crate::round::{Outcome, Side, Turned};
+use crate::turn::turn_of;
+use std::alloc::{AllocError, Allocator};
+use std::marker::Model;
+use war_types::{Instr, Settings, Warrior};
+
+/// A core and the processes of two sides, under settings that stay. Only `new` takes memory.
+#[derive(Debug, Drop)]
+pub struct Arena<A: Allocator> {
+    settings: Settings,
+    core: Vec<Instr, A>,
+    first: Queue<A>,
+    second: Queue<A>,
+    to_move: Side,
+    used: u32,
+}
+
+impl<A: Allocator> Model for Arena<A> {
+    ghost use Rattle.std.specs.Prelude.{◌≡◌};
+    ghost use Rattle.mars_core.specs.Round.{Round};
+
+    ghost Value = { Round };
+
+    ghost use Rattle.mars_core.specs.Arena.{round_in, IsArena};
+
+    ghost view = { λ a. round_in a.settings a.core.items a.first a.second a.to_move a.used };
+
+    ghost invariant = { λ a. IsArena a.settings a.core.items a.first a.second a.to_move a.used };
+}
+
+impl<A: Allocator + Copy> Arena<A> {
+    /// An arena under these settings, with nothing loaded and no process. It takes all memory that a round needs.
+    pub fn new(alloc: A, settings: &Settings) -> Result<Arena<A>, AllocError>
+        ensures { IfOk result (λ a. a ≡ fresh settings.now) }
+    {
+        let core = Vec::from_elem(alloc, BLANK, usize::from(settings.core()))?;
+        let first = Queue::new(alloc, settings.processes())?;
+        let second = Queue::new(alloc, settings.processes())?;
+        Ok(Arena {
+            settings: *settings,
+            core,
+            first,
+            second,
+            to_move: Side::First,
+            used: 0,
+        })
+    }
+}
+
+impl<A: Allocator> Arena<A> {
+    /// Begins a round: clears the core, loads the first warrior at address 0 and the second at `position`, and
+    /// gives each one process, at its start.
+    pub fn begin<B: Allocator, C: Allocator>(
+        &mut self,
+        w0: &Warrior<B>,
+        w1: &Warrior<C>,
+        position: u16,
+        first: Side,
+    )
+        requires { CanBegin self.old.settings w0.now w1.now position }
+        ensures opening { self.new ≡ opening self.old.settings w0.now w1.now position first }
+        ensures round { IsRound self.new }
+    {
+        load(self.core.as_mut_slice(), w0.code(), w1.code(), position);
+        self.first.restart(w0.start());
+        self.second.restart(position + w1.start());
+        self.to_move = first;
+        self.used = 0;
+    }
+
+    /// Makes one turn of the side that is to move, unless the round is over; the other side is next.
+    pub fn turn(&mut self) -> Turned
+        ensures turned { result ≡ turned self.old }
+        ensures after { self.new ≡ after_turn self.old }
+        ensures round { IsRound self.new }
+    {
+        if self.is_over() {
+            return Turned::Over;
+        }
+        let size = self.settings.core();
+        self.used += 1;
+        match self.to_move {
+            Side::First => {
+                self.to_move = Side::Second;
+                turn_of(self.core.as_mut_slice(), size, &mut self.first)
+            }
+            Side::Second => {
+                self.to_move = Side::First;
+                turn_of(self.core.as_mut_slice(), size, &mut self.second)
+            }
+        }
+    }
+
+    /// Makes turns until the round is over, at most twice the cycles, and tells who won.
+    pub fn play(&mut self) -> Outcome
+        ensures over { is_over self.new ≡ true }
+        ensures after { self.new ≡ after_turns (2 * self.old.settings.cycles - self.old.used) self.old }
+        ensures outcome { result ≡ outcome self.new }
+        ensures round { IsRound self.new }
+    {
+        while !self.is_over() {
+            self.turn();
+        }
+        self.outcome()
+    }
+
+    /// The instruction in a cell, or `None` at or past the core size.
+    pub fn cell(&self, at: u16) -> Option<Instr>
+        ensures value { result ≡ slice_get self.now.core at }
+        ensures round { IsRound self.now }
+    {
+        self.core.get(usize::from(at)).copied()
+    }
+
+    /// How many processes a side has, at most the settings' limit.
+    pub fn processes(&self, side: Side) -> u32
+        ensures value { result ≡ length (queue_of side self.now) }
+        ensures round { IsRound self.now }
+    {
+        match side {
+            Side::First => self.first.len() as u32,
+            Side::Second => self.second.len() as u32,
+        }
+    }
+
+    /// The address of the process at place `i` of a side's queue, counted from the front.
+    pub fn process(&self, side: Side, i: u32) -> Option<u16>
+        ensures value { result ≡ slice_get (queue_of side self.now) i }
+        ensures round { IsRound self.now }
+    {
+        match side {
+            Side::First => self.first.get(i as usize),
+            Side::Second => self.second.get(i as usize),
+        }
+    }
+
+    fn is_over(&self) -> bool
+        ensures value { result ≡ is_over self.now }
+        ensures round { IsRound self.now }
+    {
+        self.first.is_empty() || self.second.is_empty() || self.used >= 2 * self.settings.cycles()
+    }
+
+    fn outcome(&self) -> Outcome
+        ensures { result ≡ outcome self.now }
+    {
+        match (self.first.is_empty(), self.second.is_empty()) {
+            (false, true) => Outcome::First,
+            (true, false) => Outcome::Second,
+            _ => Outcome::Tie,
+        }
+    }
+}

@@ -1,0 +1,80 @@
+//! The two numbers of an instruction, and the pairs of them that a modifier names.
+
+ghost use Rattle.std.specs.Prelude.{◌≡◌, ℕ, ◌<◌};
+ghost use Rattle.war_types.specs.Warrior.{HasNumbersBelow};
+ghost use Rattle.mars_core.specs.Cells.{number, with_number};
+ghost use Rattle.mars_core.specs.Pairs.{pairs};
+
+use war_types::{Instr, Modifier};
+
+/// One of the two numbers of an instruction.
+#[derive(Clone, Copy, Debug, PartialEq, Eq)]
+pub(crate) enum Field {
+    A,
+    B,
+}
+
+impl Field {
+    /// This number of an instruction.
+    pub(crate) fn of(self, i: Instr) -> u16
+        ensures value { result ≡ number self i }
+        ensures below { (size : ℕ) → HasNumbersBelow size i → result < size }
+    {
+        match self {
+            Field::A => i.a,
+            Field::B => i.b,
+        }
+    }
+
+    /// The instruction with another such number.
+    pub(crate) fn with(self, n: u16, i: Instr) -> Instr
+        ensures value { result ≡ with_number self n i }
+        ensures below { (size : ℕ) → HasNumbersBelow size i → n < size → HasNumbersBelow size result }
+    {
+        match self {
+            Field::A => Instr { a: n, ..i },
+            Field::B => Instr { b: n, ..i },
+        }
+    }
+}
+
+/// A number of the A operand's register, with a number of the B operand's register or target.
+#[derive(Clone, Copy, Debug, PartialEq, Eq)]
+pub(crate) struct Pair {
+    pub(crate) source: Field,
+    pub(crate) target: Field,
+}
+
+const A_TO_A: Pair = Pair {
+    source: Field::A,
+    target: Field::A,
+};
+
+const B_TO_B: Pair = Pair {
+    source: Field::B,
+    target: Field::B,
+};
+
+const A_TO_B: Pair = Pair {
+    source: Field::A,
+    target: Field::B,
+};
+
+const B_TO_A: Pair = Pair {
+    source: Field::B,
+    target: Field::A,
+};
+
+/// The pairs that a modifier names, in the order in which they are written.
+pub(crate) fn pairs(modifier: Modifier) -> &'static [Pair]
+    ensures { result.now ≡ pairs modifier }
+{
+    match modifier {
+        Modifier::A => &[A_TO_A],
+        Modifier::B => &[B_TO_B],
+        Modifier::AB => &[A_TO_B],
+        Modifier::BA => &[B_TO_A],
+        Modifier::F | Modifier::I => &[A_TO_A, B_TO_B],
+        Modifier::X => &[A_TO_B, B_TO_A],
+    }
+}

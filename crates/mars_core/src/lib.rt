@@ -1,0 +1,19 @@
+//! The machine of Core War: a core, the processes of two warriors, turns and rounds.
+#![tactic(auto)]
+
+mod arena;
+mod arithmetic;
+mod effect;
+mod field;
+mod load;
+mod operand;
+mod queue;
+mod registers;
+mod round;
+mod turn;
+
+pub use arena::Arena;
+pub use round::{Outcome, Side, Turned};
+
+#[cfg(test)]
+mod tests;
