@@ -1,0 +1,7 @@
+pub mod Rows
+pub mod Places
+pub mod Contents
+pub mod Images
+pub mod Runs
+pub mod Choices
+pub mod Sectors

@@ -1,0 +1,64 @@
+-- What becomes of the calls of a device with a fuse.
+use Rattle.std.specs.Prelude.{◌≡◌, ℕ, ◌+◌, ◌-◌, ◌^◌, min, ◌==◌, if◌then◌else◌, List, Option, None, Some, Result, IsErr, OnOk}
+use Rattle.sector_disk.specs.declared.fuse.FuseKind.{FuseKind}
+use Rattle.sector_disk.specs.declared.fuse.FuseKind.TheVariants as kinds
+use Rattle.sector_disk.specs.declared.fuse.Fate.{Fate}
+use Rattle.sector_disk.specs.declared.fuse.Fate.TheVariants as fates
+use Rattle.sector_disk.specs.declared.fuse.Fuse.{Fuse}
+use Rattle.sector_disk.specs.declared.fuse_device.FuseDevice.{FuseDevice}
+use Rattle.sector_disk.specs.Disk.{Disk, current}
+use Rattle.sector_disk.specs.Changes.{Changes}
+use Rattle.sector_disk.specs.Served.{IsServed}
+
+-- the call at which a fuse burns
+abbrev pub burning : FuseKind → Fate
+burning kinds.Stop = fates.Lost
+burning kinds.FailLost = fates.Lost
+burning kinds.FailKept = fates.Kept
+
+abbrev pub left_burning : FuseKind → Option ℕ
+left_burning kinds.Stop = Some 0
+left_burning kinds.FailLost = None
+left_burning kinds.FailKept = None
+
+abbrev pub fate_at : FuseKind → Option ℕ → Fate
+fate_at kind None = fates.Passes
+fate_at kind (Some left) = if left == 0 then burning kind else fates.Passes
+
+abbrev pub left_after : FuseKind → Option ℕ → Option ℕ
+left_after kind None = None
+left_after kind (Some left) = if left == 0 then left_burning kind else Some (left - 1)
+
+-- what becomes of the next call: the fuse burns where no call is left to pass, and a fuse without a number passes all
+abbrev pub fate_of : Fuse → Fate
+fate_of fuse = fate_at fuse.kind fuse.left
+
+-- the fuse after that call
+abbrev pub fuse_after : Fuse → Fuse
+fuse_after fuse = record { kind = fuse.kind; left = left_after fuse.kind fuse.left }
+
+-- its failures are those of the device within and the fuse's own
+abbrev pub fuse_failures : {D : Type 0} → (D → ℕ) → FuseDevice D → ℕ
+fuse_failures failures device = min (failures device.inner + device.failed) (2 ^ 64 - 1)
+
+-- what holds of each call of a device with a fuse
+abbrev pub IsFuseServed : {D T E : Type 0} → (D → ℕ) → (D → Type 0) → (D → ℕ) → FuseDevice D → FuseDevice D → Result T E → Type 0
+IsFuseServed size is_lawful failures old new result = IsServed (λ device. size device.inner) (λ device. is_lawful device.inner) (fuse_failures failures) old new result
+
+-- what a write or a sync, or a run of them, made of a device
+pub record IsChanged {D T E : Type 0} (size : D → ℕ) (is_lawful : D → Type 0) (failures : D → ℕ) (disk : D → Disk) (changes : List (Disk → Disk)) (old new : D) (result : Result T E) : Type 0 where
+  pub served : IsServed size is_lawful failures old new result
+  pub changes_made : is_lawful old → Changes changes (disk old) (disk new) result
+
+-- what a read of a sector made of a device, and what it gave
+pub record IsRead {D T E : Type 0} (size : D → ℕ) (is_lawful : D → Type 0) (failures : D → ℕ) (disk : D → Disk) (n : ℕ) (content : List ℕ) (old new : D) (result : Result T E) : Type 0 where
+  pub served : IsServed size is_lawful failures old new result
+  pub kept : is_lawful old → disk new ≡ disk old
+  pub given : is_lawful old → OnOk result (content ≡ current (disk old) n)
+
+-- What a call made of the device within: where it passes, what such a call makes of it at this answer; where it is lost, nothing;
+-- where it is kept, what such a call makes of it at an answer of its own, in whose place stands an Err.
+abbrev pub IsFused : {D T E : Type 0} → Fate → (Result T E → Type 0) → D → D → Result T E → Type 0
+IsFused fates.Passes call old new result = call result
+IsFused fates.Lost call old new result = IsErr result × (new ≡ old)
+IsFused {D} {T} {E} fates.Kept call old new result = IsErr result × ((answer : Result T E) × call answer)
