@@ -1,0 +1,2 @@
+mod Asks
+mod Shared
