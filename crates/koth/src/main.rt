@@ -1,0 +1,40 @@
+//! The program `koth`.
+#![tactic(auto)]
+
+use koth_server::{Failure, run};
+use std::env::Env;
+use std::io::ErrorKind;
+use std::process::ExitCode;
+use std::{env, io};
+
+fn main(rt: HostRuntime) -> ExitCode {
+    let words = match words_given(&rt) {
+        Ok(words) => words,
+        Err(failure) => return ExitCode::from(failure.tell(&mut rt.stderr()).code()),
+    };
+    ExitCode::from(run(
+        &rt,
+        rt.alloc(),
+        rt.alloc(),
+        words.as_slice(),
+        &mut rt.reader(),
+        &mut io::writer(&rt),
+        &mut rt.stderr(),
+    ))
+}
+
+/// The words of the command line, the program's name first.
+fn words_given(rt: &(impl Env + AllocGlobal)) -> Result<Vec<String>, Failure> {
+    let given = match env::args(rt) {
+        Ok(given) => given,
+        Err(error) if error.kind() == ErrorKind::OutOfMemory => return Err(Failure::Memory),
+        Err(_) => return Err(Failure::Stream),
+    };
+    let mut words = Vec::new(rt.alloc());
+    for word in given {
+        if words.push(word).is_err() {
+            return Err(Failure::Memory);
+        }
+    }
+    Ok(words)
+}

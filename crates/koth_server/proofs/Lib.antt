@@ -1,0 +1,6 @@
+mod Ends
+mod Entered
+mod Named
+mod Parts
+mod Rows
+mod Sources

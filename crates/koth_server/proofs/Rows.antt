@@ -1,0 +1,44 @@
+-- Rows of the definitions, computed.
+use Rattle.std.proofs.Common.{◌≡◌, false, [], ◌∷◌, Ok, codes, refl}
+use Rattle.std.specs.Fmt.{digits}
+use Rattle.war_types.specs.Settings.{settings_of}
+use Rattle.war_types.specs.declared.fault.AsmKind.TheVariants as kinds
+use Rattle.war_types.specs.declared.fault.ExprFault.TheVariants as expressions
+use Rattle.clap.specs.Words.{fault_of, takes}
+use Rattle.clap.specs.declared.error.kind.ErrorKind.TheVariants as errors
+use Rattle.clap.proofs.OnLiterals.{clap_on_literals}
+use Rattle.koth_server.specs.Asm.{default_settings, refusal_line}
+use Rattle.koth_server.specs.Words.{AsksFor, koth_app}
+
+-- the premise of `asm` is met by these words
+asm_asks : AsksFor (codes "asm") (codes "koth" ∷ codes "asm" ∷ [])
+unfolding clap_on_literals koth_app
+asm_asks = (refl, refl)
+
+-- no words, help, a word too many and a command that isn't there are not taken
+not_taken : (takes koth_app (codes "koth" ∷ []) ≡ false)
+    × (takes koth_app (codes "koth" ∷ codes "help" ∷ []) ≡ false)
+    × (takes koth_app (codes "koth" ∷ codes "asm" ∷ codes "--help" ∷ []) ≡ false)
+    × (takes koth_app (codes "koth" ∷ codes "asm" ∷ codes "extra" ∷ []) ≡ false)
+    × (takes koth_app (codes "koth" ∷ codes "fight" ∷ []) ≡ false)
+unfolding clap_on_literals koth_app
+not_taken = (refl, refl, refl, refl, refl)
+
+-- what clap finds wrong in them
+faults : (fault_of koth_app (codes "koth" ∷ []) ≡ errors.MissingSubcommand ∷ [])
+    × (fault_of koth_app (codes "koth" ∷ codes "fight" ∷ []) ≡ errors.UnknownArgument ∷ errors.InvalidSubcommand ∷ [])
+    × (fault_of koth_app (codes "koth" ∷ codes "asm" ∷ codes "extra" ∷ []) ≡ errors.UnknownArgument ∷ [])
+    × (fault_of koth_app (codes "koth" ∷ codes "asm" ∷ codes "--help" ∷ []) ≡ errors.DisplayHelp ∷ [])
+unfolding clap_on_literals koth_app
+faults = (refl, refl, refl, refl)
+
+defaults_are_settings : settings_of default_settings ≡ Ok default_settings
+defaults_are_settings = refl
+
+no_line_to_blame : refusal_line (record { line = 0; kind = kinds.Empty }) ≡ codes "REFUSED 0 Empty\n"
+unfolding digits
+no_line_to_blame = refl
+
+name_of_the_expression's_fault : refusal_line (record { line = 4097; kind = kinds.Expression expressions.Overflow }) ≡ codes "REFUSED 4097 Overflow\n"
+unfolding digits
+name_of_the_expression's_fault = refl

@@ -1,0 +1,29 @@
+-- What is taken from an input and what is written, where a stream tells its bytes.
+use Rattle.std.specs.Prelude.{◌≡◌, ℕ, ◌<◌, ◌≤◌, Option, List, ◌++◌, length}
+use Rattle.std.specs.Io.KnownBytes.{Appends, Consumes, IsAtEnd}
+
+-- bytes of a source that are read: one more than a source may have
+abbrev pub read_limit : ℕ
+read_limit = 65537
+
+-- a source was taken: all that the input had, or as much as is read at most
+pub record Takes (old new : Option (List ℕ)) (source : List ℕ) : Type 0 where
+  pub bytes : Consumes old new source
+  pub most : length source ≤ read_limit
+  pub whole : length source < read_limit → IsAtEnd new
+
+-- a part of a text was written, from its beginning on
+pub record WritesPart (old new : Option (List ℕ)) (text : List ℕ) : Type 0 where
+  pub part : List ℕ
+  pub rest : List ℕ
+  pub split : text ≡ part ++ rest
+  pub written : Appends old new part
+
+-- the bytes of the three streams: those that the input has left, and those that the others hold
+pub record Streams : Type 0 where
+  pub input : Option (List ℕ)
+  pub output : Option (List ℕ)
+  pub errors : Option (List ℕ)
+
+abbrev pub streams : Option (List ℕ) → Option (List ℕ) → Option (List ℕ) → Streams
+streams input output errors = record { input = input; output = output; errors = errors }
