@@ -1,5 +1,5 @@
 -- The title of a warrior or of its author.
-use Rattle.std.specs.Prelude.{ℕ, ◌≤◌, Bool, ◌||◌, ◌&&◌, ◌==◌, nat_le, if◌then◌else◌, List, [], ◌∷◌, length, map, take, All}
+use Rattle.std.specs.Prelude.{ℕ, ◌≤◌, ◌-◌, Bool, ◌||◌, ◌&&◌, ◌==◌, nat_le, if◌then◌else◌, List, [], ◌∷◌, ◌++◌, length, map, replicate, take, All}
 
 -- a space, a tab or a carriage return
 abbrev pub is_blank : ℕ → Bool
@@ -41,3 +41,7 @@ pub record IsTitle (bytes : List ℕ) : Type 0 where
   pub not_empty : 1 ≤ length bytes
   pub short : length bytes ≤ 48
   pub printable : All IsPrintable bytes
+
+-- a title as it is stored, in 48 bytes: zeros follow it
+abbrev pub stored_title : List ℕ → List ℕ
+stored_title title = title ++ replicate (48 - length title) 0

@@ -3,6 +3,7 @@ use std::alloc::{AllocError, AllocFailed};
 use std::test::Fail;
 
 mod settings;
+mod stored;
 
 const SMALL: RawSettings = RawSettings {
     core: 64,

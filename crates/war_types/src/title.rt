@@ -1,7 +1,7 @@
 //! The title of a warrior or of its author.
 
-ghost use Rattle.std.specs.Prelude.{◌≡◌, ◌≤◌, length, map};
-ghost use Rattle.war_types.specs.Title.{is_blank, after_blanks, before_blanks, shown, title_of, IsTitle};
+ghost use Rattle.std.specs.Prelude.{◌≡◌, ◌≤◌, ◌<◌, ◌↔◌, ℕ, List, All, IfSome, IsTrue, length, map, replicate, slice_index, take};
+ghost use Rattle.war_types.specs.Title.{is_blank, after_blanks, before_blanks, shown, stored_title, title_of, IsPrintable, IsTitle};
 
 use std::marker::Model;
 
@@ -40,6 +40,18 @@ impl Title {
         Title::of_shown(&inner[..inner.len().min(TITLE_LIMIT)])
     }
 
+    /// The title that is stored in these bytes: its own, and zeros behind them. Other bytes are no title's.
+    pub fn read(bytes: &[u8; 48]) -> Option<Title>
+        ensures some { IfSome result (λ title. IsTitle title × (bytes.now ≡ stored_title title)) }
+        ensures every { (title : List ℕ) → IsTitle title → bytes.now ≡ stored_title title → result ≡ Some title }
+    {
+        let len = printable_len(bytes);
+        if len == 0 || !are_zeros(&bytes[len..]) {
+            return None;
+        }
+        Some(Title { bytes: *bytes, len })
+    }
+
     /// The title's 1 to 48 bytes.
     pub fn bytes(&self) -> &[u8]
         ensures value { result.now ≡ self.now }
@@ -64,6 +76,32 @@ impl Title {
     }
 }
 
+/// How many bytes at the front can be printed.
+fn printable_len(text: &[u8]) -> usize
+    ensures within { result ≤ length text.now }
+    ensures printable { All IsPrintable (take result text.now) }
+    ensures stops { result < length text.now → ¬ IsPrintable (slice_index text.now result) }
+{
+    for (i, byte) in text.iter().enumerate() {
+        if !is_printable(*byte) {
+            return i;
+        }
+    }
+    text.len()
+}
+
+fn is_printable(byte: u8) -> bool
+    ensures { IsTrue result ↔ IsPrintable byte }
+{
+    (0x20..=0x7E).contains(&byte)
+}
+
+fn are_zeros(bytes: &[u8]) -> bool
+    ensures { IsTrue result ↔ (bytes.now ≡ replicate (length bytes.now) 0) }
+{
+    bytes.iter().all(|&byte| byte == 0)
+}
+
 fn is_blank(byte: u8) -> bool
     ensures { result ≡ is_blank byte }
 {
@@ -73,11 +111,7 @@ fn is_blank(byte: u8) -> bool
 fn shown(byte: u8) -> u8
     ensures { result ≡ shown byte }
 {
-    if (0x20..=0x7E).contains(&byte) {
-        byte
-    } else {
-        b'?'
-    }
+    if is_printable(byte) { byte } else { b'?' }
 }
 
 fn without_blanks_before(text: &[u8]) -> &[u8]
