@@ -1,5 +1,4 @@
 pub mod Rows
-pub mod Cores
 pub mod Variants
 pub mod Windows
 pub mod Turns
