@@ -5,3 +5,5 @@ pub mod Served
 pub mod Memory
 pub mod Fuse
 pub mod Laws
+pub mod File
+pub mod FileFault

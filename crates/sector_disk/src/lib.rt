@@ -2,6 +2,7 @@
 #![tactic(auto)]
 
 mod device;
+mod file_device;
 mod fuse;
 mod fuse_device;
 mod laws;
@@ -9,6 +10,7 @@ mod memory_device;
 mod sector;
 
 pub use device::{Device, Fault};
+pub use file_device::{FileDevice, FileFault};
 pub use fuse::FuseKind;
 pub use fuse_device::FuseDevice;
 pub use laws::{each_image_is_chosen, laws_of_images};

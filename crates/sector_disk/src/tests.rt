@@ -1,4 +1,6 @@
+mod files;
 mod fuses;
+mod growths;
 mod images;
 
 use super::*;
