@@ -1,0 +1,6 @@
+pub mod Plain
+mod Lines
+mod Readings
+mod Lookups
+mod Places
+mod Rows

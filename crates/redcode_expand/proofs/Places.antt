@@ -1,0 +1,15 @@
+-- The line at a place.
+use Rattle.std.proofs.Common.{◌≡◌, ℕ, zero, suc, ◌<◌, List, [], ◌∷◌, length, get_or, refl, ap, arith}
+use Rattle.redcode_expand.specs.Walk.{ExpandedLine}
+use Rattle.redcode_expand.specs.Expansion.{title_at, tokens_at}
+use Rattle.redcode_text.specs.Tokens.{Piece}
+
+pub title_at-get_or : (lines : List ExpandedLine) (i : ℕ) (line : ExpandedLine) → i < length lines → line ≡ get_or lines i line → line.title ≡ title_at lines i
+title_at-get_or [] i line h e = absurd (omega arith)
+title_at-get_or (first ∷ lines) zero line h e = ap (λ (l : ExpandedLine). l.title) e
+title_at-get_or (first ∷ lines) (suc i) line h e = title_at-get_or lines i line (omega arith) e
+
+pub tokens_at-get_or : (lines : List ExpandedLine) (i : ℕ) (line : ExpandedLine) → i < length lines → line ≡ get_or lines i line → line.tokens ≡ tokens_at lines i
+tokens_at-get_or [] i line h e = absurd (omega arith)
+tokens_at-get_or (first ∷ lines) zero line h e = ap (λ (l : ExpandedLine). l.tokens) e
+tokens_at-get_or (first ∷ lines) (suc i) line h e = tokens_at-get_or lines i line (omega arith) e

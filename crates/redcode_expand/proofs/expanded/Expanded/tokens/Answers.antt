@@ -1,0 +1,12 @@
+use Rattle.std.proofs.Common.{◌≡◌, List, IfOk, get_or, ap, ◌∙◌, subst}
+use Rattle.redcode_text.specs.Tokens.{Piece, pieces}
+use Rattle.redcode_expand.specs.Expansion.{ExpandedLine, Expansion}
+use Rattle.redcode_expand.proofs.Places.{tokens_at-get_or}
+use Rattle.redcode_expand.proofs.expanded.Expanded.tokens.Goals as goal
+
+pub returns : goal.returns
+returns g c =
+    let lines-is : c.self.inside.entries.items ≡ c.args.self.now.lines = ap (λ (e : Expansion). e.lines) c.self.view_is in
+    let line = c.index.result.now in
+    let same = tokens_at-get_or c.args.self.now.lines c.args.i line c.requires (c.index.ensures ∙ ap (λ (ls : List ExpandedLine). get_or ls c.args.i line) lines-is) in
+    subst (λ (ts : List Piece). IfOk c.tokens.result (λ tokens. pieces tokens.items ≡ ts)) same c.tokens.ensures

@@ -1,0 +1,93 @@
+-- The expanded lines and the labels of a source, or the first fault in the order of the refusals.
+use Rattle.std.specs.Prelude.{ℕ, zero, suc, nat_lt, if◌then◌else◌, List, [], ◌∷◌, length, drop, Option, Some, None, Result, Ok, Err, codes}
+use Rattle.war_types.specs.declared.fault.AsmKind.TheVariants as kinds
+use Rattle.war_types.specs.declared.fault.AsmFault.{AsmFault}
+use Rattle.war_types.specs.declared.settings.RawSettings.{RawSettings}
+use Rattle.redcode_text.specs.Tokens.{Piece}
+use Rattle.redcode_expand.specs.declared.directive.Directive.{Directive}
+use Rattle.redcode_expand.specs.declared.line.Line.{Line}
+use Rattle.redcode_expand.specs.declared.line.LineKind.{LineKind}
+use Rattle.redcode_expand.specs.declared.line.LineKind.TheVariants as lines
+use Rattle.redcode_expand.specs.declared.word.Word.{Word}
+use Rattle.redcode_expand.specs.declared.word.Word.TheVariants as words
+use Rattle.redcode_expand.specs.Gives.{◌>>=◌, fault_at}
+use Rattle.redcode_expand.specs.Source.{NumberedLine, directive_of, live_lines}
+use Rattle.redcode_expand.specs.Word.{has_text, line_word, statement_tokens}
+use Rattle.redcode_expand.specs.Name.{LabelList}
+use Rattle.redcode_expand.specs.Walk.{WalkState, walk, walk_begin}
+pub use Rattle.redcode_expand.specs.Name.{address_of, predefined}
+pub use Rattle.redcode_expand.specs.Walk.{ExpandedLine}
+
+pub record Expansion : Type 0 where
+  pub lines : List ExpandedLine
+  pub labels : LabelList
+
+-- what a line says beside its tokens and its title
+abbrev pub line_of : ExpandedLine → Line
+line_of line = record { source_line = line.source_line; kind = line.kind; before = line.before }
+
+-- behind an operation, a dot and the modifier's name that follows it
+abbrev pub behind_modifier : List Piece → List Piece
+behind_modifier [] = []
+behind_modifier (token ∷ tokens) = if has_text (codes ".") token then drop 1 tokens else token ∷ tokens
+
+-- the tokens that are operands, or an expression
+abbrev pub operands_of : LineKind → List Piece → List Piece
+operands_of lines.Operation tokens = behind_modifier (drop 1 tokens)
+operands_of lines.Org tokens = drop 1 tokens
+operands_of lines.End tokens = drop 1 tokens
+operands_of lines.Assert tokens = tokens
+operands_of lines.Name tokens = []
+operands_of lines.Author tokens = []
+operands_of lines.Other tokens = []
+
+-- the operands of a line are 512 tokens at most; the first line with more is refused
+abbrev pub within_limits : List ExpandedLine → Result (Unit {0}) AsmFault
+within_limits [] = Ok tt
+within_limits (line ∷ others) = if nat_lt 512 (length (operands_of line.kind line.tokens)) then Err (fault_at line.source_line kinds.EquLimit) else within_limits others
+
+-- the word of a line, which a directive has not
+abbrev pub word_by : Option (Directive × List ℕ) → List ℕ → Option Word
+word_by (Some directive) text = None
+word_by None text = line_word (statement_tokens text)
+
+abbrev pub word_in : NumberedLine → Option Word
+word_in line = word_by (directive_of line.text) line.text
+
+-- a line that may not stand here yet, or the lines behind it
+abbrev pub refused_by : Option Word → ℕ → Result (Unit {0}) AsmFault → Result (Unit {0}) AsmFault
+refused_by None line behind = behind
+refused_by (Some words.Operation) line behind = behind
+refused_by (Some words.Org) line behind = behind
+refused_by (Some words.Pin) line behind = behind
+refused_by (Some words.End) line behind = Ok tt
+refused_by (Some words.Equ) line behind = Err (fault_at line kinds.BadOperation)
+refused_by (Some words.For) line behind = Err (fault_at line kinds.BadOperation)
+refused_by (Some words.Rof) line behind = Err (fault_at line kinds.BadOperation)
+
+-- EQU, FOR and ROF are refused for now, up to the first END
+abbrev pub no_blocks : List NumberedLine → Result (Unit {0}) AsmFault
+no_blocks [] = Ok tt
+no_blocks (line ∷ others) = refused_by (word_in line) line.number (no_blocks others)
+
+-- what the walk has found
+abbrev pub finished : WalkState → Result Expansion AsmFault
+finished st = within_limits st.lines >>= λ _. Ok (record { lines = st.lines; labels = st.labels })
+
+abbrev pub expansion_of_lines : RawSettings → List NumberedLine → Result Expansion AsmFault
+expansion_of_lines s live = no_blocks live >>= λ _. walk s live walk_begin >>= finished
+
+unfoldable pub expansion : RawSettings → List ℕ → Result Expansion AsmFault
+expansion s source = if nat_lt 65536 (length source) then Err (fault_at 0 kinds.SourceTooLong) else expansion_of_lines s (live_lines source)
+
+-- the title of the line at this place
+abbrev pub title_at : List ExpandedLine → ℕ → List ℕ
+title_at [] i = []
+title_at (line ∷ others) zero = line.title
+title_at (line ∷ others) (suc i) = title_at others i
+
+-- the tokens of the line at this place
+abbrev pub tokens_at : List ExpandedLine → ℕ → List Piece
+tokens_at [] i = []
+tokens_at (line ∷ others) zero = line.tokens
+tokens_at (line ∷ others) (suc i) = tokens_at others i

@@ -1,0 +1,6 @@
+pub mod Gives
+pub mod Source
+pub mod Word
+pub mod Name
+pub mod Walk
+pub mod Expansion

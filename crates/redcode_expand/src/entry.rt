@@ -1,0 +1,67 @@
+//! A line of an expanded source, with its texts.
+
+use crate::limits::operands_of;
+use crate::line::Line;
+use redcode_text::Token;
+use std::alloc::{AllocError, Allocator};
+use std::marker::Model;
+
+/// A line of an expanded source, with its texts.
+#[derive(Drop)]
+pub(crate) struct Entry<'s, A: Allocator> {
+    pub line: Line,
+    pub title: &'s [u8],
+    /// Each with its place in the source's line.
+    pub tokens: Vec<Token<'s>, A>,
+}
+
+impl<'s, A: Allocator> Model for Entry<'s, A> {
+    ghost use Rattle.std.specs.Prelude.{map};
+    ghost use Rattle.redcode_text.specs.Tokens.{pieces};
+    ghost use Rattle.redcode_expand.specs.Word.{unplaced};
+    ghost use Rattle.redcode_expand.specs.Walk.{ExpandedLine};
+
+    ghost Value = { ExpandedLine };
+
+    ghost view = { λ e. record { source_line = e.line.source_line; kind = e.line.kind; before = e.line.before; title = e.title.now; tokens = map unplaced (pieces e.tokens.items) } };
+}
+
+impl<'s, A: Allocator> Entry<'s, A> {
+    ghost use Rattle.std.specs.Prelude.{◌≡◌, length};
+    ghost use Rattle.redcode_expand.specs.Expansion.{line_of, operands_of};
+
+    pub(crate) fn line(&self) -> Line
+        ensures { result ≡ line_of self.now }
+    {
+        self.line
+    }
+
+    /// How many tokens are operands, or an expression.
+    pub(crate) fn operand_count(&self) -> usize
+        ensures { result ≡ length (operands_of self.now.kind self.now.tokens) }
+    {
+        operands_of(self.line.kind, self.tokens.as_slice()).len()
+    }
+
+    pub(crate) fn title(&self) -> &[u8]
+        ensures { result.now ≡ self.now.title }
+    {
+        self.title
+    }
+}
+
+impl<'s, A: Allocator + Copy> Entry<'s, A> {
+    ghost use Rattle.std.specs.Prelude.{◌≡◌, map, IfOk};
+    ghost use Rattle.redcode_text.specs.Tokens.{pieces};
+
+    /// The tokens, with a place of 0. An error is want of memory.
+    pub(crate) fn tokens(&self, alloc: A) -> Result<Vec<Token<'_>, A>, AllocError>
+        ensures { IfOk result (λ tokens. pieces tokens.items ≡ self.now.tokens) }
+    {
+        let mut tokens = Vec::new(alloc);
+        for token in self.tokens.as_slice() {
+            tokens.push(Token { at: 0, ..*token })?;
+        }
+        Ok(tokens)
+    }
+}

@@ -1,0 +1,21 @@
+//! The lines of a source written out, with its labels.
+#![tactic(auto)]
+
+mod directive;
+mod entry;
+mod expanded;
+mod labels;
+mod limits;
+mod line;
+mod name;
+mod reading;
+mod source;
+mod walk;
+mod word;
+
+pub use expanded::{Expanded, SOURCE_LIMIT, expand};
+pub use line::{Line, LineKind};
+pub use name::predefined;
+
+#[cfg(test)]
+mod tests;

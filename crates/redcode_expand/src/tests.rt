@@ -1,0 +1,188 @@
+use super::*;
+use redcode_text::Token;
+use std::alloc::{AllocError, Global};
+use std::test::Fail;
+use war_types::{AsmFault, AsmKind, RawSettings, Settings, SettingsFault};
+
+fn defaults() -> Result<Settings, SettingsFault> {
+    Settings::new(RawSettings {
+        core: 8000,
+        cycles: 80_000,
+        processes: 8001,
+        length: 100,
+        distance: 101,
+        rounds: 10,
+        seed: 1,
+        capacity: 20,
+    })
+}
+
+/// The texts of tokens, one blank before each.
+fn texts(alloc: Global, tokens: &[Token<'_>]) -> Result<Vec<u8>, AllocError> {
+    let mut text = Vec::new(alloc);
+    for token in tokens {
+        text.push(b' ')?;
+        text.extend_from_slice(token.text)?;
+    }
+    Ok(text)
+}
+
+type Row = (u32, LineKind, u32, &'static [u8], &'static [u8]);
+
+/// Whether these are the lines: the number in the source, the kind, the instructions before, the title and the tokens.
+fn are_lines(alloc: Global, source: &[u8], rows: &[Row]) -> Result<bool, Fail> {
+    let settings = defaults()?;
+    let expanded = expand(alloc, source, &settings)?;
+    if expanded.lines().len() != rows.len() {
+        return Ok(false);
+    }
+    for (i, row) in rows.iter().enumerate() {
+        let Some(line) = expanded.lines().get(i) else {
+            return Ok(false);
+        };
+        let line = *line;
+        let tokens = texts(alloc, expanded.tokens(i)?.as_slice())?;
+        let same = line.source_line == row.0
+            && line.kind == row.1
+            && line.before == row.2
+            && expanded.title(i) == row.3
+            && tokens.as_slice() == row.4;
+        if !same {
+            return Ok(false);
+        }
+    }
+    Ok(true)
+}
+
+#[test]
+fn lines_and_their_texts(rt: HostRuntime) -> Result<(), Fail> {
+    let source =
+        b";redcode\n;name  Imp \nORG start\nbomb DAT #0 ; c\n\nstart b: add.f 4\n;assert 1,x;c\nFOO 0\nEND x\nDAT";
+    let rows: [Row; 7] = [
+        (2, LineKind::Name, 0, b"  Imp ", b""),
+        (3, LineKind::Org, 0, b"", b" ORG start"),
+        (4, LineKind::Operation, 0, b"", b" DAT # 0"),
+        (6, LineKind::Operation, 1, b"", b" add . f 4"),
+        (7, LineKind::Assert, 2, b"", b" 1 , x"),
+        (8, LineKind::Other, 2, b"", b" 0"),
+        (9, LineKind::End, 2, b"", b" END x"),
+    ];
+    assert!(rt; are_lines(rt.alloc(), source, &rows)?);
+    Ok(())
+}
+
+#[test]
+fn labels(rt: HostRuntime) -> Result<(), Fail> {
+    let settings = defaults()?;
+    let source = b"a DAT\nA b: & c DAT\nd\nPIN\nSTP\ne";
+    let expanded = expand(rt.alloc(), source, &settings)?;
+    let rows: [(&[u8], Option<u32>); 8] = [
+        (b"a", Some(0)),
+        (b"A", Some(1)),
+        (b"b", Some(1)),
+        (b"c", Some(1)),
+        (b"d", Some(2)),
+        (b"e", Some(3)),
+        (b"B", None),
+        (b"DAT", None),
+    ];
+    for (name, address) in rows {
+        assert_eq!(rt; expanded.label(name), address);
+    }
+    Ok(())
+}
+
+fn fault_of(alloc: Global, source: &[u8]) -> Result<Option<AsmFault>, Fail> {
+    let settings = defaults()?;
+    match expand(alloc, source, &settings) {
+        Ok(_) => Ok(None),
+        Err(fault) => Ok(Some(fault)),
+    }
+}
+
+#[test]
+fn refusals(rt: HostRuntime) -> Result<(), Fail> {
+    let rows: [(&[u8], u32, AsmKind); 7] = [
+        (b"x DAT 0\nx DAT 1", 2, AsmKind::DuplicateName),
+        (b"CORESIZE DAT 0", 1, AsmKind::DuplicateName),
+        (b"DAT\nx CURLINE", 2, AsmKind::DuplicateName),
+        (b"MVO 0, 1\nMVO 0, 1", 2, AsmKind::DuplicateName),
+        (b"FOO 0\nFOO 0", 2, AsmKind::DuplicateName),
+        (b"x DAT\nx DAT\ny equ 1\nEND", 3, AsmKind::BadOperation),
+        (b"rof", 1, AsmKind::BadOperation),
+    ];
+    for (source, line, kind) in rows {
+        assert_eq!(rt;
+            fault_of(rt.alloc(), source)?,
+            Some(AsmFault { line, kind })
+        );
+    }
+    assert_eq!(rt; fault_of(rt.alloc(), b"END\nx EQU 1\nFOR\nx\nx")?, None);
+    assert_eq!(rt;
+        fault_of(rt.alloc(), b"FOR\nx\n;redcode\nx\n;redcode")?,
+        None
+    );
+    Ok(())
+}
+
+fn repeated(alloc: Global, line: &[u8], count: usize) -> Result<Vec<u8>, AllocError> {
+    let mut source = Vec::new(alloc);
+    for _ in 0..count {
+        source.extend_from_slice(line)?;
+    }
+    Ok(source)
+}
+
+#[test]
+fn limits(rt: HostRuntime) -> Result<(), Fail> {
+    let alloc = rt.alloc();
+    let too_long = AsmFault {
+        line: 0,
+        kind: AsmKind::SourceTooLong,
+    };
+    assert_eq!(rt; fault_of(alloc, &repeated(alloc, b"\n", 65_536)?)?, None);
+    assert_eq!(rt;
+        fault_of(alloc, &repeated(alloc, b"\n", 65_537)?)?,
+        Some(too_long)
+    );
+    let many = AsmFault {
+        line: 4097,
+        kind: AsmKind::ForLimit,
+    };
+    assert_eq!(rt; fault_of(alloc, &repeated(alloc, b"DAT 0\n", 4096)?)?, None);
+    assert_eq!(rt;
+        fault_of(alloc, &repeated(alloc, b"DAT 0\n", 4097)?)?,
+        Some(many)
+    );
+    let wide = AsmFault {
+        line: 1,
+        kind: AsmKind::EquLimit,
+    };
+    let mut line = repeated(alloc, b"\tDAT.F", 1)?;
+    line.extend_from_slice(&repeated(alloc, b"-", 512)?)?;
+    assert_eq!(rt; fault_of(alloc, &line)?, None);
+    line.push(b'-')?;
+    assert_eq!(rt; fault_of(alloc, &line)?, Some(wide));
+    Ok(())
+}
+
+#[test]
+fn predefined_names(rt: HostRuntime) -> Result<(), Fail> {
+    let settings = defaults()?;
+    let rows: [(&[u8], Option<i64>); 10] = [
+        (b"CORESIZE", Some(8000)),
+        (b"MAXPROCESSES", Some(8001)),
+        (b"MAXCYCLES", Some(80_000)),
+        (b"MAXLENGTH", Some(100)),
+        (b"MINDISTANCE", Some(101)),
+        (b"ROUNDS", Some(10)),
+        (b"WARRIORS", Some(2)),
+        (b"CURLINE", Some(7)),
+        (b"Curline", None),
+        (b"VERSION", None),
+    ];
+    for (name, value) in rows {
+        assert_eq!(rt; predefined(&settings, 7, name), value);
+    }
+    Ok(())
+}
