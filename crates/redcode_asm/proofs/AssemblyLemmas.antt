@@ -1,41 +1,91 @@
--- The warrior of the statements of a load text.
-use Rattle.std.proofs.Common.{◌≡◌, ℕ, suc, ◌+◌, ◌≤◌, ◌<◌, List, [], ◌∷◌, ◌++◌, length, drop, Some, None, Ok, pos, refl, ap, arith, lt-ltb, le-ltb}
+-- The warrior of the lines of a load text.
+use Rattle.std.proofs.Common.{◌≡◌, ℕ, suc, ◌+◌, ◌≤◌, ◌<◌, false, List, [], ◌∷◌, length, Option, Some, None, Result, Ok, ℤ, pos, refl, ap, ◌∙◌, arith, lt-ltb, le-ltb, codes}
 use Rattle.std.specs.List.{AllByRecursion}
-use Rattle.std.proofs.lemmas.List.{drop_all}
+use Rattle.war_types.specs.declared.fault.AsmFault.{AsmFault}
 use Rattle.war_types.specs.declared.instr.Instr.{Instr}
 use Rattle.war_types.specs.declared.settings.RawSettings.{RawSettings}
-use Rattle.war_types.specs.Warrior.{HasNumbersBelow}
+use Rattle.war_types.specs.Warrior.{WarriorParts, HasNumbersBelow}
+use Rattle.redcode_text.specs.declared.token.TokenKind.TheVariants as kinds
+use Rattle.redcode_expand.specs.declared.line.LineKind.{LineKind}
+use Rattle.redcode_expand.specs.declared.line.LineKind.TheVariants as lines
+use Rattle.redcode_expand.specs.Expansion.{ExpandedLine, Expansion}
 use Rattle.redcode_asm.specs.declared.statement.Statement.{Statement}
 use Rattle.redcode_asm.specs.declared.statement.Statement.TheVariants as statements
-use Rattle.redcode_asm.specs.Assembly.{code_of, all_code, org_of, last_of, given_start, of_length, warrior_with, assembly_of_statements}
-use Rattle.redcode_asm.proofs.OperandLemmas.{address_of-value}
-use Rattle.redcode_asm.proofs.InstrLemmas.{statement_is}
-use Rattle.redcode_asm.proofs.LoadLemmas.{numbered}
+use Rattle.redcode_asm.specs.Names.{absolute}
+use Rattle.redcode_asm.specs.Statement.{said_by}
+use Rattle.redcode_asm.specs.Assembly.{Placed, said_at, said_on, all_said, code_of, org_of, last_of, given_start, all_hold, of_length, last_text, is_name, is_author, name_of, author_of, warrior_with, assembly_of}
+use Rattle.redcode_asm.proofs.TokenLemmas.{piece}
+use Rattle.redcode_asm.proofs.OperandLemmas.{Reads-number, Writes-decimal}
+use Rattle.redcode_asm.proofs.InstrLemmas.{instr_tokens, said_by-line, before_comma-inside, behind_comma-inside}
+use Rattle.redcode_asm.proofs.LoadLemmas.{line, end_tokens, org_tokens, code_lines, load_lines}
 
--- what an instruction's line says gives the instruction
-code_of-instruction : (core n : ℕ) (i : Instr) → HasNumbersBelow core i → code_of core n (statement_is core i) ≡ Ok (i ∷ [])
-code_of-instruction core n i below = rw (address_of-value core i.a below.a, address_of-value core i.b below.b) refl
+-- what the lines of so many instructions and END say, from this line number on
+abbrev pub said_lines : ℕ → List Instr → List Placed
+said_lines n [] = (n, statements.Nothing) ∷ []
+said_lines n (i ∷ is) = (n, statements.Instruction i) ∷ said_lines (n + 1) is
 
--- a statement's code comes before that of the statements behind it
-all_code-cons : (core n : ℕ) (first : Statement) (ss : List (ℕ × Statement)) (front behind : List Instr)
-    → code_of core n first ≡ Ok front → all_code core ss ≡ Ok behind → all_code core ((n, first) ∷ ss) ≡ Ok (front ++ behind)
-all_code-cons core n first ss front behind here there = rw (here, there) refl
+-- a line's statement comes before those of the lines behind it
+all_said-cons : (s : RawSettings) (first : ExpandedLine) (others : List ExpandedLine) (said : Placed) (behind : List Placed)
+    → said_on s [] first ≡ Ok said → all_said s [] others ≡ Ok behind → all_said s [] (first ∷ others) ≡ Ok (said ∷ behind)
+all_said-cons s first others said behind here there = rw (here, there) refl
 
--- the lines of the code give the code
-pub all_code-numbered : (core n : ℕ) (code : List Instr) → AllByRecursion (HasNumbersBelow core) code → all_code core (numbered core n code) ≡ Ok code
-all_code-numbered core n [] below = refl
-all_code-numbered core n (i ∷ is) below =
-    all_code-cons core n (statement_is core i) (numbered core (n + 1) is) (i ∷ []) is (code_of-instruction core n i below.0) (all_code-numbered core (n + 1) is below.1)
+said_by-end : (s : RawSettings) (before : ℕ) → said_by s [] lines.End before end_tokens ≡ Ok statements.Nothing
+unfolding said_by
+said_by-end s before = refl
 
--- there is a statement for each instruction and one for END
-length-numbered : (core n : ℕ) (code : List Instr) → length (numbered core n code) ≡ suc (length code)
-length-numbered core n [] = refl
-length-numbered core n (i ∷ is) = ap suc (length-numbered core (n + 1) is)
+said_by-org : (s : RawSettings) (start : ℕ) → start < 65536 → said_by s [] lines.Org 0 (org_tokens start) ≡ Ok (statements.Org (pos start))
+unfolding said_by
+said_by-org s start small =
+    let number = Reads-number _ start (Writes-decimal start small) in
+    rw (before_comma-inside _ number.inside, behind_comma-inside _ number.inside, number.value (absolute s [] 0)) refl
+
+all_said-code : (s : RawSettings) (n before : ℕ) (code : List Instr) → AllByRecursion (HasNumbersBelow s.core) code → s.core ≤ 65535
+    → all_said s [] (code_lines s.core n before code) ≡ Ok (said_lines n code)
+all_said-code s n before [] below most =
+    all_said-cons s (line n lines.End before end_tokens) [] (n, statements.Nothing) [] (ap (said_at n) (said_by-end s before)) refl
+all_said-code s n before (i ∷ is) below most =
+    all_said-cons s (line n lines.Operation before (instr_tokens s.core i)) (code_lines s.core (n + 1) (before + 1) is) (n, statements.Instruction i) (said_lines (n + 1) is)
+    (ap (said_at n) (said_by-line s before i below.0 most)) (all_said-code s (n + 1) (before + 1) is below.1 most)
+
+all_said-load : (s : RawSettings) (w : WarriorParts) → AllByRecursion (HasNumbersBelow s.core) w.code → s.core ≤ 65535 → w.start < 65536
+    → all_said s [] (load_lines s.core w) ≡ Ok ((1, statements.Org (pos w.start)) ∷ said_lines 2 w.code)
+all_said-load s w below most small =
+    all_said-cons s (line 1 lines.Org 0 (org_tokens w.start)) (code_lines s.core 2 0 w.code) (1, statements.Org (pos w.start)) (said_lines 2 w.code)
+    (ap (said_at 1) (said_by-org s w.start small)) (all_said-code s 2 0 w.code below most)
+
+-- ---- what follows from that
+
+code_of-said : (n : ℕ) (code : List Instr) → code_of (said_lines n code) ≡ code
+code_of-said n [] = refl
+code_of-said n (i ∷ is) = ap (λ (code : List Instr). i ∷ code) (code_of-said (n + 1) is)
 
 -- none of these lines is an ORG
-last_of-numbered : (core n : ℕ) (code : List Instr) → last_of org_of (numbered core n code) ≡ None
-last_of-numbered core n [] = refl
-last_of-numbered core n (i ∷ is) = rw (last_of-numbered core (n + 1) is) refl
+last_of-said : (n : ℕ) (code : List Instr) → last_of org_of (said_lines n code) ≡ None
+last_of-said n [] = refl
+last_of-said n (i ∷ is) = rw (last_of-said (n + 1) is) refl
+
+given_start-said : (n start : ℕ) (code : List Instr) → given_start ((1, statements.Org (pos start)) ∷ said_lines n code) ≡ Some (1, pos start)
+given_start-said n start code = rw (last_of-said n code) refl
+
+-- nor an assertion
+all_hold-said : (n : ℕ) (code : List Instr) → all_hold (said_lines n code) ≡ Ok tt
+all_hold-said n [] = refl
+all_hold-said n (i ∷ is) = all_hold-said (n + 1) is
+
+-- nor a title
+last_name : (core n before : ℕ) (code : List Instr) → last_text is_name (code_lines core n before code) ≡ None
+last_name core n before [] = refl
+last_name core n before (i ∷ is) = rw (last_name core (n + 1) (before + 1) is) refl
+
+last_author : (core n before : ℕ) (code : List Instr) → last_text is_author (code_lines core n before code) ≡ None
+last_author core n before [] = refl
+last_author core n before (i ∷ is) = rw (last_author core (n + 1) (before + 1) is) refl
+
+name_of-load : (core : ℕ) (w : WarriorParts) → name_of (load_lines core w) ≡ codes "Unnamed"
+name_of-load core w = rw (last_name core 2 0 w.code) refl
+
+author_of-load : (core : ℕ) (w : WarriorParts) → author_of (load_lines core w) ≡ codes "Anonymous"
+author_of-load core w = rw (last_author core 2 0 w.code) refl
 
 -- code of 1 to so many instructions is not refused
 of_length-fits : (limit : ℕ) (code : List Instr) → 0 < length code → length code ≤ limit → of_length limit code ≡ Ok tt
@@ -43,17 +93,17 @@ of_length-fits limit [] some few = absurd (omega arith)
 of_length-fits limit (i ∷ is) some few = rw (le-ltb limit (length (i ∷ is)) few) refl
 
 -- the steps of an assembly that refuses nothing
-assembled : (s : RawSettings) (ss : List (ℕ × Statement)) (code : List Instr) (line start : ℕ) → drop 4096 ss ≡ [] → all_code s.core ss ≡ Ok code
-    → of_length s.length code ≡ Ok tt → given_start ss ≡ Some (line, pos start) → start < length code → assembly_of_statements s ss ≡ Ok (warrior_with code start)
-unfolding assembly_of_statements
-assembled s ss code line start few all long given below = rw (few, all, long, given, lt-ltb start (length code) below) refl
+assembled : (s : RawSettings) (e : Expansion) (said : List Placed) (code : List Instr) (at start : ℕ) → all_said s e.labels e.lines ≡ Ok said → code_of said ≡ code
+    → of_length s.length code ≡ Ok tt → given_start said ≡ Some (at, pos start) → start < length code → all_hold said ≡ Ok tt
+    → name_of e.lines ≡ codes "Unnamed" → author_of e.lines ≡ codes "Anonymous" → assembly_of s e ≡ Ok (warrior_with code start)
+unfolding assembly_of
+assembled s e said code at start says code_is long given below hold name author =
+    rw (says, code_is, long, given, lt-ltb start (length code) below, hold, name, author) refl
 
--- a start and code that fit give the warrior
-pub assembly_of-numbered : (s : RawSettings) (code : List Instr) (start : ℕ) → AllByRecursion (HasNumbersBelow s.core) code → start < length code → length code ≤ s.length → s.length ≤ 100
-    → assembly_of_statements s ((1, statements.Org (Ok (pos start))) ∷ numbered s.core 2 code) ≡ Ok (warrior_with code start)
-assembly_of-numbered s code start numbers below few most =
-    let ss : List (ℕ × Statement) = (1, statements.Org (Ok (pos start))) ∷ numbered s.core 2 code in
-    let short : drop 4096 ss ≡ [] = drop_all 4096 ss (omega (arith, length-numbered s.core 2 code)) in
-    let all : all_code s.core ss ≡ Ok code = rw (all_code-numbered s.core 2 code numbers) refl in
-    let given : given_start ss ≡ Some (1, pos start) = rw (last_of-numbered s.core 2 code) refl in
-    assembled s ss code 1 start short all (of_length-fits s.length code (omega arith) few) given below
+-- the lines of a load text give its warrior's code and start
+pub assembly_of-load : (s : RawSettings) (w : WarriorParts) → AllByRecursion (HasNumbersBelow s.core) w.code → s.core ≤ 65535 → w.start < length w.code → length w.code ≤ s.length → s.length ≤ 100
+    → assembly_of s (record { lines = load_lines s.core w; labels = [] }) ≡ Ok (warrior_with w.code w.start)
+assembly_of-load s w below most starts few limit =
+    assembled s (record { lines = load_lines s.core w; labels = [] }) ((1, statements.Org (pos w.start)) ∷ said_lines 2 w.code) w.code 1 w.start
+    (all_said-load s w below most (omega arith)) (code_of-said 2 w.code) (of_length-fits s.length w.code (omega arith) few) (given_start-said 2 w.start w.code) starts
+    (all_hold-said 2 w.code) (name_of-load s.core w) (author_of-load s.core w)

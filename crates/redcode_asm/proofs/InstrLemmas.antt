@@ -1,25 +1,29 @@
 -- An instruction's line of the load text, as it is read.
-use Rattle.std.proofs.Common.{◌≡◌, ℕ, suc, ◌-◌, ◌≤◌, false, List, [], ◌∷◌, ◌++◌, length, Some, refl, sym, ap, ◌∙◌, arith, append_assoc, codes}
+use Rattle.std.proofs.Common.{◌≡◌, ℕ, suc, ◌-◌, ◌≤◌, false, List, [], ◌∷◌, ◌++◌, length, Option, Some, None, Ok, ℤ, refl, sym, ap, ◌∙◌, arith, append_assoc, codes}
+use Rattle.std.specs.List.{AllByRecursion, list_any}
 use Rattle.std.proofs.lemmas.List.{append-nil, length-append, length-replicate}
 use Rattle.war_types.specs.declared.instr.Op.{Op}
 use Rattle.war_types.specs.declared.instr.Op.TheVariants as ops
 use Rattle.war_types.specs.declared.instr.Modifier.{Modifier}
 use Rattle.war_types.specs.declared.instr.Modifier.TheVariants as modifiers
 use Rattle.war_types.specs.declared.instr.Instr.{Instr}
+use Rattle.war_types.specs.declared.settings.RawSettings.{RawSettings}
 use Rattle.war_types.specs.Warrior.{HasNumbersBelow}
-use Rattle.redcode_asm.specs.declared.token.TokenKind.TheVariants as kinds
-use Rattle.redcode_asm.specs.declared.statement.Operand.{Operand}
-use Rattle.redcode_asm.specs.declared.statement.Operands.{Operands}
-use Rattle.redcode_asm.specs.declared.statement.Operands.TheVariants as operands
-use Rattle.redcode_asm.specs.declared.statement.Statement.{Statement}
+use Rattle.redcode_text.specs.declared.token.TokenKind.TheVariants as kinds
+use Rattle.redcode_text.specs.Tokens.{Piece}
+use Rattle.redcode_expand.specs.declared.line.LineKind.TheVariants as lines
+use Rattle.redcode_asm.specs.declared.operand.Operand.{Operand}
 use Rattle.redcode_asm.specs.declared.statement.Statement.TheVariants as statements
-use Rattle.redcode_asm.specs.Tokens.{Piece, tokens_of}
-use Rattle.redcode_asm.specs.Name.{is_word, named, operations, modifier_names, op_text, modifier_text, mode_text}
-use Rattle.redcode_asm.specs.Statement.{operand_at, operands_at, statement_of}
-use Rattle.redcode_asm.specs.LoadText.{spaces, left_in, operand_text, signed_number, instr_line}
+use Rattle.redcode_asm.specs.Name.{named, modifier_names, op_text, modifier_text}
+use Rattle.redcode_asm.specs.Names.{relative}
+use Rattle.redcode_asm.specs.Operand.{operand_of}
+use Rattle.redcode_asm.specs.Sides.{SideTokens, side_tokens, before_comma, behind_comma, sides_of}
+use Rattle.redcode_asm.specs.Instruction.{op_of, instr_of, instr_of_sides, instruction_of}
+use Rattle.redcode_asm.specs.Statement.{is_bad, said_by}
+use Rattle.redcode_asm.specs.LoadText.{spaces, left_in, operand_text, instr_line}
 use Rattle.redcode_asm.proofs.LineLemmas.{AreInLine, in_line-append}
-use Rattle.redcode_asm.proofs.TokenLemmas.{piece, tokens_of-spaces, tokens_of-op, tokens_of-modifier}
-use Rattle.redcode_asm.proofs.OperandLemmas.{operand_of, tokens_of-operand, operand_at-text, in_line-operand, in_line-spaces, length-operand}
+use Rattle.redcode_asm.proofs.TokenLemmas.{piece, bare, bare-spaces, bare-op, bare-modifier, bare-comma}
+use Rattle.redcode_asm.proofs.OperandLemmas.{IsInside, number_of, operand_tokens, bare-operand, inside-operand, operand_of-operand, reduced-number, in_line-operand, in_line-spaces, length-operand}
 
 -- ---- the name and the modifier in their 7 places
 
@@ -107,7 +111,7 @@ in_line-left op m =
     in_line-append (head_text op m) (spaces (7 - length (head_text op m))) head (in_line-spaces (7 - length (head_text op m)))
 
 -- the places before the operands: the operation, a dot, the modifier, and at least one space
-left_parts : (op : Op) (m : Modifier) (rest : List ℕ)
+pub left_parts : (op : Op) (m : Modifier) (rest : List ℕ)
     → left_in 7 (head_text op m) ++ rest ≡ op_text op ++ 46 ∷ (modifier_text m ++ 32 ∷ (spaces (6 - length (head_text op m)) ++ rest))
 left_parts op m rest =
     let short : length (head_text op m) ≤ 6 = length-head op m in
@@ -119,35 +123,35 @@ left_parts op m rest =
     ∙ append_assoc (op_text op) (codes ".") (modifier_text m ++ (blanks ++ rest))
 
 -- they are three tokens
-tokens_of-left : (op : Op) (m : Modifier) (rest : List ℕ)
-    → tokens_of (left_in 7 (head_text op m) ++ rest) ≡ piece kinds.Name (op_text op) ∷ piece kinds.Symbol (codes ".") ∷ piece kinds.Name (modifier_text m) ∷ tokens_of rest
-tokens_of-left op m rest =
+bare-left : (op : Op) (m : Modifier) (rest : List ℕ)
+    → bare (left_in 7 (head_text op m) ++ rest) ≡ piece kinds.Name (op_text op) ∷ piece kinds.Symbol (codes ".") ∷ piece kinds.Name (modifier_text m) ∷ bare rest
+bare-left op m rest =
     let behind = spaces (6 - length (head_text op m)) ++ rest in
-    ap tokens_of (left_parts op m rest)
-    ∙ tokens_of-op op (modifier_text m ++ 32 ∷ behind)
-    ∙ ap (λ (ts : List Piece). piece kinds.Name (op_text op) ∷ ts) (tokens_of-modifier m behind)
-    ∙ ap (λ (ts : List Piece). piece kinds.Name (op_text op) ∷ piece kinds.Symbol (codes ".") ∷ piece kinds.Name (modifier_text m) ∷ ts) (tokens_of-spaces (6 - length (head_text op m)) rest)
+    ap bare (left_parts op m rest)
+    ∙ bare-op op (modifier_text m ++ 32 ∷ behind)
+    ∙ ap (λ (ts : List Piece). piece kinds.Name (op_text op) ∷ ts) (bare-modifier m behind)
+    ∙ ap (λ (ts : List Piece). piece kinds.Name (op_text op) ∷ piece kinds.Symbol (codes ".") ∷ piece kinds.Name (modifier_text m) ∷ ts) (bare-spaces (6 - length (head_text op m)) rest)
 
 -- ---- the names, as they are read
 
 -- an operation's text is its name
-named-op : (op : Op) → named operations (op_text op) ≡ Some op
-named-op ops.Dat = refl
-named-op ops.Mov = refl
-named-op ops.Add = refl
-named-op ops.Sub = refl
-named-op ops.Mul = refl
-named-op ops.Div = refl
-named-op ops.Mdl = refl
-named-op ops.Jmp = refl
-named-op ops.Jmz = refl
-named-op ops.Jmn = refl
-named-op ops.Djn = refl
-named-op ops.Seq = refl
-named-op ops.Sne = refl
-named-op ops.Slt = refl
-named-op ops.Spl = refl
-named-op ops.Nop = refl
+op_of-text : (op : Op) → op_of (op_text op) ≡ Ok op
+op_of-text ops.Dat = refl
+op_of-text ops.Mov = refl
+op_of-text ops.Add = refl
+op_of-text ops.Sub = refl
+op_of-text ops.Mul = refl
+op_of-text ops.Div = refl
+op_of-text ops.Mdl = refl
+op_of-text ops.Jmp = refl
+op_of-text ops.Jmz = refl
+op_of-text ops.Jmn = refl
+op_of-text ops.Djn = refl
+op_of-text ops.Seq = refl
+op_of-text ops.Sne = refl
+op_of-text ops.Slt = refl
+op_of-text ops.Spl = refl
+op_of-text ops.Nop = refl
 
 -- a modifier's text is its name
 named-modifier : (m : Modifier) → named modifier_names (modifier_text m) ≡ Some m
@@ -159,68 +163,98 @@ named-modifier modifiers.F = refl
 named-modifier modifiers.X = refl
 named-modifier modifiers.I = refl
 
--- no operation is spelled ORG
-is_word-org : (op : Op) → is_word (codes "ORG") (op_text op) ≡ false
-is_word-org ops.Dat = refl
-is_word-org ops.Mov = refl
-is_word-org ops.Add = refl
-is_word-org ops.Sub = refl
-is_word-org ops.Mul = refl
-is_word-org ops.Div = refl
-is_word-org ops.Mdl = refl
-is_word-org ops.Jmp = refl
-is_word-org ops.Jmz = refl
-is_word-org ops.Jmn = refl
-is_word-org ops.Djn = refl
-is_word-org ops.Seq = refl
-is_word-org ops.Sne = refl
-is_word-org ops.Slt = refl
-is_word-org ops.Spl = refl
-is_word-org ops.Nop = refl
+-- ---- tokens parted by a comma
 
--- nor END
-is_word-end : (op : Op) → is_word (codes "END") (op_text op) ≡ false
-is_word-end ops.Dat = refl
-is_word-end ops.Mov = refl
-is_word-end ops.Add = refl
-is_word-end ops.Sub = refl
-is_word-end ops.Mul = refl
-is_word-end ops.Div = refl
-is_word-end ops.Mdl = refl
-is_word-end ops.Jmp = refl
-is_word-end ops.Jmz = refl
-is_word-end ops.Jmn = refl
-is_word-end ops.Djn = refl
-is_word-end ops.Seq = refl
-is_word-end ops.Sne = refl
-is_word-end ops.Slt = refl
-is_word-end ops.Spl = refl
-is_word-end ops.Nop = refl
+abbrev comma : Piece
+comma = piece kinds.Symbol (codes ",")
 
--- ---- the statement of the line
+before_comma-append : (xs ys : List Piece) → AllByRecursion IsInside xs → before_comma (xs ++ comma ∷ ys) ≡ xs
+before_comma-append [] ys inside = refl
+before_comma-append (x ∷ xs) ys inside = rw (inside.0.1, before_comma-append xs ys inside.1) refl
+
+behind_comma-append : (xs ys : List Piece) → AllByRecursion IsInside xs → behind_comma (xs ++ comma ∷ ys) ≡ Some ys
+behind_comma-append [] ys inside = refl
+behind_comma-append (x ∷ xs) ys inside = rw (inside.0.1, behind_comma-append xs ys inside.1) refl
+
+pub before_comma-inside : (xs : List Piece) → AllByRecursion IsInside xs → before_comma xs ≡ xs
+before_comma-inside [] inside = refl
+before_comma-inside (x ∷ xs) inside = rw (inside.0.1, before_comma-inside xs inside.1) refl
+
+pub behind_comma-inside : (xs : List Piece) → AllByRecursion IsInside xs → behind_comma xs ≡ None
+behind_comma-inside [] inside = refl
+behind_comma-inside (x ∷ xs) inside = rw (inside.0.1, behind_comma-inside xs inside.1) refl
+
+not_bad : (xs : List Piece) → AllByRecursion IsInside xs → list_any is_bad xs ≡ false
+not_bad [] inside = refl
+not_bad (x ∷ xs) inside = rw (inside.0.0, not_bad xs inside.1) refl
+
+not_bad-both : (xs ys : List Piece) → AllByRecursion IsInside xs → AllByRecursion IsInside ys → list_any is_bad (xs ++ comma ∷ ys) ≡ false
+not_bad-both [] ys xs_are ys_are = not_bad ys ys_are
+not_bad-both (x ∷ xs) ys xs_are ys_are = rw (xs_are.0.0, not_bad-both xs ys xs_are.1 ys_are) refl
 
 -- two operands with a comma between them
-operands_at-two : (text : List ℕ) (tokens middle behind : List Piece) (a b : Operand)
-    → operand_at (piece kinds.Symbol text ∷ tokens) ≡ Some (a, piece kinds.Symbol (codes ",") ∷ middle) → operand_at middle ≡ Some (b, behind)
-    → operands_at (piece kinds.Symbol text ∷ tokens) ≡ Some (operands.Two a b, behind)
-operands_at-two text tokens middle behind a b first second = rw (first, second) refl
+sides_of-two : (op : Op) (x y : Piece) (xs ys : List Piece) → AllByRecursion IsInside (x ∷ xs) → AllByRecursion IsInside (y ∷ ys)
+    → sides_of op ((x ∷ xs) ++ comma ∷ (y ∷ ys)) ≡ Ok (side_tokens (x ∷ xs) (y ∷ ys) false)
+sides_of-two op x y xs ys xs_are ys_are =
+    rw (
+      before_comma-append (x ∷ xs) (y ∷ ys) xs_are,
+      behind_comma-append (x ∷ xs) (y ∷ ys) xs_are,
+      before_comma-inside (y ∷ ys) ys_are,
+      behind_comma-inside (y ∷ ys) ys_are,
+    ) refl
 
--- an operation, its modifier and two operands
-statement_of-instruction : (op : Op) (m : Modifier) (tokens : List Piece) (given : Operands) → operands_at tokens ≡ Some (given, [])
-    → statement_of (piece kinds.Name (op_text op) ∷ piece kinds.Symbol (codes ".") ∷ piece kinds.Name (modifier_text m) ∷ tokens) ≡ Some (statements.Instruction op (Some m) given)
-unfolding statement_of
-statement_of-instruction op m tokens given h = rw (is_word-org op, is_word-end op, named-op op, named-modifier m, h) refl
+-- ---- the instruction
+
+-- the instruction of an operation, its modifier and its operands
+instruction_of-is : (core : ℕ) (names : List ℕ → Option ℤ) (op : Op) (m : Modifier) (tokens : List Piece) (sides : SideTokens) → sides_of op tokens ≡ Ok sides
+    → instruction_of core names (piece kinds.Name (op_text op) ∷ piece kinds.Symbol (codes ".") ∷ piece kinds.Name (modifier_text m) ∷ tokens)
+    ≡ instr_of_sides core names op (Some m) sides
+instruction_of-is core names op m tokens sides h = rw (op_of-text op, named-modifier m, h) refl
+
+instr_of_sides-is : (core : ℕ) (names : List ℕ → Option ℤ) (op : Op) (m : Modifier) (a b : List Piece) (a_read b_read : Operand)
+    → operand_of names a ≡ a_read → operand_of names b ≡ b_read → instr_of_sides core names op (Some m) (side_tokens a b false) ≡ instr_of core op (Some m) a_read b_read false
+instr_of_sides-is core names op m a b a_read b_read a_is b_is = rw (a_is, b_is) refl
+
+-- its operands as they are read
+instr_of-is : (core : ℕ) (i : Instr) → HasNumbersBelow core i
+    → instr_of core i.op (Some i.modifier) (record { mode = i.a_mode; value = Ok (number_of core i.a) }) (record { mode = i.b_mode; value = Ok (number_of core i.b) }) false ≡ Ok i
+instr_of-is core i below = rw (reduced-number core i.a below.a, reduced-number core i.b below.b) refl
+
+-- the tokens of both operands and the comma
+abbrev pub both_tokens : ℕ → Instr → List Piece
+both_tokens core i = operand_tokens core i.a_mode i.a ++ comma ∷ operand_tokens core i.b_mode i.b
+
+-- the tokens of an instruction's line
+abbrev pub instr_tokens : ℕ → Instr → List Piece
+instr_tokens core i = piece kinds.Name (op_text i.op) ∷ piece kinds.Symbol (codes ".") ∷ piece kinds.Name (modifier_text i.modifier) ∷ both_tokens core i
+
+-- they are read as the instruction
+said_by-instruction : (s : RawSettings) (before : ℕ) (tokens : List Piece) (i : Instr) → list_any is_bad tokens ≡ false → instruction_of s.core (relative s [] before) tokens ≡ Ok i
+    → said_by s [] lines.Operation before tokens ≡ Ok (statements.Instruction i)
+unfolding said_by
+said_by-instruction s before tokens i good is = rw (good, is) refl
+
+pub said_by-line : (s : RawSettings) (before : ℕ) (i : Instr) → HasNumbersBelow s.core i → s.core ≤ 65535
+    → said_by s [] lines.Operation before (instr_tokens s.core i) ≡ Ok (statements.Instruction i)
+said_by-line s before i below most =
+    let names = relative s [] before in
+    let a = operand_tokens s.core i.a_mode i.a in
+    let b = operand_tokens s.core i.b_mode i.b in
+    let a_inside = inside-operand s.core i.a_mode i.a below.a most in
+    let b_inside = inside-operand s.core i.b_mode i.b below.b most in
+    said_by-instruction s before (instr_tokens s.core i) i (not_bad-both a b a_inside b_inside)
+    (instruction_of-is s.core names i.op i.modifier (both_tokens s.core i) (side_tokens a b false) (sides_of-two i.op _ _ _ _ a_inside b_inside)
+    ∙ instr_of_sides-is s.core names i.op i.modifier a b _ _ (operand_of-operand names s.core i.a_mode i.a below.a most) (operand_of-operand names s.core i.b_mode i.b below.b most)
+    ∙ instr_of-is s.core i below)
+
+-- ---- the line
 
 -- an instruction's line without its line feed
 abbrev pub line_of : ℕ → Instr → List ℕ
 line_of core i = left_in 7 (head_text i.op i.modifier) ++ operand_text core i.a_mode i.a ++ codes ", " ++ operand_text core i.b_mode i.b
 
--- what the line says
-abbrev pub statement_is : ℕ → Instr → Statement
-statement_is core i = statements.Instruction i.op (Some i.modifier) (operands.Two (operand_of core i.a_mode i.a) (operand_of core i.b_mode i.b))
-
 -- the parts of the line, grouped from the right
-line_parts : (core : ℕ) (i : Instr)
+pub line_parts : (core : ℕ) (i : Instr)
     → line_of core i ≡ left_in 7 (head_text i.op i.modifier) ++ (operand_text core i.a_mode i.a ++ (codes ", " ++ operand_text core i.b_mode i.b))
 line_parts core i =
     let left = left_in 7 (head_text i.op i.modifier) in
@@ -228,26 +262,23 @@ line_parts core i =
     let b = operand_text core i.b_mode i.b in
     append_assoc (left ++ a) (codes ", ") b ∙ append_assoc left a (codes ", " ++ b)
 
--- the operands of the line
-operands_at-line : (core : ℕ) (i : Instr) → HasNumbersBelow core i → core ≤ 65535
-    → operands_at (tokens_of (operand_text core i.a_mode i.a ++ (codes ", " ++ operand_text core i.b_mode i.b)))
-    ≡ Some (operands.Two (operand_of core i.a_mode i.a) (operand_of core i.b_mode i.b), [])
-operands_at-line core i below most =
-    let b = operand_text core i.b_mode i.b in
-    let behind = codes ", " ++ b in
-    let tokens = tokens_of-operand core i.a_mode i.a behind below.a most in
-    let first = ap operand_at (sym tokens) ∙ operand_at-text core i.a_mode i.a behind below.a most refl in
-    let second = ap (λ (t : List ℕ). operand_at (tokens_of t)) (sym (append-nil b)) ∙ operand_at-text core i.b_mode i.b [] below.b most refl in
-    ap operands_at tokens
-    ∙ operands_at-two (mode_text i.a_mode) (tokens_of (signed_number core i.a ++ behind)) (tokens_of b) [] (operand_of core i.a_mode i.a) (operand_of core i.b_mode i.b) first second
+-- an operand at the end of a line
+bare-last : (core : ℕ) (i : Instr) → HasNumbersBelow core i → core ≤ 65535 → bare (operand_text core i.b_mode i.b) ≡ operand_tokens core i.b_mode i.b
+bare-last core i below most =
+    ap bare (sym (append-nil (operand_text core i.b_mode i.b))) ∙ bare-operand core i.b_mode i.b [] below.b most refl ∙ append-nil (operand_tokens core i.b_mode i.b)
 
--- the line is read as the instruction
-pub statement_of-line : (core : ℕ) (i : Instr) → HasNumbersBelow core i → core ≤ 65535 → statement_of (tokens_of (line_of core i)) ≡ Some (statement_is core i)
-statement_of-line core i below most =
-    let behind = operand_text core i.a_mode i.a ++ (codes ", " ++ operand_text core i.b_mode i.b) in
-    ap (λ (t : List ℕ). statement_of (tokens_of t)) (line_parts core i)
-    ∙ ap statement_of (tokens_of-left i.op i.modifier behind)
-    ∙ statement_of-instruction i.op i.modifier (tokens_of behind) (operands.Two (operand_of core i.a_mode i.a) (operand_of core i.b_mode i.b)) (operands_at-line core i below most)
+-- the line's tokens
+pub bare-line : (core : ℕ) (i : Instr) → HasNumbersBelow core i → core ≤ 65535 → bare (line_of core i) ≡ instr_tokens core i
+bare-line core i below most =
+    let a = operand_tokens core i.a_mode i.a in
+    let b_text = operand_text core i.b_mode i.b in
+    let behind = operand_text core i.a_mode i.a ++ (codes ", " ++ b_text) in
+    let front : List Piece → List Piece = λ (ts : List Piece). piece kinds.Name (op_text i.op) ∷ piece kinds.Symbol (codes ".") ∷ piece kinds.Name (modifier_text i.modifier) ∷ ts in
+    ap bare (line_parts core i)
+    ∙ bare-left i.op i.modifier behind
+    ∙ ap front (bare-operand core i.a_mode i.a (codes ", " ++ b_text) below.a most refl)
+    ∙ ap (λ (ts : List Piece). front (a ++ ts)) (bare-comma b_text)
+    ∙ ap (λ (ts : List Piece). front (a ++ comma ∷ ts)) (bare-last core i below most)
 
 -- the line has no line feed
 pub in_line-line : (core : ℕ) (i : Instr) → HasNumbersBelow core i → core ≤ 65535 → AreInLine (line_of core i)

@@ -1,25 +1,29 @@
 -- The numbers and the operands of the load text, as they are read.
-use Rattle.std.proofs.Common.{◌≡◌, ℕ, zero, suc, ◌-◌, ◌*◌, ◌%◌, ◌^◌, ◌==◌, ◌≤◌, ◌<◌, false, List, [], ◌∷◌, ◌++◌, length, Option, Some, Ok, ℤ, pos, neg_ℤ, refl, ap, ◌∙◌, inl, inr, arith, rules, ne_eqb, lt-ltb, le-ltb, append_assoc}
+use Rattle.std.proofs.Common.{◌≡◌, ℕ, zero, suc, ◌-◌, ◌*◌, ◌%◌, ◌^◌, ◌==◌, ◌≤◌, ◌<◌, false, List, [], ◌∷◌, ◌++◌, length, Option, Some, Ok, ℤ, pos, neg_ℤ, refl, ap, ◌∙◌, inl, inr, arith, rules, ne_eqb, lt-ltb, le-ltb, append_assoc, codes}
 use Rattle.std.specs.Prelude.{nat_lt, if◌then◌else◌}
 use Rattle.std.specs.Fmt.{decimal}
 use Rattle.std.specs.List.{AllByRecursion, take_while}
 use Rattle.std.specs.Str.Parse.{AllDigits, IsNumeral}
 use Rattle.std.proofs.Math.Nat.{mod-eq_of_lt}
 use Rattle.std.proofs.lemmas.Bool.{cases_lt}
-use Rattle.std.proofs.lemmas.List.{length-append, length-replicate}
+use Rattle.std.proofs.lemmas.List.{append-nil, length-append, length-replicate}
 use Rattle.std.proofs.lemmas.Fmt.{decimal_is_IsNumeral, digits_value-decimal, length-decimal-le}
 use Rattle.std.proofs.lemmas.Str.Parse.{IsNumeralModel, numerals_by_fold, tells_digits, digit_from_value}
 use Rattle.war_types.specs.declared.instr.Mode.{Mode}
 use Rattle.war_types.specs.declared.instr.Mode.TheVariants as modes
-use Rattle.redcode_asm.specs.declared.token.TokenKind.TheVariants as kinds
-use Rattle.redcode_asm.specs.declared.statement.Operand.{Operand}
-use Rattle.redcode_asm.specs.Tokens.{Piece, is_digit, tokens_of}
+use Rattle.redcode_text.specs.declared.token.TokenKind.TheVariants as kinds
+use Rattle.redcode_text.specs.Bytes.{is_digit}
+use Rattle.redcode_text.specs.Tokens.{Piece}
+use Rattle.redcode_text.specs.Value.{number_from, value_of, value_within}
+use Rattle.redcode_asm.specs.declared.operand.Operand.{Operand}
 use Rattle.redcode_asm.specs.Name.{named, mode_names, mode_text}
-use Rattle.redcode_asm.specs.Statement.{Value, number_from, unsigned_at, number_at, operand_at}
-use Rattle.redcode_asm.specs.Instruction.{address_of}
+use Rattle.redcode_asm.specs.Operand.{operand_of}
+use Rattle.redcode_asm.specs.Instruction.{reduced}
+use Rattle.redcode_asm.specs.Sides.{is_comma}
+use Rattle.redcode_asm.specs.Statement.{is_bad}
 use Rattle.redcode_asm.specs.LoadText.{spaces, signed_number, right_in, operand_text}
 use Rattle.redcode_asm.proofs.LineLemmas.{AreInLine, in_line-append}
-use Rattle.redcode_asm.proofs.TokenLemmas.{piece, IsDigitByte, tokens_of-spaces, tokens_of-digits, tokens_of-mode, tokens_of-minus}
+use Rattle.redcode_asm.proofs.TokenLemmas.{piece, bare, IsDigitByte, bare-spaces, bare-digits, bare-mode, bare-minus}
 
 -- a text of digits has digit bytes only
 pub digit_bytes : (ds : List ℕ) → AllDigits 10 ds → AllByRecursion IsDigitByte ds
@@ -41,62 +45,95 @@ pub Writes-decimal : (n : ℕ) → n < 65536 → Writes (decimal n) n
 Writes-decimal n small =
     record { numeral = (decimal_is_IsNumeral n (omega arith)).0; value = digits_value-decimal numerals n (omega arith); small = small }
 
--- what is read from the front of a text
-abbrev pub reading : ℤ → List ℕ → Option (Value × List Piece)
-reading z rest = Some (Ok z, tokens_of rest)
+-- ---- tokens that are no comma
 
--- digits are read as their value
-pub unsigned_at-digits : (ds : List ℕ) (n : ℕ) (rest : List ℕ) → Writes ds n → take_while is_digit rest ≡ []
-    → unsigned_at (tokens_of (ds ++ rest)) ≡ reading (pos n) rest
-unsigned_at-digits [] n rest h stops = absurd (omega (arith, h.numeral.0))
-unsigned_at-digits (d ∷ ds) n rest h stops =
-    let bytes = digit_bytes (d ∷ ds) h.numeral.1 in
-    ap unsigned_at (tokens_of-digits d ds rest bytes.0 bytes.1 stops) ∙ rw (h.value, lt-ltb n (2 ^ 63) (omega (arith, h.small))) refl
+-- a token of the language that parts nothing
+abbrev pub IsInside : Piece → Type 0
+IsInside token = (is_bad token ≡ false) × (is_comma token ≡ false)
 
--- digits without a sign
-pub number_at-digits : (ds : List ℕ) (n : ℕ) (rest : List ℕ) → Writes ds n → take_while is_digit rest ≡ []
-    → number_at (tokens_of (ds ++ rest)) ≡ reading (pos n) rest
-number_at-digits [] n rest h stops = absurd (omega (arith, h.numeral.0))
-number_at-digits (d ∷ ds) n rest h stops =
-    let bytes = digit_bytes (d ∷ ds) h.numeral.1 in
-    ap number_at (tokens_of-digits d ds rest bytes.0 bytes.1 stops)
-    ∙ rw (ne_eqb d 45 (λ e. omega (arith, bytes.0)), ne_eqb d 43 (λ e. omega (arith, bytes.0)), h.value, lt-ltb n (2 ^ 63) (omega (arith, h.small))) refl
+-- tokens that stand for a number
+pub record Reads (tokens : List Piece) (z : ℤ) : Type 0 where
+  pub inside : AllByRecursion IsInside tokens
+  pub value : (names : List ℕ → Option ℤ) → value_of names tokens ≡ Ok z
 
--- digits behind a minus sign
-pub number_at-minus : (ds : List ℕ) (n : ℕ) (rest : List ℕ) → Writes ds n → take_while is_digit rest ≡ []
-    → number_at (tokens_of (45 ∷ (ds ++ rest))) ≡ reading (neg_ℤ (pos n)) rest
-number_at-minus [] n rest h stops = absurd (omega (arith, h.numeral.0))
-number_at-minus (d ∷ ds) n rest h stops =
+-- digits are one token
+pub bare-number : (ds : List ℕ) (n : ℕ) (rest : List ℕ) → Writes ds n → take_while is_digit rest ≡ [] → bare (ds ++ rest) ≡ piece kinds.Number ds ∷ bare rest
+bare-number [] n rest h stops = absurd (omega (arith, h.numeral.0))
+bare-number (d ∷ ds) n rest h stops =
     let bytes = digit_bytes (d ∷ ds) h.numeral.1 in
-    ap number_at (tokens_of-minus d (ds ++ rest) (ne_eqb d 61 (λ e. omega (arith, bytes.0)))) ∙ rw (unsigned_at-digits (d ∷ ds) n rest h stops) refl
+    bare-digits d ds rest bytes.0 bytes.1 stops
+
+-- which is no comma
+inside-number : (ds : List ℕ) (n : ℕ) → Writes ds n → IsInside (piece kinds.Number ds)
+inside-number [] n h = absurd (omega (arith, h.numeral.0))
+inside-number (d ∷ ds) n h =
+    let bytes = digit_bytes (d ∷ ds) h.numeral.1 in
+    (refl, rw (ne_eqb d 44 (λ e. omega (arith, bytes.0))) refl)
+
+-- and has their value
+value-number : (names : List ℕ → Option ℤ) (ds : List ℕ) (n : ℕ) → Writes ds n → value_of names (piece kinds.Number ds ∷ []) ≡ Ok (pos n)
+unfolding value_within
+value-number names ds n h = rw (h.value, lt-ltb n (2 ^ 63) (omega (arith, h.small))) refl
+
+pub Reads-number : (ds : List ℕ) (n : ℕ) → Writes ds n → Reads (piece kinds.Number ds ∷ []) (pos n)
+Reads-number ds n h = record { inside = (inside-number ds n h, tt); value = λ names. value-number names ds n h }
+
+-- behind a minus sign it is negative
+abbrev minus : Piece
+minus = piece kinds.Symbol (codes "-")
+
+value-minus : (names : List ℕ → Option ℤ) (ds : List ℕ) (n : ℕ) → Writes ds n → value_of names (minus ∷ piece kinds.Number ds ∷ []) ≡ Ok (neg_ℤ (pos n))
+unfolding value_within
+value-minus names ds zero h = rw (h.value) refl
+value-minus names ds (suc n) h = rw (h.value, lt-ltb (suc n) (2 ^ 63) (omega (arith, h.small)), lt-ltb n (2 ^ 63) (omega (arith, h.small))) refl
+
+Reads-minus : (ds : List ℕ) (n : ℕ) → Writes ds n → Reads (minus ∷ piece kinds.Number ds ∷ []) (neg_ℤ (pos n))
+Reads-minus ds n h = record { inside = ((refl, refl), (inside-number ds n h, tt)); value = λ names. value-minus names ds n h }
+
+bare-minus_number : (ds : List ℕ) (n : ℕ) (rest : List ℕ) → Writes ds n → take_while is_digit rest ≡ [] → bare (45 ∷ (ds ++ rest)) ≡ minus ∷ piece kinds.Number ds ∷ bare rest
+bare-minus_number [] n rest h stops = absurd (omega (arith, h.numeral.0))
+bare-minus_number (d ∷ ds) n rest h stops =
+    let bytes = digit_bytes (d ∷ ds) h.numeral.1 in
+    bare-minus d (ds ++ rest) (ne_eqb d 61 (λ e. omega (arith, bytes.0))) ∙ ap (λ (ts : List Piece). minus ∷ ts) (bare-number (d ∷ ds) n rest h stops)
 
 -- ---- a number of the load text
 
 -- the number that the load text gives for an address
-abbrev pub value_of : ℕ → ℕ → ℤ
-value_of core n = if nat_lt core (2 * n) then neg_ℤ (pos (core - n)) else pos n
+abbrev pub number_of : ℕ → ℕ → ℤ
+number_of core n = if nat_lt core (2 * n) then neg_ℤ (pos (core - n)) else pos n
 
--- the number of the load text is read as that number
-pub number_at-signed : (core n : ℕ) (rest : List ℕ) → n < core → core ≤ 65535 → take_while is_digit rest ≡ []
-    → number_at (tokens_of (signed_number core n ++ rest)) ≡ reading (value_of core n) rest
-number_at-signed core n rest below most stops =
+-- its tokens
+abbrev pub number_tokens : ℕ → ℕ → List Piece
+number_tokens core n = if nat_lt core (2 * n) then minus ∷ piece kinds.Number (decimal (core - n)) ∷ [] else piece kinds.Number (decimal n) ∷ []
+
+pub bare-signed : (core n : ℕ) (rest : List ℕ) → n < core → core ≤ 65535 → take_while is_digit rest ≡ []
+    → bare (signed_number core n ++ rest) ≡ number_tokens core n ++ bare rest
+bare-signed core n rest below most stops =
     elim (cases_lt core (2 * n)) [
-      | inl lt ↦ rw (lt-ltb core (2 * n) lt) (number_at-minus (decimal (core - n)) (core - n) rest (Writes-decimal (core - n) (omega arith)) stops)
-      | inr le ↦ rw (le-ltb core (2 * n) le) (number_at-digits (decimal n) n rest (Writes-decimal n (omega arith)) stops)
+      | inl lt ↦ rw (lt-ltb core (2 * n) lt) (bare-minus_number (decimal (core - n)) (core - n) rest (Writes-decimal (core - n) (omega arith)) stops)
+      | inr le ↦ rw (le-ltb core (2 * n) le) (bare-number (decimal n) n rest (Writes-decimal n (omega arith)) stops)
+    ]
+
+-- they are read as that number
+pub Reads-signed : (core n : ℕ) → n < core → core ≤ 65535 → Reads (number_tokens core n) (number_of core n)
+Reads-signed core n below most =
+    elim (cases_lt core (2 * n)) [
+      | inl lt ↦ rw (lt-ltb core (2 * n) lt) (Reads-minus (decimal (core - n)) (core - n) (Writes-decimal (core - n) (omega arith)))
+      | inr le ↦ rw (le-ltb core (2 * n) le) (Reads-number (decimal n) n (Writes-decimal n (omega arith)))
     ]
 
 -- a negative number from -1 on as an address
-address_of-negative : (core k : ℕ) → 0 < k → k < core → address_of core (neg_ℤ (pos k)) ≡ core - k
-address_of-negative core zero positive below = absurd (omega arith)
-address_of-negative core (suc k) positive below =
+reduced-negative : (core k : ℕ) → 0 < k → k < core → reduced core (neg_ℤ (pos k)) ≡ core - k
+reduced-negative core zero positive below = absurd (omega arith)
+reduced-negative core (suc k) positive below =
     let remainder : k % core ≡ k = mod-eq_of_lt (omega arith) in
     rw remainder (omega arith)
 
 -- and its address is the one that it was written for
-pub address_of-value : (core n : ℕ) → n < core → address_of core (value_of core n) ≡ n
-address_of-value core n below =
+pub reduced-number : (core n : ℕ) → n < core → reduced core (number_of core n) ≡ n
+reduced-number core n below =
     elim (cases_lt core (2 * n)) [
-      | inl lt ↦ rw (lt-ltb core (2 * n) lt) (address_of-negative core (core - n) (omega arith) (omega arith) ∙ omega arith)
+      | inl lt ↦ rw (lt-ltb core (2 * n) lt) (reduced-negative core (core - n) (omega arith) (omega arith) ∙ omega arith)
       | inr le ↦ rw (le-ltb core (2 * n) le) (mod-eq_of_lt below)
     ]
 
@@ -160,9 +197,9 @@ Follows-signed core n below most =
     ]
 
 -- before such a text a mode is a token of its own
-tokens_of-mode_before : (mode : Mode) (text : List ℕ) → Follows text → tokens_of (mode_text mode ++ text) ≡ piece kinds.Symbol (mode_text mode) ∷ tokens_of text
-tokens_of-mode_before mode [] h = absurd h
-tokens_of-mode_before mode (c ∷ text) h = tokens_of-mode mode c text h
+bare-mode_before : (mode : Mode) (text : List ℕ) → Follows text → bare (mode_text mode ++ text) ≡ piece kinds.Symbol (mode_text mode) ∷ bare text
+bare-mode_before mode [] h = absurd h
+bare-mode_before mode (c ∷ text) h = bare-mode mode c text h
 
 -- ---- operands
 
@@ -177,32 +214,42 @@ named-mode modes.BPre = refl
 named-mode modes.APost = refl
 named-mode modes.BPost = refl
 
--- an operand without where it lies, as the load text gives it
-abbrev pub operand_of : ℕ → Mode → ℕ → Operand
-operand_of core mode n = record { mode = mode; value = Ok (value_of core n) }
+-- nor is a mode a comma
+inside-mode : (mode : Mode) → IsInside (piece kinds.Symbol (mode_text mode))
+inside-mode modes.Immediate = (refl, refl)
+inside-mode modes.Direct = (refl, refl)
+inside-mode modes.AIndirect = (refl, refl)
+inside-mode modes.BIndirect = (refl, refl)
+inside-mode modes.APre = (refl, refl)
+inside-mode modes.BPre = (refl, refl)
+inside-mode modes.APost = (refl, refl)
+inside-mode modes.BPost = (refl, refl)
+
+-- the tokens of an operand of the load text
+abbrev pub operand_tokens : ℕ → Mode → ℕ → List Piece
+operand_tokens core mode n = piece kinds.Symbol (mode_text mode) ∷ number_tokens core n
 
 -- an operand's text is a mode, and then its number
-pub tokens_of-operand : (core : ℕ) (mode : Mode) (n : ℕ) (rest : List ℕ) → n < core → core ≤ 65535
-    → tokens_of (operand_text core mode n ++ rest) ≡ piece kinds.Symbol (mode_text mode) ∷ tokens_of (signed_number core n ++ rest)
-tokens_of-operand core mode n rest below most =
+pub bare-operand : (core : ℕ) (mode : Mode) (n : ℕ) (rest : List ℕ) → n < core → core ≤ 65535 → take_while is_digit rest ≡ []
+    → bare (operand_text core mode n ++ rest) ≡ operand_tokens core mode n ++ bare rest
+bare-operand core mode n rest below most stops =
     let text = signed_number core n in
     let blanks = spaces (6 - length text) in
     let follows = Follows-spaces (6 - length text) (text ++ rest) (Follows-append text rest (Follows-signed core n below most)) in
-    ap tokens_of (append_assoc (mode_text mode) (blanks ++ text) rest ∙ ap (λ (t : List ℕ). mode_text mode ++ t) (append_assoc blanks text rest))
-    ∙ tokens_of-mode_before mode (blanks ++ (text ++ rest)) follows
-    ∙ ap (λ (ts : List Piece). piece kinds.Symbol (mode_text mode) ∷ ts) (tokens_of-spaces (6 - length text) (text ++ rest))
+    ap bare (append_assoc (mode_text mode) (blanks ++ text) rest ∙ ap (λ (t : List ℕ). mode_text mode ++ t) (append_assoc blanks text rest))
+    ∙ bare-mode_before mode (blanks ++ (text ++ rest)) follows
+    ∙ ap (λ (ts : List Piece). piece kinds.Symbol (mode_text mode) ∷ ts) (bare-spaces (6 - length text) (text ++ rest) ∙ bare-signed core n rest below most stops)
 
--- a mode's symbol and a number are an operand
-operand_at-mode : (mode : Mode) (tokens behind : List Piece) (z : ℤ) → number_at tokens ≡ Some (Ok z, behind)
-    → operand_at (piece kinds.Symbol (mode_text mode) ∷ tokens) ≡ Some (record { mode = mode; value = Ok z }, behind)
-operand_at-mode mode tokens behind z h = rw (named-mode mode, h) refl
+-- its tokens part nothing
+pub inside-operand : (core : ℕ) (mode : Mode) (n : ℕ) → n < core → core ≤ 65535 → AllByRecursion IsInside (operand_tokens core mode n)
+inside-operand core mode n below most = (inside-mode mode, (Reads-signed core n below most).inside)
 
--- an operand's text is read as that operand
-pub operand_at-text : (core : ℕ) (mode : Mode) (n : ℕ) (rest : List ℕ) → n < core → core ≤ 65535 → take_while is_digit rest ≡ []
-    → operand_at (tokens_of (operand_text core mode n ++ rest)) ≡ Some (operand_of core mode n, tokens_of rest)
-operand_at-text core mode n rest below most stops =
-    ap operand_at (tokens_of-operand core mode n rest below most)
-    ∙ operand_at-mode mode (tokens_of (signed_number core n ++ rest)) (tokens_of rest) (value_of core n) (number_at-signed core n rest below most stops)
+-- and are read as the mode and the number
+pub operand_of-operand : (names : List ℕ → Option ℤ) (core : ℕ) (mode : Mode) (n : ℕ) → n < core → core ≤ 65535
+    → operand_of names (operand_tokens core mode n) ≡ record { mode = mode; value = Ok (number_of core n) }
+operand_of-operand names core mode n below most =
+    let value = (Reads-signed core n below most).value names in
+    rw (named-mode mode, value) refl
 
 -- a mode's text has no line feed
 in_line-mode : (mode : Mode) → AreInLine (mode_text mode)

@@ -1,5 +1,5 @@
 -- The load text of a warrior is a source of that warrior.
-use Rattle.std.proofs.Common.{◌≡◌, ℕ, ◌≤◌, ◌<◌, List, length, Ok, sym, ap, ◌∙◌, arith, le-ltb}
+use Rattle.std.proofs.Common.{◌≡◌, ℕ, ◌≤◌, ◌<◌, List, length, Ok, sym, ap, ◌∙◌, arith}
 use Rattle.std.proofs.lemmas.List.Elements.{recursion_from_All}
 use Rattle.war_types.specs.declared.settings.RawSettings.{RawSettings}
 use Rattle.war_types.specs.Settings.{AreSettings}
@@ -7,18 +7,18 @@ use Rattle.war_types.specs.Warrior.{WarriorParts, HasNumbersBelow, Fits}
 use Rattle.redcode_asm.specs.Assembly.{assembly, warrior_with}
 use Rattle.redcode_asm.specs.LoadText.{load_text}
 use Rattle.redcode_asm.specs.RoundTrip.{AssemblesTo}
-use Rattle.redcode_asm.proofs.LoadLemmas.{statements_from-load, length-load_text}
-use Rattle.redcode_asm.proofs.AssemblyLemmas.{assembly_of-numbered}
+use Rattle.redcode_asm.proofs.LoadLemmas.{expansion-load_text}
+use Rattle.redcode_asm.proofs.AssemblyLemmas.{assembly_of-load}
 
 -- a warrior that fits the settings, printed and assembled again, has its code and its start
 pub round_trip : (s : RawSettings) (w : WarriorParts) → AreSettings s → Fits s w → assembly s (load_text s.core w) ≡ Ok (warrior_with w.code w.start)
 unfolding assembly
 round_trip s w are fits =
     let numbers = recursion_from_All (HasNumbersBelow s.core) w.code fits.numbers in
-    let small : w.start < 65536 = omega (arith, fits.start, fits.length, are.length_most) in
-    let short : length (load_text s.core w) ≤ 65536 = omega (arith, length-load_text s.core w numbers are.core_most small, fits.length, are.length_most) in
-    rw (le-ltb 65536 (length (load_text s.core w)) short, statements_from-load s.core w numbers are.core_most small)
-    (assembly_of-numbered s w.code w.start numbers fits.start fits.length are.length_most)
+    let few : length w.code ≤ 100 = omega (arith, fits.length, are.length_most) in
+    let small : w.start < 65536 = omega (arith, fits.start) in
+    rw (expansion-load_text s w numbers are.core_most small few)
+    (assembly_of-load s w numbers are.core_most fits.start fits.length are.length_most)
 
 -- what is the load text assembles to its warrior's code and start
 pub AssemblesTo-load_text : (core : ℕ) (text : List ℕ) (w : WarriorParts) → text ≡ load_text core w → AssemblesTo core text w

@@ -1,73 +1,91 @@
 -- The assembly of a source: the warrior, or the first fault in the order of the refusals.
-use Rattle.std.specs.Prelude.{◌≡◌, ◌⊎◌, ℕ, nat_lt, if◌then◌else◌, List, [], ◌∷◌, ◌++◌, length, drop, Option, Some, None, Result, Ok, Err, codes, ℤ, pos, negsuc}
+use Rattle.std.specs.Prelude.{◌≡◌, ◌⊎◌, ℕ, nat_lt, if◌then◌else◌, Bool, true, false, List, [], ◌∷◌, length, flat_map, Option, Some, None, Result, Ok, Err, unwrap_or, codes, ℤ, pos, negsuc}
+use Rattle.std.specs.Option.{option_or}
 use Rattle.war_types.specs.declared.fault.AsmKind.{AsmKind}
 use Rattle.war_types.specs.declared.fault.AsmKind.TheVariants as kinds
 use Rattle.war_types.specs.declared.fault.AsmFault.{AsmFault}
 use Rattle.war_types.specs.declared.instr.Instr.{Instr}
 use Rattle.war_types.specs.declared.settings.RawSettings.{RawSettings}
 use Rattle.war_types.specs.Fault.{no_memory}
+use Rattle.war_types.specs.Title.{title_of}
 use Rattle.war_types.specs.Warrior.{WarriorParts, warrior_parts}
+use Rattle.redcode_text.specs.Operators.{is_zero}
+use Rattle.redcode_expand.specs.declared.line.LineKind.{LineKind}
+use Rattle.redcode_expand.specs.declared.line.LineKind.TheVariants as lines
+use Rattle.redcode_expand.specs.Expansion.{ExpandedLine, Expansion, expansion}
+use Rattle.redcode_expand.specs.Gives.{fault_at}
 use Rattle.redcode_asm.specs.declared.statement.Statement.{Statement}
 use Rattle.redcode_asm.specs.declared.statement.Statement.TheVariants as statements
-use Rattle.redcode_asm.specs.Statement.{Value}
-use Rattle.redcode_asm.specs.Instruction.{instr_of}
-use Rattle.redcode_asm.specs.Source.{◌>>=◌, fault_at, lines_of, statements_from}
+use Rattle.redcode_asm.specs.Chain.{◌>>=◌}
+use Rattle.redcode_asm.specs.Names.{Labels}
+use Rattle.redcode_asm.specs.Statement.{statement_of}
 
--- no line stands past those that may count; the first that does is refused
-abbrev pub within_limit : List (ℕ × Statement) → Result (Unit {0}) AsmFault
-within_limit [] = Ok tt
-within_limit (passing ∷ others) = Err (fault_at passing.0 kinds.ForLimit)
+-- a statement with the source line that it stands on
+abbrev pub Placed : Type 0
+Placed = ℕ × Statement
 
--- the value of ORG or END, which takes no place in the code
-abbrev pub value_on_line : ℕ → Value → Result (List Instr) AsmFault
-value_on_line line (Ok z) = Ok []
-value_on_line line (Err fault) = Err (fault_at line (kinds.Expression fault))
+-- ---- the first line with a fault
 
-abbrev pub code_of_instr : ℕ → Result Instr AsmKind → Result (List Instr) AsmFault
-code_of_instr line (Ok instr) = Ok (instr ∷ [])
-code_of_instr line (Err kind) = Err (fault_at line kind)
+abbrev pub said_at : ℕ → Result Statement AsmKind → Result Placed AsmFault
+said_at line (Ok statement) = Ok (line, statement)
+said_at line (Err kind) = Err (fault_at line kind)
 
--- what one statement adds to the code
-abbrev pub code_of : ℕ → ℕ → Statement → Result (List Instr) AsmFault
-code_of core line statements.Nothing = Ok []
-code_of core line (statements.Org value) = value_on_line line value
-code_of core line (statements.End None) = Ok []
-code_of core line (statements.End (Some value)) = value_on_line line value
-code_of core line (statements.Instruction op modifier given) = code_of_instr line (instr_of core op modifier given)
+abbrev pub said_on : RawSettings → Labels → ExpandedLine → Result Placed AsmFault
+said_on s labels line = said_at line.source_line (statement_of s labels line)
 
--- the code of the statements one after another, or the first fault among them
-abbrev pub all_code : ℕ → List (ℕ × Statement) → Result (List Instr) AsmFault
-all_code core [] = Ok []
-all_code core (s ∷ ss) = code_of core s.0 s.1 >>= λ front. all_code core ss >>= λ behind. Ok (front ++ behind)
+-- what the lines say one after another, or the first fault among them
+abbrev pub all_said : RawSettings → Labels → List ExpandedLine → Result (List Placed) AsmFault
+all_said s labels [] = Ok []
+all_said s labels (line ∷ others) = said_on s labels line >>= λ first. all_said s labels others >>= λ behind. Ok (first ∷ behind)
 
--- the line and the value of a start that a statement gives: ORG alone, or END alone
-abbrev pub org_of : ℕ → Statement → Option (ℕ × ℤ)
-org_of line (statements.Org (Ok z)) = Some (line, z)
-org_of line (statements.Org (Err fault)) = None
-org_of line statements.Nothing = None
-org_of line (statements.End value) = None
-org_of line (statements.Instruction op modifier given) = None
+-- ---- the code
 
-abbrev pub end_of : ℕ → Statement → Option (ℕ × ℤ)
-end_of line (statements.End (Some (Ok z))) = Some (line, z)
-end_of line (statements.End (Some (Err fault))) = None
-end_of line (statements.End None) = None
-end_of line statements.Nothing = None
-end_of line (statements.Org value) = None
-end_of line (statements.Instruction op modifier given) = None
+abbrev pub instr_said : Statement → List Instr
+instr_said (statements.Instruction instr) = instr ∷ []
+instr_said (statements.Org z) = []
+instr_said (statements.End z) = []
+instr_said (statements.Assert z) = []
+instr_said statements.Nothing = []
 
-abbrev pub or_else : {X : Type 0} → Option X → Option X → Option X
-or_else (Some x) other = Some x
-or_else None other = other
+abbrev pub code_of : List Placed → List Instr
+code_of said = flat_map (λ s. instr_said s.1) said
 
--- the last that some statement gives
-abbrev pub last_of : (ℕ → Statement → Option (ℕ × ℤ)) → List (ℕ × Statement) → Option (ℕ × ℤ)
+-- code of 1 to so many instructions
+abbrev pub of_length : ℕ → List Instr → Result (Unit {0}) AsmFault
+of_length limit [] = Err (fault_at 0 kinds.Empty)
+of_length limit (i ∷ is) = if nat_lt limit (length (i ∷ is)) then Err (fault_at 0 kinds.TooLong) else Ok tt
+
+-- ---- the start
+
+-- the last of what some elements give
+abbrev pub last_of : {X Y : Type 0} → (X → Option Y) → List X → Option Y
 last_of gives [] = None
-last_of gives (s ∷ ss) = or_else (last_of gives ss) (gives s.0 s.1)
+last_of gives (x ∷ xs) = option_or (last_of gives xs) (gives x)
 
--- the last ORG line's, else that of END
-abbrev pub given_start : List (ℕ × Statement) → Option (ℕ × ℤ)
-given_start ss = or_else (last_of org_of ss) (last_of end_of ss)
+-- the line and the value of an ORG, or of an END
+abbrev pub org_at : ℕ → Statement → Option (ℕ × ℤ)
+org_at line (statements.Org z) = Some (line, z)
+org_at line (statements.End z) = None
+org_at line (statements.Assert z) = None
+org_at line (statements.Instruction instr) = None
+org_at line statements.Nothing = None
+
+abbrev pub end_at : ℕ → Statement → Option (ℕ × ℤ)
+end_at line (statements.End z) = Some (line, z)
+end_at line (statements.Org z) = None
+end_at line (statements.Assert z) = None
+end_at line (statements.Instruction instr) = None
+end_at line statements.Nothing = None
+
+abbrev pub org_of : Placed → Option (ℕ × ℤ)
+org_of said = org_at said.0 said.1
+
+abbrev pub end_of : Placed → Option (ℕ × ℤ)
+end_of said = end_at said.0 said.1
+
+-- the last ORG's, else that of END
+abbrev pub given_start : List Placed → Option (ℕ × ℤ)
+given_start said = option_or (last_of org_of said) (last_of end_of said)
 
 -- the start among so many instructions, 0 where none is given
 abbrev pub start_of : ℕ → Option (ℕ × ℤ) → Result ℕ AsmFault
@@ -75,28 +93,71 @@ start_of count None = Ok 0
 start_of count (Some (line, pos n)) = if nat_lt n count then Ok n else Err (fault_at line kinds.BadStart)
 start_of count (Some (line, negsuc n)) = Err (fault_at line kinds.BadStart)
 
+-- ---- the assertions
+
+abbrev pub is_false : Statement → Bool
+is_false (statements.Assert z) = is_zero z
+is_false (statements.Org z) = false
+is_false (statements.End z) = false
+is_false (statements.Instruction instr) = false
+is_false statements.Nothing = false
+
+-- no assertion has the value 0; the first that has it is refused
+abbrev pub all_hold : List Placed → Result (Unit {0}) AsmFault
+all_hold [] = Ok tt
+all_hold (s ∷ ss) = if is_false s.1 then Err (fault_at s.0 kinds.AssertFalse) else all_hold ss
+
+-- ---- the titles
+
+abbrev pub title_if : Bool → List ℕ → Option (List ℕ)
+title_if true title = Some title
+title_if false title = None
+
+abbrev pub is_name : LineKind → Bool
+is_name lines.Name = true
+is_name lines.Operation = false
+is_name lines.Org = false
+is_name lines.End = false
+is_name lines.Assert = false
+is_name lines.Author = false
+is_name lines.Other = false
+
+abbrev pub is_author : LineKind → Bool
+is_author lines.Author = true
+is_author lines.Operation = false
+is_author lines.Org = false
+is_author lines.End = false
+is_author lines.Assert = false
+is_author lines.Name = false
+is_author lines.Other = false
+
+-- the text of the last line of a kind, none where no line is of that kind
+abbrev pub last_text : (LineKind → Bool) → List ExpandedLine → Option (List ℕ)
+last_text is_kind all = last_of (λ line. title_if (is_kind line.kind) line.title) all
+
+abbrev pub name_of : List ExpandedLine → List ℕ
+name_of all = title_of (unwrap_or (last_text is_name all) []) (codes "Unnamed")
+
+abbrev pub author_of : List ExpandedLine → List ℕ
+author_of all = title_of (unwrap_or (last_text is_author all) []) (codes "Anonymous")
+
+-- ---- the warrior
+
 -- a warrior without titles
 abbrev pub warrior_with : List Instr → ℕ → WarriorParts
 warrior_with code start = warrior_parts code start (codes "Unnamed") (codes "Anonymous")
 
--- code of 1 to so many instructions
-abbrev pub of_length : ℕ → List Instr → Result (Unit {0}) AsmFault
-of_length limit [] = Err (fault_at 0 kinds.Empty)
-of_length limit (i ∷ is) = if nat_lt limit (length (i ∷ is)) then Err (fault_at 0 kinds.TooLong) else Ok tt
-
-unfoldable pub assembly_of_statements : RawSettings → List (ℕ × Statement) → Result WarriorParts AsmFault
-assembly_of_statements s ss =
-    within_limit (drop 4096 ss) >>= λ _.
-    all_code s.core ss >>= λ code.
-    of_length s.length code >>= λ _.
-    start_of (length code) (given_start ss) >>= λ start.
-    Ok (warrior_with code start)
+unfoldable pub assembly_of : RawSettings → Expansion → Result WarriorParts AsmFault
+assembly_of s e =
+    all_said s e.labels e.lines >>= λ said.
+    of_length s.length (code_of said) >>= λ _.
+    start_of (length (code_of said)) (given_start said) >>= λ start.
+    all_hold said >>= λ _.
+    Ok (warrior_parts (code_of said) start (name_of e.lines) (author_of e.lines))
 
 -- the warrior that a source gives under these settings, or the refusal
 unfoldable pub assembly : RawSettings → List ℕ → Result WarriorParts AsmFault
-assembly s source =
-    if nat_lt 65536 (length source) then Err (fault_at 0 kinds.SourceTooLong)
-    else (statements_from 1 (lines_of source) >>= λ ss. assembly_of_statements s ss)
+assembly s source = expansion s source >>= assembly_of s
 
 -- what was found is what was expected, unless memory ran out
 abbrev pub Assembles : Result WarriorParts AsmFault → Result WarriorParts AsmFault → Type 0

@@ -1,5 +1,5 @@
--- The instruction that an operation, a modifier and operands make.
-use Rattle.std.specs.Prelude.{ℕ, ◌-◌, ◌%◌, Bool, true, false, if◌then◌else◌, Option, Result, Ok, Err, ℤ, pos, negsuc, unwrap_or}
+-- The instruction that the tokens of a line give, the operation's name first.
+use Rattle.std.specs.Prelude.{ℕ, ◌-◌, ◌%◌, Bool, true, false, ◌||◌, if◌then◌else◌, List, [], ◌∷◌, Option, Some, None, Result, Ok, Err, ℤ, pos, negsuc, ok_or, unwrap_or, codes}
 use Rattle.war_types.specs.declared.fault.AsmKind.{AsmKind}
 use Rattle.war_types.specs.declared.fault.AsmKind.TheVariants as kinds
 use Rattle.war_types.specs.declared.instr.Op.{Op}
@@ -9,10 +9,13 @@ use Rattle.war_types.specs.declared.instr.Modifier.TheVariants as modifiers
 use Rattle.war_types.specs.declared.instr.Mode.{Mode}
 use Rattle.war_types.specs.declared.instr.Mode.TheVariants as modes
 use Rattle.war_types.specs.declared.instr.Instr.{Instr}
-use Rattle.redcode_asm.specs.declared.statement.Operand.{Operand}
-use Rattle.redcode_asm.specs.declared.statement.Operands.{Operands}
-use Rattle.redcode_asm.specs.declared.statement.Operands.TheVariants as operands
-use Rattle.redcode_asm.specs.Statement.{Value}
+use Rattle.redcode_text.specs.Operators.{Value}
+use Rattle.redcode_text.specs.Tokens.{Piece}
+use Rattle.redcode_asm.specs.declared.operand.Operand.{Operand}
+use Rattle.redcode_asm.specs.Chain.{◌>>=◌}
+use Rattle.redcode_asm.specs.Name.{is_word, named, operations, modifier_names}
+use Rattle.redcode_asm.specs.Operand.{operand_of}
+use Rattle.redcode_asm.specs.Sides.{SideTokens, has_text, sides_of}
 
 abbrev pub is_immediate : Mode → Bool
 is_immediate modes.Immediate = true
@@ -48,42 +51,63 @@ default_modifier ops.Djn a b = modifiers.B
 default_modifier ops.Spl a b = modifiers.B
 
 -- a number as an address of a core of this size: its remainder, from 0 on
-abbrev pub address_of : ℕ → ℤ → ℕ
-address_of core (pos n) = n % core
-address_of core (negsuc n) = core - 1 - n % core
+abbrev pub reduced : ℕ → ℤ → ℕ
+reduced core (pos n) = n % core
+reduced core (negsuc n) = core - 1 - n % core
 
-abbrev pub direct_zero : Operand
-direct_zero = record { mode = modes.Direct; value = Ok (pos 0) }
+-- what is said where nothing stands behind the operands
+abbrev pub unless_more : {X : Type 0} → Bool → X → Result X AsmKind
+unless_more true x = Err kinds.ExtraText
+unless_more false x = Ok x
 
-abbrev pub instr_of_values : ℕ → Op → Option Modifier → Mode → Mode → Value → Value → Result Instr AsmKind
-instr_of_values core op modifier a_mode b_mode (Err fault) b = Err (kinds.Expression fault)
-instr_of_values core op modifier a_mode b_mode (Ok a) (Err fault) = Err (kinds.Expression fault)
-instr_of_values core op modifier a_mode b_mode (Ok a) (Ok b) =
-    Ok (record {
+-- the A operand's fault, else that of the B operand, else a second comma's
+abbrev pub instr_of_values : ℕ → Op → Option Modifier → Mode → Mode → Value → Value → Bool → Result Instr AsmKind
+instr_of_values core op modifier a_mode b_mode (Err fault) b more = Err (kinds.Expression fault)
+instr_of_values core op modifier a_mode b_mode (Ok a) (Err fault) more = Err (kinds.Expression fault)
+instr_of_values core op modifier a_mode b_mode (Ok a) (Ok b) more =
+    unless_more more (record {
       op = op;
       modifier = unwrap_or modifier (default_modifier op a_mode b_mode);
       a_mode = a_mode;
-      a = address_of core a;
+      a = reduced core a;
       b_mode = b_mode;
-      b = address_of core b;
+      b = reduced core b;
     })
 
-abbrev pub instr_of_both : ℕ → Op → Option Modifier → Operand → Operand → Result Instr AsmKind
-instr_of_both core op modifier a b = instr_of_values core op modifier a.mode b.mode a.value b.value
+abbrev pub instr_of : ℕ → Op → Option Modifier → Operand → Operand → Bool → Result Instr AsmKind
+instr_of core op modifier a b more = instr_of_values core op modifier a.mode b.mode a.value b.value more
 
--- without operands DAT and NOP have $0 and $0, and others lack one
-abbrev pub instr_of_none : ℕ → Op → Option Modifier → Result Instr AsmKind
-instr_of_none core ops.Dat modifier = instr_of_both core ops.Dat modifier direct_zero direct_zero
-instr_of_none core ops.Nop modifier = instr_of_both core ops.Nop modifier direct_zero direct_zero
-instr_of_none core other modifier = Err kinds.MissingOperand
+-- ---- from tokens
 
--- one operand is the B operand of DAT and the A operand of every other operation; the other is $0
-abbrev pub instr_of_one : ℕ → Op → Option Modifier → Operand → Result Instr AsmKind
-instr_of_one core ops.Dat modifier given = instr_of_both core ops.Dat modifier direct_zero given
-instr_of_one core other modifier given = instr_of_both core other modifier given direct_zero
+-- there is no P-space
+abbrev pub is_pspace : List ℕ → Bool
+is_pspace word = is_word (codes "LDP") word || is_word (codes "STP") word
 
--- the instruction in a core of this size, or its first fault
-abbrev pub instr_of : ℕ → Op → Option Modifier → Operands → Result Instr AsmKind
-instr_of core op modifier operands.Absent = instr_of_none core op modifier
-instr_of core op modifier (operands.One given) = instr_of_one core op modifier given
-instr_of core op modifier (operands.Two a b) = instr_of_both core op modifier a b
+abbrev pub op_of : List ℕ → Result Op AsmKind
+op_of word = if is_pspace word then Err kinds.Pspace else ok_or (named operations word) kinds.BadOperation
+
+-- the modifier of this name, and the tokens behind it
+abbrev pub modifier_or_bad : Option Modifier → List Piece → Result (Option Modifier × List Piece) AsmKind
+modifier_or_bad None behind = Err kinds.BadModifier
+modifier_or_bad (Some modifier) behind = Ok (Some modifier, behind)
+
+abbrev pub modifier_named_at : List Piece → Result (Option Modifier × List Piece) AsmKind
+modifier_named_at [] = Err kinds.BadModifier
+modifier_named_at (t ∷ ts) = modifier_or_bad (named modifier_names t.text) ts
+
+-- the modifier behind a dot, or none where no dot stands there, and the tokens of the operands
+abbrev pub modifier_at : List Piece → Result (Option Modifier × List Piece) AsmKind
+modifier_at [] = Ok (None, [])
+modifier_at (t ∷ ts) = if has_text (codes ".") t then modifier_named_at ts else Ok (None, t ∷ ts)
+
+abbrev pub instr_of_sides : ℕ → (List ℕ → Option ℤ) → Op → Option Modifier → SideTokens → Result Instr AsmKind
+instr_of_sides core names op modifier sides = instr_of core op modifier (operand_of names sides.a) (operand_of names sides.b) sides.more
+
+-- the instruction in a core of this size, by what the names stand for, or its first fault
+abbrev pub instruction_of : ℕ → (List ℕ → Option ℤ) → List Piece → Result Instr AsmKind
+instruction_of core names [] = Err kinds.BadOperation
+instruction_of core names (word ∷ tokens) =
+    op_of word.text >>= λ op.
+    modifier_at tokens >>= λ modifier.
+    sides_of op modifier.1 >>= λ sides.
+    instr_of_sides core names op modifier.0 sides

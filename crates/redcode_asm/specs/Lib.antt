@@ -1,9 +1,12 @@
+pub mod Chain
 pub mod Name
-pub mod Tokens
-pub mod Statement
+pub mod Sides
+pub mod Views
+pub mod Operand
 pub mod Instruction
-pub mod Source
+pub mod Names
+pub mod Statement
 pub mod Assembly
 pub mod LoadText
-pub mod Gives
+pub mod Placed
 pub mod RoundTrip

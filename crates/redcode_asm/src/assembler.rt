@@ -1,33 +1,39 @@
 //! The assembler.
 
-ghost use Rattle.std.specs.Prelude.{◌≡◌, ◌^◌, ◌<◌, length, All, IfOk, IfSome, drop};
-ghost use Rattle.war_types.specs.Warrior.{HasNumbersBelow, Fits};
-ghost use Rattle.redcode_asm.specs.Gives.{Gives, added, numbered};
-ghost use Rattle.redcode_asm.specs.Source.{fault_at};
-ghost use Rattle.redcode_asm.specs.Assembly.{Assembles, assembly, within_limit, all_code, code_of, given_start, start_of, of_length};
+ghost use Rattle.std.specs.Prelude.{◌≡◌, ◌^◌, ◌<◌, length, if◌then◌else◌, IfOk, unwrap_or, []};
+ghost use Rattle.war_types.specs.Warrior.{Fits};
+ghost use Rattle.redcode_text.specs.Tokens.{pieces};
+ghost use Rattle.redcode_expand.specs.Expansion.{tokens_at};
+ghost use Rattle.redcode_expand.specs.Gives.{Gives, fault_at};
+ghost use Rattle.redcode_asm.specs.Statement.{said_by};
+ghost use Rattle.redcode_asm.specs.Placed.{placed, all_placed};
+ghost use Rattle.redcode_asm.specs.Assembly.{Assembles, assembly, said_at, all_said, code_of, given_start, start_of, of_length, all_hold, last_text, is_name, is_author};
 
-use crate::instruction::instr_of;
-use crate::source::{Line, lines_of};
-use crate::statement::Statement;
+use crate::instruction::instruction_of;
+use crate::names::{Absolute, Relative};
+use crate::statement::{
+    Statement, assert_said, behind_word, end_said, has_bad_token, org_said, other_said,
+};
+use redcode_expand::{Expanded, Line, LineKind, expand};
+use redcode_text::Token;
 use std::alloc::Allocator;
 use war_types::{AsmFault, AsmKind, Instr, Settings, Title, Warrior};
 
-/// Bytes that a source has at most.
-pub const SOURCE_LIMIT: usize = 65_536;
-
-/// Lines that may count.
-const LINE_LIMIT: usize = 4096;
+/// What a line of the source says.
+#[derive(Clone, Copy, Debug)]
+pub(crate) struct Said {
+    /// The line's number in the source, from 1.
+    pub line: u32,
+    pub statement: Statement,
+}
 
 /// Assembles a source of Redcode under these settings.
 ///
-/// A source is of load form where each line up to and with the first `END` is blank, a comment that is no directive,
-/// `ORG` with a number, `END` with a number or none, or an operation with an optional modifier and up to two operands
-/// of a mode and a number, and no line behind the `END` is a `;redcode` line. Another source is refused, for now, as
-/// `BadOperation` at its first line that breaks this form. The name and the author are the defaults.
-///
-/// A refusal names a line of the source, counted from 1, or 0 where none is to blame; `AsmKind::Memory` stands only
+/// The first refusal that is due is answered: those of the expansion, then the first expanded line with a fault, and in
+/// it the first fault in the order of `AsmKind`, then `Empty`, `TooLong`, `BadStart`, and the first assertion that doesn't
+/// hold. It names a line of the source, counted from 1, or 0 where none is to blame; `AsmKind::Memory` stands only
 /// where a growth was refused.
-#[tactic(auto, unfolding(crate::specs::Assembly::assembly, crate::specs::Assembly::assembly_of_statements))]
+#[tactic(auto, unfolding(crate::specs::Assembly::assembly, crate::specs::Assembly::assembly_of))]
 pub fn assemble<A: Allocator + Copy>(
     alloc: A,
     source: &[u8],
@@ -36,16 +42,15 @@ pub fn assemble<A: Allocator + Copy>(
     ensures assembled { Assembles result (assembly settings.now source.now) }
     ensures fits { IfOk result (Fits settings.now) }
 {
-    if source.len() > SOURCE_LIMIT {
-        return Err(fault(0, AsmKind::SourceTooLong));
-    }
-    let lines = lines_of(alloc, source)?;
-    check_limit(lines.as_slice())?;
-    let code = all_code(alloc, lines.as_slice(), settings.core())?;
+    let expanded = expand(alloc, source, settings)?;
+    let said = all_said(alloc, &expanded, settings)?;
+    let code = code_of(alloc, said.as_slice())?;
     check_length(code.as_slice(), settings.length())?;
-    let start = start_of(code.as_slice(), given_start(lines.as_slice()))?;
-    let name = Title::new(b"", "Unnamed");
-    let author = Title::new(b"", "Anonymous");
+    let start = start_of(code.as_slice(), given_start(said.as_slice()))?;
+    check_assertions(said.as_slice())?;
+    let (name, author) = last_texts(&expanded);
+    let name = Title::new(name, "Unnamed");
+    let author = Title::new(author, "Anonymous");
     Ok(Warrior::new(code, start, name, author, settings).unwrap())
 }
 
@@ -55,50 +60,90 @@ fn fault(line: u32, kind: AsmKind) -> AsmFault
     AsmFault { line, kind }
 }
 
-/// Refuses the first line past those that may count.
-fn check_limit(lines: &[Line]) -> Result<(), AsmFault>
-    ensures { result ≡ within_limit (drop 4096 (numbered lines.now)) }
+/// What the lines say one after another, or the first fault among them.
+fn all_said<A: Allocator + Copy>(
+    alloc: A,
+    expanded: &Expanded<'_, A>,
+    settings: &Settings,
+) -> Result<Vec<Said, A>, AsmFault>
+    ensures { Gives (λ all. all_placed all.items) result (all_said settings.now expanded.now.labels expanded.now.lines) }
 {
-    if lines.len() > LINE_LIMIT {
-        return Err(fault(lines[LINE_LIMIT].number, AsmKind::ForLimit));
+    let mut all = Vec::new(alloc);
+    for (i, line) in expanded.lines().iter().enumerate() {
+        all.push(said_on(expanded, settings, i, *line)?)?;
     }
-    Ok(())
+    Ok(all)
 }
 
-/// The code of the lines one after another, or the first fault among them.
-fn all_code<A: Allocator>(alloc: A, lines: &[Line], core: u16) -> Result<Vec<Instr, A>, AsmFault>
-    requires { 0 < core }
-    ensures code { Gives (λ code. code.items) result (all_code core (numbered lines.now)) }
-    ensures numbers { IfOk result (λ code. All (HasNumbersBelow core) code.items) }
+/// What this line says, which is the one at this place, or its first fault.
+fn said_on<A: Allocator + Copy>(
+    expanded: &Expanded<'_, A>,
+    settings: &Settings,
+    place: usize,
+    line: Line,
+) -> Result<Said, AsmFault>
+    requires { place < length expanded.now.lines }
+    ensures { let tokens = tokens_at expanded.now.lines place in
+        Gives placed result (said_at line.source_line (said_by settings.now expanded.now.labels line.kind line.before tokens)) }
+{
+    let tokens = expanded.tokens(place)?;
+    match said_by(expanded, settings, line, tokens.as_slice()) {
+        Ok(statement) => Ok(Said {
+            line: line.source_line,
+            statement,
+        }),
+        Err(kind) => Err(fault(line.source_line, kind)),
+    }
+}
+
+/// What a line says, or the first of its faults.
+#[tactic(auto, unfolding(crate::specs::Statement::said_by))]
+fn said_by<A: Allocator + Copy>(
+    expanded: &Expanded<'_, A>,
+    settings: &Settings,
+    line: Line,
+    tokens: &[Token<'_>],
+) -> Result<Statement, AsmKind>
+    ensures { result ≡ said_by settings.now expanded.now.labels line.kind line.before (pieces tokens.now) }
+{
+    if has_bad_token(tokens) {
+        return Err(AsmKind::BadToken);
+    }
+    let before = line.before;
+    let absolute = Absolute {
+        expanded,
+        settings,
+        before,
+    };
+    let relative = Relative {
+        expanded,
+        settings,
+        before,
+    };
+    match line.kind {
+        LineKind::Operation => {
+            let instr = instruction_of(settings.core(), tokens, &relative)?;
+            Ok(Statement::Instruction(instr))
+        }
+        LineKind::Org => org_said(behind_word(tokens), &absolute),
+        LineKind::End => end_said(behind_word(tokens), &absolute),
+        LineKind::Assert => assert_said(tokens, &absolute),
+        LineKind::Name | LineKind::Author => Ok(Statement::Nothing),
+        LineKind::Other => other_said(tokens),
+    }
+}
+
+/// The instructions of the lines one after another.
+fn code_of<A: Allocator>(alloc: A, said: &[Said]) -> Result<Vec<Instr, A>, AsmFault>
+    ensures { Gives (λ code. code.items) result (Ok (code_of (all_placed said.now))) }
 {
     let mut code = Vec::new(alloc);
-    for line in lines {
-        if let Some(instr) = code_of(core, line)? {
+    for line in said {
+        if let Statement::Instruction(instr) = line.statement {
             code.push(instr)?;
         }
     }
     Ok(code)
-}
-
-/// The instruction of a line, if it has one.
-fn code_of(core: u16, line: &Line) -> Result<Option<Instr>, AsmFault>
-    requires { 0 < core }
-    ensures code { added result ≡ code_of core line.now.number line.now.statement }
-    ensures numbers { IfOk result (λ instr. IfSome instr (HasNumbersBelow core)) }
-{
-    match line.statement {
-        Statement::Nothing | Statement::End(None) => Ok(None),
-        Statement::Org(Ok(_)) | Statement::End(Some(Ok(_))) => Ok(None),
-        Statement::Org(Err(expression)) | Statement::End(Some(Err(expression))) => {
-            Err(fault(line.number, AsmKind::Expression(expression)))
-        }
-        Statement::Instruction(op, modifier, operands) => {
-            match instr_of(core, op, modifier, operands) {
-                Ok(instr) => Ok(Some(instr)),
-                Err(kind) => Err(fault(line.number, kind)),
-            }
-        }
-    }
 }
 
 /// Refuses code of no instruction, or of more than the settings allow.
@@ -115,15 +160,15 @@ fn check_length(code: &[Instr], limit: u16) -> Result<(), AsmFault>
 }
 
 /// The line and the value of the last `ORG`, else of the `END`.
-fn given_start(lines: &[Line]) -> Option<(u32, i64)>
-    ensures { result ≡ given_start (numbered lines.now) }
+fn given_start(said: &[Said]) -> Option<(u32, i64)>
+    ensures { result ≡ given_start (all_placed said.now) }
 {
     let mut org = None;
     let mut end = None;
-    for line in lines {
+    for line in said {
         match line.statement {
-            Statement::Org(Ok(value)) => org = Some((line.number, value)),
-            Statement::End(Some(Ok(value))) => end = Some((line.number, value)),
+            Statement::Org(value) => org = Some((line.line, value)),
+            Statement::End(value) => end = Some((line.line, value)),
             _ => {}
         }
     }
@@ -141,5 +186,52 @@ fn start_of(code: &[Instr], given: Option<(u32, i64)>) -> Result<u16, AsmFault>
             Ok(start) if usize::from(start) < code.len() => Ok(start),
             _ => Err(fault(line, AsmKind::BadStart)),
         },
+    }
+}
+
+/// Refuses the first assertion that doesn't hold.
+fn check_assertions(said: &[Said]) -> Result<(), AsmFault>
+    ensures { result ≡ all_hold (all_placed said.now) }
+{
+    for line in said {
+        if matches!(line.statement, Statement::Assert(0)) {
+            return Err(fault(line.line, AsmKind::AssertFalse));
+        }
+    }
+    Ok(())
+}
+
+/// The texts of the last `;name` and of the last `;author`, nothing of one that is not there.
+fn last_texts<'e, A: Allocator + Copy>(expanded: &'e Expanded<'_, A>) -> (&'e [u8], &'e [u8])
+    ensures name { result.0.now ≡ unwrap_or (last_text is_name expanded.now.lines) [] }
+    ensures author { result.1.now ≡ unwrap_or (last_text is_author expanded.now.lines) [] }
+{
+    let mut name: &[u8] = b"";
+    let mut author: &[u8] = b"";
+    for (i, line) in expanded.lines().iter().enumerate() {
+        let title = expanded.title(i);
+        name = name_from(line.kind, title, name);
+        author = author_from(line.kind, title, author);
+    }
+    (name, author)
+}
+
+/// The title of a line that is a `;name`, else the name before it.
+fn name_from<'e>(kind: LineKind, title: &'e [u8], before: &'e [u8]) -> &'e [u8]
+    ensures { result.now ≡ (if is_name kind then title.entry.now else before.entry.now) }
+{
+    match kind {
+        LineKind::Name => title,
+        _ => before,
+    }
+}
+
+/// The title of a line that is an `;author`, else the author before it.
+fn author_from<'e>(kind: LineKind, title: &'e [u8], before: &'e [u8]) -> &'e [u8]
+    ensures { result.now ≡ (if is_author kind then title.entry.now else before.entry.now) }
+{
+    match kind {
+        LineKind::Author => title,
+        _ => before,
     }
 }

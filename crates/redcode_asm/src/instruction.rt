@@ -1,52 +1,85 @@
-//! From an operation, a modifier and operands to an instruction.
+//! The instruction that the tokens of a line give.
 
-ghost use Rattle.std.specs.Prelude.{◌≡◌, ◌<◌, IfOk, Option, None, Ok};
-ghost use Rattle.war_types.specs.Warrior.{HasNumbersBelow};
-ghost use Rattle.redcode_asm.specs.Instruction.{is_immediate, by_modes, default_modifier, address_of, instr_of, instr_of_both, direct_zero};
+ghost use Rattle.std.specs.Prelude.{◌≡◌, ◌<◌, IfOk};
+ghost use Rattle.redcode_text.specs.Tokens.{pieces};
+ghost use Rattle.redcode_asm.specs.Instruction.{is_immediate, by_modes, default_modifier, reduced, instr_of, is_pspace, op_of, modifier_named_at, modifier_at, instruction_of};
+ghost use Rattle.redcode_asm.specs.Views.{read, result_map};
 
-use crate::statement::{Operand, Operands};
+use crate::operand::{Operand, operand_of};
+use crate::side::{has_text, sides_of};
+use crate::word::{is_word, modifier_named, operation_named};
+use redcode_text::{Names, Token};
 use war_types::{AsmKind, Instr, Mode, Modifier, Op};
 
-/// The instruction in a core of so many cells, or its first fault.
-pub(crate) fn instr_of(
+/// The instruction in a core of so many cells, of tokens from its operation on, or its first fault.
+pub(crate) fn instruction_of<N: Names>(
     core: u16,
-    op: Op,
-    modifier: Option<Modifier>,
-    operands: Operands,
+    tokens: &[Token<'_>],
+    names: &N,
 ) -> Result<Instr, AsmKind>
     requires { 0 < core }
-    ensures value { result ≡ instr_of core op modifier operands }
-    ensures numbers { IfOk result (HasNumbersBelow core) }
+    ensures { result ≡ instruction_of core (N.values names.now) (pieces tokens.now) }
 {
-    match operands {
-        Operands::Absent => match op {
-            Op::Dat | Op::Nop => instr_of_both(core, op, modifier, ZERO, ZERO),
-            _ => Err(AsmKind::MissingOperand),
-        },
-        Operands::One(given) => match op {
-            Op::Dat => instr_of_both(core, op, modifier, ZERO, given),
-            _ => instr_of_both(core, op, modifier, given, ZERO),
-        },
-        Operands::Two(a, b) => instr_of_both(core, op, modifier, a, b),
+    let [word, behind @ ..] = tokens else {
+        return Err(AsmKind::BadOperation);
+    };
+    let op = op_of(word.text)?;
+    let (modifier, behind) = modifier_at(behind)?;
+    let sides = sides_of(op, behind)?;
+    let a = operand_of(sides.a, names);
+    let b = operand_of(sides.b, names);
+    instr_of(core, op, modifier, a, b, sides.more)
+}
+
+/// The operation of this name. There is no P-space.
+fn op_of(word: &[u8]) -> Result<Op, AsmKind>
+    ensures { result ≡ op_of word.now }
+{
+    if is_word(b"LDP", word) || is_word(b"STP", word) {
+        return Err(AsmKind::Pspace);
+    }
+    operation_named(word).ok_or(AsmKind::BadOperation)
+}
+
+/// The modifier behind a dot, or none where no dot stands there, and the tokens of the operands.
+fn modifier_at<'t, 'l>(
+    tokens: &'t [Token<'l>],
+) -> Result<(Option<Modifier>, &'t [Token<'l>]), AsmKind>
+    ensures { result_map read result ≡ modifier_at (pieces tokens.entry.now) }
+{
+    match tokens {
+        [dot, behind @ ..] if has_text(dot, b".") => modifier_named_at(behind),
+        _ => Ok((None, tokens)),
     }
 }
 
-/// The operand that stands where none is written.
-const ZERO: Operand = Operand {
-    mode: Mode::Direct,
-    value: Ok(0),
-};
+/// The modifier whose name stands there, and the tokens behind it.
+fn modifier_named_at<'t, 'l>(
+    tokens: &'t [Token<'l>],
+) -> Result<(Option<Modifier>, &'t [Token<'l>]), AsmKind>
+    ensures { result_map read result ≡ modifier_named_at (pieces tokens.entry.now) }
+{
+    let [name, behind @ ..] = tokens else {
+        return Err(AsmKind::BadModifier);
+    };
+    match modifier_named(name.text) {
+        Some(modifier) => Ok((Some(modifier), behind)),
+        None => Err(AsmKind::BadModifier),
+    }
+}
 
-fn instr_of_both(
+/// The instruction of these parts: the A operand's fault, else that of the B operand, else that of more text behind
+/// them.
+fn instr_of(
     core: u16,
     op: Op,
     modifier: Option<Modifier>,
     a: Operand,
     b: Operand,
+    more: bool,
 ) -> Result<Instr, AsmKind>
     requires { 0 < core }
-    ensures value { result ≡ instr_of_both core op modifier a b }
-    ensures numbers { IfOk result (HasNumbersBelow core) }
+    ensures { result ≡ instr_of core op modifier a b more }
 {
     let a_value = match a.value {
         Ok(value) => value,
@@ -56,6 +89,9 @@ fn instr_of_both(
         Ok(value) => value,
         Err(fault) => return Err(AsmKind::Expression(fault)),
     };
+    if more {
+        return Err(AsmKind::ExtraText);
+    }
     Ok(Instr {
         op,
         modifier: match modifier {
@@ -63,9 +99,9 @@ fn instr_of_both(
             None => default_modifier(op, a.mode, b.mode),
         },
         a_mode: a.mode,
-        a: address_of(core, a_value),
+        a: reduced(core, a_value),
         b_mode: b.mode,
-        b: address_of(core, b_value),
+        b: reduced(core, b_value),
     })
 }
 
@@ -103,9 +139,9 @@ fn is_immediate(mode: Mode) -> bool
 }
 
 /// A number as an address of a core of so many cells.
-fn address_of(core: u16, value: i64) -> u16
+fn reduced(core: u16, value: i64) -> u16
     requires { 0 < core }
-    ensures value { result ≡ address_of core value }
+    ensures value { result ≡ reduced core value }
     ensures below { result < core }
 {
     value.rem_euclid(i64::from(core)) as u16

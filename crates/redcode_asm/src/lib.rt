@@ -2,18 +2,20 @@
 #![tactic(auto)]
 
 mod assembler;
-mod directive;
 mod instruction;
 mod name;
+mod names;
+mod operand;
 mod printer;
-mod scan;
-mod source;
+mod side;
 mod statement;
-mod token;
 mod word;
 
-pub use assembler::{SOURCE_LIMIT, assemble};
+pub use assembler::assemble;
 pub use printer::load_text;
+pub use redcode_expand::SOURCE_LIMIT;
 
+#[cfg(test)]
+mod refusal_tests;
 #[cfg(test)]
 mod tests;

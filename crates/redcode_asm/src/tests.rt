@@ -1,9 +1,11 @@
+//! Sources and the load text or the titles that they give.
+
 use super::*;
 use std::alloc::{AllocError, Global};
 use std::test::Fail;
-use war_types::{AsmFault, AsmKind, ExprFault, RawSettings, Settings, SettingsFault};
+use war_types::{AsmFault, AsmKind, RawSettings, Settings, SettingsFault};
 
-fn defaults() -> Result<Settings, SettingsFault> {
+pub(crate) fn defaults() -> Result<Settings, SettingsFault> {
     Settings::new(RawSettings {
         core: 8000,
         cycles: 80_000,
@@ -17,12 +19,16 @@ fn defaults() -> Result<Settings, SettingsFault> {
 }
 
 /// The load text of what a source gives.
-fn printed(alloc: Global, source: &[u8], settings: &Settings) -> Result<Vec<u8>, AsmFault> {
+pub(crate) fn printed(
+    alloc: Global,
+    source: &[u8],
+    settings: &Settings,
+) -> Result<Vec<u8>, AsmFault> {
     let warrior = assemble(alloc, source, settings)?;
     Ok(load_text(alloc, &warrior, settings.core())?)
 }
 
-fn repeated(alloc: Global, line: &[u8], count: usize) -> Result<Vec<u8>, AllocError> {
+pub(crate) fn repeated(alloc: Global, line: &[u8], count: usize) -> Result<Vec<u8>, AllocError> {
     let mut source = Vec::new(alloc);
     for _ in 0..count {
         source.extend_from_slice(line)?;
@@ -30,8 +36,18 @@ fn repeated(alloc: Global, line: &[u8], count: usize) -> Result<Vec<u8>, AllocEr
     Ok(source)
 }
 
+/// Labels, a start by a label, and a bomb thrown through one.
+const DWARF: &str = "ORG start\nbomb DAT #0, #0\nstart ADD #4, bomb\nMOV bomb, @bomb\nJMP start\n";
+
+/// A label on a line of its own, comments, and an assertion that holds.
+const LABELLED: &str = "here ; a label\nJMP here ; text\n;assert 1 ; text\n";
+
+/// Directives, expressions, predefined names and an END with a start.
+const DIRECTED: &str =
+    "junk = 1\n;redcode-94\n;name x\n;author y\n;assert CORESIZE==8000\na\nb: SPL -(2*3), <b+1\nEND a+CURLINE-1\n";
+
 #[test]
-fn sources_of_load_form(rt: HostRuntime) -> Result<(), Fail> {
+fn sources_and_load_text(rt: HostRuntime) -> Result<(), Fail> {
     let settings = defaults()?;
     for (source, text) in [
         ("MOV 0, 1", "ORG 0\nMOV.I  $     0, $     1\nEND\n"),
@@ -71,79 +87,116 @@ fn sources_of_load_form(rt: HostRuntime) -> Result<(), Fail> {
 }
 
 #[test]
-fn refused_sources(rt: HostRuntime) -> Result<(), Fail> {
+fn names_and_expressions(rt: HostRuntime) -> Result<(), Fail> {
     let settings = defaults()?;
-    let overflow = AsmKind::Expression(ExprFault::Overflow);
-    for (source, line, kind) in [
-        ("", 0, AsmKind::Empty),
-        ("ORG 0\nEND", 0, AsmKind::Empty),
-        ("JMP", 1, AsmKind::MissingOperand),
-        ("DAT 0\nEND 5\n", 2, AsmKind::BadStart),
-        ("DAT 0\nORG -1\n", 2, AsmKind::BadStart),
-        ("DAT 0\nORG 8000\n", 2, AsmKind::BadStart),
-        ("DAT 0\nDAT 9223372036854775808", 2, overflow),
-        ("ORG -9223372036854775808\nORG 0\nDAT 0\nSPL", 1, overflow),
-        ("SPL\nDAT 9223372036854775808", 1, AsmKind::MissingOperand),
-        ("JMP\nFOO 0", 2, AsmKind::BadOperation),
-        ("x DAT 0", 1, AsmKind::BadOperation),
-        ("DAT 1+1", 1, AsmKind::BadOperation),
-        ("MOV 0,", 1, AsmKind::BadOperation),
-        ("MOV 0,,2", 1, AsmKind::BadOperation),
-        ("MOV 0, 1, 2", 1, AsmKind::BadOperation),
-        ("MOV.Q 0, 1", 1, AsmKind::BadOperation),
-        ("MOV. 0, 1", 1, AsmKind::BadOperation),
-        ("MOV >=5", 1, AsmKind::BadOperation),
-        ("MOV #, 1", 1, AsmKind::BadOperation),
-        ("DAT - -5", 1, AsmKind::BadOperation),
-        ("LDP 0, 1", 1, AsmKind::BadOperation),
-        ("ORG\nDAT 0", 1, AsmKind::BadOperation),
-        ("DAT 0 ?", 1, AsmKind::BadOperation),
-        ("DAT 0\n;ReDcOdE-94", 2, AsmKind::BadOperation),
-        ("DAT 0\n;name\tx", 2, AsmKind::BadOperation),
-        ("DAT 0\n;assert", 2, AsmKind::BadOperation),
-        ("DAT 0\nEND\n;name x\n;redcodes\n", 4, AsmKind::BadOperation),
+    for (source, text) in [
+        (
+            DWARF,
+            "ORG 1\nDAT.F  #     0, #     0\nADD.AB #     4, $    -1\nMOV.I  $    -2, @    -2\nJMP.B  $    -2, $     0\nEND\n",
+        ),
+        (LABELLED, "ORG 0\nJMP.B  $     0, $     0\nEND\n"),
+        (DIRECTED, "ORG 0\nSPL.B  $    -6, <     1\nEND\n"),
+        // a label behind the last instruction stands at the next one, which need not exist
+        ("JMP x\nx", "ORG 0\nJMP.B  $     1, $     0\nEND\n"),
+        // CURLINE is absolute, a label is relative
+        (
+            "DAT 0\nx DAT CURLINE, x",
+            "ORG 0\nDAT.F  $     0, $     0\nDAT.F  $     1, $     0\nEND\n",
+        ),
+        // the first ;redcode of the whole source counts
+        (
+            "DAT 5\nEND\n;redcode\nDAT 6",
+            "ORG 0\nDAT.F  $     0, $     6\nEND\n",
+        ),
+        (
+            ";assert;x\n;assert0\n;assert\nDAT WARRIORS, ROUNDS",
+            "ORG 0\nDAT.F  $     2, $    10\nEND\n",
+        ),
+        (
+            "DAT (-9223372036854775807-1)%-1, MAXLENGTH",
+            "ORG 0\nDAT.F  $     0, $   100\nEND\n",
+        ),
+        ("x: y & DAT y-x", "ORG 0\nDAT.F  $     0, $     0\nEND\n"),
     ] {
         match printed(rt.alloc(), source.as_bytes(), &settings) {
-            Ok(_) => assert!(rt; false, "{source:?} is accepted"),
-            Err(fault) => assert_eq!(rt; fault, AsmFault { line, kind }, "{source:?}"),
+            Ok(found) => assert_eq!(rt; found.as_slice(), text.as_bytes(), "{source:?}"),
+            Err(fault) => assert!(rt; false, "{source:?}: {fault}"),
         }
     }
     Ok(())
 }
 
+/// Within parentheses, so many, the number is read up to 64 of them.
 #[test]
-fn limits(rt: HostRuntime) -> Result<(), Fail> {
+fn nested_parentheses(rt: HostRuntime) -> Result<(), Fail> {
     let settings = defaults()?;
-    for (line, count, refusal) in [
-        ("DAT 0\n", 100, None),
-        ("DAT 0\n", 101, Some((0, AsmKind::TooLong))),
-        ("DAT 0\n", 4096, Some((0, AsmKind::TooLong))),
-        ("DAT 0\n", 4097, Some((4097, AsmKind::ForLimit))),
-        ("\n", 65_536, Some((0, AsmKind::Empty))),
-        ("\n", 65_537, Some((0, AsmKind::SourceTooLong))),
-    ] {
-        let source = repeated(rt.alloc(), line.as_bytes(), count)?;
-        let refused = match assemble(rt.alloc(), source.as_slice(), &settings) {
-            Ok(warrior) => {
-                assert_eq!(rt; warrior.code().len(), count);
-                None
+    for (depth, answer) in [(64, Ok(1)), (65, Err("1 BadExpression"))] {
+        let mut source = Vec::from_slice(rt.alloc(), b"DAT ")?;
+        source.extend_from_slice(repeated(rt.alloc(), b"(", depth)?.as_slice())?;
+        source.push(b'1')?;
+        source.extend_from_slice(repeated(rt.alloc(), b")", depth)?.as_slice())?;
+        match (assemble(rt.alloc(), source.as_slice(), &settings), answer) {
+            (Ok(warrior), Ok(b)) => {
+                assert!(rt; warrior.code().iter().all(|instr| instr.b == b));
             }
-            Err(fault) => Some((fault.line, fault.kind)),
-        };
-        assert_eq!(rt; refused, refusal, "{count} lines");
+            (Err(fault), Err(text)) => {
+                let found = format!(in rt.alloc(); "{fault}")?;
+                assert_eq!(rt; found.as_str(), text);
+            }
+            _ => assert!(rt; false, "{depth} parentheses"),
+        }
     }
     Ok(())
 }
 
 #[test]
-fn titles_are_the_defaults(rt: HostRuntime) -> Result<(), Fail> {
+fn titles(rt: HostRuntime) -> Result<(), Fail> {
     let settings = defaults()?;
-    match assemble(rt.alloc(), b"DAT 0", &settings) {
-        Ok(warrior) => {
-            assert_eq!(rt; warrior.name().bytes(), b"Unnamed".as_slice());
-            assert_eq!(rt; warrior.author().bytes(), b"Anonymous".as_slice());
+    for (source, name, author) in [
+        ("DAT 0", "Unnamed", "Anonymous"),
+        (
+            ";name Imp\n;author A. K. Dewdney\nMOV 0,1",
+            "Imp",
+            "A. K. Dewdney",
+        ),
+        (
+            ";name one\n;AUTHOR\tz\n;Name two \nDAT 0\nEND\n;name x",
+            "two",
+            "z",
+        ),
+        (";name x\n;name\nDAT 0\n;names y", "Unnamed", "Anonymous"),
+        // the blanks at both ends fall, then it is cut to 48 bytes, so a blank may be the last
+        (
+            ";name  0123456789012345678901234567890123456789abcdefg hi\nDAT 0",
+            "0123456789012345678901234567890123456789abcdefg ",
+            "Anonymous",
+        ),
+    ] {
+        match assemble(rt.alloc(), source.as_bytes(), &settings) {
+            Ok(warrior) => {
+                assert_eq!(rt; warrior.name().bytes(), name.as_bytes(), "{source:?}");
+                assert_eq!(rt; warrior.author().bytes(), author.as_bytes(), "{source:?}");
+            }
+            Err(fault) => assert!(rt; false, "{source:?}: {fault}"),
         }
-        Err(fault) => assert!(rt; false, "{fault}"),
+    }
+    Ok(())
+}
+
+/// Each prefix of a source is a warrior or a refusal, and never want of memory.
+#[test]
+fn prefixes(rt: HostRuntime) -> Result<(), Fail> {
+    let settings = defaults()?;
+    for source in [DWARF, LABELLED, DIRECTED] {
+        let bytes = source.as_bytes();
+        for end in 0..bytes.len() {
+            if let Err(fault) = assemble(rt.alloc(), &bytes[..end], &settings) {
+                assert!(rt;
+                    !matches!(fault.kind, AsmKind::Memory),
+                    "{source:?} up to {end}"
+                );
+            }
+        }
     }
     Ok(())
 }

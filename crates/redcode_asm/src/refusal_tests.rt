@@ -1,0 +1,171 @@
+//! Sources that are refused, with the line and the kind.
+
+use crate::assemble;
+use crate::tests::{defaults, printed, repeated};
+use std::test::Fail;
+use war_types::AsmKind;
+
+/// Each refusal with a smallest source that earns it, as the document of the language has them.
+#[test]
+fn smallest_sources(rt: HostRuntime) -> Result<(), Fail> {
+    let settings = defaults()?;
+    for (source, refusal) in [
+        ("x EQU 1", "1 BadOperation"),
+        ("x\nx", "2 DuplicateName"),
+        ("=", "1 BadToken"),
+        ("+", "1 BadOperation"),
+        ("PIN", "1 Pspace"),
+        ("NOP.", "1 BadModifier"),
+        ("JMP", "1 MissingOperand"),
+        ("DAT #", "1 BadExpression"),
+        ("DAT x", "1 UnknownName"),
+        ("DAT 1/0", "1 DivideByZero"),
+        ("DAT 9223372036854775808", "1 Overflow"),
+        ("ORG 0,", "1 ExtraText"),
+        ("", "0 Empty"),
+        ("DAT\nEND 1", "2 BadStart"),
+        ("DAT\n;assert 0", "2 AssertFalse"),
+    ] {
+        match printed(rt.alloc(), source.as_bytes(), &settings) {
+            Ok(_) => assert!(rt; false, "{source:?} is accepted"),
+            Err(fault) => {
+                let found = format!(in rt.alloc(); "{fault}")?;
+                assert_eq!(rt; found.as_str(), refusal, "{source:?}");
+            }
+        }
+    }
+    Ok(())
+}
+
+#[test]
+fn lines_with_a_fault(rt: HostRuntime) -> Result<(), Fail> {
+    let settings = defaults()?;
+    for (source, refusal) in [
+        ("x DAT 0\nx DAT 1", "2 DuplicateName"),
+        ("CORESIZE DAT 0", "1 DuplicateName"),
+        ("DAT 0 = 1", "1 BadToken"),
+        ("DAT 5x", "1 BadExpression"),
+        ("MOV.Q 0, 1", "1 BadModifier"),
+        ("MOV 0, 1, 2", "1 ExtraText"),
+        ("MOV 0,,2", "1 MissingOperand"),
+        ("FOO 0", "1 BadOperation"),
+        ("DAT 0\n;assert WARRIORS == 3", "2 AssertFalse"),
+        ("LDP 0, 1", "1 Pspace"),
+        ("DAT 0\nEND 5", "2 BadStart"),
+        // a misspelt operation is a label, and the walk over the lines comes first
+        ("MVO 0, 1\nMVO 0, 1", "2 DuplicateName"),
+        ("FOO 0\nFOO 0", "2 DuplicateName"),
+        ("X DAT x", "1 UnknownName"),
+        ("DAT 0 ; FOR\nx FOR 2", "2 BadOperation"),
+        ("?\nROF", "2 BadOperation"),
+        ("here:", "1 BadOperation"),
+        ("MOV #, 1", "1 BadExpression"),
+        ("MOV >=5", "1 BadExpression"),
+        ("DAT MOV", "1 UnknownName"),
+        ("DAT coresize", "1 UnknownName"),
+        ("ORG #1\nDAT 0", "1 BadExpression"),
+        ("ORG . 0\nDAT 0", "1 BadExpression"),
+        ("DAT 0\n;assert #1", "2 BadExpression"),
+        ("LDP ?", "1 BadToken"),
+        ("PIN ?", "1 BadToken"),
+        ("x PIN", "1 Pspace"),
+        ("MOV (1, 2)", "1 BadExpression"),
+        ("MOV foo, 1, 2", "1 UnknownName"),
+        ("MOV foo,", "1 MissingOperand"),
+        ("MOV.Q", "1 BadModifier"),
+        ("STP.Q ,", "1 Pspace"),
+        ("MOV , 1, 2", "1 MissingOperand"),
+        ("MOV 1/0, foo", "1 DivideByZero"),
+        ("MOV 1, foo, 2", "1 UnknownName"),
+        ("DAT -9223372036854775808", "1 Overflow"),
+        ("DAT 1||1/0", "1 DivideByZero"),
+        ("DAT - -5 5", "1 BadExpression"),
+        ("ORG\nDAT 0", "1 MissingOperand"),
+        ("DAT 0\nORG 0,", "2 ExtraText"),
+        ("DAT 0\nEND ,0", "2 MissingOperand"),
+        ("DAT 0\n;assert ,1", "2 MissingOperand"),
+        ("DAT 0\n;assert 1,foo", "2 ExtraText"),
+        ("DAT 0\n;assert foo,", "2 UnknownName"),
+    ] {
+        match printed(rt.alloc(), source.as_bytes(), &settings) {
+            Ok(_) => assert!(rt; false, "{source:?} is accepted"),
+            Err(fault) => {
+                let found = format!(in rt.alloc(); "{fault}")?;
+                assert_eq!(rt; found.as_str(), refusal, "{source:?}");
+            }
+        }
+    }
+    Ok(())
+}
+
+/// Of several faults the one that is told.
+#[test]
+fn order_of_faults(rt: HostRuntime) -> Result<(), Fail> {
+    let settings = defaults()?;
+    for (source, refusal) in [
+        ("SPL\nDAT foo\nx\nx", "4 DuplicateName"),
+        ("SPL\nDAT 9223372036854775808", "1 MissingOperand"),
+        ("DAT foo\nDAT ?", "1 UnknownName"),
+        ("ORG 0\nDAT 0\nEND foo", "3 UnknownName"),
+        ("ORG -9223372036854775808\nORG 0\nDAT 0\nSPL", "1 Overflow"),
+        ("ORG 99\nORG 0", "0 Empty"),
+        ("DAT 0\nORG -1\n", "2 BadStart"),
+        ("DAT 0\nORG 8000\n", "2 BadStart"),
+        ("ORG 5\nDAT 0\nEND 0", "1 BadStart"),
+        (";assert 0\nDAT 0\nEND 1", "3 BadStart"),
+        (";assert 1\n;assert 0\n;assert 0\nDAT 0", "2 AssertFalse"),
+        (";assert 0\nDAT 0\n;assert 1/0", "3 DivideByZero"),
+    ] {
+        match printed(rt.alloc(), source.as_bytes(), &settings) {
+            Ok(_) => assert!(rt; false, "{source:?} is accepted"),
+            Err(fault) => {
+                let found = format!(in rt.alloc(); "{fault}")?;
+                assert_eq!(rt; found.as_str(), refusal, "{source:?}");
+            }
+        }
+    }
+    Ok(())
+}
+
+#[test]
+fn limits(rt: HostRuntime) -> Result<(), Fail> {
+    let settings = defaults()?;
+    for (line, count, refusal) in [
+        ("DAT 0\n", 100, None),
+        ("DAT 0\n", 101, Some((0, AsmKind::TooLong))),
+        ("DAT 0\n", 4096, Some((0, AsmKind::TooLong))),
+        ("DAT 0\n", 4097, Some((4097, AsmKind::ForLimit))),
+        (";name x\n", 4097, Some((4097, AsmKind::ForLimit))),
+        ("\n", 65_536, Some((0, AsmKind::Empty))),
+        ("\n", 65_537, Some((0, AsmKind::SourceTooLong))),
+    ] {
+        let source = repeated(rt.alloc(), line.as_bytes(), count)?;
+        let refused = match assemble(rt.alloc(), source.as_slice(), &settings) {
+            Ok(warrior) => {
+                assert_eq!(rt; warrior.code().len(), count);
+                None
+            }
+            Err(fault) => Some((fault.line, fault.kind)),
+        };
+        assert_eq!(rt; refused, refusal, "{count} lines");
+    }
+    Ok(())
+}
+
+/// A line has at most 512 tokens behind its word.
+#[test]
+fn tokens_of_a_line(rt: HostRuntime) -> Result<(), Fail> {
+    let settings = defaults()?;
+    for (sign, sums, refusal) in [("-", 255, None), ("", 256, Some((1, AsmKind::EquLimit)))] {
+        let mut source = Vec::from_slice(rt.alloc(), b"DAT ")?;
+        source.extend_from_slice(sign.as_bytes())?;
+        source.extend_from_slice(repeated(rt.alloc(), b"1+", sums)?.as_slice())?;
+        source.push(b'1')?;
+        let refused = match assemble(rt.alloc(), source.as_slice(), &settings) {
+            Ok(_) => None,
+            Err(fault) => Some((fault.line, fault.kind)),
+        };
+        assert_eq!(rt; refused, refusal, "{sums} sums");
+    }
+    Ok(())
+}
