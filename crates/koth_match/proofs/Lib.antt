@@ -1,0 +1,3 @@
+mod Kept
+mod Rows
+mod Sequence

@@ -1,0 +1,45 @@
+-- A match of two warriors: so many rounds, of which each side may win some and the others are ties (scores are counted as pMARS does; who moves first is this project's own).
+use Rattle.std.specs.Prelude.{ℕ, zero, suc, ◌+◌, ◌*◌, ◌%◌, ◌==◌, if◌then◌else◌}
+use Rattle.war_types.specs.declared.settings.RawSettings.{RawSettings}
+use Rattle.war_types.specs.Warrior.{WarriorParts}
+use Rattle.mars_core.specs.declared.round.Side.{Side}
+use Rattle.mars_core.specs.declared.round.Side.TheVariants as sides
+use Rattle.mars_core.specs.declared.round.Outcome.{Outcome}
+use Rattle.mars_core.specs.declared.round.Outcome.TheVariants as outcomes
+use Rattle.mars_core.specs.Round.{opening, after_turns, outcome}
+use Rattle.koth_match.specs.declared.bout.Bout.{Bout}
+use Rattle.koth_match.specs.Seeds.{seed_of_round, place}
+
+-- the older warrior moves first in every second round, the first of them included
+abbrev pub first_in : ℕ → Side
+first_in r = if r % 2 == 0 then sides.First else sides.Second
+
+-- how a round ends with the older warrior at address 0, the younger at a position, and this side moving first
+abbrev pub outcome_at : RawSettings → WarriorParts → WarriorParts → ℕ → Side → Outcome
+outcome_at s older younger position first = outcome (after_turns (2 * s.cycles) (opening s older younger position first))
+
+-- how round r ends
+unfoldable pub round_outcome : RawSettings → WarriorParts → WarriorParts → ℕ → Outcome
+round_outcome s older younger r = outcome_at s older younger (place s (seed_of_round s r)) (first_in r)
+
+abbrev pub no_rounds : Bout
+no_rounds = record { older_wins = 0; younger_wins = 0; ties = 0 }
+
+-- how many rounds were counted
+abbrev pub rounds_in : Bout → ℕ
+rounds_in b = b.older_wins + b.younger_wins + b.ties
+
+-- the counts with one round more
+abbrev pub counted : Outcome → Bout → Bout
+counted outcomes.First b = record { older_wins = b.older_wins + 1; younger_wins = b.younger_wins; ties = b.ties }
+counted outcomes.Second b = record { older_wins = b.older_wins; younger_wins = b.younger_wins + 1; ties = b.ties }
+counted outcomes.Tie b = record { older_wins = b.older_wins; younger_wins = b.younger_wins; ties = b.ties + 1 }
+
+-- the counts over the rounds before round n
+abbrev pub bout_before : RawSettings → WarriorParts → WarriorParts → ℕ → Bout
+bout_before s older younger zero = no_rounds
+bout_before s older younger (suc n) = counted (round_outcome s older younger n) (bout_before s older younger n)
+
+-- the counts over all rounds of the settings
+unfoldable pub match_of : RawSettings → WarriorParts → WarriorParts → Bout
+match_of s older younger = bout_before s older younger s.rounds
