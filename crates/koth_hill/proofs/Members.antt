@@ -1,0 +1,123 @@
+-- The members of a hill: those that fall, those that stay, and their order.
+use Rattle.std.proofs.Common.{◌≡◌, ℕ, ◌+◌, ◌-◌, ◌<◌, ◌≤◌, Result, Ok, Err, Bool, true, false, cond, List, [], ◌∷◌, ◌++◌, length, take, drop, map, set, get_or, refl, sym, ap, subst, ◌∙◌, arith, Option, None, Some, suc, zero, All, add-one}
+use Rattle.std.specs.Prelude.{◌==◌, if◌then◌else◌, nat_lt}
+use Rattle.std.specs.Result.{is_ok}
+use Rattle.std.specs.List.{remove, position, position_or_len}
+use Rattle.std.proofs.lemmas.List.Sums.{fails_before_first}
+use Rattle.std.proofs.lemmas.Bool.{ltb-false, eqb-true, ne_eqb, eq-eqb, cond-true, cond-false}
+use Rattle.std.proofs.lemmas.List.{length_push, length-map, take_all, drop_all, append-nil}
+use Rattle.std.proofs.lemmas.List.Edits.{map_over_more}
+use Rattle.std.proofs.lemmas.List.Elements.{All-head, All-tail, All-cons, All-nil, All-push}
+use Rattle.std.proofs.lemmas.List.Quantifiers.{position-Some}
+use Rattle.war_types.specs.declared.settings.RawSettings.{RawSettings}
+use Rattle.war_types.specs.Settings.{AreSettings}
+use Rattle.war_types.specs.Warrior.{WarriorParts, Fits}
+use Rattle.koth_hill.specs.Hill.{Member, Hill, hill_of, member_of, with_age, last_entry, last_entry_from, RiseFrom, MayStand, IsHill, AllFit}
+use Rattle.koth_hill.specs.Step.{is_entry, without, one_older}
+
+abbrev pub older : Member → Member
+older m = with_age (m.age + 1) m
+
+pub one_older-map : (ms : List Member) → one_older ms ≡ map older ms
+one_older-map [] = refl
+one_older-map (m ∷ ms) = ap (λ rest. older m ∷ rest) (one_older-map ms)
+
+-- ---- entries that rise
+
+pub RiseFrom-push : (before : ℕ) (ms : List Member) (m : Member) → RiseFrom before ms → last_entry_from before ms < m.entry → RiseFrom before (ms ++ m ∷ [])
+RiseFrom-push before [] m rising above = (above, tt)
+RiseFrom-push before (n ∷ ms) m rising above = (rising.0, RiseFrom-push n.entry ms m rising.1 above)
+
+-- one that is not above a number is not among members behind it
+pub without-behind : (entry before : ℕ) (ms : List Member) → RiseFrom before ms → entry ≤ before → without (Some entry) ms ≡ ms
+without-behind entry before [] rising below = refl
+without-behind entry before (m ∷ ms) rising below =
+    let other : m.entry == entry ≡ false = ne_eqb m.entry entry (λ same. omega (arith, rising.0, below, same))
+    in rw other (ap (λ rest. m ∷ rest) (without-behind entry m.entry ms rising.1 (omega (arith, rising.0, below))))
+
+pub without-None : (ms : List Member) → without None ms ≡ ms
+without-None [] = refl
+without-None (m ∷ ms) = ap (λ rest. m ∷ rest) (without-None ms)
+
+-- where no member has the entry, none goes
+pub without-absent : (fallen : Option ℕ) (ms : List Member) → ((k : ℕ) (d : Member) → k < length ms → is_entry (get_or ms k d).entry fallen ≡ false) → without fallen ms ≡ ms
+without-absent fallen [] absent = refl
+without-absent fallen (m ∷ ms) absent =
+    let other : is_entry m.entry fallen ≡ false = absent 0 m (omega arith)
+    in cond-false (is_entry m.entry fallen) (without fallen ms) (m ∷ without fallen ms) other
+    ∙ ap (λ rest. m ∷ rest) (without-absent fallen ms (λ k d within. absent (suc k) d (omega (arith, within))))
+
+no_some : (b : Bool) (n : ℕ) → cond b (Some n) None ≡ None → b ≡ false
+no_some true n none = cc
+no_some false n none = refl
+
+-- where none passes a test, the first that passes would be past the end
+none_past : (p : Member → Bool) (ms : List Member) → position p ms ≡ None → length ms ≤ position_or_len p ms
+none_past p ms none = ltb-false (position_or_len p ms) (length ms) (no_some (nat_lt (position_or_len p ms) (length ms)) (position_or_len p ms) none)
+
+no_entry : (fallen : Option ℕ) (ms : List Member) → position (λ m. is_entry m.entry fallen) ms ≡ None → without fallen ms ≡ ms
+no_entry fallen ms none = without-absent fallen ms (λ k d within. fails_before_first (λ m. is_entry m.entry fallen) ms k d (omega (arith, within, none_past (λ m. is_entry m.entry fallen) ms none)))
+
+-- the first member of the entry goes
+removed : (entry before : ℕ) (ms : List Member) (i : ℕ) (d : Member) → RiseFrom before ms → i < length ms → (get_or ms i d).entry == entry ≡ true →
+    ((k : ℕ) → k < i → (get_or ms k d).entry == entry ≡ false) → remove ms i ≡ without (Some entry) ms
+removed entry before [] i d rising within here others = absurd (omega (arith, within))
+removed entry before (m ∷ ms) zero d rising within here others =
+    let same : m.entry ≡ entry = eqb-true m.entry entry here in
+    sym (cond-true (m.entry == entry) (without (Some entry) ms) (m ∷ without (Some entry) ms) here
+    ∙ without-behind entry m.entry ms rising.1 (omega (arith, same)))
+removed entry before (m ∷ ms) (suc i) d rising within here others =
+    let other : m.entry == entry ≡ false = others 0 (omega arith) in
+    ap (λ rest. m ∷ rest) (removed entry m.entry ms i d rising.1 (omega (arith, within)) here (λ k below. others (suc k) (omega (arith, below))))
+    ∙ sym (cond-false (m.entry == entry) (without (Some entry) ms) (m ∷ without (Some entry) ms) other)
+
+pub removed-first : (fallen : Option ℕ) (before : ℕ) (ms : List Member) (i : ℕ) (d : Member) → RiseFrom before ms → position (λ m. is_entry m.entry fallen) ms ≡ Some i →
+    remove ms i ≡ without fallen ms
+removed-first None before ms i d rising found =
+    let at_i : false ≡ true = (position-Some (λ m. is_entry m.entry None) ms i d found).1 in cc
+removed-first (Some entry) before ms i d rising found =
+    let first = position-Some (λ m. is_entry m.entry (Some entry)) ms i d found in
+    removed entry before ms i d rising first.0 first.1 first.2
+
+pub removed-none : (fallen : Option ℕ) (ms : List Member) → position (λ m. is_entry m.entry fallen) ms ≡ None → ms ≡ without fallen ms
+removed-none fallen ms none = sym (no_entry fallen ms none)
+
+-- ---- ages
+
+pub older_more : (ms now : List Member) (n : ℕ) (m grown : Member) → n < length ms → now ≡ map older (take n ms) ++ drop n ms → m ≡ get_or now n m → grown ≡ older (get_or now n m) →
+    set now n grown ≡ map older (take (n + 1) ms) ++ drop (n + 1) ms
+older_more ms now n m grown within are here is = rw (is ∙ ap older (sym here)) (map_over_more older ms now n m within are here)
+
+pub older_all : (ms now : List Member) (n : ℕ) → length ms ≤ n → now ≡ map older (take n ms) ++ drop n ms → now ≡ one_older ms
+older_all ms now n past are =
+    are ∙ ap (λ front. map older front ++ drop n ms) (take_all n ms past)
+    ∙ ap (λ back. map older ms ++ back) (drop_all n ms past) ∙ append-nil (map older ms) ∙ sym (one_older-map ms)
+
+-- ---- hills
+
+pub pushed : {T E : Type 0} (r : Result T E) (old new items : List Member) → is_ok r ≡ true → items ≡ (if is_ok r then new else old) → items ≡ new
+pushed (Ok x) old new items ok is = is
+pushed (Err e) old new items ok is = cc
+
+-- a member behind those on a hill
+pub IsHill-put_back : (h : Hill) (m : Member) → IsHill h → length h.members < h.settings.capacity → last_entry h.members < m.entry → m.entry ≤ h.counter → m.age ≤ h.counter - m.entry → Fits h.settings m.warrior →
+    IsHill (hill_of h.settings h.counter (h.members ++ m ∷ []))
+IsHill-put_back h m is room above counted age fits = record {
+  settings = is.settings;
+  room = omega (arith, length_push h.members m, room);
+  rising = RiseFrom-push 0 h.members m is.rising above;
+  members = All-push (MayStand h.settings h.counter) h.members m is.members (record { entry = counted; age = age; fits = fits });
+}
+
+pub put_back-kept : (h now : Hill) (entry age : ℕ) (w : WarriorParts) (m : Member) (items : List Member) → h ≡ now → IsHill h →
+    length now.members < now.settings.capacity → last_entry now.members < entry → entry ≤ now.counter → age ≤ now.counter - entry → Fits now.settings w →
+    m ≡ member_of entry age w → items ≡ h.members ++ m ∷ [] → IsHill (hill_of h.settings h.counter items)
+put_back-kept h now entry age w m items same is room above counted old fits made pushed_are =
+    let Room : Hill → Type 0 = λ x. length x.members < x.settings.capacity in
+    let Above : Hill → Type 0 = λ x. last_entry x.members < entry in
+    let Counted : Hill → Type 0 = λ x. entry ≤ x.counter in
+    let Old : Hill → Type 0 = λ x. age ≤ x.counter - entry in
+    let CanFight : Hill → Type 0 = λ x. Fits x.settings w in
+    let Due : List Member → Type 0 = λ xs. IsHill (hill_of h.settings h.counter xs) in
+    subst Due (sym (pushed_are ∙ ap (λ (x : Member). h.members ++ x ∷ []) made))
+    (IsHill-put_back h (member_of entry age w) is (subst Room (sym same) room) (subst Above (sym same) above) (subst Counted (sym same) counted) (subst Old (sym same) old) (subst CanFight (sym same) fits))

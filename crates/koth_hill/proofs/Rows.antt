@@ -1,0 +1,83 @@
+-- A small hill, step by step, computed by the definitions.
+use Rattle.std.proofs.Common.{◌≡◌, ℕ, List, [], ◌∷◌, Bool, true, false, Option, Some, None, refl}
+use Rattle.war_types.specs.declared.instr.Op.{Op}
+use Rattle.war_types.specs.declared.instr.Op.TheVariants as ops
+use Rattle.war_types.specs.declared.instr.Modifier.{Modifier}
+use Rattle.war_types.specs.declared.instr.Modifier.TheVariants as modifiers
+use Rattle.war_types.specs.declared.instr.Mode.TheVariants as modes
+use Rattle.war_types.specs.declared.instr.Instr.{Instr}
+use Rattle.war_types.specs.declared.settings.RawSettings.{RawSettings}
+use Rattle.war_types.specs.Warrior.{WarriorParts, warrior_parts}
+use Rattle.mars_core.specs.Operand.{operand}
+use Rattle.mars_core.specs.Effect.{effect}
+use Rattle.mars_core.specs.Round.{executed, side_turn, after_turn, after_turns}
+use Rattle.koth_match.specs.Match.{round_outcome, match_of}
+use Rattle.koth_hill.specs.declared.verdict.Verdict.{Verdict}
+use Rattle.koth_hill.specs.Hill.{Member, Hill}
+use Rattle.koth_hill.specs.Table.{RowParts, table}
+use Rattle.koth_hill.specs.Step.{step, verdict, new_hill}
+
+abbrev small : RawSettings
+small = record { core = 64; cycles = 100; processes = 8; length = 10; distance = 10; rounds = 2; seed = 1; capacity = 2 }
+
+abbrev direct : Op → Modifier → ℕ → ℕ → Instr
+direct op modifier a b = record { op = op; modifier = modifier; a_mode = modes.Direct; a = a; b_mode = modes.Direct; b = b }
+
+abbrev alone : Instr → WarriorParts
+alone i = warrior_parts (i ∷ []) 0 (65 ∷ []) (66 ∷ [])
+
+abbrev imp : WarriorParts
+imp = alone (direct ops.Mov modifiers.I 0 1)
+
+abbrev waits : WarriorParts
+waits = alone (direct ops.Jmp modifiers.B 0 0)
+
+abbrev dies : WarriorParts
+dies = alone (direct ops.Dat modifiers.F 0 0)
+
+abbrev hill : ℕ → List Member → Hill
+hill counter members = record { settings = small; counter = counter; members = members }
+
+abbrev member : ℕ → ℕ → WarriorParts → Member
+member entry age w = record { entry = entry; age = age; warrior = w }
+
+abbrev answer : ℕ → Bool → Option ℕ → ℕ → ℕ → Verdict
+answer entry stays falls score rank = record { entry = entry; stays = stays; falls = falls; score = score; rank = rank }
+
+abbrev row : ℕ → ℕ → ℕ → RowParts
+row entry score age = record { entry = entry; name = 65 ∷ []; author = 66 ∷ []; score = score; age = age }
+
+abbrev two : Hill
+two = hill 2 (member 1 1 imp ∷ member 2 0 waits ∷ [])
+
+first : verdict (new_hill small 0) imp ≡ answer 1 true None 0 1
+unfolding verdict
+first = refl
+
+first_step : step (new_hill small 0) imp ≡ hill 1 (member 1 0 imp ∷ [])
+unfolding step
+first_step = refl
+
+second : verdict (hill 1 (member 1 0 imp ∷ [])) waits ≡ answer 2 true None 2 2
+unfolding verdict match_of round_outcome operand effect executed side_turn after_turn after_turns
+second = refl
+
+second_step : step (hill 1 (member 1 0 imp ∷ [])) waits ≡ two
+unfolding step
+second_step = refl
+
+third : verdict two dies ≡ answer 3 false (Some 3) 0 0
+unfolding verdict match_of round_outcome operand effect executed side_turn after_turn after_turns
+third = refl
+
+third_step : step two dies ≡ hill 3 (member 1 1 imp ∷ member 2 0 waits ∷ [])
+unfolding step match_of round_outcome operand effect executed side_turn after_turn after_turns
+third_step = refl
+
+fourth : verdict (hill 3 (member 1 1 imp ∷ member 2 0 waits ∷ [])) imp ≡ answer 4 false (Some 4) 4 0
+unfolding verdict match_of round_outcome operand effect executed side_turn after_turn after_turns
+fourth = refl
+
+rows : table two ≡ row 1 2 1 ∷ row 2 2 0 ∷ []
+unfolding table match_of round_outcome operand effect executed side_turn after_turn after_turns
+rows = refl

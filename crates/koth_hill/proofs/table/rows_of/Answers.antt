@@ -1,0 +1,18 @@
+use Rattle.std.proofs.Common.{◌∙◌, length}
+use Rattle.koth_hill.specs.Rows.{rows_parts}
+use Rattle.koth_hill.proofs.Tables.{scores-length, scores-members, rank-more, rank-last}
+use Rattle.koth_hill.proofs.table.rows_of.Goals as goal
+
+pub push_rank-requires-clause-beside : goal.push_rank-requires-clause-beside
+push_rank-requires-clause-beside g c =
+    scores-length c.args.settings.now c.args.members.now c.as_slice.result.now c.scores-scores.result c.as_slice.ensures.value c.scores-scores.ensures.value
+
+pub loop-place-preserved : goal.loop-place-preserved
+loop-place-preserved g c =
+    rank-more c.args.settings.now c.args.members.now c.as_slice.result.now (rows_parts c.loop-place.rows.items) (rows_parts c.push_rank.new.rows.items) _ c.loop-place.place (length c.args.members.now)
+    c.loop-place-test.true (c.as_slice.ensures.value ∙ scores-members c.args.settings.now c.args.members.now c.scores-scores.result c.scores-scores.ensures.value)
+    c.loop-place.invariant c.in_ok-push_rank.ensures
+
+pub returns : goal.returns
+returns g c =
+    rank-last c.args.settings.now c.args.members.now (rows_parts c.loop-place.rows.items) _ c.loop-place.place (length c.args.members.now) c.loop-place-test.false c.loop-place.invariant

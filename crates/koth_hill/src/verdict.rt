@@ -1,0 +1,16 @@
+//! What becomes of a challenger.
+
+/// What becomes of a challenger, as `Hill::judge` finds it.
+#[derive(Clone, Copy, Debug, PartialEq, Eq)]
+pub struct Verdict {
+    /// The number of its entry: 1 and the number of warriors ever judged.
+    pub entry: u64,
+    /// Whether it stays on the hill.
+    pub stays: bool,
+    /// The entry that falls, the challenger's own where it does not stay; `None` where the hill has room.
+    pub falls: Option<u64>,
+    /// Its points: on the hill as it is then, where it stays, and against all on the hill, where it falls.
+    pub score: u32,
+    /// Its rank on the hill as it is then, from 1 on, and 0 where it falls.
+    pub rank: u32,
+}
