@@ -1,0 +1,40 @@
+-- Writes one behind the other, and the settings that stand in a header.
+use Rattle.std.proofs.Common.{◌≡◌, ℕ, List, [], ◌++◌, Ok, arith, ap, ◌∙◌}
+use Rattle.std.proofs.lemmas.List.{append_assoc}
+use Rattle.std.proofs.lemmas.Bool.Decides.{nat_tests}
+use Rattle.std.specs.Int.{bytes_high_first}
+use Rattle.war_types.specs.declared.settings.RawSettings.{RawSettings}
+use Rattle.war_types.specs.Settings.{AreSettings, settings_of}
+
+-- the number that is written is known by another name
+pub renamed : (k : ℕ) (before now : List ℕ) (n m : ℕ) → n ≡ m → now ≡ before ++ bytes_high_first k n → now ≡ before ++ bytes_high_first k m
+renamed k before now n m same e = e ∙ ap (λ x. before ++ bytes_high_first k x) same
+
+pub writes-3 : (w w1 w2 w3 a b c : List ℕ) → w1 ≡ w ++ a → w2 ≡ w1 ++ b → w3 ≡ w2 ++ c → w3 ≡ w ++ ((a ++ b) ++ c)
+writes-3 w w1 w2 w3 a b c e1 e2 e3 =
+    let flat : w3 ≡ ((w ++ a) ++ b) ++ c = cc in
+    let regrouped : ((w ++ a) ++ b) ++ c ≡ w ++ ((a ++ b) ++ c) = simp append_assoc in
+    flat ∙ regrouped
+
+pub writes-8 : (w w1 w2 w3 w4 w5 w6 w7 w8 a b c d e f g h : List ℕ) → w1 ≡ w ++ a → w2 ≡ w1 ++ b → w3 ≡ w2 ++ c → w4 ≡ w3 ++ d → w5 ≡ w4 ++ e → w6 ≡ w5 ++ f → w7 ≡ w6 ++ g → w8 ≡ w7 ++ h → w8 ≡ w ++ (((((((a ++ b) ++ c) ++ d) ++ e) ++ f) ++ g) ++ h)
+writes-8 w w1 w2 w3 w4 w5 w6 w7 w8 a b c d e f g h e1 e2 e3 e4 e5 e6 e7 e8 =
+    let flat : w8 ≡ (((((((w ++ a) ++ b) ++ c) ++ d) ++ e) ++ f) ++ g) ++ h = cc in
+    let regrouped : (((((((w ++ a) ++ b) ++ c) ++ d) ++ e) ++ f) ++ g) ++ h ≡ w ++ (((((((a ++ b) ++ c) ++ d) ++ e) ++ f) ++ g) ++ h) = simp append_assoc in
+    flat ∙ regrouped
+
+-- settings in their ranges are accepted
+pub settings_of-ok : (s : RawSettings) → AreSettings s → settings_of s ≡ Ok s
+settings_of-ok s are = grind (arith, nat_tests)
+
+pub rewritten : (before now x y : List ℕ) → x ≡ y → now ≡ before ++ x → now ≡ before ++ y
+rewritten before now x y same e = e ∙ ap (λ z. before ++ z) same
+
+-- eight writes to an empty sector
+pub writes-all : (w0 w1 w2 w3 w4 w5 w6 w7 w8 a b c d e f g h : List ℕ) → w0 ≡ [] → w1 ≡ w0 ++ a → w2 ≡ w1 ++ b → w3 ≡ w2 ++ c → w4 ≡ w3 ++ d → w5 ≡ w4 ++ e → w6 ≡ w5 ++ f → w7 ≡ w6 ++ g → w8 ≡ w7 ++ h → w8 ≡ ((((((a ++ b) ++ c) ++ d) ++ e) ++ f) ++ g) ++ h
+writes-all w0 w1 w2 w3 w4 w5 w6 w7 w8 a b c d e f g h e0 e1 e2 e3 e4 e5 e6 e7 e8 =
+    let first : w1 ≡ a = e1 ∙ ap (λ w. w ++ a) e0 in cc
+
+-- seven writes to an empty sector
+pub writes-7 : (w0 w1 w2 w3 w4 w5 w6 w7 a b c d e f g : List ℕ) → w0 ≡ [] → w1 ≡ w0 ++ a → w2 ≡ w1 ++ b → w3 ≡ w2 ++ c → w4 ≡ w3 ++ d → w5 ≡ w4 ++ e → w6 ≡ w5 ++ f → w7 ≡ w6 ++ g → w7 ≡ (((((a ++ b) ++ c) ++ d) ++ e) ++ f) ++ g
+writes-7 w0 w1 w2 w3 w4 w5 w6 w7 a b c d e f g e0 e1 e2 e3 e4 e5 e6 e7 =
+    let first : w1 ≡ a = e1 ∙ ap (λ w. w ++ a) e0 in cc

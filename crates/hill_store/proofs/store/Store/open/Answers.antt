@@ -1,0 +1,15 @@
+use Rattle.std.proofs.Common.{refl}
+use Rattle.hill_store.proofs.Exits.{sound_stands}
+use Rattle.hill_store.proofs.store.Store.open.Goals as goal
+
+pub returns-in-Ok-clause-opened : goal.returns-in-Ok-clause-opened
+returns-in-Ok-clause-opened g c = record {
+  open_now = refl;
+  synced_now = c.in-Ok.ensures.found.synced_now;
+  reads_as = λ lawful. record {
+    header = c.in-Ok.found.header;
+    shows = c.in-Ok.ensures.found.shows lawful;
+    room = c.in-Ok.ensures.found.room;
+  };
+  stands = λ lawful. sound_stands g.D.Device.size g.D.Device.lawful g.D.Device.disk c.recover.new.device c.in-Ok.found.header c.in-Ok.found.hill c.in-Ok.found.arena.settings _ c.in-Ok.ensures.found.sound refl (c.in-Ok.ensures.kept.same_laws.1 lawful);
+}

@@ -1,0 +1,39 @@
+-- What a list of sources earns.
+use Rattle.std.specs.Prelude.{ℕ, if◌then◌else◌, List, [], ◌∷◌, Result, Ok, Err}
+use Rattle.war_types.specs.declared.settings.RawSettings.{RawSettings}
+use Rattle.war_types.specs.declared.fault.AsmFault.{AsmFault}
+use Rattle.war_types.specs.Warrior.{WarriorParts}
+use Rattle.redcode_asm.specs.Assembly.{assembly}
+use Rattle.koth_hill.specs.declared.verdict.Verdict.{Verdict}
+use Rattle.koth_hill.specs.Hill.{Hill}
+use Rattle.koth_hill.specs.Step.{step, verdict, new_hill}
+use Rattle.hill_store.specs.declared.reply.Reply.{Reply}
+use Rattle.hill_store.specs.declared.reply.Reply.TheVariants as replies
+
+abbrev pub step_found : Hill → Result WarriorParts AsmFault → Hill
+step_found h (Ok w) = step h w
+step_found h (Err fault) = h
+
+-- the hill after a source: that of its warrior, and the same hill where the source is refused
+abbrev pub step_source : Hill → List ℕ → Hill
+step_source h source = step_found h (assembly h.settings source)
+
+abbrev pub reply_judged : Verdict → Reply
+reply_judged v = if v.stays then replies.Placed v.entry v.rank v.score else replies.Fell v.entry v.score
+
+abbrev pub reply_found : Hill → Result WarriorParts AsmFault → Reply
+reply_found h (Ok w) = reply_judged (verdict h w)
+reply_found h (Err fault) = replies.Refused fault
+
+-- the reply that is due to a source
+abbrev pub reply_of : Hill → List ℕ → Reply
+reply_of h source = reply_found h (assembly h.settings source)
+
+-- the hill after these sources, the first of them first
+abbrev pub steps : Hill → List (List ℕ) → Hill
+steps h [] = h
+steps h (source ∷ sources) = steps (step_source h source) sources
+
+-- what a list of sources earns from the beginning, with every pair fought anew at each step
+abbrev pub earned : RawSettings → List (List ℕ) → Hill
+earned s sources = steps (new_hill s 0) sources

@@ -1,0 +1,34 @@
+-- Submissions one after another.
+use Rattle.std.specs.Prelude.{◌≡◌, ℕ, Bool, true, false, List, [], ◌∷◌, map}
+use Rattle.std.specs.Borrow.{Bor}
+use Rattle.sector_disk.specs.Disk.{Disk}
+use Rattle.hill_store.specs.declared.reply.Reply.{Reply}
+use Rattle.hill_store.specs.declared.reply.Reply.TheVariants as replies
+use Rattle.hill_store.specs.Seen.{Seen, Submits}
+
+abbrev pub is_disk : Reply → Bool
+is_disk replies.Disk = true
+is_disk replies.Reopen = false
+is_disk replies.Worn = false
+is_disk replies.Memory = false
+is_disk (replies.Refused fault) = false
+is_disk (replies.Fell entry score) = false
+is_disk (replies.Placed entry rank score) = false
+
+-- a list of sources, by their bytes
+abbrev pub texts : List (Bor (List ℕ)) → List (List ℕ)
+texts sources = map (λ source. source.now) sources
+
+-- The replies are those of these sources, each submitted to the store that the one before it left, up to and with the first `Disk`.
+-- No source is left out but those behind a `Disk`: `stopped` says that one came just before.
+abbrev pub RunsOn : {D : Type 0} → (D → ℕ) → (D → Type 0) → (D → Disk) → (D → ℕ) → Bool → Seen D → List (List ℕ) → List Reply → Seen D → Type 0
+RunsOn size is_lawful disk failures true old sources [] new = new ≡ old
+RunsOn size is_lawful disk failures true old sources (reply ∷ rest) new = ⊥
+RunsOn size is_lawful disk failures false old [] [] new = new ≡ old
+RunsOn size is_lawful disk failures false old [] (reply ∷ rest) new = ⊥
+RunsOn size is_lawful disk failures false old (source ∷ sources) [] new = ⊥
+RunsOn {D} size is_lawful disk failures false old (source ∷ sources) (reply ∷ rest) new =
+    (mid : Seen D) × Submits size is_lawful disk failures old source reply mid × RunsOn size is_lawful disk failures (is_disk reply) mid sources rest new
+
+abbrev pub Runs : {D : Type 0} → (D → ℕ) → (D → Type 0) → (D → Disk) → (D → ℕ) → Seen D → List (List ℕ) → List Reply → Seen D → Type 0
+Runs size is_lawful disk failures old sources replied new = RunsOn size is_lawful disk failures false old sources replied new

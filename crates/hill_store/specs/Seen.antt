@@ -1,0 +1,108 @@
+-- A store as its caller sees it, and what a submission makes of it.
+use Rattle.std.specs.Prelude.{◌≡◌, ◌≢◌, ◌⊎◌, ℕ, ◌-◌, ◌^◌, ◌<◌, ◌≤◌, Bool, true, false, List, [], ◌∷◌, Ok}
+use Rattle.war_types.specs.declared.settings.RawSettings.{RawSettings}
+use Rattle.war_types.specs.Warrior.{WarriorParts}
+use Rattle.sector_disk.specs.Disk.{Disk}
+use Rattle.sector_disk.specs.Image.{Images}
+use Rattle.koth_hill.specs.Hill.{Member, Hill, IsHill}
+use Rattle.redcode_asm.specs.Assembly.{assembly}
+use Rattle.hill_store.specs.declared.header.HeaderEntry.{HeaderEntry}
+use Rattle.hill_store.specs.declared.reply.Reply.{Reply}
+use Rattle.hill_store.specs.declared.reply.Reply.TheVariants as replies
+use Rattle.hill_store.specs.Layout.{HeaderParts, IsHeaderParts, sectors_for}
+use Rattle.hill_store.specs.Stands.{IsReady, Stands}
+use Rattle.hill_store.specs.Earned.{reply_of, step_source, reply_judged}
+use Rattle.koth_hill.specs.Step.{step, verdict}
+use Rattle.war_types.specs.declared.fault.AsmFault.{AsmFault}
+use Rattle.war_types.specs.declared.fault.AsmKind.TheVariants as kinds
+
+-- the device, the hill, how many headers were written before the last, and whether a submission was answered `Disk`
+pub record Seen (D : Type 0) : Type 0 where
+  pub device : D
+  pub hill : Hill
+  pub generation : ℕ
+  pub reopen : Bool
+
+abbrev pub seen : {D : Type 0} → D → Hill → ℕ → Bool → Seen D
+seen device hill generation reopen = record { device = device; hill = hill; generation = generation; reopen = reopen }
+
+-- entries and members agree one by one
+abbrev pub Agree : List HeaderEntry → List Member → Type 0
+Agree [] [] = Unit {0}
+Agree [] (m ∷ ms) = ⊥
+Agree (e ∷ es) [] = ⊥
+Agree (e ∷ es) (m ∷ ms) = (m.entry ≡ e.entry) × (m.age ≡ e.age) × Agree es ms
+
+-- the header names those on the hill
+pub record IsNamed (h : HeaderParts) (hill : Hill) : Type 0 where
+  pub settings : h.settings ≡ hill.settings
+  pub counter : h.counter ≡ hill.counter
+  pub entries : Agree h.entries hill.members
+
+-- what every store keeps
+pub record IsSound {D : Type 0} (size : D → ℕ) (is_lawful : D → Type 0) (disk : D → Disk) (device : D) (h : HeaderParts) (hill : Hill) (arena : RawSettings) (reopen : Bool) : Type 0 where
+  pub room : sectors_for hill.settings.capacity ≤ size device
+  pub arena_of : arena ≡ hill.settings
+  pub header : IsHeaderParts h
+  pub is_hill : IsHill hill
+  pub named : IsNamed h hill
+  pub ready : is_lawful device → reopen ≡ false → IsReady (disk device) h hill
+
+-- a submission that moved the hill and is durable
+pub record IsAnswered {D : Type 0} (size : D → ℕ) (is_lawful : D → Type 0) (disk : D → Disk) (old : Seen D) (next : Hill) (new : Seen D) : Type 0 where
+  pub was_open : old.reopen ≡ false
+  pub hill : new.hill ≡ next
+  pub open_still : new.reopen ≡ false
+  pub stands : is_lawful old.device → Images (disk new.device) (λ image. Stands (size new.device) image next)
+
+-- a submission in which the device failed
+pub record IsCut {D : Type 0} (size : D → ℕ) (is_lawful : D → Type 0) (disk : D → Disk) (failures : D → ℕ) (old : Seen D) (next : Hill) (new : Seen D) : Type 0 where
+  pub was_open : old.reopen ≡ false
+  pub cause : (failures old.device < failures new.device) ⊎ (failures old.device ≡ 2 ^ 64 - 1)
+  pub hill : new.hill ≡ old.hill
+  pub broken : new.reopen ≡ true
+  pub stands : is_lawful old.device → Images (disk new.device) (λ image. Stands (size new.device) image old.hill ⊎ Stands (size new.device) image next)
+
+-- nothing was submitted
+pub record IsLeft {D : Type 0} (old new : Seen D) : Type 0 where
+  pub was_open : old.reopen ≡ false
+  pub same : new ≡ old
+
+-- the source gives a warrior
+abbrev pub Assembled : {D : Type 0} → Seen D → List ℕ → Type 0
+Assembled old source = (w : WarriorParts) × (assembly old.hill.settings source ≡ Ok w)
+
+-- what a submission made of a store, by its reply
+abbrev pub Submits : {D : Type 0} → (D → ℕ) → (D → Type 0) → (D → Disk) → (D → ℕ) → Seen D → List ℕ → Reply → Seen D → Type 0
+Submits size is_lawful disk failures old source (replies.Placed entry rank score) new =
+    (replies.Placed entry rank score ≡ reply_of old.hill source) × IsAnswered size is_lawful disk old (step_source old.hill source) new
+Submits size is_lawful disk failures old source (replies.Fell entry score) new =
+    (replies.Fell entry score ≡ reply_of old.hill source) × IsAnswered size is_lawful disk old (step_source old.hill source) new
+Submits size is_lawful disk failures old source (replies.Refused fault) new =
+    (replies.Refused fault ≡ reply_of old.hill source) × (step_source old.hill source ≡ old.hill) × IsLeft old new
+Submits size is_lawful disk failures old source replies.Memory new = IsLeft old new
+Submits size is_lawful disk failures old source replies.Worn new = (old.generation ≡ 2 ^ 64 - 1) × Assembled old source × IsLeft old new
+Submits size is_lawful disk failures old source replies.Disk new = IsCut size is_lawful disk failures old (step_source old.hill source) new
+Submits size is_lawful disk failures old source replies.Reopen new = (old.reopen ≡ true) × (new ≡ old)
+
+-- what a warrior that was assembled made of a store, by its reply
+abbrev pub Challenges : {D : Type 0} → (D → ℕ) → (D → Type 0) → (D → Disk) → (D → ℕ) → Seen D → WarriorParts → Reply → Seen D → Type 0
+Challenges size is_lawful disk failures old w (replies.Placed entry rank score) new =
+    (replies.Placed entry rank score ≡ reply_judged (verdict old.hill w)) × IsAnswered size is_lawful disk old (step old.hill w) new
+Challenges size is_lawful disk failures old w (replies.Fell entry score) new =
+    (replies.Fell entry score ≡ reply_judged (verdict old.hill w)) × IsAnswered size is_lawful disk old (step old.hill w) new
+Challenges size is_lawful disk failures old w (replies.Refused fault) new = ⊥
+Challenges size is_lawful disk failures old w replies.Memory new = ⊥
+Challenges size is_lawful disk failures old w replies.Worn new = (old.generation ≡ 2 ^ 64 - 1) × IsLeft old new
+Challenges size is_lawful disk failures old w replies.Disk new = IsCut size is_lawful disk failures old (step old.hill w) new
+Challenges size is_lawful disk failures old w replies.Reopen new = ⊥
+
+-- a fault of the assembler as a reply: a refusal, but for want of memory
+abbrev pub IsRefusal : AsmFault → Reply → Type 0
+IsRefusal fault (replies.Refused other) = (other ≡ fault) × (fault.kind ≢ kinds.Memory)
+IsRefusal fault replies.Memory = fault.kind ≡ kinds.Memory
+IsRefusal fault (replies.Placed entry rank score) = ⊥
+IsRefusal fault (replies.Fell entry score) = ⊥
+IsRefusal fault replies.Worn = ⊥
+IsRefusal fault replies.Disk = ⊥
+IsRefusal fault replies.Reopen = ⊥

@@ -1,0 +1,18 @@
+//! The store: a hill on a device of sectors, which survives any stop.
+#![tactic(auto)]
+
+mod durable;
+mod entries;
+mod found;
+mod header;
+mod opening;
+mod reply;
+mod slot;
+mod store;
+
+pub use header::{Header, HeaderEntry, decode_header, encode_header};
+pub use reply::{Refusal, Reply};
+pub use store::Store;
+
+#[cfg(test)]
+mod tests;

@@ -1,0 +1,61 @@
+//! What a submission is answered, and why a device is refused.
+
+ghost use Rattle.std.specs.Prelude.{◌≡◌};
+ghost use Rattle.hill_store.specs.Runs.{is_disk};
+
+use thiserror::Error;
+use war_types::AsmFault;
+
+/// The answer to a submission.
+#[derive(Clone, Copy, Debug, PartialEq, Eq)]
+pub enum Reply {
+    /// The warrior is on the hill, under this number, at this rank, with these points.
+    Placed { entry: u64, rank: u32, score: u32 },
+    /// The warrior fell at once, with these points against all on the hill.
+    Fell { entry: u64, score: u32 },
+    /// The source is refused.
+    Refused(AsmFault),
+    /// A growth was refused. Nothing was submitted.
+    Memory,
+    /// The device has taken as many headers as can be counted. Nothing was submitted.
+    Worn,
+    /// The device failed. Whether the submission stands is decided when the device is opened again.
+    Disk,
+    /// An earlier submission was answered `Disk`: close the device, and open it again. Nothing was submitted.
+    Reopen,
+}
+
+impl Reply {
+    /// Whether the device failed in this submission.
+    pub fn is_disk(&self) -> bool
+        ensures { result ≡ is_disk self.now }
+    {
+        match self {
+            Reply::Disk => true,
+            _ => false,
+        }
+    }
+}
+
+/// Why there is no store.
+#[derive(Clone, Copy, Debug, PartialEq, Eq, Error)]
+pub enum Refusal {
+    /// The device failed.
+    #[error("Disk")]
+    Disk,
+    /// The device has too few sectors.
+    #[error("TooSmall")]
+    TooSmall,
+    /// The device holds a hill already.
+    #[error("Occupied")]
+    Occupied,
+    /// A growth was refused.
+    #[error("Memory")]
+    Memory,
+    /// The device holds no hill.
+    #[error("NotAHill")]
+    NotAHill,
+    /// A slot of a warrior on the hill holds other bytes than a warrior's.
+    #[error("Damaged")]
+    Damaged,
+}

@@ -1,0 +1,253 @@
+//! The store.
+
+ghost use Rattle.std.specs.Prelude.{◌≡◌, ◌⊎◌, ◌↔◌, ℕ, ◌+◌, ◌-◌, ◌^◌, ◌<◌, ◌≤◌, true, false, List, [], ◌∷◌, IfOk, IfErr, OnErr, MatchResult};
+ghost use Rattle.war_types.specs.Warrior.{WarriorParts, Fits};
+ghost use Rattle.koth_hill.specs.Step.{verdict, stays, step, after_stay, after_fall};
+ghost use Rattle.koth_hill.specs.Table.{table};
+ghost use Rattle.koth_hill.specs.Rows.{rows_parts};
+ghost use Rattle.hill_store.specs.Runs.{Runs, texts};
+ghost use Rattle.hill_store.specs.Opened.{IsKept, IsCreated, IsNotCreated, IsOpened, IsNotOpened};
+ghost use Rattle.hill_store.specs.Earned.{reply_judged};
+ghost use Rattle.hill_store.specs.Seen.{Seen, IsAnswered, IsCut, IsLeft, Submits, Challenges, IsRefusal};
+
+use crate::durable::{commit, place};
+use crate::entries::{free_slot, header_passed, header_placed};
+use crate::header::Header;
+use crate::opening::{recover, sectors_for, write_first};
+use crate::reply::{Refusal, Reply};
+use koth_hill::{Hill, Row, Verdict};
+use mars_core::Arena;
+use redcode_asm::assemble;
+use sector_disk::{Device, Fault};
+use std::alloc::{AllocError, Allocator};
+use std::marker::Model;
+use war_types::{AsmFault, AsmKind, Settings, Warrior};
+
+/// A hill on a device.
+#[derive(Drop)]
+pub struct Store<D: Device, A: Allocator> {
+    alloc: A,
+    device: D,
+    header: Header,
+    hill: Hill<A>,
+    arena: Arena<A>,
+    reopen: bool,
+}
+
+impl<D: Device, A: Allocator> Model for Store<D, A> {
+    ghost use Rattle.hill_store.specs.Seen.{Seen, seen, IsSound};
+
+    ghost Value = { Seen D };
+
+    ghost view = { λ s. seen s.device s.hill s.header.generation s.reopen };
+
+    ghost invariant = { λ s. IsSound D.size D.lawful D.disk s.device s.header s.hill s.arena.settings s.reopen };
+}
+
+impl<D: Device, A: Allocator + Copy> Store<D, A> {
+    /// Creates a hill without warriors on a device that holds none.
+    ///
+    /// The refusals, in their order: `TooSmall` where the device has fewer sectors than the hill needs, `Memory` (all memory
+    /// is taken here), `Disk`, `Occupied` where a sector holds a valid header, and `Disk` while the first header is written.
+    /// The device comes back with each.
+    pub fn create(alloc: A, mut device: D, settings: Settings) -> Result<Store<D, A>, (D, Refusal)>
+        ensures kept { MatchResult result (λ store. IsKept D.size D.lawful D.failures device store.device) (λ refused. IsKept D.size D.lawful D.failures device refused.0) }
+        ensures created { IfOk result (IsCreated D.size D.lawful D.disk device settings) }
+        ensures refused { IfErr result (λ refused. IsNotCreated D.size D.lawful D.disk D.failures device settings refused.0 refused.1) }
+    {
+        if device.sectors() < sectors_for(settings.capacity()) {
+            return Err((device, Refusal::TooSmall));
+        }
+        let hill = match Hill::new(alloc, settings) {
+            Ok(hill) => hill,
+            Err(AllocError) => return Err((device, Refusal::Memory)),
+        };
+        let arena = match Arena::new(alloc, &settings) {
+            Ok(arena) => arena,
+            Err(AllocError) => return Err((device, Refusal::Memory)),
+        };
+        match write_first(&mut device, settings) {
+            Ok(header) => Ok(Store {
+                alloc,
+                device,
+                header,
+                hill,
+                arena,
+                reopen: false,
+            }),
+            Err(refusal) => Err((device, refusal)),
+        }
+    }
+
+    /// Opens the hill that a device holds. Nothing is written.
+    ///
+    /// The refusals, in their order: `TooSmall` where the device has fewer than two sectors, `Disk`, `NotAHill`, `TooSmall`
+    /// for the capacity that the header names, and while the slots are read `Disk`, or `Damaged` where the bytes are no
+    /// slot's. `Memory` stands wherever a growth was refused. The device comes back with each.
+    pub fn open(alloc: A, mut device: D) -> Result<Store<D, A>, (D, Refusal)>
+        ensures kept { MatchResult result (λ store. IsKept D.size D.lawful D.failures device store.device) (λ refused. IsKept D.size D.lawful D.failures device refused.0) }
+        ensures opened { IfOk result (IsOpened D.size D.lawful D.disk device) }
+        ensures refused { IfErr result (λ refused. IsNotOpened D.size D.lawful D.disk D.failures device refused.0 refused.1) }
+    {
+        match recover(alloc, &mut device) {
+            Ok(found) => Ok(Store {
+                alloc,
+                device,
+                header: found.header,
+                hill: found.hill,
+                arena: found.arena,
+                reopen: false,
+            }),
+            Err(refusal) => Err((device, refusal)),
+        }
+    }
+
+    /// Submits a source. The reply to a warrior that is placed or falls comes once that is durable.
+    pub fn submit(&mut self, source: &[u8]) -> Reply
+        ensures submits { Submits D.size D.lawful D.disk D.failures self.old source.now result self.new }
+        ensures lawful { D.lawful self.new.device ↔ D.lawful self.old.device }
+        ensures size { D.size self.new.device ≡ D.size self.old.device }
+    {
+        if self.reopen {
+            return Reply::Reopen;
+        }
+        match assemble(self.alloc, source, self.hill.settings()) {
+            Ok(warrior) => self.challenge(warrior),
+            Err(fault) => refused(fault),
+        }
+    }
+
+    /// Submits these sources one after another, up to the first that is answered `Disk`, and answers the replies in their
+    /// order. `Err` means that nothing was submitted.
+    pub fn submit_all(&mut self, sources: &[&[u8]]) -> Result<Vec<Reply, A>, AllocError>
+        ensures runs { IfOk result (λ replies. Runs D.size D.lawful D.disk D.failures self.old (texts sources.now) replies.items self.new) }
+        ensures memory { OnErr result (self.new ≡ self.old) }
+        ensures lawful { D.lawful self.new.device ↔ D.lawful self.old.device }
+        ensures size { D.size self.new.device ≡ D.size self.old.device }
+    {
+        let mut replies = Vec::with_capacity(self.alloc, sources.len())?;
+        for source in sources {
+            let reply = self.submit(source);
+            let _ = replies.push(reply);
+            if reply.is_disk() {
+                return Ok(replies);
+            }
+        }
+        Ok(replies)
+    }
+
+    /// Judges a warrior, and makes the outcome durable.
+    fn challenge(&mut self, warrior: Warrior<A>) -> Reply
+        requires is_open { self.old.reopen ≡ false }
+        requires fits { Fits self.old.hill.settings warrior }
+        ensures challenges { Challenges D.size D.lawful D.disk D.failures self.old warrior result self.new }
+        ensures lawful { D.lawful self.new.device ↔ D.lawful self.old.device }
+        ensures size { D.size self.new.device ≡ D.size self.old.device }
+    {
+        if self.header.generation() == u64::MAX {
+            return Reply::Worn;
+        }
+        let verdict = self.hill.judge(&mut self.arena, &warrior);
+        if verdict.stays {
+            self.admit(warrior, &verdict)
+        } else {
+            self.pass(&verdict)
+        }
+    }
+
+    /// Makes a warrior that stays durable, and then takes it in.
+    fn admit(&mut self, warrior: Warrior<A>, judged: &Verdict) -> Reply
+        requires is_open { self.old.reopen ≡ false }
+        requires fits { Fits self.old.hill.settings warrior }
+        requires more { self.old.generation < 2 ^ 64 - 1 }
+        requires verdict { judged.now ≡ verdict self.old.hill warrior }
+        requires stays { judged.now.stays ≡ true }
+        ensures challenges { Challenges D.size D.lawful D.disk D.failures self.old warrior result self.new }
+        ensures lawful { D.lawful self.new.device ↔ D.lawful self.old.device }
+        ensures size { D.size self.new.device ≡ D.size self.old.device }
+    {
+        let slot = free_slot(self.header.entries());
+        let header = header_placed(&self.header, judged.falls, slot);
+        match place(&mut self.device, &header, slot, &warrior) {
+            Ok(()) => {
+                self.hill.admit(warrior, judged);
+                self.header = header;
+                answer(judged)
+            }
+            Err(Fault) => fail(&mut self.reopen),
+        }
+    }
+
+    /// Makes it durable that a warrior falls, and then counts it.
+    fn pass(&mut self, judged: &Verdict) -> Reply
+        requires is_open { self.old.reopen ≡ false }
+        requires more { self.old.generation < 2 ^ 64 - 1 }
+        requires entry { judged.now.entry ≡ self.old.hill.counter + 1 }
+        requires falls { judged.now.stays ≡ false }
+        ensures challenges { (w : WarriorParts) → judged.now ≡ verdict self.old.hill w → Challenges D.size D.lawful D.disk D.failures self.old w result self.new }
+        ensures lawful { D.lawful self.new.device ↔ D.lawful self.old.device }
+        ensures size { D.size self.new.device ≡ D.size self.old.device }
+    {
+        let header = header_passed(&self.header);
+        match commit(&mut self.device, &header) {
+            Ok(()) => {
+                self.hill.pass(judged);
+                self.header = header;
+                answer(judged)
+            }
+            Err(Fault) => fail(&mut self.reopen),
+        }
+    }
+
+    /// The table, highest score first, among equals the earlier entry first. After `Disk` it is that of the hill as it was
+    /// before that submission.
+    pub fn rows(&self) -> Result<Vec<Row<'_>, A>, AllocError>
+        ensures { IfOk result (λ rows. rows_parts rows.items ≡ table self.now.hill) }
+    {
+        self.hill.rows(self.alloc)
+    }
+}
+
+impl<D: Device, A: Allocator> Store<D, A> {
+    /// The device, as it stands. It takes no memory.
+    pub fn close(self) -> D
+        ensures { result ≡ self.device }
+    {
+        self.device
+    }
+}
+
+/// The one way into the state in which every submission is answered `Reopen`.
+fn fail(reopen: &mut bool) -> Reply
+    ensures reply { result ≡ Reply.Disk }
+    ensures broken { reopen.new ≡ true }
+{
+    *reopen = true;
+    Reply::Disk
+}
+
+fn answer(judged: &Verdict) -> Reply
+    ensures { result ≡ reply_judged judged.now }
+{
+    if judged.stays {
+        Reply::Placed {
+            entry: judged.entry,
+            rank: judged.rank,
+            score: judged.score,
+        }
+    } else {
+        Reply::Fell {
+            entry: judged.entry,
+            score: judged.score,
+        }
+    }
+}
+
+fn refused(fault: AsmFault) -> Reply
+    ensures { IsRefusal fault result }
+{
+    match fault.kind {
+        AsmKind::Memory => Reply::Memory,
+        _ => Reply::Refused(fault),
+    }
+}

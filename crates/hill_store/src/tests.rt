@@ -1,0 +1,154 @@
+use super::*;
+use koth_hill::Row;
+use sector_disk::{Device, FuseDevice, FuseKind, MemoryDevice};
+use std::alloc::Global;
+use std::test::Fail;
+use war_types::{AsmFault, AsmKind, RawSettings, Settings};
+
+const SMALL: RawSettings = RawSettings {
+    core: 64,
+    cycles: 100,
+    processes: 8,
+    length: 10,
+    distance: 10,
+    rounds: 2,
+    seed: 1,
+    capacity: 2,
+};
+
+/// A hill of two without warriors, on a device that was blank.
+fn created<D: Device + Drop>(alloc: Global, device: D) -> Result<Store<D, Global>, Fail> {
+    match Store::create(alloc, device, Settings::new(SMALL)?) {
+        Ok(store) => Ok(store),
+        Err(_) => Err("it is created".into()),
+    }
+}
+
+fn opened<D: Device + Drop>(alloc: Global, device: D) -> Result<Store<D, Global>, Fail> {
+    match Store::open(alloc, device) {
+        Ok(store) => Ok(store),
+        Err(_) => Err("it opens".into()),
+    }
+}
+
+fn placed(entry: u64, rank: u32, score: u32) -> Reply {
+    Reply::Placed { entry, rank, score }
+}
+
+fn fell(entry: u64, score: u32) -> Reply {
+    Reply::Fell { entry, score }
+}
+
+fn refused(line: u32, kind: AsmKind) -> Reply {
+    Reply::Refused(AsmFault { line, kind })
+}
+
+/// A row as three numbers: entry, score and age.
+fn numbers(row: Option<&Row<'_>>) -> Option<(u64, u32, u64)> {
+    match row {
+        Some(row) => Some((row.entry, row.score, row.age)),
+        None => None,
+    }
+}
+
+#[test]
+fn submissions_one_by_one(rt: HostRuntime) -> Result<(), Fail> {
+    let mut store = created(rt.alloc(), MemoryDevice::new(rt.alloc(), 8)?)?;
+    assert_eq!(rt; store.submit(b"MOV 0,1"), placed(1, 1, 0));
+    assert_eq!(rt; store.submit(b"JMP 0"), placed(2, 2, 2));
+    assert_eq!(rt; store.submit(b"DAT 0,0"), fell(3, 0));
+    let rows = store.rows()?;
+    assert_eq!(rt; rows.len(), 2);
+    assert_eq!(rt; numbers(rows.first()), Some((1, 2, 1)));
+    assert_eq!(rt; numbers(rows.get(1)), Some((2, 2, 0)));
+    drop(rows);
+    assert_eq!(rt; store.submit(b"MOV 0,1"), fell(4, 4));
+    Ok(())
+}
+
+#[test]
+fn a_list_of_submissions(rt: HostRuntime) -> Result<(), Fail> {
+    let mut store = created(rt.alloc(), MemoryDevice::new(rt.alloc(), 8)?)?;
+    let sources: [&[u8]; 4] = [b"MOV 0,1", b"JMP 0", b"", b"DAT 0,0"];
+    let replies = store.submit_all(&sources)?;
+    assert_eq!(rt; replies.len(), 4);
+    assert_eq!(rt; replies[0], placed(1, 1, 0));
+    assert_eq!(rt; replies[1], placed(2, 2, 2));
+    assert_eq!(rt; replies[2], refused(0, AsmKind::Empty));
+    assert_eq!(rt; replies[3], fell(3, 0));
+    assert_eq!(rt; store.submit_all(&[])?.len(), 0);
+    Ok(())
+}
+
+#[test]
+fn a_stopped_image_opens(rt: HostRuntime) -> Result<(), Fail> {
+    let mut store = created(rt.alloc(), MemoryDevice::new(rt.alloc(), 8)?)?;
+    assert_eq!(rt; store.submit(b"MOV 0,1"), placed(1, 1, 0));
+    let device = store.close().stopped(&[])?;
+    let store = opened(rt.alloc(), device)?;
+    let rows = store.rows()?;
+    assert_eq!(rt; rows.len(), 1);
+    assert_eq!(rt; numbers(rows.first()), Some((1, 0, 0)));
+    Ok(())
+}
+
+/// How a device of so many sectors, and nothing on them, is refused.
+fn refusal_of_blank(
+    alloc: Global,
+    sectors: u32,
+) -> Result<(Option<Refusal>, Option<Refusal>), Fail> {
+    let opening = match Store::open(alloc, MemoryDevice::new(alloc, sectors)?) {
+        Ok(_) => None,
+        Err((_, refusal)) => Some(refusal),
+    };
+    let device = MemoryDevice::new(alloc, sectors)?;
+    let creation = match Store::create(alloc, device, Settings::new(SMALL)?) {
+        Ok(_) => None,
+        Err((_, refusal)) => Some(refusal),
+    };
+    Ok((opening, creation))
+}
+
+#[test]
+fn devices_that_are_refused(rt: HostRuntime) -> Result<(), Fail> {
+    let blank = refusal_of_blank(rt.alloc(), 8)?;
+    assert_eq!(rt; blank, (Some(Refusal::NotAHill), None));
+    let small = refusal_of_blank(rt.alloc(), 4)?;
+    assert_eq!(rt; small, (Some(Refusal::NotAHill), Some(Refusal::TooSmall)));
+    let tiny = refusal_of_blank(rt.alloc(), 1)?;
+    assert_eq!(rt; tiny, (Some(Refusal::TooSmall), Some(Refusal::TooSmall)));
+    let device = created(rt.alloc(), MemoryDevice::new(rt.alloc(), 8)?)?.close();
+    match Store::create(rt.alloc(), device, Settings::new(SMALL)?) {
+        Ok(_) => Err("a hill is there".into()),
+        Err((_, refusal)) => {
+            assert_eq!(rt; refusal, Refusal::Occupied);
+            Ok(())
+        }
+    }
+}
+
+#[test]
+fn the_greatest_generation(rt: HostRuntime) -> Result<(), Fail> {
+    let mut device = MemoryDevice::new(rt.alloc(), 8)?;
+    let header = Header::new(u64::MAX, Settings::new(SMALL)?, 0, &[]).ok_or("a header")?;
+    device.set(1, &encode_header(&header));
+    let mut store = opened(rt.alloc(), device)?;
+    assert_eq!(rt; store.submit(b""), refused(0, AsmKind::Empty));
+    assert_eq!(rt; store.submit(b"MOV 0,1"), Reply::Worn);
+    Ok(())
+}
+
+#[test]
+fn a_device_that_fails(rt: HostRuntime) -> Result<(), Fail> {
+    let device = FuseDevice::new(MemoryDevice::new(rt.alloc(), 8)?, 14, FuseKind::Stop);
+    let mut store = created(rt.alloc(), device)?;
+    assert_eq!(rt; store.submit(b"MOV 0,1"), placed(1, 1, 0));
+    assert_eq!(rt; store.submit(b"JMP 0"), Reply::Disk);
+    assert_eq!(rt; store.submit(b"JMP 0"), Reply::Reopen);
+    let stopped = store.close().into_inner();
+    let lost = opened(rt.alloc(), stopped.stopped(&[])?)?;
+    assert_eq!(rt; lost.rows()?.len(), 1);
+    let kept = opened(rt.alloc(), stopped.stopped(&[1])?)?;
+    assert_eq!(rt; kept.rows()?.len(), 2);
+    Ok(())
+}
