@@ -3,16 +3,17 @@ use Rattle.std.proofs.Common.{◌≡◌, ℕ, List, Option, None, Result, Ok, Er
 use Rattle.std.proofs.KnownBytes.{Keeps-refl}
 use Rattle.war_types.specs.Warrior.{WarriorParts}
 use Rattle.war_types.specs.declared.fault.AsmFault.{AsmFault}
-use Rattle.koth_server.specs.Asm.{Answers, Attempts, EndsAsm, status_of}
+use Rattle.war_types.specs.declared.settings.RawSettings.{RawSettings}
+use Rattle.koth_server.specs.Asm.{Answers, Attempts, EndsUnder, status_of}
 use Rattle.koth_server.specs.Failure.{failure_line, failure_status}
 use Rattle.koth_server.specs.Streams.{WritesPart, streams}
 use Rattle.koth_server.specs.declared.failure.Failure.{Failure}
 use Rattle.koth_server.specs.declared.failure.Failure.TheVariants.{Stream, Memory}
 use Rattle.koth_server.specs.declared.status.Status.{Status}
 
-module _ (i j o p : Option (List ℕ)) where
+module _ (s : RawSettings) (i j o p : Option (List ℕ)) where
   with_errors : (outcome : Result WarriorParts AsmFault) (e : Option (List ℕ))
-      → Answers outcome (streams i o None) (streams j p None) → Answers outcome (streams i o e) (streams j p e)
+      → Answers s outcome (streams i o None) (streams j p None) → Answers s outcome (streams i o e) (streams j p e)
   with_errors outcome e answers = record {
     source = answers.source;
     taken = answers.taken;
@@ -23,18 +24,18 @@ module _ (i j o p : Option (List ℕ)) where
   }
 
   answered : (outcome : Result WarriorParts AsmFault) (e : Option (List ℕ))
-      → Answers outcome (streams i o None) (streams j p None) → EndsAsm (status_of outcome) (streams i o e) (streams j p e)
+      → Answers s outcome (streams i o None) (streams j p None) → EndsUnder s (status_of outcome) (streams i o e) (streams j p e)
   answered (Ok warrior) e answers = (warrior, with_errors (Ok warrior) e answers)
   answered (Err fault) e answers = (fault, with_errors (Err fault) e answers)
 
   -- an attempt that answered is how `asm` ends
   pub ends_answered : (status : Status) (e : Option (List ℕ))
-      → Attempts (Ok status) (streams i o None) (streams j p None) → EndsAsm status (streams i o e) (streams j p e)
+      → Attempts s (Ok status) (streams i o None) (streams j p None) → EndsUnder s status (streams i o e) (streams j p e)
   ends_answered status e attempt =
-      subst (λ s. EndsAsm s (streams i o e) (streams j p e)) (sym attempt.1) (answered attempt.0 e attempt.2)
+      subst (λ t. EndsUnder s t (streams i o e) (streams j p e)) (sym attempt.1) (answered attempt.0 e attempt.2)
 
-  failed : (failure : Failure) (e f : Option (List ℕ)) → Attempts (Err failure) (streams i o None) (streams j p None)
-      → WritesPart e f (failure_line failure) → EndsAsm (failure_status failure) (streams i o e) (streams j p f)
+  failed : (failure : Failure) (e f : Option (List ℕ)) → Attempts s (Err failure) (streams i o None) (streams j p None)
+      → WritesPart e f (failure_line failure) → EndsUnder s (failure_status failure) (streams i o e) (streams j p f)
   failed Stream e f part told = (
     record {
       source = part.source;
@@ -47,7 +48,7 @@ module _ (i j o p : Option (List ℕ)) where
   failed Memory e f kept told = (kept, told)
 
   -- a failure that was told is how `asm` ends
-  pub ends_failed : (failure : Failure) (status : Status) (e f : Option (List ℕ)) → Attempts (Err failure) (streams i o None) (streams j p None)
-      → WritesPart e f (failure_line failure) → status ≡ failure_status failure → EndsAsm status (streams i o e) (streams j p f)
+  pub ends_failed : (failure : Failure) (status : Status) (e f : Option (List ℕ)) → Attempts s (Err failure) (streams i o None) (streams j p None)
+      → WritesPart e f (failure_line failure) → status ≡ failure_status failure → EndsUnder s status (streams i o e) (streams j p f)
   ends_failed failure status e f attempt told is =
-      subst (λ s. EndsAsm s (streams i o e) (streams j p f)) (sym is) (failed failure e f attempt told)
+      subst (λ t. EndsUnder s t (streams i o e) (streams j p f)) (sym is) (failed failure e f attempt told)

@@ -1,9 +1,9 @@
 -- What a parse of the program's words met.
-use Rattle.std.proofs.Common.{◌≡◌, ◌≢◌, inl, inr, subst, ◌∙◌, ◌||◌, Bool, true, false, List, Option, None, Some, Box, is_some, IfSome, if◌then◌else◌, sym, ap, refl, codes, [], option_map}
+use Rattle.std.proofs.Common.{◌≡◌, ◌≢◌, ◌⊎◌, inl, inr, subst, ◌∙◌, ◌||◌, Bool, true, false, List, Option, None, Some, Box, is_some, IfSome, if◌then◌else◌, sym, ap, refl, codes, [], option_map}
 use Rattle.std.specs.Box.{box_value}
 use Rattle.std.specs.List.{find}
 use Rattle.clap.specs.Faults.{entered_fault, fault_of, is_simple_and_free, other_fault}
-use Rattle.clap.specs.Simple.{App, HasMatchesOf, argument_words, built, entered, is_simple, label_of, names_of, rows_at, subcommand_of, subcommand_rows}
+use Rattle.clap.specs.Simple.{App, HasMatchesOf, argument_words, built, entered, is_simple, label_of, names_of, rows_at, subcommand_of, subcommand_rows, subcommand_rows_of}
 use Rattle.clap.specs.Kinds.{HasKind, IsAmong, Kinds}
 use Rattle.clap.specs.Matches.{subcommand_name_of}
 use Rattle.clap.specs.Values.{kind_of}
@@ -16,11 +16,15 @@ use Rattle.clap.specs.declared.parser.matches.ArgMatches.TheViews.{out-ArgMatche
 use Rattle.clap.specs.declared.parser.matches.SubCommand.{SubCommand}
 use Rattle.clap.proofs.OnLiterals.{clap_on_literals}
 use Rattle.koth_server.proofs.Entered.{OnNames, level_has, level_walks, walk_stops}
-use Rattle.koth_server.specs.Words.{AreWrong, koth_app}
+use Rattle.koth_server.specs.Words.{AreWrong, NamesCommand, koth_app}
 
 koth_is_simple : (is_simple koth_app ≡ true) × (is_simple_and_free koth_app ≡ true)
 unfolding clap_on_literals koth_app
 koth_is_simple = (refl, refl)
+
+-- what the parse gives is what the words name
+pub found : (app : App) (m : ArgMatches) (words : List Text) → app ≡ koth_app → HasMatchesOf app words m → subcommand_rows_of m ≡ subcommand_of koth_app words
+found app m words is has = (has (ap is_simple is ∙ koth_is_simple.0)).1 ∙ ap (λ a. subcommand_of a words) is
 
 module _ {Z : Type 0} where
   name-rows : (met : Option (Box SubCommand Z)) → option_map (λ p. p.0) (subcommand_rows met) ≡ option_map (λ b. (out-SubCommand (box_value b)).name.now) met
@@ -28,64 +32,66 @@ module _ {Z : Type 0} where
   name-rows (Some b) = refl
 
 -- the name that the parse gives is that of the subcommand that the words name
-pub named : (app : App) (m : ArgMatches) (words : List Text) → app ≡ koth_app → HasMatchesOf app words m
+named : (app : App) (m : ArgMatches) (words : List Text) → app ≡ koth_app → HasMatchesOf app words m
     → option_map (λ p. p.0) (subcommand_of koth_app words) ≡ subcommand_name_of m
 named app m words is has =
-    let found = (has (ap is_simple is ∙ koth_is_simple.0)).1 in
-    ap (λ a. option_map (λ p. p.0) (subcommand_of a words)) (sym is) ∙ ap (option_map (λ p. p.0)) (sym found)
-    ∙ name-rows (out-ArgMatches m).subcommand
+    ap (option_map (λ p. p.0)) (sym (found app m words is has)) ∙ name-rows (out-ArgMatches m).subcommand
 
--- ---- words without fault name `asm`
+-- ---- words without fault name a command
 
-abbrev IsAsm : Text → Type 0
-IsAsm name = name ≡ codes "asm"
+abbrev IsCommand : Text → Type 0
+IsCommand name = (name ≡ codes "asm") ⊎ (name ≡ codes "fight")
 
-abbrev met_by : Bool → Bool → Option Text
-met_by b c = option_map (λ (s : Text × List Text). s.0) (if b || false then Some (codes "asm", []) else if c || false then Some (codes "help", []) else None)
+abbrev met_by : Bool → Bool → Bool → Option Text
+met_by b c d = option_map (λ (s : Text × List Text). s.0)
+    (if b || false then Some (codes "asm", []) else if c || false then Some (codes "fight", []) else if d || false then Some (codes "help", []) else None)
 
-met_is_asm : (b c : Bool) (word : Text) (h : Held) → other_fault (built koth_app).top (met_by b c) word h ≡ [] → IfSome (met_by b c) IsAsm
+met_is_command : (b c d : Bool) (word : Text) (h : Held) → other_fault (built koth_app).top (met_by b c d) word h ≡ [] → IfSome (met_by b c d) IsCommand
 unfolding clap_on_literals koth_app
-met_is_asm true c word h none = refl
-met_is_asm false true word h none = absurd (cc)
-met_is_asm false false word h none = tt
+met_is_command true c d word h none = inl refl
+met_is_command false true d word h none = inr refl
+met_is_command false false true word h none = absurd (cc)
+met_is_command false false false word h none = tt
 
-each_is_asm : OnNames (built koth_app).top (names_of (built koth_app)) IsAsm
+each_is_command : OnNames (built koth_app).top (names_of (built koth_app)) IsCommand
 unfolding clap_on_literals koth_app
-each_is_asm idle word h none = met_is_asm _ _ word h none
-each_is_asm (option id) word h none = tt
-each_is_asm positional word h none = tt
+each_is_command idle word h none = met_is_command _ _ _ word h none
+each_is_command (option id) word h none = tt
+each_is_command positional word h none = tt
 
 is_required : (built koth_app).top.subcommand_required ≡ true
 unfolding koth_app
 is_required = refl
 
-enters_asm : (stop : Option (Text × List Text)) → IfSome stop (λ p. IsAsm p.0) → is_some (entered (built koth_app) stop) ≡ true
-    → option_map (λ p. p.0) (entered (built koth_app) stop) ≡ Some (codes "asm")
+enters_command : (stop : Option (Text × List Text)) → IfSome stop (λ p. IsCommand p.0) → is_some (entered (built koth_app) stop) ≡ true
+    → NamesCommand (option_map (λ p. p.0) (entered (built koth_app) stop))
 unfolding clap_on_literals koth_app
-enters_asm None met has = absurd (cc)
-enters_asm (Some p) met has =
-    ap (λ n. option_map (λ r. r.0) (option_map (λ s. rows_at s p.1) (find (λ s. answers_to n (label_of s)) (built koth_app).subs))) met
+enters_command None met has = absurd (cc)
+enters_command (Some p) (inl asm) has =
+    inl (ap (λ n. option_map (λ r. r.0) (option_map (λ s. rows_at s p.1) (find (λ s. answers_to n (label_of s)) (built koth_app).subs))) asm)
+enters_command (Some p) (inr fight) has =
+    inr (ap (λ n. option_map (λ r. r.0) (option_map (λ s. rows_at s p.1) (find (λ s. answers_to n (label_of s)) (built koth_app).subs))) fight)
 
--- words in which clap finds no fault name `asm`
-names_asm : (words : List Text) → fault_of koth_app words ≡ [] → option_map (λ p. p.0) (subcommand_of koth_app words) ≡ Some (codes "asm")
-names_asm words none =
+-- words in which clap finds no fault name a command
+names_command : (words : List Text) → fault_of koth_app words ≡ [] → NamesCommand (option_map (λ p. p.0) (subcommand_of koth_app words))
+names_command words none =
     let app = built koth_app in
     let rest = argument_words koth_app words in
     let stop = stop_after app.top.rules (names_of app) rest in
     let has = is_some (entered app stop) in
     let walks = level_walks app.top (names_of app) rest has (entered_fault app stop) none in
-    let met = walk_stops app.top (names_of app) IsAsm each_is_asm rest (walk_from nothing_held) walks tt in
-    enters_asm stop met (level_has app.top (names_of app) rest has (entered_fault app stop) is_required none)
+    let met = walk_stops app.top (names_of app) IsCommand each_is_command rest (walk_from nothing_held) walks tt in
+    enters_command stop met (level_has app.top (names_of app) rest has (entered_fault app stop) is_required none)
 
 -- what holds of a command's faults holds of those of the program's words
 on_faults : (app : App) (words : List Text) (P : Kinds → Type 0) → app ≡ koth_app → (is_simple_and_free app ≡ true → P (fault_of app words)) → P (fault_of koth_app words)
 on_faults app words P is holds = subst (λ a. P (fault_of a words)) is (holds (ap is_simple_and_free is ∙ koth_is_simple.1))
 
--- where clap finds no fault, the name that it gives is `asm`, and the words are not wrong
-pub gives_asm : (app : App) (m : ArgMatches) (words : List Text) → app ≡ koth_app → HasMatchesOf app words m
-    → (is_simple_and_free app ≡ true → fault_of app words ≡ []) → subcommand_name_of m ≡ Some (codes "asm")
-gives_asm app m words is has none =
-    sym (named app m words is has) ∙ names_asm words (on_faults app words (λ faults. faults ≡ []) is none)
+-- where clap finds no fault, the name that it gives is a command's, and the words are not wrong
+pub gives_command : (app : App) (m : ArgMatches) (words : List Text) → app ≡ koth_app → HasMatchesOf app words m
+    → (is_simple_and_free app ≡ true → fault_of app words ≡ []) → NamesCommand (subcommand_name_of m)
+gives_command app m words is has none =
+    subst NamesCommand (named app m words is has) (names_command words (on_faults app words (λ faults. faults ≡ []) is none))
 
 pub not_wrong : (app : App) (words : List Text) → app ≡ koth_app → (is_simple_and_free app ≡ true → fault_of app words ≡ []) → AreWrong words → ⊥
 not_wrong app words is none wrong = wrong.0 (on_faults app words (λ faults. faults ≡ []) is none)

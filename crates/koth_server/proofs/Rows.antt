@@ -7,30 +7,48 @@ use Rattle.war_types.specs.declared.fault.ExprFault.TheVariants as expressions
 use Rattle.clap.specs.Words.{fault_of, takes}
 use Rattle.clap.specs.declared.error.kind.ErrorKind.TheVariants as errors
 use Rattle.clap.proofs.OnLiterals.{clap_on_literals}
-use Rattle.koth_server.specs.Asm.{default_settings, refusal_line}
-use Rattle.koth_server.specs.Words.{AsksFor, koth_app}
+use Rattle.koth_server.specs.Answer.{refusal_line}
+use Rattle.koth_server.specs.Options.{default_settings}
+use Rattle.koth_server.specs.Words.{AsksFor, koth_app, settings_named}
 
 -- the premise of `asm` is met by these words
 asm_asks : AsksFor (codes "asm") (codes "koth" ∷ codes "asm" ∷ [])
 unfolding clap_on_literals koth_app
 asm_asks = (refl, refl)
 
--- no words, help, a word too many and a command that isn't there are not taken
+fight_asks : AsksFor (codes "fight") (codes "koth" ∷ codes "fight" ∷ codes "a.red" ∷ codes "b.red" ∷ codes "--rounds=3" ∷ [])
+unfolding clap_on_literals koth_app
+fight_asks = (refl, refl)
+
+-- the settings that words give, by one word or by two, with a plus sign or without
+given_settings : (settings_named (codes "koth" ∷ codes "asm" ∷ []) ≡ default_settings)
+    × (settings_named (codes "koth" ∷ codes "asm" ∷ codes "--core" ∷ codes "64" ∷ codes "--seed=+7" ∷ []) ≡ record default_settings { core = 64; seed = 7 })
+unfolding clap_on_literals koth_app
+given_settings = (refl, refl)
+
+-- no words, help, a word too many, a file too few, a command or an option that isn't there, no number, a number past 32
+-- bits and a setting that is given twice are not taken
 not_taken : (takes koth_app (codes "koth" ∷ []) ≡ false)
     × (takes koth_app (codes "koth" ∷ codes "help" ∷ []) ≡ false)
     × (takes koth_app (codes "koth" ∷ codes "asm" ∷ codes "--help" ∷ []) ≡ false)
     × (takes koth_app (codes "koth" ∷ codes "asm" ∷ codes "extra" ∷ []) ≡ false)
-    × (takes koth_app (codes "koth" ∷ codes "fight" ∷ []) ≡ false)
+    × (takes koth_app (codes "koth" ∷ codes "fight" ∷ codes "a.red" ∷ []) ≡ false)
+    × (takes koth_app (codes "koth" ∷ codes "asm" ∷ codes "--size=64" ∷ []) ≡ false)
+    × (takes koth_app (codes "koth" ∷ codes "asm" ∷ codes "--core=x" ∷ []) ≡ false)
+    × (takes koth_app (codes "koth" ∷ codes "asm" ∷ codes "--core=4294967296" ∷ []) ≡ false)
+    × (takes koth_app (codes "koth" ∷ codes "asm" ∷ codes "--core=64" ∷ codes "--core=64" ∷ []) ≡ false)
 unfolding clap_on_literals koth_app
-not_taken = (refl, refl, refl, refl, refl)
+not_taken = (refl, refl, refl, refl, refl, refl, refl, refl, refl)
 
 -- what clap finds wrong in them
 faults : (fault_of koth_app (codes "koth" ∷ []) ≡ errors.MissingSubcommand ∷ [])
-    × (fault_of koth_app (codes "koth" ∷ codes "fight" ∷ []) ≡ errors.UnknownArgument ∷ errors.InvalidSubcommand ∷ [])
+    × (fault_of koth_app (codes "koth" ∷ codes "fly" ∷ []) ≡ errors.UnknownArgument ∷ errors.InvalidSubcommand ∷ [])
+    × (fault_of koth_app (codes "koth" ∷ codes "fight" ∷ []) ≡ errors.MissingRequiredArgument ∷ [])
     × (fault_of koth_app (codes "koth" ∷ codes "asm" ∷ codes "extra" ∷ []) ≡ errors.UnknownArgument ∷ [])
+    × (fault_of koth_app (codes "koth" ∷ codes "asm" ∷ codes "--core=x" ∷ []) ≡ errors.ValueValidation ∷ [])
     × (fault_of koth_app (codes "koth" ∷ codes "asm" ∷ codes "--help" ∷ []) ≡ errors.DisplayHelp ∷ [])
 unfolding clap_on_literals koth_app
-faults = (refl, refl, refl, refl)
+faults = (refl, refl, refl, refl, refl, refl)
 
 defaults_are_settings : settings_of default_settings ≡ Ok default_settings
 defaults_are_settings = refl

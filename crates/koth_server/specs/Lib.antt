@@ -1,5 +1,8 @@
+pub mod Answer
 pub mod Asm
 pub mod Failure
+pub mod Fight
+pub mod Options
 pub mod Run
 pub mod Status
 pub mod Streams

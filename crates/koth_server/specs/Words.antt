@@ -1,28 +1,64 @@
 -- What the words of the command line ask for.
-use Rattle.std.specs.Prelude.{◌≡◌, ◌≢◌, ⊤, ℕ, true, List, [], codes, Some, option_map}
-use Rattle.clap.specs.Words.{App, IsAmong, fault_of, new_app, subcommand_of, takes, with_subcommand}
+use Rattle.std.specs.Prelude.{◌≡◌, ◌≢◌, ◌⊎◌, ⊤, ℕ, true, List, [], codes, Option, None, Some, option_map, unwrap_or}
+use Rattle.std.specs.Option.{option_map_or}
+use Rattle.clap.specs.Words.{App, IsAmong, Row, Rule, Text, fault_of, first_of, new_app, new_rule, subcommand_of, takes, with_rule, with_subcommand}
 use Rattle.clap.specs.declared.error.kind.ErrorKind.TheVariants as kinds
+use Rattle.war_types.specs.declared.settings.RawSettings.{RawSettings}
+use Rattle.koth_server.specs.Options.{settings_in, with_settings}
 use Rattle.koth_server.specs.declared.words.NoRequest.{NoRequest}
 use Rattle.koth_server.specs.declared.words.NoRequest.TheVariants as reasons
 use Rattle.koth_server.specs.declared.words.Request.{Request}
-use Rattle.koth_server.specs.declared.words.Request.TheVariants.{Asm}
+use Rattle.koth_server.specs.declared.words.Request.TheVariants.{Asm, Fight}
 
 -- a command that wants the name of one of its subcommands
 abbrev pub wants_subcommand : App → App
 wants_subcommand app = record app { top = record app.top { subcommand_required = true } }
 
--- the program's words: `koth`, and a command's name
+-- a file that has to be named
+abbrev pub file_rule : Text → Rule
+file_rule name = record (new_rule name) { required = true }
+
+abbrev pub asm_app : App
+asm_app = with_settings (new_app (codes "asm"))
+
+abbrev pub fight_app : App
+fight_app = with_settings (with_rule (with_rule (new_app (codes "fight")) (file_rule (codes "A"))) (file_rule (codes "B")))
+
+-- the program's words: `koth`, and a command's name with its files and options
 unfoldable pub koth_app : App
-koth_app = with_subcommand (wants_subcommand (new_app (codes "koth"))) (new_app (codes "asm")).top
+koth_app = with_subcommand (with_subcommand (wants_subcommand (new_app (codes "koth"))) asm_app.top) fight_app.top
 
 -- the words are taken, and name this command
 abbrev pub AsksFor : List ℕ → List (List ℕ) → Type 0
 AsksFor verb words = (takes koth_app words ≡ true)
     × (option_map (λ entered. entered.0) (subcommand_of koth_app words) ≡ Some verb)
 
--- the word of a request
-abbrev pub verb_of : Request → List ℕ
-verb_of Asm = codes "asm"
+-- what the words give a command
+abbrev pub given_in : Option (Text × List Row) → List Row
+given_in entered = option_map_or (λ e. e.1) entered []
+
+-- the settings that the words give
+abbrev pub settings_named : List (List ℕ) → RawSettings
+settings_named words = settings_in (given_in (subcommand_of koth_app words))
+
+abbrev pub text_or_none : Option Text → Text
+text_or_none text = unwrap_or text []
+
+-- the request is that of a command with what the words give it
+abbrev pub Asks : Text × List Row → Request → Type 0
+Asks entered (Asm settings) = (entered.0 ≡ codes "asm") × (settings ≡ settings_in entered.1)
+Asks entered (Fight settings files) = (entered.0 ≡ codes "fight") × (settings ≡ settings_in entered.1)
+    × (files.older.now ≡ text_or_none (first_of (codes "A") entered.1))
+    × (files.younger.now ≡ text_or_none (first_of (codes "B") entered.1))
+
+-- the same where a command is named
+abbrev pub AsksBy : Option (Text × List Row) → Request → Type 0
+AsksBy None request = ⊥
+AsksBy (Some entered) request = Asks entered request
+
+-- a command is named
+abbrev pub NamesCommand : Option Text → Type 0
+NamesCommand name = (name ≡ Some (codes "asm")) ⊎ (name ≡ Some (codes "fight"))
 
 -- the words have a fault, and ask for no help
 abbrev pub AreWrong : List (List ℕ) → Type 0

@@ -1,74 +1,68 @@
 //! The command `asm`: from a source to load text.
 
-ghost use Rattle.std.specs.Prelude.{◌≡◌, None, length, vec_len, IfOk};
-ghost use Rattle.koth_server.specs.Asm.{answer_of, assembled, default_settings, refusal_line, status_of, Attempts, EndsAsm};
+ghost use Rattle.std.specs.Prelude.{◌≡◌, None, length, IfOk};
+ghost use Rattle.war_types.specs.Settings.{settings_of};
+ghost use Rattle.redcode_asm.specs.Assembly.{assembly};
+ghost use Rattle.koth_server.specs.Asm.{answer_of, status_of, Attempts, EndsAsm, EndsUnder};
 ghost use Rattle.koth_server.specs.Streams.{read_limit, streams};
 
+use crate::answer::{Answer, refusal, refuse_settings, source_buffer};
 use crate::failure::Failure;
 use crate::status::Status;
 use crate::stream::{StreamFault, fill, write_whole};
-use redcode_asm::{SOURCE_LIMIT, assemble, load_text};
+use redcode_asm::{assemble, load_text};
 use std::alloc::{AllocError, Allocator};
 use std::io::{Read, Write};
-use war_types::{AsmFault, AsmKind, RawSettings, Settings};
+use war_types::{AsmKind, RawSettings, Settings};
 
-/// Bytes of a source that are read: one more than a source may have, which shows that it is too long.
-const READ_LIMIT: usize = SOURCE_LIMIT + 1;
-
-/// The settings where the words give none.
-const DEFAULTS: RawSettings = RawSettings {
-    core: 8000,
-    cycles: 80_000,
-    processes: 8000,
-    length: 100,
-    distance: 100,
-    rounds: 10,
-    seed: 1,
-    capacity: 20,
-};
-
-/// What is written for a source, and how the program ends with it.
-#[derive(Drop)]
-struct Answer<A: Allocator> {
-    status: Status,
-    text: Vec<u8, A>,
-}
-
-/// Assembles the source that the input has, under the default settings, and writes its load text, or its
-/// refusal.
+/// Assembles the source that the input has, under the settings that are given, and writes its load text, or its
+/// refusal. Settings that are out of their ranges are refused before anything is read.
 pub(crate) fn asm<A: Allocator + Copy, I: Read, O: Write, E: Write>(
     alloc: A,
+    given: RawSettings,
     input: &mut I,
     output: &mut O,
     errors: &mut E,
 ) -> Status
-    ensures { EndsAsm result
+    ensures { EndsAsm (settings_of given) result
         (streams (I.remaining input.old) (O.contents output.old) (E.contents errors.old))
         (streams (I.remaining input.new) (O.contents output.new) (E.contents errors.new)) }
 {
-    let Ok(mut buffer) = zeros(alloc, READ_LIMIT) else {
+    match Settings::new(given) {
+        Ok(settings) => asm_under(alloc, &settings, input, output, errors),
+        Err(fault) => refuse_settings(fault, errors),
+    }
+}
+
+fn asm_under<A: Allocator + Copy, I: Read, O: Write, E: Write>(
+    alloc: A,
+    settings: &Settings,
+    input: &mut I,
+    output: &mut O,
+    errors: &mut E,
+) -> Status
+    ensures { EndsUnder settings.now result
+        (streams (I.remaining input.old) (O.contents output.old) (E.contents errors.old))
+        (streams (I.remaining input.new) (O.contents output.new) (E.contents errors.new)) }
+{
+    let Ok(mut buffer) = source_buffer(alloc) else {
         return Failure::Memory.tell(errors);
     };
-    match answer_input(alloc, input, output, buffer.as_mut_slice()) {
+    match answer_input(alloc, settings, input, output, buffer.as_mut_slice()) {
         Ok(status) => status,
         Err(failure) => failure.tell(errors),
     }
 }
 
-fn zeros<A: Allocator + Copy>(alloc: A, count: usize) -> Result<Vec<u8, A>, AllocError>
-    ensures { IfOk result (λ zeros. vec_len zeros ≡ count) }
-{
-    Vec::from_elem(alloc, 0, count)
-}
-
 fn answer_input<A: Allocator + Copy, I: Read, O: Write>(
     alloc: A,
+    settings: &Settings,
     input: &mut I,
     output: &mut O,
     buffer: &mut [u8],
 ) -> Result<Status, Failure>
     requires { length buffer.old ≡ read_limit }
-    ensures { Attempts result
+    ensures { Attempts settings.now result
         (streams (I.remaining input.old) (O.contents output.old) None)
         (streams (I.remaining input.new) (O.contents output.new) None) }
 {
@@ -76,7 +70,7 @@ fn answer_input<A: Allocator + Copy, I: Read, O: Write>(
         Ok(count) => count,
         Err(StreamFault) => return Err(Failure::Stream),
     };
-    let answer = match answer_to(alloc, &buffer[..count]) {
+    let answer = match answer_to(alloc, settings, &buffer[..count]) {
         Ok(answer) => answer,
         Err(AllocError) => return Err(Failure::Memory),
     };
@@ -86,33 +80,20 @@ fn answer_input<A: Allocator + Copy, I: Read, O: Write>(
     }
 }
 
-fn answer_to<A: Allocator + Copy>(alloc: A, source: &[u8]) -> Result<Answer<A>, AllocError>
-    ensures status { IfOk result (λ answer. answer.status ≡ status_of (assembled source.now)) }
-    ensures text { IfOk result (λ answer. answer.text.items ≡ answer_of (assembled source.now)) }
+fn answer_to<A: Allocator + Copy>(
+    alloc: A,
+    settings: &Settings,
+    source: &[u8],
+) -> Result<Answer<A>, AllocError>
+    ensures status { IfOk result (λ answer. answer.status ≡ status_of (assembly settings.now source.now)) }
+    ensures text { IfOk result (λ answer. answer.text.items ≡ answer_of settings.now (assembly settings.now source.now)) }
 {
-    let settings = defaults();
-    match assemble(alloc, source, &settings) {
+    match assemble(alloc, source, settings) {
         Ok(warrior) => Ok(Answer {
             status: Status::Done,
             text: load_text(alloc, &warrior, settings.core())?,
         }),
         Err(fault) if matches!(fault.kind, AsmKind::Memory) => Err(AllocError),
-        Err(fault) => Ok(Answer {
-            status: Status::Refused,
-            text: refusal(alloc, fault)?,
-        }),
+        Err(fault) => refusal(alloc, fault),
     }
-}
-
-fn defaults() -> Settings
-    ensures { result ≡ default_settings }
-{
-    Settings::new(DEFAULTS).unwrap()
-}
-
-fn refusal<A: Allocator + Copy>(alloc: A, fault: AsmFault) -> Result<Vec<u8, A>, AllocError>
-    ensures { IfOk result (λ line. line.items ≡ refusal_line fault) }
-{
-    let line = format!(in alloc; "REFUSED {} {}\n", fault.line, fault.kind.name())?;
-    Ok(line.into_bytes())
 }

@@ -10,7 +10,7 @@ use std::io::Write;
 /// Why a command was not carried out.
 #[derive(Clone, Copy, Debug, PartialEq, Eq)]
 pub enum Failure {
-    /// A stream failed.
+    /// A stream or a file failed.
     Stream,
     /// A growth of memory was refused.
     Memory,

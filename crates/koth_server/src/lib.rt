@@ -1,8 +1,11 @@
 //! The program `koth`: its words, its commands and its streams.
 #![tactic(auto)]
 
+mod answer;
 mod asm;
 mod failure;
+mod fight;
+mod options;
 mod program;
 mod status;
 mod stream;

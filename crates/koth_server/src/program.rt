@@ -1,15 +1,18 @@
 //! A run of the program, from its words to its status.
 
-ghost use Rattle.std.specs.Prelude.{◌≡◌, ◌≢◌, ◌⊎◌, true, codes, map, string_bytes};
+ghost use Rattle.std.specs.Prelude.{◌≡◌, ◌≢◌, ◌⊎◌, None, true, codes, map, string_bytes};
 ghost use Rattle.std.specs.Io.KnownBytes.{Keeps};
 ghost use Rattle.clap.specs.Words.{takes};
+ghost use Rattle.war_types.specs.Settings.{settings_of};
 ghost use Rattle.koth_server.specs.Asm.{EndsAsm};
+ghost use Rattle.koth_server.specs.Fight.{EndsFight};
 ghost use Rattle.koth_server.specs.Run.{Leaves};
 ghost use Rattle.koth_server.specs.Streams.{streams};
-ghost use Rattle.koth_server.specs.Words.{koth_app, AreWrong, AsksFor};
+ghost use Rattle.koth_server.specs.Words.{koth_app, settings_named, AreWrong, AsksFor};
 
 use crate::asm::asm;
 use crate::failure::Failure;
+use crate::fight::fight;
 use crate::status::Status;
 use crate::stream::{StreamFault, write_whole};
 use crate::words::{NoRequest, Request, parse};
@@ -18,10 +21,10 @@ use std::io::{Read, Write};
 use std::rt::Files;
 
 /// Does what the words ask for, and says which status to leave with: 0 where it is done, 1 where it is refused, 2
-/// for a fault of the words, 3 where a stream fails, 4 for want of memory. The first word is the program's name.
+/// for a fault of the words, 3 where a stream or a file fails, 4 for want of memory. The first word is the program's name.
 /// The words are parsed on `heap`, and all other memory comes from `alloc`.
 pub fn run<R: Files, A: Allocator + Copy, I: Read, O: Write, E: Write>(
-    _rt: &R,
+    rt: &R,
     heap: Global,
     alloc: A,
     words: &[String],
@@ -30,9 +33,13 @@ pub fn run<R: Files, A: Allocator + Copy, I: Read, O: Write, E: Write>(
     errors: &mut E,
 ) -> u8
     ensures asm { AsksFor (codes "asm") (map (λ w. string_bytes w) words.now)
-        → Leaves result (λ status. EndsAsm status
+        → Leaves result (λ status. EndsAsm (settings_of (settings_named (map (λ w. string_bytes w) words.now))) status
         (streams (I.remaining input.old) (O.contents output.old) (E.contents errors.old))
         (streams (I.remaining input.new) (O.contents output.new) (E.contents errors.new))) }
+    ensures fight { AsksFor (codes "fight") (map (λ w. string_bytes w) words.now)
+        → Leaves result (λ status. EndsFight (settings_of (settings_named (map (λ w. string_bytes w) words.now))) status
+        (streams None (O.contents output.old) (E.contents errors.old))
+        (streams None (O.contents output.new) (E.contents errors.new))) }
     ensures words { takes koth_app (map (λ w. string_bytes w) words.now) ≡ true
         → Leaves result (λ status. status ≢ Status.WordFault) }
     ensures wrong { AreWrong (map (λ w. string_bytes w) words.now)
@@ -41,10 +48,11 @@ pub fn run<R: Files, A: Allocator + Copy, I: Read, O: Write, E: Write>(
         → Keeps (I.remaining input.old) (I.remaining input.new)
         × Keeps (O.contents output.old) (O.contents output.new)) }
 {
-    carry_out(heap, alloc, words, input, output, errors).code()
+    carry_out(rt, heap, alloc, words, input, output, errors).code()
 }
 
-fn carry_out<A: Allocator + Copy, I: Read, O: Write, E: Write>(
+fn carry_out<R: Files, A: Allocator + Copy, I: Read, O: Write, E: Write>(
+    rt: &R,
     heap: Global,
     alloc: A,
     words: &[String],
@@ -53,9 +61,13 @@ fn carry_out<A: Allocator + Copy, I: Read, O: Write, E: Write>(
     errors: &mut E,
 ) -> Status
     ensures asm { AsksFor (codes "asm") (map (λ w. string_bytes w) words.now)
-        → EndsAsm result
+        → EndsAsm (settings_of (settings_named (map (λ w. string_bytes w) words.now))) result
         (streams (I.remaining input.old) (O.contents output.old) (E.contents errors.old))
         (streams (I.remaining input.new) (O.contents output.new) (E.contents errors.new)) }
+    ensures fight { AsksFor (codes "fight") (map (λ w. string_bytes w) words.now)
+        → EndsFight (settings_of (settings_named (map (λ w. string_bytes w) words.now))) result
+        (streams None (O.contents output.old) (E.contents errors.old))
+        (streams None (O.contents output.new) (E.contents errors.new)) }
     ensures words { takes koth_app (map (λ w. string_bytes w) words.now) ≡ true
         → result ≢ Status.WordFault }
     ensures wrong { AreWrong (map (λ w. string_bytes w) words.now)
@@ -65,7 +77,8 @@ fn carry_out<A: Allocator + Copy, I: Read, O: Write, E: Write>(
         × Keeps (O.contents output.old) (O.contents output.new) }
 {
     match parse(heap, words) {
-        Ok(Request::Asm) => asm(alloc, input, output, errors),
+        Ok(Request::Asm(given)) => asm(alloc, given, input, output, errors),
+        Ok(Request::Fight(given, files)) => fight(rt, alloc, given, files, output, errors),
         Err(NoRequest::Help(text)) => match write_whole(output, text.as_bytes()) {
             Ok(()) => Status::Done,
             Err(StreamFault) => Failure::Stream.tell(errors),

@@ -7,11 +7,11 @@ ghost use Rattle.std.specs.Prelude.{◌≡◌};
 pub enum Status {
     /// It is done. Help is done too.
     Done,
-    /// It is refused: a source by the assembler.
+    /// It is refused: a source by the assembler, or a setting that is out of its range.
     Refused,
     /// The words ask for nothing that the program does.
     WordFault,
-    /// A stream failed: a read or a write gave an error, or a write took no byte.
+    /// A stream or a file failed: opening, a read or a write gave an error, or a write took no byte.
     StreamFault,
     /// A growth of memory was refused.
     NoMemory,

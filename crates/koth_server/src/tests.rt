@@ -2,10 +2,11 @@ ghost use Rattle.std.specs.Prelude.{Some};
 
 use super::run;
 use std::alloc::{AllocError, Global};
-use std::io;
 use std::io::{ErrorKind, Read, Write};
+use std::process::Abort;
 use std::rt::Files;
 use std::test::Fail;
+use std::{fs, io};
 
 /// What a run left behind.
 #[derive(Drop)]
@@ -99,13 +100,23 @@ fn faults_of_the_words(rt: HostRuntime) -> Result<(), Fail> {
         (&["koth", "ASM"], "unrecognized subcommand 'ASM'"),
         (&["koth", "asm", "extra"], "unexpected argument 'extra'"),
         (
-            &["koth", "asm", "--core", "64"],
-            "unexpected argument '--core'",
+            &["koth", "asm", "--size", "64"],
+            "unexpected argument '--size'",
+        ),
+        (&["koth", "asm", "--core"], "a value is required for"),
+        (&["koth", "asm", "--core", "x"], "invalid value 'x'"),
+        (&["koth", "asm", "--core="], "--core"),
+        (&["koth", "asm", "--core=-1"], "invalid value '-1'"),
+        (
+            &["koth", "fight", "a", "b", "--seed", "4294967296"],
+            "invalid value '4294967296'",
         ),
         (
-            &["koth", "fight", "a", "b"],
-            "unrecognized subcommand 'fight'",
+            &["koth", "asm", "--core", "64", "--core", "64"],
+            "cannot be used multiple times",
         ),
+        (&["koth", "fight", "a"], "<B>"),
+        (&["koth", "fight", "a", "b", "c"], "unexpected argument 'c'"),
         (&["koth", "create", "f"], "unrecognized subcommand 'create'"),
         (
             &["koth", "submit", "f", "s"],
@@ -136,6 +147,8 @@ fn help_is_written_to_the_output(rt: HostRuntime) -> Result<(), Fail> {
         (&["koth", "help"], "Usage: koth <COMMAND>"),
         (&["koth", "asm", "--help"], "Usage: koth asm"),
         (&["koth", "help", "asm"], "Usage: koth asm"),
+        (&["koth", "fight", "-h"], "Usage: koth fight"),
+        (&["koth", "fight", "--help"], "[default: 80000]"),
     ];
     for (words, part) in rows {
         let mut input = b"".as_slice();
@@ -248,6 +261,163 @@ fn a_write_that_fails(rt: HostRuntime) -> Result<(), Fail> {
             assert_eq!(rt; status, 3);
             assert_eq!(rt; output.taken, room);
         }
+    }
+    Ok(())
+}
+
+#[test]
+fn options_give_settings(rt: HostRuntime) -> Result<(), Fail> {
+    let rows = [
+        (
+            [
+                "koth",
+                "asm",
+                "--core",
+                "64",
+                "--length",
+                "10",
+                "--distance=10",
+            ]
+            .as_slice(),
+            "DAT 0, 63\n",
+            "ORG 0\nDAT.F  $     0, $    -1\nEND\n",
+            0,
+        ),
+        (
+            &["koth", "asm", "--core=+256"],
+            "DAT 0, 255\n",
+            "ORG 0\nDAT.F  $     0, $    -1\nEND\n",
+            0,
+        ),
+        (
+            &["koth", "asm", "--length", "1"],
+            "DAT 0\nDAT 0\n",
+            "REFUSED 0 TooLong\n",
+            1,
+        ),
+    ];
+    for (words, source, text, status) in rows {
+        let mut input = source.as_bytes();
+        let ran = run_on(&rt, rt.alloc(), words, &mut input)?;
+        assert_eq!(rt; str::from_utf8(ran.output.as_slice())?, text);
+        assert_eq!(rt; ran.errors.len(), 0);
+        assert_eq!(rt; ran.status, status, "{text}");
+    }
+    Ok(())
+}
+
+#[test]
+fn settings_are_refused_before_anything_is_read(rt: HostRuntime) -> Result<(), Fail> {
+    let rows = [
+        (["--core", "63", "--cycles", "0"].as_slice(), "Core"),
+        (&["--core", "4294967295"], "Core"),
+        (&["--cycles", "0"], "Cycles"),
+        (&["--processes", "65536"], "Processes"),
+        (&["--length", "101"], "Length"),
+        (&["--distance", "99"], "Distance"),
+        (&["--core", "64"], "Distance"),
+        (&["--rounds", "1001"], "Rounds"),
+        (&["--seed", "0"], "Seed"),
+        (&["--capacity", "21"], "Capacity"),
+    ];
+    let commands = [
+        ["koth", "asm"].as_slice(),
+        &["koth", "fight", "no such file", "no such file"],
+    ];
+    for (options, field) in rows {
+        for command in commands {
+            let mut words = Vec::from_slice(rt.alloc(), command)?;
+            words.extend_from_slice(options)?;
+            let mut input = b"MOV 0, 1\n".as_slice();
+            let ran = run_on(&rt, rt.alloc(), words.as_slice(), &mut input)?;
+            let line = format!(in rt.alloc(); "BadSettings {field}\n")?;
+            assert_eq!(rt; ran.errors.as_slice(), line.as_bytes());
+            assert_eq!(rt; ran.output.len(), 0);
+            assert_eq!(rt; ran.status, 1, "{field}");
+            assert_eq!(rt; input.len(), 9);
+        }
+    }
+    Ok(())
+}
+
+/// Runs `koth fight` under small settings on two files. A file without a source is not made.
+fn fight_of(
+    rt: &(impl Files + AllocGlobal),
+    files: [&str; 2],
+    sources: [Option<&str>; 2],
+) -> Result<Ran, Fail> {
+    for i in 0..2usize {
+        if let Some(source) = sources[i] {
+            fs::write(rt, files[i], source)?;
+        }
+    }
+    let words = [
+        "koth",
+        "fight",
+        files[0],
+        files[1],
+        "--core=64",
+        "--cycles=100",
+        "--processes=8",
+        "--length=10",
+        "--distance=10",
+        "--rounds=2",
+        "--seed=1",
+        "--capacity=2",
+    ];
+    let ran = run_on(rt, rt.alloc(), words.as_slice(), &mut b"".as_slice())?;
+    for i in 0..2usize {
+        if sources[i].is_some() {
+            fs::remove_file(rt, files[i])?;
+        }
+    }
+    Ok(ran)
+}
+
+/// What `koth fight` writes and leaves with, for two sources.
+fn check_fight(
+    rt: &(impl Abort + Files + AllocGlobal),
+    older: &str,
+    younger: Option<&str>,
+    text: &str,
+    status: u8,
+) -> Result<(), Fail> {
+    let ran = fight_of(rt, ["older.red", "younger.red"], [Some(older), younger])?;
+    assert_eq!(rt; ran.output.as_slice(), text.as_bytes());
+    assert_eq!(rt; ran.errors.len(), 0);
+    assert_eq!(rt; ran.status, status, "{text}");
+    Ok(())
+}
+
+#[test]
+fn fights(rt: HostRuntime) -> Result<(), Fail> {
+    check_fight(&rt, "DAT 0,0\n", Some("DAT 0,0\n"), "1 1 0\n", 0)?;
+    check_fight(&rt, "MOV 0,1\n", Some("JMP 0\n"), "0 0 2\n", 0)?;
+    check_fight(&rt, "JMP 0\n", Some("DAT 0,0\n"), "2 0 0\n", 0)?;
+    check_fight(&rt, "DAT 0,0\n", Some("JMP 0\n"), "0 2 0\n", 0)
+}
+
+#[test]
+fn the_older_source_is_refused_first(rt: HostRuntime) -> Result<(), Fail> {
+    check_fight(&rt, "", Some("JMP\n"), "REFUSED 0 Empty\n", 1)?;
+    check_fight(&rt, "DAT 0\nJMP\n", None, "REFUSED 2 MissingOperand\n", 1)?;
+    check_fight(
+        &rt,
+        "DAT 0\n",
+        Some("JMP\n"),
+        "REFUSED 1 MissingOperand\n",
+        1,
+    )
+}
+
+#[test]
+fn files_that_are_not_there(rt: HostRuntime) -> Result<(), Fail> {
+    let rows = [(None, Some("JMP\n")), (Some("DAT 0\n"), None), (None, None)];
+    for (older, younger) in rows {
+        let ran = fight_of(&rt, ["first.red", "second.red"], [older, younger])?;
+        assert_eq!(rt; ran.output.len(), 0);
+        assert_eq!(rt; ran.errors.as_slice(), b"DISK\n".as_slice());
+        assert_eq!(rt; ran.status, 3);
     }
     Ok(())
 }

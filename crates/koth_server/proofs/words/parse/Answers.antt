@@ -1,17 +1,18 @@
 -- What clap says of its commands holds of the program's words.
-use Rattle.std.proofs.Common.{◌∙◌}
-use Rattle.koth_server.proofs.Named.{gives_asm, named, not_wrong, wrong_kind}
+use Rattle.std.proofs.Common.{subst}
+use Rattle.koth_server.specs.Words.{AsksBy}
+use Rattle.koth_server.proofs.Named.{found, gives_command, not_wrong, wrong_kind}
 use Rattle.koth_server.proofs.words.parse.Goals as goal
 
 pub request_of-requires : goal.request_of-requires
 request_of-requires c =
     let parsed = c.in-Ok-try_get_matches_from.ensures in
-    gives_asm _ _ _ c.in-Ok.ensures.app parsed.matches parsed.kinds
+    gives_command _ _ _ c.in-Ok.ensures.app parsed.matches parsed.kinds
 
 pub returns-in-Ok-try_get_matches_from-clause-request :
     goal.returns-in-Ok-try_get_matches_from-clause-request
 returns-in-Ok-try_get_matches_from-clause-request c =
-    named _ _ _ c.in-Ok.ensures.app c.in-Ok-try_get_matches_from.ensures.matches ∙ c.request_of.ensures
+    subst (λ e. AsksBy e c.request_of.result) (found _ _ _ c.in-Ok.ensures.app c.in-Ok-try_get_matches_from.ensures.matches) c.request_of.ensures
 
 pub returns-in-Ok-try_get_matches_from-clause-wrong :
     goal.returns-in-Ok-try_get_matches_from-clause-wrong

@@ -1,0 +1,23 @@
+-- The options stand one behind the other.
+use Rattle.std.proofs.Common.{◌∙◌, ap, codes}
+use Rattle.std.proofs.lemmas.Result.{IfOk-weaker}
+use Rattle.clap.specs.Words.{App}
+use Rattle.koth_server.specs.Options.{with_option}
+use Rattle.koth_server.proofs.options.with_settings.Goals as goal
+
+pub returns-clause-app : goal.returns-clause-app
+returns-clause-app c =
+    let core = c.in_ok-core.ensures.app in
+    let cycles = c.in_ok-cycles.ensures.app ∙ ap (λ (a : App). with_option a (codes "cycles")) core in
+    let processes = c.in_ok-processes.ensures.app ∙ ap (λ (a : App). with_option a (codes "processes")) cycles in
+    let length = c.in_ok-length.ensures.app ∙ ap (λ (a : App). with_option a (codes "length")) processes in
+    let distance = c.in_ok-distance.ensures.app ∙ ap (λ (a : App). with_option a (codes "distance")) length in
+    let rounds = c.in_ok-rounds.ensures.app ∙ ap (λ (a : App). with_option a (codes "rounds")) distance in
+    let seed = c.in_ok-seed.ensures.app ∙ ap (λ (a : App). with_option a (codes "seed")) rounds in
+    IfOk-weaker c.with_option-8.result _ _ (λ r is. is ∙ ap (λ (a : App). with_option a (codes "capacity")) seed) c.with_option-8.ensures.app
+
+pub returns-clause-globals : goal.returns-clause-globals
+returns-clause-globals c =
+    IfOk-weaker c.with_option-8.result _ _ (λ r is. is ∙ c.in_ok-seed.ensures.globals ∙ c.in_ok-rounds.ensures.globals
+    ∙ c.in_ok-distance.ensures.globals ∙ c.in_ok-length.ensures.globals ∙ c.in_ok-processes.ensures.globals
+    ∙ c.in_ok-cycles.ensures.globals ∙ c.in_ok-core.ensures.globals) c.with_option-8.ensures.globals

@@ -1,0 +1,67 @@
+-- The options that give settings, and the settings that they give.
+use Rattle.std.specs.Prelude.{ℕ, ◌&&◌, Bool, nat_lt, if◌then◌else◌, List, length, Option, Some, None, codes, pos}
+use Rattle.std.specs.Char.{digit_value}
+use Rattle.std.specs.List.{list_all}
+use Rattle.std.specs.Str.Parse.{digits_value, without_leading_plus}
+use Rattle.clap.specs.Words.{App, Row, Rule, Text, new_rule, one_of, with_rule}
+use Rattle.clap.specs.declared.builder.value_parser.ValueParser.TheVariants as parsers
+use Rattle.war_types.specs.declared.settings.RawSettings.{RawSettings}
+
+-- an option with a whole number of 32 bits
+abbrev pub option_rule : Text → Rule
+option_rule name = record (new_rule name) {
+  long = Some name;
+  value_names = 1;
+  parser = Some (parsers.Signed (pos 0) (pos 4294967295));
+}
+
+abbrev pub with_option : App → Text → App
+with_option app name = with_rule app (option_rule name)
+
+-- the command with an option for each setting
+abbrev pub with_settings : App → App
+with_settings app =
+    with_option (with_option (with_option (with_option (with_option (with_option (with_option (with_option app
+    (codes "core")) (codes "cycles")) (codes "processes")) (codes "length")) (codes "distance")) (codes "rounds"))
+    (codes "seed")) (codes "capacity")
+
+-- one decimal digit or more, which write a number of 32 bits
+abbrev pub is_number : Text → Bool
+is_number digits =
+    nat_lt 0 (length digits) && list_all (λ d. nat_lt (digit_value d) 10) digits && nat_lt (digits_value 10 digits) 4294967296
+
+-- the number that a text writes, a plus sign before it or not; another number where it writes none
+abbrev pub number_in : ℕ → Text → ℕ
+number_in default text =
+    if is_number (without_leading_plus text) then digits_value 10 (without_leading_plus text) else default
+
+-- the number that an option's text writes, and the default where the option isn't given (no other text is taken)
+abbrev pub number_or : ℕ → Option Text → ℕ
+number_or default None = default
+number_or default (Some text) = number_in default text
+
+-- the settings where the words give none
+abbrev pub default_settings : RawSettings
+default_settings = record {
+  core = 8000;
+  cycles = 80000;
+  processes = 8000;
+  length = 100;
+  distance = 100;
+  rounds = 10;
+  seed = 1;
+  capacity = 20;
+}
+
+-- the settings that a command's options give
+abbrev pub settings_in : List Row → RawSettings
+settings_in rows = record {
+  core = number_or default_settings.core (one_of (codes "core") rows);
+  cycles = number_or default_settings.cycles (one_of (codes "cycles") rows);
+  processes = number_or default_settings.processes (one_of (codes "processes") rows);
+  length = number_or default_settings.length (one_of (codes "length") rows);
+  distance = number_or default_settings.distance (one_of (codes "distance") rows);
+  rounds = number_or default_settings.rounds (one_of (codes "rounds") rows);
+  seed = number_or default_settings.seed (one_of (codes "seed") rows);
+  capacity = number_or default_settings.capacity (one_of (codes "capacity") rows);
+}

@@ -1,0 +1,68 @@
+//! What a command answers to a source.
+
+ghost use Rattle.std.specs.Prelude.{◌≡◌, vec_len, IfOk};
+ghost use Rattle.koth_server.specs.Answer.{refusal_line, settings_line};
+ghost use Rattle.koth_server.specs.Streams.{WritesPart};
+
+use crate::status::Status;
+use crate::stream::write_whole;
+use redcode_asm::SOURCE_LIMIT;
+use std::alloc::{AllocError, Allocator};
+use std::io::Write;
+use war_types::{AsmFault, SettingsFault};
+
+/// Bytes of a source that are read: one more than a source may have, which shows that it is too long.
+pub(crate) const READ_LIMIT: usize = SOURCE_LIMIT + 1;
+
+/// What is written, and how the program ends with it.
+#[derive(Drop)]
+pub(crate) struct Answer<A: Allocator> {
+    pub status: Status,
+    pub text: Vec<u8, A>,
+}
+
+/// A buffer for a source.
+pub(crate) fn source_buffer<A: Allocator + Copy>(alloc: A) -> Result<Vec<u8, A>, AllocError>
+    ensures { IfOk result (λ zeros. vec_len zeros ≡ 65537) }
+{
+    Vec::from_elem(alloc, 0, READ_LIMIT)
+}
+
+/// The answer to a source that is refused.
+pub(crate) fn refusal<A: Allocator + Copy>(
+    alloc: A,
+    fault: AsmFault,
+) -> Result<Answer<A>, AllocError>
+    ensures status { IfOk result (λ answer. answer.status ≡ Status.Refused) }
+    ensures text { IfOk result (λ answer. answer.text.items ≡ refusal_line fault) }
+{
+    let line = format!(in alloc; "REFUSED {} {}\n", fault.line, fault.kind.name())?;
+    Ok(Answer {
+        status: Status::Refused,
+        text: line.into_bytes(),
+    })
+}
+
+/// Tells of settings that are refused. Where the line can't be written, the status alone tells.
+pub(crate) fn refuse_settings<E: Write>(fault: SettingsFault, errors: &mut E) -> Status
+    ensures status { result ≡ Status.Refused }
+    ensures told { WritesPart (E.contents errors.old) (E.contents errors.new) (settings_line fault) }
+{
+    let _ = write_whole(errors, settings_line(fault).as_bytes());
+    Status::Refused
+}
+
+fn settings_line(fault: SettingsFault) -> &'static str
+    ensures { result.now ≡ settings_line fault }
+{
+    match fault {
+        SettingsFault::Core => "BadSettings Core\n",
+        SettingsFault::Cycles => "BadSettings Cycles\n",
+        SettingsFault::Processes => "BadSettings Processes\n",
+        SettingsFault::Length => "BadSettings Length\n",
+        SettingsFault::Distance => "BadSettings Distance\n",
+        SettingsFault::Rounds => "BadSettings Rounds\n",
+        SettingsFault::Seed => "BadSettings Seed\n",
+        SettingsFault::Capacity => "BadSettings Capacity\n",
+    }
+}

@@ -1,0 +1,100 @@
+//! The options that give settings.
+
+ghost use Rattle.std.specs.Prelude.{◌≡◌, IfOk, false};
+ghost use Rattle.clap.specs.Words.{app_of, found_of, one_of, rows_of, rule_of};
+ghost use Rattle.clap.specs.declared.builder.command.Command.TheViews.{out-Command};
+ghost use Rattle.koth_server.specs.Options.{number_or, option_rule, settings_in, with_option, with_settings};
+
+use clap::{Arg, ArgMatches, Command, value_parser};
+use std::alloc::{AllocError, Global};
+use war_types::RawSettings;
+
+/// The settings where the words give none.
+const DEFAULTS: RawSettings = RawSettings {
+    core: 8000,
+    cycles: 80_000,
+    processes: 8000,
+    length: 100,
+    distance: 100,
+    rounds: 10,
+    seed: 1,
+    capacity: 20,
+};
+
+/// The command with an option for each of the eight settings, which takes a whole number of 32 bits.
+pub(crate) fn with_settings<'a>(
+    heap: Global,
+    command: Command<'a>,
+) -> Result<Command<'a>, AllocError>
+    ensures app { IfOk result (λ c. app_of c ≡ with_settings (app_of command.entry)) }
+    ensures globals { IfOk result (λ c. (out-Command c).has_globals ≡ (out-Command command.entry).has_globals) }
+{
+    let core = with_option(heap, command, "core", "Cells of the core [default: 8000]")?;
+    let cycles = with_option(heap, core, "cycles", "Turns of each side [default: 80000]")?;
+    let processes = with_option(
+        heap,
+        cycles,
+        "processes",
+        "Processes of each side [default: 8000]",
+    )?;
+    let length = with_option(
+        heap,
+        processes,
+        "length",
+        "Instructions of a warrior [default: 100]",
+    )?;
+    let distance = with_option(
+        heap,
+        length,
+        "distance",
+        "Cells between warriors [default: 100]",
+    )?;
+    let rounds = with_option(heap, distance, "rounds", "Rounds of a match [default: 10]")?;
+    let seed = with_option(heap, rounds, "seed", "Seed of the positions [default: 1]")?;
+    with_option(heap, seed, "capacity", "Warriors on the hill [default: 20]")
+}
+
+fn with_option<'a>(
+    heap: Global,
+    command: Command<'a>,
+    name: &'a str,
+    help: &'a str,
+) -> Result<Command<'a>, AllocError>
+    ensures app { IfOk result (λ c. app_of c ≡ with_option (app_of command.entry) name.entry.now) }
+    ensures globals { IfOk result (λ c. (out-Command c).has_globals ≡ (out-Command command.entry).has_globals) }
+{
+    command.arg(option(heap, name, help))
+}
+
+fn option<'a>(heap: Global, name: &'a str, help: &'a str) -> Arg<'a>
+    ensures rule { rule_of result ≡ option_rule name.entry.now }
+    ensures global { result.global ≡ false }
+{
+    Arg::new(heap, name)
+        .long(name)
+        .value_name("NUMBER")
+        .value_parser(value_parser!(u32))
+        .help(help)
+}
+
+/// The settings that the options of a command give, with the defaults where they give none.
+pub(crate) fn settings_given(matches: &ArgMatches<'_>) -> RawSettings
+    ensures { result ≡ settings_in (rows_of (found_of matches.now)) }
+{
+    RawSettings {
+        core: number_given(matches, "core", DEFAULTS.core),
+        cycles: number_given(matches, "cycles", DEFAULTS.cycles),
+        processes: number_given(matches, "processes", DEFAULTS.processes),
+        length: number_given(matches, "length", DEFAULTS.length),
+        distance: number_given(matches, "distance", DEFAULTS.distance),
+        rounds: number_given(matches, "rounds", DEFAULTS.rounds),
+        seed: number_given(matches, "seed", DEFAULTS.seed),
+        capacity: number_given(matches, "capacity", DEFAULTS.capacity),
+    }
+}
+
+fn number_given(matches: &ArgMatches<'_>, name: &str, default: u32) -> u32
+    ensures { result ≡ number_or default (one_of name.now (rows_of (found_of matches.now))) }
+{
+    matches.get_one(name).unwrap_or(default)
+}
