@@ -1,15 +1,15 @@
 -- The hill on which a challenger stays is a hill.
-use Rattle.std.proofs.Common.{◌≡◌, ℕ, ◌+◌, ◌-◌, ◌<◌, ◌≤◌, ◌^◌, ◌⊎◌, inl, inr, Bool, true, false, cond, List, [], ◌∷◌, ◌++◌, length, refl, sym, ap, ap₂, subst, ◌∙◌, arith, suc, zero, Option, None, Some, All, length-append}
+use Rattle.std.proofs.Common.{◌≡◌, ℕ, ◌+◌, ◌<◌, ◌≤◌, ◌⊎◌, inl, inr, Bool, true, false, List, [], ◌∷◌, ◌++◌, length, refl, sym, ap, subst, ◌∙◌, arith, suc, Option, None, Some, All}
 use Rattle.std.specs.Prelude.{◌==◌, if◌then◌else◌, nat_lt}
-use Rattle.std.proofs.lemmas.Bool.{ltb-true, ltb-false, eqb-true, eq-eqb, cond-true, cond-false, cases_Bool}
+use Rattle.std.proofs.lemmas.Bool.{ltb-false, eqb-true, eq-eqb, cond-true, cond-false, cases_Bool}
 use Rattle.std.proofs.lemmas.List.{length_push}
 use Rattle.std.proofs.lemmas.List.Elements.{All-head, All-tail, All-cons, All-nil, All-push}
 use Rattle.war_types.specs.declared.settings.RawSettings.{RawSettings}
 use Rattle.war_types.specs.Warrior.{WarriorParts, Fits}
 use Rattle.koth_hill.specs.declared.verdict.Verdict.{Verdict}
-use Rattle.koth_hill.specs.Hill.{Member, Hill, hill_of, member_of, last_entry, last_entry_from, RiseFrom, MayStand, IsHill, points}
+use Rattle.koth_hill.specs.Hill.{Member, Hill, hill_of, member_of, last_entry, last_entry_from, RiseFrom, MayStand, IsHill}
 use Rattle.koth_hill.specs.Table.{rank, of_rank}
-use Rattle.koth_hill.specs.Step.{challenger, enlarged, last_of, falling, is_entry, without, one_older, stays, after_stay, step, verdict, placed_verdict}
+use Rattle.koth_hill.specs.Step.{challenger, enlarged, last_of, falling, is_entry, without, one_older, stays, after_stay, step, verdict}
 use Rattle.koth_hill.proofs.Members.{older, RiseFrom-push}
 use Rattle.koth_hill.proofs.Verdicts.{verdict-stays, verdict-placed, step-stays}
 use Rattle.koth_hill.specs.Laws.{In}

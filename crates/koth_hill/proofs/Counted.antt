@@ -1,11 +1,10 @@
 -- Of each rank from 1 to the number of members there is exactly one.
-use Rattle.std.proofs.Common.{◌≡◌, ℕ, ◌+◌, ◌-◌, ◌<◌, ◌≤◌, ◌⊎◌, inl, inr, Bool, true, false, cond, List, [], ◌∷◌, ◌++◌, length, refl, sym, ap, ap₂, subst, ◌∙◌, arith, suc, zero, Option, None, Some, length-append, add-suc}
-use Rattle.std.specs.Prelude.{◌==◌, if◌then◌else◌, nat_lt, nat_le, ◌||◌, ◌&&◌}
+use Rattle.std.proofs.Common.{◌≡◌, ℕ, ◌+◌, ◌<◌, ◌≤◌, inl, inr, Bool, true, false, List, [], ◌∷◌, length, refl, sym, ap, ap₂, subst, ◌∙◌, arith, suc, zero, length-append}
+use Rattle.std.specs.Prelude.{◌==◌, if◌then◌else◌, nat_lt, nat_le, ◌&&◌}
 use Rattle.std.proofs.lemmas.Bool.{lt-ltb, le-ltb, le-leb, lt-leb, eqb-true, eq-eqb, ne_eqb, and_from, and_left, and_right, cond-true, cond-false, cases_lt, cases_eq, cases_order, cases_Bool}
 use Rattle.war_types.specs.declared.settings.RawSettings.{RawSettings}
-use Rattle.koth_hill.specs.Hill.{Member, points, RiseFrom}
-use Rattle.koth_hill.specs.Table.{count_above, rank, of_rank, by_rank}
-use Rattle.koth_hill.specs.Step.{last_of}
+use Rattle.koth_hill.specs.Hill.{Member, RiseFrom}
+use Rattle.koth_hill.specs.Table.{rank, of_rank, by_rank}
 use Rattle.koth_hill.specs.Laws.{In}
 use Rattle.koth_hill.proofs.Order.{In-above, rank-one, rank-most}
 

@@ -1,19 +1,20 @@
 -- The laws of hills.
-use Rattle.std.proofs.Common.{◌≡◌, ℕ, ◌+◌, ◌-◌, ◌<◌, ◌≤◌, ◌⊎◌, inl, inr, Bool, true, false, cond, List, [], ◌∷◌, ◌++◌, length, map, refl, sym, ap, ap₂, subst, ◌∙◌, arith, suc, zero, Option, None, Some, add_assoc}
-use Rattle.std.specs.Prelude.{◌==◌, if◌then◌else◌, nat_lt}
+use Rattle.std.proofs.Common.{◌≡◌, ℕ, ◌+◌, ◌<◌, ◌≤◌, ◌⊎◌, inl, inr, true, false, List, [], ◌∷◌, ◌++◌, length, map, refl, sym, ap, subst, ◌∙◌, arith, suc, zero, Option, None, Some}
+use Rattle.std.specs.Prelude.{if◌then◌else◌, nat_lt}
 use Rattle.std.proofs.lemmas.Bool.{lt-ltb, le-ltb, cond-true, cond-false, cases_Bool, ne_eqb}
-use Rattle.std.proofs.lemmas.List.{length-map, length_push, map-append}
+use Rattle.std.proofs.lemmas.List.{length-map, length_push}
 use Rattle.war_types.specs.declared.settings.RawSettings.{RawSettings}
-use Rattle.war_types.specs.Warrior.{WarriorParts, Fits}
-use Rattle.koth_hill.specs.Hill.{Member, Hill, with_age, hill_of, RiseFrom, MayStand, IsHill, points}
-use Rattle.koth_hill.specs.Table.{is_above, rank, of_rank, by_rank, row_of, table_of, table, RowParts}
-use Rattle.koth_hill.specs.Step.{challenger, enlarged, last_of, falling, is_entry, without, one_older, stays, after_stay, after_fall, step}
-use Rattle.koth_hill.specs.Laws.{In, IsBefore, AreAfter, AreSorted, LawsOfTables, IsLeast, WasAged, steps, LawsOfSteps}
+use Rattle.war_types.specs.Warrior.{WarriorParts}
+use Rattle.koth_hill.specs.Hill.{Member, Hill, with_age, RiseFrom, IsHill, points}
+use Rattle.koth_hill.specs.Table.{rank, of_rank, by_rank, row_of, table, RowParts}
+use Rattle.koth_hill.specs.Step.{challenger, enlarged, last_of, falling, is_entry, without, one_older, stays, after_stay, step, verdict}
+use Rattle.koth_hill.specs.declared.verdict.Verdict.{Verdict}
+use Rattle.koth_hill.specs.Laws.{In, IsBefore, AreAfter, AreSorted, IsRanking, IsLeast, WasAged, LeastFalls, OthersStay}
 use Rattle.koth_hill.proofs.Members.{older}
-use Rattle.koth_hill.proofs.Verdicts.{step-stays, step-falls, step-settings, step-counter}
+use Rattle.koth_hill.proofs.Verdicts.{step-stays, step-falls, judged-falls}
 use Rattle.koth_hill.proofs.Order.{above-cases, above-lower, rank-most, rank-one}
 use Rattle.koth_hill.proofs.Counted.{of_rank-In, of_rank-one, one-of_rank, by_rank-all}
-use Rattle.koth_hill.proofs.Admitted.{All-In, All-from-In, In-push, without-In, IsLast, last_of-some, enlarged-rising, falling-one, IsHill-after_stay, entries-most}
+use Rattle.koth_hill.proofs.Admitted.{In-push, without-In, IsLast, last_of-some, enlarged-rising, falling-one}
 
 -- ---- tables
 
@@ -67,46 +68,21 @@ table-sorted : (h : Hill) → IsHill h → AreSorted (table h)
 unfolding table
 table-sorted h is = by_rank-sorted h.settings h.members 1 (length h.members) is.rising
 
-pub laws_of_tables : LawsOfTables
-laws_of_tables = record {
-  rank_least = λ h m here. omega arith;
-  rank_most = λ h m here. rank-most h.settings h.members m here;
-  each_once = λ h r is least most. one-of_rank h.settings h.members r is.rising least most;
-  rows = table-rows;
-  sorted = table-sorted;
-}
+pub ranking : (seen h : Hill) (rows : List RowParts) → seen ≡ h → IsHill seen → rows ≡ table h → IsRanking h rows
+ranking seen h rows view hill same =
+    let Q : Hill → Type 0 = λ x. IsHill x in
+    let is : IsHill h = subst Q view hill in
+    let P : List RowParts → Type 0 = IsRanking h in
+    let given : IsRanking h (table h) = record {
+      each = table-rows h;
+      sorted = table-sorted h is;
+      ranks = λ r least most. one-of_rank h.settings h.members r is.rising least most;
+    } in subst P (sym same) given
 
 -- ---- steps
 
-pass-hill : (h : Hill) → IsHill h → IsHill (after_fall h)
-pass-hill h is = record {
-  settings = is.settings;
-  room = is.room;
-  rising = is.rising;
-  members = All-from-In (MayStand h.settings (h.counter + 1)) h.members (λ m here.
-      let may : MayStand h.settings h.counter m = All-In (MayStand h.settings h.counter) h.members m is.members here in
-      record { entry = omega (arith, may.entry); age = omega (arith, may.entry, may.age); fits = may.fits });
-}
-
-step-hill : (h : Hill) (w : WarriorParts) → IsHill h → Fits h.settings w → IsHill (step h w)
-step-hill h w is fits =
-    let P : Hill → Type 0 = λ x. IsHill x in
-    elim (cases_Bool (stays h w)) [
-      | inl stay ↦ subst P (sym (step-stays h w stay)) (IsHill-after_stay h w is fits stay)
-      | inr falls ↦ subst P (sym (step-falls h w falls)) (pass-hill h is)
-    ]
-
-next : (a b : ℕ) → (a + 1) + b ≡ a + suc b
-next a b = omega arith
-
 plus-none : (n : ℕ) → n ≡ n + 0
 plus-none n = omega arith
-
-steps-counter : (h : Hill) (ws : List WarriorParts) → (steps h ws).counter ≡ h.counter + length ws
-steps-counter h [] = omega arith
-steps-counter h (w ∷ ws) =
-    let one : (step h w).counter ≡ h.counter + 1 = step-counter h w in
-    steps-counter (step h w) ws ∙ ap (λ (n : ℕ). n + length ws) one ∙ next h.counter (length ws)
 
 falling-room : (h : Hill) (w : WarriorParts) → length h.members < h.settings.capacity → falling h w ≡ None
 falling-room h w room =
@@ -235,14 +211,19 @@ step-keeps h w m here apart =
           subst P (sym (step-falls h w falls)) (subst R (plus-none m.age ∙ ap (λ (n : ℕ). m.age + n) (sym (cond-false (stays h w) 1 0 falls))) here)
     ]
 
-pub laws_of_steps : LawsOfSteps
-laws_of_steps = record {
-  hill = step-hill;
-  settings = step-settings;
-  counter = steps-counter;
-  room = falling-room;
-  full = falling-full;
-  least = falling-least;
-  ages = step-ages;
-  keeps = step-keeps;
-}
+pub least-falls : (seen h : Hill) (w : WarriorParts) (judged : Verdict) → seen ≡ h → IsHill seen → judged ≡ verdict h w → LeastFalls h w judged.falls
+least-falls seen h w judged view hill same =
+    let Q : Hill → Type 0 = λ x. IsHill x in
+    let is : IsHill h = subst Q view hill in
+    let P : Option ℕ → Type 0 = LeastFalls h w in
+    let given : LeastFalls h w (falling h w) = record {
+      room = falling-room h w;
+      full = falling-full h w is;
+      least = λ entry. falling-least h w entry is;
+    } in subst P (sym (judged-falls h w judged same)) given
+
+pub others-stay : (h : Hill) (w : WarriorParts) (new : Hill) → new ≡ step h w → OthersStay h w new
+others-stay h w new same =
+    let P : Hill → Type 0 = OthersStay h w in
+    let given : OthersStay h w (step h w) = record { ages = step-ages h w; keeps = step-keeps h w } in
+    subst P (sym same) given

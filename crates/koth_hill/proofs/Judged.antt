@@ -1,17 +1,17 @@
 -- The verdicts that a hill gives.
-use Rattle.std.proofs.Common.{◌≡◌, ℕ, ◌+◌, ◌<◌, ◌≤◌, Bool, true, false, cond, List, [], ◌∷◌, ◌++◌, length, map, refl, sym, ap, ap₂, subst, ◌∙◌, arith, Option, None, Some, All, Bor}
-use Rattle.std.specs.Prelude.{◌==◌, if◌then◌else◌, nat_lt}
+use Rattle.std.proofs.Common.{◌≡◌, ℕ, ◌+◌, ◌≤◌, true, false, List, [], ◌∷◌, ◌++◌, length, refl, sym, ap, ap₂, subst, ◌∙◌, arith, Option, None, Some}
+use Rattle.std.specs.Prelude.{nat_lt}
 use Rattle.std.proofs.lemmas.Bool.{cond-true, cond-false, lt-ltb, eq-eqb, eqb-true}
-use Rattle.std.proofs.lemmas.List.{length_push, append-nil}
+use Rattle.std.proofs.lemmas.List.{length_push}
 use Rattle.std.proofs.lemmas.List.Elements.{All-cons, All-nil, All-weaker}
 use Rattle.war_types.specs.declared.settings.RawSettings.{RawSettings}
 use Rattle.war_types.specs.Warrior.{WarriorParts, Fits}
 use Rattle.koth_hill.specs.declared.score.Score.{Score}
 use Rattle.koth_hill.specs.declared.verdict.Verdict.{Verdict}
-use Rattle.koth_hill.specs.Hill.{Member, Hill, hill_of, AllFit, MayStand, IsHill, points}
-use Rattle.koth_hill.specs.Table.{rank, count_above, row_of, by_rank, table_of, RowParts}
-use Rattle.koth_hill.specs.Step.{challenger, enlarged, falling, is_entry, without, one_older, stays, last_of, after_stay, verdict, placed_verdict, fallen_verdict}
-use Rattle.koth_hill.specs.Scores.{field, score_of, scores_of, last_among, rank_among}
+use Rattle.koth_hill.specs.Hill.{Member, Hill, AllFit, MayStand, IsHill, points}
+use Rattle.koth_hill.specs.Table.{rank}
+use Rattle.koth_hill.specs.Step.{challenger, enlarged, falling, is_entry, without, one_older, stays, last_of, verdict}
+use Rattle.koth_hill.specs.Scores.{field, scores_of, last_among, rank_among}
 use Rattle.koth_hill.proofs.Members.{without-None}
 use Rattle.koth_hill.proofs.Verdicts.{verdict-placed, verdict-fallen}
 use Rattle.koth_hill.proofs.Points.{points-append, points-one_older}

@@ -1,18 +1,16 @@
 -- The members of a hill: those that fall, those that stay, and their order.
-use Rattle.std.proofs.Common.{◌≡◌, ℕ, ◌+◌, ◌-◌, ◌<◌, ◌≤◌, Result, Ok, Err, Bool, true, false, cond, List, [], ◌∷◌, ◌++◌, length, take, drop, map, set, get_or, refl, sym, ap, subst, ◌∙◌, arith, Option, None, Some, suc, zero, All, add-one}
+use Rattle.std.proofs.Common.{◌≡◌, ℕ, ◌+◌, ◌-◌, ◌<◌, ◌≤◌, Result, Ok, Err, Bool, true, false, cond, List, [], ◌∷◌, ◌++◌, length, take, drop, map, set, get_or, refl, sym, ap, subst, ◌∙◌, arith, Option, None, Some, suc, zero}
 use Rattle.std.specs.Prelude.{◌==◌, if◌then◌else◌, nat_lt}
 use Rattle.std.specs.Result.{is_ok}
 use Rattle.std.specs.List.{remove, position, position_or_len}
 use Rattle.std.proofs.lemmas.List.Sums.{fails_before_first}
-use Rattle.std.proofs.lemmas.Bool.{ltb-false, eqb-true, ne_eqb, eq-eqb, cond-true, cond-false}
-use Rattle.std.proofs.lemmas.List.{length_push, length-map, take_all, drop_all, append-nil}
+use Rattle.std.proofs.lemmas.Bool.{ltb-false, eqb-true, ne_eqb, cond-true, cond-false}
+use Rattle.std.proofs.lemmas.List.{length_push, take_all, drop_all, append-nil}
 use Rattle.std.proofs.lemmas.List.Edits.{map_over_more}
-use Rattle.std.proofs.lemmas.List.Elements.{All-head, All-tail, All-cons, All-nil, All-push}
+use Rattle.std.proofs.lemmas.List.Elements.{All-push}
 use Rattle.std.proofs.lemmas.List.Quantifiers.{position-Some}
-use Rattle.war_types.specs.declared.settings.RawSettings.{RawSettings}
-use Rattle.war_types.specs.Settings.{AreSettings}
 use Rattle.war_types.specs.Warrior.{WarriorParts, Fits}
-use Rattle.koth_hill.specs.Hill.{Member, Hill, hill_of, member_of, with_age, last_entry, last_entry_from, RiseFrom, MayStand, IsHill, AllFit}
+use Rattle.koth_hill.specs.Hill.{Member, Hill, hill_of, member_of, with_age, last_entry, last_entry_from, RiseFrom, MayStand, IsHill}
 use Rattle.koth_hill.specs.Step.{is_entry, without, one_older}
 
 abbrev pub older : Member → Member

@@ -1,11 +1,11 @@
 -- The order of members by points and then by entry, and their ranks.
-use Rattle.std.proofs.Common.{◌≡◌, ℕ, ◌+◌, ◌-◌, ◌<◌, ◌≤◌, ◌⊎◌, inl, inr, Bool, true, false, cond, List, [], ◌∷◌, ◌++◌, length, refl, sym, ap, ap₂, subst, ◌∙◌, arith, suc, zero, Option, None, Some, length-append}
-use Rattle.std.specs.Prelude.{◌==◌, if◌then◌else◌, nat_lt, nat_le, ◌||◌, ◌&&◌}
-use Rattle.std.proofs.lemmas.Bool.{ltb-true, ltb-false, lt-ltb, le-ltb, le-leb, lt-leb, eqb-true, eqb-false, eq-eqb, ne_eqb, or_cases, or_left, or_right, or_from, or_parts, and_parts, and_from, and_left, and_right, and_cases, cond-true, cond-false, false_from_ne_true, cases_lt, cases_eq, cases_order, cases_Bool}
+use Rattle.std.proofs.Common.{◌≡◌, ℕ, ◌+◌, ◌<◌, ◌≤◌, ◌⊎◌, inl, inr, Bool, true, false, List, [], ◌∷◌, length, refl, sym, ap, ◌∙◌, arith, suc}
+use Rattle.std.specs.Prelude.{◌==◌, if◌then◌else◌, nat_lt, ◌||◌, ◌&&◌}
+use Rattle.std.proofs.lemmas.Bool.{ltb-true, ltb-false, lt-ltb, le-ltb, eqb-true, eqb-false, eq-eqb, or_cases, or_left, or_right, or_from, or_parts, and_parts, and_from, and_right, and_cases, false_from_ne_true, cases_Bool}
 use Rattle.war_types.specs.declared.settings.RawSettings.{RawSettings}
 use Rattle.koth_hill.specs.Hill.{Member, points, RiseFrom}
 use Rattle.koth_hill.specs.Laws.{In}
-use Rattle.koth_hill.specs.Table.{is_above, count_above, rank, of_rank, by_rank}
+use Rattle.koth_hill.specs.Table.{is_above, count_above, rank}
 
 -- ---- on numbers: points p at entry a are above points q at entry b
 

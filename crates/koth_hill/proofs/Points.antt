@@ -1,18 +1,15 @@
 -- Points against members, one behind another, and whatever their ages.
-use Rattle.std.proofs.Common.{◌≡◌, ℕ, ◌+◌, ◌<◌, ◌≤◌, Bool, true, false, cond, List, [], ◌∷◌, ◌++◌, length, map, refl, sym, ap, ap₂, subst, ◌∙◌, arith, Option, None, Some, Bor, All, add_assoc, add-zero, zero-add}
-use Rattle.std.specs.Prelude.{◌==◌, if◌then◌else◌}
+use Rattle.std.proofs.Common.{◌≡◌, ℕ, ◌+◌, List, [], ◌∷◌, ◌++◌, map, refl, sym, ap, ap₂, subst, ◌∙◌, Option, Some, Bor, add_assoc, add-zero, zero-add}
 use Rattle.std.specs.Option.{option_copied}
-use Rattle.std.proofs.lemmas.Bool.{cond-true, cond-false, ltb-true}
-use Rattle.std.proofs.lemmas.List.{append-nil, map-append}
+use Rattle.std.proofs.lemmas.List.{map-append}
 use Rattle.std.proofs.lemmas.List.Elements.{All-head}
 use Rattle.war_types.specs.declared.settings.RawSettings.{RawSettings}
-use Rattle.war_types.specs.Warrior.{WarriorParts, Fits}
+use Rattle.war_types.specs.Warrior.{Fits}
 use Rattle.koth_hill.specs.declared.score.Score.{Score}
 use Rattle.koth_hill.specs.Hill.{Member, AllFit, points, points_against}
-use Rattle.koth_hill.specs.Table.{is_above, count_above, rank}
 use Rattle.koth_hill.specs.Step.{without, one_older}
 use Rattle.koth_hill.specs.Scores.{behind, field, score_of, scores_of}
-use Rattle.koth_hill.proofs.Members.{older, one_older-map, without-None}
+use Rattle.koth_hill.proofs.Members.{older}
 
 pub points-append : (s : RawSettings) (xs ys : List Member) (e : Member) → points s (xs ++ ys) e ≡ points s xs e + points s ys e
 points-append s [] ys e = sym (zero-add (points s ys e))

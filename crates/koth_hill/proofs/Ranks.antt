@@ -1,17 +1,14 @@
 -- Ranks among scores are those among members.
-use Rattle.std.proofs.Common.{◌≡◌, ℕ, ◌+◌, ◌<◌, ◌≤◌, Bool, true, false, cond, List, [], ◌∷◌, ◌++◌, length, map, refl, sym, ap, ap₂, ◌∙◌, arith, Option, None, Some}
+use Rattle.std.proofs.Common.{◌≡◌, ℕ, ◌+◌, Bool, true, false, cond, List, [], ◌∷◌, ◌++◌, length, map, refl, sym, ap, ap₂, ◌∙◌, Option, Some}
 use Rattle.std.specs.Prelude.{◌==◌, if◌then◌else◌, count_by, nat_lt, ◌||◌, ◌&&◌}
-use Rattle.std.proofs.lemmas.Bool.{cond-true, cond-false, lt-ltb}
-use Rattle.std.proofs.lemmas.List.{length-map, length_push}
+use Rattle.std.proofs.lemmas.List.{length-map}
 use Rattle.std.proofs.lemmas.List.Recursion.{is_count_by}
 use Rattle.war_types.specs.declared.settings.RawSettings.{RawSettings}
 use Rattle.koth_hill.specs.declared.score.Score.{Score}
 use Rattle.koth_hill.specs.Hill.{Member, points}
-use Rattle.koth_hill.specs.Table.{is_above, count_above, rank, of_rank, by_rank, row_of, table_of, RowParts}
-use Rattle.koth_hill.specs.Rows.{row_with}
+use Rattle.koth_hill.specs.Table.{is_above, count_above, rank, of_rank, row_of, RowParts}
 use Rattle.koth_hill.specs.Step.{last_of, one_older}
 use Rattle.koth_hill.specs.Scores.{outranks, rank_among, last_among, score_of, scores_of, rows_of_rank}
-use Rattle.koth_hill.proofs.Members.{older}
 use Rattle.koth_hill.proofs.Points.{points-older}
 
 -- how many of these outrank a score

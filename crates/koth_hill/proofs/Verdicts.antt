@@ -1,5 +1,5 @@
 -- A challenger stays or falls: its verdict and its step.
-use Rattle.std.proofs.Common.{◌≡◌, ℕ, ◌+◌, Bool, true, false, cond, List, refl, sym, ap, ◌∙◌, inl, inr}
+use Rattle.std.proofs.Common.{◌≡◌, ℕ, ◌+◌, Bool, true, false, cond, List, Option, refl, sym, ap, ◌∙◌, inl, inr}
 use Rattle.std.proofs.lemmas.Bool.{cond-true, cond-false, cases_Bool}
 use Rattle.war_types.specs.declared.settings.RawSettings.{RawSettings}
 use Rattle.war_types.specs.Warrior.{WarriorParts}
@@ -26,6 +26,17 @@ verdict-entry h w = either-entry (stays h w) (placed_verdict h w (falling h w)) 
 -- what a judged challenger is told
 pub judged-entry : (h : Hill) (w : WarriorParts) (judged : Verdict) → judged ≡ verdict h w → judged.entry ≡ h.counter + 1
 judged-entry h w judged is = ap (λ (v : Verdict). v.entry) is ∙ verdict-entry h w
+
+either-falls : (b : Bool) (x y : Verdict) (falls : Option ℕ) → x.falls ≡ falls → y.falls ≡ falls → (cond b x y).falls ≡ falls
+either-falls true x y falls placed fallen = placed
+either-falls false x y falls placed fallen = fallen
+
+verdict-falls : (h : Hill) (w : WarriorParts) → (verdict h w).falls ≡ falling h w
+unfolding verdict
+verdict-falls h w = either-falls (stays h w) (placed_verdict h w (falling h w)) (fallen_verdict h w (falling h w)) (falling h w) refl refl
+
+pub judged-falls : (h : Hill) (w : WarriorParts) (judged : Verdict) → judged ≡ verdict h w → judged.falls ≡ falling h w
+judged-falls h w judged is = ap (λ (v : Verdict). v.falls) is ∙ verdict-falls h w
 
 pub verdict-placed : (h : Hill) (w : WarriorParts) → stays h w ≡ true → verdict h w ≡ placed_verdict h w (falling h w)
 unfolding verdict

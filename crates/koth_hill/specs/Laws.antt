@@ -1,10 +1,9 @@
 -- Laws of hills, for every hill and every warrior.
-use Rattle.std.specs.Prelude.{◌≡◌, ℕ, ◌+◌, ◌<◌, ◌≤◌, ◌⊎◌, Bool, true, false, if◌then◌else◌, List, [], ◌∷◌, length, Option, Some, None}
-use Rattle.war_types.specs.declared.settings.RawSettings.{RawSettings}
-use Rattle.war_types.specs.Warrior.{WarriorParts, Fits}
-use Rattle.koth_hill.specs.Hill.{Member, Hill, with_age, IsHill, points}
-use Rattle.koth_hill.specs.Table.{rank, of_rank, RowParts, table}
-use Rattle.koth_hill.specs.Step.{challenger, enlarged, falling, stays, step}
+use Rattle.std.specs.Prelude.{◌≡◌, ℕ, ◌+◌, ◌<◌, ◌≤◌, ◌⊎◌, if◌then◌else◌, List, [], ◌∷◌, length, Option, Some, None}
+use Rattle.war_types.specs.Warrior.{WarriorParts}
+use Rattle.koth_hill.specs.Hill.{Member, Hill, with_age, points}
+use Rattle.koth_hill.specs.Table.{of_rank, RowParts}
+use Rattle.koth_hill.specs.Step.{challenger, enlarged, falling, stays}
 
 -- one of these members
 abbrev pub In : Member → List Member → Type 0
@@ -26,16 +25,14 @@ abbrev pub AreSorted : List RowParts → Type 0
 AreSorted [] = Unit {0}
 AreSorted (x ∷ xs) = AreAfter x xs × AreSorted xs
 
-pub record LawsOfTables : Type 0 where
-  -- ranks are from 1 to the number of members
-  pub rank_least : (h : Hill) (m : Member) → In m h.members → 1 ≤ rank h.settings h.members m
-  pub rank_most : (h : Hill) (m : Member) → In m h.members → rank h.settings h.members m ≤ length h.members
-  -- and of each there is one
-  pub each_once : (h : Hill) (r : ℕ) → IsHill h → 1 ≤ r → r ≤ length h.members → length (of_rank h.settings h.members r h.members) ≡ 1
-  -- so the table has a row for each member
-  pub rows : (h : Hill) → length (table h) ≡ length h.members
-  -- sorted by points, and then by entry
-  pub sorted : (h : Hill) → IsHill h → AreSorted (table h)
+-- the lines of a hill's table are a ranking
+pub record IsRanking (h : Hill) (rows : List RowParts) : Type 0 where
+  -- a row for each member
+  pub each : length rows ≡ length h.members
+  -- each before all that follow it
+  pub sorted : AreSorted rows
+  -- and of each rank from 1 to the number of members there is one member
+  pub ranks : (r : ℕ) → 1 ≤ r → r ≤ length h.members → length (of_rank h.settings h.members r h.members) ≡ 1
 
 -- ---- steps
 
@@ -56,22 +53,17 @@ pub record WasAged (h : Hill) (w : WarriorParts) (m : Member) : Type 0 where
   pub warrior : m.warrior ≡ before.warrior
   pub age : m.age ≡ before.age + (if stays h w then 1 else 0)
 
--- the hill after these challengers, one after the other
-abbrev pub steps : Hill → List WarriorParts → Hill
-steps h [] = h
-steps h (w ∷ ws) = steps (step h w) ws
+-- who falls where the challenger comes
+pub record LeastFalls (h : Hill) (w : WarriorParts) (falls : Option ℕ) : Type 0 where
+  -- where there is room nobody
+  pub room : length h.members < h.settings.capacity → falls ≡ None
+  -- and else the last of the lowest
+  pub full : h.settings.capacity ≤ length h.members → falls ≡ None → ⊥
+  pub least : (entry : ℕ) → falls ≡ Some entry → IsLeast h w entry
 
-pub record LawsOfSteps : Type 0 where
-  -- a hill stays a hill
-  pub hill : (h : Hill) (w : WarriorParts) → IsHill h → Fits h.settings w → IsHill (step h w)
-  pub settings : (h : Hill) (w : WarriorParts) → (step h w).settings ≡ h.settings
-  -- the counter counts every warrior judged
-  pub counter : (h : Hill) (ws : List WarriorParts) → (steps h ws).counter ≡ h.counter + length ws
-  -- where there is room nobody falls, and else the last of the lowest
-  pub room : (h : Hill) (w : WarriorParts) → length h.members < h.settings.capacity → falling h w ≡ None
-  pub full : (h : Hill) (w : WarriorParts) → IsHill h → h.settings.capacity ≤ length h.members → falling h w ≡ None → ⊥
-  pub least : (h : Hill) (w : WarriorParts) (entry : ℕ) → IsHill h → falling h w ≡ Some entry → IsLeast h w entry
-  -- who is on the hill then is the challenger, or was on it before, one older exactly where the challenger stays
-  pub ages : (h : Hill) (w : WarriorParts) (m : Member) → In m (step h w).members → (m ≡ challenger h w) ⊎ WasAged h w m
-  -- and who was on it before and doesn't fall is on it then
-  pub keeps : (h : Hill) (w : WarriorParts) (m : Member) → In m h.members → (falling h w ≡ Some m.entry → ⊥) → In (with_age (m.age + (if stays h w then 1 else 0)) m) (step h w).members
+-- who is on the hill after the challenger
+pub record OthersStay (h : Hill) (w : WarriorParts) (new : Hill) : Type 0 where
+  -- the challenger, or one that was on it before, one older exactly where the challenger stays
+  pub ages : (m : Member) → In m new.members → (m ≡ challenger h w) ⊎ WasAged h w m
+  -- and all who were on it before and don't fall
+  pub keeps : (m : Member) → In m h.members → (falling h w ≡ Some m.entry → ⊥) → In (with_age (m.age + (if stays h w then 1 else 0)) m) new.members

@@ -5,6 +5,7 @@ ghost use Rattle.war_types.specs.Warrior.{WarriorParts, Fits};
 ghost use Rattle.koth_hill.specs.Hill.{IsHill, last_entry, hill_of, member_of};
 ghost use Rattle.koth_hill.specs.Table.{table};
 ghost use Rattle.koth_hill.specs.Rows.{rows_parts};
+ghost use Rattle.koth_hill.specs.Laws.{IsRanking, LeastFalls, OthersStay};
 ghost use Rattle.koth_hill.specs.Step.{falling, stays, verdict, step, after_fall, new_hill, challenger as challenger_of};
 
 use crate::falls::{grow_older, let_fall};
@@ -105,6 +106,7 @@ impl<A: Allocator> Hill<A> {
         requires counter { self.old.counter < 2 ^ 64 - 1 }
         ensures verdict { result ≡ verdict self.old challenger.now }
         ensures entry { result.entry ≡ self.old.counter + 1 }
+        ensures lowest { LeastFalls self.old challenger.now result.falls }
         ensures unchanged { self.new ≡ self.old }
         ensures arena { arena.new.settings ≡ arena.old.settings }
     {
@@ -127,6 +129,7 @@ impl<A: Allocator> Hill<A> {
         requires verdict { judged.now ≡ verdict self.old warrior }
         requires stays { judged.now.stays ≡ true }
         ensures step { self.new ≡ step self.old warrior }
+        ensures others { OthersStay self.old warrior self.new }
         ensures settings { self.new.settings ≡ self.old.settings }
         ensures counter { self.new.counter ≡ self.old.counter + 1 }
     {
@@ -161,7 +164,8 @@ impl<A: Allocator> Hill<A> {
 
     /// The table, highest score first, among equals the earlier entry first. It makes an arena of its own.
     pub fn rows<B: Allocator + Copy>(&self, alloc: B) -> Result<Vec<Row<'_>, B>, AllocError>
-        ensures { IfOk result (λ rows. rows_parts rows.items ≡ table self.now) }
+        ensures table { IfOk result (λ rows. rows_parts rows.items ≡ table self.now) }
+        ensures ranking { IfOk result (λ rows. IsRanking self.now (rows_parts rows.items)) }
     {
         let mut arena = Arena::new(alloc, &self.settings)?;
         rows_of(alloc, &mut arena, &self.settings, self.members.as_slice())

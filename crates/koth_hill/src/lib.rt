@@ -4,7 +4,6 @@
 mod falls;
 mod fights;
 mod hill;
-mod laws;
 mod member;
 mod row;
 mod score;
@@ -12,7 +11,6 @@ mod table;
 mod verdict;
 
 pub use hill::Hill;
-pub use laws::{laws_of_steps, laws_of_tables};
 pub use member::Member;
 pub use row::Row;
 pub use verdict::Verdict;

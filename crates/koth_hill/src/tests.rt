@@ -7,6 +7,8 @@ use std::alloc::Global;
 use std::test::Fail;
 use war_types::{Instr, Mode, Modifier, Op, RawSettings, Settings, Title, Warrior};
 
+mod full_hill;
+
 const SMALL: RawSettings = RawSettings {
     core: 64,
     cycles: 100,

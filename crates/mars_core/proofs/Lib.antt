@@ -3,3 +3,4 @@ pub mod Variants
 pub mod Windows
 pub mod Turns
 pub mod Loads
+pub mod Writes

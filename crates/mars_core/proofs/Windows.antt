@@ -66,27 +66,27 @@ module _ (N k n : ℕ) (xs : List ℕ) (start_in_range : k < N) (len_fits : n �
 -- a queue in the places xs, n of them from place k on; the code's limit is their number
 module _ (k n : ℕ) (xs : List ℕ) (limit : ℕ) (q : Processes) (ring : IsRing k n (length xs)) (all : limit ≡ length xs) (view : processes (length xs) (window k n xs) ≡ q) where
   -- a write behind the last place queues an address
-  pub ring-push : (x : ℕ) → n < limit → processes (length (set xs ((k + n) % limit) x)) (window k (n + 1) (set xs ((k + n) % limit) x)) ≡ queued q (x ∷ [])
-  ring-push x room =
+  pub ring-push : (x at : ℕ) → n < limit → at ≡ (k + n) % limit → processes (length (set xs at x)) (window k (n + 1) (set xs at x)) ≡ queued q (x ∷ [])
+  ring-push x at room e =
       let below : n < length xs = omega arith in
       let pushed = window_after_push (length xs) k n xs ring.head ring.len refl x below in
       let length_old = length-window (length xs) k n xs ring.head ring.len refl in
       let short : length (window k n xs ++ x ∷ []) ≤ length xs = omega (arith, length-append (window k n xs) (x ∷ [])) in
-      rw all (ap₂ processes (length-set xs ((k + n) % length xs) x) (pushed ∙ sym (take_all (length xs) (window k n xs ++ x ∷ []) short)) ∙ ap (λ p. queued p (x ∷ [])) view)
+      rw (e, all) (ap₂ processes (length-set xs ((k + n) % length xs) x) (pushed ∙ sym (take_all (length xs) (window k n xs ++ x ∷ []) short)) ∙ ap (λ p. queued p (x ∷ [])) view)
 
   -- the front goes where the next place is the first
-  pub ring-pop : 0 < n → processes (length xs) (window ((k + 1) % limit) (n - 1) xs) ≡ processes q.limit (behind_front q.addresses)
-  ring-pop some =
+  pub ring-pop : (next : ℕ) → 0 < n → next ≡ (k + 1) % limit → processes (length xs) (window next (n - 1) xs) ≡ processes q.limit (behind_front q.addresses)
+  ring-pop next some e =
       let split = window_before_pop (length xs) k n xs ring.head ring.len refl some in
-      rw all (ap (λ w. processes (length xs) (behind_front w)) (sym split) ∙ ap (λ p. processes p.limit (behind_front p.addresses)) view)
+      rw (e, all) (ap (λ w. processes (length xs) (behind_front w)) (sym split) ∙ ap (λ p. processes p.limit (behind_front p.addresses)) view)
 
   -- the address at place i from the front
-  pub ring-get : (i y : ℕ) → i < n → y ≡ get_or xs ((k + i) % limit) y → Some y ≡ slice_get q.addresses i
-  ring-get i y below read =
+  pub ring-get : (i y at : ℕ) → i < n → at ≡ (k + i) % limit → y ≡ get_or xs at y → Some y ≡ slice_get q.addresses i
+  ring-get i y at below e read =
       let length_old = length-window (length xs) k n xs ring.head ring.len refl in
       let inside : i < length (window k n xs) = omega arith in
       let here = get_or-window (length xs) k n xs ring.head ring.len refl i y below in
-      ap Some (rw all at read ∙ sym here) ∙ sym (slice_get-get_or (window k n xs) i y inside) ∙ ap (λ p. slice_get p.addresses i) view
+      ap Some (rw (e, all) at read ∙ sym here) ∙ sym (slice_get-get_or (window k n xs) i y inside) ∙ ap (λ p. slice_get p.addresses i) view
 
   pub ring-get_past : (i : ℕ) → n ≤ i → None ≡ slice_get q.addresses i
   ring-get_past i past =

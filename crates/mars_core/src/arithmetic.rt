@@ -14,26 +14,31 @@ pub(crate) enum Arithmetic {
     Remainder,
 }
 
-/// The sum of two numbers in a core of so many cells.
+/// The sum of two numbers in a core of so many cells. It is past the core once at most, so nothing is divided.
+#[inline(always)]
 pub(crate) fn plus(size: u16, m: u16, n: u16) -> u16
-    requires { 1 ≤ size }
+    requires m { m < size }
+    requires n { n ≤ size }
     ensures value { result ≡ plus size m n }
     ensures below { result < size }
 {
-    ((u32::from(m) + u32::from(n)) % u32::from(size)) as u16
+    let room = size - n;
+    if m < room { m + n } else { m - room }
 }
 
 /// The difference of two numbers in a core of so many cells.
+#[inline(always)]
 pub(crate) fn minus(size: u16, m: u16, n: u16) -> u16
-    requires some { 1 ≤ size }
-    requires number { n ≤ size }
+    requires m { m < size }
+    requires n { n ≤ size }
     ensures value { result ≡ minus size m n }
     ensures below { result < size }
 {
-    ((u32::from(m) + u32::from(size - n)) % u32::from(size)) as u16
+    if n <= m { m - n } else { m + (size - n) }
 }
 
 /// A number of the B operand with one of the A operand; nothing where it would be divided by 0.
+#[inline(always)]
 pub(crate) fn combined(size: u16, arithmetic: Arithmetic, y: u16, x: u16) -> Option<u16>
     requires x { x < size }
     requires y { y < size }

@@ -4,13 +4,12 @@ ghost use Rattle.std.specs.Prelude.{◌≡◌, ◌<◌, ◌≤◌, All};
 ghost use Rattle.war_types.specs.Warrior.{HasNumbersBelow};
 ghost use Rattle.mars_core.specs.Cells.{IsCore};
 ghost use Rattle.mars_core.specs.Round.{executed};
-ghost use Rattle.mars_core.specs.Effect.{Effect, addresses, queues, effect, skip_where, jump_where, calculates, copied, put, target};
+ghost use Rattle.mars_core.specs.Effect.{Effect, addresses, queues, effect, skip_where, jump_where, calculates, put, target};
 
 use crate::arithmetic::{Arithmetic, plus};
+use crate::copying::copy_to;
 use crate::operand::{Operand, cell, evaluate, put};
-use crate::registers::{
-    all_lowered, are_equal, are_less, are_zero, calculated, copied, fall_to_zero,
-};
+use crate::registers::{all_lowered, are_equal, are_less, are_zero, calculated, fall_to_zero};
 use war_types::{Instr, Modifier, Op};
 
 /// The addresses that an operation queues in place of the process that was executed.
@@ -24,8 +23,10 @@ pub(crate) enum Queued {
 }
 
 /// Executes the instruction at `pc` in a core of so many cells: A is evaluated wholly before B.
+#[inline(always)]
 #[tactic(auto, unfolding(crate::specs::Round::executed))]
 pub(crate) fn execute(core: &mut [Instr], size: u16, pc: u16) -> Queued
+    requires wide { 2 ≤ size }
     requires core { IsCore size core.old }
     requires pc { pc < size }
     ensures value { executed size core.old pc ≡ queues core.new (addresses result) }
@@ -39,9 +40,12 @@ pub(crate) fn execute(core: &mut [Instr], size: u16, pc: u16) -> Queued
 }
 
 /// Executes an instruction that stands at `pc`, once its operands are evaluated, in a core of so many cells.
+#[inline(always)]
 #[tactic(auto, unfolding(crate::specs::Effect::effect))]
 fn effect(core: &mut [Instr], size: u16, pc: u16, i: Instr, a: Operand, b: Operand) -> Queued
+    requires wide { 2 ≤ size }
     requires core { IsCore size core.old }
+    requires pc { pc < size }
     requires a { a.pointer < size }
     requires a_numbers { HasNumbersBelow size a.register }
     requires b { b.pointer < size }
@@ -55,13 +59,7 @@ fn effect(core: &mut [Instr], size: u16, pc: u16, i: Instr, a: Operand, b: Opera
     match i.op {
         Op::Dat => Queued::Nothing,
         Op::Mov => {
-            let target = cell(core, size, b.pointer);
-            put(
-                core,
-                size,
-                b.pointer,
-                copied(size, modifier, a.register, target),
-            );
+            copy_to(core, size, modifier, a.register, b.pointer);
             Queued::One(next)
         }
         Op::Add => calculates(core, size, pc, Arithmetic::Sum, modifier, a, b),
@@ -86,6 +84,7 @@ fn effect(core: &mut [Instr], size: u16, pc: u16, i: Instr, a: Operand, b: Opera
 }
 
 /// An operation on numbers: each target field gets the value of its pair, where it has one.
+#[inline(always)]
 fn calculates(
     core: &mut [Instr],
     size: u16,
@@ -96,6 +95,7 @@ fn calculates(
     b: Operand,
 ) -> Queued
     requires core { IsCore size core.old }
+    requires pc { pc < size }
     requires a_numbers { HasNumbersBelow size a.register }
     requires b { b.pointer < size }
     requires b_numbers { HasNumbersBelow size b.register }
@@ -114,8 +114,9 @@ fn calculates(
 }
 
 /// Queues the A pointer where the test holds, and the next instruction elsewhere.
+#[inline(always)]
 fn jump_where(size: u16, pc: u16, a: Operand, test: bool) -> Queued
-    requires some { 1 ≤ size }
+    requires pc { pc < size }
     requires a { a.pointer < size }
     ensures value { addresses result ≡ jump_where size pc a test }
     ensures addresses { All (λ a. a < size) (addresses result) }
@@ -128,8 +129,10 @@ fn jump_where(size: u16, pc: u16, a: Operand, test: bool) -> Queued
 }
 
 /// Queues the next instruction, or the one after it where the test holds.
+#[inline(always)]
 fn skip_where(size: u16, pc: u16, test: bool) -> Queued
-    requires { 1 ≤ size }
+    requires wide { 2 ≤ size }
+    requires pc { pc < size }
     ensures value { addresses result ≡ skip_where size pc test }
     ensures addresses { All (λ a. a < size) (addresses result) }
 {

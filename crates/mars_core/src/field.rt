@@ -3,7 +3,7 @@
 ghost use Rattle.std.specs.Prelude.{◌≡◌, ℕ, ◌<◌};
 ghost use Rattle.war_types.specs.Warrior.{HasNumbersBelow};
 ghost use Rattle.mars_core.specs.Cells.{number, with_number};
-ghost use Rattle.mars_core.specs.Pairs.{pairs};
+ghost use Rattle.mars_core.specs.Pairs.{pairs, listed};
 
 use war_types::{Instr, Modifier};
 
@@ -16,6 +16,7 @@ pub(crate) enum Field {
 
 impl Field {
     /// This number of an instruction.
+    #[inline(always)]
     pub(crate) fn of(self, i: Instr) -> u16
         ensures value { result ≡ number self i }
         ensures below { (size : ℕ) → HasNumbersBelow size i → result < size }
@@ -27,6 +28,7 @@ impl Field {
     }
 
     /// The instruction with another such number.
+    #[inline(always)]
     pub(crate) fn with(self, n: u16, i: Instr) -> Instr
         ensures value { result ≡ with_number self n i }
         ensures below { (size : ℕ) → HasNumbersBelow size i → n < size → HasNumbersBelow size result }
@@ -66,15 +68,23 @@ const B_TO_A: Pair = Pair {
 };
 
 /// The pairs that a modifier names, in the order in which they are written.
-pub(crate) fn pairs(modifier: Modifier) -> &'static [Pair]
-    ensures { result.now ≡ pairs modifier }
+#[derive(Clone, Copy, Debug, PartialEq, Eq)]
+pub(crate) enum Paired {
+    One(Pair),
+    Two(Pair, Pair),
+}
+
+/// The pairs that a modifier names.
+#[inline(always)]
+pub(crate) fn pairs(modifier: Modifier) -> Paired
+    ensures { listed result ≡ pairs modifier }
 {
     match modifier {
-        Modifier::A => &[A_TO_A],
-        Modifier::B => &[B_TO_B],
-        Modifier::AB => &[A_TO_B],
-        Modifier::BA => &[B_TO_A],
-        Modifier::F | Modifier::I => &[A_TO_A, B_TO_B],
-        Modifier::X => &[A_TO_B, B_TO_A],
+        Modifier::A => Paired::One(A_TO_A),
+        Modifier::B => Paired::One(B_TO_B),
+        Modifier::AB => Paired::One(A_TO_B),
+        Modifier::BA => Paired::One(B_TO_A),
+        Modifier::F | Modifier::I => Paired::Two(A_TO_A, B_TO_B),
+        Modifier::X => Paired::Two(A_TO_B, B_TO_A),
     }
 }

@@ -3,6 +3,7 @@
 
 mod arena;
 mod arithmetic;
+mod copying;
 mod effect;
 mod field;
 mod load;

@@ -2,7 +2,7 @@
 
 ghost use Rattle.std.specs.Prelude.{◌≡◌, ◌<◌, slice_set};
 ghost use Rattle.war_types.specs.Warrior.{HasNumbersBelow};
-ghost use Rattle.mars_core.specs.Cells.{IsCore, cell};
+ghost use Rattle.mars_core.specs.Cells.{IsCore, cell, with_number};
 ghost use Rattle.mars_core.specs.Operand.{evaluated, found, through, raised_at, lowered_at, indirect, predecremented, postincremented, operand};
 
 use crate::arithmetic::{minus, plus};
@@ -30,10 +30,12 @@ pub(crate) struct Operand {
 
 /// The operand of this mode and number in the instruction at `pc`, in a core of so many cells. An indirect mode
 /// may raise or lower a number of the cell that it goes through.
+#[inline(always)]
 #[tactic(auto, unfolding(crate::specs::Operand::operand))]
 pub(crate) fn evaluate(core: &mut [Instr], size: u16, pc: u16, mode: Mode, number: u16) -> Operand
     requires core { IsCore size core.old }
     requires pc { pc < size }
+    requires number { number < size }
     ensures value { operand size core.old pc mode number ≡ evaluated result core.new }
     ensures core { IsCore size core.new }
     ensures pointer { result.pointer < size }
@@ -53,6 +55,7 @@ pub(crate) fn evaluate(core: &mut [Instr], size: u16, pc: u16, mode: Mode, numbe
 }
 
 /// The instruction at an address.
+#[inline(always)]
 pub(crate) fn cell(core: &[Instr], size: u16, at: u16) -> Instr
     requires core { IsCore size core.now }
     requires address { at < size }
@@ -62,6 +65,7 @@ pub(crate) fn cell(core: &[Instr], size: u16, at: u16) -> Instr
     core[usize::from(at)]
 }
 
+#[inline(always)]
 fn found(core: &[Instr], size: u16, pointer: u16) -> Operand
     requires core { IsCore size core.now }
     requires pointer { pointer < size }
@@ -76,6 +80,7 @@ fn found(core: &[Instr], size: u16, pointer: u16) -> Operand
 }
 
 /// An operand that points on from the cell at an address, by one of that cell's numbers.
+#[inline(always)]
 fn indirect(core: &[Instr], size: u16, at: u16, field: Field) -> Operand
     requires core { IsCore size core.now }
     requires address { at < size }
@@ -87,6 +92,7 @@ fn indirect(core: &[Instr], size: u16, at: u16, field: Field) -> Operand
     found(core, size, plus(size, at, field.of(through)))
 }
 
+#[inline(always)]
 fn predecremented(core: &mut [Instr], size: u16, at: u16, field: Field) -> Operand
     requires core { IsCore size core.old }
     requires address { at < size }
@@ -95,12 +101,12 @@ fn predecremented(core: &mut [Instr], size: u16, at: u16, field: Field) -> Opera
     ensures pointer { result.pointer < size }
     ensures register { HasNumbersBelow size result.register }
 {
-    let through = cell(core, size, at);
-    let lowered = minus(size, field.of(through), 1);
-    put(core, size, at, field.with(lowered, through));
+    let lowered = minus(size, field.of(cell(core, size, at)), 1);
+    put_number(core, size, at, field, lowered);
     indirect(core, size, at, field)
 }
 
+#[inline(always)]
 fn postincremented(core: &mut [Instr], size: u16, at: u16, field: Field) -> Operand
     requires core { IsCore size core.old }
     requires address { at < size }
@@ -110,13 +116,13 @@ fn postincremented(core: &mut [Instr], size: u16, at: u16, field: Field) -> Oper
     ensures register { HasNumbersBelow size result.register }
 {
     let operand = indirect(core, size, at, field);
-    let through = cell(core, size, at);
-    let raised = plus(size, field.of(through), 1);
-    put(core, size, at, field.with(raised, through));
+    let raised = plus(size, field.of(cell(core, size, at)), 1);
+    put_number(core, size, at, field, raised);
     operand
 }
 
 /// Puts an instruction into the cell at an address.
+#[inline(always)]
 pub(crate) fn put(core: &mut [Instr], size: u16, at: u16, i: Instr)
     requires core { IsCore size core.old }
     requires address { at < size }
@@ -125,4 +131,19 @@ pub(crate) fn put(core: &mut [Instr], size: u16, at: u16, i: Instr)
     ensures core { IsCore size core.new }
 {
     core[usize::from(at)] = i;
+}
+
+/// Puts a number into the cell at an address, and leaves the rest of it.
+#[inline(always)]
+pub(crate) fn put_number(core: &mut [Instr], size: u16, at: u16, field: Field, n: u16)
+    requires core { IsCore size core.old }
+    requires address { at < size }
+    requires number { n < size }
+    ensures value { core.new ≡ slice_set core.old at (with_number field n (cell core.old at)) }
+    ensures core { IsCore size core.new }
+{
+    match field {
+        Field::A => core[usize::from(at)].a = n,
+        Field::B => core[usize::from(at)].b = n,
+    }
 }

@@ -1,6 +1,6 @@
 //! Queues of processes.
 
-ghost use Rattle.std.specs.Prelude.{◌≡◌, ℕ, ◌+◌, ◌<◌, ◌≤◌, [], ◌∷◌, List, Option, length, slice_get, IfOk};
+ghost use Rattle.std.specs.Prelude.{◌≡◌, ℕ, ◌+◌, ◌%◌, ◌<◌, ◌≤◌, [], ◌∷◌, List, Option, length, slice_get, IfOk};
 ghost use Rattle.mars_core.specs.Queue.{processes, queued, front, behind_front, is_empty};
 
 use std::alloc::{AllocError, Allocator};
@@ -59,13 +59,14 @@ impl<A: Allocator> Queue<A> {
         ensures { result ≡ slice_get self.now.addresses i }
     {
         if i < self.len {
-            Some(self.places[(self.head + i) % self.places.len()])
+            Some(self.places[wrapped(self.head + i, self.places.len())])
         } else {
             None
         }
     }
 
     /// Takes the front process.
+    #[inline(always)]
     pub(crate) fn pop(&mut self) -> Option<u16>
         ensures front { result ≡ front self.old.addresses }
         ensures rest { self.new ≡ processes self.old.limit (behind_front self.old.addresses) }
@@ -74,18 +75,19 @@ impl<A: Allocator> Queue<A> {
             return None;
         }
         let address = self.places[self.head];
-        self.head = (self.head + 1) % self.places.len();
+        self.head = wrapped(self.head + 1, self.places.len());
         self.len -= 1;
         Some(address)
     }
 
     /// Queues a process behind the others, where there is room.
+    #[inline(always)]
     pub(crate) fn push(&mut self, address: u16)
         ensures { self.new ≡ queued self.old (address ∷ []) }
     {
         let limit = self.places.len();
         if self.len < limit {
-            self.places[(self.head + self.len) % limit] = address;
+            self.places[wrapped(self.head + self.len, limit)] = address;
             self.len += 1;
         }
     }
@@ -98,4 +100,14 @@ impl<A: Allocator> Queue<A> {
         self.head = 0;
         self.len = 1;
     }
+}
+
+/// A place that is past the end once at most, counted from the beginning again.
+#[inline(always)]
+fn wrapped(place: usize, limit: usize) -> usize
+    requires { place < limit + limit }
+    ensures value { result ≡ place % limit }
+    ensures inside { result < limit }
+{
+    if place < limit { place } else { place - limit }
 }

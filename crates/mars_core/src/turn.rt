@@ -1,6 +1,6 @@
 //! The turn of a side.
 
-ghost use Rattle.std.specs.Prelude.{◌≡◌, false};
+ghost use Rattle.std.specs.Prelude.{◌≡◌, ◌≤◌, false};
 ghost use Rattle.mars_core.specs.Cells.{IsCore};
 ghost use Rattle.mars_core.specs.Queue.{is_empty};
 ghost use Rattle.mars_core.specs.Round.{side_turn, side_turned, IsQueue};
@@ -14,6 +14,7 @@ use war_types::Instr;
 /// Takes the front process of a queue, executes it, and queues what it queues as far as there is room.
 #[tactic(auto, unfolding(crate::specs::Round::side_turn))]
 pub(crate) fn turn_of<A: Allocator>(core: &mut [Instr], size: u16, queue: &mut Queue<A>) -> Turned
+    requires wide { 2 ≤ size }
     requires core { IsCore size core.old }
     requires queue { IsQueue size queue.old.limit queue.old.addresses }
     ensures value { side_turn size queue.old.limit core.old queue.old.addresses ≡ side_turned core.new queue.new.addresses result }

@@ -1,4 +1,4 @@
-use Rattle.std.proofs.Common.{◌≡◌, ◌+◌, ◌<◌, ◌^◌, ◌++◌, ◌∷◌, [], ◌∙◌, List, All, length, ap, subst, sym, arith, vec_len, vec_capacity}
+use Rattle.std.proofs.Common.{◌≡◌, ◌+◌, ◌<◌, ◌^◌, ◌++◌, ◌∷◌, [], ◌∙◌, List, All, length, ap, subst, sym, arith, vec_capacity}
 use Rattle.std.specs.Vec.{with_items}
 use Rattle.std.proofs.lemmas.List.{with_items_is}
 use Rattle.koth_hill.specs.Hill.{Member, hill_of}
@@ -6,6 +6,7 @@ use Rattle.koth_hill.specs.Step.{one_older, without}
 use Rattle.koth_hill.proofs.Members.{pushed}
 use Rattle.koth_hill.proofs.Verdicts.{judged-entry}
 use Rattle.koth_hill.proofs.Admitted.{ages-fit, without-most, one_older-length, admitted-step, admitted-entry, admitted-hill}
+use Rattle.koth_hill.proofs.HillLaws.{others-stay}
 use Rattle.koth_hill.proofs.hill.Hill.admit.Given.{Over}
 use Rattle.koth_hill.proofs.hill.Hill.admit.Goals as goal
 
@@ -46,3 +47,6 @@ invariant_of-self g c =
 
 pub returns-clause-counter : goal.returns-clause-counter
 returns-clause-counter g c = judged-entry c.args.self.now c.args.warrior c.args.judged.now c.requires.verdict
+
+pub returns-clause-others : goal.returns-clause-others
+returns-clause-others g c = others-stay c.args.self.now c.args.warrior _ (returns-clause-step g c)
