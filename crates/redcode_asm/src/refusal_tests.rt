@@ -10,8 +10,10 @@ use war_types::AsmKind;
 fn smallest_sources(rt: HostRuntime) -> Result<(), Fail> {
     let settings = defaults()?;
     for (source, refusal) in [
-        ("x EQU 1", "1 BadOperation"),
+        ("FOR 1", "1 BadOperation"),
         ("x\nx", "2 DuplicateName"),
+        ("EQU 1", "1 BadEqu"),
+        ("a EQU a\nDAT a", "2 EquLimit"),
         ("=", "1 BadToken"),
         ("+", "1 BadOperation"),
         ("PIN", "1 Pspace"),
@@ -86,6 +88,16 @@ fn lines_with_a_fault(rt: HostRuntime) -> Result<(), Fail> {
         ("DAT 0\n;assert ,1", "2 MissingOperand"),
         ("DAT 0\n;assert 1,foo", "2 ExtraText"),
         ("DAT 0\n;assert foo,", "2 UnknownName"),
+        // EQU
+        ("x EQU MOV 0, 1", "1 BadEqu"),
+        ("x EQU", "1 BadEqu"),
+        ("x\nEQU 1", "2 BadEqu"),
+        ("x EQU 1\nX x EQU 1", "2 DuplicateName"),
+        ("x EQU ?\nDAT x", "2 BadToken"),
+        ("m EQU I\nMOV.m 0, 1", "2 BadModifier"),
+        ("p EQU 1\nPIN p", "2 Pspace"),
+        ("m EQU 1,2\nDAT\n;assert m", "3 ExtraText"),
+        ("a EQU b b\nb EQU a a\nDAT 0, a", "3 EquLimit"),
     ] {
         match printed(rt.alloc(), source.as_bytes(), &settings) {
             Ok(_) => assert!(rt; false, "{source:?} is accepted"),
@@ -104,6 +116,8 @@ fn order_of_faults(rt: HostRuntime) -> Result<(), Fail> {
     let settings = defaults()?;
     for (source, refusal) in [
         ("SPL\nDAT foo\nx\nx", "4 DuplicateName"),
+        ("DAT foo\nDAT a\na EQU a\nEQU 1", "4 BadEqu"),
+        ("DAT ?\na EQU a\nDAT a\n;assert a", "3 EquLimit"),
         ("SPL\nDAT 9223372036854775808", "1 MissingOperand"),
         ("DAT foo\nDAT ?", "1 UnknownName"),
         ("ORG 0\nDAT 0\nEND foo", "3 UnknownName"),
@@ -148,6 +162,35 @@ fn limits(rt: HostRuntime) -> Result<(), Fail> {
             Err(fault) => Some((fault.line, fault.kind)),
         };
         assert_eq!(rt; refused, refusal, "{count} lines");
+    }
+    Ok(())
+}
+
+/// Chains of names are followed 16 deep, and doublings up to 512 tokens.
+#[test]
+fn rounds_of_replacement(rt: HostRuntime) -> Result<(), Fail> {
+    let settings = defaults()?;
+    let chain =
+        "y0 EQU y1\ny1 EQU y2\ny2 EQU y3\ny3 EQU y4\ny4 EQU y5\ny5 EQU y6\ny6 EQU y7\ny7 EQU y8\ny8 EQU y9\ny9 EQU y10\ny10 EQU y11\ny11 EQU y12\ny12 EQU y13\ny13 EQU y14\ny14 EQU y15\n";
+    let double =
+        "x0 EQU x1+x1\nx1 EQU x2+x2\nx2 EQU x3+x3\nx3 EQU x4+x4\nx4 EQU x5+x5\nx5 EQU x6+x6\nx6 EQU x7+x7\nx7 EQU x8+x8\nx8 EQU 1\n";
+    for (lines, others, answer) in [
+        (chain, "y15 EQU 7\nDAT y0", Ok(7)),
+        (
+            chain,
+            "y15 EQU y16\ny16 EQU 7\nDAT y0",
+            Err((18, AsmKind::EquLimit)),
+        ),
+        (double, "DAT x0", Ok(256)),
+        (double, "DAT 0, x0", Err((10, AsmKind::EquLimit))),
+    ] {
+        let mut source = Vec::from_slice(rt.alloc(), lines.as_bytes())?;
+        source.extend_from_slice(others.as_bytes())?;
+        let found = match assemble(rt.alloc(), source.as_slice(), &settings) {
+            Ok(warrior) => Ok(warrior.code()[0].b),
+            Err(fault) => Err((fault.line, fault.kind)),
+        };
+        assert_eq!(rt; found, answer, "{others:?}");
     }
     Ok(())
 }

@@ -117,6 +117,28 @@ fn names_and_expressions(rt: HostRuntime) -> Result<(), Fail> {
             "ORG 0\nDAT.F  $     0, $   100\nEND\n",
         ),
         ("x: y & DAT y-x", "ORG 0\nDAT.F  $     0, $     0\nEND\n"),
+        (
+            "x EQU 3+4\nDAT 0, x*2",
+            "ORG 0\nDAT.F  $     0, $    11\nEND\n",
+        ),
+        (
+            "a EQU b+1\nb EQU 2\nDAT 0, a*2",
+            "ORG 0\nDAT.F  $     0, $     4\nEND\n",
+        ),
+        (
+            "m EQU .AB 1\nMOV m, 2",
+            "ORG 0\nMOV.AB $     1, $     2\nEND\n",
+        ),
+        // what a body names is seen from the line that uses it
+        (
+            "c EQU CURLINE, x\nDAT 0\nx DAT c\n;assert n == 3\nn EQU 3",
+            "ORG 0\nDAT.F  $     0, $     0\nDAT.F  $     1, $     0\nEND\n",
+        ),
+        // the labels before the last one stand at the next instruction
+        (
+            "DAT 0\na b EQU 5\nJMP a, b\nu EQU u\nv EQU ?",
+            "ORG 0\nDAT.F  $     0, $     0\nJMP.B  $     0, $     5\nEND\n",
+        ),
     ] {
         match printed(rt.alloc(), source.as_bytes(), &settings) {
             Ok(found) => assert_eq!(rt; found.as_slice(), text.as_bytes(), "{source:?}"),

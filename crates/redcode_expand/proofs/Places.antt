@@ -1,8 +1,7 @@
 -- The line at a place.
-use Rattle.std.proofs.Common.{◌≡◌, ℕ, zero, suc, ◌<◌, List, [], ◌∷◌, length, get_or, refl, ap, arith}
+use Rattle.std.proofs.Common.{◌≡◌, ℕ, zero, suc, ◌<◌, List, [], ◌∷◌, length, get_or, ap, arith}
 use Rattle.redcode_expand.specs.Walk.{ExpandedLine}
 use Rattle.redcode_expand.specs.Expansion.{title_at, tokens_at}
-use Rattle.redcode_text.specs.Tokens.{Piece}
 
 pub title_at-get_or : (lines : List ExpandedLine) (i : ℕ) (line : ExpandedLine) → i < length lines → line ≡ get_or lines i line → line.title ≡ title_at lines i
 title_at-get_or [] i line h e = absurd (omega arith)

@@ -1,5 +1,5 @@
 -- What stands at the front of a list, and what is behind it.
-use Rattle.std.proofs.Common.{◌≡◌, ℕ, suc, ◌-◌, ◌≤◌, Bool, true, false, if◌then◌else◌, List, [], ◌∷◌, length, take, map, refl, sym, ap, ◌∙◌, arith}
+use Rattle.std.proofs.Common.{◌≡◌, suc, ◌-◌, ◌≤◌, Bool, true, false, if◌then◌else◌, List, [], ◌∷◌, length, take, refl, ap, arith}
 use Rattle.redcode_expand.specs.Word.{taken_while, dropped_while}
 
 length-by : {X : Type 0} (b : Bool) (x : X) (ys xs : List X) → length ys ≤ length xs → length (if b then ys else x ∷ xs) ≤ length (x ∷ xs)

@@ -7,6 +7,7 @@ use Rattle.redcode_expand.specs.declared.line.LineKind.{LineKind}
 use Rattle.redcode_expand.specs.declared.line.LineKind.TheVariants as lines
 use Rattle.redcode_expand.specs.Gives.{fault_at}
 use Rattle.redcode_text.specs.Tokens.{Piece}
+use Rattle.redcode_expand.specs.Equ.{replaced}
 use Rattle.redcode_expand.specs.Name.{LabelList}
 use Rattle.redcode_expand.specs.Expansion.{Expansion, ExpandedLine, expansion}
 
@@ -40,7 +41,7 @@ labels_and_lines : gives (codes "ORG start\nbomb DAT #0\nstart b: ADD 4 ; c\n\nJ
     ∷ (5, (lines.Operation, (2, ([], codes "JMP" ∷ codes "x" ∷ []))))
     ∷ [])
     ((codes "bomb", 0) ∷ (codes "start", 1) ∷ (codes "b", 1) ∷ (codes "x", 3) ∷ [])
-unfolding expansion
+unfolding expansion replaced
 labels_and_lines = refl
 
 titles_and_assertions : gives (codes ";name  Imp \n;Author\n;ASSERT\t1,x ;c\n;names\n;assert0\n;assert;x\n; name")
@@ -49,7 +50,7 @@ titles_and_assertions : gives (codes ";name  Imp \n;Author\n;ASSERT\t1,x ;c\n;na
     ∷ (3, (lines.Assert, (0, ([], codes "1" ∷ codes "," ∷ codes "x" ∷ []))))
     ∷ [])
     []
-unfolding expansion
+unfolding expansion replaced
 titles_and_assertions = refl
 
 other_lines : gives (codes "here:\nx PIN ?\nLDP\nFOO 0 DAT\nEND\nDAT")
@@ -60,7 +61,7 @@ other_lines : gives (codes "here:\nx PIN ?\nLDP\nFOO 0 DAT\nEND\nDAT")
     ∷ (5, (lines.End, (1, ([], codes "END" ∷ []))))
     ∷ [])
     ((codes "here", 0) ∷ (codes "x", 0) ∷ (codes "FOO", 1) ∷ [])
-unfolding expansion
+unfolding expansion replaced
 other_lines = refl
 
 from_redcode : gives (codes "x x\nROF\n ;ReDcOdEx\nDAT\n;redcode\nX NOP\nEND\n;redcode")
@@ -69,25 +70,98 @@ from_redcode : gives (codes "x x\nROF\n ;ReDcOdEx\nDAT\n;redcode\nX NOP\nEND\n;r
     ∷ (7, (lines.End, (2, ([], codes "END" ∷ []))))
     ∷ [])
     ((codes "X", 1) ∷ [])
-unfolding expansion
+unfolding expansion replaced
 from_redcode = refl
 
 second_definition : refused (codes "x DAT 0\nX DAT 0\nx DAT 1") (fault_at 3 kinds.DuplicateName)
-unfolding expansion
+unfolding expansion replaced
 second_definition = refl
 
 predefined_label : refused (codes "coresize DAT 0\nCORESIZE DAT 0") (fault_at 2 kinds.DuplicateName)
-unfolding expansion
+unfolding expansion replaced
 predefined_label = refl
 
 misspelt_twice : refused (codes "MVO 0, 1\nMVO 0, 1") (fault_at 2 kinds.DuplicateName)
-unfolding expansion
+unfolding expansion replaced
 misspelt_twice = refl
 
 label_twice_on_a_line : refused (codes "x & x : DAT") (fault_at 1 kinds.DuplicateName)
-unfolding expansion
+unfolding expansion replaced
 label_twice_on_a_line = refl
 
 block_first : refused (codes "x DAT 0\nx DAT 1\ni for 2\nROF") (fault_at 3 kinds.BadOperation)
-unfolding expansion
+unfolding expansion replaced
 block_first = refl
+
+-- ---- EQU
+
+-- the body stands for the name as tokens, not as a value
+body_as_tokens : gives (codes "x EQU 3+4 ; seven\nDAT 0, x*2")
+    ((2, (lines.Operation, (0, ([], codes "DAT" ∷ codes "0" ∷ codes "," ∷ codes "3" ∷ codes "+" ∷ codes "4" ∷ codes "*" ∷ codes "2" ∷ [])))) ∷ [])
+    []
+unfolding expansion replaced
+body_as_tokens = refl
+
+-- a name may be defined by a later line, and one body may name another
+later_name : gives (codes "a EQU b+1\nb EQU 2\nDAT a*2")
+    ((3, (lines.Operation, (0, ([], codes "DAT" ∷ codes "2" ∷ codes "+" ∷ codes "1" ∷ codes "*" ∷ codes "2" ∷ [])))) ∷ [])
+    []
+unfolding expansion replaced
+later_name = refl
+
+-- the labels before the last one stand at the next instruction; a dot of a body is one of the line
+labels_before_the_name : gives (codes "DAT\nx: y & m EQU .AB 1\nz MOV m\nORG m")
+    ((1, (lines.Operation, (0, ([], codes "DAT" ∷ []))))
+    ∷ (3, (lines.Operation, (1, ([], codes "MOV" ∷ codes "." ∷ codes "AB" ∷ codes "1" ∷ []))))
+    ∷ (4, (lines.Org, (2, ([], codes "ORG" ∷ codes "." ∷ codes "AB" ∷ codes "1" ∷ []))))
+    ∷ [])
+    ((codes "x", 1) ∷ (codes "y", 1) ∷ (codes "z", 1) ∷ [])
+unfolding expansion replaced
+labels_before_the_name = refl
+
+-- assertions are replaced, commas and all; titles, PIN lines and other lines are not
+kinds_of_lines : gives (codes ";assert m,m\n;name m\nPIN m\n+ m\nm EQU 1\nEND m")
+    ((1, (lines.Assert, (0, ([], codes "1" ∷ codes "," ∷ codes "1" ∷ []))))
+    ∷ (2, (lines.Name, (0, (codes " m", []))))
+    ∷ (3, (lines.Other, (0, ([], codes "PIN" ∷ codes "m" ∷ []))))
+    ∷ (4, (lines.Other, (0, ([], codes "+" ∷ codes "m" ∷ []))))
+    ∷ (6, (lines.End, (0, ([], codes "END" ∷ codes "1" ∷ []))))
+    ∷ [])
+    []
+unfolding expansion replaced
+kinds_of_lines = refl
+
+-- the names after a dot behind an operation are the modifier's
+modifier_left_alone : gives (codes "I EQU 5\nMOV.I I")
+    ((2, (lines.Operation, (0, ([], codes "MOV" ∷ codes "." ∷ codes "I" ∷ codes "5" ∷ [])))) ∷ [])
+    []
+unfolding expansion replaced
+modifier_left_alone = refl
+
+cycle : refused (codes "a EQU b b\nb EQU a a\nDAT 0, a") (fault_at 3 kinds.EquLimit)
+unfolding expansion replaced
+cycle = refl
+
+unused_cycle : gives (codes "a EQU a\nDAT") ((2, (lines.Operation, (0, ([], codes "DAT" ∷ [])))) ∷ []) []
+unfolding expansion replaced
+unused_cycle = refl
+
+no_name : refused (codes "EQU 3") (fault_at 1 kinds.BadEqu)
+unfolding expansion replaced
+no_name = refl
+
+no_body : refused (codes "x EQU ; none") (fault_at 1 kinds.BadEqu)
+unfolding expansion replaced
+no_body = refl
+
+word_in_a_body : refused (codes "x EQU 1, pin") (fault_at 1 kinds.BadEqu)
+unfolding expansion replaced
+word_in_a_body = refl
+
+name_twice : refused (codes "x EQU 1\nx EQU") (fault_at 2 kinds.DuplicateName)
+unfolding expansion replaced
+name_twice = refl
+
+label_and_name : refused (codes "x DAT\nx x EQU 1") (fault_at 2 kinds.DuplicateName)
+unfolding expansion replaced
+label_and_name = refl

@@ -1,5 +1,5 @@
 -- The expanded lines and the labels of a source, or the first fault in the order of the refusals.
-use Rattle.std.specs.Prelude.{ℕ, zero, suc, nat_lt, if◌then◌else◌, List, [], ◌∷◌, length, drop, Option, Some, None, Result, Ok, Err, codes}
+use Rattle.std.specs.Prelude.{ℕ, zero, suc, ◌-◌, nat_lt, if◌then◌else◌, List, [], ◌∷◌, ◌++◌, length, take, drop, Option, Some, None, Result, Ok, Err, codes}
 use Rattle.war_types.specs.declared.fault.AsmKind.TheVariants as kinds
 use Rattle.war_types.specs.declared.fault.AsmFault.{AsmFault}
 use Rattle.war_types.specs.declared.settings.RawSettings.{RawSettings}
@@ -13,6 +13,7 @@ use Rattle.redcode_expand.specs.declared.word.Word.TheVariants as words
 use Rattle.redcode_expand.specs.Gives.{◌>>=◌, fault_at}
 use Rattle.redcode_expand.specs.Source.{NumberedLine, directive_of, live_lines}
 use Rattle.redcode_expand.specs.Word.{has_text, line_word, statement_tokens}
+use Rattle.redcode_expand.specs.Equ.{EquList, replaced}
 use Rattle.redcode_expand.specs.Name.{LabelList}
 use Rattle.redcode_expand.specs.Walk.{WalkState, walk, walk_begin}
 pub use Rattle.redcode_expand.specs.Name.{address_of, predefined}
@@ -41,10 +42,19 @@ operands_of lines.Name tokens = []
 operands_of lines.Author tokens = []
 operands_of lines.Other tokens = []
 
--- the operands of a line are 512 tokens at most; the first line with more is refused
-abbrev pub within_limits : List ExpandedLine → Result (Unit {0}) AsmFault
-within_limits [] = Ok tt
-within_limits (line ∷ others) = if nat_lt 512 (length (operands_of line.kind line.tokens)) then Err (fault_at line.source_line kinds.EquLimit) else within_limits others
+-- the tokens before them
+abbrev pub before_operands : LineKind → List Piece → List Piece
+before_operands kind tokens = take (length tokens - length (operands_of kind tokens)) tokens
+
+-- a line with the names of EQUs in its operands replaced
+abbrev pub line_replaced : EquList → ExpandedLine → Result ExpandedLine AsmFault
+line_replaced equs line =
+    replaced line.source_line equs (operands_of line.kind line.tokens) >>= λ operands. Ok (record line { tokens = before_operands line.kind line.tokens ++ operands })
+
+-- all lines so, or the refusal of the first that is refused
+abbrev pub all_replaced : EquList → List ExpandedLine → Result (List ExpandedLine) AsmFault
+all_replaced equs [] = Ok []
+all_replaced equs (line ∷ others) = line_replaced equs line >>= λ first. all_replaced equs others >>= λ behind. Ok (first ∷ behind)
 
 -- the word of a line, which a directive has not
 abbrev pub word_by : Option (Directive × List ℕ) → List ℕ → Option Word
@@ -60,19 +70,19 @@ refused_by None line behind = behind
 refused_by (Some words.Operation) line behind = behind
 refused_by (Some words.Org) line behind = behind
 refused_by (Some words.Pin) line behind = behind
+refused_by (Some words.Equ) line behind = behind
 refused_by (Some words.End) line behind = Ok tt
-refused_by (Some words.Equ) line behind = Err (fault_at line kinds.BadOperation)
 refused_by (Some words.For) line behind = Err (fault_at line kinds.BadOperation)
 refused_by (Some words.Rof) line behind = Err (fault_at line kinds.BadOperation)
 
--- EQU, FOR and ROF are refused for now, up to the first END
+-- FOR and ROF are refused for now, up to the first END
 abbrev pub no_blocks : List NumberedLine → Result (Unit {0}) AsmFault
 no_blocks [] = Ok tt
 no_blocks (line ∷ others) = refused_by (word_in line) line.number (no_blocks others)
 
--- what the walk has found
+-- what the walk has found, with the names of all EQUs replaced
 abbrev pub finished : WalkState → Result Expansion AsmFault
-finished st = within_limits st.lines >>= λ _. Ok (record { lines = st.lines; labels = st.labels })
+finished st = all_replaced st.names.equs st.lines >>= λ lines. Ok (record { lines = lines; labels = st.names.labels })
 
 abbrev pub expansion_of_lines : RawSettings → List NumberedLine → Result Expansion AsmFault
 expansion_of_lines s live = no_blocks live >>= λ _. walk s live walk_begin >>= finished

@@ -1,10 +1,13 @@
--- The names of a source: its labels, and those that are known before it.
-use Rattle.std.specs.Prelude.{ℕ, Bool, ◌||◌, if◌then◌else◌, List, [], ◌∷◌, ◌++◌, is_some, Option, Some, None, Result, Ok, Err, ℤ, pos, codes}
+-- The names of a source: its labels, those of its EQU lines, and those that are known before it.
+use Rattle.std.specs.Prelude.{ℕ, Bool, ◌||◌, if◌then◌else◌, List, [], ◌∷◌, ◌++◌, map, is_some, Option, Some, None, Result, Ok, Err, ℤ, pos, codes}
 use Rattle.std.specs.Str.{bytes_eq}
 use Rattle.war_types.specs.declared.fault.AsmKind.TheVariants as kinds
 use Rattle.war_types.specs.declared.fault.AsmFault.{AsmFault}
 use Rattle.war_types.specs.declared.settings.RawSettings.{RawSettings}
+use Rattle.redcode_text.specs.Tokens.{Piece}
 use Rattle.redcode_expand.specs.Gives.{◌>>=◌, fault_at}
+use Rattle.redcode_expand.specs.Word.{unplaced}
+use Rattle.redcode_expand.specs.Equ.{EquList, is_equ, is_bad_body}
 
 -- names with the addresses that they stand for, in the order of their definition
 abbrev pub LabelList : Type 0
@@ -27,15 +30,36 @@ predefined s before name =
     if bytes_eq name (codes "WARRIORS") then Some (pos 2) else (
     if bytes_eq name (codes "CURLINE") then Some (pos before) else None)))))))
 
+-- the names that a source has defined so far
+pub record Names : Type 0 where
+  pub labels : LabelList
+  pub equs : EquList
+
+abbrev pub names_of : LabelList → EquList → Names
+names_of labels equs = record { labels = labels; equs = equs }
+
 -- a name that can't be defined any more
-abbrev pub is_taken : RawSettings → LabelList → List ℕ → Bool
-is_taken s labels name = is_some (predefined s 0 name) || is_some (address_of labels name)
+abbrev pub is_taken : RawSettings → Names → List ℕ → Bool
+is_taken s names name = is_some (predefined s 0 name) || (is_some (address_of names.labels name) || is_equ names.equs name)
 
 -- a label of this name at this address
-abbrev pub defined : RawSettings → ℕ → ℕ → List ℕ → LabelList → Result LabelList AsmFault
-defined s line address name labels = if is_taken s labels name then Err (fault_at line kinds.DuplicateName) else Ok (labels ++ (name, address) ∷ [])
+abbrev pub defined : RawSettings → ℕ → ℕ → List ℕ → Names → Result Names AsmFault
+defined s line address name names =
+    if is_taken s names name then Err (fault_at line kinds.DuplicateName) else Ok (record names { labels = names.labels ++ (name, address) ∷ [] })
 
 -- labels of these names at this address, one after another
-abbrev pub all_defined : RawSettings → ℕ → ℕ → List (List ℕ) → LabelList → Result LabelList AsmFault
-all_defined s line address [] labels = Ok labels
-all_defined s line address (name ∷ names) labels = defined s line address name labels >>= all_defined s line address names
+abbrev pub all_defined : RawSettings → ℕ → ℕ → List (List ℕ) → Names → Result Names AsmFault
+all_defined s line address [] names = Ok names
+all_defined s line address (name ∷ others) names = defined s line address name names >>= all_defined s line address others
+
+-- an EQU of this name and this body
+abbrev pub equ_defined : RawSettings → ℕ → List Piece → List ℕ → Names → Result Names AsmFault
+equ_defined s line body name names =
+    if is_taken s names name then Err (fault_at line kinds.DuplicateName) else (
+    if is_bad_body body then Err (fault_at line kinds.BadEqu) else Ok (record names { equs = names.equs ++ (name, map unplaced body) ∷ [] }))
+
+-- the labels of an EQU line: the last one is its name, and those before it stand at this address
+abbrev pub equ_line : RawSettings → ℕ → ℕ → List Piece → List (List ℕ) → Names → Result Names AsmFault
+equ_line s line address body [] names = Err (fault_at line kinds.BadEqu)
+equ_line s line address body (name ∷ []) names = equ_defined s line body name names
+equ_line s line address body (name ∷ next ∷ others) names = defined s line address name names >>= equ_line s line address body (next ∷ others)

@@ -1,5 +1,5 @@
 -- The walk over the lines of a source, in the order in which they are written out.
-use Rattle.std.specs.Prelude.{ℕ, ◌+◌, ◌≤◌, Bool, true, false, nat_lt, if◌then◌else◌, List, [], ◌∷◌, ◌++◌, map, Option, Some, None, Result, Ok, Err}
+use Rattle.std.specs.Prelude.{ℕ, ◌+◌, ◌≤◌, Bool, true, false, nat_lt, if◌then◌else◌, List, [], ◌∷◌, ◌++◌, map, drop, Option, Some, None, Result, Ok, Err}
 use Rattle.war_types.specs.declared.fault.AsmKind.TheVariants as kinds
 use Rattle.war_types.specs.declared.fault.AsmFault.{AsmFault}
 use Rattle.war_types.specs.declared.settings.RawSettings.{RawSettings}
@@ -12,8 +12,8 @@ use Rattle.redcode_expand.specs.declared.word.Word.{Word}
 use Rattle.redcode_expand.specs.declared.word.Word.TheVariants as words
 use Rattle.redcode_expand.specs.Gives.{◌>>=◌, fault_at}
 use Rattle.redcode_expand.specs.Source.{NumberedLine, directive_of}
-use Rattle.redcode_expand.specs.Word.{first_word, labels_of, line_word, behind_labels, statement_tokens, unplaced}
-use Rattle.redcode_expand.specs.Name.{LabelList, all_defined}
+use Rattle.redcode_expand.specs.Word.{labels_of, line_word, behind_labels, statement_tokens, unplaced}
+use Rattle.redcode_expand.specs.Name.{Names, names_of, all_defined, equ_line}
 
 -- a line of the expanded source
 pub record ExpandedLine : Type 0 where
@@ -33,16 +33,16 @@ pub record WalkState : Type 0 where
   pub counted : ℕ
   -- instructions
   pub before : ℕ
-  pub labels : LabelList
+  pub names : Names
   pub lines : List ExpandedLine
   -- an END was met
   pub ended : Bool
 
-abbrev pub walk_state : ℕ → ℕ → LabelList → List ExpandedLine → Bool → WalkState
-walk_state counted before labels lines ended = record { counted = counted; before = before; labels = labels; lines = lines; ended = ended }
+abbrev pub walk_state : ℕ → ℕ → Names → List ExpandedLine → Bool → WalkState
+walk_state counted before names lines ended = record { counted = counted; before = before; names = names; lines = lines; ended = ended }
 
 abbrev pub walk_begin : WalkState
-walk_begin = record { counted = 0; before = 0; labels = []; lines = []; ended = false }
+walk_begin = record { counted = 0; before = 0; names = names_of [] []; lines = []; ended = false }
 
 -- a line that counts
 abbrev pub counted : ℕ → WalkState → Result WalkState AsmFault
@@ -50,7 +50,11 @@ counted line st = if nat_lt st.counted 4096 then Ok (record st { counted = st.co
 
 -- labels at the next instruction
 abbrev pub labelled : RawSettings → ℕ → List (List ℕ) → WalkState → Result WalkState AsmFault
-labelled s line names st = all_defined s line st.before names st.labels >>= λ labels. Ok (record st { labels = labels })
+labelled s line labels st = all_defined s line st.before labels st.names >>= λ names. Ok (record st { names = names })
+
+-- an EQU line
+abbrev pub equated : RawSettings → ℕ → List (List ℕ) → List Piece → WalkState → Result WalkState AsmFault
+equated s line labels body st = equ_line s line st.before body labels st.names >>= λ names. Ok (record st { names = names })
 
 -- a further line
 abbrev pub with_line : ℕ → LineKind → List ℕ → List Piece → WalkState → WalkState
@@ -73,11 +77,26 @@ placed line (Some words.Equ) tokens st = st
 placed line (Some words.For) tokens st = st
 placed line (Some words.Rof) tokens st = st
 
+abbrev pub is_equ_word : Option Word → Bool
+is_equ_word (Some words.Equ) = true
+is_equ_word (Some words.Operation) = false
+is_equ_word (Some words.For) = false
+is_equ_word (Some words.Rof) = false
+is_equ_word (Some words.Org) = false
+is_equ_word (Some words.End) = false
+is_equ_word (Some words.Pin) = false
+is_equ_word None = false
+
+-- a line by its word, with its labels and what is behind them
+abbrev pub worded : RawSettings → ℕ → Option Word → List (List ℕ) → List Piece → WalkState → Result WalkState AsmFault
+worded s line word labels tokens st =
+    if is_equ_word word then equated s line labels (drop 1 tokens) st else (labelled s line labels st >>= λ st. Ok (placed line word tokens st))
+
 -- a line that has tokens
 abbrev pub statement : RawSettings → ℕ → List Piece → WalkState → Result WalkState AsmFault
 statement s line [] st = Ok st
 statement s line (token ∷ tokens) st =
-    counted line st >>= labelled s line (labels_of (token ∷ tokens)) >>= λ st. Ok (placed line (line_word (token ∷ tokens)) (behind_labels (token ∷ tokens)) st)
+    counted line st >>= worded s line (line_word (token ∷ tokens)) (labels_of (token ∷ tokens)) (behind_labels (token ∷ tokens))
 
 -- a line that has a title
 abbrev pub titled : ℕ → LineKind → List ℕ → WalkState → Result WalkState AsmFault

@@ -1,6 +1,5 @@
 //! A line of an expanded source, with its texts.
 
-use crate::limits::operands_of;
 use crate::line::Line;
 use redcode_text::Token;
 use std::alloc::{AllocError, Allocator};
@@ -27,20 +26,13 @@ impl<'s, A: Allocator> Model for Entry<'s, A> {
 }
 
 impl<'s, A: Allocator> Entry<'s, A> {
-    ghost use Rattle.std.specs.Prelude.{◌≡◌, length};
-    ghost use Rattle.redcode_expand.specs.Expansion.{line_of, operands_of};
+    ghost use Rattle.std.specs.Prelude.{◌≡◌};
+    ghost use Rattle.redcode_expand.specs.Expansion.{line_of};
 
     pub(crate) fn line(&self) -> Line
         ensures { result ≡ line_of self.now }
     {
         self.line
-    }
-
-    /// How many tokens are operands, or an expression.
-    pub(crate) fn operand_count(&self) -> usize
-        ensures { result ≡ length (operands_of self.now.kind self.now.tokens) }
-    {
-        operands_of(self.line.kind, self.tokens.as_slice()).len()
     }
 
     pub(crate) fn title(&self) -> &[u8]

@@ -45,10 +45,12 @@ impl<'s, A: Allocator + Copy> Model for Expanded<'s, A> {
 
 /// Writes out the lines of a source.
 ///
-/// A source may not have `EQU`, `FOR` or `ROF` yet: it is refused as `BadOperation` at the first such line before the
-/// first `END`. Otherwise it is refused as `SourceTooLong`; at the first line past 4,096 that count, as `ForLimit`, or
-/// that defines a name a second time or a predefined one, as `DuplicateName`; or at the first line whose operands have
-/// more than 512 tokens, as `EquLimit`. `Memory` stands only where a growth was refused.
+/// A source may not have `FOR` or `ROF` yet: it is refused as `BadOperation` at the first such line before the first
+/// `END`. Otherwise it is refused as `SourceTooLong`; at the first line past 4,096 that count, as `ForLimit`, or that
+/// defines a name a second time or a predefined one, as `DuplicateName`, or that is an `EQU` without a name or a body, or
+/// with a reserved word in it, as `BadEqu`; or at the first line that has more than 512 tokens in its operands before or
+/// after one of 16 rounds of replacement, or the name of an `EQU` after the last, as `EquLimit`. `Memory` stands only
+/// where a growth was refused.
 #[tactic(auto, unfolding(crate::specs::Expansion::expansion))]
 pub fn expand<'s, A: Allocator + Copy>(
     alloc: A,
@@ -91,7 +93,7 @@ fn walk<'s, A: Allocator + Copy>(
     Ok(walk)
 }
 
-/// Refuses the first line whose word is `EQU`, `FOR` or `ROF`, up to the first `END`, of a source whose first line has
+/// Refuses the first line whose word is `FOR` or `ROF`, up to the first `END`, of a source whose first line has
 /// this number.
 fn check_blocks<A: Allocator + Copy>(alloc: A, first: u32, source: &[u8]) -> Result<(), AsmFault>
     requires counted { 1 ≤ first }
@@ -103,7 +105,7 @@ fn check_blocks<A: Allocator + Copy>(alloc: A, first: u32, source: &[u8]) -> Res
     while !rest.is_empty() {
         let (line, behind) = first_line(rest);
         match word_in(alloc, line)? {
-            Some(Word::Equ | Word::For | Word::Rof) => {
+            Some(Word::For | Word::Rof) => {
                 return Err(AsmFault {
                     line: number,
                     kind: AsmKind::BadOperation,
@@ -151,7 +153,8 @@ impl<'s, A: Allocator + Copy> Expanded<'s, A> {
         })
     }
 
-    /// The lines, up to and with the first `END`. Blank lines, comments, and lines of labels alone are left out.
+    /// The lines, up to and with the first `END`. Blank lines, comments, lines of labels alone and `EQU` lines are left
+    /// out.
     pub fn lines(&self) -> &[Line]
         ensures { result.now ≡ map line_of self.now.lines }
     {
@@ -174,8 +177,8 @@ impl<'s, A: Allocator + Copy> Expanded<'s, A> {
     }
 
     /// The tokens of a line: of an operation, `ORG` or `END` from that word on, of an assertion all behind its word, of
-    /// another line all behind its labels, of `;name` and `;author` none. A comment at the end is left out, and each
-    /// `at` is 0. An error is want of memory.
+    /// another line all behind its labels, of `;name` and `;author` none. In operands and expressions the names of `EQU`
+    /// lines are replaced. A comment at the end is left out, and each `at` is 0. An error is want of memory.
     pub fn tokens(&self, i: usize) -> Result<Vec<Token<'_>, A>, AllocError>
         requires { i < length self.now.lines }
         ensures { IfOk result (λ tokens. pieces tokens.items ≡ tokens_at self.now.lines i) }

@@ -3,12 +3,15 @@
 
 mod directive;
 mod entry;
+mod equs;
 mod expanded;
 mod labels;
-mod limits;
 mod line;
 mod name;
+mod names;
+mod operands;
 mod reading;
+mod replace;
 mod source;
 mod walk;
 mod word;

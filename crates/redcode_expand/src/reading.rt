@@ -56,7 +56,7 @@ fn is_front(token: &Token<'_>) -> bool
 }
 
 /// The reserved word that a token is.
-fn word_at(token: &Token<'_>) -> Option<Word>
+pub(crate) fn word_at(token: &Token<'_>) -> Option<Word>
     ensures { result ≡ word_at (piece_of token.now) }
 {
     if is_name(token) {

@@ -72,6 +72,24 @@ fn lines_and_their_texts(rt: HostRuntime) -> Result<(), Fail> {
 }
 
 #[test]
+fn names_of_equ_lines(rt: HostRuntime) -> Result<(), Fail> {
+    let source = b";assert n\nDAT.n n+m\nx n EQU 1, m ; c\n+ n\nPIN n\nm EQU ?\nu EQU u\nEND n";
+    let rows: [Row; 5] = [
+        (1, LineKind::Assert, 0, b"", b" 1 , ?"),
+        (2, LineKind::Operation, 0, b"", b" DAT . n 1 , ? + ?"),
+        (4, LineKind::Other, 1, b"", b" + n"),
+        (5, LineKind::Other, 1, b"", b" PIN n"),
+        (8, LineKind::End, 1, b"", b" END 1 , ?"),
+    ];
+    assert!(rt; are_lines(rt.alloc(), source, &rows)?);
+    let settings = defaults()?;
+    let expanded = expand(rt.alloc(), source, &settings)?;
+    assert_eq!(rt; expanded.label(b"x"), Some(1));
+    assert_eq!(rt; expanded.label(b"n"), None);
+    Ok(())
+}
+
+#[test]
 fn labels(rt: HostRuntime) -> Result<(), Fail> {
     let settings = defaults()?;
     let source = b"a DAT\nA b: & c DAT\nd\nPIN\nSTP\ne";
@@ -102,14 +120,19 @@ fn fault_of(alloc: Global, source: &[u8]) -> Result<Option<AsmFault>, Fail> {
 
 #[test]
 fn refusals(rt: HostRuntime) -> Result<(), Fail> {
-    let rows: [(&[u8], u32, AsmKind); 7] = [
+    let rows: [(&[u8], u32, AsmKind); 12] = [
         (b"x DAT 0\nx DAT 1", 2, AsmKind::DuplicateName),
         (b"CORESIZE DAT 0", 1, AsmKind::DuplicateName),
         (b"DAT\nx CURLINE", 2, AsmKind::DuplicateName),
         (b"MVO 0, 1\nMVO 0, 1", 2, AsmKind::DuplicateName),
         (b"FOO 0\nFOO 0", 2, AsmKind::DuplicateName),
-        (b"x DAT\nx DAT\ny equ 1\nEND", 3, AsmKind::BadOperation),
+        (b"x DAT\nx DAT\ny for 1\nEND", 3, AsmKind::BadOperation),
         (b"rof", 1, AsmKind::BadOperation),
+        (b"x DAT\ny x EQU", 2, AsmKind::DuplicateName),
+        (b"x\nEQU 1", 2, AsmKind::BadEqu),
+        (b"DAT a\na EQU a\nb EQU 1 dat", 3, AsmKind::BadEqu),
+        (b"a EQU b b\nb EQU a a\nDAT 0, a", 3, AsmKind::EquLimit),
+        (b";assert a\na EQU a\nx\nx", 4, AsmKind::DuplicateName),
     ];
     for (source, line, kind) in rows {
         assert_eq!(rt;
@@ -150,10 +173,9 @@ fn limits(rt: HostRuntime) -> Result<(), Fail> {
         kind: AsmKind::ForLimit,
     };
     assert_eq!(rt; fault_of(alloc, &repeated(alloc, b"DAT 0\n", 4096)?)?, None);
-    assert_eq!(rt;
-        fault_of(alloc, &repeated(alloc, b"DAT 0\n", 4097)?)?,
-        Some(many)
-    );
+    let mut lines = repeated(alloc, b"DAT 0\n", 4096)?;
+    lines.extend_from_slice(b"x EQU 1")?;
+    assert_eq!(rt; fault_of(alloc, &lines)?, Some(many));
     let wide = AsmFault {
         line: 1,
         kind: AsmKind::EquLimit,

@@ -5,18 +5,18 @@ ghost use Rattle.redcode_text.specs.Tokens.{pieces};
 ghost use Rattle.redcode_expand.specs.Gives.{Gives};
 ghost use Rattle.redcode_expand.specs.Source.{numbered_line};
 ghost use Rattle.redcode_expand.specs.Word.{may_label, names_among, taken_while};
-ghost use Rattle.redcode_expand.specs.Name.{defined, all_defined};
+ghost use Rattle.redcode_expand.specs.Name.{all_defined};
 ghost use Rattle.redcode_expand.specs.Expansion.{finished};
 ghost use Rattle.redcode_expand.specs.Walk.{walk_begin, counted, labelled, with_line, placed, statement, directed, titled, step};
 
 use crate::directive::{Directive, directive_of};
 use crate::entry::Entry;
 use crate::expanded::Expanded;
-use crate::labels::Labels;
-use crate::limits::check_limits;
 use crate::line::{Line, LineKind};
-use crate::name::predefined;
-use crate::reading::{behind_labels, is_name, line_word, may_label, without_comment};
+use crate::names::Names;
+use crate::operands::behind_first;
+use crate::reading::{behind_labels, line_word, without_comment};
+use crate::replace::replace_all;
 use crate::word::Word;
 use redcode_text::{Token, scan};
 use std::alloc::Allocator;
@@ -32,7 +32,7 @@ pub(crate) struct Walk<'s, A: Allocator + Copy> {
     alloc: A,
     counted: u32,
     before: u32,
-    labels: Labels<A>,
+    names: Names<'s, A>,
     entries: Vec<Entry<'s, A>, A>,
     ended: bool,
 }
@@ -42,9 +42,9 @@ impl<'s, A: Allocator + Copy> Model for Walk<'s, A> {
 
     ghost Value = { WalkState };
 
-    ghost view = { λ w. walk_state w.counted w.before w.labels w.entries.items w.ended };
+    ghost view = { λ w. walk_state w.counted w.before w.names w.entries.items w.ended };
 
-    ghost invariant = { λ w. IsWalk (walk_state w.counted w.before w.labels w.entries.items w.ended) };
+    ghost invariant = { λ w. IsWalk (walk_state w.counted w.before w.names w.entries.items w.ended) };
 }
 
 impl<'s, A: Allocator + Copy> Walk<'s, A> {
@@ -56,7 +56,7 @@ impl<'s, A: Allocator + Copy> Walk<'s, A> {
             alloc,
             counted: 0,
             before: 0,
-            labels: Labels::new(alloc),
+            names: Names::new(alloc),
             entries: Vec::new(alloc),
             ended: false,
         }
@@ -88,8 +88,8 @@ impl<'s, A: Allocator + Copy> Walk<'s, A> {
     pub(crate) fn finish(self) -> Result<Expanded<'s, A>, AsmFault>
         ensures { Gives (λ expanded. expanded) result (finished self.entry) }
     {
-        check_limits(self.entries.as_slice())?;
-        Expanded::new(self.alloc, self.entries, self.labels)
+        let lines = replace_all(self.alloc, &self.names.equs, self.entries.as_slice())?;
+        Expanded::new(self.alloc, lines, self.names.labels)
     }
 
     /// A line that begins with a semicolon.
@@ -140,8 +140,16 @@ impl<'s, A: Allocator + Copy> Walk<'s, A> {
         }
         let word = line_word(tokens);
         self.count(number)?;
+        let behind = behind_labels(tokens, word);
+        if matches!(word, Some(Word::Equ)) {
+            let before = self.before;
+            let body = behind_first(behind);
+            return self
+                .names
+                .equate_line(settings, number, before, word, tokens, body);
+        }
         self.label(settings, number, word, tokens)?;
-        self.place(number, word, behind_labels(tokens, word))
+        self.place(number, word, behind)
     }
 
     /// A line by its word, with what is behind its labels.
@@ -203,7 +211,8 @@ impl<'s, A: Allocator + Copy> Walk<'s, A> {
         ensures counted { self.new.counted ≡ self.old.counted }
     {
         let address = self.before;
-        define_all(&mut self.labels, settings, number, address, word, tokens)
+        self.names
+            .define_all(settings, number, address, word, tokens)
     }
 
     /// A further line of the expanded source.
@@ -229,48 +238,4 @@ impl<'s, A: Allocator + Copy> Walk<'s, A> {
         })?;
         Ok(())
     }
-}
-
-/// Defines the labels of a line with this word, one after another.
-fn define_all<A: Allocator + Copy>(
-    labels: &mut Labels<A>,
-    settings: &Settings,
-    number: u32,
-    address: u32,
-    word: Option<Word>,
-    tokens: &[Token<'_>],
-) -> Result<(), AsmFault>
-    ensures { Gives (λ _. labels.new) result (all_defined settings.now number address (names_among (taken_while (may_label word) (pieces tokens.now))) labels.old) }
-{
-    let mut rest = tokens;
-    while let [first, behind @ ..] = rest {
-        if !may_label(word, first) {
-            break;
-        }
-        if is_name(first) {
-            define(labels, settings, number, address, first.text)?;
-        }
-        rest = behind;
-    }
-    Ok(())
-}
-
-/// Defines a label, whose name must be new and not a predefined one.
-fn define<A: Allocator + Copy>(
-    labels: &mut Labels<A>,
-    settings: &Settings,
-    number: u32,
-    address: u32,
-    name: &[u8],
-) -> Result<(), AsmFault>
-    ensures { Gives (λ _. labels.new) result (defined settings.now number address name.now labels.old) }
-{
-    if predefined(settings, 0, name).is_some() || labels.address_of(name).is_some() {
-        return Err(AsmFault {
-            line: number,
-            kind: AsmKind::DuplicateName,
-        });
-    }
-    labels.add(name, address)?;
-    Ok(())
 }

@@ -1,5 +1,5 @@
-use Rattle.std.proofs.Common.{◌≡◌, List, get_or, ap, sym, ◌∙◌, subst, ◌<◌, length}
-use Rattle.redcode_expand.specs.Expansion.{ExpandedLine, Expansion, title_at}
+use Rattle.std.proofs.Common.{◌≡◌, List, get_or, ap, ◌∙◌}
+use Rattle.redcode_expand.specs.Expansion.{ExpandedLine, Expansion}
 use Rattle.redcode_expand.proofs.Places.{title_at-get_or}
 use Rattle.redcode_expand.proofs.expanded.Expanded.title.Goals as goal
 

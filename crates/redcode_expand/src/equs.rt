@@ -1,0 +1,84 @@
+//! The names of a source's EQU lines.
+
+ghost use Rattle.std.specs.Prelude.{◌≡◌, ◌++◌, ◌∷◌, [], false, OnOk};
+ghost use Rattle.redcode_text.specs.Tokens.{piece_of};
+ghost use Rattle.redcode_expand.specs.Equ.{body_at, body_of, is_equ, unplaced_all};
+
+use crate::reading::is_name;
+use indexmap::IndexMap;
+use redcode_text::Token;
+use std::alloc::{AllocError, Allocator};
+use std::hash::{BuildHasherDefault, FoldHasher};
+use std::marker::Model;
+
+/// Names with the tokens that they stand for, in the order of their definition.
+#[derive(Drop)]
+pub(crate) struct Equs<'s, A: Allocator + Copy> {
+    alloc: A,
+    bodies: IndexMap<Vec<u8, A>, Vec<Token<'s>, A>, BuildHasherDefault<FoldHasher>, A>,
+}
+
+impl<'s, A: Allocator + Copy> Model for Equs<'s, A> {
+    ghost use Rattle.std.specs.Prelude.{map};
+    ghost use Rattle.redcode_expand.specs.Equ.{EquList, unplaced_all};
+
+    ghost Value = { EquList };
+
+    ghost view = { λ e. map (λ entry. (entry.0.items, unplaced_all entry.1.items)) e.bodies.entries };
+}
+
+impl<'s, A: Allocator + Copy> Equs<'s, A> {
+    /// No names.
+    pub(crate) fn new(alloc: A) -> Self
+        ensures { result ≡ [] }
+    {
+        Equs {
+            alloc,
+            bodies: IndexMap::new(alloc),
+        }
+    }
+
+    /// Whether a name is that of an EQU.
+    pub(crate) fn is_equ(&self, name: &[u8]) -> bool
+        ensures { result ≡ is_equ self.now name.now }
+    {
+        self.bodies.get(name).is_some()
+    }
+
+    /// The tokens that a token stands for; none where it is no name of an EQU.
+    pub(crate) fn body_at(&self, token: &Token<'_>) -> &[Token<'s>]
+        ensures { unplaced_all result.now ≡ body_at self.now (piece_of token.now) }
+    {
+        if is_name(token) {
+            self.body_of(token.text)
+        } else {
+            self.no_tokens()
+        }
+    }
+
+    fn body_of(&self, name: &[u8]) -> &[Token<'s>]
+        ensures { unplaced_all result.now ≡ body_of self.now name.now }
+    {
+        match self.bodies.get(name) {
+            Some(body) => body.as_slice(),
+            None => self.no_tokens(),
+        }
+    }
+
+    fn no_tokens(&self) -> &[Token<'s>]
+        ensures { result.now ≡ [] }
+    {
+        &[]
+    }
+
+    /// Adds an EQU of a new name.
+    pub(crate) fn add(&mut self, name: &[u8], body: &[Token<'s>]) -> Result<(), AllocError>
+        requires { is_equ self.old name.now ≡ false }
+        ensures { OnOk result (self.new ≡ self.old ++ (name.now, unplaced_all body.entry.now) ∷ []) }
+    {
+        let name = Vec::from_slice(self.alloc, name)?;
+        let body = Vec::from_slice(self.alloc, body)?;
+        self.bodies.insert(name, body)?;
+        Ok(())
+    }
+}

@@ -1,0 +1,181 @@
+//! The names of a source, and the lines that define them.
+
+ghost use Rattle.std.specs.Prelude.{◌≡◌, []};
+ghost use Rattle.redcode_text.specs.Tokens.{pieces};
+ghost use Rattle.redcode_expand.specs.Gives.{Gives};
+ghost use Rattle.redcode_expand.specs.Word.{may_label, names_among, taken_while};
+ghost use Rattle.redcode_expand.specs.Equ.{has_word, is_bad_body};
+ghost use Rattle.redcode_expand.specs.Name.{is_taken, names_of, defined, all_defined, equ_defined, equ_line};
+
+use crate::equs::Equs;
+use crate::labels::Labels;
+use crate::name::predefined;
+use crate::reading::{is_name, may_label, word_at};
+use crate::word::Word;
+use redcode_text::Token;
+use std::alloc::Allocator;
+use std::marker::Model;
+use war_types::{AsmFault, AsmKind, Settings};
+
+/// The names that a source has defined so far.
+#[derive(Drop)]
+pub(crate) struct Names<'s, A: Allocator + Copy> {
+    pub labels: Labels<A>,
+    pub equs: Equs<'s, A>,
+}
+
+impl<'s, A: Allocator + Copy> Model for Names<'s, A> {
+    ghost use Rattle.redcode_expand.specs.Name.{Names, names_of};
+
+    ghost Value = { Names };
+
+    ghost view = { λ n. names_of n.labels n.equs };
+}
+
+impl<'s, A: Allocator + Copy> Names<'s, A> {
+    /// No names.
+    pub(crate) fn new(alloc: A) -> Self
+        ensures { result ≡ names_of [] [] }
+    {
+        Names {
+            labels: Labels::new(alloc),
+            equs: Equs::new(alloc),
+        }
+    }
+
+    /// Whether a name can't be defined any more: it is a label, the name of an EQU or a predefined one.
+    fn is_taken(&self, settings: &Settings, name: &[u8]) -> bool
+        ensures { result ≡ is_taken settings.now self.now name.now }
+    {
+        predefined(settings, 0, name).is_some()
+            || self.labels.address_of(name).is_some()
+            || self.equs.is_equ(name)
+    }
+
+    /// Defines a label, whose name must be new.
+    fn define(
+        &mut self,
+        settings: &Settings,
+        number: u32,
+        address: u32,
+        name: &[u8],
+    ) -> Result<(), AsmFault>
+        ensures { Gives (λ _. self.new) result (defined settings.now number address name.now self.old) }
+    {
+        if self.is_taken(settings, name) {
+            return Err(AsmFault {
+                line: number,
+                kind: AsmKind::DuplicateName,
+            });
+        }
+        self.labels.add(name, address)?;
+        Ok(())
+    }
+
+    /// Defines the labels of a line with this word, one after another.
+    pub(crate) fn define_all(
+        &mut self,
+        settings: &Settings,
+        number: u32,
+        address: u32,
+        word: Option<Word>,
+        tokens: &[Token<'_>],
+    ) -> Result<(), AsmFault>
+        ensures { Gives (λ _. self.new) result (all_defined settings.now number address (names_among (taken_while (may_label word) (pieces tokens.now))) self.old) }
+    {
+        let mut rest = tokens;
+        while let [first, behind @ ..] = rest {
+            if !may_label(word, first) {
+                break;
+            }
+            if is_name(first) {
+                self.define(settings, number, address, first.text)?;
+            }
+            rest = behind;
+        }
+        Ok(())
+    }
+
+    /// Defines the names of an EQU line: the last of its labels with this body, and those before it at this address.
+    pub(crate) fn equate_line(
+        &mut self,
+        settings: &Settings,
+        number: u32,
+        address: u32,
+        word: Option<Word>,
+        tokens: &[Token<'_>],
+        body: &[Token<'s>],
+    ) -> Result<(), AsmFault>
+        ensures { let labels = names_among (taken_while (may_label word) (pieces tokens.entry.now)) in
+            Gives (λ _. self.new) result (equ_line settings.now number address (pieces body.entry.now) labels self.old) }
+    {
+        let mut name = None;
+        let mut rest = tokens;
+        while let [first, behind @ ..] = rest {
+            if !may_label(word, first) {
+                break;
+            }
+            rest = behind;
+            if !is_name(first) {
+                continue;
+            }
+            if let Some(earlier) = name {
+                self.define(settings, number, address, earlier)?;
+            }
+            name = Some(first.text);
+        }
+        match name {
+            Some(name) => self.equate(settings, number, body, name),
+            None => Err(AsmFault {
+                line: number,
+                kind: AsmKind::BadEqu,
+            }),
+        }
+    }
+
+    /// Defines an EQU, whose name must be new and whose body must be one.
+    fn equate(
+        &mut self,
+        settings: &Settings,
+        number: u32,
+        body: &[Token<'s>],
+        name: &[u8],
+    ) -> Result<(), AsmFault>
+        ensures { Gives (λ _. self.new) result (equ_defined settings.now number (pieces body.entry.now) name.now self.old) }
+    {
+        if self.is_taken(settings, name) {
+            return Err(AsmFault {
+                line: number,
+                kind: AsmKind::DuplicateName,
+            });
+        }
+        if is_bad_body(body) {
+            return Err(AsmFault {
+                line: number,
+                kind: AsmKind::BadEqu,
+            });
+        }
+        self.equs.add(name, body)?;
+        Ok(())
+    }
+}
+
+/// Whether these tokens are no body of an EQU: there is none, or a reserved word among them.
+fn is_bad_body(tokens: &[Token<'_>]) -> bool
+    ensures { result ≡ is_bad_body (pieces tokens.now) }
+{
+    tokens.is_empty() || has_word(tokens)
+}
+
+fn has_word(tokens: &[Token<'_>]) -> bool
+    ensures { result ≡ has_word (pieces tokens.now) }
+{
+    let mut rest = tokens;
+    while let [first, behind @ ..] = rest {
+        if word_at(first).is_some() {
+            return true;
+        }
+        rest = behind;
+    }
+    false
+}
