@@ -18,3 +18,5 @@ pub mod OneHeader
 pub mod Lists
 pub mod SlotBytes
 pub mod OneSlot
+pub mod Holdings
+pub mod Decided

@@ -3,8 +3,8 @@ use Rattle.std.proofs.Common.{zero, suc, Bor, Result, is_ok, if◌then◌else◌
 use Rattle.std.proofs.lemmas.List.{take_more, take_all, take-append-drop}
 use Rattle.sector_disk.specs.Disk.{Disk}
 use Rattle.hill_store.specs.declared.reply.Reply.{Reply}
-use Rattle.hill_store.specs.Seen.{Seen, Submits}
-use Rattle.hill_store.specs.Runs.{is_disk, texts, RunsOn, Runs}
+use Rattle.hill_store.specs.Seen.{Seen}
+use Rattle.hill_store.specs.Runs.{is_disk, texts, IsSubmitted, RunsOn, Runs}
 
 -- so far no reply was `Disk`
 abbrev pub RunsOpen : {D : Type 0} → (D → ℕ) → (D → Type 0) → (D → Disk) → (D → ℕ) → Seen D → List (List ℕ) → List Reply → Seen D → Type 0
@@ -12,10 +12,10 @@ RunsOpen size is_lawful disk failures old [] [] new = new ≡ old
 RunsOpen size is_lawful disk failures old [] (reply ∷ rest) new = ⊥
 RunsOpen size is_lawful disk failures old (source ∷ sources) [] new = ⊥
 RunsOpen {D} size is_lawful disk failures old (source ∷ sources) (reply ∷ rest) new =
-    (mid : Seen D) × Submits size is_lawful disk failures old source reply mid × (is_disk reply ≡ false) × RunsOpen size is_lawful disk failures mid sources rest new
+    (mid : Seen D) × IsSubmitted size is_lawful disk failures old source reply mid × (is_disk reply ≡ false) × RunsOpen size is_lawful disk failures mid sources rest new
 
-open_more : {D : Type 0} (size : D → ℕ) (is_lawful : D → Type 0) (disk : D → Disk) (failures : D → ℕ) (old mid new : Seen D) (xs : List (List ℕ)) (rs : List Reply) (x : List ℕ) (r : Reply) → RunsOpen size is_lawful disk failures old xs rs mid → Submits size is_lawful disk failures mid x r new → is_disk r ≡ false → RunsOpen size is_lawful disk failures old (xs ++ x ∷ []) (rs ++ r ∷ []) new
-open_more size is_lawful disk failures old mid new [] [] x r runs submits goes = (new, subst (λ s. Submits size is_lawful disk failures s x r new) runs submits, goes, refl)
+open_more : {D : Type 0} (size : D → ℕ) (is_lawful : D → Type 0) (disk : D → Disk) (failures : D → ℕ) (old mid new : Seen D) (xs : List (List ℕ)) (rs : List Reply) (x : List ℕ) (r : Reply) → RunsOpen size is_lawful disk failures old xs rs mid → IsSubmitted size is_lawful disk failures mid x r new → is_disk r ≡ false → RunsOpen size is_lawful disk failures old (xs ++ x ∷ []) (rs ++ r ∷ []) new
+open_more size is_lawful disk failures old mid new [] [] x r runs submits goes = (new, subst (λ s. IsSubmitted size is_lawful disk failures s x r new) runs submits, goes, refl)
 open_more size is_lawful disk failures old mid new [] (q ∷ rs) x r runs submits goes = absurd runs
 open_more size is_lawful disk failures old mid new (y ∷ xs) [] x r runs submits goes = absurd runs
 open_more size is_lawful disk failures old mid new (y ∷ xs) (q ∷ rs) x r runs submits goes =
@@ -28,16 +28,16 @@ open_end size is_lawful disk failures old new (y ∷ xs) [] runs = absurd runs
 open_end size is_lawful disk failures old new (y ∷ xs) (q ∷ rs) runs =
     (runs.0, runs.1, subst (λ b. RunsOn size is_lawful disk failures b runs.0 xs rs new) (sym runs.2) (open_end size is_lawful disk failures runs.0 new xs rs runs.3))
 
-pub open_cut : {D : Type 0} (size : D → ℕ) (is_lawful : D → Type 0) (disk : D → Disk) (failures : D → ℕ) (old mid new : Seen D) (xs left : List (List ℕ)) (rs : List Reply) (x : List ℕ) (r : Reply) → RunsOpen size is_lawful disk failures old xs rs mid → Submits size is_lawful disk failures mid x r new → is_disk r ≡ true → Runs size is_lawful disk failures old (xs ++ x ∷ left) (rs ++ r ∷ []) new
+pub open_cut : {D : Type 0} (size : D → ℕ) (is_lawful : D → Type 0) (disk : D → Disk) (failures : D → ℕ) (old mid new : Seen D) (xs left : List (List ℕ)) (rs : List Reply) (x : List ℕ) (r : Reply) → RunsOpen size is_lawful disk failures old xs rs mid → IsSubmitted size is_lawful disk failures mid x r new → is_disk r ≡ true → Runs size is_lawful disk failures old (xs ++ x ∷ left) (rs ++ r ∷ []) new
 open_cut size is_lawful disk failures old mid new [] left [] x r runs submits cut =
-    (new, subst (λ s. Submits size is_lawful disk failures s x r new) runs submits, subst (λ b. RunsOn size is_lawful disk failures b new left [] new) (sym cut) refl)
+    (new, subst (λ s. IsSubmitted size is_lawful disk failures s x r new) runs submits, subst (λ b. RunsOn size is_lawful disk failures b new left [] new) (sym cut) refl)
 open_cut size is_lawful disk failures old mid new [] left (q ∷ rs) x r runs submits cut = absurd runs
 open_cut size is_lawful disk failures old mid new (y ∷ xs) left [] x r runs submits cut = absurd runs
 open_cut size is_lawful disk failures old mid new (y ∷ xs) left (q ∷ rs) x r runs submits cut =
     (runs.0, runs.1, subst (λ b. RunsOn size is_lawful disk failures b runs.0 (xs ++ x ∷ left) (rs ++ r ∷ []) new) (sym runs.2) (open_cut size is_lawful disk failures runs.0 mid new xs left rs x r runs.3 submits cut))
 
 -- with the source at a place
-pub open_next : {D : Type 0} (size : D → ℕ) (is_lawful : D → Type 0) (disk : D → Disk) (failures : D → ℕ) (old mid new : Seen D) (xs : List (List ℕ)) (i : ℕ) (rs more : List Reply) (x : List ℕ) (r : Reply) → i < length xs → x ≡ get_or xs i [] → more ≡ rs ++ r ∷ [] → RunsOpen size is_lawful disk failures old (take i xs) rs mid → Submits size is_lawful disk failures mid x r new → is_disk r ≡ false → RunsOpen size is_lawful disk failures old (take (i + 1) xs) more new
+pub open_next : {D : Type 0} (size : D → ℕ) (is_lawful : D → Type 0) (disk : D → Disk) (failures : D → ℕ) (old mid new : Seen D) (xs : List (List ℕ)) (i : ℕ) (rs more : List Reply) (x : List ℕ) (r : Reply) → i < length xs → x ≡ get_or xs i [] → more ≡ rs ++ r ∷ [] → RunsOpen size is_lawful disk failures old (take i xs) rs mid → IsSubmitted size is_lawful disk failures mid x r new → is_disk r ≡ false → RunsOpen size is_lawful disk failures old (take (i + 1) xs) more new
 open_next size is_lawful disk failures old mid new xs i rs more x r below at is runs submits goes =
     subst (λ ys. RunsOpen size is_lawful disk failures old ys more new) (ap (λ y. take i xs ++ y ∷ []) at ∙ sym (take_more xs i [] below))
     (subst (λ qs. RunsOpen size is_lawful disk failures old (take i xs ++ x ∷ []) qs new) (sym is) (open_more size is_lawful disk failures old mid new (take i xs) rs x r runs submits goes))
@@ -45,7 +45,7 @@ open_next size is_lawful disk failures old mid new xs i rs more x r below at is 
 split_at : (xs : List (List ℕ)) (i : ℕ) → i < length xs → (take i xs ++ get_or xs i [] ∷ []) ++ drop (i + 1) xs ≡ xs
 split_at xs i below = ap (λ ys. ys ++ drop (i + 1) xs) (sym (take_more xs i [] below)) ∙ take-append-drop (i + 1) xs
 
-pub cut_next : {D : Type 0} (size : D → ℕ) (is_lawful : D → Type 0) (disk : D → Disk) (failures : D → ℕ) (old mid new : Seen D) (xs : List (List ℕ)) (i : ℕ) (rs more : List Reply) (x : List ℕ) (r : Reply) → i < length xs → x ≡ get_or xs i [] → more ≡ rs ++ r ∷ [] → RunsOpen size is_lawful disk failures old (take i xs) rs mid → Submits size is_lawful disk failures mid x r new → is_disk r ≡ true → Runs size is_lawful disk failures old xs more new
+pub cut_next : {D : Type 0} (size : D → ℕ) (is_lawful : D → Type 0) (disk : D → Disk) (failures : D → ℕ) (old mid new : Seen D) (xs : List (List ℕ)) (i : ℕ) (rs more : List Reply) (x : List ℕ) (r : Reply) → i < length xs → x ≡ get_or xs i [] → more ≡ rs ++ r ∷ [] → RunsOpen size is_lawful disk failures old (take i xs) rs mid → IsSubmitted size is_lawful disk failures mid x r new → is_disk r ≡ true → Runs size is_lawful disk failures old xs more new
 cut_next size is_lawful disk failures old mid new xs i rs more x r below at is runs submits cut =
     subst (λ ys. Runs size is_lawful disk failures old ys more new) (ap (λ y. take i xs ++ y ∷ drop (i + 1) xs) at ∙ sym (append_assoc (take i xs) (get_or xs i [] ∷ []) (drop (i + 1) xs)) ∙ split_at xs i below)
     (subst (λ qs. Runs size is_lawful disk failures old (take i xs ++ x ∷ drop (i + 1) xs) qs new) (sym is) (open_cut size is_lawful disk failures old mid new (take i xs) (drop (i + 1) xs) rs x r runs submits cut))

@@ -6,3 +6,5 @@ pub mod Found
 pub mod Seen
 pub mod Opened
 pub mod Runs
+pub mod Holding
+pub mod Laws

@@ -5,6 +5,7 @@ use Rattle.sector_disk.specs.Disk.{Disk}
 use Rattle.hill_store.specs.declared.reply.Reply.{Reply}
 use Rattle.hill_store.specs.declared.reply.Reply.TheVariants as replies
 use Rattle.hill_store.specs.Seen.{Seen, Submits}
+use Rattle.hill_store.specs.Opened.{IsKept}
 
 abbrev pub is_disk : Reply → Bool
 is_disk replies.Disk = true
@@ -19,6 +20,11 @@ is_disk (replies.Placed entry rank score) = false
 abbrev pub texts : List (Bor (List ℕ)) → List (List ℕ)
 texts sources = map (λ source. source.now) sources
 
+-- a submission, and what holds of each run of calls of a device
+pub record IsSubmitted {D : Type 0} (size : D → ℕ) (is_lawful : D → Type 0) (disk : D → Disk) (failures : D → ℕ) (old : Seen D) (source : List ℕ) (reply : Reply) (new : Seen D) : Type 0 where
+  pub kept : IsKept size is_lawful failures old.device new.device
+  pub submits : Submits size is_lawful disk failures old source reply new
+
 -- The replies are those of these sources, each submitted to the store that the one before it left, up to and with the first `Disk`.
 -- No source is left out but those behind a `Disk`: `stopped` says that one came just before.
 abbrev pub RunsOn : {D : Type 0} → (D → ℕ) → (D → Type 0) → (D → Disk) → (D → ℕ) → Bool → Seen D → List (List ℕ) → List Reply → Seen D → Type 0
@@ -28,7 +34,7 @@ RunsOn size is_lawful disk failures false old [] [] new = new ≡ old
 RunsOn size is_lawful disk failures false old [] (reply ∷ rest) new = ⊥
 RunsOn size is_lawful disk failures false old (source ∷ sources) [] new = ⊥
 RunsOn {D} size is_lawful disk failures false old (source ∷ sources) (reply ∷ rest) new =
-    (mid : Seen D) × Submits size is_lawful disk failures old source reply mid × RunsOn size is_lawful disk failures (is_disk reply) mid sources rest new
+    (mid : Seen D) × IsSubmitted size is_lawful disk failures old source reply mid × RunsOn size is_lawful disk failures (is_disk reply) mid sources rest new
 
 abbrev pub Runs : {D : Type 0} → (D → ℕ) → (D → Type 0) → (D → Disk) → (D → ℕ) → Seen D → List (List ℕ) → List Reply → Seen D → Type 0
 Runs size is_lawful disk failures old sources replied new = RunsOn size is_lawful disk failures false old sources replied new

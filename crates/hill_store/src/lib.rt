@@ -5,12 +5,14 @@ mod durable;
 mod entries;
 mod found;
 mod header;
+mod laws;
 mod opening;
 mod reply;
 mod slot;
 mod store;
 
 pub use header::{Header, HeaderEntry, decode_header, encode_header};
+pub use laws::laws_of_storage;
 pub use reply::{Refusal, Reply};
 pub use store::Store;
 

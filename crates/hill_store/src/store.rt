@@ -1,13 +1,16 @@
 //! The store.
 
-ghost use Rattle.std.specs.Prelude.{◌≡◌, ◌⊎◌, ◌↔◌, ℕ, ◌+◌, ◌-◌, ◌^◌, ◌<◌, ◌≤◌, true, false, List, [], ◌∷◌, IfOk, IfErr, OnErr, MatchResult};
+ghost use Rattle.std.specs.Prelude.{◌≡◌, ◌⊎◌, ◌↔◌, ℕ, ◌+◌, ◌-◌, ◌^◌, ◌<◌, ◌≤◌, true, false, List, [], ◌∷◌, Option, IfOk, IfErr, OnErr, MatchResult};
 ghost use Rattle.war_types.specs.Warrior.{WarriorParts, Fits};
 ghost use Rattle.koth_hill.specs.Step.{verdict, stays, step, after_stay, after_fall};
 ghost use Rattle.koth_hill.specs.Table.{table};
 ghost use Rattle.koth_hill.specs.Rows.{rows_parts};
 ghost use Rattle.hill_store.specs.Runs.{Runs, texts};
 ghost use Rattle.hill_store.specs.Opened.{IsKept, IsCreated, IsNotCreated, IsOpened, IsNotOpened};
+ghost use Rattle.war_types.specs.declared.settings.RawSettings.{RawSettings};
 ghost use Rattle.hill_store.specs.Earned.{reply_judged};
+ghost use Rattle.hill_store.specs.Stands.{Holds};
+ghost use Rattle.hill_store.specs.Holding.{IsHolding, HoldsMore, IsDecided, IsUndecided};
 ghost use Rattle.hill_store.specs.Seen.{Seen, IsAnswered, IsCut, IsLeft, Submits, Challenges, IsRefusal};
 
 use crate::durable::{commit, place};
@@ -53,6 +56,7 @@ impl<D: Device, A: Allocator + Copy> Store<D, A> {
     pub fn create(alloc: A, mut device: D, settings: Settings) -> Result<Store<D, A>, (D, Refusal)>
         ensures kept { MatchResult result (λ store. IsKept D.size D.lawful D.failures device store.device) (λ refused. IsKept D.size D.lawful D.failures device refused.0) }
         ensures created { IfOk result (IsCreated D.size D.lawful D.disk device settings) }
+        ensures holds { IfOk result (λ store. D.lawful device → IsHolding D.size D.lawful D.disk settings [] store) }
         ensures refused { IfErr result (λ refused. IsNotCreated D.size D.lawful D.disk D.failures device settings refused.0 refused.1) }
     {
         if device.sectors() < sectors_for(settings.capacity()) {
@@ -88,6 +92,8 @@ impl<D: Device, A: Allocator + Copy> Store<D, A> {
         ensures kept { MatchResult result (λ store. IsKept D.size D.lawful D.failures device store.device) (λ refused. IsKept D.size D.lawful D.failures device refused.0) }
         ensures opened { IfOk result (IsOpened D.size D.lawful D.disk device) }
         ensures refused { IfErr result (λ refused. IsNotOpened D.size D.lawful D.disk D.failures device refused.0 refused.1) }
+        ensures holds { (s : RawSettings) (sources : List (List ℕ)) (more : Option (List ℕ)) → D.lawful device → Holds (D.size device) (D.disk device) s sources more
+            → MatchResult result (IsDecided D.size D.lawful D.disk s sources more) (λ refused. IsUndecided D.size D.disk s sources more refused.0 refused.1) }
     {
         match recover(alloc, &mut device) {
             Ok(found) => Ok(Store {
@@ -105,25 +111,27 @@ impl<D: Device, A: Allocator + Copy> Store<D, A> {
     /// Submits a source. The reply to a warrior that is placed or falls comes once that is durable.
     pub fn submit(&mut self, source: &[u8]) -> Reply
         ensures submits { Submits D.size D.lawful D.disk D.failures self.old source.now result self.new }
+        ensures holds { (s : RawSettings) (before : List (List ℕ)) → IsHolding D.size D.lawful D.disk s before self.old
+            → HoldsMore D.size D.lawful D.disk s before (source.now ∷ []) (result ∷ []) self.new }
         ensures lawful { D.lawful self.new.device ↔ D.lawful self.old.device }
         ensures size { D.size self.new.device ≡ D.size self.old.device }
+        ensures later { D.failures self.old.device ≤ D.failures self.new.device }
+        ensures worn { self.old.generation ≡ 2 ^ 64 - 1 → self.new ≡ self.old }
     {
-        if self.reopen {
-            return Reply::Reopen;
-        }
-        match assemble(self.alloc, source, self.hill.settings()) {
-            Ok(warrior) => self.challenge(warrior),
-            Err(fault) => refused(fault),
-        }
+        self.reply_to(source)
     }
 
     /// Submits these sources one after another, up to the first that is answered `Disk`, and answers the replies in their
     /// order. `Err` means that nothing was submitted.
     pub fn submit_all(&mut self, sources: &[&[u8]]) -> Result<Vec<Reply, A>, AllocError>
         ensures runs { IfOk result (λ replies. Runs D.size D.lawful D.disk D.failures self.old (texts sources.now) replies.items self.new) }
+        ensures holds { (s : RawSettings) (before : List (List ℕ)) → IsHolding D.size D.lawful D.disk s before self.old
+            → IfOk result (λ replies. HoldsMore D.size D.lawful D.disk s before (texts sources.now) replies.items self.new) }
         ensures memory { OnErr result (self.new ≡ self.old) }
         ensures lawful { D.lawful self.new.device ↔ D.lawful self.old.device }
         ensures size { D.size self.new.device ≡ D.size self.old.device }
+        ensures later { D.failures self.old.device ≤ D.failures self.new.device }
+        ensures worn { self.old.generation ≡ 2 ^ 64 - 1 → self.new ≡ self.old }
     {
         let mut replies = Vec::with_capacity(self.alloc, sources.len())?;
         for source in sources {
@@ -136,6 +144,23 @@ impl<D: Device, A: Allocator + Copy> Store<D, A> {
         Ok(replies)
     }
 
+    /// Assembles a source, and has its warrior judged.
+    fn reply_to(&mut self, source: &[u8]) -> Reply
+        ensures submits { Submits D.size D.lawful D.disk D.failures self.old source.now result self.new }
+        ensures lawful { D.lawful self.new.device ↔ D.lawful self.old.device }
+        ensures size { D.size self.new.device ≡ D.size self.old.device }
+        ensures later { D.failures self.old.device ≤ D.failures self.new.device }
+        ensures worn { self.old.generation ≡ 2 ^ 64 - 1 → self.new ≡ self.old }
+    {
+        if self.reopen {
+            return Reply::Reopen;
+        }
+        match assemble(self.alloc, source, self.hill.settings()) {
+            Ok(warrior) => self.challenge(warrior),
+            Err(fault) => refused(fault),
+        }
+    }
+
     /// Judges a warrior, and makes the outcome durable.
     fn challenge(&mut self, warrior: Warrior<A>) -> Reply
         requires is_open { self.old.reopen ≡ false }
@@ -143,6 +168,8 @@ impl<D: Device, A: Allocator + Copy> Store<D, A> {
         ensures challenges { Challenges D.size D.lawful D.disk D.failures self.old warrior result self.new }
         ensures lawful { D.lawful self.new.device ↔ D.lawful self.old.device }
         ensures size { D.size self.new.device ≡ D.size self.old.device }
+        ensures later { D.failures self.old.device ≤ D.failures self.new.device }
+        ensures worn { self.old.generation ≡ 2 ^ 64 - 1 → self.new ≡ self.old }
     {
         if self.header.generation() == u64::MAX {
             return Reply::Worn;
@@ -165,6 +192,7 @@ impl<D: Device, A: Allocator + Copy> Store<D, A> {
         ensures challenges { Challenges D.size D.lawful D.disk D.failures self.old warrior result self.new }
         ensures lawful { D.lawful self.new.device ↔ D.lawful self.old.device }
         ensures size { D.size self.new.device ≡ D.size self.old.device }
+        ensures later { D.failures self.old.device ≤ D.failures self.new.device }
     {
         let slot = free_slot(self.header.entries());
         let header = header_placed(&self.header, judged.falls, slot);
@@ -187,6 +215,7 @@ impl<D: Device, A: Allocator + Copy> Store<D, A> {
         ensures challenges { (w : WarriorParts) → judged.now ≡ verdict self.old.hill w → Challenges D.size D.lawful D.disk D.failures self.old w result self.new }
         ensures lawful { D.lawful self.new.device ↔ D.lawful self.old.device }
         ensures size { D.size self.new.device ≡ D.size self.old.device }
+        ensures later { D.failures self.old.device ≤ D.failures self.new.device }
     {
         let header = header_passed(&self.header);
         match commit(&mut self.device, &header) {

@@ -1,7 +1,8 @@
 use super::*;
 use koth_hill::Row;
-use sector_disk::{Device, FuseDevice, FuseKind, MemoryDevice};
-use std::alloc::Global;
+use refusing::Refusing;
+use sector_disk::{Device, Fault, FuseDevice, FuseKind, MemoryDevice};
+use std::alloc::{Allocator, Global};
 use std::test::Fail;
 use war_types::{AsmFault, AsmKind, RawSettings, Settings};
 
@@ -17,7 +18,10 @@ const SMALL: RawSettings = RawSettings {
 };
 
 /// A hill of two without warriors, on a device that was blank.
-fn created<D: Device + Drop>(alloc: Global, device: D) -> Result<Store<D, Global>, Fail> {
+fn created<D: Device + Drop, A: Allocator + Copy>(
+    alloc: A,
+    device: D,
+) -> Result<Store<D, A>, Fail> {
     match Store::create(alloc, device, Settings::new(SMALL)?) {
         Ok(store) => Ok(store),
         Err(_) => Err("it is created".into()),
@@ -29,6 +33,50 @@ fn opened<D: Device + Drop>(alloc: Global, device: D) -> Result<Store<D, Global>
         Ok(store) => Ok(store),
         Err(_) => Err("it opens".into()),
     }
+}
+
+/// Counts the calls of read, write and sync.
+#[derive(Drop)]
+struct Counting<D> {
+    inner: D,
+    calls: u32,
+}
+
+impl<D: Device> Device for Counting<D> {
+    ghost disk = { λ c. D.disk c.inner };
+
+    ghost size = { λ c. D.size c.inner };
+
+    ghost lawful = { λ c. D.lawful c.inner };
+
+    ghost failures = { λ c. D.failures c.inner };
+
+    fn sectors(&self) -> u32 {
+        self.inner.sectors()
+    }
+
+    fn faults(&self) -> u64 {
+        self.inner.faults()
+    }
+
+    fn read(&mut self, n: u32, to: &mut [u8; 512]) -> Result<(), Fault> {
+        self.calls = self.calls.saturating_add(1);
+        self.inner.read(n, to)
+    }
+
+    fn write(&mut self, n: u32, from: &[u8; 512]) -> Result<(), Fault> {
+        self.calls = self.calls.saturating_add(1);
+        self.inner.write(n, from)
+    }
+
+    fn sync(&mut self) -> Result<(), Fault> {
+        self.calls = self.calls.saturating_add(1);
+        self.inner.sync()
+    }
+}
+
+fn counted(inner: MemoryDevice<Global>) -> Counting<MemoryDevice<Global>> {
+    Counting { inner, calls: 0 }
 }
 
 fn placed(entry: u64, rank: u32, score: u32) -> Reply {
@@ -66,9 +114,11 @@ fn submissions_one_by_one(rt: HostRuntime) -> Result<(), Fail> {
     Ok(())
 }
 
+/// Creating makes five calls: sync, read, read, write, sync. Each warrior that is placed makes five more, the one that falls two.
 #[test]
 fn a_list_of_submissions(rt: HostRuntime) -> Result<(), Fail> {
-    let mut store = created(rt.alloc(), MemoryDevice::new(rt.alloc(), 8)?)?;
+    let device = counted(MemoryDevice::new(rt.alloc(), 8)?);
+    let mut store = created(rt.alloc(), device)?;
     let sources: [&[u8]; 4] = [b"MOV 0,1", b"JMP 0", b"", b"DAT 0,0"];
     let replies = store.submit_all(&sources)?;
     assert_eq!(rt; replies.len(), 4);
@@ -77,6 +127,7 @@ fn a_list_of_submissions(rt: HostRuntime) -> Result<(), Fail> {
     assert_eq!(rt; replies[2], refused(0, AsmKind::Empty));
     assert_eq!(rt; replies[3], fell(3, 0));
     assert_eq!(rt; store.submit_all(&[])?.len(), 0);
+    assert_eq!(rt; store.close().calls, 5 + 12);
     Ok(())
 }
 
@@ -127,14 +178,16 @@ fn devices_that_are_refused(rt: HostRuntime) -> Result<(), Fail> {
     }
 }
 
+/// Opening makes three calls where the hill is empty, and what follows none.
 #[test]
 fn the_greatest_generation(rt: HostRuntime) -> Result<(), Fail> {
     let mut device = MemoryDevice::new(rt.alloc(), 8)?;
     let header = Header::new(u64::MAX, Settings::new(SMALL)?, 0, &[]).ok_or("a header")?;
     device.set(1, &encode_header(&header));
-    let mut store = opened(rt.alloc(), device)?;
+    let mut store = opened(rt.alloc(), counted(device))?;
     assert_eq!(rt; store.submit(b""), refused(0, AsmKind::Empty));
     assert_eq!(rt; store.submit(b"MOV 0,1"), Reply::Worn);
+    assert_eq!(rt; store.close().calls, 3);
     Ok(())
 }
 
@@ -151,4 +204,66 @@ fn a_device_that_fails(rt: HostRuntime) -> Result<(), Fail> {
     let kept = opened(rt.alloc(), stopped.stopped(&[1])?)?;
     assert_eq!(rt; kept.rows()?.len(), 2);
     Ok(())
+}
+
+#[test]
+fn each_growth_of_a_creation(rt: HostRuntime) -> Result<(), Fail> {
+    let memory = Refusing::new(rt.alloc());
+    for k in 0..100_u64 {
+        let device = MemoryDevice::new(rt.alloc(), 8)?;
+        memory.refuse(k, 1);
+        let answer = Store::create(&memory, device, Settings::new(SMALL)?);
+        if memory.refused() == 0 {
+            assert!(rt; answer.is_ok());
+            assert_eq!(rt; k, 4);
+            return Ok(());
+        }
+        assert_eq!(rt;
+            answer.err().map(|refused| refused.1),
+            Some(Refusal::Memory)
+        );
+    }
+    Err("each run met a refusal".into())
+}
+
+#[test]
+fn each_growth_of_an_opening(rt: HostRuntime) -> Result<(), Fail> {
+    let memory = Refusing::new(rt.alloc());
+    let mut store = created(rt.alloc(), MemoryDevice::new(rt.alloc(), 8)?)?;
+    assert_eq!(rt; store.submit(b"MOV 0,1"), placed(1, 1, 0));
+    let device = store.close();
+    for k in 0..100_u64 {
+        memory.refuse(k, 1);
+        let answer = Store::open(&memory, device.stopped(&[])?);
+        if memory.refused() == 0 {
+            assert!(rt; answer.is_ok());
+            assert_eq!(rt; k, 5);
+            return Ok(());
+        }
+        assert_eq!(rt;
+            answer.err().map(|refused| refused.1),
+            Some(Refusal::Memory)
+        );
+    }
+    Err("each run met a refusal".into())
+}
+
+/// A submission that is answered `Memory` leaves the hill as it was, so the first that isn't is entry 1.
+#[test]
+fn each_growth_of_a_submission(rt: HostRuntime) -> Result<(), Fail> {
+    let memory = Refusing::new(rt.alloc());
+    let device = counted(MemoryDevice::new(rt.alloc(), 8)?);
+    let mut store = created(&memory, device)?;
+    for k in 0..1000_u64 {
+        memory.refuse(k, 1);
+        let reply = store.submit(b"MOV 0,1");
+        if memory.refused() == 0 {
+            assert_eq!(rt; reply, placed(1, 1, 0));
+            assert_eq!(rt; store.close().calls, 5 + 5);
+            assert!(rt; k > 0);
+            return Ok(());
+        }
+        assert_eq!(rt; reply, Reply::Memory);
+    }
+    Err("each run met a refusal".into())
 }

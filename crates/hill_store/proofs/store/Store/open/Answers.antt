@@ -1,5 +1,6 @@
 use Rattle.std.proofs.Common.{refl}
 use Rattle.hill_store.proofs.Exits.{sound_stands}
+use Rattle.hill_store.proofs.Decided.{decided, undecided}
 use Rattle.hill_store.proofs.store.Store.open.Goals as goal
 
 pub returns-in-Ok-clause-opened : goal.returns-in-Ok-clause-opened
@@ -13,3 +14,11 @@ returns-in-Ok-clause-opened g c = record {
   };
   stands = λ lawful. sound_stands g.D.Device.size g.D.Device.lawful g.D.Device.disk c.recover.new.device c.in-Ok.found.header c.in-Ok.found.hill c.in-Ok.found.arena.settings _ c.in-Ok.ensures.found.sound refl (c.in-Ok.ensures.kept.same_laws.1 lawful);
 }
+
+pub returns-in-Ok-clause-holds : goal.returns-in-Ok-clause-holds
+returns-in-Ok-clause-holds g c = λ s. λ sources. λ more. λ lawful. λ held.
+    decided g.D.Device.size g.D.Device.lawful g.D.Device.disk g.D.Device.failures c.args.device s sources more _ c.in-Ok.ensures.kept (returns-in-Ok-clause-opened g c) lawful held
+
+pub returns-in-Err-clause-holds : goal.returns-in-Err-clause-holds
+returns-in-Err-clause-holds g c = λ s. λ sources. λ more. λ lawful. λ held.
+    undecided g.D.Device.size g.D.Device.lawful g.D.Device.disk g.D.Device.failures c.args.device s sources more c.recover.new.device _ c.in-Err.ensures.kept c.in-Err.ensures.refused lawful held

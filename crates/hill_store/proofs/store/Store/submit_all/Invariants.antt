@@ -1,4 +1,4 @@
-use Rattle.std.proofs.Common.{◌≡◌, ◌≤◌, ◌↔◌, length, take, vec_capacity}
+use Rattle.std.proofs.Common.{◌≡◌, ◌-◌, ◌^◌, ◌≤◌, ◌↔◌, length, take, vec_capacity}
 use Rattle.hill_store.specs.Runs.{texts}
 use Rattle.hill_store.proofs.Lists.{RunsOpen}
 use Rattle.hill_store.proofs.store.Store.submit_all.Given as goal
@@ -10,4 +10,6 @@ invariant-loop-source g l = record {
   count : length l.replies.items ≡ l.source-index;
   laws : g.D.Device.lawful l.self.device ↔ g.D.Device.lawful l.fn.self.device;
   size : g.D.Device.size l.self.device ≡ g.D.Device.size l.fn.self.device;
+  later : g.D.Device.failures l.fn.self.device ≤ g.D.Device.failures l.self.device;
+  worn : l.fn.self.generation ≡ 2 ^ 64 - 1 → l.self ≡ l.fn.self;
 }

@@ -1,0 +1,74 @@
+-- What a device holds, in words of the sources that earn its hill.
+use Rattle.std.specs.Prelude.{◌≡◌, ◌⊎◌, ℕ, Bool, true, false, if◌then◌else◌, List, [], ◌∷◌, ◌++◌, Option, Some, None}
+use Rattle.war_types.specs.declared.settings.RawSettings.{RawSettings}
+use Rattle.sector_disk.specs.Disk.{Disk}
+use Rattle.hill_store.specs.declared.reply.Reply.{Reply}
+use Rattle.hill_store.specs.declared.reply.Reply.TheVariants as replies
+use Rattle.hill_store.specs.declared.reply.Refusal.{Refusal}
+use Rattle.hill_store.specs.declared.reply.Refusal.TheVariants as refusals
+use Rattle.hill_store.specs.Earned.{earned}
+use Rattle.hill_store.specs.Stands.{Holds}
+use Rattle.hill_store.specs.Seen.{Seen}
+use Rattle.hill_store.specs.Runs.{is_disk}
+
+-- the submission was answered: it was placed, or fell, or was refused
+abbrev pub is_answer : Reply → Bool
+is_answer (replies.Placed entry rank score) = true
+is_answer (replies.Fell entry score) = true
+is_answer (replies.Refused fault) = true
+is_answer replies.Memory = false
+is_answer replies.Worn = false
+is_answer replies.Disk = false
+is_answer replies.Reopen = false
+
+-- those of these sources that were answered, by their replies
+abbrev pub answered : List (List ℕ) → List Reply → List (List ℕ)
+answered [] replied = []
+answered (source ∷ sources) [] = []
+answered (source ∷ sources) (reply ∷ rest) = if is_answer reply then source ∷ answered sources rest else answered sources rest
+
+-- the source that was under way when the device failed
+abbrev pub under_way : List (List ℕ) → List Reply → Option (List ℕ)
+under_way [] replied = None
+under_way (source ∷ sources) [] = None
+under_way (source ∷ sources) (reply ∷ rest) = if is_disk reply then Some source else under_way sources rest
+
+-- an open store on a lawful device: its hill is what these sources earn, and that is the hill of every image
+pub record IsHolding {D : Type 0} (size : D → ℕ) (is_lawful : D → Type 0) (disk : D → Disk) (s : RawSettings) (sources : List (List ℕ)) (store : Seen D) : Type 0 where
+  pub lawful : is_lawful store.device
+  pub open_now : store.reopen ≡ false
+  pub hill : store.hill ≡ earned s sources
+  pub holds : Holds (size store.device) (disk store.device) s sources None
+
+-- a store whose device failed while one more source was under way
+pub record IsCutOff {D : Type 0} (size : D → ℕ) (is_lawful : D → Type 0) (disk : D → Disk) (s : RawSettings) (sources : List (List ℕ)) (source : List ℕ) (store : Seen D) : Type 0 where
+  pub lawful : is_lawful store.device
+  pub broken : store.reopen ≡ true
+  pub hill : store.hill ≡ earned s sources
+  pub holds : Holds (size store.device) (disk store.device) s sources (Some source)
+
+-- the one or the other
+abbrev pub IsHeldWith : {D : Type 0} → (D → ℕ) → (D → Type 0) → (D → Disk) → RawSettings → List (List ℕ) → Option (List ℕ) → Seen D → Type 0
+IsHeldWith size is_lawful disk s sources None store = IsHolding size is_lawful disk s sources store
+IsHeldWith size is_lawful disk s sources (Some source) store = IsCutOff size is_lawful disk s sources source store
+
+-- what submitting these sources, so answered, makes of a store that holds those before them
+abbrev pub HoldsMore : {D : Type 0} → (D → ℕ) → (D → Type 0) → (D → Disk) → RawSettings → List (List ℕ) → List (List ℕ) → List Reply → Seen D → Type 0
+HoldsMore size is_lawful disk s before sources replied store =
+    IsHeldWith size is_lawful disk s (before ++ answered sources replied) (under_way sources replied) store
+
+-- these sources, with or without the one that was under way
+abbrev pub AreDecided : List (List ℕ) → Option (List ℕ) → List (List ℕ) → Type 0
+AreDecided sources None found = found ≡ sources
+AreDecided sources (Some source) found = (found ≡ sources) ⊎ (found ≡ sources ++ source ∷ [])
+
+-- opening decided whether the source that was under way counts
+pub record IsDecided {D : Type 0} (size : D → ℕ) (is_lawful : D → Type 0) (disk : D → Disk) (s : RawSettings) (sources : List (List ℕ)) (more : Option (List ℕ)) (store : Seen D) : Type 0 where
+  pub found : List (List ℕ)
+  pub are : AreDecided sources more found
+  pub holding : IsHolding size is_lawful disk s found store
+
+-- it did not, and the device holds what it held
+pub record IsUndecided {D : Type 0} (size : D → ℕ) (disk : D → Disk) (s : RawSettings) (sources : List (List ℕ)) (more : Option (List ℕ)) (device : D) (why : Refusal) : Type 0 where
+  pub cause : (why ≡ refusals.Disk) ⊎ (why ≡ refusals.Memory)
+  pub holds : Holds (size device) (disk device) s sources more
