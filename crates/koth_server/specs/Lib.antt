@@ -1,9 +1,17 @@
 pub mod Answer
 pub mod Asm
+pub mod Commands
+pub mod Counted
 pub mod Failure
 pub mod Fight
+pub mod Kept
+pub mod Lines
 pub mod Options
+pub mod Reading
+pub mod Reply
 pub mod Run
+pub mod Sessions
 pub mod Status
 pub mod Streams
+pub mod Transcript
 pub mod Words

@@ -3,17 +3,29 @@
 
 mod answer;
 mod asm;
+mod counted;
 mod failure;
 mod fight;
+mod kept;
+mod line;
 mod options;
 mod program;
+mod reply;
+mod script;
+mod sessions;
 mod status;
 mod stream;
+mod table;
 mod words;
 
+pub use counted::{Counted, ReadFault, WriteFault};
 pub use failure::Failure;
 pub use program::run;
+pub use reply::write_reply;
+pub use sessions::{SessionEnd, session};
 pub use status::Status;
 
+#[cfg(test)]
+mod session_tests;
 #[cfg(test)]
 mod tests;
