@@ -1,2 +1,0 @@
-; copies itself to the next cell and goes there
-MOV.I  $ 0, $ 1
