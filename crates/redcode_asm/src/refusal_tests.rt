@@ -2,17 +2,19 @@
 
 use crate::assemble;
 use crate::tests::{defaults, printed, repeated};
+use refusing::Refusing;
 use std::test::Fail;
 use war_types::AsmKind;
 
-/// Each refusal with a smallest source that earns it, as the document of the language has them.
+/// Each refusal with a smallest source that earns it, as the document of the language has them; those of many lines are
+/// among the limits.
 #[test]
 fn smallest_sources(rt: HostRuntime) -> Result<(), Fail> {
     let settings = defaults()?;
     for (source, refusal) in [
         ("FOR 1", "1 BadOperation"),
         ("x\nx", "2 DuplicateName"),
-        ("EQU 1", "1 BadEqu"),
+        ("EQU", "1 BadEqu"),
         ("a EQU a\nDAT a", "2 EquLimit"),
         ("=", "1 BadToken"),
         ("+", "1 BadOperation"),
@@ -107,6 +109,20 @@ fn lines_with_a_fault(rt: HostRuntime) -> Result<(), Fail> {
             }
         }
     }
+    Ok(())
+}
+
+/// Without memory every source is refused alike.
+#[test]
+fn no_memory(rt: HostRuntime) -> Result<(), Fail> {
+    let settings = defaults()?;
+    let memory = Refusing::new(rt.alloc());
+    memory.refuse(0, 1);
+    match assemble(&memory, b"DAT", &settings) {
+        Ok(_) => assert!(rt; false, "it is accepted"),
+        Err(fault) => assert_eq!(rt; (fault.line, fault.kind), (0, AsmKind::Memory)),
+    }
+    assert_eq!(rt; memory.refused(), 1);
     Ok(())
 }
 
