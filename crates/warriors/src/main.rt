@@ -1,6 +1,6 @@
 //! Each warrior of this repository, assembled, and a full hill of them to which one more is submitted. What this is to print,
-//! the file `stdout`, comes from pMARS alone: the load texts from its listings, the points from its matches at the same
-//! positions.
+//! the file `stdout`, comes from pMARS alone, by `bench/warriors`: the load texts from its listings, the points from its
+//! matches at the same positions.
 #![tactic(auto)]
 
 use hill_store::Store;
