@@ -13,6 +13,7 @@ mod store;
 
 pub use header::{Header, HeaderEntry, decode_header, encode_header};
 pub use laws::laws_of_storage;
+pub use opening::sectors_for;
 pub use reply::{Refusal, Reply};
 pub use store::Store;
 

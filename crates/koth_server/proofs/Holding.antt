@@ -1,5 +1,5 @@
 -- What the device holds behind a session.
-use Rattle.std.proofs.Common.{◌≡◌, ◌⊎◌, ℕ, false, List, [], ◌∷◌, ◌++◌, Some, None, refl, sym, ap, subst, ◌∙◌}
+use Rattle.std.proofs.Common.{◌≡◌, ◌⊎◌, ℕ, List, [], ◌∷◌, ◌++◌, Some, refl, sym, ap, subst, ◌∙◌}
 use Rattle.war_types.specs.declared.settings.RawSettings.{RawSettings}
 use Rattle.sector_disk.specs.Disk.{Disk}
 use Rattle.sector_disk.specs.Image.{Images}
@@ -10,7 +10,7 @@ use Rattle.hill_store.specs.Seen.{Seen}
 use Rattle.hill_store.specs.Stands.{Stands}
 use Rattle.koth_server.specs.Commands.{Command}
 use Rattle.koth_server.specs.Sessions.{Answers, HoldsAt, IsAnsweredTo, IsCutOff, IsServed, KeepsCut, KeepsList, Scene}
-use Rattle.koth_server.specs.Transcript.{Exchange, Mark, hill_after, hill_next, submitted}
+use Rattle.koth_server.specs.Transcript.{Exchange, Mark, hill_after, submitted}
 use Rattle.koth_server.specs.declared.sessions.SessionEnd.{SessionEnd}
 use Rattle.koth_server.specs.declared.sessions.SessionEnd.TheVariants as ends
 use Rattle.koth_server.proofs.Serving.{served_on}

@@ -40,22 +40,32 @@ named app m words is has =
 -- ---- words without fault name a command
 
 abbrev IsCommand : Text → Type 0
-IsCommand name = (name ≡ codes "asm") ⊎ (name ≡ codes "fight")
+IsCommand name = (name ≡ codes "asm") ⊎ (name ≡ codes "fight") ⊎ (name ≡ codes "create")
+    ⊎ (name ≡ codes "submit") ⊎ (name ≡ codes "show") ⊎ (name ≡ codes "serve")
 
-abbrev met_by : Bool → Bool → Bool → Option Text
-met_by b c d = option_map (λ (s : Text × List Text). s.0)
-    (if b || false then Some (codes "asm", []) else if c || false then Some (codes "fight", []) else if d || false then Some (codes "help", []) else None)
+abbrev met_by : Bool → Bool → Bool → Bool → Bool → Bool → Bool → Option Text
+met_by asm fight create submit show serve help = option_map (λ (s : Text × List Text). s.0) (
+    if asm || false then Some (codes "asm", []) else if fight || false then Some (codes "fight", [])
+    else if create || false then Some (codes "create", []) else if submit || false then Some (codes "submit", [])
+    else if show || false then Some (codes "show", []) else if serve || false then Some (codes "serve", [])
+    else if help || false then Some (codes "help", []) else None)
 
-met_is_command : (b c d : Bool) (word : Text) (h : Held) → other_fault (built koth_app).top (met_by b c d) word h ≡ [] → IfSome (met_by b c d) IsCommand
+met_is_command : (asm fight create submit show serve help : Bool) (word : Text) (h : Held)
+    → other_fault (built koth_app).top (met_by asm fight create submit show serve help) word h ≡ []
+    → IfSome (met_by asm fight create submit show serve help) IsCommand
 unfolding clap_on_literals koth_app
-met_is_command true c d word h none = inl refl
-met_is_command false true d word h none = inr refl
-met_is_command false false true word h none = absurd (cc)
-met_is_command false false false word h none = tt
+met_is_command true fight create submit show serve help word h none = inl refl
+met_is_command false true create submit show serve help word h none = inr (inl refl)
+met_is_command false false true submit show serve help word h none = inr (inr (inl refl))
+met_is_command false false false true show serve help word h none = inr (inr (inr (inl refl)))
+met_is_command false false false false true serve help word h none = inr (inr (inr (inr (inl refl))))
+met_is_command false false false false false true help word h none = inr (inr (inr (inr (inr refl))))
+met_is_command false false false false false false true word h none = absurd (cc)
+met_is_command false false false false false false false word h none = tt
 
 each_is_command : OnNames (built koth_app).top (names_of (built koth_app)) IsCommand
 unfolding clap_on_literals koth_app
-each_is_command idle word h none = met_is_command _ _ _ word h none
+each_is_command idle word h none = met_is_command _ _ _ _ _ _ _ word h none
 each_is_command (option id) word h none = tt
 each_is_command positional word h none = tt
 
@@ -63,14 +73,20 @@ is_required : (built koth_app).top.subcommand_required ≡ true
 unfolding koth_app
 is_required = refl
 
+-- what is entered at a name
+abbrev entered_at : Text → List Text → Option Text
+entered_at name words = option_map (λ r. r.0) (option_map (λ s. rows_at s words) (find (λ s. answers_to name (label_of s)) (built koth_app).subs))
+
 enters_command : (stop : Option (Text × List Text)) → IfSome stop (λ p. IsCommand p.0) → is_some (entered (built koth_app) stop) ≡ true
     → NamesCommand (option_map (λ p. p.0) (entered (built koth_app) stop))
 unfolding clap_on_literals koth_app
 enters_command None met has = absurd (cc)
-enters_command (Some p) (inl asm) has =
-    inl (ap (λ n. option_map (λ r. r.0) (option_map (λ s. rows_at s p.1) (find (λ s. answers_to n (label_of s)) (built koth_app).subs))) asm)
-enters_command (Some p) (inr fight) has =
-    inr (ap (λ n. option_map (λ r. r.0) (option_map (λ s. rows_at s p.1) (find (λ s. answers_to n (label_of s)) (built koth_app).subs))) fight)
+enters_command (Some p) (inl is) has = inl (ap (λ n. entered_at n p.1) is)
+enters_command (Some p) (inr (inl is)) has = inr (inl (ap (λ n. entered_at n p.1) is))
+enters_command (Some p) (inr (inr (inl is))) has = inr (inr (inl (ap (λ n. entered_at n p.1) is)))
+enters_command (Some p) (inr (inr (inr (inl is)))) has = inr (inr (inr (inl (ap (λ n. entered_at n p.1) is))))
+enters_command (Some p) (inr (inr (inr (inr (inl is))))) has = inr (inr (inr (inr (inl (ap (λ n. entered_at n p.1) is)))))
+enters_command (Some p) (inr (inr (inr (inr (inr is))))) has = inr (inr (inr (inr (inr (ap (λ n. entered_at n p.1) is)))))
 
 -- words in which clap finds no fault name a command
 names_command : (words : List Text) → fault_of koth_app words ≡ [] → NamesCommand (option_map (λ p. p.0) (subcommand_of koth_app words))

@@ -1,5 +1,5 @@
 -- A source that is taken comes to what the whole input comes to.
-use Rattle.std.proofs.Common.{◌≡◌, ◌∙◌, ◌<◌, ◌≤◌, ℕ, List, ◌++◌, Option, None, Some, IfSome, Ok, Err, inl, inr, refl, subst, arith, length, length-append, append-nil, sym, ap}
+use Rattle.std.proofs.Common.{◌≡◌, ◌∙◌, ◌≤◌, ℕ, List, ◌++◌, Option, None, Some, IfSome, Ok, Err, inl, inr, refl, subst, arith, length, length-append, append-nil, sym, ap}
 use Rattle.std.proofs.lemmas.Bool.{cases_lt}
 use Rattle.redcode_asm.specs.Assembly.{assembly}
 use Rattle.redcode_asm.proofs.Limits.{too_long}

@@ -4,6 +4,8 @@ pub mod Commands
 pub mod Counted
 pub mod Failure
 pub mod Fight
+pub mod HillFault
+pub mod Hills
 pub mod Kept
 pub mod Lines
 pub mod Options

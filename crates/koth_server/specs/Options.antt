@@ -1,5 +1,5 @@
 -- The options that give settings, and the settings that they give.
-use Rattle.std.specs.Prelude.{ℕ, ◌&&◌, Bool, nat_lt, if◌then◌else◌, List, length, Option, Some, None, codes, pos}
+use Rattle.std.specs.Prelude.{ℕ, ◌&&◌, Bool, true, nat_lt, if◌then◌else◌, List, length, Option, Some, None, codes, pos}
 use Rattle.std.specs.Char.{digit_value}
 use Rattle.std.specs.List.{list_all}
 use Rattle.std.specs.Str.Parse.{digits_value, without_leading_plus}
@@ -15,6 +15,13 @@ option_rule name = record (new_rule name) {
   parser = Some (parsers.Signed (pos 0) (pos 4294967295));
 }
 
+-- an option with a whole number up to the greatest, which has to be given
+abbrev pub required_rule : Text → ℕ → Rule
+required_rule name greatest = record (option_rule name) {
+  parser = Some (parsers.Signed (pos 0) (pos greatest));
+  required = true;
+}
+
 abbrev pub with_option : App → Text → App
 with_option app name = with_rule app (option_rule name)
 
@@ -25,20 +32,24 @@ with_settings app =
     (codes "core")) (codes "cycles")) (codes "processes")) (codes "length")) (codes "distance")) (codes "rounds"))
     (codes "seed")) (codes "capacity")
 
--- one decimal digit or more, which write a number of 32 bits
-abbrev pub is_number : Text → Bool
-is_number digits =
-    nat_lt 0 (length digits) && list_all (λ d. nat_lt (digit_value d) 10) digits && nat_lt (digits_value 10 digits) 4294967296
+-- one decimal digit or more, which write a number below the limit
+abbrev pub is_number : ℕ → Text → Bool
+is_number limit digits =
+    nat_lt 0 (length digits) && list_all (λ d. nat_lt (digit_value d) 10) digits && nat_lt (digits_value 10 digits) limit
 
--- the number that a text writes, a plus sign before it or not; another number where it writes none
-abbrev pub number_in : ℕ → Text → ℕ
-number_in default text =
-    if is_number (without_leading_plus text) then digits_value 10 (without_leading_plus text) else default
+-- the number below the limit that a text writes, a plus sign before it or not; another number where it writes none
+abbrev pub number_in : ℕ → ℕ → Text → ℕ
+number_in limit default text =
+    if is_number limit (without_leading_plus text) then digits_value 10 (without_leading_plus text) else default
 
 -- the number that an option's text writes, and the default where the option isn't given (no other text is taken)
+abbrev pub number_below : ℕ → ℕ → Option Text → ℕ
+number_below limit default None = default
+number_below limit default (Some text) = number_in limit default text
+
+-- the same of 32 bits
 abbrev pub number_or : ℕ → Option Text → ℕ
-number_or default None = default
-number_or default (Some text) = number_in default text
+number_or default text = number_below 4294967296 default text
 
 -- the settings where the words give none
 abbrev pub default_settings : RawSettings

@@ -1,14 +1,14 @@
 -- What the words of the command line ask for.
 use Rattle.std.specs.Prelude.{◌≡◌, ◌≢◌, ◌⊎◌, ⊤, ℕ, true, List, [], codes, Option, None, Some, option_map, unwrap_or}
 use Rattle.std.specs.Option.{option_map_or}
-use Rattle.clap.specs.Words.{App, IsAmong, Row, Rule, Text, fault_of, first_of, new_app, new_rule, subcommand_of, takes, with_rule, with_subcommand}
+use Rattle.clap.specs.Words.{App, IsAmong, Row, Rule, Text, fault_of, first_of, new_app, new_rule, one_of, subcommand_of, takes, with_rule, with_subcommand}
 use Rattle.clap.specs.declared.error.kind.ErrorKind.TheVariants as kinds
 use Rattle.war_types.specs.declared.settings.RawSettings.{RawSettings}
-use Rattle.koth_server.specs.Options.{settings_in, with_settings}
+use Rattle.koth_server.specs.Options.{number_below, number_or, required_rule, settings_in, with_settings}
 use Rattle.koth_server.specs.declared.words.NoRequest.{NoRequest}
 use Rattle.koth_server.specs.declared.words.NoRequest.TheVariants as reasons
 use Rattle.koth_server.specs.declared.words.Request.{Request}
-use Rattle.koth_server.specs.declared.words.Request.TheVariants.{Asm, Fight}
+use Rattle.koth_server.specs.declared.words.Request.TheVariants.{Asm, Fight, Create, Submit, Show, Serve}
 
 -- a command that wants the name of one of its subcommands
 abbrev pub wants_subcommand : App → App
@@ -24,9 +24,23 @@ asm_app = with_settings (new_app (codes "asm"))
 abbrev pub fight_app : App
 fight_app = with_settings (with_rule (with_rule (new_app (codes "fight")) (file_rule (codes "A"))) (file_rule (codes "B")))
 
+abbrev pub create_app : App
+create_app = with_settings (with_rule (new_app (codes "create")) (file_rule (codes "FILE")))
+
+abbrev pub submit_app : App
+submit_app = with_rule (with_rule (new_app (codes "submit")) (file_rule (codes "FILE"))) (file_rule (codes "SOURCE"))
+
+abbrev pub show_app : App
+show_app = with_rule (new_app (codes "show")) (file_rule (codes "FILE"))
+
+abbrev pub serve_app : App
+serve_app = with_rule (with_rule (with_rule (new_app (codes "serve")) (file_rule (codes "FILE")))
+    (required_rule (codes "port") 65535)) (required_rule (codes "connections") 4294967295)
+
 -- the program's words: `koth`, and a command's name with its files and options
 unfoldable pub koth_app : App
-koth_app = with_subcommand (with_subcommand (wants_subcommand (new_app (codes "koth"))) asm_app.top) fight_app.top
+koth_app = with_subcommand (with_subcommand (with_subcommand (with_subcommand (with_subcommand (with_subcommand
+    (wants_subcommand (new_app (codes "koth"))) asm_app.top) fight_app.top) create_app.top) submit_app.top) show_app.top) serve_app.top
 
 -- the words are taken, and name this command
 abbrev pub AsksFor : List ℕ → List (List ℕ) → Type 0
@@ -50,6 +64,17 @@ Asks entered (Asm settings) = (entered.0 ≡ codes "asm") × (settings ≡ setti
 Asks entered (Fight settings files) = (entered.0 ≡ codes "fight") × (settings ≡ settings_in entered.1)
     × (files.older.now ≡ text_or_none (first_of (codes "A") entered.1))
     × (files.younger.now ≡ text_or_none (first_of (codes "B") entered.1))
+Asks entered (Create settings file) = (entered.0 ≡ codes "create") × (settings ≡ settings_in entered.1)
+    × (file.now ≡ text_or_none (first_of (codes "FILE") entered.1))
+Asks entered (Submit files) = (entered.0 ≡ codes "submit")
+    × (files.hill.now ≡ text_or_none (first_of (codes "FILE") entered.1))
+    × (files.source.now ≡ text_or_none (first_of (codes "SOURCE") entered.1))
+Asks entered (Show file) = (entered.0 ≡ codes "show")
+    × (file.now ≡ text_or_none (first_of (codes "FILE") entered.1))
+Asks entered (Serve service) = (entered.0 ≡ codes "serve")
+    × (service.hill.now ≡ text_or_none (first_of (codes "FILE") entered.1))
+    × (service.port ≡ number_below 65536 0 (one_of (codes "port") entered.1))
+    × (service.connections ≡ number_or 0 (one_of (codes "connections") entered.1))
 
 -- the same where a command is named
 abbrev pub AsksBy : Option (Text × List Row) → Request → Type 0
@@ -58,7 +83,8 @@ AsksBy (Some entered) request = Asks entered request
 
 -- a command is named
 abbrev pub NamesCommand : Option Text → Type 0
-NamesCommand name = (name ≡ Some (codes "asm")) ⊎ (name ≡ Some (codes "fight"))
+NamesCommand name = (name ≡ Some (codes "asm")) ⊎ (name ≡ Some (codes "fight")) ⊎ (name ≡ Some (codes "create"))
+    ⊎ (name ≡ Some (codes "submit")) ⊎ (name ≡ Some (codes "show")) ⊎ (name ≡ Some (codes "serve"))
 
 -- the words have a fault, and ask for no help
 abbrev pub AreWrong : List (List ℕ) → Type 0

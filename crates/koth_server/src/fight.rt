@@ -1,20 +1,20 @@
 //! The command `fight`: from the sources of two warriors to the counts of their match.
 
-ghost use Rattle.std.specs.Prelude.{◌≡◌, ◌≤◌, None, length, IfOk, IfErr};
+ghost use Rattle.std.specs.Prelude.{◌≡◌, None, IfOk, IfErr};
 ghost use Rattle.war_types.specs.Settings.{settings_of};
 ghost use Rattle.koth_server.specs.Fight.{bout_line, AnswersFight, AttemptsFight, EndsFight, EndsFightUnder, IsBoutOf, IsRefusedOf, IsWarriorOf};
 ghost use Rattle.koth_server.specs.Streams.{streams};
 
 use crate::answer::{Answer, refusal, refuse_settings, source_buffer};
 use crate::failure::Failure;
+use crate::files::read_file;
 use crate::status::Status;
-use crate::stream::{StreamFault, fill, write_whole};
+use crate::stream::{StreamFault, write_whole};
 use crate::words::Fighters;
 use koth_match::Bout;
 use mars_core::Arena;
 use redcode_asm::assemble;
 use std::alloc::{AllocError, Allocator};
-use std::fs;
 use std::io::Write;
 use std::rt::Files;
 use war_types::{AsmFault, AsmKind, RawSettings, Settings, Warrior};
@@ -165,15 +165,5 @@ fn warrior_in<R: Files, A: Allocator + Copy>(
             Err(NoMatch::Failed(Failure::Memory))
         }
         Err(fault) => Err(NoMatch::Refused(fault)),
-    }
-}
-
-/// Reads a file until the buffer is full or the file is at its end, and says how many bytes came.
-fn read_file<R: Files>(rt: &R, path: &str, buffer: &mut [u8]) -> Result<usize, StreamFault>
-    ensures { IfOk result (λ count. count ≤ length buffer.new) }
-{
-    match fs::open(rt, path) {
-        Ok(mut file) => fill(&mut file, buffer),
-        Err(_) => Err(StreamFault),
     }
 }

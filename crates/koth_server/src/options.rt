@@ -29,29 +29,54 @@ pub(crate) fn with_settings<'a>(
     ensures app { IfOk result (λ c. app_of c ≡ with_settings (app_of command.entry)) }
     ensures globals { IfOk result (λ c. (out-Command c).has_globals ≡ (out-Command command.entry).has_globals) }
 {
-    let core = with_option(heap, command, "core", "Cells of the core [default: 8000]")?;
-    let cycles = with_option(heap, core, "cycles", "Turns of each side [default: 80000]")?;
+    let core = with_option(
+        heap,
+        command,
+        "core",
+        "Cells of the core, 64 to 65535 [default: 8000]",
+    )?;
+    let cycles = with_option(
+        heap,
+        core,
+        "cycles",
+        "Turns of each side in a round, 1 to 1000000 [default: 80000]",
+    )?;
     let processes = with_option(
         heap,
         cycles,
         "processes",
-        "Processes of each side [default: 8000]",
+        "Processes of each side, 1 to 65535 [default: 8000]",
     )?;
     let length = with_option(
         heap,
         processes,
         "length",
-        "Instructions of a warrior [default: 100]",
+        "Instructions of a warrior at most, 1 to 100 [default: 100]",
     )?;
     let distance = with_option(
         heap,
         length,
         "distance",
-        "Cells between warriors [default: 100]",
+        "Cells from warrior to warrior at least, the length to half the core [default: 100]",
     )?;
-    let rounds = with_option(heap, distance, "rounds", "Rounds of a match [default: 10]")?;
-    let seed = with_option(heap, rounds, "seed", "Seed of the positions [default: 1]")?;
-    with_option(heap, seed, "capacity", "Warriors on the hill [default: 20]")
+    let rounds = with_option(
+        heap,
+        distance,
+        "rounds",
+        "Rounds of a match, 1 to 1000 [default: 10]",
+    )?;
+    let seed = with_option(
+        heap,
+        rounds,
+        "seed",
+        "Seed of the positions, 1 to 2147483646; give a hill one of its own, 1 is known to all [default: 1]",
+    )?;
+    with_option(
+        heap,
+        seed,
+        "capacity",
+        "Warriors on the hill at most, 1 to 20 [default: 20]",
+    )
 }
 
 fn with_option<'a>(
@@ -93,7 +118,8 @@ pub(crate) fn settings_given(matches: &ArgMatches<'_>) -> RawSettings
     }
 }
 
-fn number_given(matches: &ArgMatches<'_>, name: &str, default: u32) -> u32
+/// The number that an option has, or the default.
+pub(crate) fn number_given(matches: &ArgMatches<'_>, name: &str, default: u32) -> u32
     ensures { result ≡ number_or default (one_of name.now (rows_of (found_of matches.now))) }
 {
     matches.get_one(name).unwrap_or(default)

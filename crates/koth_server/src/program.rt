@@ -6,24 +6,30 @@ ghost use Rattle.clap.specs.Words.{takes};
 ghost use Rattle.war_types.specs.Settings.{settings_of};
 ghost use Rattle.koth_server.specs.Asm.{EndsAsm};
 ghost use Rattle.koth_server.specs.Fight.{EndsFight};
+ghost use Rattle.koth_server.specs.Hills.{EndsCreate, EndsHill, EndsServe, SaysReply, SaysTable};
 ghost use Rattle.koth_server.specs.Run.{Leaves};
 ghost use Rattle.koth_server.specs.Streams.{streams};
 ghost use Rattle.koth_server.specs.Words.{koth_app, settings_named, AreWrong, AsksFor};
 
 use crate::asm::asm;
+use crate::create::create;
 use crate::failure::Failure;
 use crate::fight::fight;
+use crate::serve::serve;
+use crate::show::show;
 use crate::status::Status;
 use crate::stream::{StreamFault, write_whole};
+use crate::submit::submit;
 use crate::words::{NoRequest, Request, parse};
 use std::alloc::{Allocator, Global};
 use std::io::{Read, Write};
+use std::net::Net;
 use std::rt::Files;
 
 /// Does what the words ask for, and says which status to leave with: 0 where it is done, 1 where it is refused, 2
 /// for a fault of the words, 3 where a stream or a file fails, 4 for want of memory. The first word is the program's name.
 /// The words are parsed on `heap`, and all other memory comes from `alloc`.
-pub fn run<R: Files, A: Allocator + Copy, I: Read, O: Write, E: Write>(
+pub fn run<R: Files + Net, A: Allocator + Copy, I: Read, O: Write, E: Write>(
     rt: &R,
     heap: Global,
     alloc: A,
@@ -40,6 +46,22 @@ pub fn run<R: Files, A: Allocator + Copy, I: Read, O: Write, E: Write>(
         → Leaves result (λ status. EndsFight (settings_of (settings_named (map (λ w. string_bytes w) words.now))) status
         (streams None (O.contents output.old) (E.contents errors.old))
         (streams None (O.contents output.new) (E.contents errors.new))) }
+    ensures create { AsksFor (codes "create") (map (λ w. string_bytes w) words.now)
+        → Leaves result (λ status. EndsCreate (settings_of (settings_named (map (λ w. string_bytes w) words.now))) status
+        (streams None (O.contents output.old) (E.contents errors.old))
+        (streams None (O.contents output.new) (E.contents errors.new))) }
+    ensures submit { AsksFor (codes "submit") (map (λ w. string_bytes w) words.now)
+        → Leaves result (λ status. EndsHill SaysReply status
+        (streams None (O.contents output.old) (E.contents errors.old))
+        (streams None (O.contents output.new) (E.contents errors.new))) }
+    ensures show { AsksFor (codes "show") (map (λ w. string_bytes w) words.now)
+        → Leaves result (λ status. EndsHill SaysTable status
+        (streams None (O.contents output.old) (E.contents errors.old))
+        (streams None (O.contents output.new) (E.contents errors.new))) }
+    ensures serve { AsksFor (codes "serve") (map (λ w. string_bytes w) words.now)
+        → Leaves result (λ status. EndsServe status
+        (streams None (O.contents output.old) (E.contents errors.old))
+        (streams None (O.contents output.new) (E.contents errors.new))) }
     ensures words { takes koth_app (map (λ w. string_bytes w) words.now) ≡ true
         → Leaves result (λ status. status ≢ Status.WordFault) }
     ensures wrong { AreWrong (map (λ w. string_bytes w) words.now)
@@ -51,7 +73,7 @@ pub fn run<R: Files, A: Allocator + Copy, I: Read, O: Write, E: Write>(
     carry_out(rt, heap, alloc, words, input, output, errors).code()
 }
 
-fn carry_out<R: Files, A: Allocator + Copy, I: Read, O: Write, E: Write>(
+fn carry_out<R: Files + Net, A: Allocator + Copy, I: Read, O: Write, E: Write>(
     rt: &R,
     heap: Global,
     alloc: A,
@@ -68,6 +90,22 @@ fn carry_out<R: Files, A: Allocator + Copy, I: Read, O: Write, E: Write>(
         → EndsFight (settings_of (settings_named (map (λ w. string_bytes w) words.now))) result
         (streams None (O.contents output.old) (E.contents errors.old))
         (streams None (O.contents output.new) (E.contents errors.new)) }
+    ensures create { AsksFor (codes "create") (map (λ w. string_bytes w) words.now)
+        → EndsCreate (settings_of (settings_named (map (λ w. string_bytes w) words.now))) result
+        (streams None (O.contents output.old) (E.contents errors.old))
+        (streams None (O.contents output.new) (E.contents errors.new)) }
+    ensures submit { AsksFor (codes "submit") (map (λ w. string_bytes w) words.now)
+        → EndsHill SaysReply result
+        (streams None (O.contents output.old) (E.contents errors.old))
+        (streams None (O.contents output.new) (E.contents errors.new)) }
+    ensures show { AsksFor (codes "show") (map (λ w. string_bytes w) words.now)
+        → EndsHill SaysTable result
+        (streams None (O.contents output.old) (E.contents errors.old))
+        (streams None (O.contents output.new) (E.contents errors.new)) }
+    ensures serve { AsksFor (codes "serve") (map (λ w. string_bytes w) words.now)
+        → EndsServe result
+        (streams None (O.contents output.old) (E.contents errors.old))
+        (streams None (O.contents output.new) (E.contents errors.new)) }
     ensures words { takes koth_app (map (λ w. string_bytes w) words.now) ≡ true
         → result ≢ Status.WordFault }
     ensures wrong { AreWrong (map (λ w. string_bytes w) words.now)
@@ -79,6 +117,10 @@ fn carry_out<R: Files, A: Allocator + Copy, I: Read, O: Write, E: Write>(
     match parse(heap, words) {
         Ok(Request::Asm(given)) => asm(alloc, given, input, output, errors),
         Ok(Request::Fight(given, files)) => fight(rt, alloc, given, files, output, errors),
+        Ok(Request::Create(given, file)) => create(rt, alloc, given, file, output, errors),
+        Ok(Request::Submit(files)) => submit(rt, alloc, files, output, errors),
+        Ok(Request::Show(file)) => show(rt, alloc, file, output, errors),
+        Ok(Request::Serve(service)) => serve(rt, alloc, service, output, errors),
         Err(NoRequest::Help(text)) => match write_whole(output, text.as_bytes()) {
             Ok(()) => Status::Done,
             Err(StreamFault) => Failure::Stream.tell(errors),

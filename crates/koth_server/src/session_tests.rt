@@ -1,6 +1,6 @@
 use super::{Counted, SessionEnd, session};
 use hill_store::Store;
-use sector_disk::MemoryDevice;
+use sector_disk::{FuseDevice, FuseKind, MemoryDevice};
 use std::alloc::Global;
 use std::test::Fail;
 use war_types::{RawSettings, Settings};
@@ -17,7 +17,7 @@ const SMALL: RawSettings = RawSettings {
 };
 
 /// A hill of two without warriors.
-fn empty_hill(
+pub(crate) fn empty_hill(
     alloc: Global,
     device: MemoryDevice<Global>,
 ) -> Result<Store<MemoryDevice<Global>, Global>, Fail> {
@@ -25,6 +25,16 @@ fn empty_hill(
         Ok(store) => Ok(store),
         Err(_) => Err("it is created".into()),
     }
+}
+
+/// The same over a device that fails once, behind so many calls, of which creating the hill makes five.
+pub(crate) fn failing_hill(
+    alloc: Global,
+    calls: u64,
+) -> Option<Store<FuseDevice<MemoryDevice<Global>>, Global>> {
+    let settings = Settings::new(SMALL).ok()?;
+    let device = FuseDevice::new(MemoryDevice::new(alloc, 8).ok()?, calls, FuseKind::FailLost);
+    Store::create(alloc, device, settings).ok()
 }
 
 #[test]

@@ -3,6 +3,7 @@ ghost use Rattle.std.specs.Prelude.{Some};
 use super::run;
 use std::alloc::{AllocError, Global};
 use std::io::{ErrorKind, Read, Write};
+use std::net::Net;
 use std::process::Abort;
 use std::rt::Files;
 use std::test::Fail;
@@ -10,10 +11,10 @@ use std::{fs, io};
 
 /// What a run left behind.
 #[derive(Drop)]
-struct Ran {
-    status: u8,
-    output: Vec<u8>,
-    errors: Vec<u8>,
+pub(crate) struct Ran {
+    pub status: u8,
+    pub output: Vec<u8>,
+    pub errors: Vec<u8>,
 }
 
 fn words_of(alloc: Global, words: &[&str]) -> Result<Vec<String>, AllocError> {
@@ -24,8 +25,8 @@ fn words_of(alloc: Global, words: &[&str]) -> Result<Vec<String>, AllocError> {
     Ok(all)
 }
 
-fn run_on(
-    rt: &impl Files,
+pub(crate) fn run_on(
+    rt: &(impl Files + Net),
     alloc: Global,
     words: &[&str],
     input: &mut impl Read,
@@ -117,13 +118,15 @@ fn faults_of_the_words(rt: HostRuntime) -> Result<(), Fail> {
         ),
         (&["koth", "fight", "a"], "<B>"),
         (&["koth", "fight", "a", "b", "c"], "unexpected argument 'c'"),
-        (&["koth", "create", "f"], "unrecognized subcommand 'create'"),
+        (&["koth", "create"], "<FILE>"),
+        (&["koth", "submit", "f"], "<SOURCE>"),
+        (&["koth", "show", "f", "g"], "unexpected argument 'g'"),
+        (&["koth", "serve", "f", "--port", "0"], "--connections <N>"),
+        (&["koth", "serve", "f", "--connections", "0"], "--port <P>"),
         (
-            &["koth", "submit", "f", "s"],
-            "unrecognized subcommand 'submit'",
+            &["koth", "serve", "f", "--port=65536", "--connections=0"],
+            "invalid value '65536'",
         ),
-        (&["koth", "show", "f"], "unrecognized subcommand 'show'"),
-        (&["koth", "serve", "f"], "unrecognized subcommand 'serve'"),
         (&["koth", "audit", "f"], "unrecognized subcommand 'audit'"),
     ];
     for (words, part) in rows {
@@ -148,7 +151,14 @@ fn help_is_written_to_the_output(rt: HostRuntime) -> Result<(), Fail> {
         (&["koth", "asm", "--help"], "Usage: koth asm"),
         (&["koth", "help", "asm"], "Usage: koth asm"),
         (&["koth", "fight", "-h"], "Usage: koth fight"),
-        (&["koth", "fight", "--help"], "[default: 80000]"),
+        (
+            &["koth", "fight", "--help"],
+            "1 to 1000000 [default: 80000]",
+        ),
+        (&["koth", "create", "--help"], "FILE"),
+        (&["koth", "submit", "--help"], "<FILE> <SOURCE>"),
+        (&["koth", "help", "show"], "Usage: koth show <FILE>"),
+        (&["koth", "serve", "--help"], "0 to 65535"),
     ];
     for (words, part) in rows {
         let mut input = b"".as_slice();
@@ -323,6 +333,7 @@ fn settings_are_refused_before_anything_is_read(rt: HostRuntime) -> Result<(), F
     let commands = [
         ["koth", "asm"].as_slice(),
         &["koth", "fight", "no such file", "no such file"],
+        &["koth", "create", "no such file"],
     ];
     for (options, field) in rows {
         for command in commands {
@@ -337,12 +348,13 @@ fn settings_are_refused_before_anything_is_read(rt: HostRuntime) -> Result<(), F
             assert_eq!(rt; input.len(), 9);
         }
     }
+    assert!(rt; !fs::exists(&rt, "no such file")?);
     Ok(())
 }
 
 /// Runs `koth fight` under small settings on two files. A file without a source is not made.
 fn fight_of(
-    rt: &(impl Files + AllocGlobal),
+    rt: &(impl Files + Net + AllocGlobal),
     files: [&str; 2],
     sources: [Option<&str>; 2],
 ) -> Result<Ran, Fail> {
@@ -376,7 +388,7 @@ fn fight_of(
 
 /// What `koth fight` writes and leaves with, for two sources.
 fn check_fight(
-    rt: &(impl Abort + Files + AllocGlobal),
+    rt: &(impl Abort + Files + Net + AllocGlobal),
     older: &str,
     younger: Option<&str>,
     text: &str,

@@ -1,14 +1,14 @@
 //! The words of the command line: what `koth` may be asked for.
 
 ghost use Rattle.std.specs.Prelude.{◌≡◌, ◌≢◌, true, false, codes, map, IfOk, IfErr, IsErrAnd, option_map, string_bytes};
-ghost use Rattle.clap.specs.Words.{app_of, first_of, found_of, kind_of, new_app, new_rule, rows_of, rule_of, subcommand_name_of, subcommand_of, subcommand_rows_of, takes, with_rule};
+ghost use Rattle.clap.specs.Words.{app_of, first_of, found_of, kind_of, new_app, new_rule, one_of, rows_of, rule_of, subcommand_name_of, subcommand_of, subcommand_rows_of, takes, with_rule};
 ghost use Rattle.clap.specs.declared.builder.command.Command.TheViews.{out-Command};
-ghost use Rattle.koth_server.specs.Options.{with_settings};
-ghost use Rattle.koth_server.specs.Words.{asm_app, fight_app, file_rule, koth_app, text_or_none, wants_subcommand, AreWrong, AsksBy, IsRefusal, NamesCommand};
+ghost use Rattle.koth_server.specs.Options.{number_below, number_or, required_rule, with_settings};
+ghost use Rattle.koth_server.specs.Words.{asm_app, create_app, fight_app, file_rule, koth_app, serve_app, show_app, submit_app, text_or_none, wants_subcommand, AreWrong, AsksBy, IsRefusal, NamesCommand};
 
-use crate::options::{settings_given, with_settings};
+use crate::options::{number_given, settings_given, with_settings};
 use clap::error::ErrorKind;
-use clap::{Arg, ArgMatches, Command, Error};
+use clap::{Arg, ArgMatches, Command, Error, value_parser};
 use std::alloc::{AllocError, Global};
 use war_types::RawSettings;
 
@@ -19,6 +19,14 @@ pub(crate) enum Request<'w> {
     Asm(RawSettings),
     /// `fight`: play a match under these settings, and write its counts.
     Fight(RawSettings, Fighters<'w>),
+    /// `create`: create a hill with these settings in this file.
+    Create(RawSettings, &'w str),
+    /// `submit`: submit a source to a hill, and write its reply.
+    Submit(Submission<'w>),
+    /// `show`: write the table of the hill in this file.
+    Show(&'w str),
+    /// `serve`: serve sessions on a hill.
+    Serve(Service<'w>),
 }
 
 /// The files of two warriors.
@@ -26,6 +34,21 @@ pub(crate) enum Request<'w> {
 pub(crate) struct Fighters<'w> {
     pub older: &'w str,
     pub younger: &'w str,
+}
+
+/// The files of a hill and of a source for it.
+#[derive(Clone, Copy, Debug, PartialEq, Eq)]
+pub(crate) struct Submission<'w> {
+    pub hill: &'w str,
+    pub source: &'w str,
+}
+
+/// The file of a hill, and how it is served.
+#[derive(Clone, Copy, Debug, PartialEq, Eq)]
+pub(crate) struct Service<'w> {
+    pub hill: &'w str,
+    pub port: u16,
+    pub connections: u32,
 }
 
 /// Why the words ask for nothing that is done.
@@ -62,7 +85,11 @@ fn koth_command<'a>(heap: Global) -> Result<Command<'a>, AllocError>
 {
     program(heap)
         .subcommand(asm_command(heap)?)?
-        .subcommand(fight_command(heap)?)
+        .subcommand(fight_command(heap)?)?
+        .subcommand(create_command(heap)?)?
+        .subcommand(submit_command(heap)?)?
+        .subcommand(show_command(heap)?)?
+        .subcommand(serve_command(heap)?)
 }
 
 fn program<'a>(heap: Global) -> Command<'a>
@@ -88,10 +115,78 @@ fn fight_command<'a>(heap: Global) -> Result<Command<'a>, AllocError>
     ensures globals { IfOk result (λ c. (out-Command c).has_globals ≡ false) }
 {
     let command = Command::new(heap, "fight")
-        .about("Plays a match, and writes the wins of A, the wins of B and the ties")
+        .about("Plays a match, and writes the rounds that A won, those that B won, and the ties")
         .arg(file(heap, "A", "File of the older warrior"))?
         .arg(file(heap, "B", "File of the younger warrior"))?;
     with_settings(heap, command)
+}
+
+fn create_command<'a>(heap: Global) -> Result<Command<'a>, AllocError>
+    ensures app { IfOk result (λ c. app_of c ≡ create_app) }
+    ensures globals { IfOk result (λ c. (out-Command c).has_globals ≡ false) }
+{
+    let command = Command::new(heap, "create")
+        .about("Creates a hill without warriors in a file, and writes CREATED")
+        .arg(file(
+            heap,
+            "FILE",
+            "File of the hill, which is made where it is missing",
+        ))?;
+    with_settings(heap, command)
+}
+
+fn submit_command<'a>(heap: Global) -> Result<Command<'a>, AllocError>
+    ensures app { IfOk result (λ c. app_of c ≡ submit_app) }
+    ensures globals { IfOk result (λ c. (out-Command c).has_globals ≡ false) }
+{
+    Command::new(heap, "submit")
+        .about("Submits a warrior to a hill, and writes its place, its points or its refusal")
+        .arg(file(heap, "FILE", "File of the hill"))?
+        .arg(file(heap, "SOURCE", "File of the warrior's source"))
+}
+
+fn show_command<'a>(heap: Global) -> Result<Command<'a>, AllocError>
+    ensures app { IfOk result (λ c. app_of c ≡ show_app) }
+    ensures globals { IfOk result (λ c. (out-Command c).has_globals ≡ false) }
+{
+    Command::new(heap, "show")
+        .about("Writes a hill's table: rank, entry, score, age, name and author of each warrior")
+        .arg(file(heap, "FILE", "File of the hill"))
+}
+
+fn serve_command<'a>(heap: Global) -> Result<Command<'a>, AllocError>
+    ensures app { IfOk result (λ c. app_of c ≡ serve_app) }
+    ensures globals { IfOk result (λ c. (out-Command c).has_globals ≡ false) }
+{
+    Command::new(heap, "serve")
+        .about("Serves sessions on a hill over connections to 127.0.0.1, one after the other")
+        .arg(file(heap, "FILE", "File of the hill"))?
+        .arg(port(heap))?
+        .arg(connections(heap))
+}
+
+fn port<'a>(heap: Global) -> Arg<'a>
+    ensures rule { rule_of result ≡ required_rule (codes "port") 65535 }
+    ensures global { result.global ≡ false }
+{
+    Arg::new(heap, "port")
+        .long("port")
+        .value_name("P")
+        .value_parser(value_parser!(u16))
+        .required(true)
+        .help("Port to listen at, 0 to 65535; at 0 the system chooses one")
+}
+
+fn connections<'a>(heap: Global) -> Arg<'a>
+    ensures rule { rule_of result ≡ required_rule (codes "connections") 4294967295 }
+    ensures global { result.global ≡ false }
+{
+    Arg::new(heap, "connections")
+        .long("connections")
+        .value_name("N")
+        .value_parser(value_parser!(u32))
+        .required(true)
+        .help("Connections to serve before the program ends, 0 to 4294967295")
 }
 
 fn file<'a>(heap: Global, name: &'a str, help: &'a str) -> Arg<'a>
@@ -107,20 +202,62 @@ fn request_of<'w>(matches: &ArgMatches<'w>) -> Request<'w>
 {
     match matches.subcommand() {
         Some(("asm", given)) => Request::Asm(settings_given(given)),
-        Some(("fight", given)) => Request::Fight(settings_given(given), files_named(given)),
+        Some(("fight", given)) => Request::Fight(settings_given(given), fighters_named(given)),
+        Some(("create", given)) => Request::Create(
+            settings_given(given),
+            file_named(given, "FILE"),
+        ),
+        Some(("submit", given)) => Request::Submit(submission_named(given)),
+        Some(("show", given)) => Request::Show(file_named(given, "FILE")),
+        Some(("serve", given)) => Request::Serve(service_named(given)),
         _ => unreachable!(),
     }
 }
 
-/// The files that are named. Words without both of them are refused.
-fn files_named<'w>(matches: &ArgMatches<'w>) -> Fighters<'w>
+fn fighters_named<'w>(matches: &ArgMatches<'w>) -> Fighters<'w>
     ensures older { result.older.now ≡ text_or_none (first_of (codes "A") (rows_of (found_of matches.now))) }
     ensures younger { result.younger.now ≡ text_or_none (first_of (codes "B") (rows_of (found_of matches.now))) }
 {
     Fighters {
-        older: matches.get_str("A").unwrap_or(""),
-        younger: matches.get_str("B").unwrap_or(""),
+        older: file_named(matches, "A"),
+        younger: file_named(matches, "B"),
     }
+}
+
+fn submission_named<'w>(matches: &ArgMatches<'w>) -> Submission<'w>
+    ensures hill { result.hill.now ≡ text_or_none (first_of (codes "FILE") (rows_of (found_of matches.now))) }
+    ensures source { result.source.now ≡ text_or_none (first_of (codes "SOURCE") (rows_of (found_of matches.now))) }
+{
+    Submission {
+        hill: file_named(matches, "FILE"),
+        source: file_named(matches, "SOURCE"),
+    }
+}
+
+fn service_named<'w>(matches: &ArgMatches<'w>) -> Service<'w>
+    ensures hill { result.hill.now ≡ text_or_none (first_of (codes "FILE") (rows_of (found_of matches.now))) }
+    ensures port { result.port ≡ number_below 65536 0 (one_of (codes "port") (rows_of (found_of matches.now))) }
+    ensures connections { result.connections ≡ number_or 0 (one_of (codes "connections") (rows_of (found_of matches.now))) }
+{
+    Service {
+        hill: file_named(matches, "FILE"),
+        port: port_given(matches),
+        connections: number_given(matches, "connections", 0),
+    }
+}
+
+/// The file that is named so. Words without it are refused.
+fn file_named<'w>(matches: &ArgMatches<'w>, name: &str) -> &'w str
+    ensures { result.now ≡ text_or_none (first_of name.now (rows_of (found_of matches.now))) }
+{
+    matches.get_str(name).unwrap_or("")
+}
+
+/// The port. Words without it are refused.
+fn port_given(matches: &ArgMatches<'_>) -> u16
+    ensures { result ≡ number_below 65536 0 (one_of (codes "port") (rows_of (found_of matches.now))) }
+{
+    matches.get_one("port").unwrap_or(0)
 }
 
 fn no_request(heap: Global, error: &Error) -> NoRequest

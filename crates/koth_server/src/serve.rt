@@ -1,0 +1,175 @@
+//! The command `serve`: sessions over a socket on the hill in a file.
+
+ghost use Rattle.std.specs.Prelude.{◌≡◌, ◌≢◌, None, false, IfOk, IfSome};
+ghost use Rattle.koth_server.specs.Hills.{listening_line, EndsServe, TriesServe};
+ghost use Rattle.koth_server.specs.Streams.{streams};
+
+use crate::counted::Counted;
+use crate::failure::Failure;
+use crate::files::open_hill;
+use crate::hill_fault::HillFault;
+use crate::line::Line;
+use crate::sessions::{SessionEnd, session};
+use crate::status::Status;
+use crate::stream::{StreamFault, write_whole};
+use crate::words::Service;
+use hill_store::Store;
+use sector_disk::{Device, FileDevice};
+use std::alloc::Allocator;
+use std::io;
+use std::io::{Read, Write};
+use std::net::{Ipv4Addr, Net, OpenListener, OpenStream, SocketAddr, TcpListener};
+use std::rt::Files;
+use std::time::Duration;
+
+/// Seconds that a peer may keep the service waiting for its next bytes, or for room for an answer.
+const PATIENCE: u64 = 60;
+
+/// Where a hill is, which can be opened again.
+pub(crate) trait HillPlace<D: Device, A: Allocator> {
+    /// Opens the hill.
+    fn open(&self) -> Result<Store<D, A>, HillFault>
+        ensures { IfOk result (λ store. store.reopen ≡ false) };
+}
+
+/// A hill in a file.
+#[derive(Drop)]
+struct HillFile<'f, R, A> {
+    rt: &'f R,
+    alloc: A,
+    path: &'f str,
+}
+
+impl<R: Files, A: Allocator + Copy> HillPlace<FileDevice<R::File>, A> for HillFile<'_, R, A> {
+    fn open(&self) -> Result<Store<FileDevice<R::File>, A>, HillFault> {
+        open_hill(self.rt, self.alloc, self.path)
+    }
+}
+
+/// Serves sessions on the hill in a file, over connections to a port of 127.0.0.1, one after the other, and ends after as many
+/// as are asked for. The line `LISTENING port` tells that peers may connect, and to which port where the system chooses it.
+pub(crate) fn serve<R: Files + Net, A: Allocator + Copy, O: Write, E: Write>(
+    rt: &R,
+    alloc: A,
+    service: Service<'_>,
+    output: &mut O,
+    errors: &mut E,
+) -> Status
+    ensures ends { EndsServe result
+        (streams None (O.contents output.old) (E.contents errors.old))
+        (streams None (O.contents output.new) (E.contents errors.new)) }
+    ensures words { result ≢ Status.WordFault }
+{
+    match serve_file(rt, alloc, service, output) {
+        Ok(status) => status,
+        Err(fault) => fault.tell(errors),
+    }
+}
+
+fn serve_file<R: Files + Net, A: Allocator + Copy, O: Write>(
+    rt: &R,
+    alloc: A,
+    service: Service<'_>,
+    output: &mut O,
+) -> Result<Status, HillFault>
+    ensures { TriesServe result (O.contents output.old) (O.contents output.new) }
+{
+    let store = match open_hill(rt, alloc, service.hill) {
+        Ok(store) => store,
+        Err(fault) => return Err(fault),
+    };
+    let Ok((listener, port)) = listen(rt, service.port) else {
+        return Err(HillFault::Failed(Failure::Stream));
+    };
+    match write_whole(output, listening_line(port).as_slice()) {
+        Ok(()) => (),
+        Err(StreamFault) => return Err(HillFault::Failed(Failure::Stream)),
+    }
+    let place = HillFile {
+        rt,
+        alloc,
+        path: service.hill,
+    };
+    match serve_connections(alloc, &listener, service.connections, store, &place) {
+        Ok(()) => Ok(Status::Done),
+        Err(fault) => Err(fault),
+    }
+}
+
+/// A listener at this port of 127.0.0.1, and the port, which the system chooses where 0 is asked for.
+fn listen<R: Net>(rt: &R, port: u16) -> io::Result<(R::Listener, u16)> {
+    let listener = TcpListener::bind(rt, SocketAddr::from((Ipv4Addr::LOCALHOST, port)))?;
+    let port = listener.local_addr()?.port();
+    Ok((listener, port))
+}
+
+fn listening_line(port: u16) -> Line
+    ensures { result ≡ listening_line port }
+{
+    let mut line = Line::new();
+    line.put(b"LISTENING ");
+    line.put_number(u64::from(port));
+    line.put(b"\n");
+    line
+}
+
+/// Serves as many connections, one after the other. After a session in which the device failed the store is closed, and it is
+/// opened again before the next connection. A refused opening and a failed accept end the service.
+pub(crate) fn serve_connections<S, L, D, A, P>(
+    alloc: A,
+    listener: &L,
+    connections: u32,
+    store: Store<D, A>,
+    place: &P,
+) -> Result<(), HillFault>
+where
+    S: Read + Write + OpenStream + Drop,
+    L: OpenListener<Stream = S>,
+    D: Device + Drop,
+    A: Allocator + Copy,
+    P: HillPlace<D, A>,
+    requires { store.reopen ≡ false }
+{
+    let mut kept = Some(store);
+    for _i in 0..connections {
+        let store = match kept.take() {
+            Some(store) => store,
+            None => match place.open() {
+                Ok(store) => store,
+                Err(fault) => return Err(fault),
+            },
+        };
+        let Ok((stream, _)) = listener.accept() else {
+            return Err(HillFault::Failed(Failure::Stream));
+        };
+        kept = serve_connection(alloc, stream, store);
+    }
+    Ok(())
+}
+
+/// Serves one connection, and gives the store back unless the device failed. A peer that is silent for too long ends its session as
+/// one whose bytes can't be read.
+fn serve_connection<S, D, A>(alloc: A, stream: S, mut store: Store<D, A>) -> Option<Store<D, A>>
+where
+    S: Read + Write + OpenStream + Drop,
+    D: Device + Drop,
+    A: Allocator + Copy,
+    requires { store.reopen ≡ false }
+    ensures { IfSome result (λ store. store.reopen ≡ false) }
+{
+    let patience = Duration::from_secs(PATIENCE);
+    let _ = stream.set_read_timeout(Some(patience));
+    let _ = stream.set_write_timeout(Some(patience));
+    let Ok(reading) = stream.try_clone() else {
+        return Some(store);
+    };
+    match session(
+        alloc,
+        &mut Counted::new(reading),
+        &mut Counted::new(stream),
+        &mut store,
+    ) {
+        SessionEnd::StoreFailed => None,
+        _ => Some(store),
+    }
+}

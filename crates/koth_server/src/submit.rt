@@ -1,0 +1,89 @@
+//! The command `submit`: one submission to the hill in a file.
+
+ghost use Rattle.std.specs.Prelude.{◌≡◌, ◌≢◌, None};
+ghost use Rattle.koth_server.specs.Hills.{reply_status, EndsHill, SaysReply, SubmitsTo, Tries};
+ghost use Rattle.koth_server.specs.Streams.{streams};
+
+use crate::answer::source_buffer;
+use crate::failure::Failure;
+use crate::files::{open_hill, read_file};
+use crate::hill_fault::HillFault;
+use crate::reply::line_of;
+use crate::status::Status;
+use crate::stream::{StreamFault, write_whole};
+use crate::words::Submission;
+use hill_store::{Reply, Store};
+use sector_disk::Device;
+use std::alloc::Allocator;
+use std::io::Write;
+use std::rt::Files;
+
+/// Submits the source in a file to the hill in another, and writes the reply's line. The hill is opened before the source is
+/// read. The reply to a warrior that is placed or falls is written once that is durable.
+pub(crate) fn submit<R: Files, A: Allocator + Copy, O: Write, E: Write>(
+    rt: &R,
+    alloc: A,
+    files: Submission<'_>,
+    output: &mut O,
+    errors: &mut E,
+) -> Status
+    ensures ends { EndsHill SaysReply result
+        (streams None (O.contents output.old) (E.contents errors.old))
+        (streams None (O.contents output.new) (E.contents errors.new)) }
+    ensures words { result ≢ Status.WordFault }
+{
+    match submit_file(rt, alloc, files, output) {
+        Ok(status) => status,
+        Err(fault) => fault.tell(errors),
+    }
+}
+
+fn submit_file<R: Files, A: Allocator + Copy, O: Write>(
+    rt: &R,
+    alloc: A,
+    files: Submission<'_>,
+    output: &mut O,
+) -> Result<Status, HillFault>
+    ensures { Tries SaysReply result (O.contents output.old) (O.contents output.new) }
+{
+    let mut store = match open_hill(rt, alloc, files.hill) {
+        Ok(store) => store,
+        Err(fault) => return Err(fault),
+    };
+    let Ok(mut buffer) = source_buffer(alloc) else {
+        return Err(HillFault::Failed(Failure::Memory));
+    };
+    let count = match read_file(rt, files.source, buffer.as_mut_slice()) {
+        Ok(count) => count,
+        Err(StreamFault) => return Err(HillFault::Failed(Failure::Stream)),
+    };
+    submit_source(&mut store, &buffer.as_slice()[..count], output)
+}
+
+/// Submits a source to a store, and then writes the reply's line.
+fn submit_source<D: Device, A: Allocator + Copy, O: Write>(
+    store: &mut Store<D, A>,
+    source: &[u8],
+    output: &mut O,
+) -> Result<Status, HillFault>
+    ensures { SubmitsTo D.size D.lawful D.disk D.failures store.old source.now result store.new
+        (O.contents output.old) (O.contents output.new) }
+{
+    let reply = store.submit(source);
+    match write_whole(output, line_of(&reply).as_slice()) {
+        Ok(()) => Ok(status_of(&reply)),
+        Err(StreamFault) => Err(HillFault::Failed(Failure::Stream)),
+    }
+}
+
+/// How the program ends with a reply.
+fn status_of(reply: &Reply) -> Status
+    ensures { result ≡ reply_status reply.now }
+{
+    match reply {
+        Reply::Placed { .. } | Reply::Fell { .. } => Status::Done,
+        Reply::Refused(_) | Reply::Worn => Status::Refused,
+        Reply::Memory => Status::NoMemory,
+        Reply::Disk | Reply::Reopen => Status::StreamFault,
+    }
+}
