@@ -20,6 +20,21 @@ fight_asks : AsksFor (codes "fight") (codes "koth" ∷ codes "fight" ∷ codes "
 unfolding clap_on_literals koth_app
 fight_asks = (refl, refl)
 
+hills_ask : AsksFor (codes "create") (codes "koth" ∷ codes "create" ∷ codes "a.hill" ∷ codes "--seed=7" ∷ [])
+    × AsksFor (codes "submit") (codes "koth" ∷ codes "submit" ∷ codes "a.hill" ∷ codes "a.red" ∷ [])
+    × AsksFor (codes "show") (codes "koth" ∷ codes "show" ∷ codes "a.hill" ∷ [])
+    × AsksFor (codes "serve") (codes "koth" ∷ codes "serve" ∷ codes "a.hill" ∷ codes "--port=0" ∷ codes "--connections" ∷ codes "4294967295" ∷ [])
+unfolding clap_on_literals koth_app
+hills_ask = ((refl, refl), (refl, refl), (refl, refl), (refl, refl))
+
+-- a source, a port or a number of connections too few, and a port past 16 bits are not taken
+hills_not_taken : (takes koth_app (codes "koth" ∷ codes "submit" ∷ codes "a.hill" ∷ []) ≡ false)
+    × (takes koth_app (codes "koth" ∷ codes "serve" ∷ codes "a.hill" ∷ codes "--connections=1" ∷ []) ≡ false)
+    × (takes koth_app (codes "koth" ∷ codes "serve" ∷ codes "a.hill" ∷ codes "--port=1" ∷ []) ≡ false)
+    × (takes koth_app (codes "koth" ∷ codes "serve" ∷ codes "a.hill" ∷ codes "--port=65536" ∷ codes "--connections=1" ∷ []) ≡ false)
+unfolding clap_on_literals koth_app
+hills_not_taken = (refl, refl, refl, refl)
+
 -- the settings that words give, by one word or by two, with a plus sign or without
 given_settings : (settings_named (codes "koth" ∷ codes "asm" ∷ []) ≡ default_settings)
     × (settings_named (codes "koth" ∷ codes "asm" ∷ codes "--core" ∷ codes "64" ∷ codes "--seed=+7" ∷ []) ≡ record default_settings { core = 64; seed = 7 })

@@ -143,14 +143,23 @@ fn the_port_is_told(rt: HostRuntime) -> Result<(), Fail> {
     Ok(())
 }
 
+/// A service at this port, which another has.
+fn check_in_use(
+    rt: &(impl Abort + Files + Net + AllocGlobal),
+    hill: &str,
+    port: &str,
+) -> Result<(), Fail> {
+    let words = ["koth", "serve", hill, "--connections=1", "--port", port];
+    check(rt, words.as_slice(), "", "DISK\n", 3)
+}
+
 #[test]
 fn a_port_in_use(rt: HostRuntime) -> Result<(), Fail> {
     let hill = "in use.hill";
     create_small(&rt, hill, "CREATED\n", "", 0)?;
     let listener = TcpListener::bind(&rt, SocketAddr::from((Ipv4Addr::LOCALHOST, 0)))?;
-    let port = format!(in rt.alloc(); "--port={}", listener.local_addr()?.port())?;
-    let words = ["koth", "serve", hill, port.as_str(), "--connections=1"];
-    check(&rt, words.as_slice(), "", "DISK\n", 3)?;
+    let port = format!(in rt.alloc(); "{}", listener.local_addr()?.port())?;
+    check_in_use(&rt, hill, port.as_str())?;
     fs::remove_file(&rt, hill)?;
     Ok(())
 }

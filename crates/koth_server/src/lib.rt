@@ -36,6 +36,8 @@ mod hill_tests;
 #[cfg(test)]
 mod serve_tests;
 #[cfg(test)]
+mod session_fault_tests;
+#[cfg(test)]
 mod session_tests;
 #[cfg(test)]
 mod tests;

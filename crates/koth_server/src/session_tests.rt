@@ -1,3 +1,5 @@
+ghost use Rattle.std.specs.Prelude.{◌≡◌, false, IfOk, IfSome};
+
 use super::{Counted, SessionEnd, session};
 use hill_store::Store;
 use sector_disk::{FuseDevice, FuseKind, MemoryDevice};
@@ -20,7 +22,9 @@ const SMALL: RawSettings = RawSettings {
 pub(crate) fn empty_hill(
     alloc: Global,
     device: MemoryDevice<Global>,
-) -> Result<Store<MemoryDevice<Global>, Global>, Fail> {
+) -> Result<Store<MemoryDevice<Global>, Global>, Fail>
+    ensures { IfOk result (λ store. store.reopen ≡ false) }
+{
     match Store::create(alloc, device, Settings::new(SMALL)?) {
         Ok(store) => Ok(store),
         Err(_) => Err("it is created".into()),
@@ -31,7 +35,9 @@ pub(crate) fn empty_hill(
 pub(crate) fn failing_hill(
     alloc: Global,
     calls: u64,
-) -> Option<Store<FuseDevice<MemoryDevice<Global>>, Global>> {
+) -> Option<Store<FuseDevice<MemoryDevice<Global>>, Global>>
+    ensures { IfSome result (λ store. store.reopen ≡ false) }
+{
     let settings = Settings::new(SMALL).ok()?;
     let device = FuseDevice::new(MemoryDevice::new(alloc, 8).ok()?, calls, FuseKind::FailLost);
     Store::create(alloc, device, settings).ok()

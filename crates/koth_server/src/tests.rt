@@ -173,10 +173,10 @@ fn help_is_written_to_the_output(rt: HostRuntime) -> Result<(), Fail> {
 
 /// A reader that gives a few bytes at a time, and fails at one of its reads.
 #[derive(Drop)]
-struct FailingReader<'b> {
-    left: &'b [u8],
-    reads: u64,
-    fails_at: u64,
+pub(crate) struct FailingReader<'b> {
+    pub left: &'b [u8],
+    pub reads: u64,
+    pub fails_at: u64,
 }
 
 impl Read for FailingReader<'_> {
