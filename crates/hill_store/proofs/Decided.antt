@@ -1,5 +1,5 @@
 -- What opening decides of a device that may stand for either of two hills.
-use Rattle.std.proofs.Common.{◌≡◌, ◌⊎◌, inl, inr, ℕ, ◌+◌, ◌*◌, ◌<◌, ◌≤◌, List, [], ◌∷◌, ◌++◌, Option, Some, None, refl, sym, ap, subst, ◌∙◌, arith}
+use Rattle.std.proofs.Common.{◌≡◌, ◌⊎◌, inl, inr, ℕ, ◌<◌, ◌≤◌, List, [], ◌∷◌, ◌++◌, Option, Some, None, refl, sym, ap, subst, ◌∙◌, arith}
 use Rattle.war_types.specs.declared.settings.RawSettings.{RawSettings}
 use Rattle.sector_disk.specs.Disk.{Disk, current, synced}
 use Rattle.sector_disk.specs.Image.{Images}
@@ -10,10 +10,10 @@ use Rattle.hill_store.specs.declared.reply.Refusal.{Refusal}
 use Rattle.hill_store.specs.declared.reply.Refusal.TheVariants as refusals
 use Rattle.hill_store.specs.Layout.{HeaderParts, sectors_for}
 use Rattle.hill_store.specs.Earned.{earned}
-use Rattle.hill_store.specs.Stands.{IsNewest, Shows, Stands, StandsFor, Holds}
+use Rattle.hill_store.specs.Stands.{Shows, Stands, StandsFor, Holds}
 use Rattle.hill_store.specs.Seen.{Seen}
 use Rattle.hill_store.specs.Opened.{IsKept, IsCreated, IsOpened, IsNotOpened, Refuses}
-use Rattle.hill_store.specs.Holding.{IsHolding, AreDecided, IsDecided, IsUndecided}
+use Rattle.hill_store.specs.Holding.{IsHolding, IsDecided, IsUndecided}
 use Rattle.hill_store.proofs.Newest.{one_newest, stands_once}
 
 -- a hill that was created holds no sources

@@ -1,5 +1,5 @@
 -- What a store holds after each submission, and after a list of them.
-use Rattle.std.proofs.Common.{◌≡◌, ◌⊎◌, inl, inr, ℕ, Bool, true, false, List, [], ◌∷◌, ◌++◌, Option, Some, None, refl, sym, ap, subst, ◌∙◌, append-nil, append_assoc}
+use Rattle.std.proofs.Common.{◌≡◌, ◌⊎◌, ℕ, true, false, List, [], ◌∷◌, ◌++◌, Option, refl, sym, ap, subst, ◌∙◌, append-nil, append_assoc}
 use Rattle.war_types.specs.declared.settings.RawSettings.{RawSettings}
 use Rattle.sector_disk.specs.Disk.{Disk}
 use Rattle.sector_disk.specs.Image.{Images}
@@ -8,7 +8,7 @@ use Rattle.koth_hill.specs.Step.{new_hill}
 use Rattle.hill_store.specs.declared.reply.Reply.{Reply}
 use Rattle.hill_store.specs.declared.reply.Reply.TheVariants as replies
 use Rattle.hill_store.specs.Earned.{step_source, steps, earned}
-use Rattle.hill_store.specs.Stands.{Stands, Holds}
+use Rattle.hill_store.specs.Stands.{Stands}
 use Rattle.hill_store.specs.Seen.{Seen, IsAnswered, IsCut, IsLeft, Submits}
 use Rattle.hill_store.specs.Runs.{RunsOn}
 use Rattle.hill_store.specs.Holding.{answered, under_way, IsHolding, IsCutOff, IsHeldWith, HoldsMore}

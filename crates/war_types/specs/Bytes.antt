@@ -1,5 +1,5 @@
 -- An instruction as eight bytes.
-use Rattle.std.specs.Prelude.{ℕ, List, [], ◌∷◌, ◌++◌}
+use Rattle.std.specs.Prelude.{ℕ, List, ◌∷◌, ◌++◌}
 use Rattle.std.specs.Int.{bytes_high_first}
 use Rattle.war_types.specs.declared.instr.Op.{Op}
 use Rattle.war_types.specs.declared.instr.Op.TheVariants as ops
