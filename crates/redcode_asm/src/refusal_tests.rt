@@ -12,7 +12,11 @@ use war_types::AsmKind;
 fn smallest_sources(rt: HostRuntime) -> Result<(), Fail> {
     let settings = defaults()?;
     for (source, refusal) in [
-        ("FOR 1", "1 BadOperation"),
+        ("FOR 1", "1 UnmatchedFor"),
+        ("ROF", "1 UnmatchedRof"),
+        ("FOR 4097\nROF", "1 ForLimit"),
+        ("FOR\nROF", "1 BadExpression"),
+        ("FOR x\nROF", "1 UnknownName"),
         ("x\nx", "2 DuplicateName"),
         ("EQU", "1 BadEqu"),
         ("a EQU a\nDAT a", "2 EquLimit"),
@@ -60,8 +64,8 @@ fn lines_with_a_fault(rt: HostRuntime) -> Result<(), Fail> {
         ("MVO 0, 1\nMVO 0, 1", "2 DuplicateName"),
         ("FOO 0\nFOO 0", "2 DuplicateName"),
         ("X DAT x", "1 UnknownName"),
-        ("DAT 0 ; FOR\nx FOR 2", "2 BadOperation"),
-        ("?\nROF", "2 BadOperation"),
+        ("DAT 0 ; FOR\nx FOR 2", "2 UnmatchedFor"),
+        ("?\nROF", "2 UnmatchedRof"),
         ("here:", "1 BadOperation"),
         ("MOV #, 1", "1 BadExpression"),
         ("MOV >=5", "1 BadExpression"),
@@ -100,6 +104,11 @@ fn lines_with_a_fault(rt: HostRuntime) -> Result<(), Fail> {
         ("p EQU 1\nPIN p", "2 Pspace"),
         ("m EQU 1,2\nDAT\n;assert m", "3 ExtraText"),
         ("a EQU b b\nb EQU a a\nDAT 0, a", "3 EquLimit"),
+        // FOR and ROF
+        ("i FOR 1\nMOV.A&i 1, 2\nROF", "2 BadModifier"),
+        ("i01 FOR 1\nDAT i&i01\nROF", "2 UnknownName"),
+        ("x EQU i\ni FOR 1\nDAT x\nROF", "3 UnknownName"),
+        ("FOR 1\nEND\nROF", "0 Empty"),
     ] {
         match printed(rt.alloc(), source.as_bytes(), &settings) {
             Ok(_) => assert!(rt; false, "{source:?} is accepted"),

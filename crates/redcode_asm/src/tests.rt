@@ -222,3 +222,41 @@ fn prefixes(rt: HostRuntime) -> Result<(), Fail> {
     }
     Ok(())
 }
+
+/// FOR and ROF.
+#[test]
+fn blocks(rt: HostRuntime) -> Result<(), Fail> {
+    let settings = defaults()?;
+    for (source, text) in [
+        (
+            "i FOR 2\na&i DAT i\nROF\nJMP a02",
+            "ORG 0\nDAT.F  $     0, $     1\nDAT.F  $     0, $     2\nJMP.B  $    -1, $     0\nEND\n",
+        ),
+        (
+            "here i FOR 2\nDAT here\nROF",
+            "ORG 0\nDAT.F  $     0, $     0\nDAT.F  $     0, $    -1\nEND\n",
+        ),
+        (
+            "i FOR 2\nj FOR 2\nDAT i, j\nROF\nROF",
+            "ORG 0\nDAT.F  $     1, $     1\nDAT.F  $     1, $     2\nDAT.F  $     2, $     1\nDAT.F  $     2, $     2\nEND\n",
+        ),
+        (
+            "i FOR 2\nmov.i i, 2\nROF",
+            "ORG 0\nMOV.I  $     1, $     2\nMOV.I  $     2, $     2\nEND\n",
+        ),
+        (
+            "i FOR 1\na&i&i DAT 0\nROF\nJMP a0101",
+            "ORG 0\nDAT.F  $     0, $     0\nJMP.B  $    -1, $     0\nEND\n",
+        ),
+        (
+            "FOR 0\nx FOR y z\nROF\nROF\nDAT 0",
+            "ORG 0\nDAT.F  $     0, $     0\nEND\n",
+        ),
+    ] {
+        match printed(rt.alloc(), source.as_bytes(), &settings) {
+            Ok(found) => assert_eq!(rt; found.as_slice(), text.as_bytes(), "{source:?}"),
+            Err(fault) => assert!(rt; false, "{source:?}: {fault}"),
+        }
+    }
+    Ok(())
+}

@@ -8,4 +8,11 @@ mod AllLines
 mod OneLine
 mod LastNames
 mod Places
+mod Counters
+mod Fronts
+mod Joining
+mod SourceLines
+mod GoingOn
+mod Pairing
+mod EndingCopies
 mod Rows

@@ -11,10 +11,12 @@ use Rattle.redcode_expand.specs.declared.word.Word.{Word}
 use Rattle.redcode_expand.specs.declared.word.Word.TheVariants as words
 use Rattle.redcode_expand.specs.Source.{lines_of, numbered_from, directive_of, redcode_on}
 use Rattle.redcode_expand.specs.Word.{has_text, is_name, labels_of, line_word, behind_labels, statement_tokens, unplaced}
+use Rattle.redcode_expand.specs.declared.source_line.LineForm.TheVariants as forms
+use Rattle.redcode_expand.specs.Block.{SourceLine, Blocks, source_line, source_lines, parsed, finish, one_line}
 use Rattle.redcode_expand.specs.Walk.{ExpandedLine, walk_state, walk}
 use Rattle.redcode_expand.specs.Name.{names_of}
 use Rattle.redcode_expand.specs.Equ.{body_at, round, has_equ, rounds, replaced}
-use Rattle.redcode_expand.specs.Expansion.{expansion, operands_of, before_operands, line_replaced, all_replaced, no_blocks}
+use Rattle.redcode_expand.specs.Expansion.{expansion, operands_of, before_operands, line_replaced, all_replaced}
 
 -- the word of each kind of plain line
 abbrev pub plain_word : LineKind → Option Word
@@ -76,11 +78,26 @@ redcode_on-plain n _ _ (last is) = rw is.no_directive refl
 redcode_on-plain n _ _ (operation {others = others} {reads = reads} is are) = rw is.no_directive (redcode_on-plain (n + 1) others reads are)
 redcode_on-plain n _ _ (org {others = others} {reads = reads} is are) = rw is.no_directive (redcode_on-plain (n + 1) others reads are)
 
--- none is EQU, FOR or ROF
-no_blocks-plain : (n : ℕ) (ls : List (List ℕ)) (reads : List PlainLine) → ArePlain ls reads → no_blocks (numbered_from n ls) ≡ Ok tt
-no_blocks-plain n _ _ (last is) = rw (is.no_directive, is.tokens_are, is.word_is) refl
-no_blocks-plain n _ _ (operation {others = others} {reads = reads} is are) = rw (is.no_directive, is.tokens_are, is.word_is) (no_blocks-plain (n + 1) others reads are)
-no_blocks-plain n _ _ (org {others = others} {reads = reads} is are) = rw (is.no_directive, is.tokens_are, is.word_is) (no_blocks-plain (n + 1) others reads are)
+-- they are lines of the source that make no block
+abbrev plain_source : ℕ → List PlainLine → List SourceLine
+plain_source n [] = []
+plain_source n (read ∷ reads) = source_line n forms.Statement [] read.1 ∷ plain_source (n + 1) reads
+
+abbrev plain_blocks : ℕ → List PlainLine → Blocks
+plain_blocks n [] = finish
+plain_blocks n (read ∷ reads) = one_line (source_line n forms.Statement [] read.1) (plain_blocks (n + 1) reads)
+
+source_lines-plain : (n : ℕ) (ls : List (List ℕ)) (reads : List PlainLine) → ArePlain ls reads → source_lines (numbered_from n ls) ≡ plain_source n reads
+source_lines-plain n _ _ (last is) = rw (is.no_directive, is.tokens_are) refl
+source_lines-plain n _ _ (operation {token = token} {tokens = tokens} {others = others} {reads = reads} is are) =
+    rw (is.no_directive, is.tokens_are) (ap (λ (ls : List SourceLine). source_line n forms.Statement [] (token ∷ tokens) ∷ ls) (source_lines-plain (n + 1) others reads are))
+source_lines-plain n _ _ (org {token = token} {tokens = tokens} {others = others} {reads = reads} is are) =
+    rw (is.no_directive, is.tokens_are) (ap (λ (ls : List SourceLine). source_line n forms.Statement [] (token ∷ tokens) ∷ ls) (source_lines-plain (n + 1) others reads are))
+
+parsed-plain : (n : ℕ) (ls : List (List ℕ)) (reads : List PlainLine) → ArePlain ls reads → parsed (plain_source n reads) ≡ (plain_blocks n reads, [])
+parsed-plain n _ _ (last is) = rw is.word_is refl
+parsed-plain n _ _ (operation {others = others} {reads = reads} is are) = rw (is.word_is, parsed-plain (n + 1) others reads are) refl
+parsed-plain n _ _ (org {others = others} {reads = reads} is are) = rw (is.word_is, parsed-plain (n + 1) others reads are) refl
 
 -- ---- without an EQU nothing is replaced
 
@@ -147,21 +164,21 @@ all_replaced-plain n before _ _ (org {token = token} {tokens = tokens} {others =
 
 -- the walk passes over them
 walk-plain : (s : RawSettings) (n counted before : ℕ) (done : List ExpandedLine) (ls : List (List ℕ)) (reads : List PlainLine) → ArePlain ls reads → counted + length reads ≤ 4096
-    → walk s (numbered_from n ls) (walk_state counted before (names_of [] []) done false)
+    → walk s [] (plain_blocks n reads) (walk_state counted before (names_of [] []) done false)
     ≡ Ok (walk_state (counted + length reads) (before_end before reads) (names_of [] []) (done ++ plain_lines n before reads) true)
 walk-plain s n counted before done _ _ (last is) few =
-    rw (is.no_directive, is.tokens_are, lt-ltb counted 4096 (omega arith), is.no_labels, is.all_behind, is.word_is) refl
+    rw (lt-ltb counted 4096 (omega arith), is.no_labels, is.all_behind, is.word_is) refl
 walk-plain s n counted before done _ _ (operation {token = token} {tokens = tokens} {others = others} {reads = reads} is are) few =
     let line : ExpandedLine = record { source_line = n; kind = lines.Operation; before = before; title = []; tokens = map unplaced (token ∷ tokens) } in
     let rest = walk-plain s (n + 1) (counted + 1) (before + 1) (done ++ line ∷ []) others reads are (omega arith) in
     let count : counted + 1 + length reads ≡ counted + suc (length reads) = omega arith in
-    rw (is.no_directive, is.tokens_are, lt-ltb counted 4096 (omega arith), is.no_labels, is.all_behind, is.word_is)
+    rw (lt-ltb counted 4096 (omega arith), is.no_labels, is.all_behind, is.word_is)
     (rest ∙ rw (append_assoc done (line ∷ []) (plain_lines (n + 1) (before + 1) reads), count) refl)
 walk-plain s n counted before done _ _ (org {token = token} {tokens = tokens} {others = others} {reads = reads} is are) few =
     let line : ExpandedLine = record { source_line = n; kind = lines.Org; before = before; title = []; tokens = map unplaced (token ∷ tokens) } in
     let rest = walk-plain s (n + 1) (counted + 1) before (done ++ line ∷ []) others reads are (omega arith) in
     let count : counted + 1 + length reads ≡ counted + suc (length reads) = omega arith in
-    rw (is.no_directive, is.tokens_are, lt-ltb counted 4096 (omega arith), is.no_labels, is.all_behind, is.word_is)
+    rw (lt-ltb counted 4096 (omega arith), is.no_labels, is.all_behind, is.word_is)
     (rest ∙ rw (append_assoc done (line ∷ []) (plain_lines (n + 1) before reads), count) refl)
 
 -- the expansion of plain lines is these lines
@@ -172,7 +189,8 @@ expansion-plain s source reads short few are =
     rw (
       le-ltb 65536 (length source) short,
       redcode_on-plain 1 (lines_of source) reads are,
-      no_blocks-plain 1 (lines_of source) reads are,
+      source_lines-plain 1 (lines_of source) reads are,
+      parsed-plain 1 (lines_of source) reads are,
       walk-plain s 1 0 0 [] (lines_of source) reads are (omega arith),
       all_replaced-plain 1 0 (lines_of source) reads are,
     )

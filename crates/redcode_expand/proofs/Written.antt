@@ -4,117 +4,104 @@ use Rattle.std.proofs.lemmas.Bool.{true≢false, eqb-true}
 use Rattle.std.proofs.lemmas.List.{take_all}
 use Rattle.war_types.specs.declared.fault.AsmFault.{AsmFault}
 use Rattle.war_types.specs.declared.fault.AsmKind.TheVariants as kinds
-use Rattle.redcode_text.specs.declared.token.Token.{Token}
-use Rattle.redcode_text.specs.Tokens.{Piece, piece_of}
+use Rattle.redcode_text.specs.Tokens.{Piece}
 use Rattle.redcode_expand.specs.Gives.{fault_at, Fails}
-use Rattle.redcode_expand.specs.Word.{unplaced}
-use Rattle.redcode_expand.specs.Equ.{EquList, unplaced_all, body_at, left_over, after_rounds}
+use Rattle.redcode_expand.specs.Equ.{EquList, body_at, left_over, after_rounds}
 use Rattle.redcode_expand.proofs.Replacing.{after-nothing, left-short, itself-kept, itself-step, itself-full, name-left, body-kept, body-step, body-refused}
 
-pub unplaced-length : (tokens : List Token) → length (unplaced_all tokens) ≡ length tokens
-unplaced-length [] = refl
-unplaced-length (t ∷ ts) = ap suc (unplaced-length ts)
-
-pub unplaced-push : (tokens : List Token) (t : Token) → unplaced_all (tokens ++ t ∷ []) ≡ unplaced_all tokens ++ unplaced (piece_of t) ∷ []
-unplaced-push [] t = refl
-unplaced-push (x ∷ xs) t = ap (λ (ts : List Piece). unplaced (piece_of x) ∷ ts) (unplaced-push xs t)
-
 -- the tokens behind the first
-abbrev behind : List Token → List Token
+abbrev behind : List Piece → List Piece
 behind rest = take (length rest - 1) (drop 1 rest)
 
-first-behind : (rest : List Token) (d : Token) → 1 ≤ length rest → unplaced_all rest ≡ unplaced (piece_of (get_or rest 0 d)) ∷ unplaced_all (behind rest)
-first-behind [] d some = absurd (omega arith)
-first-behind (x ∷ xs) d some =
+first-behind : (rest : List Piece) (x : Piece) → 1 ≤ length rest → x ≡ get_or rest 0 x → rest ≡ x ∷ behind rest
+first-behind [] y some is = absurd (omega arith)
+first-behind (x ∷ xs) y some is =
     let one : length (x ∷ xs) - 1 ≡ length xs = omega arith in
     let all : take (length xs) xs ≡ xs = take_all (length xs) xs (omega arith) in
-    rw (one, all) refl
+    rw (is, one, all) refl
 
 -- a body with tokens, and one without
-some-tokens : (body : List Token) → false ≡ eqb (length body) 0 → 0 < length (unplaced_all body)
+some-tokens : (body : List Piece) → false ≡ eqb (length body) 0 → 0 < length body
 some-tokens [] is = absurd (true≢false (sym is))
 some-tokens (x ∷ xs) is = omega arith
 
-none-tokens : (body : List Token) → true ≡ eqb (length body) 0 → unplaced_all body ≡ []
+none-tokens : (body : List Piece) → true ≡ eqb (length body) 0 → body ≡ []
 none-tokens [] is = refl
 none-tokens (x ∷ xs) is =
     let none : length (x ∷ xs) ≡ 0 = eqb-true (length (x ∷ xs)) 0 (sym is) in
     absurd (omega (arith, none))
 
 -- a name is left when there is no round for it
-pub name-refused : (rounds line : ℕ) (equs : EquList) (out : List Piece) (rest body : List Token) (d : Token) (fault : AsmFault) (whole : Result (List Piece) AsmFault)
-    → 1 ≤ length rest → unplaced_all body ≡ body_at equs (piece_of (get_or rest 0 d)) → false ≡ eqb (length body) 0 → rounds ≡ 0 → fault ≡ fault_at line kinds.EquLimit
-    → left_over line equs (out ++ after_rounds rounds equs (unplaced_all rest)) ≡ whole → Fails fault whole
-name-refused rounds line equs out rest body d fault whole some is tokens last fault-is so_far =
-    let front : unplaced_all rest ≡ unplaced (piece_of (get_or rest 0 d)) ∷ unplaced_all (behind rest) = first-behind rest d some in
-    let left : left_over line equs (out ++ after_rounds rounds equs (unplaced_all rest)) ≡ Err fault =
-    rw (last, front, fault-is) (name-left line equs out (unplaced (piece_of (get_or rest 0 d))) (unplaced_all body) (unplaced_all (behind rest)) (sym is) (some-tokens body tokens)) in
+pub name-refused : (rounds line : ℕ) (equs : EquList) (out : List Piece) (rest body : List Piece) (x : Piece) (fault : AsmFault) (whole : Result (List Piece) AsmFault)
+    → 1 ≤ length rest → x ≡ get_or rest 0 x → body ≡ body_at equs x → false ≡ eqb (length body) 0 → rounds ≡ 0 → fault ≡ fault_at line kinds.EquLimit
+    → left_over line equs (out ++ after_rounds rounds equs rest) ≡ whole → Fails fault whole
+name-refused rounds line equs out rest body x fault whole some first is tokens last fault-is so_far =
+    let front : rest ≡ x ∷ behind rest = first-behind rest x some first in
+    let left : left_over line equs (out ++ after_rounds rounds equs rest) ≡ Err fault =
+    rw (last, front, fault-is) (name-left line equs out x body (behind rest) (sym is) (some-tokens body tokens)) in
     inr (sym so_far ∙ left)
 
 -- there is no room for a token
-pub token-refused : (rounds line : ℕ) (equs : EquList) (out : List Piece) (rest : List Token) (fault : AsmFault) (whole : Result (List Piece) AsmFault)
+pub token-refused : (rounds line : ℕ) (equs : EquList) (out : List Piece) (rest : List Piece) (fault : AsmFault) (whole : Result (List Piece) AsmFault)
     → 1 ≤ length rest → length out ≡ 512 → fault ≡ fault_at line kinds.EquLimit
-    → left_over line equs (out ++ after_rounds rounds equs (unplaced_all rest)) ≡ whole → Fails fault whole
+    → left_over line equs (out ++ after_rounds rounds equs rest) ≡ whole → Fails fault whole
 token-refused rounds line equs out [] fault whole some full fault-is so_far = absurd (omega arith)
 token-refused rounds line equs out (x ∷ xs) fault whole some full fault-is so_far =
     let most : 512 ≤ length out = omega (arith, full) in
-    let left : left_over line equs (out ++ after_rounds rounds equs (unplaced_all (x ∷ xs))) ≡ Err fault =
-    rw fault-is (itself-full rounds line equs out (unplaced (piece_of x)) (unplaced_all xs) most) in
+    let left : left_over line equs (out ++ after_rounds rounds equs (x ∷ xs)) ≡ Err fault =
+    rw fault-is (itself-full rounds line equs out x xs most) in
     inr (sym so_far ∙ left)
 
 -- what is kept while tokens are written: what is there is left over, and with what the others become it is the whole
-abbrev pub Keeps : ℕ → ℕ → EquList → List Piece → List Token → Result (List Piece) AsmFault → Type 0
-Keeps rounds line equs out rest whole = (left_over line equs out ≡ Ok out) × (left_over line equs (out ++ after_rounds rounds equs (unplaced_all rest)) ≡ whole)
+abbrev pub Keeps : ℕ → ℕ → EquList → List Piece → List Piece → Result (List Piece) AsmFault → Type 0
+Keeps rounds line equs out rest whole = (left_over line equs out ≡ Ok out) × (left_over line equs (out ++ after_rounds rounds equs rest) ≡ whole)
 
 -- a token that is no name was written
-pub token-written : (rounds line : ℕ) (equs : EquList) (out after : List Piece) (rest body : List Token) (d : Token) (whole : Result (List Piece) AsmFault)
-    → 1 ≤ length rest → unplaced_all body ≡ body_at equs (piece_of (get_or rest 0 d)) → true ≡ eqb (length body) 0 → length out ≢ 512
-    → Keeps rounds line equs out rest whole → after ≡ out ++ unplaced (piece_of (get_or rest 0 d)) ∷ [] → Keeps rounds line equs after (behind rest) whole
-token-written rounds line equs out after rest body d whole some is tokens room keeps after-is =
-    let x : Piece = unplaced (piece_of (get_or rest 0 d)) in
-    let front : unplaced_all rest ≡ x ∷ unplaced_all (behind rest) = first-behind rest d some in
+pub token-written : (rounds line : ℕ) (equs : EquList) (out after : List Piece) (rest body : List Piece) (x : Piece) (whole : Result (List Piece) AsmFault)
+    → 1 ≤ length rest → x ≡ get_or rest 0 x → body ≡ body_at equs x → true ≡ eqb (length body) 0 → length out ≢ 512
+    → Keeps rounds line equs out rest whole → after ≡ out ++ x ∷ [] → Keeps rounds line equs after (behind rest) whole
+token-written rounds line equs out after rest body x whole some first is tokens room keeps after-is =
+    let front : rest ≡ x ∷ behind rest = first-behind rest x some first in
     let none : body_at equs x ≡ [] = sym is ∙ none-tokens body tokens in
     let short : length out < 512 = omega (arith, room, left-short line equs out keeps.0) in
-    let so_far : left_over line equs (out ++ after_rounds rounds equs (x ∷ unplaced_all (behind rest))) ≡ whole =
+    let so_far : left_over line equs (out ++ after_rounds rounds equs (x ∷ (behind rest))) ≡ whole =
     ap (λ (ts : List Piece). left_over line equs (out ++ after_rounds rounds equs ts)) (sym front) ∙ keeps.1 in
-    rw after-is (itself-kept line equs out x none short keeps.0, sym (itself-step rounds line equs out x (unplaced_all (behind rest)) none) ∙ so_far)
+    rw after-is (itself-kept line equs out x none short keeps.0, sym (itself-step rounds line equs out x (behind rest) none) ∙ so_far)
 
 -- the body of a name was written
-pub body-written : (rounds line : ℕ) (equs : EquList) (out after : List Piece) (rest body : List Token) (d : Token) (whole : Result (List Piece) AsmFault)
-    → 1 ≤ length rest → unplaced_all body ≡ body_at equs (piece_of (get_or rest 0 d)) → false ≡ eqb (length body) 0 → rounds ≢ 0
-    → Keeps rounds line equs out rest whole → left_over line equs (out ++ after_rounds (rounds - 1) equs (unplaced_all body)) ≡ Ok after → Keeps rounds line equs after (behind rest) whole
-body-written zero line equs out after rest body d whole some is tokens more keeps gives = absurd (more refl)
-body-written (suc n) line equs out after rest body d whole some is tokens more keeps gives =
-    let x : Piece = unplaced (piece_of (get_or rest 0 d)) in
-    let front : unplaced_all rest ≡ x ∷ unplaced_all (behind rest) = first-behind rest d some in
+pub body-written : (rounds line : ℕ) (equs : EquList) (out after : List Piece) (rest body : List Piece) (x : Piece) (whole : Result (List Piece) AsmFault)
+    → 1 ≤ length rest → x ≡ get_or rest 0 x → body ≡ body_at equs x → false ≡ eqb (length body) 0 → rounds ≢ 0
+    → Keeps rounds line equs out rest whole → left_over line equs (out ++ after_rounds (rounds - 1) equs body) ≡ Ok after → Keeps rounds line equs after (behind rest) whole
+body-written zero line equs out after rest body x whole some first is tokens more keeps gives = absurd (more refl)
+body-written (suc n) line equs out after rest body x whole some first is tokens more keeps gives =
+    let front : rest ≡ x ∷ behind rest = first-behind rest x some first in
     let less : suc n - 1 ≡ n = omega arith in
-    let written : left_over line equs (out ++ after_rounds n equs (unplaced_all body)) ≡ Ok after = rw less at gives in
-    let so_far : left_over line equs (out ++ after_rounds (suc n) equs (x ∷ unplaced_all (behind rest))) ≡ whole =
+    let written : left_over line equs (out ++ after_rounds n equs body) ≡ Ok after = rw less at gives in
+    let so_far : left_over line equs (out ++ after_rounds (suc n) equs (x ∷ (behind rest))) ≡ whole =
     ap (λ (ts : List Piece). left_over line equs (out ++ after_rounds (suc n) equs ts)) (sym front) ∙ keeps.1 in (
-      body-kept line equs (out ++ after_rounds n equs (unplaced_all body)) after written,
-      sym (body-step n line equs out after x (unplaced_all body) (unplaced_all (behind rest)) (sym is) (some-tokens body tokens) written) ∙ so_far,
+      body-kept line equs (out ++ after_rounds n equs body) after written,
+      sym (body-step n line equs out after x body (behind rest) (sym is) (some-tokens body tokens) written) ∙ so_far,
     )
 
 -- the body of a name was refused
-pub body-not_written : (rounds line : ℕ) (equs : EquList) (out : List Piece) (rest body : List Token) (d : Token) (fault : AsmFault) (whole : Result (List Piece) AsmFault)
-    → 1 ≤ length rest → unplaced_all body ≡ body_at equs (piece_of (get_or rest 0 d)) → false ≡ eqb (length body) 0 → rounds ≢ 0
-    → left_over line equs (out ++ after_rounds rounds equs (unplaced_all rest)) ≡ whole → Fails fault (left_over line equs (out ++ after_rounds (rounds - 1) equs (unplaced_all body))) → Fails fault whole
-body-not_written zero line equs out rest body d fault whole some is tokens more so_far fails = absurd (more refl)
-body-not_written (suc n) line equs out rest body d fault whole some is tokens more so_far fails = elim fails [
+pub body-not_written : (rounds line : ℕ) (equs : EquList) (out : List Piece) (rest body : List Piece) (x : Piece) (fault : AsmFault) (whole : Result (List Piece) AsmFault)
+    → 1 ≤ length rest → x ≡ get_or rest 0 x → body ≡ body_at equs x → false ≡ eqb (length body) 0 → rounds ≢ 0
+    → left_over line equs (out ++ after_rounds rounds equs rest) ≡ whole → Fails fault (left_over line equs (out ++ after_rounds (rounds - 1) equs body)) → Fails fault whole
+body-not_written zero line equs out rest body x fault whole some first is tokens more so_far fails = absurd (more refl)
+body-not_written (suc n) line equs out rest body x fault whole some first is tokens more so_far fails = elim fails [
   | inl memory ↦ inl memory
   | inr refused ↦
-      let x : Piece = unplaced (piece_of (get_or rest 0 d)) in
-      let front : unplaced_all rest ≡ x ∷ unplaced_all (behind rest) = first-behind rest d some in
+      let front : rest ≡ x ∷ behind rest = first-behind rest x some first in
       let less : suc n - 1 ≡ n = omega arith in
-      let there : left_over line equs (out ++ after_rounds n equs (unplaced_all body)) ≡ Err fault = rw less at refused in
-      let left : left_over line equs (out ++ after_rounds (suc n) equs (unplaced_all rest)) ≡ Err fault =
+      let there : left_over line equs (out ++ after_rounds n equs body) ≡ Err fault = rw less at refused in
+      let left : left_over line equs (out ++ after_rounds (suc n) equs rest) ≡ Err fault =
       ap (λ (ts : List Piece). left_over line equs (out ++ after_rounds (suc n) equs ts)) front
-      ∙ body-refused n line equs out x (unplaced_all body) (unplaced_all (behind rest)) fault (sym is) (some-tokens body tokens) there in
+      ∙ body-refused n line equs out x body (behind rest) fault (sym is) (some-tokens body tokens) there in
       inr (sym so_far ∙ left)
 ]
 
 -- nothing is left to write
-pub all-written : (rounds line : ℕ) (equs : EquList) (out : List Piece) (rest : List Token) (whole : Result (List Piece) AsmFault)
+pub all-written : (rounds line : ℕ) (equs : EquList) (out : List Piece) (rest : List Piece) (whole : Result (List Piece) AsmFault)
     → length rest < 1 → Keeps rounds line equs out rest whole → whole ≡ Ok out
 all-written rounds line equs out [] whole none keeps =
     let nothing : out ++ after_rounds rounds equs [] ≡ out = rw (after-nothing rounds equs) (append-nil out) in

@@ -1,21 +1,19 @@
 -- The expanded lines and the labels of a source, or the first fault in the order of the refusals.
-use Rattle.std.specs.Prelude.{ℕ, zero, suc, ◌-◌, nat_lt, if◌then◌else◌, List, [], ◌∷◌, ◌++◌, length, take, drop, Option, Some, None, Result, Ok, Err, codes}
+use Rattle.std.specs.Prelude.{ℕ, zero, suc, ◌-◌, nat_lt, if◌then◌else◌, List, [], ◌∷◌, ◌++◌, length, take, drop, Result, Ok, Err, codes}
 use Rattle.war_types.specs.declared.fault.AsmKind.TheVariants as kinds
 use Rattle.war_types.specs.declared.fault.AsmFault.{AsmFault}
 use Rattle.war_types.specs.declared.settings.RawSettings.{RawSettings}
 use Rattle.redcode_text.specs.Tokens.{Piece}
-use Rattle.redcode_expand.specs.declared.directive.Directive.{Directive}
 use Rattle.redcode_expand.specs.declared.line.Line.{Line}
 use Rattle.redcode_expand.specs.declared.line.LineKind.{LineKind}
 use Rattle.redcode_expand.specs.declared.line.LineKind.TheVariants as lines
-use Rattle.redcode_expand.specs.declared.word.Word.{Word}
-use Rattle.redcode_expand.specs.declared.word.Word.TheVariants as words
 use Rattle.redcode_expand.specs.Gives.{◌>>=◌, fault_at}
-use Rattle.redcode_expand.specs.Source.{NumberedLine, directive_of, live_lines}
-use Rattle.redcode_expand.specs.Word.{has_text, line_word, statement_tokens}
+use Rattle.redcode_expand.specs.Source.{NumberedLine, live_lines}
+use Rattle.redcode_expand.specs.Word.{has_text}
 use Rattle.redcode_expand.specs.Equ.{EquList, replaced}
+use Rattle.redcode_expand.specs.Block.{parsed, source_lines}
 use Rattle.redcode_expand.specs.Name.{LabelList}
-use Rattle.redcode_expand.specs.Walk.{WalkState, walk, walk_begin}
+use Rattle.redcode_expand.specs.Walk.{WalkState, walk_all, walk_begin}
 pub use Rattle.redcode_expand.specs.Name.{address_of, predefined}
 pub use Rattle.redcode_expand.specs.Walk.{ExpandedLine}
 
@@ -56,36 +54,12 @@ abbrev pub all_replaced : EquList → List ExpandedLine → Result (List Expande
 all_replaced equs [] = Ok []
 all_replaced equs (line ∷ others) = line_replaced equs line >>= λ first. all_replaced equs others >>= λ behind. Ok (first ∷ behind)
 
--- the word of a line, which a directive has not
-abbrev pub word_by : Option (Directive × List ℕ) → List ℕ → Option Word
-word_by (Some directive) text = None
-word_by None text = line_word (statement_tokens text)
-
-abbrev pub word_in : NumberedLine → Option Word
-word_in line = word_by (directive_of line.text) line.text
-
--- a line that may not stand here yet, or the lines behind it
-abbrev pub refused_by : Option Word → ℕ → Result (Unit {0}) AsmFault → Result (Unit {0}) AsmFault
-refused_by None line behind = behind
-refused_by (Some words.Operation) line behind = behind
-refused_by (Some words.Org) line behind = behind
-refused_by (Some words.Pin) line behind = behind
-refused_by (Some words.Equ) line behind = behind
-refused_by (Some words.End) line behind = Ok tt
-refused_by (Some words.For) line behind = Err (fault_at line kinds.BadOperation)
-refused_by (Some words.Rof) line behind = Err (fault_at line kinds.BadOperation)
-
--- FOR and ROF are refused for now, up to the first END
-abbrev pub no_blocks : List NumberedLine → Result (Unit {0}) AsmFault
-no_blocks [] = Ok tt
-no_blocks (line ∷ others) = refused_by (word_in line) line.number (no_blocks others)
-
 -- what the walk has found, with the names of all EQUs replaced
 abbrev pub finished : WalkState → Result Expansion AsmFault
 finished st = all_replaced st.names.equs st.lines >>= λ lines. Ok (record { lines = lines; labels = st.names.labels })
 
 abbrev pub expansion_of_lines : RawSettings → List NumberedLine → Result Expansion AsmFault
-expansion_of_lines s live = no_blocks live >>= λ _. walk s live walk_begin >>= finished
+expansion_of_lines s live = walk_all s (parsed (source_lines live)) walk_begin >>= finished
 
 unfoldable pub expansion : RawSettings → List ℕ → Result Expansion AsmFault
 expansion s source = if nat_lt 65536 (length source) then Err (fault_at 0 kinds.SourceTooLong) else expansion_of_lines s (live_lines source)

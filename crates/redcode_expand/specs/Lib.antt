@@ -1,7 +1,10 @@
 pub mod Gives
 pub mod Source
 pub mod Word
+pub mod Counter
+pub mod Block
 pub mod Equ
 pub mod Name
 pub mod Walk
+pub mod Rest
 pub mod Expansion

@@ -1,19 +1,23 @@
 -- The walk over the lines of a source, in the order in which they are written out.
-use Rattle.std.specs.Prelude.{ℕ, ◌+◌, ◌≤◌, Bool, true, false, nat_lt, if◌then◌else◌, List, [], ◌∷◌, ◌++◌, map, drop, Option, Some, None, Result, Ok, Err}
+use Rattle.std.specs.Prelude.{◌≡◌, ◌≢◌, ℕ, zero, suc, ◌+◌, ◌<◌, ◌≤◌, ℤ, pos, negsuc, Bool, true, false, nat_lt, nat_eq, if◌then◌else◌, List, [], ◌∷◌, ◌++◌, map, drop, Option, Some, None, Result, Ok, Err}
 use Rattle.war_types.specs.declared.fault.AsmKind.TheVariants as kinds
 use Rattle.war_types.specs.declared.fault.AsmFault.{AsmFault}
 use Rattle.war_types.specs.declared.settings.RawSettings.{RawSettings}
+use Rattle.war_types.specs.declared.fault.ExprFault.{ExprFault}
 use Rattle.redcode_text.specs.Tokens.{Piece}
-use Rattle.redcode_expand.specs.declared.directive.Directive.{Directive}
-use Rattle.redcode_expand.specs.declared.directive.Directive.TheVariants as directives
+use Rattle.redcode_text.specs.Value.{value_of}
+use Rattle.redcode_expand.specs.declared.source_line.LineForm.{LineForm}
+use Rattle.redcode_expand.specs.declared.source_line.LineForm.TheVariants as forms
 use Rattle.redcode_expand.specs.declared.line.LineKind.{LineKind}
 use Rattle.redcode_expand.specs.declared.line.LineKind.TheVariants as lines
 use Rattle.redcode_expand.specs.declared.word.Word.{Word}
 use Rattle.redcode_expand.specs.declared.word.Word.TheVariants as words
 use Rattle.redcode_expand.specs.Gives.{◌>>=◌, fault_at}
-use Rattle.redcode_expand.specs.Source.{NumberedLine, directive_of}
-use Rattle.redcode_expand.specs.Word.{labels_of, line_word, behind_labels, statement_tokens, unplaced}
-use Rattle.redcode_expand.specs.Name.{Names, names_of, all_defined, equ_line}
+use Rattle.redcode_expand.specs.Block.{SourceLine, Blocks, Parsed, finish, one_line, block, open_for}
+use Rattle.redcode_expand.specs.Counter.{Counter, counter_of, in_copies}
+use Rattle.redcode_expand.specs.Equ.{EquList, replaced}
+use Rattle.redcode_expand.specs.Name.{Names, names_of, all_defined, defined, equ_line, predefined}
+use Rattle.redcode_expand.specs.Word.{labels_of, line_word, behind_labels, unplaced}
 
 -- a line of the expanded source
 pub record ExpandedLine : Type 0 where
@@ -94,35 +98,112 @@ worded s line word labels tokens st =
 
 -- a line that has tokens
 abbrev pub statement : RawSettings → ℕ → List Piece → WalkState → Result WalkState AsmFault
-statement s line [] st = Ok st
-statement s line (token ∷ tokens) st =
-    counted line st >>= worded s line (line_word (token ∷ tokens)) (labels_of (token ∷ tokens)) (behind_labels (token ∷ tokens))
+statement s line tokens st = counted line st >>= worded s line (line_word tokens) (labels_of tokens) (behind_labels tokens)
 
 -- a line that has a title
 abbrev pub titled : ℕ → LineKind → List ℕ → WalkState → Result WalkState AsmFault
 titled line kind title st = counted line st >>= λ st. Ok (with_line line kind title [] st)
 
--- a line that begins with a semicolon
-abbrev pub directed : ℕ → Directive → List ℕ → WalkState → Result WalkState AsmFault
-directed line directives.Redcode text st = Ok st
-directed line directives.Remark text st = Ok st
-directed line directives.Name text st = titled line lines.Name text st
-directed line directives.Author text st = titled line lines.Author text st
-directed line directives.Assert text st = counted line st >>= λ st. Ok (with_line line lines.Assert [] (statement_tokens text) st)
+-- an assertion
+abbrev pub asserted : ℕ → List Piece → WalkState → Result WalkState AsmFault
+asserted line tokens st = counted line st >>= λ st. Ok (with_line line lines.Assert [] tokens st)
 
-abbrev pub step_by : RawSettings → NumberedLine → Option (Directive × List ℕ) → WalkState → Result WalkState AsmFault
-step_by s line (Some (directive, text)) st = directed line.number directive text st
-step_by s line None st = statement s line.number (statement_tokens line.text) st
+-- a line with these tokens
+abbrev pub step_by : RawSettings → ℕ → LineForm → List ℕ → List Piece → WalkState → Result WalkState AsmFault
+step_by s line forms.Statement title tokens st = statement s line tokens st
+step_by s line forms.Assert title tokens st = asserted line tokens st
+step_by s line forms.Name title tokens st = titled line lines.Name title st
+step_by s line forms.Author title tokens st = titled line lines.Author title st
+
+-- a line under these counters
+abbrev pub step : RawSettings → List Counter → SourceLine → WalkState → Result WalkState AsmFault
+step s counters line st = step_by s line.number line.form line.title (in_copies counters line.form line.tokens) st
+
+-- ---- blocks
+
+-- labels but for the last one at this address, and the last one, which is the counter's name
+abbrev pub for_labels : RawSettings → ℕ → ℕ → List (List ℕ) → Names → Result (Names × List ℕ) AsmFault
+for_labels s line address [] names = Ok (names, [])
+for_labels s line address (name ∷ []) names = Ok (names, name)
+for_labels s line address (name ∷ next ∷ others) names = defined s line address name names >>= for_labels s line address (next ∷ others)
+
+-- no copy where the count is negative
+abbrev pub copies_by : ℤ → ℕ
+copies_by (pos n) = n
+copies_by (negsuc n) = 0
+
+-- so many copies, or the fault of a count
+abbrev pub count_by : ℕ → Result ℤ ExprFault → Result ℕ AsmFault
+count_by line (Ok count) = Ok (copies_by count)
+count_by line (Err fault) = Err (fault_at line (kinds.ForCount fault))
+
+-- how many copies a count asks for: the names of the EQUs so far are replaced in it, and labels are not known
+abbrev pub copies_of : RawSettings → ℕ → ℕ → EquList → List Piece → Result ℕ AsmFault
+copies_of s line before equs tokens = replaced line equs tokens >>= λ count. count_by line (value_of (predefined s before) count)
+
+-- how a block begins: the state, the counter's name and the number of copies
+pub record Begun : Type 0 where
+  pub state : WalkState
+  pub counter : List ℕ
+  pub copies : ℕ
+
+abbrev pub begun_as : WalkState → List ℕ → ℕ → Begun
+begun_as st counter copies = record { state = st; counter = counter; copies = copies }
+
+-- a FOR line with these labels and the tokens of this count
+abbrev pub begun_by : RawSettings → ℕ → List (List ℕ) → List Piece → WalkState → Result Begun AsmFault
+begun_by s line labels count st =
+    for_labels s line st.before labels st.names >>= λ found.
+    copies_of s line st.before found.0.equs count >>= λ n. Ok (begun_as (record st { names = found.0 }) found.1 n)
+
+abbrev pub begun_of : RawSettings → ℕ → List Piece → WalkState → Result Begun AsmFault
+begun_of s line tokens st = begun_by s line (labels_of tokens) (drop 1 (behind_labels tokens)) st
+
+-- a FOR line under these counters
+abbrev pub begun : RawSettings → List Counter → SourceLine → WalkState → Result Begun AsmFault
+begun s counters line st = begun_of s line.number (in_copies counters line.form line.tokens) st
+
+-- a ROF line under these counters: its labels stand at the next instruction
+abbrev pub closed : RawSettings → List Counter → SourceLine → WalkState → Result WalkState AsmFault
+closed s counters line st = labelled s line.number (labels_of (in_copies counters line.form line.tokens)) st
 
 -- behind an END nothing counts
-abbrev pub step : RawSettings → NumberedLine → WalkState → Result WalkState AsmFault
-step s line st = if st.ended then Ok st else step_by s line (directive_of line.text) st
+abbrev pub until_end : (WalkState → Result WalkState AsmFault) → WalkState → Result WalkState AsmFault
+until_end rest st = if st.ended then Ok st else rest st
 
-abbrev pub walk : RawSettings → List NumberedLine → WalkState → Result WalkState AsmFault
-walk s [] st = Ok st
-walk s (line ∷ lines) st = step s line st >>= walk s lines
+-- the end of a copy that began with so many lines counted: it counts where nothing in it did
+abbrev pub copied : ℕ → ℕ → WalkState → Result WalkState AsmFault
+copied line start st = if nat_eq st.counted start then counted line st else Ok st
+
+-- so many copies, from this number on
+abbrev pub copies : (ℕ → WalkState → Result WalkState AsmFault) → ℕ → ℕ → ℕ → WalkState → Result WalkState AsmFault
+copies body line zero number st = Ok st
+copies body line (suc n) number st = until_end (λ st. body number st >>= until_end (copied line st.counted) >>= copies body line n (number + 1)) st
+
+-- the lines of the source written out
+abbrev pub walk : RawSettings → List Counter → Blocks → WalkState → Result WalkState AsmFault
+walk s counters finish st = Ok st
+walk s counters (one_line line rest) st = until_end (step s counters line) st >>= walk s counters rest
+walk s counters (block for body rof rest) st =
+    until_end (λ st. begun s counters for st >>= λ b. copies (λ number. walk s (counters ++ counter_of b.counter number ∷ []) body) for.number b.copies 1 b.state) st
+    >>= until_end (closed s counters rof) >>= walk s counters rest
+walk s counters (open_for for) st = until_end (λ st. Err (fault_at for.number kinds.UnmatchedFor)) st
+
+-- a ROF that no FOR stands before
+abbrev pub unmatched : List (SourceLine × Blocks) → WalkState → Result WalkState AsmFault
+unmatched [] st = Ok st
+unmatched (rof ∷ rofs) st = Err (fault_at rof.0.number kinds.UnmatchedRof)
+
+-- all blocks of a source
+abbrev pub walk_all : RawSettings → Parsed → WalkState → Result WalkState AsmFault
+walk_all s source st = walk s [] source.0 st >>= until_end (unmatched source.1)
 
 -- what every state of the walk keeps: an instruction is a line that counts, and these are few
 pub record IsWalk (st : WalkState) : Type 0 where
   pub before : st.before ≤ st.counted
   pub counted : st.counted ≤ 4096
+
+-- a copy that began with so many lines counted added one if it had none
+pub record IsCopied (start old new : ℕ) : Type 0 where
+  pub counts : old ≡ start → (new ≡ old + 1) × (old < 4096)
+  pub stays : old ≢ start → new ≡ old

@@ -1,6 +1,7 @@
 //! A line of an expanded source, with its texts.
 
 use crate::line::Line;
+use crate::part::{Part, tokens_of};
 use redcode_text::Token;
 use std::alloc::{AllocError, Allocator};
 use std::marker::Model;
@@ -10,19 +11,15 @@ use std::marker::Model;
 pub(crate) struct Entry<'s, A: Allocator> {
     pub line: Line,
     pub title: &'s [u8],
-    /// Each with its place in the source's line.
-    pub tokens: Vec<Token<'s>, A>,
+    pub tokens: Vec<Part<A>, A>,
 }
 
 impl<'s, A: Allocator> Model for Entry<'s, A> {
-    ghost use Rattle.std.specs.Prelude.{map};
-    ghost use Rattle.redcode_text.specs.Tokens.{pieces};
-    ghost use Rattle.redcode_expand.specs.Word.{unplaced};
     ghost use Rattle.redcode_expand.specs.Walk.{ExpandedLine};
 
     ghost Value = { ExpandedLine };
 
-    ghost view = { λ e. record { source_line = e.line.source_line; kind = e.line.kind; before = e.line.before; title = e.title.now; tokens = map unplaced (pieces e.tokens.items) } };
+    ghost view = { λ e. record { source_line = e.line.source_line; kind = e.line.kind; before = e.line.before; title = e.title.now; tokens = e.tokens.items } };
 }
 
 impl<'s, A: Allocator> Entry<'s, A> {
@@ -43,17 +40,13 @@ impl<'s, A: Allocator> Entry<'s, A> {
 }
 
 impl<'s, A: Allocator + Copy> Entry<'s, A> {
-    ghost use Rattle.std.specs.Prelude.{◌≡◌, map, IfOk};
+    ghost use Rattle.std.specs.Prelude.{◌≡◌, IfOk};
     ghost use Rattle.redcode_text.specs.Tokens.{pieces};
 
-    /// The tokens, with a place of 0. An error is want of memory.
+    /// The tokens, each with a place of 0. An error is want of memory.
     pub(crate) fn tokens(&self, alloc: A) -> Result<Vec<Token<'_>, A>, AllocError>
         ensures { IfOk result (λ tokens. pieces tokens.items ≡ self.now.tokens) }
     {
-        let mut tokens = Vec::new(alloc);
-        for token in self.tokens.as_slice() {
-            tokens.push(Token { at: 0, ..*token })?;
-        }
-        Ok(tokens)
+        tokens_of(alloc, self.tokens.as_slice())
     }
 }

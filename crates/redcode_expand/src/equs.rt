@@ -1,9 +1,9 @@
 //! The names of a source's EQU lines.
 
 ghost use Rattle.std.specs.Prelude.{◌≡◌, ◌++◌, ◌∷◌, [], false, OnOk};
-ghost use Rattle.redcode_text.specs.Tokens.{piece_of};
 ghost use Rattle.redcode_expand.specs.Equ.{body_at, body_of, is_equ, unplaced_all};
 
+use crate::part::{Part, unplaced_parts};
 use crate::reading::is_name;
 use indexmap::IndexMap;
 use redcode_text::Token;
@@ -13,21 +13,21 @@ use std::marker::Model;
 
 /// Names with the tokens that they stand for, in the order of their definition.
 #[derive(Drop)]
-pub(crate) struct Equs<'s, A: Allocator + Copy> {
+pub(crate) struct Equs<A: Allocator + Copy> {
     alloc: A,
-    bodies: IndexMap<Vec<u8, A>, Vec<Token<'s>, A>, BuildHasherDefault<FoldHasher>, A>,
+    bodies: IndexMap<Vec<u8, A>, Vec<Part<A>, A>, BuildHasherDefault<FoldHasher>, A>,
 }
 
-impl<'s, A: Allocator + Copy> Model for Equs<'s, A> {
+impl<A: Allocator + Copy> Model for Equs<A> {
     ghost use Rattle.std.specs.Prelude.{map};
-    ghost use Rattle.redcode_expand.specs.Equ.{EquList, unplaced_all};
+    ghost use Rattle.redcode_expand.specs.Equ.{EquList};
 
     ghost Value = { EquList };
 
-    ghost view = { λ e. map (λ entry. (entry.0.items, unplaced_all entry.1.items)) e.bodies.entries };
+    ghost view = { λ e. map (λ entry. (entry.0.items, entry.1.items)) e.bodies.entries };
 }
 
-impl<'s, A: Allocator + Copy> Equs<'s, A> {
+impl<A: Allocator + Copy> Equs<A> {
     /// No names.
     pub(crate) fn new(alloc: A) -> Self
         ensures { result ≡ [] }
@@ -46,18 +46,19 @@ impl<'s, A: Allocator + Copy> Equs<'s, A> {
     }
 
     /// The tokens that a token stands for; none where it is no name of an EQU.
-    pub(crate) fn body_at(&self, token: &Token<'_>) -> &[Token<'s>]
-        ensures { unplaced_all result.now ≡ body_at self.now (piece_of token.now) }
+    pub(crate) fn body_at(&self, part: &Part<A>) -> &[Part<A>]
+        ensures { result.now ≡ body_at self.now part.now }
     {
-        if is_name(token) {
+        let token = part.token();
+        if is_name(&token) {
             self.body_of(token.text)
         } else {
             self.no_tokens()
         }
     }
 
-    fn body_of(&self, name: &[u8]) -> &[Token<'s>]
-        ensures { unplaced_all result.now ≡ body_of self.now name.now }
+    fn body_of(&self, name: &[u8]) -> &[Part<A>]
+        ensures { result.now ≡ body_of self.now name.now }
     {
         match self.bodies.get(name) {
             Some(body) => body.as_slice(),
@@ -65,19 +66,19 @@ impl<'s, A: Allocator + Copy> Equs<'s, A> {
         }
     }
 
-    fn no_tokens(&self) -> &[Token<'s>]
+    fn no_tokens(&self) -> &[Part<A>]
         ensures { result.now ≡ [] }
     {
         &[]
     }
 
     /// Adds an EQU of a new name.
-    pub(crate) fn add(&mut self, name: &[u8], body: &[Token<'s>]) -> Result<(), AllocError>
+    pub(crate) fn add(&mut self, name: &[u8], body: &[Token<'_>]) -> Result<(), AllocError>
         requires { is_equ self.old name.now ≡ false }
         ensures { OnOk result (self.new ≡ self.old ++ (name.now, unplaced_all body.entry.now) ∷ []) }
     {
         let name = Vec::from_slice(self.alloc, name)?;
-        let body = Vec::from_slice(self.alloc, body)?;
+        let body = unplaced_parts(self.alloc, body)?;
         self.bodies.insert(name, body)?;
         Ok(())
     }

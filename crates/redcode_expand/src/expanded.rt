@@ -1,21 +1,17 @@
 //! The lines of a source written out.
 
-ghost use Rattle.std.specs.Prelude.{◌≡◌, ◌+◌, ◌<◌, ◌≤◌, map, length, IfOk, Ok};
+ghost use Rattle.std.specs.Prelude.{◌≡◌, ◌<◌, map, length, IfOk, Ok};
 ghost use Rattle.redcode_text.specs.Tokens.{pieces};
 ghost use Rattle.redcode_expand.specs.Gives.{Gives};
-ghost use Rattle.redcode_expand.specs.Source.{directive_of, lines_of, numbered_from};
-ghost use Rattle.redcode_expand.specs.Walk.{walk, walk_begin};
-ghost use Rattle.redcode_expand.specs.Expansion.{expansion, no_blocks, word_by, address_of, line_of, title_at, tokens_at};
+ghost use Rattle.redcode_expand.specs.Expansion.{expansion, address_of, line_of, title_at, tokens_at};
 
-use crate::directive::directive_of;
+use crate::blocks::walk_all;
 use crate::entry::Entry;
 use crate::labels::Labels;
 use crate::line::Line;
-use crate::reading::{line_word, without_comment};
-use crate::source::{first_line, live_source};
-use crate::walk::Walk;
-use crate::word::Word;
-use redcode_text::{Token, scan};
+use crate::source::live_source;
+use crate::source_line::source_lines;
+use redcode_text::Token;
 use std::alloc::{AllocError, Allocator};
 use std::marker::Model;
 use war_types::{AsmFault, AsmKind, Settings};
@@ -43,14 +39,15 @@ impl<'s, A: Allocator + Copy> Model for Expanded<'s, A> {
     ghost invariant = { λ e. e.lines.items ≡ map line_of e.entries.items };
 }
 
-/// Writes out the lines of a source.
+/// Writes out the lines of a source: of a block from `FOR` to `ROF` its body, as often as the count says, each copy in its turn.
 ///
-/// A source may not have `FOR` or `ROF` yet: it is refused as `BadOperation` at the first such line before the first
-/// `END`. Otherwise it is refused as `SourceTooLong`; at the first line past 4,096 that count, as `ForLimit`, or that
-/// defines a name a second time or a predefined one, as `DuplicateName`, or that is an `EQU` without a name or a body, or
-/// with a reserved word in it, as `BadEqu`; or at the first line that has more than 512 tokens in its operands before or
-/// after one of 16 rounds of replacement, or the name of an `EQU` after the last, as `EquLimit`. `Memory` stands only
-/// where a growth was refused.
+/// A source of more than 65,536 bytes is refused as `SourceTooLong` on line 0. Then the first line of those written out, up to the
+/// first `END`, that earns one of these: a `FOR` without its `ROF`, as `UnmatchedFor`; a `ROF` without its `FOR`, as
+/// `UnmatchedRof`; a line past the 4,096 that count, or the `FOR` of a copy in which nothing counts where there are as many, as
+/// `ForLimit`; a name defined a second time or a predefined one, as `DuplicateName`; an `EQU` without a name or a body, or with
+/// a reserved word in it, as `BadEqu`; the count of a `FOR`, as `EquLimit` where it has more than 512 tokens before or after one of
+/// 16 rounds of replacement, or the name of an `EQU` after the last, and as `ForCount` where it has no value. Then the first line
+/// whose operands have so many tokens, or such a name, as `EquLimit`. `Memory` stands only where a growth was refused.
 #[tactic(auto, unfolding(crate::specs::Expansion::expansion))]
 pub fn expand<'s, A: Allocator + Copy>(
     alloc: A,
@@ -66,70 +63,8 @@ pub fn expand<'s, A: Allocator + Copy>(
         });
     }
     let (number, live) = live_source(source);
-    check_blocks(alloc, number, live)?;
-    walk(alloc, number, live, settings)?.finish()
-}
-
-/// Walks over the lines of a source whose first line has this number.
-fn walk<'s, A: Allocator + Copy>(
-    alloc: A,
-    first: u32,
-    source: &'s [u8],
-    settings: &Settings,
-) -> Result<Walk<'s, A>, AsmFault>
-    requires counted { 1 ≤ first }
-    requires short { first + length source.now ≤ 65537 }
-    ensures { Gives (λ walk. walk) result (walk settings.now (numbered_from first (lines_of source.entry.now)) walk_begin) }
-{
-    let mut walk = Walk::new(alloc);
-    let mut rest = source;
-    let mut number = first;
-    while !rest.is_empty() {
-        let (line, behind) = first_line(rest);
-        walk.step(settings, number, line)?;
-        rest = behind;
-        number += 1;
-    }
-    Ok(walk)
-}
-
-/// Refuses the first line whose word is `FOR` or `ROF`, up to the first `END`, of a source whose first line has
-/// this number.
-fn check_blocks<A: Allocator + Copy>(alloc: A, first: u32, source: &[u8]) -> Result<(), AsmFault>
-    requires counted { 1 ≤ first }
-    requires short { first + length source.now ≤ 65537 }
-    ensures { Gives (λ _. tt) result (no_blocks (numbered_from first (lines_of source.now))) }
-{
-    let mut rest = source;
-    let mut number = first;
-    while !rest.is_empty() {
-        let (line, behind) = first_line(rest);
-        match word_in(alloc, line)? {
-            Some(Word::For | Word::Rof) => {
-                return Err(AsmFault {
-                    line: number,
-                    kind: AsmKind::BadOperation,
-                });
-            }
-            Some(Word::End) => return Ok(()),
-            _ => {}
-        }
-        rest = behind;
-        number += 1;
-    }
-    Ok(())
-}
-
-/// The word of a line, which a directive has not.
-fn word_in<A: Allocator>(alloc: A, line: &[u8]) -> Result<Option<Word>, AllocError>
-    requires { length line.now ≤ 65536 }
-    ensures { IfOk result (λ word. word ≡ word_by (directive_of line.now) line.now) }
-{
-    if directive_of(line).is_some() {
-        return Ok(None);
-    }
-    let tokens = scan(alloc, line)?;
-    Ok(line_word(without_comment(tokens.as_slice())))
+    let lines = source_lines(alloc, number, live)?;
+    walk_all(alloc, lines.as_slice(), settings)?.finish()
 }
 
 impl<'s, A: Allocator + Copy> Expanded<'s, A> {
@@ -153,8 +88,8 @@ impl<'s, A: Allocator + Copy> Expanded<'s, A> {
         })
     }
 
-    /// The lines, up to and with the first `END`. Blank lines, comments, lines of labels alone and `EQU` lines are left
-    /// out.
+    /// The lines, up to and with the first `END`. Blank lines, comments, lines of labels alone and those of `EQU`, `FOR` and `ROF` are
+    /// left out.
     pub fn lines(&self) -> &[Line]
         ensures { result.now ≡ map line_of self.now.lines }
     {

@@ -1,6 +1,9 @@
 //! The lines of a source written out, with its labels.
 #![tactic(auto)]
 
+mod blocks;
+mod count;
+mod counter;
 mod directive;
 mod entry;
 mod equs;
@@ -9,10 +12,13 @@ mod labels;
 mod line;
 mod name;
 mod names;
+mod open_blocks;
 mod operands;
+mod part;
 mod reading;
 mod replace;
 mod source;
+mod source_line;
 mod walk;
 mod word;
 

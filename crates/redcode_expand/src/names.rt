@@ -6,6 +6,7 @@ ghost use Rattle.redcode_expand.specs.Gives.{Gives};
 ghost use Rattle.redcode_expand.specs.Word.{may_label, names_among, taken_while};
 ghost use Rattle.redcode_expand.specs.Equ.{has_word, is_bad_body};
 ghost use Rattle.redcode_expand.specs.Name.{is_taken, names_of, defined, all_defined, equ_defined, equ_line};
+ghost use Rattle.redcode_expand.specs.Walk.{for_labels};
 
 use crate::equs::Equs;
 use crate::labels::Labels;
@@ -19,12 +20,12 @@ use war_types::{AsmFault, AsmKind, Settings};
 
 /// The names that a source has defined so far.
 #[derive(Drop)]
-pub(crate) struct Names<'s, A: Allocator + Copy> {
+pub(crate) struct Names<A: Allocator + Copy> {
     pub labels: Labels<A>,
-    pub equs: Equs<'s, A>,
+    pub equs: Equs<A>,
 }
 
-impl<'s, A: Allocator + Copy> Model for Names<'s, A> {
+impl<A: Allocator + Copy> Model for Names<A> {
     ghost use Rattle.redcode_expand.specs.Name.{Names, names_of};
 
     ghost Value = { Names };
@@ -32,7 +33,7 @@ impl<'s, A: Allocator + Copy> Model for Names<'s, A> {
     ghost view = { λ n. names_of n.labels n.equs };
 }
 
-impl<'s, A: Allocator + Copy> Names<'s, A> {
+impl<A: Allocator + Copy> Names<A> {
     /// No names.
     pub(crate) fn new(alloc: A) -> Self
         ensures { result ≡ names_of [] [] }
@@ -104,7 +105,7 @@ impl<'s, A: Allocator + Copy> Names<'s, A> {
         address: u32,
         word: Option<Word>,
         tokens: &[Token<'_>],
-        body: &[Token<'s>],
+        body: &[Token<'_>],
     ) -> Result<(), AsmFault>
         ensures { let labels = names_among (taken_while (may_label word) (pieces tokens.entry.now)) in
             Gives (λ _. self.new) result (equ_line settings.now number address (pieces body.entry.now) labels self.old) }
@@ -133,12 +134,45 @@ impl<'s, A: Allocator + Copy> Names<'s, A> {
         }
     }
 
+    /// Defines the labels of a FOR line at this address, but for the last one, which is the counter's name.
+    pub(crate) fn define_earlier<'t>(
+        &mut self,
+        settings: &Settings,
+        number: u32,
+        address: u32,
+        word: Option<Word>,
+        tokens: &[Token<'t>],
+    ) -> Result<&'t [u8], AsmFault>
+        ensures { let labels = names_among (taken_while (may_label word) (pieces tokens.entry.now)) in
+            Gives (λ name. (self.new, name.now)) result (for_labels settings.now number address labels self.old) }
+    {
+        let mut name = None;
+        let mut rest = tokens;
+        while let [first, behind @ ..] = rest {
+            if !may_label(word, first) {
+                break;
+            }
+            rest = behind;
+            if !is_name(first) {
+                continue;
+            }
+            if let Some(label) = name {
+                self.define(settings, number, address, label)?;
+            }
+            name = Some(first.text);
+        }
+        match name {
+            Some(name) => Ok(name),
+            None => Ok(b""),
+        }
+    }
+
     /// Defines an EQU, whose name must be new and whose body must be one.
     fn equate(
         &mut self,
         settings: &Settings,
         number: u32,
-        body: &[Token<'s>],
+        body: &[Token<'_>],
         name: &[u8],
     ) -> Result<(), AsmFault>
         ensures { Gives (λ _. self.new) result (equ_defined settings.now number (pieces body.entry.now) name.now self.old) }

@@ -47,7 +47,7 @@ pub(crate) fn may_label(word: Option<Word>, token: &Token<'_>) -> bool
 }
 
 /// Whether a token may stand before a word: a name that is none, `&` or `:`.
-fn is_front(token: &Token<'_>) -> bool
+pub(crate) fn is_front(token: &Token<'_>) -> bool
     ensures { result ≡ is_front (piece_of token.now) }
 {
     is_name(token) && word_of(token.text).is_none()

@@ -1,16 +1,16 @@
 //! The replacement of the names of EQUs.
 
-ghost use Rattle.std.specs.Prelude.{◌≡◌, ◌++◌, Ok};
+ghost use Rattle.std.specs.Prelude.{◌≡◌, ◌++◌, Ok, OnOk};
 ghost use Rattle.redcode_expand.specs.Gives.{Gives, fault_at};
-ghost use Rattle.redcode_expand.specs.Equ.{after_rounds, left_over, unplaced_all};
+ghost use Rattle.redcode_expand.specs.Equ.{after_rounds, left_over, replaced};
 ghost use Rattle.redcode_expand.specs.Expansion.{all_replaced, line_replaced};
 ghost use Rattle.war_types.specs.declared.fault.AsmKind.TheVariants.{EquLimit};
 
 use crate::entry::Entry;
 use crate::equs::Equs;
 use crate::operands::operands_of;
-use redcode_text::Token;
-use std::alloc::Allocator;
+use crate::part::Part;
+use std::alloc::{AllocError, Allocator};
 use war_types::{AsmFault, AsmKind};
 
 /// Rounds of replacement.
@@ -22,7 +22,7 @@ const TOKEN_LIMIT: usize = 512;
 /// Replaces the names of EQUs in the operands of all lines.
 pub(crate) fn replace_all<'s, A: Allocator + Copy>(
     alloc: A,
-    equs: &Equs<'s, A>,
+    equs: &Equs<A>,
     entries: &[Entry<'s, A>],
 ) -> Result<Vec<Entry<'s, A>, A>, AsmFault>
     ensures { Gives (λ lines. lines.items) result (all_replaced equs.now entries.now) }
@@ -40,7 +40,7 @@ pub(crate) fn replace_all<'s, A: Allocator + Copy>(
 /// Replaces the names of EQUs in the operands of a line.
 fn replace_in<'s, A: Allocator + Copy>(
     alloc: A,
-    equs: &Equs<'s, A>,
+    equs: &Equs<A>,
     entry: &Entry<'s, A>,
 ) -> Result<Entry<'s, A>, AsmFault>
     ensures { Gives (λ line. line) result (line_replaced equs.now entry.now) }
@@ -48,10 +48,10 @@ fn replace_in<'s, A: Allocator + Copy>(
     let line = entry.line;
     let tokens = entry.tokens.as_slice();
     let operands = operands_of(line.kind, tokens);
-    let mut replaced = Vec::new(alloc);
-    write(equs, line.source_line, ROUNDS, operands, &mut replaced)?;
-    let mut all = Vec::from_slice(alloc, &tokens[..tokens.len() - operands.len()])?;
-    all.extend_from_slice(replaced.as_slice())?;
+    let replaced = replaced(alloc, equs, line.source_line, operands)?;
+    let mut all = Vec::new(alloc);
+    append(alloc, &tokens[..tokens.len() - operands.len()], &mut all)?;
+    append(alloc, replaced.as_slice(), &mut all)?;
     Ok(Entry {
         line,
         title: entry.title,
@@ -59,16 +59,46 @@ fn replace_in<'s, A: Allocator + Copy>(
     })
 }
 
+/// Appends the same tokens.
+fn append<A: Allocator + Copy>(
+    alloc: A,
+    tokens: &[Part<A>],
+    out: &mut Vec<Part<A>, A>,
+) -> Result<(), AllocError>
+    ensures { OnOk result (out.new.items ≡ out.old.items ++ tokens.now) }
+{
+    for token in tokens {
+        out.push(Part::of(alloc, &token.token())?)?;
+    }
+    Ok(())
+}
+
+/// What tokens are with the names of EQUs replaced.
+#[tactic(auto, unfolding(crate::specs::Equ::replaced))]
+pub(crate) fn replaced<A: Allocator + Copy>(
+    alloc: A,
+    equs: &Equs<A>,
+    line: u32,
+    tokens: &[Part<A>],
+) -> Result<Vec<Part<A>, A>, AsmFault>
+    ensures { Gives (λ parts. parts.items) result (replaced line equs.now tokens.now) }
+{
+    let mut out = Vec::new(alloc);
+    write(alloc, equs, line, ROUNDS, tokens, &mut out)?;
+    Ok(out)
+}
+
 /// Appends what tokens become in so many rounds: each token goes down through the bodies, one round deeper with each.
-fn write<'s, A: Allocator + Copy>(
-    equs: &Equs<'s, A>,
+fn write<A: Allocator + Copy>(
+    alloc: A,
+    equs: &Equs<A>,
     line: u32,
     rounds: u32,
-    tokens: &[Token<'s>],
-    out: &mut Vec<Token<'s>, A>,
+    tokens: &[Part<A>],
+    out: &mut Vec<Part<A>, A>,
 ) -> Result<(), AsmFault>
-    requires { left_over line equs.now (unplaced_all out.old.items) ≡ Ok (unplaced_all out.old.items) }
-    ensures { Gives (λ _. unplaced_all out.new.items) result (left_over line equs.now (unplaced_all out.old.items ++ after_rounds rounds equs.now (unplaced_all tokens.entry.now))) }
+    requires { left_over line equs.now out.old.items ≡ Ok out.old.items }
+    ensures { Gives (λ _. out.new.items) result (left_over line equs.now (out.old.items ++ after_rounds rounds equs.now tokens.now)) }
 {
     let mut rest = tokens;
     while let [first, behind @ ..] = rest {
@@ -78,13 +108,13 @@ fn write<'s, A: Allocator + Copy>(
             if rounds == 0 {
                 return Err(too_many(line));
             }
-            write(equs, line, rounds - 1, body, out)?;
+            write(alloc, equs, line, rounds - 1, body, out)?;
             continue;
         }
         if out.len() == TOKEN_LIMIT {
             return Err(too_many(line));
         }
-        out.push(*first)?;
+        out.push(Part::of(alloc, &first.token())?)?;
     }
     Ok(())
 }

@@ -2,7 +2,7 @@ use super::*;
 use redcode_text::Token;
 use std::alloc::{AllocError, Global};
 use std::test::Fail;
-use war_types::{AsmFault, AsmKind, RawSettings, Settings, SettingsFault};
+use war_types::{AsmFault, AsmKind, ExprFault, RawSettings, Settings, SettingsFault};
 
 fn defaults() -> Result<Settings, SettingsFault> {
     Settings::new(RawSettings {
@@ -126,8 +126,8 @@ fn refusals(rt: HostRuntime) -> Result<(), Fail> {
         (b"DAT\nx CURLINE", 2, AsmKind::DuplicateName),
         (b"MVO 0, 1\nMVO 0, 1", 2, AsmKind::DuplicateName),
         (b"FOO 0\nFOO 0", 2, AsmKind::DuplicateName),
-        (b"x DAT\nx DAT\ny for 1\nEND", 3, AsmKind::BadOperation),
-        (b"rof", 1, AsmKind::BadOperation),
+        (b"x DAT\nx DAT\ny for 1\nEND", 2, AsmKind::DuplicateName),
+        (b"rof", 1, AsmKind::UnmatchedRof),
         (b"x DAT\ny x EQU", 2, AsmKind::DuplicateName),
         (b"x\nEQU 1", 2, AsmKind::BadEqu),
         (b"DAT a\na EQU a\nb EQU 1 dat", 3, AsmKind::BadEqu),
@@ -140,7 +140,7 @@ fn refusals(rt: HostRuntime) -> Result<(), Fail> {
             Some(AsmFault { line, kind })
         );
     }
-    assert_eq!(rt; fault_of(rt.alloc(), b"END\nx EQU 1\nFOR\nx\nx")?, None);
+    assert_eq!(rt; fault_of(rt.alloc(), b"END\nx EQU 1\nROF\nx\nx")?, None);
     assert_eq!(rt;
         fault_of(rt.alloc(), b"FOR\nx\n;redcode\nx\n;redcode")?,
         None
@@ -205,6 +205,73 @@ fn predefined_names(rt: HostRuntime) -> Result<(), Fail> {
     ];
     for (name, value) in rows {
         assert_eq!(rt; predefined(&settings, 7, name), value);
+    }
+    Ok(())
+}
+
+#[test]
+fn blocks(rt: HostRuntime) -> Result<(), Fail> {
+    let source = b"i FOR 2\na&i DAT i\nROF\nJMP a02";
+    let rows: [Row; 3] = [
+        (2, LineKind::Operation, 0, b"", b" DAT 1"),
+        (2, LineKind::Operation, 1, b"", b" DAT 2"),
+        (4, LineKind::Operation, 2, b"", b" JMP a02"),
+    ];
+    assert!(rt; are_lines(rt.alloc(), source, &rows)?);
+    let settings = defaults()?;
+    let expanded = expand(rt.alloc(), source, &settings)?;
+    assert_eq!(rt; expanded.label(b"a01"), Some(0));
+    assert_eq!(rt; expanded.label(b"a02"), Some(1));
+    Ok(())
+}
+
+#[test]
+fn refusals_of_blocks(rt: HostRuntime) -> Result<(), Fail> {
+    let deep = AsmKind::ForLimit;
+    let unknown = AsmKind::ForCount(ExprFault::UnknownName);
+    let rows: [(&[u8], u32, AsmKind); 11] = [
+        (b"FOR n\nDAT 0\nROF\nn EQU 2", 1, unknown),
+        (b"ROF", 1, AsmKind::UnmatchedRof),
+        (b"FOR 2\nDAT 0", 1, AsmKind::UnmatchedFor),
+        (b"FOR 1\nDAT 0\nEND", 1, AsmKind::UnmatchedFor),
+        (b"FOR 5000\nDAT 0\nROF", 2, deep),
+        (b"FOR 5000\nROF\nDAT 0", 1, deep),
+        (b"FOR 5000\nFOR 0\nROF\nROF\nDAT 0", 1, deep),
+        (b"FOR 4096\nFOR 1\nROF\nROF\nDAT 0", 5, deep),
+        (b"FOR 1000000000000000000\nROF", 1, deep),
+        (b"FOR 2\nx DAT\nROF", 2, AsmKind::DuplicateName),
+        (b"i FOR 1\nx EQU DAT i\nROF", 2, AsmKind::BadEqu),
+    ];
+    for (source, line, kind) in rows {
+        assert_eq!(rt;
+            fault_of(rt.alloc(), source)?,
+            Some(AsmFault { line, kind })
+        );
+    }
+    Ok(())
+}
+
+#[test]
+fn copies_and_their_labels(rt: HostRuntime) -> Result<(), Fail> {
+    let source =
+        b"i FOR 2\nx&i i FOR 1\na&i&i DAT.i i, j\nROF\nROF\nFOR 0\n?? 3 = junk\ny ROF\nEND\nROF";
+    let rows: [Row; 3] = [
+        (3, LineKind::Operation, 0, b"", b" DAT . i 1 , j"),
+        (3, LineKind::Operation, 1, b"", b" DAT . i 2 , j"),
+        (9, LineKind::End, 2, b"", b" END"),
+    ];
+    assert!(rt; are_lines(rt.alloc(), source, &rows)?);
+    let settings = defaults()?;
+    let expanded = expand(rt.alloc(), source, &settings)?;
+    let rows: [(&[u8], Option<u32>); 5] = [
+        (b"x01", Some(0)),
+        (b"x02", Some(1)),
+        (b"a0101", Some(0)),
+        (b"a0202", Some(1)),
+        (b"y", Some(2)),
+    ];
+    for (name, address) in rows {
+        assert_eq!(rt; expanded.label(name), address);
     }
     Ok(())
 }

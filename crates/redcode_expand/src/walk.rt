@@ -1,24 +1,27 @@
 //! The walk over the lines of a source.
 
-ghost use Rattle.std.specs.Prelude.{◌≡◌, ◌+◌, ◌<◌, ◌≤◌, length, Ok, OnOk};
+ghost use Rattle.std.specs.Prelude.{◌≡◌, ◌+◌, ◌<◌, ◌^◌, Ok, OnOk, IfOk};
 ghost use Rattle.redcode_text.specs.Tokens.{pieces};
 ghost use Rattle.redcode_expand.specs.Gives.{Gives};
-ghost use Rattle.redcode_expand.specs.Source.{numbered_line};
 ghost use Rattle.redcode_expand.specs.Word.{may_label, names_among, taken_while};
 ghost use Rattle.redcode_expand.specs.Name.{all_defined};
 ghost use Rattle.redcode_expand.specs.Expansion.{finished};
-ghost use Rattle.redcode_expand.specs.Walk.{walk_begin, counted, labelled, with_line, placed, statement, directed, titled, step};
+ghost use Rattle.redcode_expand.specs.Rest.{counters_of};
+ghost use Rattle.redcode_expand.specs.Walk.{walk_begin, begun, begun_as, closed, copied, counted, labelled, with_line, placed, statement, titled, step, IsCopied};
 
-use crate::directive::{Directive, directive_of};
+use crate::count::copies_of;
 use crate::entry::Entry;
 use crate::expanded::Expanded;
 use crate::line::{Line, LineKind};
 use crate::names::Names;
+use crate::open_blocks::OpenBlocks;
 use crate::operands::behind_first;
-use crate::reading::{behind_labels, line_word, without_comment};
+use crate::part::{tokens_of, unplaced_parts};
+use crate::reading::{behind_labels, line_word};
 use crate::replace::replace_all;
+use crate::source_line::{LineForm, SourceLine};
 use crate::word::Word;
-use redcode_text::{Token, scan};
+use redcode_text::Token;
 use std::alloc::Allocator;
 use std::marker::Model;
 use war_types::{AsmFault, AsmKind, Settings};
@@ -26,13 +29,21 @@ use war_types::{AsmFault, AsmKind, Settings};
 /// Lines that may count.
 const LINE_LIMIT: u32 = 4096;
 
+/// How a block begins.
+#[derive(Drop)]
+pub(crate) struct Begun<A: Allocator> {
+    /// The counter's name, empty where there is none.
+    pub counter: Vec<u8, A>,
+    pub copies: u64,
+}
+
 /// How far the walk has come.
 #[derive(Drop)]
 pub(crate) struct Walk<'s, A: Allocator + Copy> {
     alloc: A,
     counted: u32,
     before: u32,
-    names: Names<'s, A>,
+    names: Names<A>,
     entries: Vec<Entry<'s, A>, A>,
     ended: bool,
 }
@@ -62,26 +73,103 @@ impl<'s, A: Allocator + Copy> Walk<'s, A> {
         }
     }
 
-    /// Walks over a line of the source.
+    /// Whether an `END` was met.
+    pub(crate) fn has_ended(&self) -> bool
+        ensures { result ≡ self.now.ended }
+    {
+        self.ended
+    }
+
+    /// Lines that were counted.
+    pub(crate) fn counted(&self) -> u32
+        ensures { result ≡ self.now.counted }
+    {
+        self.counted
+    }
+
+    /// Walks over a line within blocks.
     pub(crate) fn step(
         &mut self,
         settings: &Settings,
-        number: u32,
-        line: &'s [u8],
+        blocks: &OpenBlocks<A>,
+        line: &SourceLine<'s, A>,
     ) -> Result<(), AsmFault>
-        requires { length line.now ≤ 65536 }
-        ensures { Gives (λ _. self.new) result (step settings.now (numbered_line number line.entry.now) self.old) }
+        ensures step { Gives (λ _. self.new) result (step settings.now (counters_of blocks.now) line.now self.old) }
+        ensures counted { OnOk result ((self.new.counted ≡ self.old.counted + 1) × (self.old.counted < 4096)) }
     {
-        if self.ended {
-            return Ok(());
-        }
-        match directive_of(line) {
-            Some((directive, text)) => self.directed(number, directive, text),
-            None => {
-                let tokens = scan(self.alloc, line)?;
-                self.statement(settings, number, without_comment(tokens.as_slice()))
+        let parts = blocks.tokens_of(line)?;
+        let tokens = tokens_of(self.alloc, parts.as_slice())?;
+        let number = line.number();
+        match line.form() {
+            LineForm::Statement => self.statement(settings, number, tokens.as_slice()),
+            LineForm::Assert => {
+                self.count(number)?;
+                self.push(number, LineKind::Assert, b"", tokens.as_slice())
             }
+            LineForm::Name => self.titled(number, LineKind::Name, line.title()),
+            LineForm::Author => self.titled(number, LineKind::Author, line.title()),
         }
+    }
+
+    /// Walks over the `FOR` of a block: its labels and its count.
+    pub(crate) fn begin(
+        &mut self,
+        settings: &Settings,
+        blocks: &OpenBlocks<A>,
+        line: &SourceLine<'s, A>,
+    ) -> Result<Begun<A>, AsmFault>
+        ensures begun { Gives (λ b. begun_as self.new b.counter.items b.copies) result (begun settings.now (counters_of blocks.now) line.now self.old) }
+        ensures goes_on { OnOk result (self.new.ended ≡ self.old.ended) }
+        ensures counted { OnOk result (self.new.counted ≡ self.old.counted) }
+        ensures few { IfOk result (λ b. b.copies < 2 ^ 63) }
+    {
+        let parts = blocks.tokens_of(line)?;
+        let tokens = tokens_of(self.alloc, parts.as_slice())?;
+        let number = line.number();
+        let word = line_word(tokens.as_slice());
+        let before = self.before;
+        let label = self
+            .names
+            .define_earlier(settings, number, before, word, tokens.as_slice())?;
+        let counter = Vec::from_slice(self.alloc, label)?;
+        let operands = behind_first(behind_labels(tokens.as_slice(), word));
+        let copies = copies_of(
+            self.alloc,
+            settings,
+            number,
+            before,
+            &self.names.equs,
+            operands,
+        )?;
+        Ok(Begun { counter, copies })
+    }
+
+    /// Walks over the `ROF` of a block: its labels.
+    pub(crate) fn close(
+        &mut self,
+        settings: &Settings,
+        blocks: &OpenBlocks<A>,
+        line: &SourceLine<'s, A>,
+    ) -> Result<(), AsmFault>
+        ensures closed { Gives (λ _. self.new) result (closed settings.now (counters_of blocks.now) line.now self.old) }
+        ensures counted { self.new.counted ≡ self.old.counted }
+    {
+        let parts = blocks.tokens_of(line)?;
+        let tokens = tokens_of(self.alloc, parts.as_slice())?;
+        let tokens = tokens.as_slice();
+        self.label(settings, line.number(), line_word(tokens), tokens)
+    }
+
+    /// Ends a copy that began with so many lines counted: it counts where nothing in it did.
+    pub(crate) fn end_copy(&mut self, number: u32, start: u32) -> Result<(), AsmFault>
+        ensures copied { Gives (λ _. self.new) result (copied number start self.old) }
+        ensures goes_on { OnOk result (self.new.ended ≡ self.old.ended) }
+        ensures counted { OnOk result (IsCopied start self.old.counted self.new.counted) }
+    {
+        if self.counted == start {
+            self.count(number)?;
+        }
+        Ok(())
     }
 
     /// What the walk has found.
@@ -90,33 +178,6 @@ impl<'s, A: Allocator + Copy> Walk<'s, A> {
     {
         let lines = replace_all(self.alloc, &self.names.equs, self.entries.as_slice())?;
         Expanded::new(self.alloc, lines, self.names.labels)
-    }
-
-    /// A line that begins with a semicolon.
-    fn directed(
-        &mut self,
-        number: u32,
-        directive: Directive,
-        text: &'s [u8],
-    ) -> Result<(), AsmFault>
-        requires { length text.now ≤ 65536 }
-        ensures { Gives (λ _. self.new) result (directed number directive text.entry.now self.old) }
-    {
-        match directive {
-            Directive::Redcode | Directive::Remark => Ok(()),
-            Directive::Name => self.titled(number, LineKind::Name, text),
-            Directive::Author => self.titled(number, LineKind::Author, text),
-            Directive::Assert => {
-                self.count(number)?;
-                let tokens = scan(self.alloc, text)?;
-                self.push(
-                    number,
-                    LineKind::Assert,
-                    b"",
-                    without_comment(tokens.as_slice()),
-                )
-            }
-        }
     }
 
     fn titled(&mut self, number: u32, kind: LineKind, text: &'s [u8]) -> Result<(), AsmFault>
@@ -131,13 +192,10 @@ impl<'s, A: Allocator + Copy> Walk<'s, A> {
         &mut self,
         settings: &Settings,
         number: u32,
-        tokens: &[Token<'s>],
+        tokens: &[Token<'_>],
     ) -> Result<(), AsmFault>
         ensures { Gives (λ _. self.new) result (statement settings.now number (pieces tokens.entry.now) self.old) }
     {
-        if tokens.is_empty() {
-            return Ok(());
-        }
         let word = line_word(tokens);
         self.count(number)?;
         let behind = behind_labels(tokens, word);
@@ -157,7 +215,7 @@ impl<'s, A: Allocator + Copy> Walk<'s, A> {
         &mut self,
         number: u32,
         word: Option<Word>,
-        tokens: &[Token<'s>],
+        tokens: &[Token<'_>],
     ) -> Result<(), AsmFault>
         requires { self.old.before < self.old.counted }
         ensures { Gives (λ _. self.new) result (Ok (placed number word (pieces tokens.entry.now) self.old)) }
@@ -204,7 +262,7 @@ impl<'s, A: Allocator + Copy> Walk<'s, A> {
         settings: &Settings,
         number: u32,
         word: Option<Word>,
-        tokens: &[Token<'s>],
+        tokens: &[Token<'_>],
     ) -> Result<(), AsmFault>
         ensures labelled { Gives (λ _. self.new) result (labelled settings.now number (names_among (taken_while (may_label word) (pieces tokens.entry.now))) self.old) }
         ensures before { self.new.before ≡ self.old.before }
@@ -221,7 +279,7 @@ impl<'s, A: Allocator + Copy> Walk<'s, A> {
         number: u32,
         kind: LineKind,
         title: &'s [u8],
-        tokens: &[Token<'s>],
+        tokens: &[Token<'_>],
     ) -> Result<(), AsmFault>
         ensures pushed { Gives (λ _. self.new) result (Ok (with_line number kind title.entry.now (pieces tokens.entry.now) self.old)) }
     {
@@ -230,7 +288,7 @@ impl<'s, A: Allocator + Copy> Walk<'s, A> {
             kind,
             before: self.before,
         };
-        let tokens = Vec::from_slice(self.alloc, tokens)?;
+        let tokens = unplaced_parts(self.alloc, tokens)?;
         self.entries.push(Entry {
             line,
             title,

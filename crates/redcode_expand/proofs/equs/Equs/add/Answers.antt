@@ -3,7 +3,7 @@ use Rattle.std.specs.Map.{lookup}
 use Rattle.std.specs.Option.{is_some}
 use Rattle.std.specs.Str.{bytes_eq}
 use Rattle.indexmap.proofs.CallerLemmas.{insert_entry-new}
-use Rattle.redcode_text.specs.declared.token.Token.{Token}
+use Rattle.redcode_expand.specs.declared.part.Part.{Part}
 use Rattle.redcode_text.specs.Tokens.{Piece}
 use Rattle.redcode_expand.specs.Equ.{EquList, is_equ, unplaced_all}
 use Rattle.redcode_expand.proofs.Lookups.{lookup-is_equ, lookup-none, equs-added}
@@ -15,7 +15,7 @@ returns g c =
     let value = c.in_ok-body.body in
     let map = c.self.inside.bodies in
     let text : Vec ℕ g.row.A.Denot → List ℕ = λ k. k.items in
-    let body : Vec Token g.row.A.Denot → List Piece = λ v. unplaced_all v.items in
+    let body : Vec (Part g.row.A.Denot) g.row.A.Denot → List Piece = λ v. v.items in
     let absent : is_some (lookup (λ k. bytes_eq (text key) (text k)) map.entries) ≡ false =
     lookup-is_equ text body (text key) map.entries
     ∙ ap (λ (es : EquList). is_equ es (text key)) c.self.view_is
@@ -23,4 +23,4 @@ returns g c =
     ∙ c.requires in
     equs-added text body map.entries c.insert.new.self.entries key value c.args.name.now (unplaced_all c.args.body.now) c.args.self.now
     (c.in_ok-insert.ensures.entries ∙ insert_entry-new _ map key value (lookup-none _ absent))
-    c.self.view_is c.in_ok-name.ensures.items (ap unplaced_all c.in_ok-body.ensures.items)
+    c.self.view_is c.in_ok-name.ensures.items c.in_ok-body.ensures

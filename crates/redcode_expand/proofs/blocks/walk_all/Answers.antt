@@ -1,0 +1,13 @@
+use Rattle.std.proofs.Common.{sym, ◌∙◌, arith}
+use Rattle.redcode_expand.proofs.GoingOn.{rest-ended}
+use Rattle.redcode_expand.proofs.Pairing.{rest-done}
+use Rattle.redcode_expand.proofs.blocks.walk_all.Goals.{then-loop-at-test+else-not-has_ended, else-loop-at-test}
+use Rattle.redcode_expand.proofs.blocks.walk_all.Goals as goal
+
+pub returns : goal.returns
+returns g c = elim c.loop-at-test.branch [
+  | then-loop-at-test+else-not-has_ended w ↦ sym c.loop-at.invariant.0 ∙ rest-ended c.args.settings.now c.args.lines.now c.loop-at.blocks _ c.loop-at.walk (sym w.if-not-has_ended.ensures)
+  | else-loop-at-test w ↦
+      sym c.loop-at.invariant.0
+      ∙ rest-done c.args.settings.now c.args.lines.now c.loop-at.blocks c.loop-at.at c.loop-at.walk (omega (arith, w.loop-at-test.false)) c.loop-at.invariant.1
+]

@@ -1,0 +1,90 @@
+-- What is left of a source within blocks that are open.
+use Rattle.std.specs.Prelude.{◌≡◌, ℕ, ◌+◌, ◌-◌, ◌*◌, ◌≤◌, ◌<◌, Bool, true, false, IsTrue, nat_eq, if◌then◌else◌, List, [], ◌∷◌, ◌++◌, length, drop, ⊤, Result, Ok, Err}
+use Rattle.war_types.specs.declared.fault.AsmFault.{AsmFault}
+use Rattle.war_types.specs.declared.fault.AsmKind.TheVariants as kinds
+use Rattle.war_types.specs.declared.settings.RawSettings.{RawSettings}
+use Rattle.redcode_expand.specs.Gives.{◌>>=◌, fault_at}
+use Rattle.redcode_expand.specs.Block.{SourceLine, Blocks, Parsed, parsed}
+use Rattle.redcode_expand.specs.Counter.{Counter, counter_of}
+use Rattle.redcode_expand.specs.Walk.{WalkState, walk, copies, copied, closed, unmatched, until_end}
+
+-- a block whose copies are being written
+pub record OpenBlock : Type 0 where
+  -- the number of its FOR line
+  pub number : ℕ
+  -- with the number of the copy
+  pub counter : Counter
+  -- copies behind this one
+  pub left : ℕ
+  -- lines counted before this copy
+  pub start : ℕ
+  -- how many lines stand before its body
+  pub body : ℕ
+
+abbrev pub open_block : ℕ → Counter → ℕ → ℕ → ℕ → OpenBlock
+open_block number counter left start body = record { number = number; counter = counter; left = left; start = start; body = body }
+
+abbrev pub has_none : List OpenBlock → Bool
+has_none [] = true
+has_none (b ∷ bs) = false
+
+-- the counters of blocks within each other, the innermost block first; the outermost counter is the first
+abbrev pub counters_of : List OpenBlock → List Counter
+counters_of [] = []
+counters_of (b ∷ bs) = counters_of bs ++ b.counter ∷ []
+
+-- the copies behind the one that is being written
+abbrev pub more_copies : RawSettings → List SourceLine → List OpenBlock → OpenBlock → WalkState → Result WalkState AsmFault
+more_copies s lines outer b st =
+    copies (λ number. walk s (counters_of outer ++ counter_of b.counter.name number ∷ []) (parsed (drop b.body lines)).0) b.number b.left (b.counter.number + 1) st
+
+-- what is left behind the copy of the innermost block: the end of that copy, further ones, and what is behind the block's ROF
+abbrev pub behind_copy : RawSettings → List SourceLine → List OpenBlock → List (SourceLine × Blocks) → WalkState → Result WalkState AsmFault
+behind_copy s lines [] rofs st = until_end (unmatched rofs) st
+behind_copy s lines (b ∷ bs) [] st = Ok st
+behind_copy s lines (b ∷ bs) (rof ∷ rofs) st =
+    until_end (copied b.number b.start) st >>= more_copies s lines bs b
+    >>= until_end (closed s (counters_of bs) rof.0) >>= walk s (counters_of bs) rof.1 >>= behind_copy s lines bs rofs
+
+-- what is left of a source of these lines
+abbrev pub rest_of : RawSettings → List SourceLine → List OpenBlock → Parsed → WalkState → Result WalkState AsmFault
+rest_of s lines blocks left st = walk s (counters_of blocks) left.0 st >>= behind_copy s lines blocks left.1
+
+-- each open block ends at its own ROF
+abbrev pub AreOpen : List SourceLine → List OpenBlock → List (SourceLine × Blocks) → Type 0
+AreOpen lines [] rofs = ⊤
+AreOpen lines (b ∷ bs) [] = IsTrue false
+AreOpen lines (b ∷ bs) (rof ∷ rofs) = ((parsed (drop b.body lines)).1 ≡ rof ∷ rofs) × AreOpen lines bs rofs
+
+-- a line was counted in the copy of the innermost block
+abbrev pub counts : List OpenBlock → WalkState → ℕ
+counts [] st = 0
+counts (b ∷ bs) st = if nat_eq st.counted b.start then 0 else 1
+
+-- more than the steps that are left: each counts a line, or ends a copy in which one was counted, or goes on to a later line
+abbrev pub steps_left : List SourceLine → List OpenBlock → ℕ → WalkState → ℕ
+steps_left lines blocks at st = (4096 - st.counted) * 131074 + (counts blocks st * 65537 + (length lines - at))
+
+-- how the walk goes on within these blocks behind so many lines, where this was due and fewer steps than these are left
+pub record GoesOn (s : RawSettings) (lines : List SourceLine) (due : Result WalkState AsmFault) (steps : ℕ) (blocks : List OpenBlock) (at : ℕ) (st : WalkState) : Type 0 where
+  pub rest : rest_of s lines blocks (parsed (drop at lines)) st ≡ due
+  pub opened : AreOpen lines blocks (parsed (drop at lines)).1
+  pub less : steps_left lines blocks at st < steps
+
+-- where a FOR is told to have no ROF it has none, and elsewhere it has one or stands within a block
+abbrev pub IsUnmatched : Bool → List OpenBlock → List (SourceLine × Blocks) → Type 0
+IsUnmatched true blocks rofs = rofs ≡ []
+IsUnmatched false blocks [] = has_none blocks ≡ false
+IsUnmatched false blocks (rof ∷ rofs) = ⊤
+
+-- what is left behind the ROF of a block of this line number without a copy
+abbrev pub rest_behind : RawSettings → List SourceLine → List OpenBlock → ℕ → List (SourceLine × Blocks) → WalkState → Result WalkState AsmFault
+rest_behind s lines blocks number [] st = Err (fault_at number kinds.UnmatchedFor)
+rest_behind s lines blocks number (rof ∷ rofs) st = closed s (counters_of blocks) rof.0 st >>= rest_of s lines blocks (rof.1, rofs)
+
+-- how the walk goes on behind the ROF of a block whose body stands behind so many lines
+pub record Passes (s : RawSettings) (lines : List SourceLine) (due : Result WalkState AsmFault) (blocks : List OpenBlock) (body : ℕ) (old : WalkState) (at : ℕ) (st : WalkState) : Type 0 where
+  pub rest : rest_of s lines blocks (parsed (drop at lines)) st ≡ due
+  pub rofs : (parsed (drop at lines)).1 ≡ drop 1 (parsed (drop body lines)).1
+  pub later : body ≤ at
+  pub counted : st.counted ≡ old.counted

@@ -1,0 +1,174 @@
+//! The lines of a source written out, copy by copy.
+
+ghost use Rattle.std.specs.Prelude.{◌≡◌, ◌+◌, ◌<◌, ◌≤◌, ◌∷◌, false, Some, drop, length, MatchResult};
+ghost use Rattle.redcode_expand.specs.Gives.{Gives, Fails, fault_at};
+ghost use Rattle.redcode_expand.specs.Block.{parsed, word_in};
+ghost use Rattle.redcode_expand.specs.Rest.{rest_of, rest_behind, steps_left, AreOpen, GoesOn, IsUnmatched, Passes};
+ghost use Rattle.redcode_expand.specs.declared.word.Word.TheVariants.{For, Rof};
+ghost use Rattle.war_types.specs.declared.fault.AsmKind.TheVariants.{UnmatchedFor};
+ghost use Rattle.redcode_expand.specs.Walk.{walk_all, walk_begin};
+
+use crate::open_blocks::{OpenBlock, OpenBlocks};
+use crate::source_line::{SourceLine, line_at, rof_behind};
+use crate::walk::Walk;
+use crate::word::Word;
+use std::alloc::Allocator;
+use war_types::{AsmFault, AsmKind, Settings};
+
+/// Walks over the lines of a source written out.
+pub(crate) fn walk_all<'s, A: Allocator + Copy>(
+    alloc: A,
+    lines: &[SourceLine<'s, A>],
+    settings: &Settings,
+) -> Result<Walk<'s, A>, AsmFault>
+    requires { length lines.now ≤ 65536 }
+    ensures { Gives (λ walk. walk) result (walk_all settings.now (parsed lines.now) walk_begin) }
+{
+    let mut walk = Walk::new(alloc);
+    let mut blocks = OpenBlocks::new(alloc);
+    let mut at = 0;
+    while at < lines.len() && !walk.has_ended() {
+        at = step(settings, &mut walk, &mut blocks, lines, at)?;
+    }
+    Ok(walk)
+}
+
+/// Walks over the line behind so many others, within blocks. The answer is how many lines stand before the one that is
+/// walked over next: that behind it, or the first of a further copy.
+fn step<'s, A: Allocator + Copy>(
+    settings: &Settings,
+    walk: &mut Walk<'s, A>,
+    blocks: &mut OpenBlocks<A>,
+    lines: &[SourceLine<'s, A>],
+    at: usize,
+) -> Result<usize, AsmFault>
+    requires few { length lines.now ≤ 65536 }
+    requires some { at < length lines.now }
+    requires goes_on { walk.old.ended ≡ false }
+    requires opened { AreOpen lines.now blocks.old (parsed (drop at lines.now)).1 }
+    ensures { let due = rest_of settings.now lines.now blocks.old (parsed (drop at lines.now)) walk.old in
+        let steps = steps_left lines.now blocks.old at walk.old in
+        MatchResult result (λ next. GoesOn settings.now lines.now due steps blocks.new next walk.new) (λ fault. Fails fault due) }
+{
+    let line = line_at(lines, at);
+    match line.word() {
+        Some(Word::For) => begin(settings, walk, blocks, lines, at, line),
+        Some(Word::Rof) => end_copy(settings, walk, blocks, lines, at, line),
+        _ => {
+            walk.step(settings, blocks, line)?;
+            Ok(at + 1)
+        }
+    }
+}
+
+/// Walks over the `FOR` of a block: on to its first copy, or past it where there is none.
+fn begin<'s, A: Allocator + Copy>(
+    settings: &Settings,
+    walk: &mut Walk<'s, A>,
+    blocks: &mut OpenBlocks<A>,
+    lines: &[SourceLine<'s, A>],
+    at: usize,
+    line: &SourceLine<'s, A>,
+) -> Result<usize, AsmFault>
+    requires few { length lines.now ≤ 65536 }
+    requires some { at < length lines.now }
+    requires goes_on { walk.old.ended ≡ false }
+    requires opened { AreOpen lines.now blocks.old (parsed (drop at lines.now)).1 }
+    requires line { drop at lines.now ≡ line.now ∷ drop (at + 1) lines.now }
+    requires word { word_in line.now ≡ Some For }
+    ensures { let due = rest_of settings.now lines.now blocks.old (parsed (drop at lines.now)) walk.old in
+        let steps = steps_left lines.now blocks.old at walk.old in
+        MatchResult result (λ next. GoesOn settings.now lines.now due steps blocks.new next walk.new) (λ fault. Fails fault due) }
+{
+    let body = at + 1;
+    if is_unmatched(blocks, lines, body) {
+        return Err(unmatched_for(line.number()));
+    }
+    let begun = walk.begin(settings, blocks, line)?;
+    if begun.copies == 0 {
+        let next = pass(settings, walk, blocks, lines, body, line.number())?;
+        return Ok(next);
+    }
+    let start = walk.counted();
+    let left = begun.copies - 1;
+    blocks.push(OpenBlock::new(line.number(), begun.counter, left, start, body))?;
+    Ok(body)
+}
+
+/// Whether the `FOR` before a body has no `ROF`. Within a block each has one.
+fn is_unmatched<A: Allocator + Copy>(
+    blocks: &OpenBlocks<A>,
+    lines: &[SourceLine<'_, A>],
+    body: usize,
+) -> bool
+    requires few { length lines.now ≤ 65536 }
+    ensures { IsUnmatched result blocks.now (parsed (drop body lines.now)).1 }
+{
+    blocks.is_empty() && rof_behind(lines, body) >= lines.len()
+}
+
+/// Walks from behind the `FOR` of a block without a copy to behind its `ROF`.
+fn pass<'s, A: Allocator + Copy>(
+    settings: &Settings,
+    walk: &mut Walk<'s, A>,
+    blocks: &OpenBlocks<A>,
+    lines: &[SourceLine<'s, A>],
+    body: usize,
+    number: u32,
+) -> Result<usize, AsmFault>
+    requires few { length lines.now ≤ 65536 }
+    requires goes_on { walk.old.ended ≡ false }
+    ensures { let due = rest_behind settings.now lines.now blocks.now number (parsed (drop body lines.now)).1 walk.old in
+        MatchResult result (λ next. Passes settings.now lines.now due blocks.now body walk.old next walk.new) (λ fault. Fails fault due) }
+{
+    let rof = rof_behind(lines, body);
+    if rof >= lines.len() {
+        return Err(unmatched_for(number));
+    }
+    walk.close(settings, blocks, line_at(lines, rof))?;
+    Ok(rof + 1)
+}
+
+/// Walks over the `ROF` of the innermost block: on to its next copy, or past it where there is none.
+fn end_copy<'s, A: Allocator + Copy>(
+    settings: &Settings,
+    walk: &mut Walk<'s, A>,
+    blocks: &mut OpenBlocks<A>,
+    lines: &[SourceLine<'s, A>],
+    at: usize,
+    line: &SourceLine<'s, A>,
+) -> Result<usize, AsmFault>
+    requires few { length lines.now ≤ 65536 }
+    requires some { at < length lines.now }
+    requires goes_on { walk.old.ended ≡ false }
+    requires opened { AreOpen lines.now blocks.old (parsed (drop at lines.now)).1 }
+    requires line { drop at lines.now ≡ line.now ∷ drop (at + 1) lines.now }
+    requires word { word_in line.now ≡ Some Rof }
+    ensures { let due = rest_of settings.now lines.now blocks.old (parsed (drop at lines.now)) walk.old in
+        let steps = steps_left lines.now blocks.old at walk.old in
+        MatchResult result (λ next. GoesOn settings.now lines.now due steps blocks.new next walk.new) (λ fault. Fails fault due) }
+{
+    let Some(block) = blocks.pop() else {
+        return Err(AsmFault {
+            line: line.number(),
+            kind: AsmKind::UnmatchedRof,
+        });
+    };
+    walk.end_copy(block.number(), block.start())?;
+    if block.left() == 0 {
+        walk.close(settings, blocks, line)?;
+        return Ok(at + 1);
+    }
+    let body = block.body();
+    blocks.push(block.next_copy(walk.counted()))?;
+    Ok(body)
+}
+
+fn unmatched_for(number: u32) -> AsmFault
+    ensures { result ≡ fault_at number UnmatchedFor }
+{
+    AsmFault {
+        line: number,
+        kind: AsmKind::UnmatchedFor,
+    }
+}
