@@ -12,13 +12,16 @@ use war_types::AsmKind;
 fn smallest_sources(rt: HostRuntime) -> Result<(), Fail> {
     let settings = defaults()?;
     for (source, refusal) in [
-        ("FOR 1", "1 UnmatchedFor"),
+        ("FOR", "1 UnmatchedFor"),
         ("ROF", "1 UnmatchedRof"),
         ("FOR 4097\nROF", "1 ForLimit"),
-        ("FOR\nROF", "1 BadExpression"),
-        ("FOR x\nROF", "1 UnknownName"),
         ("x\nx", "2 DuplicateName"),
         ("EQU", "1 BadEqu"),
+        ("FOR\nROF", "1 BadExpression"),
+        ("FOR x\nROF", "1 UnknownName"),
+        ("FOR 1/0\nROF", "1 DivideByZero"),
+        ("FOR 9223372036854775808\nROF", "1 Overflow"),
+        ("a EQU a\nFOR a\nROF", "2 EquLimit"),
         ("a EQU a\nDAT a", "2 EquLimit"),
         ("=", "1 BadToken"),
         ("+", "1 BadOperation"),

@@ -10,12 +10,13 @@ use std::{fs, io};
 use war_types::{RawSettings, Settings};
 
 /// The warriors' files, which lie in the folder that the program is run in.
-const FILES: [&str; 5] = [
+const FILES: [&str; 6] = [
     "imp.red",
     "dwarf.red",
     "clear.red",
     "scanner.red",
     "paper.red",
+    "ring.red",
 ];
 
 /// The warriors are submitted one after another and again from the first on, until the hill is full and one more has come.
