@@ -8,7 +8,9 @@ mod AllLines
 mod OneLine
 mod LastNames
 mod Places
+mod Residuals
 mod Counters
+mod KnownNames
 mod Fronts
 mod Joining
 mod SourceLines

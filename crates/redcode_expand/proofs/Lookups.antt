@@ -1,5 +1,5 @@
 -- The labels and the EQUs of a map.
-use Rattle.std.proofs.Common.{◌≡◌, ℕ, Bool, ◌||◌, true, false, List, [], ◌∷◌, ◌++◌, Option, Some, None, map, cond, refl, ap, ◌∙◌}
+use Rattle.std.proofs.Common.{◌≡◌, ℕ, Bool, ◌||◌, true, false, List, [], ◌∷◌, ◌++◌, Option, Some, None, map, cond, if◌then◌else◌, refl, sym, ap, ◌∙◌}
 use Rattle.std.proofs.lemmas.List.{map-append}
 use Rattle.std.proofs.lemmas.Bool.{true≢false}
 use Rattle.std.specs.Map.{lookup}
@@ -9,6 +9,7 @@ use Rattle.std.specs.Str.{bytes_eq}
 use Rattle.redcode_text.specs.Tokens.{Piece}
 use Rattle.redcode_expand.specs.Equ.{EquList, is_equ, body_of}
 use Rattle.redcode_expand.specs.Name.{LabelList, address_of}
+use Rattle.redcode_expand.specs.Counter.{has_name, with_name}
 
 -- what a map finds is the address of the label
 pub lookup-address_of : {K : Type 0} (text : K → List ℕ) (name : List ℕ) (entries : List (K × ℕ))
@@ -74,3 +75,20 @@ equs-added {K} {V} text body old new key value name tokens equs new-is old-is te
     let seen : K × V → List ℕ × List Piece = λ entry. (text entry.0, body entry.1) in
     ap (map seen) new-is ∙ map-append seen old ((key, value) ∷ []) ∙ ap (λ (es : EquList). es ++ (text key, body value) ∷ []) old-is
     ∙ ap (λ (n : List ℕ). equs ++ (n, body value) ∷ []) text-is ∙ ap (λ (ts : List Piece). equs ++ (name, ts) ∷ []) tokens-is
+
+-- ---- the names of counters
+
+-- a name that a map finds is among its keys
+pub lookup-has_name : {K V : Type 0} (text : K → List ℕ) (name : List ℕ) (entries : List (K × V))
+    → is_some (lookup (λ k. bytes_eq name (text k)) entries) ≡ has_name (map (λ entry. text entry.0) entries) name
+lookup-has_name text name [] = refl
+lookup-has_name text name (entry ∷ entries) = is_some-by (bytes_eq name (text entry.0)) entry.1 _ _ (lookup-has_name text name entries)
+
+-- an entry at the end is a name at the end
+pub name-added : {K V : Type 0} (text : K → List ℕ) (old new : List (K × V)) (key : K) (value : V) (name : List ℕ) (names : List (List ℕ))
+    → new ≡ old ++ (key, value) ∷ [] → map (λ entry. text entry.0) old ≡ names → text key ≡ name → has_name names name ≡ false
+    → map (λ entry. text entry.0) new ≡ with_name names name
+name-added {K} {V} text old new key value name names new-is old-is text-is absent =
+    let seen : K × V → List ℕ = λ entry. text entry.0 in
+    ap (map seen) new-is ∙ map-append seen old ((key, value) ∷ []) ∙ ap (λ (ns : List (List ℕ)). ns ++ text key ∷ []) old-is
+    ∙ ap (λ (n : List ℕ). names ++ n ∷ []) text-is ∙ sym (ap (λ (b : Bool). if b then names else names ++ name ∷ []) absent)

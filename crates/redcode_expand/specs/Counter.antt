@@ -118,3 +118,18 @@ in_copy c form tokens = if names_counter c tokens then rewritten c form tokens e
 abbrev pub in_copies : List Counter → LineForm → List Piece → List Piece
 in_copies [] form tokens = tokens
 in_copies (c ∷ cs) form tokens = in_copies cs form (in_copy c form tokens)
+
+-- ---- the names of counters
+
+abbrev pub has_name : List (List ℕ) → List ℕ → Bool
+has_name [] name = false
+has_name (x ∷ xs) name = bytes_eq name x || has_name xs name
+
+-- these names, with this one behind them if it is new
+abbrev pub with_name : List (List ℕ) → List ℕ → List (List ℕ)
+with_name names name = if has_name names name then names else names ++ name ∷ []
+
+-- one of these names is among the tokens
+abbrev pub are_named : List (List ℕ) → List Piece → Bool
+are_named names [] = false
+are_named names (token ∷ tokens) = (is_name token.kind && has_name names token.text) || are_named names tokens

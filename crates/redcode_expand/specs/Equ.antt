@@ -1,20 +1,15 @@
 -- EQU: names that stand for tokens, and their replacement.
-use Rattle.std.specs.Prelude.{ℕ, zero, suc, Bool, true, false, ◌||◌, nat_lt, if◌then◌else◌, List, [], ◌∷◌, ◌++◌, length, map, is_some, Result, Ok, Err}
+use Rattle.std.specs.Prelude.{ℕ, zero, suc, Bool, true, false, ◌||◌, nat_lt, if◌then◌else◌, List, [], ◌∷◌, ◌++◌, length, is_some, Result, Ok, Err}
 use Rattle.std.specs.Str.{bytes_eq}
 use Rattle.war_types.specs.declared.fault.AsmKind.TheVariants as kinds
 use Rattle.war_types.specs.declared.fault.AsmFault.{AsmFault}
-use Rattle.redcode_text.specs.declared.token.Token.{Token}
-use Rattle.redcode_text.specs.Tokens.{Piece, pieces}
+use Rattle.redcode_text.specs.Tokens.{Piece}
 use Rattle.redcode_expand.specs.Gives.{fault_at}
-use Rattle.redcode_expand.specs.Word.{is_name, word_at, unplaced}
+use Rattle.redcode_expand.specs.Word.{is_name, word_at}
 
 -- names with the tokens that they stand for, one token at least, in the order of their definition
 abbrev pub EquList : Type 0
 EquList = List (List ℕ × List Piece)
-
--- tokens without where they lie
-abbrev pub unplaced_all : List Token → List Piece
-unplaced_all tokens = map unplaced (pieces tokens)
 
 abbrev pub is_equ : EquList → List ℕ → Bool
 is_equ [] name = false

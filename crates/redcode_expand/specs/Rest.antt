@@ -5,7 +5,7 @@ use Rattle.war_types.specs.declared.fault.AsmKind.TheVariants as kinds
 use Rattle.war_types.specs.declared.settings.RawSettings.{RawSettings}
 use Rattle.redcode_expand.specs.Gives.{◌>>=◌, fault_at}
 use Rattle.redcode_expand.specs.Block.{SourceLine, Blocks, Parsed, parsed}
-use Rattle.redcode_expand.specs.Counter.{Counter, counter_of}
+use Rattle.redcode_expand.specs.Counter.{Counter, counter_of, has_name}
 use Rattle.redcode_expand.specs.Walk.{WalkState, walk, copies, copied, closed, unmatched, until_end}
 
 -- a block whose copies are being written
@@ -88,3 +88,8 @@ pub record Passes (s : RawSettings) (lines : List SourceLine) (due : Result Walk
   pub rofs : (parsed (drop at lines)).1 ≡ drop 1 (parsed (drop body lines)).1
   pub later : body ≤ at
   pub counted : st.counted ≡ old.counted
+
+-- the counter of each block has one of these names
+abbrev pub AreKnown : List (List ℕ) → List OpenBlock → Type 0
+AreKnown names [] = ⊤
+AreKnown names (b ∷ bs) = (has_name names b.counter.name ≡ true) × AreKnown names bs

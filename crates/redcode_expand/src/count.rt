@@ -1,16 +1,15 @@
 //! The count of a block.
 
 ghost use Rattle.std.specs.Prelude.{◌≡◌, ◌<◌, ◌^◌, IfOk};
-ghost use Rattle.redcode_text.specs.Tokens.{pieces};
 ghost use Rattle.redcode_expand.specs.Gives.{Gives};
 ghost use Rattle.redcode_expand.specs.Walk.{copies_of, count_by};
 ghost use Rattle.redcode_expand.specs.Equ.{replaced};
 
 use crate::equs::Equs;
 use crate::name::predefined;
-use crate::part::{parts_of, tokens_of};
+use crate::part::{Part, tokens_of};
 use crate::replace::replaced;
-use redcode_text::{Names, Token, value};
+use redcode_text::{Names, value};
 use std::alloc::Allocator;
 use war_types::{AsmFault, AsmKind, Settings};
 
@@ -33,20 +32,19 @@ impl<'e> Names for Predefined<'e> {
 }
 
 /// How many copies a count asks for: none where its value is negative. The names of the `EQU`s so far are replaced in it.
-pub(crate) fn copies_of<A: Allocator + Copy>(
+pub(crate) fn copies_of<'s, A: Allocator + Copy>(
     alloc: A,
     settings: &Settings,
     line: u32,
     before: u32,
-    equs: &Equs<A>,
-    tokens: &[Token<'_>],
+    equs: &Equs<'s, A>,
+    tokens: &[Part<'s, A>],
 ) -> Result<u64, AsmFault>
-    ensures copies { Gives (λ n. n) result (copies_of settings.now line before equs.now (pieces tokens.now)) }
+    ensures copies { Gives (λ n. n) result (copies_of settings.now line before equs.now tokens.now) }
     ensures few { IfOk result (λ n. n < 2 ^ 63) }
 {
-    let parts = parts_of(alloc, tokens)?;
-    let parts = replaced(alloc, equs, line, parts.as_slice())?;
-    let tokens = tokens_of(alloc, parts.as_slice())?;
+    let replaced = replaced(alloc, equs, line, tokens)?;
+    let tokens = tokens_of(alloc, replaced.as_slice())?;
     match value(tokens.as_slice(), &Predefined { settings, before }) {
         Ok(count) if count > 0 => Ok(count as u64),
         Ok(_) => Ok(0),

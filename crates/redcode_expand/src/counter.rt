@@ -1,17 +1,16 @@
 //! The counters of blocks, and what a copy of a line is under one.
 
-ghost use Rattle.std.specs.Prelude.{◌≡◌, ◌≤◌, ◌++◌, length, Some, None, IfOk, OnOk, MatchOption};
-ghost use Rattle.redcode_text.specs.Tokens.{pieces};
+ghost use Rattle.std.specs.Prelude.{◌≡◌, ◌≤◌, ◌++◌, length, Some, None, IfOk, OnOk};
 ghost use Rattle.redcode_expand.specs.Word.{is_front, dropped_while};
 ghost use Rattle.redcode_expand.specs.Counter.{in_copy, is_label, joined, kept, numbered, behind_word, rewritten, rewritten_by, two_digits};
 
 use crate::operands::behind_first;
-use crate::part::{Part, tokens_of};
+use crate::part::{Part, copied};
 use crate::reading::{has_text, is_front, is_name, line_word};
 use crate::source_line::LineForm;
 use crate::word::Word;
 use itoa::Buffer;
-use redcode_text::{Token, TokenKind};
+use redcode_text::TokenKind;
 use std::alloc::{AllocError, Allocator};
 use std::marker::Model;
 
@@ -31,11 +30,10 @@ impl<A: Allocator> Model for Counter<A> {
 }
 
 /// A token, and whether it is a name that was joined.
-type Joined<A> = (bool, Part<A>);
+type Joined<'s, A> = (bool, Part<'s, A>);
 
 impl<A: Allocator + Copy> Counter<A> {
     ghost use Rattle.std.specs.Prelude.{◌≡◌, IfOk};
-    ghost use Rattle.redcode_text.specs.Tokens.{piece_of, pieces};
     ghost use Rattle.redcode_expand.specs.Counter.{counter_of, is_counter, is_join, joined_name, joins, names_counter, number_or};
 
     pub(crate) fn new(name: Vec<u8, A>, number: u64) -> Counter<A>
@@ -45,19 +43,19 @@ impl<A: Allocator + Copy> Counter<A> {
     }
 
     /// Whether a token is this counter.
-    fn is_counter(&self, token: &Token<'_>) -> bool
-        ensures { result ≡ is_counter self.now (piece_of token.now) }
+    fn is_counter(&self, token: &Part<'_, A>) -> bool
+        ensures { result ≡ is_counter self.now token.now }
     {
-        is_name(token) && token.text == self.name.as_slice()
+        is_name(token) && token.text() == self.name.as_slice()
     }
 
     /// Whether this counter is among the tokens.
-    fn is_named(&self, parts: &[Part<A>]) -> bool
+    fn is_named(&self, parts: &[Part<'_, A>]) -> bool
         ensures { result ≡ names_counter self.now parts.now }
     {
         let mut rest = parts;
         while let [first, behind @ ..] = rest {
-            if self.is_counter(&first.token()) {
+            if self.is_counter(first) {
                 return true;
             }
             rest = behind;
@@ -66,15 +64,15 @@ impl<A: Allocator + Copy> Counter<A> {
     }
 
     /// Whether these tokens are a name, an `&` and this counter.
-    fn is_join(&self, token: &Part<A>, next: &Token<'_>, after: &Token<'_>) -> bool
-        ensures { result ≡ is_join self.now token.now (piece_of next.now) (piece_of after.now) }
+    fn is_join(&self, token: &Part<'_, A>, next: &Part<'_, A>, after: &Part<'_, A>) -> bool
+        ensures { result ≡ is_join self.now token.now next.now after.now }
     {
-        is_name(&token.token()) && has_text(next, b"&") && self.is_counter(after)
+        is_name(token) && has_text(next, b"&") && self.is_counter(after)
     }
 
     /// Whether this token is joined to the number by those behind it.
-    fn joins(&self, token: &Part<A>, behind: &[Token<'_>]) -> bool
-        ensures { result ≡ joins self.now token.now (pieces behind.now) }
+    fn joins(&self, token: &Part<'_, A>, behind: &[Part<'_, A>]) -> bool
+        ensures { result ≡ joins self.now token.now behind.now }
     {
         match behind {
             [next, after, ..] => self.is_join(token, next, after),
@@ -83,23 +81,22 @@ impl<A: Allocator + Copy> Counter<A> {
     }
 
     /// A name with this counter's number behind it.
-    fn joined_name(&self, alloc: A, token: &Part<A>) -> Result<Part<A>, AllocError>
-        ensures { IfOk result (λ name. name ≡ joined_name self.now token.now) }
+    fn joined_name<'s>(&self, alloc: A, name: Part<'s, A>) -> Result<Part<'s, A>, AllocError>
+        ensures { IfOk result (λ joined. joined ≡ joined_name self.now name.entry) }
     {
-        let mut text = Vec::from_slice(alloc, token.token().text)?;
+        let mut text = name.into_text(alloc)?;
         let digits = two_digits(alloc, self.number)?;
         text.extend_from_slice(digits.as_slice())?;
         Ok(Part::made(TokenKind::Name, text))
     }
 
     /// The number where a token is this counter and was not joined, else the token.
-    fn number_or(&self, alloc: A, token: &Joined<A>) -> Result<Part<A>, AllocError>
+    fn number_or<'s>(&self, alloc: A, token: &Joined<'s, A>) -> Result<Part<'s, A>, AllocError>
         ensures { IfOk result (λ part. part ≡ number_or self.now token.now) }
     {
         let (is_joined, part) = token;
-        let token = part.token();
-        if *is_joined || !self.is_counter(&token) {
-            return Part::of(alloc, &token);
+        if *is_joined || !self.is_counter(part) {
+            return part.copy(alloc);
         }
         let text = Vec::from_slice(alloc, Buffer::new().format(self.number).as_bytes())?;
         Ok(Part::made(TokenKind::Number, text))
@@ -107,31 +104,31 @@ impl<A: Allocator + Copy> Counter<A> {
 }
 
 /// The tokens of a line in the copy of this counter's number.
-pub(crate) fn in_copy<A: Allocator + Copy>(
+pub(crate) fn in_copy<'s, A: Allocator + Copy>(
     alloc: A,
     counter: &Counter<A>,
     form: LineForm,
-    parts: &[Part<A>],
-) -> Result<Option<Vec<Part<A>, A>>, AllocError>
-    ensures { IfOk result (λ copy. MatchOption copy (in_copy counter.now form parts.now ≡ parts.now) (λ copy. copy.items ≡ in_copy counter.now form parts.now)) }
+    tokens: &[Part<'s, A>],
+) -> Result<Vec<Part<'s, A>, A>, AllocError>
+    ensures { IfOk result (λ copy. copy.items ≡ in_copy counter.now form tokens.now) }
 {
-    if !counter.is_named(parts) {
-        return Ok(None);
+    if counter.is_named(tokens) {
+        rewritten(alloc, counter, form, tokens)
+    } else {
+        copied(alloc, tokens)
     }
-    let tokens = tokens_of(alloc, parts)?;
-    Ok(Some(rewritten(alloc, counter, form, tokens.as_slice())?))
 }
 
 /// The tokens of a line that names the counter.
-fn rewritten<A: Allocator + Copy>(
+fn rewritten<'s, A: Allocator + Copy>(
     alloc: A,
     counter: &Counter<A>,
     form: LineForm,
-    tokens: &[Token<'_>],
-) -> Result<Vec<Part<A>, A>, AllocError>
-    ensures { IfOk result (λ parts. parts.items ≡ rewritten counter.now form (pieces tokens.now)) }
+    tokens: &[Part<'s, A>],
+) -> Result<Vec<Part<'s, A>, A>, AllocError>
+    ensures { IfOk result (λ parts. parts.items ≡ rewritten counter.now form tokens.now) }
 {
-    let mut out = Vec::new(alloc);
+    let mut out = Vec::with_capacity(alloc, tokens.len())?;
     match form {
         LineForm::Statement => match line_word(tokens) {
             Some(word) => append_worded(alloc, counter, word, tokens, &mut out)?,
@@ -147,14 +144,14 @@ fn rewritten<A: Allocator + Copy>(
 }
 
 /// Appends the tokens of a line with this word: before the word no number stands for the counter.
-fn append_worded<A: Allocator + Copy>(
+fn append_worded<'s, A: Allocator + Copy>(
     alloc: A,
     counter: &Counter<A>,
     word: Word,
-    tokens: &[Token<'_>],
-    out: &mut Vec<Part<A>, A>,
+    tokens: &[Part<'s, A>],
+    out: &mut Vec<Part<'s, A>, A>,
 ) -> Result<(), AllocError>
-    ensures { OnOk result (out.new.items ≡ out.old.items ++ rewritten_by counter.now (Some word) (pieces tokens.now)) }
+    ensures { OnOk result (out.new.items ≡ out.old.items ++ rewritten_by counter.now (Some word) tokens.now) }
 {
     let behind = behind_front(tokens);
     let labels = joined(alloc, counter, &tokens[..tokens.len() - behind.len()])?;
@@ -162,20 +159,20 @@ fn append_worded<A: Allocator + Copy>(
     let [first, operands @ ..] = behind else {
         return Ok(());
     };
-    out.push(Part::of(alloc, first)?)?;
+    out.push(first.copy(alloc)?)?;
     let operands = joined(alloc, counter, operands)?;
     append_behind(alloc, counter, word, operands.as_slice(), out)?;
     Ok(())
 }
 
 /// Appends the tokens of a line without a word: among the names at its front no number stands for the counter.
-fn append_wordless<A: Allocator + Copy>(
+fn append_wordless<'s, A: Allocator + Copy>(
     alloc: A,
     counter: &Counter<A>,
-    tokens: &[Token<'_>],
-    out: &mut Vec<Part<A>, A>,
+    tokens: &[Part<'s, A>],
+    out: &mut Vec<Part<'s, A>, A>,
 ) -> Result<(), AllocError>
-    ensures { OnOk result (out.new.items ≡ out.old.items ++ rewritten_by counter.now None (pieces tokens.now)) }
+    ensures { OnOk result (out.new.items ≡ out.old.items ++ rewritten_by counter.now None tokens.now) }
 {
     let all = joined(alloc, counter, tokens)?;
     let all = all.as_slice();
@@ -186,12 +183,12 @@ fn append_wordless<A: Allocator + Copy>(
 }
 
 /// Appends what stands behind a word: the name of an operation's modifier stays.
-fn append_behind<A: Allocator + Copy>(
+fn append_behind<'s, A: Allocator + Copy>(
     alloc: A,
     counter: &Counter<A>,
     word: Word,
-    tokens: &[Joined<A>],
-    out: &mut Vec<Part<A>, A>,
+    tokens: &[Joined<'s, A>],
+    out: &mut Vec<Part<'s, A>, A>,
 ) -> Result<(), AllocError>
     ensures { OnOk result (out.new.items ≡ out.old.items ++ behind_word counter.now word tokens.now) }
 {
@@ -199,9 +196,9 @@ fn append_behind<A: Allocator + Copy>(
         return append_numbered(alloc, counter, tokens, out);
     }
     match tokens {
-        [dot, name, behind @ ..] if has_text(&dot.1.token(), b".") => {
-            out.push(Part::of(alloc, &dot.1.token())?)?;
-            out.push(Part::of(alloc, &name.1.token())?)?;
+        [dot, name, behind @ ..] if has_text(&dot.1, b".") => {
+            out.push(dot.1.copy(alloc)?)?;
+            out.push(name.1.copy(alloc)?)?;
             append_numbered(alloc, counter, behind, out)
         }
         _ => append_numbered(alloc, counter, tokens, out),
@@ -209,8 +206,8 @@ fn append_behind<A: Allocator + Copy>(
 }
 
 /// From the first token on that may not stand before a word.
-fn behind_front<'t, 'l>(tokens: &'t [Token<'l>]) -> &'t [Token<'l>]
-    ensures behind { pieces result.now ≡ dropped_while is_front (pieces tokens.entry.now) }
+fn behind_front<'t, 's, A: Allocator>(tokens: &'t [Part<'s, A>]) -> &'t [Part<'s, A>]
+    ensures behind { result.now ≡ dropped_while is_front tokens.entry.now }
     ensures short { length result.now ≤ length tokens.entry.now }
 {
     let mut rest = tokens;
@@ -224,13 +221,13 @@ fn behind_front<'t, 'l>(tokens: &'t [Token<'l>]) -> &'t [Token<'l>]
 }
 
 /// From the first token on that is no name.
-fn behind_names<'t, A: Allocator>(tokens: &'t [Joined<A>]) -> &'t [Joined<A>]
+fn behind_names<'t, 's, A: Allocator>(tokens: &'t [Joined<'s, A>]) -> &'t [Joined<'s, A>]
     ensures behind { result.now ≡ dropped_while is_label tokens.entry.now }
     ensures short { length result.now ≤ length tokens.entry.now }
 {
     let mut rest = tokens;
     while let [first, behind @ ..] = rest {
-        if !is_name(&first.1.token()) {
+        if !is_name(&first.1) {
             break;
         }
         rest = behind;
@@ -239,28 +236,28 @@ fn behind_names<'t, A: Allocator>(tokens: &'t [Joined<A>]) -> &'t [Joined<A>]
 }
 
 /// The tokens with the names joined that an `&` and the counter follow, and whether each was joined.
-fn joined<A: Allocator + Copy>(
+fn joined<'s, A: Allocator + Copy>(
     alloc: A,
     counter: &Counter<A>,
-    tokens: &[Token<'_>],
-) -> Result<Vec<Joined<A>, A>, AllocError>
-    ensures { IfOk result (λ all. all.items ≡ joined counter.now (pieces tokens.now)) }
+    tokens: &[Part<'s, A>],
+) -> Result<Vec<Joined<'s, A>, A>, AllocError>
+    ensures { IfOk result (λ all. all.items ≡ joined counter.now tokens.now) }
 {
-    let mut all = Vec::new(alloc);
+    let mut all = Vec::with_capacity(alloc, tokens.len())?;
     let [first, behind @ ..] = tokens else {
         return Ok(all);
     };
-    let mut last = Part::of(alloc, first)?;
+    let mut last = first.copy(alloc)?;
     let mut is_joined = false;
     let mut rest = behind;
     while let [next, others @ ..] = rest {
         if counter.joins(&last, rest) {
-            last = counter.joined_name(alloc, &last)?;
+            last = counter.joined_name(alloc, last)?;
             is_joined = true;
             rest = behind_first(others);
         } else {
             all.push((is_joined, last))?;
-            last = Part::of(alloc, next)?;
+            last = next.copy(alloc)?;
             is_joined = false;
             rest = others;
         }
@@ -270,25 +267,25 @@ fn joined<A: Allocator + Copy>(
 }
 
 /// Appends tokens as they are.
-fn append_kept<A: Allocator + Copy>(
+fn append_kept<'s, A: Allocator + Copy>(
     alloc: A,
-    tokens: &[Joined<A>],
-    out: &mut Vec<Part<A>, A>,
+    tokens: &[Joined<'s, A>],
+    out: &mut Vec<Part<'s, A>, A>,
 ) -> Result<(), AllocError>
     ensures { OnOk result (out.new.items ≡ out.old.items ++ kept tokens.now) }
 {
     for token in tokens {
-        out.push(Part::of(alloc, &token.1.token())?)?;
+        out.push(token.1.copy(alloc)?)?;
     }
     Ok(())
 }
 
 /// Appends tokens with the number for the counter, but for what was joined.
-fn append_numbered<A: Allocator + Copy>(
+fn append_numbered<'s, A: Allocator + Copy>(
     alloc: A,
     counter: &Counter<A>,
-    tokens: &[Joined<A>],
-    out: &mut Vec<Part<A>, A>,
+    tokens: &[Joined<'s, A>],
+    out: &mut Vec<Part<'s, A>, A>,
 ) -> Result<(), AllocError>
     ensures { OnOk result (out.new.items ≡ out.old.items ++ numbered counter.now tokens.now) }
 {

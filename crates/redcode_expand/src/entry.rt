@@ -11,7 +11,7 @@ use std::marker::Model;
 pub(crate) struct Entry<'s, A: Allocator> {
     pub line: Line,
     pub title: &'s [u8],
-    pub tokens: Vec<Part<A>, A>,
+    pub tokens: Vec<Part<'s, A>, A>,
 }
 
 impl<'s, A: Allocator> Model for Entry<'s, A> {

@@ -1,24 +1,24 @@
 //! The names of a source's EQU lines.
 
-ghost use Rattle.std.specs.Prelude.{◌≡◌, ◌++◌, ◌∷◌, [], false, OnOk};
-ghost use Rattle.redcode_expand.specs.Equ.{body_at, body_of, is_equ, unplaced_all};
+ghost use Rattle.std.specs.Prelude.{◌≡◌, ◌++◌, ◌∷◌, [], false, map, OnOk};
+ghost use Rattle.redcode_expand.specs.Equ.{body_at, body_of, is_equ};
+ghost use Rattle.redcode_expand.specs.Word.{unplaced};
 
 use crate::part::{Part, unplaced_parts};
 use crate::reading::is_name;
 use indexmap::IndexMap;
-use redcode_text::Token;
 use std::alloc::{AllocError, Allocator};
 use std::hash::{BuildHasherDefault, FoldHasher};
 use std::marker::Model;
 
 /// Names with the tokens that they stand for, in the order of their definition.
 #[derive(Drop)]
-pub(crate) struct Equs<A: Allocator + Copy> {
+pub(crate) struct Equs<'s, A: Allocator + Copy> {
     alloc: A,
-    bodies: IndexMap<Vec<u8, A>, Vec<Part<A>, A>, BuildHasherDefault<FoldHasher>, A>,
+    bodies: IndexMap<Vec<u8, A>, Vec<Part<'s, A>, A>, BuildHasherDefault<FoldHasher>, A>,
 }
 
-impl<A: Allocator + Copy> Model for Equs<A> {
+impl<'s, A: Allocator + Copy> Model for Equs<'s, A> {
     ghost use Rattle.std.specs.Prelude.{map};
     ghost use Rattle.redcode_expand.specs.Equ.{EquList};
 
@@ -27,7 +27,7 @@ impl<A: Allocator + Copy> Model for Equs<A> {
     ghost view = { λ e. map (λ entry. (entry.0.items, entry.1.items)) e.bodies.entries };
 }
 
-impl<A: Allocator + Copy> Equs<A> {
+impl<'s, A: Allocator + Copy> Equs<'s, A> {
     /// No names.
     pub(crate) fn new(alloc: A) -> Self
         ensures { result ≡ [] }
@@ -46,18 +46,17 @@ impl<A: Allocator + Copy> Equs<A> {
     }
 
     /// The tokens that a token stands for; none where it is no name of an EQU.
-    pub(crate) fn body_at(&self, part: &Part<A>) -> &[Part<A>]
-        ensures { result.now ≡ body_at self.now part.now }
+    pub(crate) fn body_at(&self, token: &Part<'_, A>) -> &[Part<'s, A>]
+        ensures { result.now ≡ body_at self.now token.now }
     {
-        let token = part.token();
-        if is_name(&token) {
-            self.body_of(token.text)
+        if is_name(token) {
+            self.body_of(token.text())
         } else {
             self.no_tokens()
         }
     }
 
-    fn body_of(&self, name: &[u8]) -> &[Part<A>]
+    fn body_of(&self, name: &[u8]) -> &[Part<'s, A>]
         ensures { result.now ≡ body_of self.now name.now }
     {
         match self.bodies.get(name) {
@@ -66,16 +65,16 @@ impl<A: Allocator + Copy> Equs<A> {
         }
     }
 
-    fn no_tokens(&self) -> &[Part<A>]
+    fn no_tokens(&self) -> &[Part<'s, A>]
         ensures { result.now ≡ [] }
     {
         &[]
     }
 
     /// Adds an EQU of a new name.
-    pub(crate) fn add(&mut self, name: &[u8], body: &[Token<'_>]) -> Result<(), AllocError>
+    pub(crate) fn add(&mut self, name: &[u8], body: &[Part<'s, A>]) -> Result<(), AllocError>
         requires { is_equ self.old name.now ≡ false }
-        ensures { OnOk result (self.new ≡ self.old ++ (name.now, unplaced_all body.entry.now) ∷ []) }
+        ensures { OnOk result (self.new ≡ self.old ++ (name.now, map unplaced body.now) ∷ []) }
     {
         let name = Vec::from_slice(self.alloc, name)?;
         let body = unplaced_parts(self.alloc, body)?;

@@ -4,6 +4,7 @@
 mod blocks;
 mod count;
 mod counter;
+mod counter_names;
 mod directive;
 mod entry;
 mod equs;

@@ -1,7 +1,6 @@
 //! The names of a source, and the lines that define them.
 
 ghost use Rattle.std.specs.Prelude.{◌≡◌, []};
-ghost use Rattle.redcode_text.specs.Tokens.{pieces};
 ghost use Rattle.redcode_expand.specs.Gives.{Gives};
 ghost use Rattle.redcode_expand.specs.Word.{may_label, names_among, taken_while};
 ghost use Rattle.redcode_expand.specs.Equ.{has_word, is_bad_body};
@@ -11,21 +10,21 @@ ghost use Rattle.redcode_expand.specs.Walk.{for_labels};
 use crate::equs::Equs;
 use crate::labels::Labels;
 use crate::name::predefined;
+use crate::part::Part;
 use crate::reading::{is_name, may_label, word_at};
 use crate::word::Word;
-use redcode_text::Token;
 use std::alloc::Allocator;
 use std::marker::Model;
 use war_types::{AsmFault, AsmKind, Settings};
 
 /// The names that a source has defined so far.
 #[derive(Drop)]
-pub(crate) struct Names<A: Allocator + Copy> {
+pub(crate) struct Names<'s, A: Allocator + Copy> {
     pub labels: Labels<A>,
-    pub equs: Equs<A>,
+    pub equs: Equs<'s, A>,
 }
 
-impl<A: Allocator + Copy> Model for Names<A> {
+impl<'s, A: Allocator + Copy> Model for Names<'s, A> {
     ghost use Rattle.redcode_expand.specs.Name.{Names, names_of};
 
     ghost Value = { Names };
@@ -33,7 +32,7 @@ impl<A: Allocator + Copy> Model for Names<A> {
     ghost view = { λ n. names_of n.labels n.equs };
 }
 
-impl<A: Allocator + Copy> Names<A> {
+impl<'s, A: Allocator + Copy> Names<'s, A> {
     /// No names.
     pub(crate) fn new(alloc: A) -> Self
         ensures { result ≡ names_of [] [] }
@@ -80,9 +79,9 @@ impl<A: Allocator + Copy> Names<A> {
         number: u32,
         address: u32,
         word: Option<Word>,
-        tokens: &[Token<'_>],
+        tokens: &[Part<'s, A>],
     ) -> Result<(), AsmFault>
-        ensures { Gives (λ _. self.new) result (all_defined settings.now number address (names_among (taken_while (may_label word) (pieces tokens.now))) self.old) }
+        ensures { Gives (λ _. self.new) result (all_defined settings.now number address (names_among (taken_while (may_label word) tokens.now)) self.old) }
     {
         let mut rest = tokens;
         while let [first, behind @ ..] = rest {
@@ -90,7 +89,7 @@ impl<A: Allocator + Copy> Names<A> {
                 break;
             }
             if is_name(first) {
-                self.define(settings, number, address, first.text)?;
+                self.define(settings, number, address, first.text())?;
             }
             rest = behind;
         }
@@ -104,11 +103,11 @@ impl<A: Allocator + Copy> Names<A> {
         number: u32,
         address: u32,
         word: Option<Word>,
-        tokens: &[Token<'_>],
-        body: &[Token<'_>],
+        tokens: &[Part<'s, A>],
+        body: &[Part<'s, A>],
     ) -> Result<(), AsmFault>
-        ensures { let labels = names_among (taken_while (may_label word) (pieces tokens.entry.now)) in
-            Gives (λ _. self.new) result (equ_line settings.now number address (pieces body.entry.now) labels self.old) }
+        ensures { let labels = names_among (taken_while (may_label word) tokens.entry.now) in
+            Gives (λ _. self.new) result (equ_line settings.now number address body.entry.now labels self.old) }
     {
         let mut name = None;
         let mut rest = tokens;
@@ -123,7 +122,7 @@ impl<A: Allocator + Copy> Names<A> {
             if let Some(earlier) = name {
                 self.define(settings, number, address, earlier)?;
             }
-            name = Some(first.text);
+            name = Some(first.text());
         }
         match name {
             Some(name) => self.equate(settings, number, body, name),
@@ -141,9 +140,9 @@ impl<A: Allocator + Copy> Names<A> {
         number: u32,
         address: u32,
         word: Option<Word>,
-        tokens: &[Token<'t>],
+        tokens: &'t [Part<'s, A>],
     ) -> Result<&'t [u8], AsmFault>
-        ensures { let labels = names_among (taken_while (may_label word) (pieces tokens.entry.now)) in
+        ensures { let labels = names_among (taken_while (may_label word) tokens.entry.now) in
             Gives (λ name. (self.new, name.now)) result (for_labels settings.now number address labels self.old) }
     {
         let mut name = None;
@@ -159,7 +158,7 @@ impl<A: Allocator + Copy> Names<A> {
             if let Some(label) = name {
                 self.define(settings, number, address, label)?;
             }
-            name = Some(first.text);
+            name = Some(first.text());
         }
         match name {
             Some(name) => Ok(name),
@@ -172,10 +171,10 @@ impl<A: Allocator + Copy> Names<A> {
         &mut self,
         settings: &Settings,
         number: u32,
-        body: &[Token<'_>],
+        body: &[Part<'s, A>],
         name: &[u8],
     ) -> Result<(), AsmFault>
-        ensures { Gives (λ _. self.new) result (equ_defined settings.now number (pieces body.entry.now) name.now self.old) }
+        ensures { Gives (λ _. self.new) result (equ_defined settings.now number body.entry.now name.now self.old) }
     {
         if self.is_taken(settings, name) {
             return Err(AsmFault {
@@ -195,14 +194,14 @@ impl<A: Allocator + Copy> Names<A> {
 }
 
 /// Whether these tokens are no body of an EQU: there is none, or a reserved word among them.
-fn is_bad_body(tokens: &[Token<'_>]) -> bool
-    ensures { result ≡ is_bad_body (pieces tokens.now) }
+fn is_bad_body<A: Allocator>(tokens: &[Part<'_, A>]) -> bool
+    ensures { result ≡ is_bad_body tokens.now }
 {
     tokens.is_empty() || has_word(tokens)
 }
 
-fn has_word(tokens: &[Token<'_>]) -> bool
-    ensures { result ≡ has_word (pieces tokens.now) }
+fn has_word<A: Allocator>(tokens: &[Part<'_, A>]) -> bool
+    ensures { result ≡ has_word tokens.now }
 {
     let mut rest = tokens;
     while let [first, behind @ ..] = rest {

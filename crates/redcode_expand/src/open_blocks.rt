@@ -1,7 +1,8 @@
 //! The blocks whose copies are being written.
 
 use crate::counter::{Counter, in_copy};
-use crate::part::{Part, parts_of};
+use crate::counter_names::CounterNames;
+use crate::part::{Part, copied};
 use crate::source_line::SourceLine;
 use std::alloc::{AllocError, Allocator};
 use std::marker::Model;
@@ -101,15 +102,19 @@ impl<A: Allocator + Copy> OpenBlock<A> {
 pub(crate) struct OpenBlocks<A: Allocator + Copy> {
     alloc: A,
     blocks: Vec<OpenBlock<A>, A>,
+    /// Those of the blocks' counters among them.
+    names: CounterNames<A>,
 }
 
 impl<A: Allocator + Copy> Model for OpenBlocks<A> {
     ghost use Rattle.std.specs.Prelude.{List, reverse};
-    ghost use Rattle.redcode_expand.specs.Rest.{OpenBlock};
+    ghost use Rattle.redcode_expand.specs.Rest.{OpenBlock, AreKnown};
 
     ghost Value = { List OpenBlock };
 
     ghost view = { λ b. reverse b.blocks.items };
+
+    ghost invariant = { λ b. AreKnown b.names b.blocks.items };
 }
 
 impl<A: Allocator + Copy> OpenBlocks<A> {
@@ -124,6 +129,7 @@ impl<A: Allocator + Copy> OpenBlocks<A> {
         OpenBlocks {
             alloc,
             blocks: Vec::new(alloc),
+            names: CounterNames::new(alloc),
         }
     }
 
@@ -137,6 +143,7 @@ impl<A: Allocator + Copy> OpenBlocks<A> {
     pub(crate) fn push(&mut self, block: OpenBlock<A>) -> Result<(), AllocError>
         ensures { OnOk result (self.new ≡ block ∷ self.old) }
     {
+        self.names.know(block.counter.name.as_slice())?;
         self.blocks.push(block)?;
         Ok(())
     }
@@ -148,23 +155,23 @@ impl<A: Allocator + Copy> OpenBlocks<A> {
         self.blocks.pop()
     }
 
-    /// The tokens of a line within the copies that are being written.
-    pub(crate) fn tokens_of(&self, line: &SourceLine<'_, A>) -> Result<Vec<Part<A>, A>, AllocError>
-        ensures { IfOk result (λ parts. parts.items ≡ in_copies (counters_of self.now) line.now.form line.now.tokens) }
+    /// The tokens of a line within the copies that are being written. They are copied even where no counter is named, and again
+    /// for each block where one is: what a line takes is the measure of the time that it takes.
+    pub(crate) fn tokens_of<'s>(
+        &self,
+        line: &SourceLine<'s, A>,
+    ) -> Result<Vec<Part<'s, A>, A>, AllocError>
+        ensures { IfOk result (λ tokens. tokens.items ≡ in_copies (counters_of self.now) line.now.form line.now.tokens) }
     {
-        let mut parts = parts_of(self.alloc, line.tokens())?;
+        let mut tokens = copied(self.alloc, line.tokens())?;
+        if !self.names.are_named(tokens.as_slice()) {
+            return Ok(tokens);
+        }
         let mut rest = self.blocks.as_slice();
         while let [first, behind @ ..] = rest {
-            if let Some(copy) = in_copy(
-                self.alloc,
-                &first.counter,
-                line.form(),
-                parts.as_slice(),
-            )? {
-                parts = copy;
-            }
+            tokens = in_copy(self.alloc, &first.counter, line.form(), tokens.as_slice())?;
             rest = behind;
         }
-        Ok(parts)
+        Ok(tokens)
     }
 }

@@ -9,7 +9,10 @@ use crate::reading::has_text;
 use std::alloc::Allocator;
 
 /// The tokens of a line that are operands, or an expression.
-pub(crate) fn operands_of<A: Allocator>(kind: LineKind, tokens: &[Part<A>]) -> &[Part<A>]
+pub(crate) fn operands_of<'t, 's, A: Allocator>(
+    kind: LineKind,
+    tokens: &'t [Part<'s, A>],
+) -> &'t [Part<'s, A>]
     ensures operands { result.now ≡ operands_of kind tokens.entry.now }
     ensures short { length result.now ≤ length tokens.entry.now }
 {
@@ -22,12 +25,12 @@ pub(crate) fn operands_of<A: Allocator>(kind: LineKind, tokens: &[Part<A>]) -> &
 }
 
 /// Behind an operation, a dot and the modifier's name that follows it.
-fn behind_modifier<A: Allocator>(tokens: &[Part<A>]) -> &[Part<A>]
+fn behind_modifier<'t, 's, A: Allocator>(tokens: &'t [Part<'s, A>]) -> &'t [Part<'s, A>]
     ensures behind { result.now ≡ behind_modifier tokens.entry.now }
     ensures short { length result.now ≤ length tokens.entry.now }
 {
     match tokens {
-        [first, behind @ ..] if has_text(&first.token(), b".") => behind_first(behind),
+        [first, behind @ ..] if has_text(first, b".") => behind_first(behind),
         _ => tokens,
     }
 }

@@ -1,52 +1,105 @@
-//! Tokens that own their text.
+//! Tokens that may have been made.
 
-ghost use Rattle.std.specs.Prelude.{◌≡◌, IfOk};
-ghost use Rattle.redcode_text.specs.Tokens.{piece_of, pieces};
-ghost use Rattle.redcode_expand.specs.Equ.{unplaced_all};
+ghost use Rattle.std.specs.Prelude.{◌≡◌, IfOk, map};
+ghost use Rattle.redcode_text.specs.Tokens.{pieces};
 ghost use Rattle.redcode_expand.specs.Word.{unplaced};
 
 use redcode_text::{Token, TokenKind};
 use std::alloc::{AllocError, Allocator};
+use std::borrow::CowSlice;
 use std::marker::Model;
 
-/// A token that owns its text, as that of a joined name.
+/// Bytes of a text that a copy of its token borrows at most.
+const SHORT: usize = 64;
+
+/// A token of the source, or one that was made and has its text itself, as a joined name.
 #[derive(Drop)]
-pub(crate) struct Part<A: Allocator> {
+pub(crate) struct Part<'s, A: Allocator> {
     kind: TokenKind,
-    text: Vec<u8, A>,
+    text: CowSlice<'s, u8, A>,
     at: u32,
 }
 
-impl<A: Allocator> Model for Part<A> {
+impl<'s, A: Allocator> Model for Part<'s, A> {
+    ghost use Rattle.std.specs.Cow.{cow_slice_items};
     ghost use Rattle.redcode_text.specs.Tokens.{Piece};
 
     ghost Value = { Piece };
 
-    ghost view = { λ p. record { kind = p.kind; text = p.text.items; at = p.at } };
+    ghost view = { λ p. record { kind = p.kind; text = cow_slice_items p.text; at = p.at } };
 }
 
-impl<A: Allocator> Part<A> {
+impl<'s, A: Allocator> Part<'s, A> {
     ghost use Rattle.std.specs.Prelude.{◌≡◌, IfOk};
     ghost use Rattle.redcode_text.specs.Tokens.{Piece, piece_of};
     ghost use Rattle.redcode_expand.specs.Counter.{piece};
+    ghost use Rattle.redcode_expand.specs.Word.{unplaced};
 
-    /// A token of this kind and this text, with a place of 0.
-    pub(crate) fn made(kind: TokenKind, text: Vec<u8, A>) -> Part<A>
-        ensures { result ≡ piece kind text.items }
+    /// A token of the source.
+    pub(crate) fn of(token: &Token<'s>) -> Part<'s, A>
+        ensures { result ≡ piece_of token.now }
     {
-        Part { kind, text, at: 0 }
+        Part {
+            kind: token.kind,
+            text: CowSlice::Borrowed(token.text),
+            at: token.at,
+        }
     }
 
-    /// The same token.
-    pub(crate) fn of(alloc: A, token: &Token<'_>) -> Result<Part<A>, AllocError>
-        ensures { IfOk result (λ part. part ≡ piece_of token.now) }
+    /// A token of this kind and this text, with a place of 0.
+    pub(crate) fn made(kind: TokenKind, text: Vec<u8, A>) -> Part<'s, A>
+        ensures { result ≡ piece kind text.items }
     {
-        let text = Vec::from_slice(alloc, token.text)?;
+        Part {
+            kind,
+            text: CowSlice::Owned(text),
+            at: 0,
+        }
+    }
+
+    /// The same token. A long text is copied too, as looking it up takes time in its measure.
+    pub(crate) fn copy(&self, alloc: A) -> Result<Part<'s, A>, AllocError>
+        ensures { IfOk result (λ part. part ≡ self.now) }
+    {
+        let text = match &self.text {
+            CowSlice::Borrowed(text) if text.len() <= SHORT => CowSlice::Borrowed(*text),
+            text => CowSlice::Owned(Vec::from_slice(alloc, text.as_slice())?),
+        };
         Ok(Part {
-            kind: token.kind,
+            kind: self.kind,
             text,
-            at: token.at,
+            at: self.at,
         })
+    }
+
+    /// The same token with a place of 0.
+    pub(crate) fn unplaced(&self, alloc: A) -> Result<Part<'s, A>, AllocError>
+        ensures { IfOk result (λ part. part ≡ unplaced self.now) }
+    {
+        let part = self.copy(alloc)?;
+        Ok(Part { at: 0, ..part })
+    }
+
+    pub(crate) fn kind(&self) -> TokenKind
+        ensures { result ≡ self.now.kind }
+    {
+        self.kind
+    }
+
+    pub(crate) fn text(&self) -> &[u8]
+        ensures { result.now ≡ self.now.text }
+    {
+        self.text.as_slice()
+    }
+
+    /// The text, to write behind.
+    pub(crate) fn into_text(self, alloc: A) -> Result<Vec<u8, A>, AllocError>
+        ensures { IfOk result (λ text. text.items ≡ self.entry.text) }
+    {
+        match self.text {
+            CowSlice::Borrowed(text) => Vec::from_slice(alloc, text),
+            CowSlice::Owned(text) => Ok(text),
+        }
     }
 
     /// The token, which borrows its text.
@@ -61,42 +114,56 @@ impl<A: Allocator> Part<A> {
     }
 }
 
-/// The same tokens, each with its text.
-pub(crate) fn parts_of<A: Allocator + Copy>(
+/// The same tokens.
+pub(crate) fn parts_of<'s, A: Allocator + Copy>(
     alloc: A,
-    tokens: &[Token<'_>],
-) -> Result<Vec<Part<A>, A>, AllocError>
+    tokens: &[Token<'s>],
+) -> Result<Vec<Part<'s, A>, A>, AllocError>
     ensures { IfOk result (λ parts. parts.items ≡ pieces tokens.now) }
 {
-    let mut parts = Vec::new(alloc);
+    let mut parts = Vec::with_capacity(alloc, tokens.len())?;
     for token in tokens {
-        parts.push(Part::of(alloc, token)?)?;
+        parts.push(Part::of(token))?;
     }
     Ok(parts)
 }
 
-/// The same tokens, each with its text and a place of 0.
-pub(crate) fn unplaced_parts<A: Allocator + Copy>(
+/// The same tokens.
+pub(crate) fn copied<'s, A: Allocator + Copy>(
     alloc: A,
-    tokens: &[Token<'_>],
-) -> Result<Vec<Part<A>, A>, AllocError>
-    ensures { IfOk result (λ parts. parts.items ≡ unplaced_all tokens.now) }
+    tokens: &[Part<'s, A>],
+) -> Result<Vec<Part<'s, A>, A>, AllocError>
+    ensures { IfOk result (λ parts. parts.items ≡ tokens.now) }
 {
-    let mut parts = Vec::new(alloc);
+    let mut parts = Vec::with_capacity(alloc, tokens.len())?;
     for token in tokens {
-        parts.push(Part::of(alloc, &Token { at: 0, ..*token })?)?;
+        parts.push(token.copy(alloc)?)?;
+    }
+    Ok(parts)
+}
+
+/// The same tokens, each with a place of 0.
+pub(crate) fn unplaced_parts<'s, A: Allocator + Copy>(
+    alloc: A,
+    tokens: &[Part<'s, A>],
+) -> Result<Vec<Part<'s, A>, A>, AllocError>
+    ensures { IfOk result (λ parts. parts.items ≡ map unplaced tokens.now) }
+{
+    let mut parts = Vec::with_capacity(alloc, tokens.len())?;
+    for token in tokens {
+        parts.push(token.unplaced(alloc)?)?;
     }
     Ok(parts)
 }
 
 /// The same tokens, which borrow their texts.
-pub(crate) fn tokens_of<A: Allocator + Copy>(
+pub(crate) fn tokens_of<'t, A: Allocator + Copy>(
     alloc: A,
-    parts: &[Part<A>],
-) -> Result<Vec<Token<'_>, A>, AllocError>
+    parts: &'t [Part<'_, A>],
+) -> Result<Vec<Token<'t>, A>, AllocError>
     ensures { IfOk result (λ tokens. pieces tokens.items ≡ parts.now) }
 {
-    let mut tokens = Vec::new(alloc);
+    let mut tokens = Vec::with_capacity(alloc, parts.len())?;
     for part in parts {
         tokens.push(part.token())?;
     }

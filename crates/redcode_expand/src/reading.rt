@@ -1,15 +1,17 @@
 //! How a line is read: its labels, its word, and what is behind.
 
 ghost use Rattle.std.specs.Prelude.{◌≡◌, ◌≤◌, length};
-ghost use Rattle.redcode_text.specs.Tokens.{piece_of, pieces};
+ghost use Rattle.redcode_text.specs.Tokens.{pieces};
 ghost use Rattle.redcode_expand.specs.Word.{word_at, is_front, first_word, dropped_while, line_word, may_label, behind_labels, without_comment, is_no_comment, is_name, is_comment, has_text};
 
+use crate::part::Part;
 use crate::word::{Word, word_of};
 use redcode_text::{Token, TokenKind};
+use std::alloc::Allocator;
 
 /// The word of a line: its first reserved word, where names, `&` and `:` alone stand before it.
-pub(crate) fn line_word(tokens: &[Token<'_>]) -> Option<Word>
-    ensures { result ≡ line_word (pieces tokens.now) }
+pub(crate) fn line_word<A: Allocator>(tokens: &[Part<'_, A>]) -> Option<Word>
+    ensures { result ≡ line_word tokens.now }
 {
     let mut rest = tokens;
     while let [first, behind @ ..] = rest {
@@ -23,8 +25,11 @@ pub(crate) fn line_word(tokens: &[Token<'_>]) -> Option<Word>
 
 /// What is behind the labels of a line with this word: from the word on, or behind the names at the front of a line
 /// without one.
-pub(crate) fn behind_labels<'t, 'l>(tokens: &'t [Token<'l>], word: Option<Word>) -> &'t [Token<'l>]
-    ensures { pieces result.now ≡ dropped_while (may_label word) (pieces tokens.entry.now) }
+pub(crate) fn behind_labels<'t, 's, A: Allocator>(
+    tokens: &'t [Part<'s, A>],
+    word: Option<Word>,
+) -> &'t [Part<'s, A>]
+    ensures { result.now ≡ dropped_while (may_label word) tokens.entry.now }
 {
     let mut rest = tokens;
     while let [first, behind @ ..] = rest {
@@ -37,8 +42,8 @@ pub(crate) fn behind_labels<'t, 'l>(tokens: &'t [Token<'l>], word: Option<Word>)
 }
 
 /// Whether a token may stand among the labels of a line with this word.
-pub(crate) fn may_label(word: Option<Word>, token: &Token<'_>) -> bool
-    ensures { result ≡ may_label word (piece_of token.now) }
+pub(crate) fn may_label<A: Allocator>(word: Option<Word>, token: &Part<'_, A>) -> bool
+    ensures { result ≡ may_label word token.now }
 {
     match word {
         Some(_) => is_front(token),
@@ -47,36 +52,36 @@ pub(crate) fn may_label(word: Option<Word>, token: &Token<'_>) -> bool
 }
 
 /// Whether a token may stand before a word: a name that is none, `&` or `:`.
-pub(crate) fn is_front(token: &Token<'_>) -> bool
-    ensures { result ≡ is_front (piece_of token.now) }
+pub(crate) fn is_front<A: Allocator>(token: &Part<'_, A>) -> bool
+    ensures { result ≡ is_front token.now }
 {
-    is_name(token) && word_of(token.text).is_none()
+    is_name(token) && word_of(token.text()).is_none()
         || has_text(token, b"&")
         || has_text(token, b":")
 }
 
 /// The reserved word that a token is.
-pub(crate) fn word_at(token: &Token<'_>) -> Option<Word>
-    ensures { result ≡ word_at (piece_of token.now) }
+pub(crate) fn word_at<A: Allocator>(token: &Part<'_, A>) -> Option<Word>
+    ensures { result ≡ word_at token.now }
 {
     if is_name(token) {
-        word_of(token.text)
+        word_of(token.text())
     } else {
         None
     }
 }
 
-pub(crate) fn is_name(token: &Token<'_>) -> bool
+pub(crate) fn is_name<A: Allocator>(token: &Part<'_, A>) -> bool
     ensures { result ≡ is_name token.now.kind }
 {
-    matches!(token.kind, TokenKind::Name)
+    matches!(token.kind(), TokenKind::Name)
 }
 
 /// Whether the token is spelled so.
-pub(crate) fn has_text(token: &Token<'_>, text: &[u8]) -> bool
-    ensures { result ≡ has_text text.now (piece_of token.now) }
+pub(crate) fn has_text<A: Allocator>(token: &Part<'_, A>, text: &[u8]) -> bool
+    ensures { result ≡ has_text text.now token.now }
 {
-    token.text == text
+    token.text() == text
 }
 
 /// The tokens of a line without the comment at its end.

@@ -2,7 +2,7 @@
 
 ghost use Rattle.std.specs.Prelude.{◌≡◌, ◌++◌, Ok, OnOk};
 ghost use Rattle.redcode_expand.specs.Gives.{Gives, fault_at};
-ghost use Rattle.redcode_expand.specs.Equ.{after_rounds, left_over, replaced};
+ghost use Rattle.redcode_expand.specs.Equ.{after_rounds, has_equ, left_over, replaced};
 ghost use Rattle.redcode_expand.specs.Expansion.{all_replaced, line_replaced};
 ghost use Rattle.war_types.specs.declared.fault.AsmKind.TheVariants.{EquLimit};
 
@@ -22,7 +22,7 @@ const TOKEN_LIMIT: usize = 512;
 /// Replaces the names of EQUs in the operands of all lines.
 pub(crate) fn replace_all<'s, A: Allocator + Copy>(
     alloc: A,
-    equs: &Equs<A>,
+    equs: &Equs<'s, A>,
     entries: &[Entry<'s, A>],
 ) -> Result<Vec<Entry<'s, A>, A>, AsmFault>
     ensures { Gives (λ lines. lines.items) result (all_replaced equs.now entries.now) }
@@ -40,7 +40,7 @@ pub(crate) fn replace_all<'s, A: Allocator + Copy>(
 /// Replaces the names of EQUs in the operands of a line.
 fn replace_in<'s, A: Allocator + Copy>(
     alloc: A,
-    equs: &Equs<A>,
+    equs: &Equs<'s, A>,
     entry: &Entry<'s, A>,
 ) -> Result<Entry<'s, A>, AsmFault>
     ensures { Gives (λ line. line) result (line_replaced equs.now entry.now) }
@@ -49,8 +49,9 @@ fn replace_in<'s, A: Allocator + Copy>(
     let tokens = entry.tokens.as_slice();
     let operands = operands_of(line.kind, tokens);
     let replaced = replaced(alloc, equs, line.source_line, operands)?;
-    let mut all = Vec::new(alloc);
-    append(alloc, &tokens[..tokens.len() - operands.len()], &mut all)?;
+    let before = &tokens[..tokens.len() - operands.len()];
+    let mut all = Vec::with_capacity(alloc, before.len().saturating_add(replaced.len()))?;
+    append(alloc, before, &mut all)?;
     append(alloc, replaced.as_slice(), &mut all)?;
     Ok(Entry {
         line,
@@ -60,42 +61,65 @@ fn replace_in<'s, A: Allocator + Copy>(
 }
 
 /// Appends the same tokens.
-fn append<A: Allocator + Copy>(
+fn append<'s, A: Allocator + Copy>(
     alloc: A,
-    tokens: &[Part<A>],
-    out: &mut Vec<Part<A>, A>,
+    tokens: &[Part<'s, A>],
+    out: &mut Vec<Part<'s, A>, A>,
 ) -> Result<(), AllocError>
     ensures { OnOk result (out.new.items ≡ out.old.items ++ tokens.now) }
 {
     for token in tokens {
-        out.push(Part::of(alloc, &token.token())?)?;
+        out.push(token.copy(alloc)?)?;
     }
     Ok(())
 }
 
 /// What tokens are with the names of EQUs replaced.
 #[tactic(auto, unfolding(crate::specs::Equ::replaced))]
-pub(crate) fn replaced<A: Allocator + Copy>(
+pub(crate) fn replaced<'s, A: Allocator + Copy>(
     alloc: A,
-    equs: &Equs<A>,
+    equs: &Equs<'s, A>,
     line: u32,
-    tokens: &[Part<A>],
-) -> Result<Vec<Part<A>, A>, AsmFault>
+    tokens: &[Part<'s, A>],
+) -> Result<Vec<Part<'s, A>, A>, AsmFault>
     ensures { Gives (λ parts. parts.items) result (replaced line equs.now tokens.now) }
 {
-    let mut out = Vec::new(alloc);
+    let mut out = Vec::with_capacity(alloc, room_for(equs, tokens))?;
     write(alloc, equs, line, ROUNDS, tokens, &mut out)?;
     Ok(out)
 }
 
+/// Room for what tokens become: where a name is among them, for as many as there may be.
+fn room_for<A: Allocator + Copy>(equs: &Equs<'_, A>, tokens: &[Part<'_, A>]) -> usize {
+    if has_equ(equs, tokens) {
+        TOKEN_LIMIT
+    } else {
+        tokens.len()
+    }
+}
+
+/// Whether the name of an EQU is among the tokens.
+fn has_equ<A: Allocator + Copy>(equs: &Equs<'_, A>, tokens: &[Part<'_, A>]) -> bool
+    ensures { result ≡ has_equ equs.now tokens.now }
+{
+    let mut rest = tokens;
+    while let [first, behind @ ..] = rest {
+        if !equs.body_at(first).is_empty() {
+            return true;
+        }
+        rest = behind;
+    }
+    false
+}
+
 /// Appends what tokens become in so many rounds: each token goes down through the bodies, one round deeper with each.
-fn write<A: Allocator + Copy>(
+fn write<'s, A: Allocator + Copy>(
     alloc: A,
-    equs: &Equs<A>,
+    equs: &Equs<'s, A>,
     line: u32,
     rounds: u32,
-    tokens: &[Part<A>],
-    out: &mut Vec<Part<A>, A>,
+    tokens: &[Part<'s, A>],
+    out: &mut Vec<Part<'s, A>, A>,
 ) -> Result<(), AsmFault>
     requires { left_over line equs.now out.old.items ≡ Ok out.old.items }
     ensures { Gives (λ _. out.new.items) result (left_over line equs.now (out.old.items ++ after_rounds rounds equs.now tokens.now)) }
@@ -114,7 +138,7 @@ fn write<A: Allocator + Copy>(
         if out.len() == TOKEN_LIMIT {
             return Err(too_many(line));
         }
-        out.push(Part::of(alloc, &first.token())?)?;
+        out.push(first.copy(alloc)?)?;
     }
     Ok(())
 }

@@ -1,17 +1,17 @@
 //! The lines of a source that are not skipped.
 
 ghost use Rattle.std.specs.Prelude.{◌≡◌, ◌+◌, ◌<◌, ◌≤◌, ◌++◌, ◌∷◌, [], length, drop, false, true, OnOk, IfOk};
-ghost use Rattle.redcode_text.specs.Tokens.{pieces};
 ghost use Rattle.redcode_expand.specs.Source.{directive_of, lines_of, numbered_from};
 ghost use Rattle.redcode_expand.specs.Word.{statement_tokens};
 ghost use Rattle.redcode_expand.specs.Block.{depth_behind, directive_line, ends_block, line_by, parsed, source_line, source_lines, is_titled, AreFromRof};
 ghost use Rattle.redcode_expand.specs.declared.source_line.LineForm.TheVariants.{Statement, Assert};
 
 use crate::directive::{Directive, directive_of};
+use crate::part::{Part, parts_of};
 use crate::reading::{line_word, without_comment};
 use crate::source::first_line;
 use crate::word::Word;
-use redcode_text::{Token, scan};
+use redcode_text::scan;
 use std::alloc::{AllocError, Allocator};
 use std::marker::Model;
 
@@ -35,24 +35,22 @@ pub(crate) struct SourceLine<'s, A: Allocator> {
     form: LineForm,
     word: Option<Word>,
     title: &'s [u8],
-    tokens: Vec<Token<'s>, A>,
+    tokens: Vec<Part<'s, A>, A>,
 }
 
 impl<'s, A: Allocator> Model for SourceLine<'s, A> {
     ghost use Rattle.std.specs.Prelude.{◌≡◌};
-    ghost use Rattle.redcode_text.specs.Tokens.{pieces};
     ghost use Rattle.redcode_expand.specs.Block.{SourceLine, source_line, word_by_form};
 
     ghost Value = { SourceLine };
 
-    ghost view = { λ l. source_line l.number l.form l.title.now (pieces l.tokens.items) };
+    ghost view = { λ l. source_line l.number l.form l.title.now l.tokens.items };
 
-    ghost invariant = { λ l. l.word ≡ word_by_form l.form (pieces l.tokens.items) };
+    ghost invariant = { λ l. l.word ≡ word_by_form l.form l.tokens.items };
 }
 
 impl<'s, A: Allocator> SourceLine<'s, A> {
     ghost use Rattle.std.specs.Prelude.{◌≡◌};
-    ghost use Rattle.redcode_text.specs.Tokens.{pieces};
     ghost use Rattle.redcode_expand.specs.Block.{word_in};
 
     /// Its number in the source, counted from 1.
@@ -83,8 +81,8 @@ impl<'s, A: Allocator> SourceLine<'s, A> {
     }
 
     /// Of a statement all its tokens, of an assertion those behind its word.
-    pub(crate) fn tokens(&self) -> &[Token<'s>]
-        ensures { pieces result.now ≡ self.now.tokens }
+    pub(crate) fn tokens(&self) -> &[Part<'s, A>]
+        ensures { result.now ≡ self.now.tokens }
     {
         self.tokens.as_slice()
     }
@@ -163,16 +161,16 @@ fn append_directive<'s, A: Allocator + Copy>(
 fn statement_tokens<'s, A: Allocator + Copy>(
     alloc: A,
     line: &'s [u8],
-) -> Result<Vec<Token<'s>, A>, AllocError>
+) -> Result<Vec<Part<'s, A>, A>, AllocError>
     requires { length line.now ≤ 65536 }
-    ensures { IfOk result (λ tokens. pieces tokens.items ≡ statement_tokens line.entry.now) }
+    ensures { IfOk result (λ tokens. tokens.items ≡ statement_tokens line.entry.now) }
 {
     let tokens = scan(alloc, line)?;
-    Vec::from_slice(alloc, without_comment(tokens.as_slice()))
+    parts_of(alloc, without_comment(tokens.as_slice()))
 }
 
-fn statement<'s, A: Allocator>(number: u32, tokens: Vec<Token<'s>, A>) -> SourceLine<'s, A>
-    ensures { result ≡ source_line number Statement [] (pieces tokens.entry.items) }
+fn statement<'s, A: Allocator>(number: u32, tokens: Vec<Part<'s, A>, A>) -> SourceLine<'s, A>
+    ensures { result ≡ source_line number Statement [] tokens.entry.items }
 {
     let word = line_word(tokens.as_slice());
     SourceLine {
@@ -184,8 +182,8 @@ fn statement<'s, A: Allocator>(number: u32, tokens: Vec<Token<'s>, A>) -> Source
     }
 }
 
-fn assertion<'s, A: Allocator>(number: u32, tokens: Vec<Token<'s>, A>) -> SourceLine<'s, A>
-    ensures { result ≡ source_line number Assert [] (pieces tokens.entry.items) }
+fn assertion<'s, A: Allocator>(number: u32, tokens: Vec<Part<'s, A>, A>) -> SourceLine<'s, A>
+    ensures { result ≡ source_line number Assert [] tokens.entry.items }
 {
     SourceLine {
         number,

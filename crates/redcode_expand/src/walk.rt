@@ -1,7 +1,6 @@
 //! The walk over the lines of a source.
 
 ghost use Rattle.std.specs.Prelude.{◌≡◌, ◌+◌, ◌<◌, ◌^◌, Ok, OnOk, IfOk};
-ghost use Rattle.redcode_text.specs.Tokens.{pieces};
 ghost use Rattle.redcode_expand.specs.Gives.{Gives};
 ghost use Rattle.redcode_expand.specs.Word.{may_label, names_among, taken_while};
 ghost use Rattle.redcode_expand.specs.Name.{all_defined};
@@ -16,12 +15,11 @@ use crate::line::{Line, LineKind};
 use crate::names::Names;
 use crate::open_blocks::OpenBlocks;
 use crate::operands::behind_first;
-use crate::part::{tokens_of, unplaced_parts};
+use crate::part::{Part, unplaced_parts};
 use crate::reading::{behind_labels, line_word};
 use crate::replace::replace_all;
 use crate::source_line::{LineForm, SourceLine};
 use crate::word::Word;
-use redcode_text::Token;
 use std::alloc::Allocator;
 use std::marker::Model;
 use war_types::{AsmFault, AsmKind, Settings};
@@ -43,7 +41,7 @@ pub(crate) struct Walk<'s, A: Allocator + Copy> {
     alloc: A,
     counted: u32,
     before: u32,
-    names: Names<A>,
+    names: Names<'s, A>,
     entries: Vec<Entry<'s, A>, A>,
     ended: bool,
 }
@@ -97,8 +95,7 @@ impl<'s, A: Allocator + Copy> Walk<'s, A> {
         ensures step { Gives (λ _. self.new) result (step settings.now (counters_of blocks.now) line.now self.old) }
         ensures counted { OnOk result ((self.new.counted ≡ self.old.counted + 1) × (self.old.counted < 4096)) }
     {
-        let parts = blocks.tokens_of(line)?;
-        let tokens = tokens_of(self.alloc, parts.as_slice())?;
+        let tokens = blocks.tokens_of(line)?;
         let number = line.number();
         match line.form() {
             LineForm::Statement => self.statement(settings, number, tokens.as_slice()),
@@ -123,8 +120,7 @@ impl<'s, A: Allocator + Copy> Walk<'s, A> {
         ensures counted { OnOk result (self.new.counted ≡ self.old.counted) }
         ensures few { IfOk result (λ b. b.copies < 2 ^ 63) }
     {
-        let parts = blocks.tokens_of(line)?;
-        let tokens = tokens_of(self.alloc, parts.as_slice())?;
+        let tokens = blocks.tokens_of(line)?;
         let number = line.number();
         let word = line_word(tokens.as_slice());
         let before = self.before;
@@ -154,8 +150,7 @@ impl<'s, A: Allocator + Copy> Walk<'s, A> {
         ensures closed { Gives (λ _. self.new) result (closed settings.now (counters_of blocks.now) line.now self.old) }
         ensures counted { self.new.counted ≡ self.old.counted }
     {
-        let parts = blocks.tokens_of(line)?;
-        let tokens = tokens_of(self.alloc, parts.as_slice())?;
+        let tokens = blocks.tokens_of(line)?;
         let tokens = tokens.as_slice();
         self.label(settings, line.number(), line_word(tokens), tokens)
     }
@@ -192,9 +187,9 @@ impl<'s, A: Allocator + Copy> Walk<'s, A> {
         &mut self,
         settings: &Settings,
         number: u32,
-        tokens: &[Token<'_>],
+        tokens: &[Part<'s, A>],
     ) -> Result<(), AsmFault>
-        ensures { Gives (λ _. self.new) result (statement settings.now number (pieces tokens.entry.now) self.old) }
+        ensures { Gives (λ _. self.new) result (statement settings.now number tokens.entry.now self.old) }
     {
         let word = line_word(tokens);
         self.count(number)?;
@@ -215,10 +210,10 @@ impl<'s, A: Allocator + Copy> Walk<'s, A> {
         &mut self,
         number: u32,
         word: Option<Word>,
-        tokens: &[Token<'_>],
+        tokens: &[Part<'s, A>],
     ) -> Result<(), AsmFault>
         requires { self.old.before < self.old.counted }
-        ensures { Gives (λ _. self.new) result (Ok (placed number word (pieces tokens.entry.now) self.old)) }
+        ensures { Gives (λ _. self.new) result (Ok (placed number word tokens.entry.now self.old)) }
     {
         match word {
             Some(Word::Operation) => {
@@ -262,9 +257,9 @@ impl<'s, A: Allocator + Copy> Walk<'s, A> {
         settings: &Settings,
         number: u32,
         word: Option<Word>,
-        tokens: &[Token<'_>],
+        tokens: &[Part<'s, A>],
     ) -> Result<(), AsmFault>
-        ensures labelled { Gives (λ _. self.new) result (labelled settings.now number (names_among (taken_while (may_label word) (pieces tokens.entry.now))) self.old) }
+        ensures labelled { Gives (λ _. self.new) result (labelled settings.now number (names_among (taken_while (may_label word) tokens.entry.now)) self.old) }
         ensures before { self.new.before ≡ self.old.before }
         ensures counted { self.new.counted ≡ self.old.counted }
     {
@@ -279,9 +274,9 @@ impl<'s, A: Allocator + Copy> Walk<'s, A> {
         number: u32,
         kind: LineKind,
         title: &'s [u8],
-        tokens: &[Token<'_>],
+        tokens: &[Part<'s, A>],
     ) -> Result<(), AsmFault>
-        ensures pushed { Gives (λ _. self.new) result (Ok (with_line number kind title.entry.now (pieces tokens.entry.now) self.old)) }
+        ensures pushed { Gives (λ _. self.new) result (Ok (with_line number kind title.entry.now tokens.entry.now self.old)) }
     {
         let line = Line {
             source_line: number,

@@ -10,4 +10,4 @@ loop-rest-preserved-then-joins g c =
 pub loop-rest-preserved : goal.loop-rest-preserved
 loop-rest-preserved g c =
     token-kept c.args.counter.now c.loop-rest.all.items c.push.new.self.items c.loop-rest.is_joined c.loop-rest.last c.in_ok-last-3.last c.loop-rest.rest.now _ _
-    c.in-len1-up-rest.len_at_least (sym c.joins.ensures ∙ c.if-joins.false) c.in_ok-last-3.ensures c.in_ok-push.ensures.items c.loop-rest.invariant
+    c.in-len1-up-rest.len_at_least (sym c.joins.ensures ∙ c.if-joins.false) (c.in_ok-last-3.ensures ∙ c.next-item.is) c.in_ok-push.ensures.items c.loop-rest.invariant

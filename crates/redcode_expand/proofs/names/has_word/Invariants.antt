@@ -1,11 +1,10 @@
 -- A reserved word of what is left is one of the whole.
 use Rattle.std.proofs.Common.{◌≡◌, length}
-use Rattle.redcode_text.specs.Tokens.{pieces}
 use Rattle.redcode_expand.specs.Equ.{has_word}
 use Rattle.redcode_expand.proofs.names.has_word.Given as goal
 
 abbrev pub invariant-loop-rest : goal.invariant-loop-rest
-invariant-loop-rest l = has_word (pieces l.rest) ≡ has_word (pieces l.tokens)
+invariant-loop-rest g l = has_word l.rest ≡ has_word l.tokens
 
 abbrev pub decreases-loop-rest : goal.decreases-loop-rest
-decreases-loop-rest l = length l.rest
+decreases-loop-rest g l = length l.rest

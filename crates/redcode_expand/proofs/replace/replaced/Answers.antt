@@ -7,11 +7,11 @@ use Rattle.redcode_expand.proofs.replace.replaced.Goals as goal
 
 pub returns-in_err-write : goal.returns-in_err-write
 returns-in_err-write g c =
-    let refused = replaced-fails c.args.line c.args.equs.now c.new-out.result.items c.args.tokens.now c.in_err-write.field-0.0 c.new-out.ensures.items c.in_err-write.ensures in
+    let refused = replaced-fails c.args.line c.args.equs.now c.in_ok-out.out.items c.args.tokens.now c.in_err-write.field-0.0 c.in_ok-out.ensures.items c.in_err-write.ensures in
     grind (arith, common_steps)
 
 pub returns : goal.returns
 returns g c =
     replaced-left c.args.line c.args.equs.now c.args.tokens.now
-    ∙ ap (λ (out : List Piece). left_over c.args.line c.args.equs.now (out ++ after_rounds 16 c.args.equs.now c.args.tokens.now)) (sym c.new-out.ensures.items)
+    ∙ ap (λ (out : List Piece). left_over c.args.line c.args.equs.now (out ++ after_rounds 16 c.args.equs.now c.args.tokens.now)) (sym c.in_ok-out.ensures.items)
     ∙ c.in_ok-write.ensures

@@ -1,0 +1,91 @@
+-- What the names of counters say of open blocks.
+use Rattle.std.proofs.Common.{◌≡◌, ℕ, Bool, ◌&&◌, ◌||◌, true, false, List, [], ◌∷◌, ◌++◌, if◌then◌else◌, refl, sym, ap, ◌∙◌}
+use Rattle.std.proofs.lemmas.Bool.{true≢false}
+use Rattle.std.proofs.lemmas.Slice.Eq.{bytes_eq-Decides}
+use Rattle.std.specs.Str.{bytes_eq}
+use Rattle.redcode_text.specs.Tokens.{Piece}
+use Rattle.redcode_expand.specs.declared.source_line.LineForm.{LineForm}
+use Rattle.redcode_expand.specs.Word.{is_name}
+use Rattle.redcode_expand.specs.Counter.{Counter, names_counter, in_copies, rewritten, has_name, with_name, are_named}
+use Rattle.redcode_expand.specs.Rest.{OpenBlock, AreKnown}
+use Rattle.redcode_expand.proofs.Counters.{counters_in}
+
+or-later : (b c d : Bool) → (c ≡ true → d ≡ true) → (b || c) ≡ true → (b || d) ≡ true
+or-later true c d later is = refl
+or-later false c d later is = later is
+
+or-right : (b c : Bool) → c ≡ true → (b || c) ≡ true
+or-right true c is = refl
+or-right false c is = is
+
+or-false : (b c : Bool) → (b || c) ≡ false → (b ≡ false) × (c ≡ false)
+or-false true c is = absurd (true≢false is)
+or-false false c is = (refl, is)
+
+-- ---- names behind names
+
+has-later : (xs ys : List (List ℕ)) (name : List ℕ) → has_name xs name ≡ true → has_name (xs ++ ys) name ≡ true
+has-later [] ys name is = absurd (true≢false (sym is))
+has-later (x ∷ xs) ys name is = or-later (bytes_eq name x) (has_name xs name) (has_name (xs ++ ys) name) (has-later xs ys name) is
+
+has-last : (xs : List (List ℕ)) (name : List ℕ) → has_name (xs ++ name ∷ []) name ≡ true
+has-last [] name = ap (λ (b : Bool). b || false) ((bytes_eq-Decides name name).1 refl)
+has-last (x ∷ xs) name = or-right (bytes_eq name x) (has_name (xs ++ name ∷ []) name) (has-last xs name)
+
+has-by : (b : Bool) (names : List (List ℕ)) (name x : List ℕ) → has_name names x ≡ true → has_name (if b then names else names ++ name ∷ []) x ≡ true
+has-by true names name x is = is
+has-by false names name x is = has-later names (name ∷ []) x is
+
+last-by : (b : Bool) (names : List (List ℕ)) (name : List ℕ) → has_name names name ≡ b → has_name (if b then names else names ++ name ∷ []) name ≡ true
+last-by true names name is = is
+last-by false names name is = has-last names name
+
+-- ---- the names of open blocks
+
+pub known-with : (names : List (List ℕ)) (name : List ℕ) (bs : List OpenBlock) → AreKnown names bs → AreKnown (with_name names name) bs
+known-with names name [] known = tt
+known-with names name (b ∷ bs) known = (has-by (has_name names name) names name b.counter.name known.0, known-with names name bs known.1)
+
+known-last : (names : List (List ℕ)) (bs : List OpenBlock) (b : OpenBlock) → AreKnown names bs → has_name names b.counter.name ≡ true → AreKnown names (bs ++ b ∷ [])
+known-last names [] b known is = (is, tt)
+known-last names (x ∷ xs) b known is = (known.0, known-last names xs b known.1 is)
+
+-- a block was opened
+pub known-opened : (names : List (List ℕ)) (bs : List OpenBlock) (b : OpenBlock) → AreKnown names bs → AreKnown (with_name names b.counter.name) (bs ++ b ∷ [])
+known-opened names bs b known =
+    known-last (with_name names b.counter.name) bs b (known-with names b.counter.name bs known) (last-by (has_name names b.counter.name) names b.counter.name refl)
+
+-- the last block was left
+pub known-front : (names : List (List ℕ)) (bs others : List OpenBlock) → AreKnown names (bs ++ others) → AreKnown names bs
+known-front names [] others known = tt
+known-front names (b ∷ bs) others known = (known.0, known-front names bs others known.1)
+
+-- ---- a line without such a name
+
+differs-by : (names : List (List ℕ)) (text name : List ℕ) → has_name names name ≡ true → has_name names text ≡ false → (b : Bool) → bytes_eq text name ≡ b → b ≡ false
+differs-by names text name there is true same =
+    absurd (true≢false (sym there ∙ ap (has_name names) (sym ((bytes_eq-Decides text name).0 same)) ∙ is))
+differs-by names text name there is false same = refl
+
+token-differs : (names : List (List ℕ)) (k : Bool) (text name : List ℕ) → has_name names name ≡ true → (k && has_name names text) ≡ false → (k && bytes_eq text name) ≡ false
+token-differs names true text name there is = differs-by names text name there is (bytes_eq text name) refl
+token-differs names false text name there is = refl
+
+or-neither : (b c : Bool) → b ≡ false → c ≡ false → (b || c) ≡ false
+or-neither true c is-b is-c = absurd (true≢false is-b)
+or-neither false c is-b is-c = is-c
+
+counter-differs : (names : List (List ℕ)) (c : Counter) (tokens : List Piece) → has_name names c.name ≡ true → are_named names tokens ≡ false → names_counter c tokens ≡ false
+counter-differs names c [] there is = refl
+counter-differs names c (token ∷ tokens) there is =
+    let none = or-false (is_name token.kind && has_name names token.text) (are_named names tokens) is in
+    or-neither _ _ (token-differs names (is_name token.kind) token.text c.name there none.0) (counter-differs names c tokens there none.1)
+
+-- a line that has none of the names stays as it is
+pub unnamed-same : (names : List (List ℕ)) (bs : List OpenBlock) (form : LineForm) (tokens : List Piece) → AreKnown names bs → are_named names tokens ≡ false
+    → in_copies (counters_in bs) form tokens ≡ tokens
+unnamed-same names [] form tokens known is = refl
+unnamed-same names (b ∷ bs) form tokens known is =
+    ap (λ (ts : List Piece). in_copies (counters_in bs) form ts)
+    (ap (λ (named : Bool). if named then rewritten b.counter form tokens else tokens) (counter-differs names b.counter tokens known.0 is))
+    ∙ unnamed-same names bs form tokens known.1 is
