@@ -1,20 +1,15 @@
 -- The warrior of the lines of a load text.
-use Rattle.std.proofs.Common.{◌≡◌, ℕ, suc, ◌+◌, ◌≤◌, ◌<◌, false, List, [], ◌∷◌, length, Option, Some, None, Result, Ok, ℤ, pos, refl, ap, ◌∙◌, arith, lt-ltb, le-ltb, codes}
+use Rattle.std.proofs.Common.{◌≡◌, ℕ, ◌+◌, ◌≤◌, ◌<◌, List, [], ◌∷◌, length, Some, None, Ok, pos, refl, ap, arith, lt-ltb, le-ltb, codes}
 use Rattle.std.specs.List.{AllByRecursion}
-use Rattle.war_types.specs.declared.fault.AsmFault.{AsmFault}
 use Rattle.war_types.specs.declared.instr.Instr.{Instr}
 use Rattle.war_types.specs.declared.settings.RawSettings.{RawSettings}
 use Rattle.war_types.specs.Warrior.{WarriorParts, HasNumbersBelow}
-use Rattle.redcode_text.specs.declared.token.TokenKind.TheVariants as kinds
-use Rattle.redcode_expand.specs.declared.line.LineKind.{LineKind}
 use Rattle.redcode_expand.specs.declared.line.LineKind.TheVariants as lines
 use Rattle.redcode_expand.specs.Expansion.{ExpandedLine, Expansion}
-use Rattle.redcode_asm.specs.declared.statement.Statement.{Statement}
 use Rattle.redcode_asm.specs.declared.statement.Statement.TheVariants as statements
 use Rattle.redcode_asm.specs.Names.{absolute}
 use Rattle.redcode_asm.specs.Statement.{said_by}
 use Rattle.redcode_asm.specs.Assembly.{Placed, said_at, said_on, all_said, code_of, org_of, last_of, given_start, all_hold, of_length, last_text, is_name, is_author, name_of, author_of, warrior_with, assembly_of}
-use Rattle.redcode_asm.proofs.TokenLemmas.{piece}
 use Rattle.redcode_asm.proofs.OperandLemmas.{Reads-number, Writes-decimal}
 use Rattle.redcode_asm.proofs.InstrLemmas.{instr_tokens, said_by-line, before_comma-inside, behind_comma-inside}
 use Rattle.redcode_asm.proofs.LoadLemmas.{line, end_tokens, org_tokens, code_lines, load_lines}

@@ -1,5 +1,5 @@
 -- The numbers of the code are addresses of the core.
-use Rattle.std.proofs.Common.{◌≡◌, ℕ, ◌<◌, Bool, true, false, List, [], ◌∷◌, ◌++◌, drop, Option, Result, Ok, Err, ℤ, pos, negsuc, IfOk, arith}
+use Rattle.std.proofs.Common.{ℕ, ◌<◌, Bool, true, false, List, [], ◌∷◌, ◌++◌, drop, Option, Result, Ok, Err, ℤ, pos, negsuc, IfOk, arith}
 use Rattle.std.specs.Prelude.{if◌then◌else◌}
 use Rattle.std.specs.List.{AllByRecursion, list_any}
 use Rattle.war_types.specs.declared.fault.AsmFault.{AsmFault}

@@ -11,3 +11,5 @@ pub mod LoadLemmas
 pub mod AssemblyLemmas
 pub mod RoundTrip
 pub mod Limits
+mod WorkShared
+mod WorkAsks

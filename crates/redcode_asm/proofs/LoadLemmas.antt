@@ -1,28 +1,26 @@
 -- The load text of a warrior: its lines as they expand, and its length.
 use Rattle.std.specs.Prelude.{nat_lt, if◌then◌else◌}
 use Rattle.std.proofs.lemmas.Bool.Decides.{nat_tests}
-use Rattle.std.proofs.Common.{◌≡◌, ℕ, suc, ◌+◌, ◌-◌, ◌*◌, ◌≤◌, ◌<◌, true, false, subst, List, [], ◌∷◌, ◌++◌, length, map, Some, None, Ok, refl, sym, ap, ◌∙◌, arith, append_assoc, codes}
+use Rattle.std.proofs.Common.{◌≡◌, ℕ, suc, ◌+◌, ◌-◌, ◌*◌, ◌≤◌, ◌<◌, true, false, subst, List, [], ◌∷◌, ◌++◌, length, None, Ok, refl, sym, ap, ◌∙◌, arith, append_assoc, codes}
 use Rattle.std.specs.Fmt.{decimal}
 use Rattle.std.specs.List.{AllByRecursion, flat_map}
 use Rattle.std.proofs.lemmas.List.{append-nil, length-append}
 use Rattle.std.proofs.lemmas.Fmt.{length-decimal-le}
 use Rattle.war_types.specs.declared.instr.Instr.{Instr}
-use Rattle.war_types.specs.declared.instr.Mode.{Mode}
-use Rattle.war_types.specs.declared.instr.Mode.TheVariants as modes
 use Rattle.war_types.specs.declared.instr.Op.{Op}
 use Rattle.war_types.specs.declared.instr.Op.TheVariants as ops
 use Rattle.war_types.specs.declared.settings.RawSettings.{RawSettings}
 use Rattle.war_types.specs.Warrior.{WarriorParts, HasNumbersBelow}
 use Rattle.redcode_text.specs.declared.token.TokenKind.TheVariants as kinds
-use Rattle.redcode_text.specs.Tokens.{Piece, tokens_of}
+use Rattle.redcode_text.specs.Tokens.{Piece}
 use Rattle.redcode_expand.specs.declared.line.LineKind.{LineKind}
 use Rattle.redcode_expand.specs.declared.line.LineKind.TheVariants as lines
 use Rattle.redcode_expand.specs.Source.{lines_of, directive_of}
-use Rattle.redcode_expand.specs.Word.{is_front, word_at, unplaced}
-use Rattle.redcode_expand.specs.Expansion.{ExpandedLine, Expansion, expansion, operands_of}
+use Rattle.redcode_expand.specs.Word.{is_front, word_at}
+use Rattle.redcode_expand.specs.Expansion.{ExpandedLine, expansion}
 use Rattle.redcode_expand.proofs.Plain.{PlainLine, ArePlain, plain_word, plain_lines, expansion-plain}
-use Rattle.redcode_asm.specs.Name.{op_text, modifier_text, mode_text}
-use Rattle.redcode_asm.specs.LoadText.{load_text, instr_line, spaces, left_in, operand_text}
+use Rattle.redcode_asm.specs.Name.{op_text, modifier_text}
+use Rattle.redcode_asm.specs.LoadText.{load_text, instr_line, spaces, operand_text}
 use Rattle.redcode_asm.proofs.LineLemmas.{AreInLine, in_line-append, lines_of-line}
 use Rattle.redcode_asm.proofs.TokenLemmas.{piece, bare, bare-is}
 use Rattle.redcode_asm.proofs.OperandLemmas.{Writes-decimal, bare-number, number_tokens, operand_tokens, in_line-decimal}

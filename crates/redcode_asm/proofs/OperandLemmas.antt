@@ -6,7 +6,7 @@ use Rattle.std.specs.List.{AllByRecursion, take_while}
 use Rattle.std.specs.Str.Parse.{AllDigits, IsNumeral}
 use Rattle.std.proofs.Math.Nat.{mod-eq_of_lt}
 use Rattle.std.proofs.lemmas.Bool.{cases_lt}
-use Rattle.std.proofs.lemmas.List.{append-nil, length-append, length-replicate}
+use Rattle.std.proofs.lemmas.List.{length-append, length-replicate}
 use Rattle.std.proofs.lemmas.Fmt.{decimal_is_IsNumeral, digits_value-decimal, length-decimal-le}
 use Rattle.std.proofs.lemmas.Str.Parse.{IsNumeralModel, numerals_by_fold, tells_digits, digit_from_value}
 use Rattle.war_types.specs.declared.instr.Mode.{Mode}
@@ -15,7 +15,6 @@ use Rattle.redcode_text.specs.declared.token.TokenKind.TheVariants as kinds
 use Rattle.redcode_text.specs.Bytes.{is_digit}
 use Rattle.redcode_text.specs.Tokens.{Piece}
 use Rattle.redcode_text.specs.Value.{number_from, value_of, value_within}
-use Rattle.redcode_asm.specs.declared.operand.Operand.{Operand}
 use Rattle.redcode_asm.specs.Name.{named, mode_names, mode_text}
 use Rattle.redcode_asm.specs.Operand.{operand_of}
 use Rattle.redcode_asm.specs.Instruction.{reduced}

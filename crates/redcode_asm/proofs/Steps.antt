@@ -1,17 +1,14 @@
 -- The steps from expanded lines to a warrior.
-use Rattle.std.proofs.Common.{◌≡◌, ℕ, zero, suc, ◌+◌, ◌<◌, ◌≤◌, Bool, true, false, List, [], ◌∷◌, ◌++◌, length, map, get_or, drop, Option, Some, None, Result, Ok, Err, refl, sym, ap, ◌∙◌, append_assoc, inl, inr, arith}
+use Rattle.std.proofs.Common.{◌≡◌, ℕ, zero, suc, ◌+◌, ◌<◌, Bool, true, false, List, [], ◌∷◌, ◌++◌, length, map, get_or, drop, Option, Some, None, Result, Ok, Err, refl, sym, ap, ◌∙◌, append_assoc, inl, inr, arith}
 use Rattle.std.specs.Prelude.{if◌then◌else◌}
 use Rattle.std.specs.Option.{option_or, unwrap_or}
 use Rattle.std.proofs.lemmas.List.{at_drop_more, length-map, map-append}
 use Rattle.war_types.specs.declared.fault.AsmFault.{AsmFault}
-use Rattle.war_types.specs.declared.fault.AsmKind.{AsmKind}
 use Rattle.war_types.specs.declared.settings.RawSettings.{RawSettings}
 use Rattle.redcode_expand.specs.declared.line.Line.{Line}
 use Rattle.redcode_expand.specs.declared.line.LineKind.{LineKind}
 use Rattle.redcode_expand.specs.declared.line.LineKind.TheVariants.{Other}
 use Rattle.redcode_expand.specs.Expansion.{ExpandedLine, line_of, title_at, tokens_at}
-use Rattle.redcode_text.specs.Tokens.{Piece}
-use Rattle.redcode_asm.specs.declared.statement.Statement.{Statement}
 use Rattle.redcode_asm.specs.Names.{Labels}
 use Rattle.redcode_asm.specs.Statement.{said_by}
 use Rattle.redcode_asm.specs.Assembly.{Placed, said_at, said_on, all_said, title_if, last_text}

@@ -14,10 +14,15 @@ use crate::names::{Absolute, Relative};
 use crate::statement::{
     Statement, assert_said, behind_word, end_said, has_bad_token, org_said, other_said,
 };
+use crate::work::Work;
 use redcode_expand::{Expanded, Line, LineKind, expand};
 use redcode_text::Token;
 use std::alloc::Allocator;
 use war_types::{AsmFault, AsmKind, Instr, Settings, Title, Warrior};
+
+/// Bytes that the growths of an assembly come to at most: 256 MiB. Each step of it takes memory, so this bounds its time too,
+/// where a source meets some million `FOR`s or defines some million labels.
+const WORK_LIMIT: usize = 256 << 20;
 
 /// What a line of the source says.
 #[derive(Clone, Copy, Debug)]
@@ -32,7 +37,8 @@ pub(crate) struct Said {
 /// The first refusal that is due is answered: those of the expansion, then the first expanded line with a fault, and in
 /// it the first fault in the order of `AsmKind`, then `Empty`, `TooLong`, `BadStart`, and the first assertion that doesn't
 /// hold. It names a line of the source, counted from 1, or 0 where none is to blame; `AsmKind::Memory` stands only
-/// where a growth was refused.
+/// where a growth was refused. The growths of an assembly come to at most 256 MiB, what was given back included; the next
+/// is refused.
 #[tactic(auto, unfolding(crate::specs::Assembly::assembly, crate::specs::Assembly::assembly_of))]
 pub fn assemble<A: Allocator + Copy>(
     alloc: A,
@@ -42,8 +48,9 @@ pub fn assemble<A: Allocator + Copy>(
     ensures assembled { Assembles result (assembly settings.now source.now) }
     ensures fits { IfOk result (Fits settings.now) }
 {
-    let expanded = expand(alloc, source, settings)?;
-    let said = all_said(alloc, &expanded, settings)?;
+    let work = Work::new(alloc, WORK_LIMIT);
+    let expanded = expand(&work, source, settings)?;
+    let said = all_said(&work, &expanded, settings)?;
     let code = code_of(alloc, said.as_slice())?;
     check_length(code.as_slice(), settings.length())?;
     let start = start_of(code.as_slice(), given_start(said.as_slice()))?;

@@ -10,6 +10,7 @@ mod printer;
 mod side;
 mod statement;
 mod word;
+mod work;
 
 pub use assembler::assemble;
 pub use printer::load_text;
@@ -19,3 +20,5 @@ pub use redcode_expand::SOURCE_LIMIT;
 mod refusal_tests;
 #[cfg(test)]
 mod tests;
+#[cfg(test)]
+mod work_tests;

@@ -1,0 +1,55 @@
+//! The memory that an assembly works in.
+
+use std::alloc::{AllocError, Allocator};
+use std::cell::Cell;
+
+/// An allocator that passes growths on to `inner` until they come to a limit in all. What is given back stays counted: no
+/// step of an assembly goes without memory, so the limit bounds its time too.
+///
+/// Lend it as `&work`: a `&` to an allocator is an allocator and is `Copy`.
+pub(crate) struct Work<B: Allocator> {
+    inner: B,
+    left: Cell<usize>,
+}
+
+impl<B: Allocator> Work<B> {
+    /// Passes growths on that come to so many bytes in all.
+    pub(crate) fn new(inner: B, limit: usize) -> Work<B> {
+        Work {
+            inner,
+            left: Cell::new(limit),
+        }
+    }
+}
+
+impl<B: Allocator> Drop for Work<B> {
+    fn drop(self) {
+        let Self { inner: _, left: _ } = self;
+    }
+}
+
+/// Takes so many bytes from what is left, or says that fewer are.
+fn exceeds(left: &Cell<usize>, size: usize) -> bool {
+    match left.get().checked_sub(size) {
+        Some(rest) => {
+            left.set(rest);
+            false
+        }
+        None => true,
+    }
+}
+
+unsafe impl<B: Allocator> Allocator for Work<B> {
+    ghost dealloc_token = { λ heap ty ptr. B.dealloc_token heap.inner ty ptr };
+
+    fn allocate(&self, size: usize, align: usize) -> Result<*mut u8, AllocError> {
+        if exceeds(&self.left, size) {
+            return Err(AllocError);
+        }
+        self.inner.allocate(size, align)
+    }
+
+    unsafe fn deallocate(&self, ptr: *mut u8, size: usize, align: usize) {
+        self.inner.deallocate(ptr, size, align);
+    }
+}
