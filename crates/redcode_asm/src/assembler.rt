@@ -20,7 +20,7 @@ use redcode_text::Token;
 use std::alloc::Allocator;
 use war_types::{AsmFault, AsmKind, Instr, Settings, Title, Warrior};
 
-/// Bytes that the growths of an assembly come to at most: 256 MiB. Each step of it takes memory, so this bounds its time too,
+/// Bytes that the growths of an assembly come to at most: 256 MiB. Most steps of it take memory, so this keeps its time short too
 /// where a source meets some million `FOR`s or defines some million labels.
 const WORK_LIMIT: usize = 256 << 20;
 

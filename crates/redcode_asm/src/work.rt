@@ -3,8 +3,8 @@
 use std::alloc::{AllocError, Allocator};
 use std::cell::Cell;
 
-/// An allocator that passes growths on to `inner` until they come to a limit in all. What is given back stays counted: no
-/// step of an assembly goes without memory, so the limit bounds its time too.
+/// An allocator that passes growths on to `inner` until they come to a limit in all. What is given back stays counted: most
+/// steps of an assembly take memory, so the limit keeps its time short too.
 ///
 /// Lend it as `&work`: a `&` to an allocator is an allocator and is `Copy`.
 pub(crate) struct Work<B: Allocator> {

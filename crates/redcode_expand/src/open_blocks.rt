@@ -156,7 +156,7 @@ impl<A: Allocator + Copy> OpenBlocks<A> {
     }
 
     /// The tokens of a line within the copies that are being written. They are copied even where no counter is named, and again
-    /// for each block where one is: what a line takes is the measure of the time that it takes.
+    /// for each block where one is, so that what a line takes grows with its time.
     pub(crate) fn tokens_of<'s>(
         &self,
         line: &SourceLine<'s, A>,
