@@ -24,7 +24,7 @@ fn growths_come_to_the_limit(rt: HostRuntime) -> Result<(), Fail> {
     Ok(())
 }
 
-/// Sources of the greatest length that meet millions of `FOR`s, define millions of labels, or repeat a long line.
+/// Sources of the greatest length that meet millions of `FOR`s or repeat a long line.
 #[test]
 fn sources_past_the_limit(rt: HostRuntime) -> Result<(), Fail> {
     let settings = defaults()?;
