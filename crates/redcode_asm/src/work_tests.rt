@@ -3,7 +3,7 @@
 use crate::assemble;
 use crate::tests::{defaults, repeated};
 use crate::work::Work;
-use std::alloc::{AllocError, Allocator};
+use std::alloc::{AllocError, Allocator, Global};
 use std::test::Fail;
 use war_types::AsmKind;
 
@@ -24,10 +24,17 @@ fn growths_come_to_the_limit(rt: HostRuntime) -> Result<(), Fail> {
     Ok(())
 }
 
+/// Whether a source is refused for want of memory.
+fn is_past_the_limit(alloc: Global, source: &[u8]) -> Result<bool, Fail> {
+    Ok(match assemble(alloc, source, &defaults()?) {
+        Ok(_) => false,
+        Err(fault) => fault.line == 0 && matches!(fault.kind, AsmKind::Memory),
+    })
+}
+
 /// Sources of the greatest length that meet millions of `FOR`s or repeat a long line.
 #[test]
 fn sources_past_the_limit(rt: HostRuntime) -> Result<(), Fail> {
-    let settings = defaults()?;
     for (head, part, count, tail) in [
         ("FOR 4096\n", "FOR 0\nROF\n", 6550, "ROF\n"),
         ("i FOR 4096\n", "FOR -i\nROF\n", 5950, "ROF\n"),
@@ -37,31 +44,53 @@ fn sources_past_the_limit(rt: HostRuntime) -> Result<(), Fail> {
         let mut source = repeated(rt.alloc(), head.as_bytes(), 1)?;
         source.extend_from_slice(repeated(rt.alloc(), part.as_bytes(), count)?.as_slice())?;
         source.extend_from_slice(tail.as_bytes())?;
-        match assemble(rt.alloc(), source.as_slice(), &settings) {
-            Ok(_) => assert!(rt; false, "{part:?} is accepted"),
-            Err(fault) => {
-                assert_eq!(rt; fault.line, 0, "{part:?}");
-                assert!(rt; matches!(fault.kind, AsmKind::Memory), "{part:?}: {fault}");
-            }
-        }
+        assert!(rt;
+            is_past_the_limit(rt.alloc(), source.as_slice())?,
+            "{part:?}"
+        );
     }
     Ok(())
 }
 
-/// Thousands of lines, each of nearly as many tokens as an operand may have.
+/// Millions of labels.
 #[test]
-fn source_within_the_limit(rt: HostRuntime) -> Result<(), Fail> {
-    let settings = defaults()?;
+fn labels_past_the_limit(rt: HostRuntime) -> Result<(), Fail> {
+    let mut source = Vec::from_slice(rt.alloc(), b"i FOR 4096\n")?;
+    for n in 0..3000u32 {
+        let label = format!(in rt.alloc(); "x{}_&i ", n)?;
+        source.extend_from_slice(label.as_bytes())?;
+    }
+    source.extend_from_slice(b"DAT\nROF\n")?;
+    assert!(rt; is_past_the_limit(rt.alloc(), source.as_slice())?);
+    Ok(())
+}
+
+/// Whether a source is assembled to one instruction.
+fn is_one_instruction(alloc: Global, source: &[u8]) -> Result<bool, Fail> {
+    let warrior = assemble(alloc, source, &defaults()?)?;
+    Ok(warrior.code().len() == 1)
+}
+
+/// As many lines as count, each of which `EQU` makes nearly as many tokens as an operand may have.
+#[test]
+fn lines_made_long_within_the_limit(rt: HostRuntime) -> Result<(), Fail> {
     let mut source = Vec::new(rt.alloc());
     for i in 0..8u32 {
         let line = format!(in rt.alloc(); "x{} EQU x{}+x{}\n", i, i + 1, i + 1)?;
         source.extend_from_slice(line.as_bytes())?;
     }
     source.extend_from_slice(b"x8 EQU 1\nDAT\n")?;
-    source.extend_from_slice(repeated(rt.alloc(), b";assert x0\n", 3500)?.as_slice())?;
-    match assemble(rt.alloc(), source.as_slice(), &settings) {
-        Ok(warrior) => assert_eq!(rt; warrior.code().len(), 1),
-        Err(fault) => assert!(rt; false, "{fault}"),
-    }
+    source.extend_from_slice(repeated(rt.alloc(), b";assert x0\n", 4086)?.as_slice())?;
+    assert!(rt; is_one_instruction(rt.alloc(), source.as_slice())?);
+    Ok(())
+}
+
+/// As many copies as count of a line of as many tokens.
+#[test]
+fn copies_of_a_long_line_within_the_limit(rt: HostRuntime) -> Result<(), Fail> {
+    let mut source = Vec::from_slice(rt.alloc(), b"DAT\nFOR 4095\n;assert 1")?;
+    source.extend_from_slice(repeated(rt.alloc(), b"+1", 255)?.as_slice())?;
+    source.extend_from_slice(b"\nROF\n")?;
+    assert!(rt; is_one_instruction(rt.alloc(), source.as_slice())?);
     Ok(())
 }

@@ -6,6 +6,7 @@ mod Replacing
 mod Written
 mod AllLines
 mod OneLine
+mod Unchanged
 mod LastNames
 mod Places
 mod Residuals

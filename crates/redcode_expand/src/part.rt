@@ -15,9 +15,9 @@ const SHORT: usize = 64;
 /// A token of the source, or one that was made and has its text itself, as a joined name.
 #[derive(Drop)]
 pub(crate) struct Part<'s, A: Allocator> {
-    kind: TokenKind,
     text: CowSlice<'s, u8, A>,
     at: u32,
+    kind: TokenKind,
 }
 
 impl<'s, A: Allocator> Model for Part<'s, A> {

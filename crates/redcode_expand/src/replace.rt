@@ -23,36 +23,39 @@ const TOKEN_LIMIT: usize = 512;
 pub(crate) fn replace_all<'s, A: Allocator + Copy>(
     alloc: A,
     equs: &Equs<'s, A>,
-    entries: &[Entry<'s, A>],
+    entries: Vec<Entry<'s, A>, A>,
 ) -> Result<Vec<Entry<'s, A>, A>, AsmFault>
-    ensures { Gives (λ lines. lines.items) result (all_replaced equs.now entries.now) }
+    ensures { Gives (λ lines. lines.items) result (all_replaced equs.now entries.entry.items) }
 {
-    let mut lines = Vec::new(alloc);
-    let mut rest = entries;
-    while let [entry, behind @ ..] = rest {
-        let line = replace_in(alloc, equs, entry)?;
-        lines.push(line)?;
-        rest = behind;
+    let mut lines = Vec::with_capacity(alloc, entries.len())?;
+    for entry in entries {
+        lines.push(replace_in(alloc, equs, entry)?)?;
     }
     Ok(lines)
 }
 
-/// Replaces the names of EQUs in the operands of a line.
+/// Replaces the names of EQUs in the operands of a line. One without such a name keeps its tokens as they are.
 fn replace_in<'s, A: Allocator + Copy>(
     alloc: A,
     equs: &Equs<'s, A>,
-    entry: &Entry<'s, A>,
+    entry: Entry<'s, A>,
 ) -> Result<Entry<'s, A>, AsmFault>
-    ensures { Gives (λ line. line) result (line_replaced equs.now entry.now) }
+    ensures { Gives (λ line. line) result (line_replaced equs.now entry.entry) }
 {
     let line = entry.line;
     let tokens = entry.tokens.as_slice();
     let operands = operands_of(line.kind, tokens);
-    let replaced = replaced(alloc, equs, line.source_line, operands)?;
+    if !has_equ(equs, operands) {
+        if operands.len() > TOKEN_LIMIT {
+            return Err(too_many(line.source_line));
+        }
+        return Ok(entry);
+    }
     let before = &tokens[..tokens.len() - operands.len()];
-    let mut all = Vec::with_capacity(alloc, before.len().saturating_add(replaced.len()))?;
+    // One list takes both, so those before go behind the others first.
+    let mut all = replaced(alloc, equs, line.source_line, operands, before.len())?;
     append(alloc, before, &mut all)?;
-    append(alloc, replaced.as_slice(), &mut all)?;
+    all.rotate_right(before.len());
     Ok(Entry {
         line,
         title: entry.title,
@@ -74,17 +77,18 @@ fn append<'s, A: Allocator + Copy>(
     Ok(())
 }
 
-/// What tokens are with the names of EQUs replaced.
+/// What tokens are with the names of EQUs replaced, in a list with room for some more.
 #[tactic(auto, unfolding(crate::specs::Equ::replaced))]
 pub(crate) fn replaced<'s, A: Allocator + Copy>(
     alloc: A,
     equs: &Equs<'s, A>,
     line: u32,
     tokens: &[Part<'s, A>],
+    more: usize,
 ) -> Result<Vec<Part<'s, A>, A>, AsmFault>
     ensures { Gives (λ parts. parts.items) result (replaced line equs.now tokens.now) }
 {
-    let mut out = Vec::with_capacity(alloc, room_for(equs, tokens))?;
+    let mut out = Vec::with_capacity(alloc, room_for(equs, tokens).saturating_add(more))?;
     write(alloc, equs, line, ROUNDS, tokens, &mut out)?;
     Ok(out)
 }

@@ -171,8 +171,10 @@ impl<'s, A: Allocator + Copy> Walk<'s, A> {
     pub(crate) fn finish(self) -> Result<Expanded<'s, A>, AsmFault>
         ensures { Gives (λ expanded. expanded) result (finished self.entry) }
     {
-        let lines = replace_all(self.alloc, &self.names.equs, self.entries.as_slice())?;
-        Expanded::new(self.alloc, lines, self.names.labels)
+        let entries = self.entries;
+        let names = self.names;
+        let lines = replace_all(self.alloc, &names.equs, entries)?;
+        Expanded::new(self.alloc, lines, names.labels)
     }
 
     fn titled(&mut self, number: u32, kind: LineKind, text: &'s [u8]) -> Result<(), AsmFault>

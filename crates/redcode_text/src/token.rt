@@ -18,8 +18,8 @@ pub enum TokenKind {
 /// A token, which borrows its text from the line.
 #[derive(Clone, Copy, Debug)]
 pub struct Token<'l> {
-    pub kind: TokenKind,
     pub text: &'l [u8],
     /// How many bytes of the line stand before it.
     pub at: u32,
+    pub kind: TokenKind,
 }
