@@ -37,8 +37,8 @@ pub(crate) struct Said {
 /// The first refusal that is due is answered: those of the expansion, then the first expanded line with a fault, and in
 /// it the first fault in the order of `AsmKind`, then `Empty`, `TooLong`, `BadStart`, and the first assertion that doesn't
 /// hold. It names a line of the source, counted from 1, or 0 where none is to blame; `AsmKind::Memory` stands only
-/// where a growth was refused. The growths of an assembly come to at most 256 MiB, what was given back included; the next
-/// is refused.
+/// where a growth was refused. The growths of an assembly come to at most 256 MiB, what was given back included and each
+/// counted as 64 bytes more than it has; the next is refused.
 #[tactic(auto, unfolding(crate::specs::Assembly::assembly, crate::specs::Assembly::assembly_of))]
 pub fn assemble<A: Allocator + Copy>(
     alloc: A,

@@ -3,8 +3,11 @@
 use std::alloc::{AllocError, Allocator};
 use std::cell::Cell;
 
-/// An allocator that passes growths on to `inner` until they come to a limit in all. What is given back stays counted: most
-/// steps of an assembly take memory, so the limit keeps its time short too.
+/// Bytes that a growth counts beside its own, as it takes time however small it is.
+const GROWTH: usize = 64;
+
+/// An allocator that passes growths on to `inner` until they come to a limit in all, each counted as 64 bytes more than it has.
+/// What is given back stays counted: most steps of an assembly take memory, so the limit keeps its time short too.
 ///
 /// Lend it as `&work`: a `&` to an allocator is an allocator and is `Copy`.
 pub(crate) struct Work<B: Allocator> {
@@ -13,7 +16,7 @@ pub(crate) struct Work<B: Allocator> {
 }
 
 impl<B: Allocator> Work<B> {
-    /// Passes growths on that come to so many bytes in all.
+    /// Passes growths on that come to so many bytes in all, as they are counted.
     pub(crate) fn new(inner: B, limit: usize) -> Work<B> {
         Work {
             inner,
@@ -28,9 +31,9 @@ impl<B: Allocator> Drop for Work<B> {
     }
 }
 
-/// Takes so many bytes from what is left, or says that fewer are.
+/// Takes what a growth of so many bytes counts from what is left, or says that less is.
 fn exceeds(left: &Cell<usize>, size: usize) -> bool {
-    match left.get().checked_sub(size) {
+    match left.get().checked_sub(size.saturating_add(GROWTH)) {
         Some(rest) => {
             left.set(rest);
             false

@@ -14,7 +14,8 @@ fn block<A: Allocator>(alloc: A, size: usize) -> Result<Vec<u8, A>, AllocError> 
 
 #[test]
 fn growths_come_to_the_limit(rt: HostRuntime) -> Result<(), Fail> {
-    let work = Work::new(rt.alloc(), 64);
+    // Each counts 64 more than it has: 24 and 40 come to 192.
+    let work = Work::new(rt.alloc(), 192);
     let held = block(&work, 24)?;
     assert!(rt; block(&work, 41).is_err());
     drop(held);
@@ -91,6 +92,16 @@ fn copies_of_a_long_line_within_the_limit(rt: HostRuntime) -> Result<(), Fail> {
     let mut source = Vec::from_slice(rt.alloc(), b"DAT\nFOR 4095\n;assert 1")?;
     source.extend_from_slice(repeated(rt.alloc(), b"+1", 255)?.as_slice())?;
     source.extend_from_slice(b"\nROF\n")?;
+    assert!(rt; is_one_instruction(rt.alloc(), source.as_slice())?);
+    Ok(())
+}
+
+/// Twenty blocks in each of 4,000 copies, each with the name of an `EQU` as its count.
+#[test]
+fn counts_of_names_within_the_limit(rt: HostRuntime) -> Result<(), Fail> {
+    let mut source = Vec::from_slice(rt.alloc(), b"DAT\noff EQU 0\nFOR 4000\n;assert 1\n")?;
+    source.extend_from_slice(repeated(rt.alloc(), b"FOR off\nROF\n", 20)?.as_slice())?;
+    source.extend_from_slice(b"ROF\n")?;
     assert!(rt; is_one_instruction(rt.alloc(), source.as_slice())?);
     Ok(())
 }

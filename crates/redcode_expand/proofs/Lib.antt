@@ -4,6 +4,7 @@ mod Readings
 mod Lookups
 mod Replacing
 mod Written
+mod Linked
 mod AllLines
 mod OneLine
 mod Unchanged

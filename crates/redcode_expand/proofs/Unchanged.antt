@@ -31,6 +31,19 @@ after-same (suc n) equs xs none = ap (after_rounds n equs) (round-same equs xs n
 replaced-same : (line : ℕ) (equs : EquList) (xs : List Piece) → has_equ equs xs ≡ false → replaced line equs xs ≡ left_over line equs xs
 replaced-same line equs xs none = replaced-left line equs xs ∙ ap (left_over line equs) (after-same 16 equs xs none)
 
+-- tokens that are none are as they were
+pub tokens-same : (line : ℕ) (equs : EquList) (xs : List Piece) → has_equ equs xs ≡ false → length xs ≤ 512 → replaced line equs xs ≡ Ok xs
+tokens-same line equs xs none short =
+    let left : left_over line equs xs ≡ Ok xs = rw (le-ltb 512 _ short, none) refl in
+    replaced-same line equs xs none ∙ left
+
+-- or there are too many
+pub tokens-over : (line : ℕ) (equs : EquList) (xs : List Piece) (fault : AsmFault) → has_equ equs xs ≡ false → 512 < length xs → fault ≡ fault_at line kinds.EquLimit
+    → replaced line equs xs ≡ Err fault
+tokens-over line equs xs fault none long is =
+    let left : left_over line equs xs ≡ Err fault = rw (lt-ltb 512 _ long, is) refl in
+    replaced-same line equs xs none ∙ left
+
 -- ---- the operands are the last tokens
 
 front-kept : (front xs : List Piece) → take (length (front ++ xs) - length xs) (front ++ xs) ++ xs ≡ front ++ xs
@@ -81,8 +94,7 @@ operands-kept lines.Other ts = none-kept ts
 pub line-same : (equs : EquList) (line : ExpandedLine) (operands : List Piece) → operands ≡ operands_of line.kind line.tokens
     → has_equ equs operands ≡ false → length operands ≤ 512 → line_replaced equs line ≡ Ok line
 line-same equs line operands are none short =
-    let left : left_over line.source_line equs operands ≡ Ok operands = rw (le-ltb 512 _ short, none) refl in
-    let gives : replaced line.source_line equs operands ≡ Ok operands = replaced-same line.source_line equs operands none ∙ left in
+    let gives : replaced line.source_line equs operands ≡ Ok operands = tokens-same line.source_line equs operands none short in
     let all : line.tokens ≡ take (length line.tokens - length operands) line.tokens ++ operands = rw are (sym (operands-kept line.kind line.tokens)) in
     line-written equs line operands operands line.tokens are gives all
 
@@ -90,6 +102,5 @@ line-same equs line operands are none short =
 pub line-over : (equs : EquList) (line : ExpandedLine) (operands : List Piece) (fault : AsmFault) → operands ≡ operands_of line.kind line.tokens
     → has_equ equs operands ≡ false → 512 < length operands → fault ≡ fault_at line.source_line kinds.EquLimit → Fails fault (line_replaced equs line)
 line-over equs line operands fault are none long is =
-    let left : left_over line.source_line equs operands ≡ Err fault = rw (lt-ltb 512 _ long, is) refl in
-    let fails : replaced line.source_line equs (operands_of line.kind line.tokens) ≡ Err fault = rw (← are) (replaced-same line.source_line equs operands none ∙ left) in
+    let fails : replaced line.source_line equs (operands_of line.kind line.tokens) ≡ Err fault = rw (← are) (tokens-over line.source_line equs operands fault none long is) in
     line-refused equs line fault (inr fails)

@@ -4,6 +4,7 @@ pub mod Word
 pub mod Counter
 pub mod Block
 pub mod Equ
+pub mod Link
 pub mod Name
 pub mod Walk
 pub mod Rest

@@ -8,6 +8,7 @@ ghost use Rattle.redcode_expand.specs.declared.word.Word.TheVariants.{For, Rof};
 ghost use Rattle.war_types.specs.declared.fault.AsmKind.TheVariants.{UnmatchedFor};
 ghost use Rattle.redcode_expand.specs.Walk.{walk_all, walk_begin};
 
+use crate::name_key::NameHash;
 use crate::open_blocks::{OpenBlock, OpenBlocks};
 use crate::source_line::{SourceLine, line_at, rof_behind};
 use crate::walk::Walk;
@@ -20,12 +21,13 @@ pub(crate) fn walk_all<'s, A: Allocator + Copy>(
     alloc: A,
     lines: &[SourceLine<'s, A>],
     settings: &Settings,
+    hash: NameHash,
 ) -> Result<Walk<'s, A>, AsmFault>
     requires { length lines.now ≤ 65536 }
     ensures { Gives (λ walk. walk) result (walk_all settings.now (parsed lines.now) walk_begin) }
 {
-    let mut walk = Walk::new(alloc);
-    let mut blocks = OpenBlocks::new(alloc);
+    let mut walk = Walk::new(alloc, hash);
+    let mut blocks = OpenBlocks::new(alloc, hash);
     let mut at = 0;
     while at < lines.len() && !walk.has_ended() {
         at = step(settings, &mut walk, &mut blocks, lines, at)?;

@@ -43,7 +43,7 @@ pub(crate) fn copies_of<'s, A: Allocator + Copy>(
     ensures copies { Gives (λ n. n) result (copies_of settings.now line before equs.now tokens.now) }
     ensures few { IfOk result (λ n. n < 2 ^ 63) }
 {
-    let replaced = replaced(alloc, equs, line, tokens, 0)?;
+    let replaced = replaced(alloc, equs, line, tokens)?;
     let tokens = tokens_of(alloc, replaced.as_slice())?;
     match value(tokens.as_slice(), &Predefined { settings, before }) {
         Ok(count) if count > 0 => Ok(count as u64),

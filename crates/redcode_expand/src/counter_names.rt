@@ -1,17 +1,17 @@
 //! The names of the counters so far.
 
+use crate::name_key::{NameHash, NameKey, Sought};
 use crate::part::Part;
 use crate::reading::is_name;
 use indexmap::IndexMap;
 use std::alloc::{AllocError, Allocator};
-use std::hash::{BuildHasherDefault, FoldHasher};
 use std::marker::Model;
 
 /// Names of counters, of blocks that were left too.
 #[derive(Drop)]
 pub(crate) struct CounterNames<A: Allocator + Copy> {
     alloc: A,
-    names: IndexMap<Vec<u8, A>, (), BuildHasherDefault<FoldHasher>, A>,
+    names: IndexMap<NameKey<A>, (), NameHash, A>,
 }
 
 impl<A: Allocator + Copy> Model for CounterNames<A> {
@@ -19,7 +19,7 @@ impl<A: Allocator + Copy> Model for CounterNames<A> {
 
     ghost Value = { List (List ℕ) };
 
-    ghost view = { λ n. map (λ entry. entry.0.items) n.names.entries };
+    ghost view = { λ n. map (λ entry. entry.0) n.names.entries };
 }
 
 impl<A: Allocator + Copy> CounterNames<A> {
@@ -27,12 +27,12 @@ impl<A: Allocator + Copy> CounterNames<A> {
     ghost use Rattle.redcode_expand.specs.Counter.{has_name, are_named, with_name};
 
     /// No names.
-    pub(crate) fn new(alloc: A) -> Self
+    pub(crate) fn new(alloc: A, hash: NameHash) -> Self
         ensures { result ≡ [] }
     {
         CounterNames {
             alloc,
-            names: IndexMap::new(alloc),
+            names: IndexMap::with_hasher(alloc, hash),
         }
     }
 
@@ -40,7 +40,7 @@ impl<A: Allocator + Copy> CounterNames<A> {
     pub(crate) fn has(&self, name: &[u8]) -> bool
         ensures { result ≡ has_name self.now name.now }
     {
-        self.names.get(name).is_some()
+        self.names.get(Sought { name }).is_some()
     }
 
     /// Whether one of these names is among the tokens.
@@ -65,7 +65,7 @@ impl<A: Allocator + Copy> CounterNames<A> {
         if self.has(name) {
             return Ok(());
         }
-        let name = Vec::from_slice(self.alloc, name)?;
+        let name = NameKey::of(self.alloc, name)?;
         self.names.insert(name, ())?;
         Ok(())
     }

@@ -2,20 +2,21 @@
 
 ghost use Rattle.std.specs.Prelude.{◌≡◌, ◌++◌, ◌∷◌, [], false, map, OnOk};
 ghost use Rattle.redcode_expand.specs.Equ.{body_at, body_of, is_equ};
+ghost use Rattle.redcode_expand.specs.Link.{Stands, StandsIn, bodies_of};
 ghost use Rattle.redcode_expand.specs.Word.{unplaced};
 
+use crate::name_key::{NameHash, NameKey, Sought};
 use crate::part::{Part, unplaced_parts};
 use crate::reading::is_name;
 use indexmap::IndexMap;
 use std::alloc::{AllocError, Allocator};
-use std::hash::{BuildHasherDefault, FoldHasher};
 use std::marker::Model;
 
 /// Names with the tokens that they stand for, in the order of their definition.
 #[derive(Drop)]
 pub(crate) struct Equs<'s, A: Allocator + Copy> {
     alloc: A,
-    bodies: IndexMap<Vec<u8, A>, Vec<Part<'s, A>, A>, BuildHasherDefault<FoldHasher>, A>,
+    bodies: IndexMap<NameKey<A>, Vec<Part<'s, A>, A>, NameHash, A>,
 }
 
 impl<'s, A: Allocator + Copy> Model for Equs<'s, A> {
@@ -24,17 +25,17 @@ impl<'s, A: Allocator + Copy> Model for Equs<'s, A> {
 
     ghost Value = { EquList };
 
-    ghost view = { λ e. map (λ entry. (entry.0.items, entry.1.items)) e.bodies.entries };
+    ghost view = { λ e. map (λ entry. (entry.0, entry.1.items)) e.bodies.entries };
 }
 
 impl<'s, A: Allocator + Copy> Equs<'s, A> {
     /// No names.
-    pub(crate) fn new(alloc: A) -> Self
+    pub(crate) fn new(alloc: A, hash: NameHash) -> Self
         ensures { result ≡ [] }
     {
         Equs {
             alloc,
-            bodies: IndexMap::new(alloc),
+            bodies: IndexMap::with_hasher(alloc, hash),
         }
     }
 
@@ -42,7 +43,31 @@ impl<'s, A: Allocator + Copy> Equs<'s, A> {
     pub(crate) fn is_equ(&self, name: &[u8]) -> bool
         ensures { result ≡ is_equ self.now name.now }
     {
-        self.bodies.get(name).is_some()
+        self.bodies.get(Sought { name }).is_some()
+    }
+
+    /// Where the EQU stands that a token names; nowhere where it names none.
+    pub(crate) fn place_of(&self, token: &Part<'_, A>) -> Option<usize>
+        ensures { Stands self.now token.now result }
+    {
+        if is_name(token) {
+            self.place_of_name(token.text())
+        } else {
+            None
+        }
+    }
+
+    fn place_of_name(&self, name: &[u8]) -> Option<usize>
+        ensures { StandsIn self.now (body_of self.now name.now) result }
+    {
+        self.bodies.get_index_of(Sought { name })
+    }
+
+    /// The bodies, in the order of their definition.
+    pub(crate) fn bodies(&self) -> &[Vec<Part<'s, A>, A>]
+        ensures { map (λ body. body.items) result.now ≡ bodies_of self.now }
+    {
+        self.bodies.values().as_slice()
     }
 
     /// The tokens that a token stands for; none where it is no name of an EQU.
@@ -59,7 +84,7 @@ impl<'s, A: Allocator + Copy> Equs<'s, A> {
     fn body_of(&self, name: &[u8]) -> &[Part<'s, A>]
         ensures { result.now ≡ body_of self.now name.now }
     {
-        match self.bodies.get(name) {
+        match self.bodies.get(Sought { name }) {
             Some(body) => body.as_slice(),
             None => self.no_tokens(),
         }
@@ -76,7 +101,7 @@ impl<'s, A: Allocator + Copy> Equs<'s, A> {
         requires { is_equ self.old name.now ≡ false }
         ensures { OnOk result (self.new ≡ self.old ++ (name.now, map unplaced body.now) ∷ []) }
     {
-        let name = Vec::from_slice(self.alloc, name)?;
+        let name = NameKey::of(self.alloc, name)?;
         let body = unplaced_parts(self.alloc, body)?;
         self.bodies.insert(name, body)?;
         Ok(())

@@ -9,6 +9,7 @@ use crate::blocks::walk_all;
 use crate::entry::Entry;
 use crate::labels::Labels;
 use crate::line::Line;
+use crate::name_key::NameHash;
 use crate::source::live_source;
 use crate::source_line::source_lines;
 use redcode_text::Token;
@@ -64,7 +65,8 @@ pub fn expand<'s, A: Allocator + Copy>(
     }
     let (number, live) = live_source(source);
     let lines = source_lines(alloc, number, live)?;
-    walk_all(alloc, lines.as_slice(), settings)?.finish()
+    let hash = NameHash::of(source, settings);
+    walk_all(alloc, lines.as_slice(), settings, hash)?.finish()
 }
 
 impl<'s, A: Allocator + Copy> Expanded<'s, A> {

@@ -3,16 +3,16 @@
 ghost use Rattle.std.specs.Prelude.{◌≡◌, ◌++◌, ◌∷◌, [], None, OnOk};
 ghost use Rattle.redcode_expand.specs.Name.{address_of};
 
+use crate::name_key::{NameHash, NameKey, Sought};
 use indexmap::IndexMap;
 use std::alloc::{AllocError, Allocator};
-use std::hash::{BuildHasherDefault, FoldHasher};
 use std::marker::Model;
 
 /// Names with the addresses that they stand for, in the order of their definition.
 #[derive(Drop)]
 pub(crate) struct Labels<A: Allocator + Copy> {
     alloc: A,
-    addresses: IndexMap<Vec<u8, A>, u32, BuildHasherDefault<FoldHasher>, A>,
+    addresses: IndexMap<NameKey<A>, u32, NameHash, A>,
 }
 
 impl<A: Allocator + Copy> Model for Labels<A> {
@@ -21,17 +21,17 @@ impl<A: Allocator + Copy> Model for Labels<A> {
 
     ghost Value = { LabelList };
 
-    ghost view = { λ l. map (λ entry. (entry.0.items, entry.1)) l.addresses.entries };
+    ghost view = { λ l. map (λ entry. (entry.0, entry.1)) l.addresses.entries };
 }
 
 impl<A: Allocator + Copy> Labels<A> {
     /// No labels.
-    pub(crate) fn new(alloc: A) -> Labels<A>
+    pub(crate) fn new(alloc: A, hash: NameHash) -> Labels<A>
         ensures { result ≡ [] }
     {
         Labels {
             alloc,
-            addresses: IndexMap::new(alloc),
+            addresses: IndexMap::with_hasher(alloc, hash),
         }
     }
 
@@ -39,7 +39,7 @@ impl<A: Allocator + Copy> Labels<A> {
     pub(crate) fn address_of(&self, name: &[u8]) -> Option<u32>
         ensures { result ≡ address_of self.now name.now }
     {
-        self.addresses.get(name).copied()
+        self.addresses.get(Sought { name }).copied()
     }
 
     /// Adds a label of a new name.
@@ -47,7 +47,7 @@ impl<A: Allocator + Copy> Labels<A> {
         requires { address_of self.old name.now ≡ None }
         ensures { OnOk result (self.new ≡ self.old ++ (name.now, address) ∷ []) }
     {
-        let name = Vec::from_slice(self.alloc, name)?;
+        let name = NameKey::of(self.alloc, name)?;
         self.addresses.insert(name, address)?;
         Ok(())
     }

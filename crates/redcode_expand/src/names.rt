@@ -10,6 +10,7 @@ ghost use Rattle.redcode_expand.specs.Walk.{for_labels};
 use crate::equs::Equs;
 use crate::labels::Labels;
 use crate::name::predefined;
+use crate::name_key::NameHash;
 use crate::part::Part;
 use crate::reading::{is_name, may_label, word_at};
 use crate::word::Word;
@@ -34,12 +35,12 @@ impl<'s, A: Allocator + Copy> Model for Names<'s, A> {
 
 impl<'s, A: Allocator + Copy> Names<'s, A> {
     /// No names.
-    pub(crate) fn new(alloc: A) -> Self
+    pub(crate) fn new(alloc: A, hash: NameHash) -> Self
         ensures { result ≡ names_of [] [] }
     {
         Names {
-            labels: Labels::new(alloc),
-            equs: Equs::new(alloc),
+            labels: Labels::new(alloc, hash),
+            equs: Equs::new(alloc, hash),
         }
     }
 

@@ -2,6 +2,7 @@
 
 use crate::counter::{Counter, in_copy};
 use crate::counter_names::CounterNames;
+use crate::name_key::NameHash;
 use crate::part::{Part, copied};
 use crate::source_line::SourceLine;
 use std::alloc::{AllocError, Allocator};
@@ -123,13 +124,13 @@ impl<A: Allocator + Copy> OpenBlocks<A> {
     ghost use Rattle.redcode_expand.specs.Rest.{counters_of, has_none};
 
     /// No block.
-    pub(crate) fn new(alloc: A) -> Self
+    pub(crate) fn new(alloc: A, hash: NameHash) -> Self
         ensures { result ≡ [] }
     {
         OpenBlocks {
             alloc,
             blocks: Vec::new(alloc),
-            names: CounterNames::new(alloc),
+            names: CounterNames::new(alloc, hash),
         }
     }
 

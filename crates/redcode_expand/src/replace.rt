@@ -4,12 +4,14 @@ ghost use Rattle.std.specs.Prelude.{◌≡◌, ◌++◌, Ok, OnOk};
 ghost use Rattle.redcode_expand.specs.Gives.{Gives, fault_at};
 ghost use Rattle.redcode_expand.specs.Equ.{after_rounds, has_equ, left_over, replaced};
 ghost use Rattle.redcode_expand.specs.Expansion.{all_replaced, line_replaced};
+ghost use Rattle.redcode_expand.specs.Link.{AreLinked, tokens_of};
 ghost use Rattle.war_types.specs.declared.fault.AsmKind.TheVariants.{EquLimit};
 
 use crate::entry::Entry;
 use crate::equs::Equs;
+use crate::link::{Link, LinkedEqus, linked};
 use crate::operands::operands_of;
-use crate::part::Part;
+use crate::part::{Part, copied};
 use std::alloc::{AllocError, Allocator};
 use war_types::{AsmFault, AsmKind};
 
@@ -27,9 +29,10 @@ pub(crate) fn replace_all<'s, A: Allocator + Copy>(
 ) -> Result<Vec<Entry<'s, A>, A>, AsmFault>
     ensures { Gives (λ lines. lines.items) result (all_replaced equs.now entries.entry.items) }
 {
+    let linked = LinkedEqus::new(alloc, equs)?;
     let mut lines = Vec::with_capacity(alloc, entries.len())?;
     for entry in entries {
-        lines.push(replace_in(alloc, equs, entry)?)?;
+        lines.push(replace_in(alloc, &linked, entry)?)?;
     }
     Ok(lines)
 }
@@ -37,7 +40,7 @@ pub(crate) fn replace_all<'s, A: Allocator + Copy>(
 /// Replaces the names of EQUs in the operands of a line. One without such a name keeps its tokens as they are.
 fn replace_in<'s, A: Allocator + Copy>(
     alloc: A,
-    equs: &Equs<'s, A>,
+    equs: &LinkedEqus<'_, 's, A>,
     entry: Entry<'s, A>,
 ) -> Result<Entry<'s, A>, AsmFault>
     ensures { Gives (λ line. line) result (line_replaced equs.now entry.entry) }
@@ -45,7 +48,7 @@ fn replace_in<'s, A: Allocator + Copy>(
     let line = entry.line;
     let tokens = entry.tokens.as_slice();
     let operands = operands_of(line.kind, tokens);
-    if !has_equ(equs, operands) {
+    if !has_equ(equs.equs(), operands) {
         if operands.len() > TOKEN_LIMIT {
             return Err(too_many(line.source_line));
         }
@@ -53,7 +56,8 @@ fn replace_in<'s, A: Allocator + Copy>(
     }
     let before = &tokens[..tokens.len() - operands.len()];
     // One list takes both, so those before go behind the others first.
-    let mut all = replaced(alloc, equs, line.source_line, operands, before.len())?;
+    let room = before.len().saturating_add(TOKEN_LIMIT);
+    let mut all = written(alloc, equs, line.source_line, operands, room)?;
     append(alloc, before, &mut all)?;
     all.rotate_right(before.len());
     Ok(Entry {
@@ -77,29 +81,40 @@ fn append<'s, A: Allocator + Copy>(
     Ok(())
 }
 
-/// What tokens are with the names of EQUs replaced, in a list with room for some more.
-#[tactic(auto, unfolding(crate::specs::Equ::replaced))]
+/// What the tokens of a count are with the names of EQUs replaced.
 pub(crate) fn replaced<'s, A: Allocator + Copy>(
     alloc: A,
     equs: &Equs<'s, A>,
     line: u32,
     tokens: &[Part<'s, A>],
-    more: usize,
 ) -> Result<Vec<Part<'s, A>, A>, AsmFault>
     ensures { Gives (λ parts. parts.items) result (replaced line equs.now tokens.now) }
 {
-    let mut out = Vec::with_capacity(alloc, room_for(equs, tokens).saturating_add(more))?;
-    write(alloc, equs, line, ROUNDS, tokens, &mut out)?;
-    Ok(out)
+    if !has_equ(equs, tokens) {
+        if tokens.len() > TOKEN_LIMIT {
+            return Err(too_many(line));
+        }
+        return Ok(copied(alloc, tokens)?);
+    }
+    let linked = LinkedEqus::new(alloc, equs)?;
+    written(alloc, &linked, line, tokens, tokens.len())
 }
 
-/// Room for what tokens become: where a name is among them, for as many as there may be.
-fn room_for<A: Allocator + Copy>(equs: &Equs<'_, A>, tokens: &[Part<'_, A>]) -> usize {
-    if has_equ(equs, tokens) {
-        TOKEN_LIMIT
-    } else {
-        tokens.len()
-    }
+/// What tokens are with the names of EQUs replaced, in a list with this much room at first.
+#[tactic(auto, unfolding(crate::specs::Equ::replaced))]
+fn written<'s, A: Allocator + Copy>(
+    alloc: A,
+    equs: &LinkedEqus<'_, 's, A>,
+    line: u32,
+    tokens: &[Part<'s, A>],
+    room: usize,
+) -> Result<Vec<Part<'s, A>, A>, AsmFault>
+    ensures { Gives (λ parts. parts.items) result (replaced line equs.now tokens.now) }
+{
+    let links = linked(alloc, equs.equs(), tokens)?;
+    let mut out = Vec::with_capacity(alloc, room)?;
+    write(alloc, equs, line, ROUNDS, links.as_slice(), &mut out)?;
+    Ok(out)
 }
 
 /// Whether the name of an EQU is among the tokens.
@@ -119,19 +134,20 @@ fn has_equ<A: Allocator + Copy>(equs: &Equs<'_, A>, tokens: &[Part<'_, A>]) -> b
 /// Appends what tokens become in so many rounds: each token goes down through the bodies, one round deeper with each.
 fn write<'s, A: Allocator + Copy>(
     alloc: A,
-    equs: &Equs<'s, A>,
+    equs: &LinkedEqus<'_, 's, A>,
     line: u32,
     rounds: u32,
-    tokens: &[Part<'s, A>],
+    tokens: &[Link<'s, A>],
     out: &mut Vec<Part<'s, A>, A>,
 ) -> Result<(), AsmFault>
-    requires { left_over line equs.now out.old.items ≡ Ok out.old.items }
-    ensures { Gives (λ _. out.new.items) result (left_over line equs.now (out.old.items ++ after_rounds rounds equs.now tokens.now)) }
+    requires left { left_over line equs.now out.old.items ≡ Ok out.old.items }
+    requires linked { AreLinked equs.now tokens.now }
+    ensures { Gives (λ _. out.new.items) result (left_over line equs.now (out.old.items ++ after_rounds rounds equs.now (tokens_of tokens.now))) }
 {
     let mut rest = tokens;
     while let [first, behind @ ..] = rest {
         rest = behind;
-        let body = equs.body_at(first);
+        let body = equs.body_of(first);
         if !body.is_empty() {
             if rounds == 0 {
                 return Err(too_many(line));
@@ -142,7 +158,7 @@ fn write<'s, A: Allocator + Copy>(
         if out.len() == TOKEN_LIMIT {
             return Err(too_many(line));
         }
-        out.push(first.copy(alloc)?)?;
+        out.push(first.token().copy(alloc)?)?;
     }
     Ok(())
 }

@@ -12,6 +12,7 @@ use crate::count::copies_of;
 use crate::entry::Entry;
 use crate::expanded::Expanded;
 use crate::line::{Line, LineKind};
+use crate::name_key::NameHash;
 use crate::names::Names;
 use crate::open_blocks::OpenBlocks;
 use crate::operands::behind_first;
@@ -58,14 +59,14 @@ impl<'s, A: Allocator + Copy> Model for Walk<'s, A> {
 
 impl<'s, A: Allocator + Copy> Walk<'s, A> {
     /// The walk before the first line.
-    pub(crate) fn new(alloc: A) -> Self
+    pub(crate) fn new(alloc: A, hash: NameHash) -> Self
         ensures { result ≡ walk_begin }
     {
         Walk {
             alloc,
             counted: 0,
             before: 0,
-            names: Names::new(alloc),
+            names: Names::new(alloc, hash),
             entries: Vec::new(alloc),
             ended: false,
         }

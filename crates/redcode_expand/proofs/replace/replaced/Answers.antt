@@ -1,17 +1,13 @@
-use Rattle.std.proofs.Common.{List, ◌++◌, ap, sym, ◌∙◌, arith}
-use Rattle.std.proofs.lemmas.Grind.{common_steps}
+use Rattle.std.proofs.Common.{List, Ok, sym, ap, ◌∙◌, inr, arith}
 use Rattle.redcode_text.specs.Tokens.{Piece}
-use Rattle.redcode_expand.specs.Equ.{left_over, after_rounds}
-use Rattle.redcode_expand.proofs.OneLine.{replaced-left, replaced-fails}
+use Rattle.redcode_expand.proofs.Unchanged.{tokens-same, tokens-over}
 use Rattle.redcode_expand.proofs.replace.replaced.Goals as goal
 
-pub returns-in_err-write : goal.returns-in_err-write
-returns-in_err-write g c =
-    let refused = replaced-fails c.args.line c.args.equs.now c.in_ok-out.out.items c.args.tokens.now c.in_err-write.field-0.0 c.in_ok-out.ensures.items c.in_err-write.ensures in
-    grind (arith, common_steps)
+pub returns-then-tokens-gt-TOKEN_LIMIT : goal.returns-then-tokens-gt-TOKEN_LIMIT
+returns-then-tokens-gt-TOKEN_LIMIT g c =
+    inr (tokens-over c.args.line c.args.equs.now c.args.tokens.now c.too_many.result (sym c.if-not-has_equ.ensures) c.if-tokens-gt-TOKEN_LIMIT.true c.too_many.ensures)
 
-pub returns : goal.returns
-returns g c =
-    replaced-left c.args.line c.args.equs.now c.args.tokens.now
-    ∙ ap (λ (out : List Piece). left_over c.args.line c.args.equs.now (out ++ after_rounds 16 c.args.equs.now c.args.tokens.now)) (sym c.in_ok-out.ensures.items)
-    ∙ c.in_ok-write.ensures
+pub returns-then-not-has_equ : goal.returns-then-not-has_equ
+returns-then-not-has_equ g c =
+    tokens-same c.args.line c.args.equs.now c.args.tokens.now (sym c.if-not-has_equ.ensures) (omega (arith, c.if-tokens-gt-TOKEN_LIMIT.false))
+    ∙ ap (λ (parts : List Piece). Ok parts) (sym c.in_ok-copied.ensures)

@@ -15,13 +15,13 @@ returns g c =
     let key = c.in_ok-name.name in
     let value = c.in_ok-body.body in
     let bodies = c.self.inside.bodies in
-    let text : Vec ℕ g.row.A.Denot → List ℕ = λ k. k.items in
+    let text : List ℕ → List ℕ = λ k. k in
     let body : Vec (Part g.row.A.Denot) g.row.A.Denot → List Piece = λ v. v.items in
     let absent : is_some (lookup (λ k. bytes_eq (text key) (text k)) bodies.entries) ≡ false =
     lookup-is_equ text body (text key) bodies.entries
     ∙ ap (λ (es : EquList). is_equ es (text key)) c.self.view_is
-    ∙ ap (is_equ c.args.self.now) c.in_ok-name.ensures.items
+    ∙ ap (is_equ c.args.self.now) c.in_ok-name.ensures
     ∙ c.requires in
     equs-added text body bodies.entries c.insert.new.self.entries key value c.args.name.now (map unplaced c.args.body.now) c.args.self.now
     (c.in_ok-insert.ensures.entries ∙ insert_entry-new _ bodies key value (lookup-none _ absent))
-    c.self.view_is c.in_ok-name.ensures.items c.in_ok-body.ensures
+    c.self.view_is c.in_ok-name.ensures c.in_ok-body.ensures

@@ -7,7 +7,7 @@ use Rattle.redcode_expand.proofs.equs.Equs.body_of.Goals as goal
 
 pub returns-in-Some : goal.returns-in-Some
 returns-in-Some g c =
-    let text : Vec ℕ g.row.A.Denot → List ℕ = λ k. k.items in
+    let text : List ℕ → List ℕ = λ k. k in
     let body : Vec (Part g.row.A.Denot) g.row.A.Denot → List Piece = λ v. v.items in
     c.as_slice.ensures.value ∙ ap (body_found body) c.in-Some.ensures.value
     ∙ lookup-body_of text body c.args.name.now c.self.inside.bodies.entries
@@ -15,7 +15,7 @@ returns-in-Some g c =
 
 pub returns-in-None : goal.returns-in-None
 returns-in-None g c =
-    let text : Vec ℕ g.row.A.Denot → List ℕ = λ k. k.items in
+    let text : List ℕ → List ℕ = λ k. k in
     let body : Vec (Part g.row.A.Denot) g.row.A.Denot → List Piece = λ v. v.items in
     c.no_tokens.ensures ∙ ap (body_found body) c.in-None.ensures.value
     ∙ lookup-body_of text body c.args.name.now c.self.inside.bodies.entries

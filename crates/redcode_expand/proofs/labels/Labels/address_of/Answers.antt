@@ -1,4 +1,4 @@
-use Rattle.std.proofs.Common.{ℕ, Vec, ap, ◌∙◌}
+use Rattle.std.proofs.Common.{ℕ, List, ap, ◌∙◌}
 use Rattle.redcode_expand.specs.Name.{LabelList, address_of}
 use Rattle.redcode_expand.proofs.Lookups.{lookup-address_of}
 use Rattle.redcode_expand.proofs.labels.Labels.address_of.Goals as goal
@@ -6,5 +6,5 @@ use Rattle.redcode_expand.proofs.labels.Labels.address_of.Goals as goal
 pub returns : goal.returns
 returns g c =
     c.copied.ensures ∙ c.get.ensures.value
-    ∙ lookup-address_of (λ (k : Vec ℕ g.row.A.Denot). k.items) c.args.name.now c.self.inside.addresses.entries
+    ∙ lookup-address_of (λ (k : List ℕ). k) c.args.name.now c.self.inside.addresses.entries
     ∙ ap (λ (ls : LabelList). address_of ls c.args.name.now) c.self.view_is
