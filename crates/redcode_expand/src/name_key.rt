@@ -13,7 +13,7 @@ use std::marker::Model;
 use war_types::Settings;
 
 /// How the names of a source are hashed: from a start that hangs on the whole source and on the seed of the settings, so that names
-/// can't be chosen for their hashes.
+/// with one hash can't simply be looked for.
 #[derive(Clone, Copy)]
 pub(crate) struct NameHash {
     initial: FoldHasher,
