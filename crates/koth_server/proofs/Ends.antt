@@ -6,7 +6,8 @@ use Rattle.war_types.specs.declared.fault.AsmFault.{AsmFault}
 use Rattle.war_types.specs.declared.settings.RawSettings.{RawSettings}
 use Rattle.koth_server.specs.Asm.{Answers, Attempts, EndsUnder, status_of}
 use Rattle.koth_server.specs.Failure.{failure_line, failure_status}
-use Rattle.koth_server.specs.Streams.{WritesPart, streams}
+use Rattle.koth_session.specs.Written.{WritesPart}
+use Rattle.koth_server.specs.Streams.{streams}
 use Rattle.koth_server.specs.declared.failure.Failure.{Failure}
 use Rattle.koth_server.specs.declared.failure.Failure.TheVariants.{Stream, Memory}
 use Rattle.koth_server.specs.declared.status.Status.{Status}

@@ -1,17 +1,8 @@
-mod Cuts
-mod Endings
 mod Ends
 mod Entered
-mod Holding
-mod KindNames
 mod Named
 mod Numbers
 mod Parts
-mod Readings
 mod Requests
-mod RowLines
 mod Rows
-mod Serving
-mod SessionRows
 mod Sources
-mod Submissions

@@ -14,7 +14,8 @@ use Rattle.koth_server.specs.Failure.{failure_line}
 use Rattle.koth_server.specs.Fight.{EndsFight}
 use Rattle.koth_server.specs.Hills.{EndsCreate, EndsHill, EndsServe, Said, SaysCreated, listening_line}
 use Rattle.koth_server.specs.Options.{settings_in}
-use Rattle.koth_server.specs.Streams.{Streams, WritesPart, streams}
+use Rattle.koth_session.specs.Written.{WritesPart}
+use Rattle.koth_server.specs.Streams.{Streams, streams}
 use Rattle.koth_server.specs.Words.{AsksBy, given_in, text_or_none}
 use Rattle.clap.specs.declared.parser.matches.Found.{Found}
 use Rattle.koth_server.specs.declared.failure.Failure.TheVariants.{Memory}

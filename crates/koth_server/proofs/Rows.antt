@@ -1,13 +1,9 @@
 -- Rows of the definitions, computed.
 use Rattle.std.proofs.Common.{◌≡◌, false, [], ◌∷◌, Ok, codes, refl}
-use Rattle.std.specs.Fmt.{digits}
 use Rattle.war_types.specs.Settings.{settings_of}
-use Rattle.war_types.specs.declared.fault.AsmKind.TheVariants as kinds
-use Rattle.war_types.specs.declared.fault.ExprFault.TheVariants as expressions
 use Rattle.clap.specs.Words.{fault_of, takes}
 use Rattle.clap.specs.declared.error.kind.ErrorKind.TheVariants as errors
 use Rattle.clap.proofs.OnLiterals.{clap_on_literals}
-use Rattle.koth_server.specs.Answer.{refusal_line}
 use Rattle.koth_server.specs.Options.{default_settings}
 use Rattle.koth_server.specs.Words.{AsksFor, koth_app, settings_named}
 
@@ -67,11 +63,3 @@ faults = (refl, refl, refl, refl, refl, refl)
 
 defaults_are_settings : settings_of default_settings ≡ Ok default_settings
 defaults_are_settings = refl
-
-no_line_to_blame : refusal_line (record { line = 0; kind = kinds.Empty }) ≡ codes "REFUSED 0 Empty\n"
-unfolding digits
-no_line_to_blame = refl
-
-name_of_the_expression's_fault : refusal_line (record { line = 4097; kind = kinds.Expression expressions.Overflow }) ≡ codes "REFUSED 4097 Overflow\n"
-unfolding digits
-name_of_the_expression's_fault = refl

@@ -1,17 +1,12 @@
--- What is written of a source or of settings that are refused.
-use Rattle.std.specs.Prelude.{ℕ, List, ◌++◌, codes, decimal}
+-- What is written of settings that are refused, and of a command that failed.
+use Rattle.std.specs.Prelude.{ℕ, List, codes}
 use Rattle.std.specs.Io.KnownBytes.{Keeps}
-use Rattle.war_types.specs.Fault.{kind_name}
-use Rattle.war_types.specs.declared.fault.AsmFault.{AsmFault}
 use Rattle.war_types.specs.declared.settings.SettingsFault.{SettingsFault}
 use Rattle.war_types.specs.declared.settings.SettingsFault.TheVariants as faults
+use Rattle.koth_session.specs.Written.{WritesPart}
 use Rattle.koth_server.specs.Failure.{failure_line}
-use Rattle.koth_server.specs.Streams.{Streams, WritesPart}
+use Rattle.koth_server.specs.Streams.{Streams}
 use Rattle.koth_server.specs.declared.failure.Failure.{Failure}
-
--- the line of a refusal: the source's line, counted from 1, and the kind's name
-abbrev pub refusal_line : AsmFault → List ℕ
-refusal_line fault = codes "REFUSED " ++ decimal fault.line ++ codes " " ++ kind_name fault.kind ++ codes "\n"
 
 -- the line of settings that are refused: the first field that is out of its range
 abbrev pub settings_line : SettingsFault → List ℕ

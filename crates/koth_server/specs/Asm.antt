@@ -7,8 +7,10 @@ use Rattle.war_types.specs.declared.settings.RawSettings.{RawSettings}
 use Rattle.war_types.specs.declared.settings.SettingsFault.{SettingsFault}
 use Rattle.redcode_asm.specs.Assembly.{assembly}
 use Rattle.redcode_asm.specs.LoadText.{load_text}
-use Rattle.koth_server.specs.Answer.{refusal_line, KeepsAll, RefusesSettings, Tells}
-use Rattle.koth_server.specs.Streams.{Streams, Takes, WritesPart}
+use Rattle.koth_session.specs.Reply.{refusal_line}
+use Rattle.koth_session.specs.Written.{WritesPart}
+use Rattle.koth_server.specs.Answer.{KeepsAll, RefusesSettings, Tells}
+use Rattle.koth_server.specs.Streams.{Streams, Takes}
 use Rattle.koth_server.specs.declared.failure.Failure.{Failure}
 use Rattle.koth_server.specs.declared.failure.Failure.TheVariants as failures
 use Rattle.koth_server.specs.declared.status.Status.{Status}

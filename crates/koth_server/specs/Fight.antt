@@ -8,7 +8,8 @@ use Rattle.war_types.specs.declared.settings.SettingsFault.{SettingsFault}
 use Rattle.redcode_asm.specs.Assembly.{assembly}
 use Rattle.koth_match.specs.Match.{match_of}
 use Rattle.koth_match.specs.declared.bout.Bout.{Bout}
-use Rattle.koth_server.specs.Answer.{refusal_line, KeepsAll, RefusesSettings, Tells}
+use Rattle.koth_session.specs.Reply.{refusal_line}
+use Rattle.koth_server.specs.Answer.{KeepsAll, RefusesSettings, Tells}
 use Rattle.koth_server.specs.Streams.{Streams}
 use Rattle.koth_server.specs.declared.failure.Failure.{Failure}
 use Rattle.koth_server.specs.declared.failure.Failure.TheVariants as failures

@@ -10,10 +10,11 @@ use Rattle.hill_store.specs.Opened.{IsCreated}
 use Rattle.hill_store.specs.Seen.{Seen, Submits}
 use Rattle.hill_store.specs.declared.reply.Reply.{Reply}
 use Rattle.hill_store.specs.declared.reply.Reply.TheVariants as replies
+use Rattle.koth_session.specs.Reply.{reply_line, show_text}
+use Rattle.koth_session.specs.Written.{WritesPart}
 use Rattle.koth_server.specs.Answer.{KeepsAll, RefusesSettings, Tells}
 use Rattle.koth_server.specs.HillFault.{fault_line, fault_status}
-use Rattle.koth_server.specs.Reply.{reply_line, show_text}
-use Rattle.koth_server.specs.Streams.{Streams, WritesPart}
+use Rattle.koth_server.specs.Streams.{Streams}
 use Rattle.koth_server.specs.declared.failure.Failure.TheVariants as kinds
 use Rattle.koth_server.specs.declared.hill_fault.HillFault.{HillFault}
 use Rattle.koth_server.specs.declared.hill_fault.HillFault.TheVariants as faults

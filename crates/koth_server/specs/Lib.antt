@@ -1,19 +1,15 @@
-pub mod Answer
-pub mod Asm
-pub mod Commands
-pub mod Counted
-pub mod Failure
-pub mod Fight
-pub mod HillFault
-pub mod Hills
-pub mod Kept
-pub mod Lines
+-- What the words of the command line ask for.
 pub mod Options
-pub mod Reading
-pub mod Reply
-pub mod Run
-pub mod Sessions
-pub mod Status
-pub mod Streams
-pub mod Transcript
 pub mod Words
+-- The three streams, how the program ends, and what it tells of a failure.
+pub mod Streams
+pub mod Status
+pub mod Failure
+pub mod HillFault
+pub mod Answer
+-- What each command writes and how it ends: `asm`, `fight`, and the commands on a hill.
+pub mod Asm
+pub mod Fight
+pub mod Hills
+-- The number that a run leaves with.
+pub mod Run

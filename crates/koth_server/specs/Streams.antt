@@ -1,6 +1,6 @@
--- What is taken from an input and what is written, where a stream tells its bytes.
-use Rattle.std.specs.Prelude.{◌≡◌, ℕ, ◌<◌, ◌≤◌, Option, List, ◌++◌, length}
-use Rattle.std.specs.Io.KnownBytes.{Appends, Consumes, IsAtEnd}
+-- What a command takes from its input, and its three streams.
+use Rattle.std.specs.Prelude.{ℕ, ◌<◌, ◌≤◌, Option, List, length}
+use Rattle.std.specs.Io.KnownBytes.{Consumes, IsAtEnd}
 
 -- bytes of a source that are read: one more than a source may have
 abbrev pub read_limit : ℕ
@@ -11,13 +11,6 @@ pub record Takes (old new : Option (List ℕ)) (source : List ℕ) : Type 0 wher
   pub bytes : Consumes old new source
   pub most : length source ≤ read_limit
   pub whole : length source < read_limit → IsAtEnd new
-
--- a part of a text was written, from its beginning on
-pub record WritesPart (old new : Option (List ℕ)) (text : List ℕ) : Type 0 where
-  pub part : List ℕ
-  pub rest : List ℕ
-  pub split : text ≡ part ++ rest
-  pub written : Appends old new part
 
 -- the bytes of the three streams: those that the input has left, and those that the others hold
 pub record Streams : Type 0 where

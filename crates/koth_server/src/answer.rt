@@ -1,8 +1,9 @@
 //! What a command answers to a source.
 
 ghost use Rattle.std.specs.Prelude.{◌≡◌, vec_len, IfOk};
-ghost use Rattle.koth_server.specs.Answer.{refusal_line, settings_line};
-ghost use Rattle.koth_server.specs.Streams.{WritesPart};
+ghost use Rattle.koth_session.specs.Reply.{refusal_line};
+ghost use Rattle.koth_session.specs.Written.{WritesPart};
+ghost use Rattle.koth_server.specs.Answer.{settings_line};
 
 use crate::status::Status;
 use crate::stream::write_whole;

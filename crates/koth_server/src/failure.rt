@@ -1,7 +1,7 @@
 //! Why a command was not carried out.
 
 ghost use Rattle.std.specs.Prelude.{◌≡◌};
-ghost use Rattle.koth_server.specs.Streams.{WritesPart};
+ghost use Rattle.koth_session.specs.Written.{WritesPart};
 
 use crate::status::Status;
 use crate::stream::write_whole;

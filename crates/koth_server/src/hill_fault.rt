@@ -2,7 +2,7 @@
 
 ghost use Rattle.std.specs.Prelude.{◌≡◌};
 ghost use Rattle.koth_server.specs.HillFault.{fault_of_file, fault_of_refusal};
-ghost use Rattle.koth_server.specs.Streams.{WritesPart};
+ghost use Rattle.koth_session.specs.Written.{WritesPart};
 
 use crate::failure::Failure;
 use crate::status::Status;
@@ -13,7 +13,7 @@ use std::io::Write;
 
 /// Why a command on a hill was not carried out.
 #[derive(Clone, Copy, Debug, PartialEq, Eq)]
-pub(crate) enum HillFault {
+pub enum HillFault {
     /// The file has too few sectors for its hill.
     TooSmall,
     /// The file holds a hill already.

@@ -4,16 +4,14 @@ ghost use Rattle.std.specs.Prelude.{◌≡◌, ◌≢◌, None, false, IfOk, IfS
 ghost use Rattle.koth_server.specs.Hills.{listening_line, EndsServe, TriesServe};
 ghost use Rattle.koth_server.specs.Streams.{streams};
 
-use crate::counted::Counted;
 use crate::failure::Failure;
 use crate::files::open_hill;
 use crate::hill_fault::HillFault;
-use crate::line::Line;
-use crate::sessions::{SessionEnd, session};
 use crate::status::Status;
 use crate::stream::{StreamFault, write_whole};
 use crate::words::Service;
 use hill_store::Store;
+use koth_session::{Counted, Line, SessionEnd, session};
 use sector_disk::{Device, FileDevice};
 use std::alloc::Allocator;
 use std::io;
@@ -26,8 +24,8 @@ use std::time::Duration;
 const PATIENCE: u64 = 60;
 
 /// Where a hill is, which can be opened again.
-pub(crate) trait HillPlace<D: Device, A: Allocator> {
-    /// Opens the hill.
+pub trait HillPlace<D: Device, A: Allocator> {
+    /// Opens the hill, or says why it can't be.
     fn open(&self) -> Result<Store<D, A>, HillFault>
         ensures { IfOk result (λ store. store.reopen ≡ false) };
 }
@@ -114,8 +112,9 @@ fn listening_line(port: u16) -> Line
 }
 
 /// Serves as many connections, one after the other. After a session in which the device failed the store is closed, and it is
-/// opened again before the next connection. A refused opening and a failed accept end the service.
-pub(crate) fn serve_connections<S, L, D, A, P>(
+/// opened again before the next connection. A refused opening ends the service with its fault, and a failed accept with
+/// `HillFault::Failed(Failure::Stream)`.
+pub fn serve_connections<S, L, D, A, P>(
     alloc: A,
     listener: &L,
     connections: u32,

@@ -2,7 +2,7 @@
 
 ghost use Rattle.std.specs.Prelude.{◌≡◌, ◌<◌, ◌≤◌, ℕ, List, length, take, IfOk, OnOk, OnErr};
 ghost use Rattle.std.specs.Io.KnownBytes.{Appends, Consumes, IsAtEnd};
-ghost use Rattle.koth_server.specs.Streams.{WritesPart};
+ghost use Rattle.koth_session.specs.Written.{WritesPart};
 
 use std::io::{Read, Write};
 

@@ -1,0 +1,93 @@
+-- How a session ends, from how its bytes went.
+use Rattle.std.proofs.Common.{◌≡◌, inr, ℕ, ◌+◌, ◌≤◌, List, [], ◌∷◌, ◌++◌, length, take, drop, Option, None, Some, sym, ap, subst, ◌∙◌, append-nil, take-append-drop, arith}
+use Rattle.std.proofs.KnownBytes.{Consumes-trans}
+use Rattle.std.proofs.lemmas.List.{length-append, length-take-le, take_all}
+use Rattle.std.specs.Io.KnownBytes.{Consumes}
+use Rattle.sector_disk.specs.Disk.{Disk}
+use Rattle.koth_session.specs.Commands.{commands_of}
+use Rattle.koth_session.specs.Sessions.{AnswersAll, AnswersFirst, EndsSo, Goes, Scene, Stopped, WentOn}
+use Rattle.koth_session.specs.Transcript.{commands_in}
+use Rattle.koth_session.specs.declared.script.Script.{Script}
+use Rattle.koth_session.specs.declared.sessions.SessionEnd.{SessionEnd}
+use Rattle.koth_session.specs.declared.sessions.SessionEnd.TheVariants as ends
+use Rattle.koth_session.proofs.Holding.{holds_at, keeps_list}
+use Rattle.koth_session.proofs.Serving.{goes_on, stops_early}
+
+-- a read gave no byte
+pub end_taken : (a b c : Option (List ℕ)) (bytes chunk : List ℕ) (n : ℕ) → n ≡ 0 → Consumes a b bytes → Consumes b c (take n chunk) → Consumes a c bytes
+end_taken a b c bytes chunk n is p q =
+    subst (Consumes a c) (append-nil bytes) (Consumes-trans a b c bytes [] p (subst (λ m. Consumes b c (take m chunk)) is q))
+
+pub count_taken : (bytes chunk : List ℕ) (n taken : ℕ) → length bytes ≡ taken → n ≤ length chunk → length (bytes ++ take n chunk) ≡ taken + n
+count_taken bytes chunk n taken is within =
+    let both = length-append bytes (take n chunk) in
+    let front = length-take-le n chunk within in
+    omega (arith, both, front, is)
+
+module _ {D : Type 0} (size : D → ℕ) (is_lawful : D → Type 0) (disk : D → Disk) (failures : D → ℕ) where
+  pub answers_all : {A : Type 0} (taken : List ℕ) (script : Script A) (a c : Scene D) → WentOn size is_lawful disk failures [] None taken script a c
+      → AnswersAll size is_lawful disk failures taken a c
+  answers_all taken script a c w = record {
+    es = w.es;
+    commands = ap (λ l. commands_of l) (sym (append-nil taken)) ∙ w.commands [] ∙ append-nil (commands_in w.es);
+    answered = w.answered;
+    holds = keeps_list size is_lawful disk failures a.store c.store w.es w.answered.served;
+  }
+
+  answers_first : (taken : List ℕ) (end : SessionEnd) (a c : Scene D) → Stopped size is_lawful disk failures [] None taken end a c
+      → AnswersFirst size is_lawful disk failures taken end a c
+  answers_first taken end a c v = record {
+    es = v.es;
+    last = v.last;
+    answered = v.answered;
+    command = v.command;
+    behind = v.behind [];
+    commands = ap (λ l. commands_of l) (sym (append-nil taken)) ∙ v.commands [];
+    ended = v.ended;
+    holds = holds_at size is_lawful disk failures end v.command a v.last c v.es v.answered v.ended;
+  }
+
+  -- a command ended the session
+  pub ends_by : (taken : List ℕ) (end : SessionEnd) (left : Option (List ℕ)) (a c : Scene D) → Stopped size is_lawful disk failures [] None taken end a c
+      → EndsSo size is_lawful disk failures end taken left a c
+  ends_by taken ends.Quit left a c v = answers_first taken ends.Quit a c v
+  ends_by taken ends.EndOfInput left a c v = absurd v.ended
+  ends_by taken ends.ReadFault left a c v = absurd v.ended
+  ends_by taken ends.WriteFault left a c v = answers_first taken ends.WriteFault a c v
+  ends_by taken ends.Limit left a c v = absurd v.ended
+  ends_by taken ends.StoreFailed left a c v = answers_first taken ends.StoreFailed a c v
+  ends_by taken ends.Memory left a c v = inr (answers_first taken ends.Memory a c v)
+
+  pub never_read : (end : SessionEnd) (line : List ℕ) (source : Option (List ℕ)) (bytes : List ℕ) (a c : Scene D) → Stopped size is_lawful disk failures line source bytes end a c
+      → end ≡ ends.ReadFault → ⊥
+  never_read ends.ReadFault line source bytes a c v is = v.ended
+  never_read ends.Quit line source bytes a c v is = absurd (cc)
+  never_read ends.EndOfInput line source bytes a c v is = absurd (cc)
+  never_read ends.WriteFault line source bytes a c v is = absurd (cc)
+  never_read ends.Limit line source bytes a c v is = absurd (cc)
+  never_read ends.StoreFailed line source bytes a c v is = absurd (cc)
+  never_read ends.Memory line source bytes a c v is = absurd (cc)
+
+  -- ---- byte by byte
+
+  module _ {A : Type 0} where
+    pub all_bytes : (line : List ℕ) (source : Option (List ℕ)) (bytes : List ℕ) (i : ℕ) (script : Script A) (x y : Scene D) → length bytes ≤ i
+        → WentOn size is_lawful disk failures line source (take i bytes) script x y → WentOn size is_lawful disk failures line source bytes script x y
+    all_bytes line source bytes i script x y is w = subst (λ l. WentOn size is_lawful disk failures line source l script x y) (take_all i bytes is) w
+
+    pub one_byte : (line : List ℕ) (source : Option (List ℕ)) (bytes : List ℕ) (i b : ℕ) (mid script : Script A) (r : Option SessionEnd) (x y z : Scene D)
+        → take (i + 1) bytes ≡ take i bytes ++ b ∷ []
+        → (w : WentOn size is_lawful disk failures line source (take i bytes) mid x y)
+        → Goes size is_lawful disk failures w.new_line w.new_source (b ∷ []) r script y z
+        → Goes size is_lawful disk failures line source (take (i + 1) bytes) r script x z
+    one_byte line source bytes i b mid script r x y z is w v =
+        subst (λ l. Goes size is_lawful disk failures line source l r script x z) (sym is) (goes_on size is_lawful disk failures line source (take i bytes) (b ∷ []) mid script r x y z w v)
+
+    pub last_byte : (line : List ℕ) (source : Option (List ℕ)) (bytes : List ℕ) (i b : ℕ) (mid script : Script A) (end : SessionEnd) (x y z : Scene D)
+        → take (i + 1) bytes ≡ take i bytes ++ b ∷ []
+        → (w : WentOn size is_lawful disk failures line source (take i bytes) mid x y)
+        → Goes size is_lawful disk failures w.new_line w.new_source (b ∷ []) (Some end) script y z
+        → Stopped size is_lawful disk failures line source bytes end x z
+    last_byte line source bytes i b mid script end x y z is w v =
+        subst (λ l. Stopped size is_lawful disk failures line source l end x z) (take-append-drop (i + 1) bytes)
+        (stops_early size is_lawful disk failures line source (take (i + 1) bytes) (drop (i + 1) bytes) end x z (one_byte line source bytes i b mid script (Some end) x y z is w v))

@@ -1,0 +1,178 @@
+-- Commands that are served one after another.
+use Rattle.std.proofs.Common.{◌≡◌, ◌⊎◌, inl, inr, ℕ, ◌-◌, ◌^◌, List, [], ◌∷◌, ◌++◌, Option, None, Some, refl, sym, ap, subst, ◌∙◌, le_refl, le_trans, append_assoc, append-nil}
+use Rattle.std.specs.Io.KnownBytes.{Appends}
+use Rattle.std.proofs.KnownBytes.{Appends-nil, Appends-trans, Keeps-refl}
+use Rattle.sector_disk.specs.Disk.{Disk}
+use Rattle.koth_hill.specs.Hill.{Hill}
+use Rattle.hill_store.specs.Seen.{Seen}
+use Rattle.koth_session.specs.Commands.{Command, commands_from}
+use Rattle.koth_session.specs.Lines.{lines_from}
+use Rattle.koth_session.specs.Reading.{IsReading, Reads, commands_met}
+use Rattle.koth_session.specs.Sessions.{Answers, Goes, HasWorn, IsAnsweredTo, IsServed, Scene, Stopped, WentOn}
+use Rattle.koth_session.specs.Transcript.{Exchange, Mark, answer, command_in, commands_in, hill_after, hill_next, transcript}
+use Rattle.koth_session.specs.declared.script.Met.{Met}
+use Rattle.koth_session.specs.declared.script.Met.TheVariants as met
+use Rattle.koth_session.specs.declared.script.Script.{Script}
+use Rattle.koth_session.specs.declared.sessions.SessionEnd.{SessionEnd}
+use Rattle.koth_session.specs.declared.sessions.SessionEnd.TheVariants as ends
+
+commands_append : (es fs : List Exchange) → commands_in (es ++ fs) ≡ commands_in es ++ commands_in fs
+commands_append [] fs = refl
+commands_append (e ∷ es) fs = ap (λ l. command_in e ∷ l) (commands_append es fs)
+
+hill_append : (h : Hill) (es fs : List Exchange) → hill_after h (es ++ fs) ≡ hill_after (hill_after h es) fs
+hill_append h [] fs = refl
+hill_append h (e ∷ es) fs = hill_append (hill_next h e) es fs
+
+transcript_append : (h : Hill) (es fs : List Exchange) → transcript h (es ++ fs) ≡ transcript h es ++ transcript (hill_after h es) fs
+transcript_append h [] fs = refl
+transcript_append h (e ∷ es) fs =
+    ap (λ l. answer h e ++ l) (transcript_append (hill_next h e) es fs)
+    ∙ sym (append_assoc (answer h e) (transcript (hill_next h e) es) (transcript (hill_after (hill_next h e) es) fs))
+
+worn_in : (es fs : List Exchange) → HasWorn (es ++ fs) → HasWorn es ⊎ HasWorn fs
+worn_in [] fs worn = inr worn
+worn_in (Exchange.Submission source Mark.Worn ∷ es) fs worn = inl tt
+worn_in (Exchange.Submission source Mark.NoMemory ∷ es) fs worn = worn_in es fs worn
+worn_in (Exchange.Submission source Mark.Taken ∷ es) fs worn = worn_in es fs worn
+worn_in (Exchange.Table ∷ es) fs worn = worn_in es fs worn
+worn_in (Exchange.BadLine ∷ es) fs worn = worn_in es fs worn
+
+module _ {D : Type 0} (size : D → ℕ) (is_lawful : D → Type 0) (disk : D → Disk) (failures : D → ℕ) where
+  pub served_same : (s : Seen D) (es : List Exchange) → hill_after s.hill es ≡ s.hill → (HasWorn es → s.generation ≡ 2 ^ 64 - 1)
+      → IsServed size is_lawful disk failures s s es
+  served_same s es same worn = record {
+    hill = sym same;
+    still = refl;
+    later = le_refl (failures s.device);
+    lawful = λ is. is;
+    worn = worn;
+    full = λ is. is;
+    stands = λ is open_still stands. stands;
+  }
+
+  pub served_on : (a b c : Seen D) (es fs : List Exchange) → IsServed size is_lawful disk failures a b es → IsServed size is_lawful disk failures b c fs
+      → IsServed size is_lawful disk failures a c (es ++ fs)
+  served_on a b c es fs p q = record {
+    hill = q.hill ∙ ap (λ h. hill_after h fs) p.hill ∙ sym (hill_append a.hill es fs);
+    still = q.still ∙ p.still;
+    later = le_trans p.later q.later;
+    lawful = λ is. q.lawful (p.lawful is);
+    worn = λ worn. elim (worn_in es fs worn) [ inl first ↦ q.full (p.worn first) | inr second ↦ q.worn second ];
+    full = λ is. q.full (p.full is);
+    stands = λ is open_still stands. q.stands (p.lawful is) (p.still ∙ open_still) (p.stands is open_still stands);
+  }
+
+  pub answered_none : (s : Scene D) → IsAnsweredTo size is_lawful disk failures s s []
+  answered_none s = record { served = served_same s.store [] refl (λ worn. absurd worn); written = Appends-nil s.output }
+
+  pub answered_on : (a b c : Scene D) (es fs : List Exchange) → IsAnsweredTo size is_lawful disk failures a b es → IsAnsweredTo size is_lawful disk failures b c fs
+      → IsAnsweredTo size is_lawful disk failures a c (es ++ fs)
+  answered_on a b c es fs p q = record {
+    served = served_on a.store b.store c.store es fs p.served q.served;
+    written =
+        let second = subst (λ h. Appends b.output c.output (transcript h fs)) p.served.hill q.written in
+        subst (Appends a.output c.output) (sym (transcript_append a.store.hill es fs)) (Appends-trans a.output b.output c.output _ _ p.written second);
+  }
+
+  -- more bytes behind those that ended the session
+  pub stops_early : (line : List ℕ) (source : Option (List ℕ)) (bs cs : List ℕ) (end : SessionEnd) (a c : Scene D)
+      → Stopped size is_lawful disk failures line source bs end a c → Stopped size is_lawful disk failures line source (bs ++ cs) end a c
+  stops_early line source bs cs end a c v = record {
+    es = v.es;
+    last = v.last;
+    answered = v.answered;
+    command = v.command;
+    behind = λ more. v.behind (cs ++ more);
+    commands = λ more. ap (λ l. commands_from source (lines_from line l)) (append_assoc bs cs more) ∙ v.commands (cs ++ more);
+    ended = v.ended;
+  }
+
+  module _ {A : Type 0} where
+    -- what comes behind bytes that went on
+    pub goes_on : (line : List ℕ) (source : Option (List ℕ)) (bs cs : List ℕ) (mid script : Script A) (r : Option SessionEnd) (a b c : Scene D)
+        → (w : WentOn size is_lawful disk failures line source bs mid a b)
+        → Goes size is_lawful disk failures w.new_line w.new_source cs r script b c
+        → Goes size is_lawful disk failures line source (bs ++ cs) r script a c
+    goes_on line source bs cs mid script None a b c w v = record {
+      es = w.es ++ v.es;
+      answered = answered_on a b c w.es v.es w.answered v.answered;
+      new_line = v.new_line;
+      new_source = v.new_source;
+      reading = v.reading;
+      commands = λ more.
+          let behind = commands_from v.new_source (lines_from v.new_line more) in
+          ap (λ l. commands_from source (lines_from line l)) (append_assoc bs cs more) ∙ w.commands (cs ++ more)
+          ∙ ap (λ l. commands_in w.es ++ l) (v.commands more) ∙ sym (append_assoc (commands_in w.es) (commands_in v.es) behind)
+          ∙ ap (λ l. l ++ behind) (sym (commands_append w.es v.es));
+    }
+    goes_on line source bs cs mid script (Some end) a b c w v = record {
+      es = w.es ++ v.es;
+      last = v.last;
+      answered = answered_on a b v.last w.es v.es w.answered v.answered;
+      command = v.command;
+      behind = v.behind;
+      commands = λ more.
+          let behind = v.command ∷ v.behind more in
+          ap (λ l. commands_from source (lines_from line l)) (append_assoc bs cs more) ∙ w.commands (cs ++ more)
+          ∙ ap (λ l. commands_in w.es ++ l) (v.commands more) ∙ sym (append_assoc (commands_in w.es) (commands_in v.es) behind)
+          ∙ ap (λ l. l ++ behind) (sym (commands_append w.es v.es));
+      ended = v.ended;
+    }
+
+    pub went_nowhere : (line : List ℕ) (source : Option (List ℕ)) (script : Script A) (s : Scene D) → IsReading script line source
+        → WentOn size is_lawful disk failures line source [] script s s
+    went_nowhere line source script s reading = record {
+      es = [];
+      answered = answered_none s;
+      new_line = line;
+      new_source = source;
+      reading = reading;
+      commands = λ more. refl;
+    }
+
+    -- ---- one byte
+
+    pub nothing_met : (line : List ℕ) (source : Option (List ℕ)) (byte : ℕ) (script : Script A) (s : Scene D)
+        → Reads line source byte met.Nothing script → Goes size is_lawful disk failures line source (byte ∷ []) None script s s
+    nothing_met line source byte script s reads = record {
+      es = [];
+      answered = answered_none s;
+      new_line = reads.new_line;
+      new_source = reads.new_source;
+      reading = reads.reading;
+      commands = reads.commands;
+    }
+
+    pub quit_met : (line : List ℕ) (source : Option (List ℕ)) (byte : ℕ) (script : Script A) (s : Scene D)
+        → Reads line source byte met.Quit script → Goes size is_lawful disk failures line source (byte ∷ []) (Some ends.Quit) script s s
+    quit_met line source byte script s reads = record {
+      es = [];
+      last = s;
+      answered = answered_none s;
+      command = Command.Quit;
+      behind = λ more. [];
+      commands = reads.commands;
+      ended = (refl, refl, Keeps-refl s.output);
+    }
+
+    pub command_met : (line : List ℕ) (source : Option (List ℕ)) (byte : ℕ) (m : Met) (script : Script A) (command : Command) (r : Option SessionEnd) (a c : Scene D)
+        → ((others : List Command) → commands_met m script.source others ≡ command ∷ others) → Reads line source byte m script
+        → Answers size is_lawful disk failures command r a c → Goes size is_lawful disk failures line source (byte ∷ []) r script a c
+    command_met line source byte m script command None a c is reads answers = record {
+      es = answers.0 ∷ [];
+      answered = record { served = answers.2; written = subst (Appends a.output c.output) (sym (append-nil (answer a.store.hill answers.0))) answers.3 };
+      new_line = reads.new_line;
+      new_source = reads.new_source;
+      reading = reads.reading;
+      commands = λ more. reads.commands more ∙ is _ ∙ ap (λ (k : Command). k ∷ commands_from reads.new_source (lines_from reads.new_line more)) answers.1;
+    }
+    command_met line source byte m script command (Some end) a c is reads answers = record {
+      es = [];
+      last = a;
+      answered = answered_none a;
+      command = command;
+      behind = λ more. commands_from reads.new_source (lines_from reads.new_line more);
+      commands = λ more. reads.commands more ∙ is _;
+      ended = answers;
+    }

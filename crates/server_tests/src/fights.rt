@@ -1,0 +1,97 @@
+use crate::program::{Ran, run_on};
+use std::fs;
+use std::net::Net;
+use std::process::Abort;
+use std::rt::Files;
+use std::test::Fail;
+
+/// A fight of two files under small settings.
+const FIGHT: &str =
+    "--core=64 --cycles=100 --processes=8 --length=10 --distance=10 --rounds=2 --seed=1 --capacity=2";
+
+/// Writes a source into a file. A file without a source is not made.
+fn make(rt: &(impl Files + AllocGlobal), file: &str, source: Option<&str>) -> Result<(), Fail> {
+    if let Some(source) = source {
+        fs::write(rt, file, source)?;
+    }
+    Ok(())
+}
+
+/// Removes the file that was made.
+fn remove(rt: &(impl Files + AllocGlobal), file: &str, source: Option<&str>) -> Result<(), Fail> {
+    if source.is_some() {
+        fs::remove_file(rt, file)?;
+    }
+    Ok(())
+}
+
+/// Runs `koth fight` under small settings on two files.
+fn fight_of(
+    rt: &(impl Files + Net + AllocGlobal),
+    files: [&str; 2],
+    sources: [Option<&str>; 2],
+) -> Result<Ran, Fail> {
+    make(rt, files[0], sources[0])?;
+    make(rt, files[1], sources[1])?;
+    let line = format!(in rt.alloc(); "koth fight {} {} {FIGHT}", files[0], files[1])?;
+    let ran = run_on(rt, rt.alloc(), line.as_str(), &mut b"".as_slice())?;
+    remove(rt, files[0], sources[0])?;
+    remove(rt, files[1], sources[1])?;
+    Ok(ran)
+}
+
+/// What `koth fight` writes and leaves with, for two sources.
+fn check_fight(
+    rt: &(impl Abort + Files + Net + AllocGlobal),
+    older: &str,
+    younger: Option<&str>,
+    text: &str,
+    status: u8,
+) -> Result<(), Fail> {
+    let ran = fight_of(rt, ["older.red", "younger.red"], [Some(older), younger])?;
+    assert_eq!(rt; ran.output.as_slice(), text.as_bytes());
+    assert_eq!(rt; ran.errors.len(), 0);
+    assert_eq!(rt; ran.status, status, "{text}");
+    Ok(())
+}
+
+#[test]
+fn fights(rt: HostRuntime) -> Result<(), Fail> {
+    check_fight(&rt, "DAT 0,0\n", Some("DAT 0,0\n"), "1 1 0\n", 0)?;
+    check_fight(&rt, "MOV 0,1\n", Some("JMP 0\n"), "0 0 2\n", 0)?;
+    check_fight(&rt, "JMP 0\n", Some("DAT 0,0\n"), "2 0 0\n", 0)?;
+    check_fight(&rt, "DAT 0,0\n", Some("JMP 0\n"), "0 2 0\n", 0)
+}
+
+#[test]
+fn the_older_source_is_refused_first(rt: HostRuntime) -> Result<(), Fail> {
+    check_fight(&rt, "", Some("JMP\n"), "REFUSED 0 Empty\n", 1)?;
+    check_fight(&rt, "DAT 0\nJMP\n", None, "REFUSED 2 MissingOperand\n", 1)?;
+    check_fight(
+        &rt,
+        "DAT 0\n",
+        Some("JMP\n"),
+        "REFUSED 1 MissingOperand\n",
+        1,
+    )
+}
+
+/// A fight of which a file is missing.
+fn check_missing(
+    rt: &(impl Abort + Files + Net + AllocGlobal),
+    older: Option<&str>,
+    younger: Option<&str>,
+) -> Result<(), Fail> {
+    let ran = fight_of(rt, ["first.red", "second.red"], [older, younger])?;
+    assert_eq!(rt; ran.output.len(), 0);
+    assert_eq!(rt; ran.errors.as_slice(), b"DISK\n".as_slice());
+    assert_eq!(rt; ran.status, 3);
+    Ok(())
+}
+
+#[test]
+fn files_that_are_not_there(rt: HostRuntime) -> Result<(), Fail> {
+    check_missing(&rt, None, Some("JMP\n"))?;
+    check_missing(&rt, Some("DAT 0\n"), None)?;
+    check_missing(&rt, None, None)
+}

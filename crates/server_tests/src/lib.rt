@@ -1,0 +1,34 @@
+//! Tests of the public calls of `koth_session` and `koth_server`: of what no clause of them says.
+//!
+//! No crate stands on this one, so a check of the crates above waits for none of them. The helpers come first: `program` runs
+//! the program on words and an input, `streams` are a reader and writers that fail, `stores` are hills over devices in memory.
+//! Then a module a subject:
+//!
+//! - `words`: which words are faults, ask for help, or give settings;
+//! - `assembling`, `fights` and `hills`: what the commands write, how they end, and what they do to files;
+//! - `sessions` and `session_faults`: what a session answers, and how it ends where a stream or the device fails;
+//! - `service`: sessions over sockets, one after the other.
+//!
+//! What a contract says is proved there and not tried here.
+#![tactic(auto)]
+
+#[cfg(test)]
+mod assembling;
+#[cfg(test)]
+mod fights;
+#[cfg(test)]
+mod hills;
+#[cfg(test)]
+mod program;
+#[cfg(test)]
+mod service;
+#[cfg(test)]
+mod session_faults;
+#[cfg(test)]
+mod sessions;
+#[cfg(test)]
+mod stores;
+#[cfg(test)]
+mod streams;
+#[cfg(test)]
+mod words;

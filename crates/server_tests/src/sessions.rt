@@ -1,0 +1,58 @@
+use crate::stores::empty_hill;
+use koth_session::{Counted, SessionEnd, session};
+use std::process::Abort;
+use std::test::Fail;
+
+/// A session on an empty hill that is given these lines answers so, and ends so.
+fn check(
+    rt: &(impl Abort + AllocGlobal),
+    lines: &str,
+    answers: &str,
+    end: SessionEnd,
+) -> Result<(), Fail> {
+    let mut store = empty_hill(rt.alloc())?;
+    let mut input = Counted::new(lines.as_bytes());
+    let mut output = Counted::new(Vec::new(rt.alloc()));
+    let ended = session(rt.alloc(), &mut input, &mut output, &mut store);
+    assert_eq!(rt; ended, end, "at {answers}");
+    assert_eq!(rt; input.faults(), 0);
+    assert_eq!(rt; output.faults(), 0);
+    assert_eq!(rt; output.into_inner().as_slice(), answers.as_bytes());
+    Ok(())
+}
+
+/// Lines of a session, its answers, and whether it ends with `QUIT` or with its input.
+const ROWS: [(&str, &str, SessionEnd); 8] = [
+    (
+        "SUBMIT\nMOV 0,1\n.\nBOGUS\nQUIT\n",
+        "PLACED 1 1 0\nBAD\n",
+        SessionEnd::Quit,
+    ),
+    ("SUBMIT\nMOV 0,1\n", "", SessionEnd::EndOfInput),
+    ("SHOW\r\n", ".\n", SessionEnd::EndOfInput),
+    ("SHOW \nQUIT\n", "BAD\n", SessionEnd::Quit),
+    ("SUBMIT\n.\nQUIT\n", "REFUSED 0 Empty\n", SessionEnd::Quit),
+    (
+        "SUBMIT\n..\n.\nQUIT\n",
+        "REFUSED 1 BadOperation\n",
+        SessionEnd::Quit,
+    ),
+    (
+        "SUBMIT\n;name Imp\n;author A. K. Dewdney\nMOV 0,1\n.\nSHOW\nQUIT\nSHOW\n",
+        "PLACED 1 1 0\n1 1 0 0 Imp by A. K. Dewdney\n.\n",
+        SessionEnd::Quit,
+    ),
+    (
+        "SUBMIT\nMOV 0,1\n.\nSUBMIT\nJMP 0\n.\nSUBMIT\nDAT 0,0\n.\nSHOW\n",
+        "PLACED 1 1 0\nPLACED 2 2 2\nFELL 3 0\n1 1 2 1 Unnamed by Anonymous\n2 2 2 0 Unnamed by Anonymous\n.\n",
+        SessionEnd::EndOfInput,
+    ),
+];
+
+#[test]
+fn sessions(rt: HostRuntime) -> Result<(), Fail> {
+    for (lines, answers, end) in ROWS {
+        check(&rt, lines, answers, end)?;
+    }
+    Ok(())
+}

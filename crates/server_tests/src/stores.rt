@@ -1,0 +1,41 @@
+ghost use Rattle.std.specs.Prelude.{◌≡◌, false, IfOk, IfSome};
+
+use hill_store::Store;
+use sector_disk::{FuseDevice, FuseKind, MemoryDevice};
+use std::alloc::Global;
+use std::test::Fail;
+use war_types::{RawSettings, Settings};
+
+const SMALL: RawSettings = RawSettings {
+    core: 64,
+    cycles: 100,
+    processes: 8,
+    length: 10,
+    distance: 10,
+    rounds: 2,
+    seed: 1,
+    capacity: 2,
+};
+
+/// A hill of two without warriors.
+pub(crate) fn empty_hill(alloc: Global) -> Result<Store<MemoryDevice<Global>, Global>, Fail>
+    ensures { IfOk result (λ store. store.reopen ≡ false) }
+{
+    let device = MemoryDevice::new(alloc, 8)?;
+    match Store::create(alloc, device, Settings::new(SMALL)?) {
+        Ok(store) => Ok(store),
+        Err(_) => Err("it is created".into()),
+    }
+}
+
+/// The same over a device that fails once, behind so many calls, of which creating the hill makes five.
+pub(crate) fn failing_hill(
+    alloc: Global,
+    calls: u64,
+) -> Option<Store<FuseDevice<MemoryDevice<Global>>, Global>>
+    ensures { IfSome result (λ store. store.reopen ≡ false) }
+{
+    let settings = Settings::new(SMALL).ok()?;
+    let device = FuseDevice::new(MemoryDevice::new(alloc, 8).ok()?, calls, FuseKind::FailLost);
+    Store::create(alloc, device, settings).ok()
+}

@@ -1,0 +1,151 @@
+use crate::program::{check_on, run_on};
+use std::fs;
+use std::net::Net;
+use std::process::Abort;
+use std::rt::Files;
+use std::test::Fail;
+
+/// Words that have a fault: its message is written on the errors, and nothing is read.
+fn check_fault(
+    rt: &(impl Abort + Files + Net + AllocGlobal),
+    line: &str,
+    part: &str,
+) -> Result<(), Fail> {
+    let mut input = b"MOV 0, 1\n".as_slice();
+    let ran = run_on(rt, rt.alloc(), line, &mut input)?;
+    let message = str::from_utf8(ran.errors.as_slice())?;
+    assert!(rt; message.contains(part), "{message}");
+    assert!(rt; message.ends_with('\n'), "{message}");
+    assert_eq!(rt; ran.output.len(), 0);
+    assert_eq!(rt; ran.status, 2, "{message}");
+    assert_eq!(rt; input.len(), 9);
+    Ok(())
+}
+
+/// Words with a fault, and a part of what is told of it.
+const FAULTS: [(&str, &str); 20] = [
+    ("koth", "requires a subcommand"),
+    ("koth fly", "unrecognized subcommand 'fly'"),
+    ("koth ASM", "unrecognized subcommand 'ASM'"),
+    ("koth asm extra", "unexpected argument 'extra'"),
+    ("koth asm --size 64", "unexpected argument '--size'"),
+    ("koth asm --core", "a value is required for"),
+    ("koth asm --core x", "invalid value 'x'"),
+    ("koth asm --core=", "--core"),
+    ("koth asm --core=-1", "invalid value '-1'"),
+    (
+        "koth fight a b --seed 4294967296",
+        "invalid value '4294967296'",
+    ),
+    (
+        "koth asm --core 64 --core 64",
+        "cannot be used multiple times",
+    ),
+    ("koth fight a", "<B>"),
+    ("koth fight a b c", "unexpected argument 'c'"),
+    ("koth create", "<FILE>"),
+    ("koth submit f", "<SOURCE>"),
+    ("koth show f g", "unexpected argument 'g'"),
+    ("koth serve f --port 0", "--connections <N>"),
+    ("koth serve f --connections 0", "--port <P>"),
+    (
+        "koth serve f --port=65536 --connections=0",
+        "invalid value '65536'",
+    ),
+    ("koth audit f", "unrecognized subcommand 'audit'"),
+];
+
+#[test]
+fn faults_of_the_words(rt: HostRuntime) -> Result<(), Fail> {
+    for (line, part) in FAULTS {
+        check_fault(&rt, line, part)?;
+    }
+    Ok(())
+}
+
+/// Words that ask for help: it is written on the output.
+fn check_help(
+    rt: &(impl Abort + Files + Net + AllocGlobal),
+    line: &str,
+    part: &str,
+) -> Result<(), Fail> {
+    let ran = run_on(rt, rt.alloc(), line, &mut b"".as_slice())?;
+    let text = str::from_utf8(ran.output.as_slice())?;
+    assert!(rt; text.contains(part), "{text}");
+    assert_eq!(rt; ran.errors.len(), 0);
+    assert_eq!(rt; ran.status, 0, "{text}");
+    Ok(())
+}
+
+/// Words that ask for help, and a part of it.
+const HELPS: [(&str, &str); 11] = [
+    ("koth --help", "Usage: koth <COMMAND>"),
+    ("koth -h", "Usage: koth <COMMAND>"),
+    ("koth help", "Usage: koth <COMMAND>"),
+    ("koth asm --help", "Usage: koth asm"),
+    ("koth help asm", "Usage: koth asm"),
+    ("koth fight -h", "Usage: koth fight"),
+    ("koth fight --help", "1 to 1000000 [default: 80000]"),
+    ("koth create --help", "FILE"),
+    ("koth submit --help", "<FILE> <SOURCE>"),
+    ("koth help show", "Usage: koth show <FILE>"),
+    ("koth serve --help", "0 to 65535"),
+];
+
+#[test]
+fn help_is_written_to_the_output(rt: HostRuntime) -> Result<(), Fail> {
+    for (line, part) in HELPS {
+        check_help(&rt, line, part)?;
+    }
+    Ok(())
+}
+
+#[test]
+fn options_give_settings(rt: HostRuntime) -> Result<(), Fail> {
+    let text = "ORG 0\nDAT.F  $     0, $    -1\nEND\n";
+    let small = "koth asm --core 64 --length 10 --distance=10";
+    check_on(&rt, small, b"DAT 0, 63\n", text, "", 0)?;
+    check_on(&rt, "koth asm --core=+256", b"DAT 0, 255\n", text, "", 0)?;
+    let short = "koth asm --length 1";
+    check_on(&rt, short, b"DAT 0\nDAT 0\n", "REFUSED 0 TooLong\n", "", 1)?;
+    Ok(())
+}
+
+/// Options that give settings out of their ranges, and the first such field.
+const OUT_OF_RANGE: [(&str, &str); 10] = [
+    ("--core 63 --cycles 0", "Core"),
+    ("--core 4294967295", "Core"),
+    ("--cycles 0", "Cycles"),
+    ("--processes 65536", "Processes"),
+    ("--length 101", "Length"),
+    ("--distance 99", "Distance"),
+    ("--core 64", "Distance"),
+    ("--rounds 1001", "Rounds"),
+    ("--seed 0", "Seed"),
+    ("--capacity 21", "Capacity"),
+];
+
+/// A command with these options is refused for this field before anything is read.
+fn check_refused(
+    rt: &(impl Abort + Files + Net + AllocGlobal),
+    command: &str,
+    options: &str,
+    field: &str,
+) -> Result<(), Fail> {
+    let line = format!(in rt.alloc(); "koth {command} {options}")?;
+    let told = format!(in rt.alloc(); "BadSettings {field}\n")?;
+    let left = check_on(rt, line.as_str(), b"MOV 0, 1\n", "", told.as_str(), 1)?;
+    assert_eq!(rt; left, 9);
+    Ok(())
+}
+
+#[test]
+fn settings_are_refused_before_anything_is_read(rt: HostRuntime) -> Result<(), Fail> {
+    for (options, field) in OUT_OF_RANGE {
+        check_refused(&rt, "asm", options, field)?;
+        check_refused(&rt, "fight no_such_file no_such_file", options, field)?;
+        check_refused(&rt, "create no_such_file", options, field)?;
+    }
+    assert!(rt; !fs::exists(&rt, "no_such_file")?);
+    Ok(())
+}
