@@ -14,6 +14,3 @@ pub use hill::Hill;
 pub use member::Member;
 pub use row::Row;
 pub use verdict::Verdict;
-
-#[cfg(test)]
-mod tests;

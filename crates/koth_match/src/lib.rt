@@ -8,6 +8,3 @@ mod seeds;
 pub use bout::Bout;
 pub use rounds::fight;
 pub use seeds::{next_seed, position};
-
-#[cfg(test)]
-mod tests;

@@ -15,6 +15,3 @@ mod turn;
 
 pub use arena::Arena;
 pub use round::{Outcome, Side, Turned};
-
-#[cfg(test)]
-mod tests;

@@ -1,7 +1,7 @@
 ghost use Rattle.std.specs.Prelude.{◌≡◌, IfOk};
 ghost use Rattle.war_types.specs.Warrior.{Fits};
 
-use super::*;
+use koth_hill::{Hill, Verdict};
 use mars_core::Arena;
 use std::alloc::Global;
 use std::test::Fail;

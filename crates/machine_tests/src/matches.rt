@@ -1,4 +1,4 @@
-use super::*;
+use koth_match::{fight, next_seed, position};
 use mars_core::Arena;
 use std::alloc::Global;
 use std::test::Fail;

@@ -1,4 +1,4 @@
-use super::*;
+use mars_core::{Arena, Outcome, Side, Turned};
 use std::alloc::Global;
 use std::process::Abort;
 use std::test::Fail;

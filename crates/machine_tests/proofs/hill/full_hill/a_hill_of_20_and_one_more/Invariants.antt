@@ -1,6 +1,6 @@
 -- The arena has the hill's settings.
 use Rattle.std.specs.Prelude.{◌≡◌}
-use Rattle.koth_hill.proofs.tests.full_hill.a_hill_of_20_and_one_more.Given as goal
+use Rattle.machine_tests.proofs.hill.full_hill.a_hill_of_20_and_one_more.Given as goal
 
 abbrev pub invariant-loop-entry : goal.invariant-loop-entry
 invariant-loop-entry g l = l.arena.settings ≡ l.hill.settings

@@ -1,6 +1,6 @@
 -- The arena has the hill's settings.
 use Rattle.std.specs.Prelude.{◌≡◌}
-use Rattle.koth_hill.proofs.tests.full_hill.as_earned.Given as goal
+use Rattle.machine_tests.proofs.hill.full_hill.as_earned.Given as goal
 
 abbrev pub invariant-loop-row : goal.invariant-loop-row
 invariant-loop-row l = l.arena.settings ≡ l.hill.settings

@@ -1,0 +1,14 @@
+//! Tests of the public calls of `mars_core`, `koth_match` and `koth_hill`.
+//!
+//! No crate stands on this one, so those three are proved once, without tests, and the tests are proved over them.
+//! `machine` tries single turns and whole rounds, `matches` the seeds, places and counts of matches, and `hill` what a hill
+//! of few places and a full hill make of a warrior. What they expect was worked by hand, or is counted again in another way.
+//! A test here calls only what those crates offer to all others. It must not show what a contract could say instead.
+#![tactic(auto)]
+
+#[cfg(test)]
+mod hill;
+#[cfg(test)]
+mod machine;
+#[cfg(test)]
+mod matches;
