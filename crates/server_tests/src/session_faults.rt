@@ -1,7 +1,7 @@
+use crate::sessions::check;
 use crate::stores::{empty_hill, failing_hill};
 use crate::streams::{FailingReader, Padded};
 use koth_session::{Counted, SessionEnd, session};
-use std::process::Abort;
 use std::test::Fail;
 
 /// A session of which these tests take parts.
@@ -21,12 +21,8 @@ fn answers(count: usize) -> &'static str {
 #[test]
 fn every_prefix(rt: HostRuntime) -> Result<(), Fail> {
     for count in 0..LINES.len() {
-        let mut store = empty_hill(rt.alloc())?;
-        let mut output = Counted::new(Vec::new(rt.alloc()));
-        let mut input = Counted::new(&LINES[..count]);
-        let ended = session(rt.alloc(), &mut input, &mut output, &mut store);
-        assert_eq!(rt; ended, SessionEnd::EndOfInput);
-        assert_eq!(rt; output.into_inner().as_slice(), answers(count).as_bytes());
+        let faults = check(&rt, &LINES[..count], answers(count), SessionEnd::EndOfInput)?;
+        assert_eq!(rt; faults, 0);
     }
     Ok(())
 }
@@ -34,18 +30,14 @@ fn every_prefix(rt: HostRuntime) -> Result<(), Fail> {
 #[test]
 fn a_read_that_fails(rt: HostRuntime) -> Result<(), Fail> {
     for fails_at in 1..=7 {
-        let mut store = empty_hill(rt.alloc())?;
-        let mut output = Counted::new(Vec::new(rt.alloc()));
-        let mut input = Counted::new(FailingReader {
+        let lines = FailingReader {
             left: LINES,
             reads: 0,
             fails_at,
-        });
-        let ended = session(rt.alloc(), &mut input, &mut output, &mut store);
+        };
         let came = 4 * (fails_at as usize - 1);
-        assert_eq!(rt; ended, SessionEnd::ReadFault);
-        assert_eq!(rt; input.faults(), 1);
-        assert_eq!(rt; output.into_inner().as_slice(), answers(came).as_bytes());
+        let faults = check(&rt, lines, answers(came), SessionEnd::ReadFault)?;
+        assert_eq!(rt; faults, 1);
     }
     Ok(())
 }
@@ -86,26 +78,6 @@ fn a_device_that_fails(rt: HostRuntime) -> Result<(), Fail> {
     Ok(())
 }
 
-/// A session on an empty hill that ends so, behind these answers.
-fn check(
-    rt: &(impl Abort + AllocGlobal),
-    lines: Padded<'_>,
-    answers: &str,
-    end: SessionEnd,
-) -> Result<(), Fail> {
-    let mut store = empty_hill(rt.alloc())?;
-    let mut output = Counted::new(Vec::new(rt.alloc()));
-    let ended = session(
-        rt.alloc(),
-        &mut Counted::new(lines),
-        &mut output,
-        &mut store,
-    );
-    assert_eq!(rt; ended, end);
-    assert_eq!(rt; output.into_inner().as_slice(), answers.as_bytes());
-    Ok(())
-}
-
 #[test]
 fn a_line_without_end(rt: HostRuntime) -> Result<(), Fail> {
     let lines = Padded {
@@ -114,7 +86,8 @@ fn a_line_without_end(rt: HostRuntime) -> Result<(), Fail> {
         pads: usize::MAX,
         back: b"",
     };
-    check(&rt, lines, "", SessionEnd::Limit)
+    assert_eq!(rt; check(&rt, lines, "", SessionEnd::Limit)?, 0);
+    Ok(())
 }
 
 #[test]
@@ -125,7 +98,8 @@ fn the_last_byte_that_is_taken(rt: HostRuntime) -> Result<(), Fail> {
         pads: 16_777_210,
         back: b"\nQUIT\n",
     };
-    check(&rt, lines, "BAD\n", SessionEnd::Quit)
+    assert_eq!(rt; check(&rt, lines, "BAD\n", SessionEnd::Quit)?, 0);
+    Ok(())
 }
 
 #[test]
@@ -137,5 +111,6 @@ fn a_source_that_is_too_long(rt: HostRuntime) -> Result<(), Fail> {
         back: b".\nQUIT\n",
     };
     let answer = "REFUSED 0 SourceTooLong\n";
-    check(&rt, lines, answer, SessionEnd::Quit)
+    assert_eq!(rt; check(&rt, lines, answer, SessionEnd::Quit)?, 0);
+    Ok(())
 }
