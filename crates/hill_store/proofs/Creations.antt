@@ -8,7 +8,7 @@ use Rattle.sector_disk.proofs.Images.{settled-synced}
 use Rattle.koth_hill.specs.Step.{new_hill}
 use Rattle.hill_store.specs.declared.reply.Refusal.{Refusal}
 use Rattle.hill_store.specs.declared.reply.Refusal.TheVariants as refusals
-use Rattle.hill_store.specs.Layout.{HeaderParts, sectors_for}
+use Rattle.hill_bytes.specs.Layout.{HeaderParts, sectors_for}
 use Rattle.hill_store.specs.Stands.{IsReady}
 use Rattle.hill_store.specs.Places.{commits}
 use Rattle.hill_store.specs.Opened.{IsKept, Rose, HoldsNone, first_header, IsCreationCut, IsFirst, IsNotFirst}

@@ -8,7 +8,7 @@ use Rattle.sector_disk.proofs.Images.{images_read, images_sync}
 use Rattle.koth_hill.specs.Hill.{Hill}
 use Rattle.hill_store.specs.declared.reply.Refusal.{Refusal}
 use Rattle.hill_store.specs.declared.reply.Refusal.TheVariants as refusals
-use Rattle.hill_store.specs.Layout.{HeaderParts, sectors_for}
+use Rattle.hill_bytes.specs.Layout.{HeaderParts, sectors_for}
 use Rattle.hill_store.specs.Earned.{earned}
 use Rattle.hill_store.specs.Stands.{Shows, Stands, StandsFor, Holds}
 use Rattle.hill_store.specs.Seen.{Seen}

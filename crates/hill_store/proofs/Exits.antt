@@ -11,7 +11,7 @@ use Rattle.koth_hill.specs.Step.{falling, stays, verdict, step, after_stay, afte
 use Rattle.koth_hill.proofs.Admitted.{IsHill-after_stay}
 use Rattle.hill_store.specs.declared.reply.Reply.{Reply}
 use Rattle.hill_store.specs.declared.reply.Reply.TheVariants as replies
-use Rattle.hill_store.specs.Layout.{HeaderParts, IsHeaderParts, SlotIsFree, IsTitled, sectors_for}
+use Rattle.hill_bytes.specs.Layout.{HeaderParts, IsHeaderParts, SlotIsFree, IsTitled, sectors_for}
 use Rattle.hill_store.specs.Stands.{Stands}
 use Rattle.hill_store.specs.Earned.{reply_judged}
 use Rattle.hill_store.specs.Seen.{Seen, IsSound, IsAnswered, Challenges}

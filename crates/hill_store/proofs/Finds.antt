@@ -1,10 +1,10 @@
 -- The newest of the headers found.
 use Rattle.std.proofs.Common.{◌≡◌, ◌≢◌, ℕ, inl, inr, ◌%◌, ◌<◌, ◌≤◌, List, Option, Some, None, sym, ap, subst, ◌∙◌, arith}
 use Rattle.std.proofs.lemmas.Bool.{cases_eq}
-use Rattle.hill_store.specs.Layout.{HeaderParts, IsHeader}
+use Rattle.hill_bytes.specs.Layout.{HeaderParts, IsHeader}
 use Rattle.hill_store.specs.Stands.{IsNewest}
 use Rattle.hill_store.specs.Found.{IsFoundIn, IsNewestFound}
-use Rattle.hill_store.proofs.Codes.{one_header}
+use Rattle.hill_bytes.proofs.Codes.{one_header}
 use Rattle.hill_store.proofs.Newest.{parity_low}
 
 -- a header of the other parity is not the sector's, and no other is there

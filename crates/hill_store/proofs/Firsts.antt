@@ -10,11 +10,11 @@ use Rattle.sector_disk.specs.Changes.{after, Begun}
 use Rattle.sector_disk.proofs.Images.{put-same, put-other, current-wrote, image-current, images_read, images_write, images_settled, images_sync, settled-synced}
 use Rattle.koth_hill.specs.Hill.{IsHill, MayStand}
 use Rattle.koth_hill.specs.Step.{new_hill}
-use Rattle.hill_store.specs.Layout.{HeaderParts, IsHeaderParts, IsHeader, IsEntry, header_bytes, sectors_for}
+use Rattle.hill_bytes.specs.Layout.{HeaderParts, IsHeaderParts, IsHeader, IsEntry, header_bytes, sectors_for}
 use Rattle.hill_store.specs.Stands.{IsNewest, Shows, Stands, IsReady}
 use Rattle.hill_store.specs.Places.{commits}
 use Rattle.hill_store.specs.Opened.{HoldsNone, first_header}
-use Rattle.hill_store.proofs.Codes.{one_header}
+use Rattle.hill_bytes.proofs.Codes.{one_header}
 
 pub first_fits : (s : RawSettings) → AreSettings s → IsHeaderParts (first_header s)
 first_fits s are = record {

@@ -5,8 +5,8 @@ use Rattle.sector_disk.specs.Image.{put}
 use Rattle.sector_disk.proofs.Images.{put-other}
 use Rattle.koth_hill.specs.Hill.{Member}
 use Rattle.koth_hill.specs.Step.{is_entry, without, one_older}
-use Rattle.hill_store.specs.declared.header.HeaderEntry.{HeaderEntry}
-use Rattle.hill_store.specs.Layout.{IsSlot, SlotIsFree, front_sector, back_sector}
+use Rattle.hill_bytes.specs.declared.header.HeaderEntry.{HeaderEntry}
+use Rattle.hill_bytes.specs.Layout.{IsSlot, SlotIsFree, front_sector, back_sector}
 use Rattle.hill_store.specs.Stands.{IsHeld, AllHeld}
 use Rattle.hill_store.specs.Places.{kept_entries}
 

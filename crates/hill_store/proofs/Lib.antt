@@ -1,5 +1,3 @@
-pub mod Rows
-pub mod Codes
 pub mod Held
 pub mod Newest
 pub mod Stops
@@ -12,11 +10,6 @@ pub mod Firsts
 pub mod Recovered
 pub mod Creations
 pub mod Openings
-pub mod HeaderBytes
-pub mod Writes
-pub mod OneHeader
 pub mod Lists
-pub mod SlotBytes
-pub mod OneSlot
 pub mod Holdings
 pub mod Decided

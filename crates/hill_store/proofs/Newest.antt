@@ -7,10 +7,10 @@ use Rattle.sector_disk.proofs.Images.{put-same, put-other}
 use Rattle.koth_hill.specs.Hill.{Member, Hill}
 use Rattle.war_types.specs.declared.settings.RawSettings.{RawSettings}
 use Rattle.war_types.specs.Settings.{AreSettings}
-use Rattle.hill_store.specs.declared.header.HeaderEntry.{HeaderEntry}
-use Rattle.hill_store.specs.Layout.{HeaderParts, IsHeaderParts, IsHeader, header_bytes, front_sector, back_sector}
+use Rattle.hill_bytes.specs.declared.header.HeaderEntry.{HeaderEntry}
+use Rattle.hill_bytes.specs.Layout.{HeaderParts, IsHeaderParts, IsHeader, header_bytes, front_sector, back_sector}
 use Rattle.hill_store.specs.Stands.{IsNewest, IsHeld, AllHeld, Shows, Stands}
-use Rattle.hill_store.proofs.Codes.{one_header, one_slot}
+use Rattle.hill_bytes.proofs.Codes.{one_header, one_slot}
 
 -- the sector of a generation is one of the first two
 pub parity_low : (generation : ℕ) → generation % 2 < 2

@@ -6,8 +6,8 @@ use Rattle.sector_disk.specs.Image.{put}
 use Rattle.sector_disk.proofs.Images.{put-same, put-other}
 use Rattle.koth_hill.specs.Hill.{Member, Hill}
 use Rattle.koth_hill.specs.Step.{without, one_older, challenger, after_stay, after_fall}
-use Rattle.hill_store.specs.declared.header.HeaderEntry.{HeaderEntry}
-use Rattle.hill_store.specs.Layout.{HeaderParts, IsHeaderParts, SlotIsFree, IsSlot, front_bytes, back_bytes, front_sector, back_sector}
+use Rattle.hill_bytes.specs.declared.header.HeaderEntry.{HeaderEntry}
+use Rattle.hill_bytes.specs.Layout.{HeaderParts, IsHeaderParts, SlotIsFree, IsSlot, front_bytes, back_bytes, front_sector, back_sector}
 use Rattle.hill_store.specs.Stands.{AllHeld, Shows}
 use Rattle.hill_store.specs.Seen.{Agree}
 use Rattle.hill_store.specs.Places.{kept_entries, new_entry, header_placed, header_passed}

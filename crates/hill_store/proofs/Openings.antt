@@ -6,7 +6,7 @@ use Rattle.sector_disk.proofs.Images.{settled-synced}
 use Rattle.koth_hill.specs.Hill.{Hill}
 use Rattle.hill_store.specs.declared.reply.Refusal.{Refusal}
 use Rattle.hill_store.specs.declared.reply.Refusal.TheVariants as refusals
-use Rattle.hill_store.specs.Layout.{HeaderParts, sectors_for}
+use Rattle.hill_bytes.specs.Layout.{HeaderParts, sectors_for}
 use Rattle.hill_store.specs.Stands.{IsNewest, AllHeld, Shows}
 use Rattle.hill_store.specs.Opened.{IsKept, HillRead, HillRefused, IsHillFound, IsRecovered, IsNotOpened, Refuses}
 use Rattle.hill_store.proofs.Recovered.{rose_more}

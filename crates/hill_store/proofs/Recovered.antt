@@ -6,8 +6,8 @@ use Rattle.war_types.specs.declared.settings.RawSettings.{RawSettings}
 use Rattle.war_types.specs.Warrior.{WarriorParts}
 use Rattle.sector_disk.specs.Disk.{Disk, current}
 use Rattle.koth_hill.specs.Hill.{Member, Hill, IsHill, hill_of, member_of, last_entry, last_entry_from}
-use Rattle.hill_store.specs.declared.header.HeaderEntry.{HeaderEntry}
-use Rattle.hill_store.specs.Layout.{HeaderParts, IsHeaderParts, IsEntry, EntriesRise}
+use Rattle.hill_bytes.specs.declared.header.HeaderEntry.{HeaderEntry}
+use Rattle.hill_bytes.specs.Layout.{HeaderParts, IsHeaderParts, IsEntry, EntriesRise}
 use Rattle.hill_store.specs.Stands.{IsHeld, AllHeld}
 use Rattle.hill_store.specs.Seen.{Agree}
 use Rattle.hill_store.specs.Opened.{IsKept, Rose, SlotHolds, WarriorRead, WarriorNotRead, HillRead, HillNotRead}

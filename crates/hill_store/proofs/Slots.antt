@@ -3,8 +3,8 @@ use Rattle.std.proofs.Common.{◌≡◌, ◌≢◌, ◌⊎◌, true≢false, tak
 use Rattle.std.proofs.lemmas.List.{take_more}
 use Rattle.std.proofs.lemmas.Bool.{cases_eq, ne_eqb}
 use Rattle.koth_hill.specs.Step.{is_entry}
-use Rattle.hill_store.specs.declared.header.HeaderEntry.{HeaderEntry}
-use Rattle.hill_store.specs.Layout.{SlotIsFree}
+use Rattle.hill_bytes.specs.declared.header.HeaderEntry.{HeaderEntry}
+use Rattle.hill_bytes.specs.Layout.{SlotIsFree}
 use Rattle.hill_store.specs.Places.{has_slot, kept_entries}
 
 -- an if at two slots' numbers

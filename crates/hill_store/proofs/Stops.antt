@@ -6,7 +6,7 @@ use Rattle.sector_disk.specs.Image.{Images, put}
 use Rattle.sector_disk.specs.Changes.{after, Begun}
 use Rattle.sector_disk.proofs.Images.{current-wrote, images_read, images_write, images_settled, images_sync, settled-synced}
 use Rattle.koth_hill.specs.Hill.{Hill}
-use Rattle.hill_store.specs.Layout.{HeaderParts, IsHeaderParts, SlotIsFree, header_bytes, front_bytes, back_bytes, front_sector, back_sector}
+use Rattle.hill_bytes.specs.Layout.{HeaderParts, IsHeaderParts, SlotIsFree, header_bytes, front_bytes, back_bytes, front_sector, back_sector}
 use Rattle.hill_store.specs.Stands.{IsNewest, AllHeld, Shows, IsReady}
 use Rattle.hill_store.specs.Places.{slot_writes, commits, places}
 use Rattle.hill_store.proofs.Held.{Apart, apart_headers, apart_front, apart_back, held_elsewhere}

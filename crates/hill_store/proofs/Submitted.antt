@@ -11,8 +11,8 @@ use Rattle.sector_disk.proofs.Images.{images_settled}
 use Rattle.koth_hill.specs.declared.verdict.Verdict.{Verdict}
 use Rattle.koth_hill.specs.Hill.{Member, Hill, IsHill, MayStand, RiseFrom}
 use Rattle.koth_hill.specs.Step.{is_entry, without, one_older, challenger, falling, stays, verdict, step, after_stay, after_fall}
-use Rattle.hill_store.specs.declared.header.HeaderEntry.{HeaderEntry}
-use Rattle.hill_store.specs.Layout.{HeaderParts, IsHeaderParts, IsEntry, EntriesRise, SlotsDiffer, SlotIsFree, IsTitled, sectors_for}
+use Rattle.hill_bytes.specs.declared.header.HeaderEntry.{HeaderEntry}
+use Rattle.hill_bytes.specs.Layout.{HeaderParts, IsHeaderParts, IsEntry, EntriesRise, SlotsDiffer, SlotIsFree, IsTitled, sectors_for}
 use Rattle.hill_store.specs.Stands.{Stands, IsReady}
 use Rattle.hill_store.specs.Seen.{Agree, IsNamed}
 use Rattle.hill_store.specs.Places.{kept_entries, new_entry, header_placed, header_passed, commits, places}

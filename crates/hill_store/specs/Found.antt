@@ -1,6 +1,6 @@
 -- What is found in the sectors of the headers.
 use Rattle.std.specs.Prelude.{◌≡◌, ℕ, ◌%◌, List, Option, Some, None}
-use Rattle.hill_store.specs.Layout.{HeaderParts, IsHeader}
+use Rattle.hill_bytes.specs.Layout.{HeaderParts, IsHeader}
 use Rattle.hill_store.specs.Stands.{IsNewest}
 
 -- what these bytes are as sector n: the valid header, or nothing only where there is none

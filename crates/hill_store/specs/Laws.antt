@@ -4,7 +4,7 @@ use Rattle.war_types.specs.declared.settings.RawSettings.{RawSettings}
 use Rattle.war_types.specs.Settings.{AreSettings}
 use Rattle.war_types.specs.Warrior.{WarriorParts}
 use Rattle.koth_hill.specs.Hill.{Hill}
-use Rattle.hill_store.specs.Layout.{HeaderParts, IsHeader, IsSlot}
+use Rattle.hill_bytes.specs.Layout.{HeaderParts, IsHeader, IsSlot}
 use Rattle.hill_store.specs.Stands.{Stands}
 
 pub record LawsOfStorage : Type 0 where

@@ -1,4 +1,3 @@
-pub mod Layout
 pub mod Earned
 pub mod Stands
 pub mod Places

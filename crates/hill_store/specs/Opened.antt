@@ -10,7 +10,7 @@ use Rattle.koth_hill.specs.Hill.{Member, Hill, IsHill}
 use Rattle.koth_hill.specs.Step.{new_hill}
 use Rattle.hill_store.specs.declared.reply.Refusal.{Refusal}
 use Rattle.hill_store.specs.declared.reply.Refusal.TheVariants as refusals
-use Rattle.hill_store.specs.Layout.{HeaderParts, IsHeaderParts, header_parts, IsHeader, IsSlot, front_sector, back_sector, sectors_for}
+use Rattle.hill_bytes.specs.Layout.{HeaderParts, IsHeaderParts, header_parts, IsHeader, IsSlot, front_sector, back_sector, sectors_for}
 use Rattle.hill_store.specs.Stands.{IsNewest, AllHeld, Shows, Stands, IsReady}
 use Rattle.hill_store.specs.Seen.{Seen, IsNamed, IsSound}
 

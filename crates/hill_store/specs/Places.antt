@@ -3,8 +3,8 @@ use Rattle.std.specs.Prelude.{ℕ, ◌+◌, ◌-◌, ◌^◌, ◌%◌, ◌<◌, 
 use Rattle.war_types.specs.Warrior.{WarriorParts}
 use Rattle.sector_disk.specs.Disk.{Disk, wrote, synced}
 use Rattle.koth_hill.specs.Step.{is_entry}
-use Rattle.hill_store.specs.declared.header.HeaderEntry.{HeaderEntry}
-use Rattle.hill_store.specs.Layout.{HeaderParts, header_parts, header_bytes, front_bytes, back_bytes, front_sector, back_sector}
+use Rattle.hill_bytes.specs.declared.header.HeaderEntry.{HeaderEntry}
+use Rattle.hill_bytes.specs.Layout.{HeaderParts, header_parts, header_bytes, front_bytes, back_bytes, front_sector, back_sector}
 
 -- both sectors of a slot
 abbrev pub slot_writes : ℕ → WarriorParts → List (Disk → Disk)

@@ -6,10 +6,10 @@ use Rattle.sector_disk.specs.Disk.{Disk}
 use Rattle.sector_disk.specs.Image.{Images}
 use Rattle.koth_hill.specs.Hill.{Member, Hill, IsHill}
 use Rattle.redcode_asm.specs.Assembly.{assembly}
-use Rattle.hill_store.specs.declared.header.HeaderEntry.{HeaderEntry}
+use Rattle.hill_bytes.specs.declared.header.HeaderEntry.{HeaderEntry}
 use Rattle.hill_store.specs.declared.reply.Reply.{Reply}
 use Rattle.hill_store.specs.declared.reply.Reply.TheVariants as replies
-use Rattle.hill_store.specs.Layout.{HeaderParts, IsHeaderParts, sectors_for}
+use Rattle.hill_bytes.specs.Layout.{HeaderParts, IsHeaderParts, sectors_for}
 use Rattle.hill_store.specs.Stands.{IsReady, Stands}
 use Rattle.hill_store.specs.Earned.{reply_of, step_source, reply_judged}
 use Rattle.koth_hill.specs.Step.{step, verdict}

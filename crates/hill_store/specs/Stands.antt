@@ -4,8 +4,8 @@ use Rattle.war_types.specs.declared.settings.RawSettings.{RawSettings}
 use Rattle.sector_disk.specs.Disk.{Disk, current, IsSettled}
 use Rattle.sector_disk.specs.Image.{Images}
 use Rattle.koth_hill.specs.Hill.{Member, Hill}
-use Rattle.hill_store.specs.declared.header.HeaderEntry.{HeaderEntry}
-use Rattle.hill_store.specs.Layout.{HeaderParts, IsHeader, IsSlot, front_sector, back_sector, sectors_for}
+use Rattle.hill_bytes.specs.declared.header.HeaderEntry.{HeaderEntry}
+use Rattle.hill_bytes.specs.Layout.{HeaderParts, IsHeader, IsSlot, front_sector, back_sector, sectors_for}
 use Rattle.hill_store.specs.Earned.{earned}
 
 -- the valid header of greatest generation; one is valid in the sector of its generation's parity

@@ -3,11 +3,10 @@
 ghost use Rattle.std.specs.Prelude.{◌≡◌, ◌<◌, ◌≤◌};
 ghost use Rattle.sector_disk.specs.Changes.{Changes};
 ghost use Rattle.sector_disk.specs.Served.{IsServed};
-ghost use Rattle.hill_store.specs.Layout.{front_bytes, back_bytes, back_sector, IsTitled};
+ghost use Rattle.hill_bytes.specs.Layout.{front_bytes, back_bytes, back_sector, IsTitled};
 ghost use Rattle.hill_store.specs.Places.{commits, places};
 
-use crate::header::{Header, encode_header};
-use crate::slot::Slot;
+use hill_bytes::{Header, Slot, encode_header};
 use sector_disk::{Device, Fault};
 use std::alloc::Allocator;
 use war_types::Warrior;

@@ -2,10 +2,10 @@
 
 ghost use Rattle.std.specs.Prelude.{◌≡◌, ℕ, ◌+◌, ◌-◌, ◌^◌, ◌≤◌, ◌<◌, ◌++◌, [], ◌∷◌, length, true};
 ghost use Rattle.koth_hill.specs.Step.{is_entry};
-ghost use Rattle.hill_store.specs.Layout.{IsHeaderParts, SlotIsFree};
+ghost use Rattle.hill_bytes.specs.Layout.{IsHeaderParts, SlotIsFree};
 ghost use Rattle.hill_store.specs.Places.{kept_entries, header_placed, header_passed, has_slot, CanGrow};
 
-use crate::header::{Header, HeaderEntry};
+use hill_bytes::{Header, HeaderEntry};
 use std::marker::Model;
 
 /// Entries that a header has room for.
@@ -26,7 +26,7 @@ struct Entries {
 
 impl Model for Entries {
     ghost use Rattle.std.specs.Prelude.{List, take, ◌≤◌};
-    ghost use Rattle.hill_store.specs.declared.header.HeaderEntry.{HeaderEntry};
+    ghost use Rattle.hill_bytes.specs.declared.header.HeaderEntry.{HeaderEntry};
 
     ghost Value = { List HeaderEntry };
 

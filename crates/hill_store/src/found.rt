@@ -4,10 +4,10 @@ ghost use Rattle.std.specs.Prelude.{◌≡◌, ℕ, ◌%◌, ◌<◌, ◌≤◌,
 ghost use Rattle.sector_disk.specs.Disk.{current};
 ghost use Rattle.sector_disk.specs.Served.{IsServed};
 ghost use Rattle.hill_store.specs.Found.{IsFoundIn, IsNewestFound};
-ghost use Rattle.hill_store.specs.Layout.{IsHeader};
+ghost use Rattle.hill_bytes.specs.Layout.{IsHeader};
 ghost use Rattle.hill_store.specs.Stands.{IsNewest};
 
-use crate::header::{Header, decode_header};
+use hill_bytes::{Header, decode_header};
 use sector_disk::{Device, Fault};
 
 /// The newest header on a device; `None` where it holds none. Nothing is written.

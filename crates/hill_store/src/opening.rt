@@ -8,7 +8,7 @@ ghost use Rattle.sector_disk.specs.Image.{Images};
 ghost use Rattle.sector_disk.specs.Changes.{Changes, Begun};
 ghost use Rattle.sector_disk.specs.Served.{IsServed};
 ghost use Rattle.koth_hill.specs.Hill.{Hill as HillParts, IsHill};
-ghost use Rattle.hill_store.specs.Layout.{IsHeaderParts, sectors_for, front_sector, back_sector};
+ghost use Rattle.hill_bytes.specs.Layout.{IsHeaderParts, sectors_for, front_sector, back_sector};
 ghost use Rattle.hill_store.specs.Found.{IsNewestFound};
 ghost use Rattle.hill_store.specs.Places.{commits};
 ghost use Rattle.hill_store.specs.Seen.{IsNamed};
@@ -16,9 +16,8 @@ ghost use Rattle.hill_store.specs.Opened.{IsKept, IsFirst, IsNotFirst, first_hea
 
 use crate::durable::commit;
 use crate::found::newest_header;
-use crate::header::Header;
 use crate::reply::Refusal;
-use crate::slot::Slot;
+use hill_bytes::{Header, Slot};
 use koth_hill::Hill;
 use mars_core::Arena;
 use sector_disk::{Device, Fault};

@@ -15,9 +15,9 @@ ghost use Rattle.hill_store.specs.Seen.{Seen, IsAnswered, IsCut, IsLeft, Submits
 
 use crate::durable::{commit, place};
 use crate::entries::{free_slot, header_passed, header_placed};
-use crate::header::Header;
 use crate::opening::{recover, sectors_for, write_first};
 use crate::reply::{Refusal, Reply};
+use hill_bytes::Header;
 use koth_hill::{Hill, Row, Verdict};
 use mars_core::Arena;
 use redcode_asm::assemble;

@@ -1,3 +1,5 @@
+mod Carried
+mod Commands
 mod Ends
 mod Entered
 mod Named

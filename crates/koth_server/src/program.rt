@@ -7,7 +7,7 @@ ghost use Rattle.war_types.specs.Settings.{settings_of};
 ghost use Rattle.koth_server.specs.Asm.{EndsAsm};
 ghost use Rattle.koth_server.specs.Fight.{EndsFight};
 ghost use Rattle.koth_server.specs.Hills.{EndsCreate, EndsHill, EndsServe, SaysReply, SaysTable};
-ghost use Rattle.koth_server.specs.Run.{Leaves};
+ghost use Rattle.koth_server.specs.Run.{EndsRequest, EndsWithout, Leaves};
 ghost use Rattle.koth_server.specs.Streams.{streams};
 ghost use Rattle.koth_server.specs.Words.{koth_app, settings_named, AreWrong, AsksFor};
 
@@ -115,20 +115,49 @@ fn carry_out<R: Files + Net, A: Allocator + Copy, I: Read, O: Write, E: Write>(
         × Keeps (O.contents output.old) (O.contents output.new) }
 {
     match parse(heap, words) {
-        Ok(Request::Asm(given)) => asm(alloc, given, input, output, errors),
-        Ok(Request::Fight(given, files)) => fight(rt, alloc, given, files, output, errors),
-        Ok(Request::Create(given, file)) => create(rt, alloc, given, file, output, errors),
-        Ok(Request::Submit(files)) => submit(rt, alloc, files, output, errors),
-        Ok(Request::Show(file)) => show(rt, alloc, file, output, errors),
-        Ok(Request::Serve(service)) => serve(rt, alloc, service, output, errors),
-        Err(NoRequest::Help(text)) => match write_whole(output, text.as_bytes()) {
+        Ok(request) => fulfil(rt, alloc, request, input, output, errors),
+        Err(none) => explain(none, output, errors),
+    }
+}
+
+/// Carries out a request.
+fn fulfil<R: Files + Net, A: Allocator + Copy, I: Read, O: Write, E: Write>(
+    rt: &R,
+    alloc: A,
+    request: Request<'_>,
+    input: &mut I,
+    output: &mut O,
+    errors: &mut E,
+) -> Status
+    ensures { EndsRequest request.entry result
+        (streams (I.remaining input.old) (O.contents output.old) (E.contents errors.old))
+        (streams (I.remaining input.new) (O.contents output.new) (E.contents errors.new)) }
+{
+    match request {
+        Request::Asm(given) => asm(alloc, given, input, output, errors),
+        Request::Fight(given, files) => fight(rt, alloc, given, files, output, errors),
+        Request::Create(given, file) => create(rt, alloc, given, file, output, errors),
+        Request::Submit(files) => submit(rt, alloc, files, output, errors),
+        Request::Show(file) => show(rt, alloc, file, output, errors),
+        Request::Serve(service) => serve(rt, alloc, service, output, errors),
+    }
+}
+
+/// Tells why the words ask for nothing that is done: help on the output, a fault on the errors.
+fn explain<O: Write, E: Write>(none: NoRequest, output: &mut O, errors: &mut E) -> Status
+    ensures { EndsWithout none result
+        (streams None (O.contents output.old) (E.contents errors.old))
+        (streams None (O.contents output.new) (E.contents errors.new)) }
+{
+    match none {
+        NoRequest::Help(text) => match write_whole(output, text.as_bytes()) {
             Ok(()) => Status::Done,
             Err(StreamFault) => Failure::Stream.tell(errors),
         },
-        Err(NoRequest::WordFault(text)) => {
+        NoRequest::WordFault(text) => {
             let _ = write_whole(errors, text.as_bytes());
             Status::WordFault
         }
-        Err(NoRequest::Memory) => Failure::Memory.tell(errors),
+        NoRequest::Memory => Failure::Memory.tell(errors),
     }
 }

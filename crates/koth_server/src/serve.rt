@@ -148,7 +148,7 @@ where
 
 /// Serves one connection, and gives the store back unless the device failed. A peer that is silent for too long ends its session as
 /// one whose bytes can't be read.
-fn serve_connection<S, D, A>(alloc: A, stream: S, mut store: Store<D, A>) -> Option<Store<D, A>>
+fn serve_connection<S, D, A>(alloc: A, stream: S, store: Store<D, A>) -> Option<Store<D, A>>
 where
     S: Read + Write + OpenStream + Drop,
     D: Device + Drop,
@@ -162,10 +162,28 @@ where
     let Ok(reading) = stream.try_clone() else {
         return Some(store);
     };
+    serve_session(alloc, reading, stream, store)
+}
+
+/// Serves a session on the two sides of a connection, and gives the store back unless the device failed.
+fn serve_session<I, O, D, A>(
+    alloc: A,
+    reading: I,
+    writing: O,
+    mut store: Store<D, A>,
+) -> Option<Store<D, A>>
+where
+    I: Read + Drop,
+    O: Write + Drop,
+    D: Device + Drop,
+    A: Allocator + Copy,
+    requires { store.reopen ≡ false }
+    ensures { IfSome result (λ store. store.reopen ≡ false) }
+{
     match session(
         alloc,
         &mut Counted::new(reading),
-        &mut Counted::new(stream),
+        &mut Counted::new(writing),
         &mut store,
     ) {
         SessionEnd::StoreFailed => None,

@@ -12,3 +12,5 @@ mod hill;
 mod machine;
 #[cfg(test)]
 mod matches;
+#[cfg(test)]
+mod warriors;

@@ -1,24 +1,14 @@
+use crate::warriors::{SMALL, dat, direct, imp, instr, stay, warrior};
 use mars_core::{Arena, Outcome, Side, Turned};
 use std::alloc::Global;
 use std::process::Abort;
 use std::test::Fail;
-use war_types::{Instr, Mode, Modifier, Op, RawSettings, Settings, Title, Warrior};
+use war_types::{Instr, Mode, Modifier, Op, RawSettings, Settings};
 
 mod modes;
 mod operations;
 mod rounds;
 mod vectors;
-
-const SMALL: RawSettings = RawSettings {
-    core: 64,
-    cycles: 100,
-    processes: 8,
-    length: 10,
-    distance: 10,
-    rounds: 2,
-    seed: 1,
-    capacity: 2,
-};
 
 const MODIFIERS: [Modifier; 7] = [
     Modifier::A,
@@ -30,44 +20,95 @@ const MODIFIERS: [Modifier; 7] = [
     Modifier::I,
 ];
 
-fn instr(op: Op, modifier: Modifier, a_mode: Mode, a: u16, b_mode: Mode, b: u16) -> Instr {
-    Instr {
-        op,
-        modifier,
-        a_mode,
-        a,
-        b_mode,
-        b,
+/// A round of these two codes, the first loaded at 0 and the second at `place`.
+fn begun(
+    alloc: Global,
+    settings: &Settings,
+    codes: [&[Instr]; 2],
+    place: u16,
+    first: Side,
+) -> Result<Arena<Global>, Fail> {
+    let (at, core) = (usize::from(place), usize::from(settings.core()));
+    if codes[0].len() > at || at > core || codes[1].len() > core - at {
+        return Err("they have no room".into());
     }
-}
-
-/// An instruction with two direct operands.
-fn direct(op: Op, modifier: Modifier, a: u16, b: u16) -> Instr {
-    instr(op, modifier, Mode::Direct, a, Mode::Direct, b)
-}
-
-fn dat(a: u16, b: u16) -> Instr {
-    direct(Op::Dat, Modifier::F, a, b)
-}
-
-fn warrior(alloc: Global, code: &[Instr], settings: &Settings) -> Result<Warrior<Global>, Fail> {
-    let title = Title::new(b"", "Test");
-    let author = Title::new(b"", "Test");
-    let code = Vec::from_slice(alloc, code)?;
-    Ok(Warrior::new(code, 0, title, author, settings).ok_or("it fits")?)
+    let older = warrior(alloc, codes[0], settings)?;
+    let younger = warrior(alloc, codes[1], settings)?;
+    let mut arena = Arena::new(alloc, settings)?;
+    arena.begin(&older, &younger, place, first);
+    Ok(arena)
 }
 
 /// An arena in which the first side, with this code at 0, is to move; the second has a DAT at 32.
 fn arena_of(alloc: Global, code: &[Instr]) -> Result<Arena<Global>, Fail> {
     let settings = Settings::new(SMALL)?;
-    let mut arena = Arena::new(alloc, &settings)?;
-    let first = warrior(alloc, code, &settings)?;
-    let second = warrior(alloc, &[dat(0, 0)], &settings)?;
-    if !first.fits(&settings) || !second.fits(&settings) || first.code().len() > 32 {
-        return Err("it fits".into());
+    begun(alloc, &settings, [code, &[dat(0, 0)]], 32, Side::First)
+}
+
+fn is_cell(arena: &Arena<Global>, at: u16, due: Instr) -> bool {
+    arena.cell(at) == Some(due)
+}
+
+fn is_process(arena: &Arena<Global>, side: Side, i: u32, due: Option<u16>) -> bool {
+    arena.process(side, i) == due
+}
+
+/// The first address whose cell is not one of these, or not `DAT 0, 0` behind them.
+fn wrong_cell(arena: &Arena<Global>, due: &[Instr]) -> Option<u16> {
+    for at in 0..64u16 {
+        let cell = match due.get(usize::from(at)) {
+            Some(i) => *i,
+            None => dat(0, 0),
+        };
+        if !is_cell(arena, at, cell) {
+            return Some(at);
+        }
     }
-    arena.begin(&first, &second, 32, Side::First);
-    Ok(arena)
+    None
+}
+
+/// The first of nine places in the first side's queue that has another address than this one.
+fn wrong_process(arena: &Arena<Global>, due: &[u16]) -> Option<u32> {
+    for i in 0..9u32 {
+        if !is_process(arena, Side::First, i, due.get(i as usize).copied()) {
+            return Some(i);
+        }
+    }
+    None
+}
+
+fn check_process(rt: &impl Abort, arena: &Arena<Global>, side: Side, i: u32, due: Option<u16>) {
+    assert_eq!(rt; arena.process(side, i), due, "process {i}");
+}
+
+fn check_count(rt: &impl Abort, arena: &Arena<Global>, side: Side, due: usize) {
+    assert_eq!(rt; arena.processes(side) as usize, due);
+}
+
+/// The next turn is one like this.
+fn check_next(rt: &impl Abort, arena: &mut Arena<Global>, due: Turned) {
+    assert_eq!(rt; arena.turn(), due);
+}
+
+/// The round, played to its end, ends like this.
+fn check_outcome(rt: &impl Abort, arena: &mut Arena<Global>, due: Outcome) {
+    assert_eq!(rt; arena.play(), due);
+}
+
+/// The core has these cells and none behind them, the first side this queue, and the second its one process.
+fn check_left(
+    rt: &impl Abort,
+    arena: &Arena<Global>,
+    code: &[Instr],
+    left: &[Instr],
+    queue: &[u16],
+) {
+    assert_eq!(rt; wrong_cell(arena, left), None, "{code:?}");
+    assert!(rt; arena.cell(64).is_none());
+    assert_eq!(rt; wrong_process(arena, queue), None, "{code:?}");
+    check_count(rt, arena, Side::First, queue.len());
+    check_count(rt, arena, Side::Second, 1);
+    check_process(rt, arena, Side::Second, 0, Some(32));
 }
 
 /// One turn of this code leaves these cells, none behind them, and this queue.
@@ -78,31 +119,12 @@ fn check_turn(
     queue: &[u16],
 ) -> Result<(), Fail> {
     let mut arena = arena_of(rt.alloc(), code)?;
-    let turned = arena.turn();
-    let died = queue.is_empty();
-    assert_eq!(rt;
-        turned,
-        if died { Turned::Died } else { Turned::Went },
-        "{code:?}"
-    );
-    for at in 0..64u16 {
-        let due = match left.get(usize::from(at)) {
-            Some(i) => *i,
-            None => dat(0, 0),
-        };
-        assert_eq!(rt; arena.cell(at), Some(due), "{code:?}: cell {at}");
-    }
-    assert_eq!(rt; arena.cell(64), None);
-    assert_eq!(rt;
-        arena.processes(Side::First) as usize,
-        queue.len(),
-        "{code:?}"
-    );
-    for i in 0..9u32 {
-        let due = queue.get(i as usize).copied();
-        assert_eq!(rt; arena.process(Side::First, i), due, "{code:?}: process {i}");
-    }
-    assert_eq!(rt; arena.processes(Side::Second), 1);
-    assert_eq!(rt; arena.process(Side::Second, 0), Some(32));
+    let due = if queue.is_empty() {
+        Turned::Died
+    } else {
+        Turned::Went
+    };
+    assert_eq!(rt; arena.turn(), due, "{code:?}");
+    check_left(rt, &arena, code, left, queue);
     Ok(())
 }

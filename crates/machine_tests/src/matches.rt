@@ -1,19 +1,9 @@
+use crate::warriors::{SMALL, die, imp, stay, warrior};
 use koth_match::{fight, next_seed, position};
 use mars_core::Arena;
 use std::alloc::Global;
 use std::test::Fail;
-use war_types::{Instr, Mode, Modifier, Op, RawSettings, Settings, Title, Warrior};
-
-const SMALL: RawSettings = RawSettings {
-    core: 64,
-    cycles: 100,
-    processes: 8,
-    length: 10,
-    distance: 10,
-    rounds: 2,
-    seed: 1,
-    capacity: 2,
-};
+use war_types::{Instr, RawSettings, Settings};
 
 const USUAL: RawSettings = RawSettings {
     core: 8000,
@@ -56,44 +46,14 @@ fn positions(rt: HostRuntime) -> Result<(), Fail> {
     Ok(())
 }
 
-/// A warrior of one instruction with two direct operands.
-fn alone(
-    alloc: Global,
-    op: Op,
-    modifier: Modifier,
-    b: u16,
-    settings: &Settings,
-) -> Result<Warrior<Global>, Fail> {
-    let instr = Instr {
-        op,
-        modifier,
-        a_mode: Mode::Direct,
-        a: 0,
-        b_mode: Mode::Direct,
-        b,
-    };
-    let name = Title::new(b"", "Test");
-    let author = Title::new(b"", "Test");
-    let code = Vec::from_slice(alloc, &[instr])?;
-    Ok(Warrior::new(code, 0, name, author, settings).ok_or("it fits")?)
-}
-
-/// The counts of a match under small settings, of so many rounds.
-fn bout(
-    alloc: Global,
-    older: (Op, Modifier, u16),
-    younger: (Op, Modifier, u16),
-    rounds: u32,
-) -> Result<(u16, u16, u16), Fail> {
+/// Older and younger wins, and ties, of two warriors of one instruction each under small settings, in so many rounds.
+fn bout(alloc: Global, codes: [Instr; 2], rounds: u32) -> Result<(u16, u16, u16), Fail> {
     let mut raw = SMALL;
     raw.rounds = rounds;
     let settings = Settings::new(raw)?;
+    let older = warrior(alloc, &[codes[0]], &settings)?;
+    let younger = warrior(alloc, &[codes[1]], &settings)?;
     let mut arena = Arena::new(alloc, &settings)?;
-    let older = alone(alloc, older.0, older.1, older.2, &settings)?;
-    let younger = alone(alloc, younger.0, younger.1, younger.2, &settings)?;
-    if !older.fits(&settings) || !younger.fits(&settings) {
-        return Err("it fits".into());
-    }
     let first = fight(&mut arena, &older, &younger, &settings);
     let again = fight(&mut arena, &older, &younger, &settings);
     if first != again {
@@ -104,15 +64,17 @@ fn bout(
 
 #[test]
 fn small_matches(rt: HostRuntime) -> Result<(), Fail> {
-    let imp = (Op::Mov, Modifier::I, 1);
-    let stays = (Op::Jmp, Modifier::B, 0);
-    let dies = (Op::Dat, Modifier::F, 0);
-    assert_eq!(rt; bout(rt.alloc(), imp, stays, 2)?, (0, 0, 2));
-    assert_eq!(rt; bout(rt.alloc(), dies, dies, 2)?, (1, 1, 0));
-    assert_eq!(rt; bout(rt.alloc(), stays, dies, 2)?, (2, 0, 0));
-    assert_eq!(rt; bout(rt.alloc(), dies, stays, 2)?, (0, 2, 0));
-    // The older warrior moves first, and dies first, in two rounds of three.
-    assert_eq!(rt; bout(rt.alloc(), dies, dies, 3)?, (1, 2, 0));
-    assert_eq!(rt; bout(rt.alloc(), dies, stays, 1000)?, (0, 1000, 0));
+    let rows = [
+        ([imp(), stay()], 2, (0, 0, 2)),
+        ([die(), die()], 2, (1, 1, 0)),
+        ([stay(), die()], 2, (2, 0, 0)),
+        ([die(), stay()], 2, (0, 2, 0)),
+        // The older warrior moves first, and dies first, in two rounds of three.
+        ([die(), die()], 3, (1, 2, 0)),
+        ([die(), stay()], 1000, (0, 1000, 0)),
+    ];
+    for (codes, rounds, due) in rows {
+        assert_eq!(rt; bout(rt.alloc(), codes, rounds)?, due, "{codes:?}");
+    }
     Ok(())
 }

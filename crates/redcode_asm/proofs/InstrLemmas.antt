@@ -11,7 +11,7 @@ use Rattle.war_types.specs.declared.settings.RawSettings.{RawSettings}
 use Rattle.war_types.specs.Warrior.{HasNumbersBelow}
 use Rattle.redcode_text.specs.declared.token.TokenKind.TheVariants as kinds
 use Rattle.redcode_text.specs.Tokens.{Piece}
-use Rattle.redcode_expand.specs.declared.line.LineKind.TheVariants as lines
+use Rattle.redcode_lines.specs.declared.line.LineKind.TheVariants as lines
 use Rattle.redcode_asm.specs.declared.operand.Operand.{Operand}
 use Rattle.redcode_asm.specs.declared.statement.Statement.TheVariants as statements
 use Rattle.redcode_asm.specs.Name.{named, modifier_names, op_text, modifier_text}

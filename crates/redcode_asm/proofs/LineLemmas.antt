@@ -1,7 +1,7 @@
 -- A source cut into its lines.
 use Rattle.std.proofs.Common.{◌≡◌, ℕ, ◌==◌, false, List, [], ◌∷◌, ◌++◌, refl}
 use Rattle.std.specs.List.{AllByRecursion}
-use Rattle.redcode_expand.specs.Source.{lines_of}
+use Rattle.redcode_lines.specs.Source.{lines_of}
 
 -- a byte that ends no line
 abbrev pub IsInLine : ℕ → Type 0

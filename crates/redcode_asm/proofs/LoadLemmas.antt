@@ -13,10 +13,10 @@ use Rattle.war_types.specs.declared.settings.RawSettings.{RawSettings}
 use Rattle.war_types.specs.Warrior.{WarriorParts, HasNumbersBelow}
 use Rattle.redcode_text.specs.declared.token.TokenKind.TheVariants as kinds
 use Rattle.redcode_text.specs.Tokens.{Piece}
-use Rattle.redcode_expand.specs.declared.line.LineKind.{LineKind}
-use Rattle.redcode_expand.specs.declared.line.LineKind.TheVariants as lines
-use Rattle.redcode_expand.specs.Source.{lines_of, directive_of}
-use Rattle.redcode_expand.specs.Word.{is_front, word_at}
+use Rattle.redcode_lines.specs.declared.line.LineKind.{LineKind}
+use Rattle.redcode_lines.specs.declared.line.LineKind.TheVariants as lines
+use Rattle.redcode_lines.specs.Source.{lines_of, directive_of}
+use Rattle.redcode_lines.specs.Word.{is_front, word_at}
 use Rattle.redcode_expand.specs.Expansion.{ExpandedLine, expansion}
 use Rattle.redcode_expand.proofs.Plain.{PlainLine, ArePlain, plain_word, plain_lines, expansion-plain}
 use Rattle.redcode_asm.specs.Name.{op_text, modifier_text}

@@ -2,11 +2,11 @@
 use Rattle.std.proofs.Common.{◌≡◌, ℕ, ◌≤◌, true, false, List, [], ◌∷◌, length, map, None, refl, sym, ap, ◌∙◌, subst}
 use Rattle.std.specs.List.{AllByRecursion}
 use Rattle.redcode_text.specs.Tokens.{Piece, tokens_of}
-use Rattle.redcode_expand.specs.declared.line.LineKind.{LineKind}
-use Rattle.redcode_expand.specs.declared.line.LineKind.TheVariants as lines
-use Rattle.redcode_expand.specs.Source.{directive_of}
-use Rattle.redcode_expand.specs.Word.{is_front, is_no_comment, word_at, without_comment, statement_tokens, unplaced}
-use Rattle.redcode_expand.specs.Expansion.{operands_of}
+use Rattle.redcode_lines.specs.declared.line.LineKind.{LineKind}
+use Rattle.redcode_lines.specs.declared.line.LineKind.TheVariants as lines
+use Rattle.redcode_lines.specs.Source.{directive_of}
+use Rattle.redcode_lines.specs.Word.{is_front, is_no_comment, word_at, without_comment, statement_tokens, unplaced}
+use Rattle.redcode_lines.specs.Operand.{operands_of}
 use Rattle.redcode_expand.proofs.Plain.{PlainLine, ArePlain, last, operation, org, plain_word}
 
 abbrev pub IsNoComment : Piece → Type 0

@@ -5,9 +5,9 @@ use Rattle.std.specs.Option.{option_or, unwrap_or}
 use Rattle.std.proofs.lemmas.List.{at_drop_more, length-map, map-append}
 use Rattle.war_types.specs.declared.fault.AsmFault.{AsmFault}
 use Rattle.war_types.specs.declared.settings.RawSettings.{RawSettings}
-use Rattle.redcode_expand.specs.declared.line.Line.{Line}
-use Rattle.redcode_expand.specs.declared.line.LineKind.{LineKind}
-use Rattle.redcode_expand.specs.declared.line.LineKind.TheVariants.{Other}
+use Rattle.redcode_lines.specs.declared.line.Line.{Line}
+use Rattle.redcode_lines.specs.declared.line.LineKind.{LineKind}
+use Rattle.redcode_lines.specs.declared.line.LineKind.TheVariants.{Other}
 use Rattle.redcode_expand.specs.Expansion.{ExpandedLine, line_of, title_at, tokens_at}
 use Rattle.redcode_asm.specs.Names.{Labels}
 use Rattle.redcode_asm.specs.Statement.{said_by}

@@ -16,7 +16,7 @@ use Rattle.redcode_text.specs.declared.token.TokenKind.{TokenKind}
 use Rattle.redcode_text.specs.declared.token.TokenKind.TheVariants as kinds
 use Rattle.redcode_text.specs.Bytes.{is_digit, is_letter}
 use Rattle.redcode_text.specs.Tokens.{Piece, kind_at, rest_of_token, tokens_after, tokens_of}
-use Rattle.redcode_expand.specs.Word.{unplaced}
+use Rattle.redcode_lines.specs.Word.{unplaced}
 use Rattle.redcode_asm.specs.Name.{op_text, modifier_text, mode_text}
 use Rattle.redcode_asm.specs.LoadText.{spaces}
 

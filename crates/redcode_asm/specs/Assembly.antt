@@ -10,8 +10,8 @@ use Rattle.war_types.specs.Fault.{no_memory}
 use Rattle.war_types.specs.Title.{title_of}
 use Rattle.war_types.specs.Warrior.{WarriorParts, warrior_parts}
 use Rattle.redcode_text.specs.Operators.{is_zero}
-use Rattle.redcode_expand.specs.declared.line.LineKind.{LineKind}
-use Rattle.redcode_expand.specs.declared.line.LineKind.TheVariants as lines
+use Rattle.redcode_lines.specs.declared.line.LineKind.{LineKind}
+use Rattle.redcode_lines.specs.declared.line.LineKind.TheVariants as lines
 use Rattle.redcode_expand.specs.Expansion.{ExpandedLine, Expansion, expansion}
 use Rattle.redcode_expand.specs.Gives.{fault_at}
 use Rattle.redcode_asm.specs.declared.statement.Statement.{Statement}

@@ -10,8 +10,8 @@ use Rattle.redcode_text.specs.declared.token.TokenKind.TheVariants as token_kind
 use Rattle.redcode_text.specs.Operators.{Value}
 use Rattle.redcode_text.specs.Tokens.{Piece}
 use Rattle.redcode_text.specs.Value.{value_of}
-use Rattle.redcode_expand.specs.declared.line.LineKind.{LineKind}
-use Rattle.redcode_expand.specs.declared.line.LineKind.TheVariants as lines
+use Rattle.redcode_lines.specs.declared.line.LineKind.{LineKind}
+use Rattle.redcode_lines.specs.declared.line.LineKind.TheVariants as lines
 use Rattle.redcode_expand.specs.Expansion.{ExpandedLine}
 use Rattle.redcode_asm.specs.declared.statement.Statement.{Statement}
 use Rattle.redcode_asm.specs.declared.statement.Statement.TheVariants as statements

@@ -17,8 +17,4 @@ pub use printer::load_text;
 pub use redcode_expand::SOURCE_LIMIT;
 
 #[cfg(test)]
-mod refusal_tests;
-#[cfg(test)]
-mod tests;
-#[cfg(test)]
 mod work_tests;

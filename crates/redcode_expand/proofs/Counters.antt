@@ -1,7 +1,7 @@
 -- The counters of open blocks, the outermost first.
 use Rattle.std.proofs.Common.{◌≡◌, List, [], ◌∷◌, ◌++◌, reverse, refl, ap, ◌∙◌}
 use Rattle.std.proofs.lemmas.List.{reverse-append}
-use Rattle.redcode_expand.specs.Counter.{Counter}
+use Rattle.redcode_lines.specs.Counter.{Counter}
 use Rattle.redcode_expand.specs.Rest.{OpenBlock, counters_of}
 
 abbrev pub counters_in : List OpenBlock → List Counter

@@ -4,9 +4,9 @@ use Rattle.std.proofs.lemmas.Bool.{true≢false}
 use Rattle.std.proofs.lemmas.Slice.Eq.{bytes_eq-Decides}
 use Rattle.std.specs.Str.{bytes_eq}
 use Rattle.redcode_text.specs.Tokens.{Piece}
-use Rattle.redcode_expand.specs.declared.source_line.LineForm.{LineForm}
-use Rattle.redcode_expand.specs.Word.{is_name}
-use Rattle.redcode_expand.specs.Counter.{Counter, names_counter, in_copies, rewritten, has_name, with_name, are_named}
+use Rattle.redcode_lines.specs.declared.source_line.LineForm.{LineForm}
+use Rattle.redcode_lines.specs.Word.{is_name}
+use Rattle.redcode_lines.specs.Counter.{Counter, names_counter, in_copies, rewritten, has_name, with_name, are_named}
 use Rattle.redcode_expand.specs.Rest.{OpenBlock, AreKnown}
 use Rattle.redcode_expand.proofs.Counters.{counters_in}
 

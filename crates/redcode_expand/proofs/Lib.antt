@@ -1,6 +1,4 @@
 pub mod Plain
-mod Lines
-mod Readings
 mod Lookups
 mod Replacing
 mod Written
@@ -13,9 +11,6 @@ mod Places
 mod Residuals
 mod Counters
 mod KnownNames
-mod Fronts
-mod Joining
-mod SourceLines
 mod GoingOn
 mod Pairing
 mod EndingCopies

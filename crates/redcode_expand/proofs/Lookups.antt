@@ -9,7 +9,7 @@ use Rattle.std.specs.Str.{bytes_eq}
 use Rattle.redcode_text.specs.Tokens.{Piece}
 use Rattle.redcode_expand.specs.Equ.{EquList, is_equ, body_of}
 use Rattle.redcode_expand.specs.Name.{LabelList, address_of}
-use Rattle.redcode_expand.specs.Counter.{has_name, with_name}
+use Rattle.redcode_lines.specs.Counter.{has_name, with_name}
 
 -- what a map finds is the address of the label
 pub lookup-address_of : {K : Type 0} (text : K → List ℕ) (name : List ℕ) (entries : List (K × ℕ))

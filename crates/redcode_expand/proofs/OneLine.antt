@@ -4,7 +4,8 @@ use Rattle.war_types.specs.declared.fault.AsmFault.{AsmFault}
 use Rattle.redcode_text.specs.Tokens.{Piece}
 use Rattle.redcode_expand.specs.Gives.{◌>>=◌, Fails}
 use Rattle.redcode_expand.specs.Equ.{EquList, left_over, after_rounds, replaced}
-use Rattle.redcode_expand.specs.Expansion.{ExpandedLine, operands_of, before_operands, line_replaced}
+use Rattle.redcode_expand.specs.Expansion.{ExpandedLine, before_operands, line_replaced}
+use Rattle.redcode_lines.specs.Operand.{operands_of}
 use Rattle.redcode_expand.proofs.Replacing.{rounds-left_over}
 
 pub replaced-left : (line : ℕ) (equs : EquList) (tokens : List Piece) → replaced line equs tokens ≡ left_over line equs (after_rounds 16 equs tokens)

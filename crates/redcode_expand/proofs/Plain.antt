@@ -5,18 +5,19 @@ use Rattle.std.proofs.lemmas.Bool.{cond_both}
 use Rattle.std.proofs.lemmas.List.{drop_all}
 use Rattle.war_types.specs.declared.settings.RawSettings.{RawSettings}
 use Rattle.redcode_text.specs.Tokens.{Piece}
-use Rattle.redcode_expand.specs.declared.line.LineKind.{LineKind}
-use Rattle.redcode_expand.specs.declared.line.LineKind.TheVariants as lines
-use Rattle.redcode_expand.specs.declared.word.Word.{Word}
-use Rattle.redcode_expand.specs.declared.word.Word.TheVariants as words
-use Rattle.redcode_expand.specs.Source.{lines_of, numbered_from, directive_of, redcode_on}
-use Rattle.redcode_expand.specs.Word.{has_text, is_name, labels_of, line_word, behind_labels, statement_tokens, unplaced}
-use Rattle.redcode_expand.specs.declared.source_line.LineForm.TheVariants as forms
-use Rattle.redcode_expand.specs.Block.{SourceLine, Blocks, source_line, source_lines, parsed, finish, one_line}
+use Rattle.redcode_lines.specs.declared.line.LineKind.{LineKind}
+use Rattle.redcode_lines.specs.declared.line.LineKind.TheVariants as lines
+use Rattle.redcode_lines.specs.declared.word.Word.{Word}
+use Rattle.redcode_lines.specs.declared.word.Word.TheVariants as words
+use Rattle.redcode_lines.specs.Source.{lines_of, numbered_from, directive_of, redcode_on}
+use Rattle.redcode_lines.specs.Word.{has_text, is_name, labels_of, line_word, behind_labels, statement_tokens, unplaced}
+use Rattle.redcode_lines.specs.declared.source_line.LineForm.TheVariants as forms
+use Rattle.redcode_lines.specs.Block.{SourceLine, Blocks, source_line, source_lines, parsed, finish, one_line}
 use Rattle.redcode_expand.specs.Walk.{ExpandedLine, walk_state, walk}
 use Rattle.redcode_expand.specs.Name.{names_of}
 use Rattle.redcode_expand.specs.Equ.{body_at, round, has_equ, rounds, replaced}
-use Rattle.redcode_expand.specs.Expansion.{expansion, operands_of, before_operands, line_replaced, all_replaced}
+use Rattle.redcode_expand.specs.Expansion.{expansion, before_operands, line_replaced, all_replaced}
+use Rattle.redcode_lines.specs.Operand.{operands_of}
 
 -- the word of each kind of plain line
 abbrev pub plain_word : LineKind → Option Word

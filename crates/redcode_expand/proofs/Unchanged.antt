@@ -4,12 +4,13 @@ use Rattle.std.proofs.lemmas.Bool.{cases_Bool, or_parts}
 use Rattle.war_types.specs.declared.fault.AsmFault.{AsmFault}
 use Rattle.war_types.specs.declared.fault.AsmKind.TheVariants as kinds
 use Rattle.redcode_text.specs.Tokens.{Piece}
-use Rattle.redcode_expand.specs.declared.line.LineKind.{LineKind}
-use Rattle.redcode_expand.specs.declared.line.LineKind.TheVariants as lines
+use Rattle.redcode_lines.specs.declared.line.LineKind.{LineKind}
+use Rattle.redcode_lines.specs.declared.line.LineKind.TheVariants as lines
 use Rattle.redcode_expand.specs.Gives.{Fails, fault_at}
-use Rattle.redcode_expand.specs.Word.{has_text}
+use Rattle.redcode_lines.specs.Word.{has_text}
 use Rattle.redcode_expand.specs.Equ.{EquList, body_at, or_itself, round, has_tokens, has_equ, left_over, after_rounds, replaced}
-use Rattle.redcode_expand.specs.Expansion.{ExpandedLine, behind_modifier, operands_of, line_replaced}
+use Rattle.redcode_expand.specs.Expansion.{ExpandedLine, line_replaced}
+use Rattle.redcode_lines.specs.Operand.{behind_modifier, operands_of}
 use Rattle.redcode_expand.proofs.OneLine.{replaced-left, line-refused, line-written}
 
 or_itself-none : (x : Piece) (body : List Piece) → has_tokens body ≡ false → or_itself x body ≡ x ∷ []

@@ -1,17 +1,17 @@
 -- The expanded lines and the labels of a source, or the first fault in the order of the refusals.
-use Rattle.std.specs.Prelude.{ℕ, zero, suc, ◌-◌, nat_lt, if◌then◌else◌, List, [], ◌∷◌, ◌++◌, length, take, drop, Result, Ok, Err, codes}
+use Rattle.std.specs.Prelude.{ℕ, zero, suc, ◌-◌, nat_lt, if◌then◌else◌, List, [], ◌∷◌, ◌++◌, length, take, Result, Ok, Err}
 use Rattle.war_types.specs.declared.fault.AsmKind.TheVariants as kinds
 use Rattle.war_types.specs.declared.fault.AsmFault.{AsmFault}
 use Rattle.war_types.specs.declared.settings.RawSettings.{RawSettings}
 use Rattle.redcode_text.specs.Tokens.{Piece}
-use Rattle.redcode_expand.specs.declared.line.Line.{Line}
-use Rattle.redcode_expand.specs.declared.line.LineKind.{LineKind}
-use Rattle.redcode_expand.specs.declared.line.LineKind.TheVariants as lines
+use Rattle.redcode_lines.specs.declared.line.Line.{Line}
+use Rattle.redcode_lines.specs.declared.line.LineKind.{LineKind}
+use Rattle.redcode_lines.specs.declared.line.LineKind.TheVariants as lines
 use Rattle.redcode_expand.specs.Gives.{◌>>=◌, fault_at}
-use Rattle.redcode_expand.specs.Source.{NumberedLine, live_lines}
-use Rattle.redcode_expand.specs.Word.{has_text}
+use Rattle.redcode_lines.specs.Operand.{operands_of}
+use Rattle.redcode_lines.specs.Source.{NumberedLine, live_lines}
 use Rattle.redcode_expand.specs.Equ.{EquList, replaced}
-use Rattle.redcode_expand.specs.Block.{parsed, source_lines}
+use Rattle.redcode_lines.specs.Block.{parsed, source_lines}
 use Rattle.redcode_expand.specs.Name.{LabelList}
 use Rattle.redcode_expand.specs.Walk.{WalkState, walk_all, walk_begin}
 pub use Rattle.redcode_expand.specs.Name.{address_of, predefined}
@@ -24,21 +24,6 @@ pub record Expansion : Type 0 where
 -- what a line says beside its tokens and its title
 abbrev pub line_of : ExpandedLine → Line
 line_of line = record { source_line = line.source_line; kind = line.kind; before = line.before }
-
--- behind an operation, a dot and the modifier's name that follows it
-abbrev pub behind_modifier : List Piece → List Piece
-behind_modifier [] = []
-behind_modifier (token ∷ tokens) = if has_text (codes ".") token then drop 1 tokens else token ∷ tokens
-
--- the tokens that are operands, or an expression
-abbrev pub operands_of : LineKind → List Piece → List Piece
-operands_of lines.Operation tokens = behind_modifier (drop 1 tokens)
-operands_of lines.Org tokens = drop 1 tokens
-operands_of lines.End tokens = drop 1 tokens
-operands_of lines.Assert tokens = tokens
-operands_of lines.Name tokens = []
-operands_of lines.Author tokens = []
-operands_of lines.Other tokens = []
 
 -- the tokens before them
 abbrev pub before_operands : LineKind → List Piece → List Piece

@@ -1,8 +1,4 @@
 pub mod Gives
-pub mod Source
-pub mod Word
-pub mod Counter
-pub mod Block
 pub mod Equ
 pub mod Link
 pub mod Name

@@ -6,7 +6,7 @@ use Rattle.war_types.specs.declared.fault.AsmFault.{AsmFault}
 use Rattle.war_types.specs.declared.settings.RawSettings.{RawSettings}
 use Rattle.redcode_text.specs.Tokens.{Piece}
 use Rattle.redcode_expand.specs.Gives.{◌>>=◌, fault_at}
-use Rattle.redcode_expand.specs.Word.{unplaced}
+use Rattle.redcode_lines.specs.Word.{unplaced}
 use Rattle.redcode_expand.specs.Equ.{EquList, is_equ, is_bad_body}
 
 -- names with the addresses that they stand for, in the order of their definition

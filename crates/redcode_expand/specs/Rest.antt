@@ -4,8 +4,8 @@ use Rattle.war_types.specs.declared.fault.AsmFault.{AsmFault}
 use Rattle.war_types.specs.declared.fault.AsmKind.TheVariants as kinds
 use Rattle.war_types.specs.declared.settings.RawSettings.{RawSettings}
 use Rattle.redcode_expand.specs.Gives.{◌>>=◌, fault_at}
-use Rattle.redcode_expand.specs.Block.{SourceLine, Blocks, Parsed, parsed}
-use Rattle.redcode_expand.specs.Counter.{Counter, counter_of, has_name}
+use Rattle.redcode_lines.specs.Block.{SourceLine, Blocks, Parsed, parsed}
+use Rattle.redcode_lines.specs.Counter.{Counter, counter_of, has_name}
 use Rattle.redcode_expand.specs.Walk.{WalkState, walk, copies, copied, closed, unmatched, until_end}
 
 -- a block whose copies are being written

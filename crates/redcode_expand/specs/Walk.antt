@@ -6,18 +6,18 @@ use Rattle.war_types.specs.declared.settings.RawSettings.{RawSettings}
 use Rattle.war_types.specs.declared.fault.ExprFault.{ExprFault}
 use Rattle.redcode_text.specs.Tokens.{Piece}
 use Rattle.redcode_text.specs.Value.{value_of}
-use Rattle.redcode_expand.specs.declared.source_line.LineForm.{LineForm}
-use Rattle.redcode_expand.specs.declared.source_line.LineForm.TheVariants as forms
-use Rattle.redcode_expand.specs.declared.line.LineKind.{LineKind}
-use Rattle.redcode_expand.specs.declared.line.LineKind.TheVariants as lines
-use Rattle.redcode_expand.specs.declared.word.Word.{Word}
-use Rattle.redcode_expand.specs.declared.word.Word.TheVariants as words
+use Rattle.redcode_lines.specs.declared.source_line.LineForm.{LineForm}
+use Rattle.redcode_lines.specs.declared.source_line.LineForm.TheVariants as forms
+use Rattle.redcode_lines.specs.declared.line.LineKind.{LineKind}
+use Rattle.redcode_lines.specs.declared.line.LineKind.TheVariants as lines
+use Rattle.redcode_lines.specs.declared.word.Word.{Word}
+use Rattle.redcode_lines.specs.declared.word.Word.TheVariants as words
 use Rattle.redcode_expand.specs.Gives.{◌>>=◌, fault_at}
-use Rattle.redcode_expand.specs.Block.{SourceLine, Blocks, Parsed, finish, one_line, block, open_for}
-use Rattle.redcode_expand.specs.Counter.{Counter, counter_of, in_copies}
+use Rattle.redcode_lines.specs.Block.{SourceLine, Blocks, Parsed, finish, one_line, block, open_for}
+use Rattle.redcode_lines.specs.Counter.{Counter, counter_of, in_copies}
 use Rattle.redcode_expand.specs.Equ.{EquList, replaced}
 use Rattle.redcode_expand.specs.Name.{Names, names_of, all_defined, defined, equ_line, predefined}
-use Rattle.redcode_expand.specs.Word.{labels_of, line_word, behind_labels, unplaced}
+use Rattle.redcode_lines.specs.Word.{labels_of, line_word, behind_labels, unplaced}
 
 -- a line of the expanded source
 pub record ExpandedLine : Type 0 where

@@ -2,17 +2,16 @@
 
 ghost use Rattle.std.specs.Prelude.{◌≡◌, ◌+◌, ◌<◌, ◌≤◌, ◌∷◌, false, Some, drop, length, MatchResult};
 ghost use Rattle.redcode_expand.specs.Gives.{Gives, Fails, fault_at};
-ghost use Rattle.redcode_expand.specs.Block.{parsed, word_in};
+ghost use Rattle.redcode_lines.specs.Block.{parsed, word_in};
 ghost use Rattle.redcode_expand.specs.Rest.{rest_of, rest_behind, steps_left, AreOpen, GoesOn, IsUnmatched, Passes};
-ghost use Rattle.redcode_expand.specs.declared.word.Word.TheVariants.{For, Rof};
+ghost use Rattle.redcode_lines.specs.declared.word.Word.TheVariants.{For, Rof};
 ghost use Rattle.war_types.specs.declared.fault.AsmKind.TheVariants.{UnmatchedFor};
 ghost use Rattle.redcode_expand.specs.Walk.{walk_all, walk_begin};
 
 use crate::name_key::NameHash;
 use crate::open_blocks::{OpenBlock, OpenBlocks};
-use crate::source_line::{SourceLine, line_at, rof_behind};
 use crate::walk::Walk;
-use crate::word::Word;
+use redcode_lines::{SourceLine, Word, line_at, rof_behind};
 use std::alloc::Allocator;
 use war_types::{AsmFault, AsmKind, Settings};
 

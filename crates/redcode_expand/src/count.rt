@@ -7,8 +7,8 @@ ghost use Rattle.redcode_expand.specs.Equ.{replaced};
 
 use crate::equs::Equs;
 use crate::name::predefined;
-use crate::part::{Part, tokens_of};
 use crate::replace::replaced;
+use redcode_lines::{Part, tokens_of};
 use redcode_text::{Names, value};
 use std::alloc::Allocator;
 use war_types::{AsmFault, AsmKind, Settings};

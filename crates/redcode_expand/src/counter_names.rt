@@ -1,9 +1,8 @@
 //! The names of the counters so far.
 
 use crate::name_key::{NameHash, NameKey, Sought};
-use crate::part::Part;
-use crate::reading::is_name;
 use indexmap::IndexMap;
+use redcode_lines::{Part, is_name};
 use std::alloc::{AllocError, Allocator};
 use std::marker::Model;
 
@@ -24,7 +23,7 @@ impl<A: Allocator + Copy> Model for CounterNames<A> {
 
 impl<A: Allocator + Copy> CounterNames<A> {
     ghost use Rattle.std.specs.Prelude.{◌≡◌, [], OnOk, OnErr};
-    ghost use Rattle.redcode_expand.specs.Counter.{has_name, are_named, with_name};
+    ghost use Rattle.redcode_lines.specs.Counter.{has_name, are_named, with_name};
 
     /// No names.
     pub(crate) fn new(alloc: A, hash: NameHash) -> Self

@@ -1,7 +1,6 @@
 //! A line of an expanded source, with its texts.
 
-use crate::line::Line;
-use crate::part::{Part, tokens_of};
+use redcode_lines::{Line, Part, tokens_of};
 use redcode_text::Token;
 use std::alloc::{AllocError, Allocator};
 use std::marker::Model;

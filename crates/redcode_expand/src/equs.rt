@@ -3,12 +3,11 @@
 ghost use Rattle.std.specs.Prelude.{◌≡◌, ◌++◌, ◌∷◌, [], false, map, OnOk};
 ghost use Rattle.redcode_expand.specs.Equ.{body_at, body_of, is_equ};
 ghost use Rattle.redcode_expand.specs.Link.{Stands, StandsIn, bodies_of};
-ghost use Rattle.redcode_expand.specs.Word.{unplaced};
+ghost use Rattle.redcode_lines.specs.Word.{unplaced};
 
 use crate::name_key::{NameHash, NameKey, Sought};
-use crate::part::{Part, unplaced_parts};
-use crate::reading::is_name;
 use indexmap::IndexMap;
+use redcode_lines::{Part, is_name, unplaced_parts};
 use std::alloc::{AllocError, Allocator};
 use std::marker::Model;
 

@@ -8,10 +8,8 @@ ghost use Rattle.redcode_expand.specs.Expansion.{expansion, address_of, line_of,
 use crate::blocks::walk_all;
 use crate::entry::Entry;
 use crate::labels::Labels;
-use crate::line::Line;
 use crate::name_key::NameHash;
-use crate::source::live_source;
-use crate::source_line::source_lines;
+use redcode_lines::{Line, live_source, source_lines};
 use redcode_text::Token;
 use std::alloc::{AllocError, Allocator};
 use std::marker::Model;

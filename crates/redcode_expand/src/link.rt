@@ -4,7 +4,7 @@ ghost use Rattle.std.specs.Prelude.{◌≡◌, IfOk};
 ghost use Rattle.redcode_expand.specs.Link.{AreLinked, tokens_of};
 
 use crate::equs::Equs;
-use crate::part::Part;
+use redcode_lines::Part;
 use std::alloc::{AllocError, Allocator};
 use std::marker::Model;
 

@@ -2,7 +2,7 @@
 
 ghost use Rattle.std.specs.Prelude.{◌≡◌, []};
 ghost use Rattle.redcode_expand.specs.Gives.{Gives};
-ghost use Rattle.redcode_expand.specs.Word.{may_label, names_among, taken_while};
+ghost use Rattle.redcode_lines.specs.Word.{may_label, names_among, taken_while};
 ghost use Rattle.redcode_expand.specs.Equ.{has_word, is_bad_body};
 ghost use Rattle.redcode_expand.specs.Name.{is_taken, names_of, defined, all_defined, equ_defined, equ_line};
 ghost use Rattle.redcode_expand.specs.Walk.{for_labels};
@@ -11,9 +11,7 @@ use crate::equs::Equs;
 use crate::labels::Labels;
 use crate::name::predefined;
 use crate::name_key::NameHash;
-use crate::part::Part;
-use crate::reading::{is_name, may_label, word_at};
-use crate::word::Word;
+use redcode_lines::{Part, Word, is_name, may_label, word_at};
 use std::alloc::Allocator;
 use std::marker::Model;
 use war_types::{AsmFault, AsmKind, Settings};

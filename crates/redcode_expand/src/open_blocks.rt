@@ -1,10 +1,8 @@
 //! The blocks whose copies are being written.
 
-use crate::counter::{Counter, in_copy};
 use crate::counter_names::CounterNames;
 use crate::name_key::NameHash;
-use crate::part::{Part, copied};
-use crate::source_line::SourceLine;
+use redcode_lines::{Counter, Part, SourceLine, copied, in_copy};
 use std::alloc::{AllocError, Allocator};
 use std::marker::Model;
 
@@ -31,7 +29,7 @@ impl<A: Allocator> Model for OpenBlock<A> {
 
 impl<A: Allocator + Copy> OpenBlock<A> {
     ghost use Rattle.std.specs.Prelude.{◌≡◌, ◌+◌, ◌-◌, ◌<◌, ◌^◌};
-    ghost use Rattle.redcode_expand.specs.Counter.{counter_of};
+    ghost use Rattle.redcode_lines.specs.Counter.{counter_of};
     ghost use Rattle.redcode_expand.specs.Rest.{open_block};
 
     /// The first copy of a block, with so many copies behind it.
@@ -120,7 +118,7 @@ impl<A: Allocator + Copy> Model for OpenBlocks<A> {
 
 impl<A: Allocator + Copy> OpenBlocks<A> {
     ghost use Rattle.std.specs.Prelude.{◌≡◌, ◌∷◌, [], IfOk, OnOk, MatchOption};
-    ghost use Rattle.redcode_expand.specs.Counter.{in_copies};
+    ghost use Rattle.redcode_lines.specs.Counter.{in_copies};
     ghost use Rattle.redcode_expand.specs.Rest.{counters_of, has_none};
 
     /// No block.

@@ -10,8 +10,7 @@ ghost use Rattle.war_types.specs.declared.fault.AsmKind.TheVariants.{EquLimit};
 use crate::entry::Entry;
 use crate::equs::Equs;
 use crate::link::{Link, LinkedEqus, linked};
-use crate::operands::operands_of;
-use crate::part::{Part, copied};
+use redcode_lines::{Part, copied, operands_of};
 use std::alloc::{AllocError, Allocator};
 use war_types::{AsmFault, AsmKind};
 

@@ -2,7 +2,7 @@
 
 ghost use Rattle.std.specs.Prelude.{◌≡◌, ◌+◌, ◌<◌, ◌^◌, Ok, OnOk, IfOk};
 ghost use Rattle.redcode_expand.specs.Gives.{Gives};
-ghost use Rattle.redcode_expand.specs.Word.{may_label, names_among, taken_while};
+ghost use Rattle.redcode_lines.specs.Word.{may_label, names_among, taken_while};
 ghost use Rattle.redcode_expand.specs.Name.{all_defined};
 ghost use Rattle.redcode_expand.specs.Expansion.{finished};
 ghost use Rattle.redcode_expand.specs.Rest.{counters_of};
@@ -11,16 +11,14 @@ ghost use Rattle.redcode_expand.specs.Walk.{walk_begin, begun, begun_as, closed,
 use crate::count::copies_of;
 use crate::entry::Entry;
 use crate::expanded::Expanded;
-use crate::line::{Line, LineKind};
 use crate::name_key::NameHash;
 use crate::names::Names;
 use crate::open_blocks::OpenBlocks;
-use crate::operands::behind_first;
-use crate::part::{Part, unplaced_parts};
-use crate::reading::{behind_labels, line_word};
 use crate::replace::replace_all;
-use crate::source_line::{LineForm, SourceLine};
-use crate::word::Word;
+use redcode_lines::{
+    Line, LineForm, LineKind, Part, SourceLine, Word, behind_first, behind_labels, line_word,
+    unplaced_parts,
+};
 use std::alloc::Allocator;
 use std::marker::Model;
 use war_types::{AsmFault, AsmKind, Settings};

@@ -13,6 +13,3 @@ pub use expression::value;
 pub use names::Names;
 pub use scanner::scan;
 pub use token::{Token, TokenKind};
-
-#[cfg(test)]
-mod tests;

@@ -15,6 +15,3 @@ pub use fuse::FuseKind;
 pub use fuse_device::FuseDevice;
 pub use laws::{each_image_is_chosen, laws_of_images};
 pub use memory_device::MemoryDevice;
-
-#[cfg(test)]
-mod tests;

@@ -12,6 +12,3 @@ pub use instr::{Instr, Mode, Modifier, Op};
 pub use settings::{RawSettings, Settings, SettingsFault};
 pub use title::Title;
 pub use warrior::Warrior;
-
-#[cfg(test)]
-mod tests;

@@ -4,7 +4,9 @@ ghost use Rattle.std.specs.Prelude.{◌≡◌, IfOk};
 ghost use Rattle.war_types.specs.Warrior.{Fits};
 
 use super::*;
+use crate::warriors::{direct, instr};
 use koth_match::fight;
+use war_types::{Mode, Modifier, Op};
 
 /// The warrior that enters as number `entry`: every second one bombs at a step of its own, the others go on or wait.
 fn one_of_many(alloc: Global, entry: u16, settings: &Settings) -> Result<Warrior<Global>, Fail>
@@ -12,7 +14,7 @@ fn one_of_many(alloc: Global, entry: u16, settings: &Settings) -> Result<Warrior
 {
     match entry % 4 {
         0 => warrior(alloc, &[imp()], settings),
-        1 => warrior(alloc, &[wait()], settings),
+        1 => warrior(alloc, &[stay()], settings),
         _ => warrior(alloc, &dwarf(entry), settings),
     }
 }
@@ -112,19 +114,32 @@ fn as_earned(
     Ok(as_earned)
 }
 
-#[test]
-fn a_hill_of_20_and_one_more(rt: HostRuntime) -> Result<(), Fail> {
+/// The first 20 stay on a hill of 20, and what the 21st makes of it is what single fights give.
+fn check_full_hill(
+    rt: &(impl Abort + AllocGlobal),
+    hill: &mut Hill<Global>,
+    arena: &mut Arena<Global>,
+) -> Result<(), Fail>
+    requires { arena.old.settings ≡ hill.old.settings }
+{
     let alloc = rt.alloc();
-    let settings = small(20)?;
-    let mut arena = Arena::new(alloc, &settings)?;
-    let mut hill = Hill::new(alloc, settings)?;
     for entry in 1..=20 {
-        let found = challenge(&mut hill, &mut arena, one_of_many(alloc, entry, &settings)?)?;
+        let challenger = one_of_many(alloc, entry, hill.settings())?;
+        let found = challenge(hill, arena, challenger)?;
         assert!(rt; found.stays);
     }
-    let found = challenge(&mut hill, &mut arena, one_of_many(alloc, 21, &settings)?)?;
-    let falls = lowest(alloc, &mut arena, hill.settings())?;
+    let last = one_of_many(alloc, 21, hill.settings())?;
+    let found = challenge(hill, arena, last)?;
+    let falls = lowest(alloc, arena, hill.settings())?;
     assert_eq!(rt; found.falls, Some(u64::from(falls)));
-    assert!(rt; as_earned(alloc, &mut arena, &hill, falls)?);
+    assert!(rt; as_earned(alloc, arena, hill, falls)?);
     Ok(())
+}
+
+#[test]
+fn a_hill_of_20_and_one_more(rt: HostRuntime) -> Result<(), Fail> {
+    let settings = small(20)?;
+    let mut arena = Arena::new(rt.alloc(), &settings)?;
+    let mut hill = Hill::new(rt.alloc(), settings)?;
+    check_full_hill(&rt, &mut hill, &mut arena)
 }

@@ -1,5 +1,5 @@
 use Rattle.std.proofs.Common.{◌≡◌, ◌≤◌, ◌+◌, ◌++◌, List, length, take, get_or, [], ◌∷◌, ap, sym, ◌∙◌, subst}
-use Rattle.hill_store.specs.declared.header.HeaderEntry.{HeaderEntry}
+use Rattle.hill_bytes.specs.declared.header.HeaderEntry.{HeaderEntry}
 use Rattle.hill_store.specs.Places.{kept_entries, new_entry}
 use Rattle.hill_store.proofs.Slots.{kept_more, kept_few_of}
 use Rattle.hill_store.proofs.entries.kept_entries.Goals as goal

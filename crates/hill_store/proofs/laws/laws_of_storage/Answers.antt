@@ -1,5 +1,5 @@
-use Rattle.hill_store.proofs.OneHeader.{same_header}
-use Rattle.hill_store.proofs.OneSlot.{same_warrior}
+use Rattle.hill_bytes.proofs.OneHeader.{same_header}
+use Rattle.hill_bytes.proofs.OneSlot.{same_warrior}
 use Rattle.hill_store.proofs.Newest.{stands_once}
 use Rattle.hill_store.proofs.laws.laws_of_storage.Goals as goal
 

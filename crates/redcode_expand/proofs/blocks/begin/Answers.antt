@@ -1,8 +1,8 @@
 use Rattle.std.proofs.Common.{◌-◌, ◌+◌, subst, ℕ, Bool, List, ◌∷◌, Ok, sym, ap, ◌∙◌, drop, arith}
 use Rattle.std.proofs.lemmas.Grind.{common_steps}
-use Rattle.redcode_expand.specs.Block.{parsed}
+use Rattle.redcode_lines.specs.Block.{parsed}
 use Rattle.redcode_expand.specs.Gives.{Fails}
-use Rattle.redcode_expand.specs.Counter.{counter_of}
+use Rattle.redcode_lines.specs.Counter.{counter_of}
 use Rattle.redcode_expand.specs.Walk.{begun_as}
 use Rattle.redcode_expand.specs.Rest.{OpenBlock, open_block, rest_of, rest_behind, steps_left, GoesOn, IsUnmatched, Passes}
 use Rattle.redcode_expand.proofs.GoingOn.{begun-fails, none-fails, none-goes-on, block-goes-on}

@@ -1,6 +1,6 @@
 use Rattle.std.proofs.Common.{ℕ, List, ap, ◌∙◌}
 use Rattle.std.specs.Option.{is_some}
-use Rattle.redcode_expand.specs.Counter.{has_name}
+use Rattle.redcode_lines.specs.Counter.{has_name}
 use Rattle.redcode_expand.proofs.Lookups.{is_some-copied, lookup-has_name}
 use Rattle.redcode_expand.proofs.counter_names.CounterNames.has.Goals as goal
 

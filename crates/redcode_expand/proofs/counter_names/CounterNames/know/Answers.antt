@@ -3,7 +3,7 @@ use Rattle.std.specs.Map.{lookup}
 use Rattle.std.specs.Option.{is_some}
 use Rattle.std.specs.Str.{bytes_eq}
 use Rattle.indexmap.proofs.CallerLemmas.{insert_entry-new}
-use Rattle.redcode_expand.specs.Counter.{has_name}
+use Rattle.redcode_lines.specs.Counter.{has_name}
 use Rattle.redcode_expand.proofs.Lookups.{lookup-has_name, lookup-none, name-added}
 use Rattle.redcode_expand.proofs.counter_names.CounterNames.know.Goals as goal
 

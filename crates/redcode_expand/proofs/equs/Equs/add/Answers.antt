@@ -3,10 +3,10 @@ use Rattle.std.specs.Map.{lookup}
 use Rattle.std.specs.Option.{is_some}
 use Rattle.std.specs.Str.{bytes_eq}
 use Rattle.indexmap.proofs.CallerLemmas.{insert_entry-new}
-use Rattle.redcode_expand.specs.declared.part.Part.{Part}
+use Rattle.redcode_lines.specs.declared.part.Part.{Part}
 use Rattle.redcode_text.specs.Tokens.{Piece}
 use Rattle.redcode_expand.specs.Equ.{EquList, is_equ}
-use Rattle.redcode_expand.specs.Word.{unplaced}
+use Rattle.redcode_lines.specs.Word.{unplaced}
 use Rattle.redcode_expand.proofs.Lookups.{lookup-is_equ, lookup-none, equs-added}
 use Rattle.redcode_expand.proofs.equs.Equs.add.Goals as goal
 

@@ -1,5 +1,5 @@
 use Rattle.std.proofs.Common.{ℕ, Vec, List, ap, ◌∙◌}
-use Rattle.redcode_expand.specs.declared.part.Part.{Part}
+use Rattle.redcode_lines.specs.declared.part.Part.{Part}
 use Rattle.redcode_text.specs.Tokens.{Piece}
 use Rattle.redcode_expand.specs.Equ.{EquList}
 use Rattle.redcode_expand.specs.Link.{bodies_of}

@@ -1,6 +1,6 @@
 use Rattle.std.proofs.Common.{ℕ, List, Vec, ap, ◌∙◌}
 use Rattle.std.specs.Option.{is_some}
-use Rattle.redcode_expand.specs.declared.part.Part.{Part}
+use Rattle.redcode_lines.specs.declared.part.Part.{Part}
 use Rattle.redcode_expand.specs.Equ.{EquList, is_equ}
 use Rattle.redcode_expand.proofs.Lookups.{is_some-copied, lookup-is_equ}
 use Rattle.redcode_expand.proofs.equs.Equs.is_equ.Goals as goal

@@ -1,5 +1,5 @@
 use Rattle.std.proofs.Common.{ℕ, Vec, List, subst}
-use Rattle.redcode_expand.specs.declared.part.Part.{Part}
+use Rattle.redcode_lines.specs.declared.part.Part.{Part}
 use Rattle.redcode_text.specs.Tokens.{Piece}
 use Rattle.redcode_expand.specs.Equ.{EquList, body_of}
 use Rattle.redcode_expand.specs.Link.{StandsIn}

@@ -1,6 +1,6 @@
 -- The names so far, and the labels of what is left.
 use Rattle.std.proofs.Common.{◌≡◌, length}
-use Rattle.redcode_expand.specs.Word.{may_label, names_among, taken_while}
+use Rattle.redcode_lines.specs.Word.{may_label, names_among, taken_while}
 use Rattle.redcode_expand.specs.Name.{all_defined}
 use Rattle.redcode_expand.proofs.names.Names.define_all.Given as goal
 

@@ -1,6 +1,6 @@
 -- The names so far, and what the name that was found last and those of what is left make of them.
 use Rattle.std.proofs.Common.{◌≡◌, length}
-use Rattle.redcode_expand.specs.Word.{may_label, names_among, taken_while}
+use Rattle.redcode_lines.specs.Word.{may_label, names_among, taken_while}
 use Rattle.redcode_expand.specs.Walk.{for_labels}
 use Rattle.redcode_expand.proofs.LastNames.{before_all}
 use Rattle.redcode_expand.proofs.names.Names.define_earlier.Given as goal

@@ -1,6 +1,6 @@
 use Rattle.std.proofs.Common.{◌≡◌, ℕ, List, ap, sym, subst, ◌∙◌}
 use Rattle.redcode_expand.specs.declared.open_blocks.OpenBlock.TheInside.{Inside}
-use Rattle.redcode_expand.specs.Counter.{with_name}
+use Rattle.redcode_lines.specs.Counter.{with_name}
 use Rattle.redcode_expand.specs.Rest.{OpenBlock, AreKnown}
 use Rattle.redcode_expand.proofs.KnownNames.{known-opened, known-with}
 use Rattle.redcode_expand.proofs.open_blocks.OpenBlocks.push.Goals as goal

@@ -1,6 +1,6 @@
 use Rattle.std.proofs.Common.{◌≡◌, List, false, sym, ap, ◌∙◌}
 use Rattle.redcode_text.specs.Tokens.{Piece}
-use Rattle.redcode_expand.specs.Counter.{Counter, in_copies, are_named}
+use Rattle.redcode_lines.specs.Counter.{Counter, in_copies, are_named}
 use Rattle.redcode_expand.specs.Rest.{counters_of}
 use Rattle.redcode_expand.proofs.Counters.{counters_in, counters-reverse}
 use Rattle.redcode_expand.proofs.KnownNames.{unnamed-same}

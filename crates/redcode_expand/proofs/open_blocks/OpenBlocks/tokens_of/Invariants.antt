@@ -1,6 +1,6 @@
 -- What the tokens are under the counters that are left.
 use Rattle.std.proofs.Common.{◌≡◌, length}
-use Rattle.redcode_expand.specs.Counter.{in_copies}
+use Rattle.redcode_lines.specs.Counter.{in_copies}
 use Rattle.redcode_expand.specs.Rest.{counters_of}
 use Rattle.redcode_expand.proofs.Counters.{counters_in}
 use Rattle.redcode_expand.proofs.open_blocks.OpenBlocks.tokens_of.Given as goal

@@ -1,0 +1,35 @@
+-- Bytes say which header they are of, and sectors which warrior they hold.
+use Rattle.std.proofs.Common.{◌≡◌, ℕ, ◌^◌, ◌<◌, List, [], ◌++◌, length, take, sym, ap, ◌∙◌}
+use Rattle.std.proofs.Math.Seq.{take-append_seam}
+use Rattle.std.proofs.lemmas.List.{append_cancel_left}
+use Rattle.std.specs.Int.{bytes_high_first}
+use Rattle.byteorder.specs.Endian.{big_from}
+use Rattle.byteorder.specs.Numbers.{big_number-reads_back}
+use Rattle.war_types.specs.declared.settings.RawSettings.{RawSettings}
+use Rattle.war_types.specs.Settings.{AreSettings}
+use Rattle.war_types.specs.Warrior.{WarriorParts}
+use Rattle.hill_bytes.specs.Layout.{HeaderParts, IsHeader, IsSlot}
+use Rattle.hill_bytes.proofs.OneHeader.{same_header}
+use Rattle.hill_bytes.proofs.OneSlot.{same_warrior}
+
+-- of lists that are equal with something behind, those of one length are equal, and so is what stands behind
+pub front_same : {X : Type 0} (xs ys us vs : List X) → length xs ≡ length ys → xs ++ us ≡ ys ++ vs → xs ≡ ys
+front_same xs ys us vs same e =
+    sym (take-append_seam xs us) ∙ ap (λ n. take n (xs ++ us)) same ∙ ap (take (length ys)) e ∙ take-append_seam ys vs
+
+pub back_same : {X : Type 0} (xs ys us vs : List X) → length xs ≡ length ys → xs ++ us ≡ ys ++ vs → us ≡ vs
+back_same xs ys us vs same e =
+    append_cancel_left ys us vs (ap (λ zs. zs ++ us) (sym (front_same xs ys us vs same e)) ∙ e)
+
+-- a number is what its bytes are read as
+pub bytes_same : (k a b : ℕ) → a < 256 ^ k → b < 256 ^ k → bytes_high_first k a ≡ bytes_high_first k b → a ≡ b
+bytes_same k a b below_a below_b e =
+    sym (big_number-reads_back k a [] below_a) ∙ ap (λ bytes. big_from 0 k (bytes ++ [])) e ∙ big_number-reads_back k b [] below_b
+
+-- one header at most has these bytes
+pub one_header : (bytes : List ℕ) (g h : HeaderParts) → IsHeader bytes g → IsHeader bytes h → g ≡ h
+one_header bytes g h is_g is_h = same_header bytes g h is_g is_h
+
+-- one warrior at most stands in these sectors
+pub one_slot : (s : RawSettings) (front back : List ℕ) (v w : WarriorParts) → AreSettings s → IsSlot s front back v → IsSlot s front back w → v ≡ w
+one_slot s front back v w are is_v is_w = same_warrior s front back v w are is_v is_w

@@ -1,0 +1,7 @@
+pub mod HeaderBytes
+pub mod Writes
+pub mod OneHeader
+pub mod SlotBytes
+pub mod OneSlot
+pub mod Codes
+pub mod Rows

@@ -1,0 +1,129 @@
+-- Sectors hold one warrior at most.
+use Rattle.std.proofs.Common.{◌≡◌, ℕ, zero, suc, ◌+◌, ◌≤◌, List, [], ◌∷◌, ◌++◌, length, get_or, drop, replicate, All, arith, refl, sym, ap, ◌∙◌}
+use Rattle.std.proofs.lemmas.List.Elements.{All-head, All-tail}
+use Rattle.war_types.specs.Bytes.{op_code, modifier_code, mode_code, instr_bytes}
+use Rattle.war_types.specs.declared.instr.Op.{Op}
+use Rattle.war_types.specs.declared.instr.Op.TheVariants as ops
+use Rattle.war_types.specs.declared.instr.Modifier.{Modifier}
+use Rattle.war_types.specs.declared.instr.Modifier.TheVariants as modifiers
+use Rattle.war_types.specs.declared.instr.Mode.{Mode}
+use Rattle.war_types.specs.declared.instr.Mode.TheVariants as modes
+use Rattle.war_types.specs.declared.instr.Instr.{Instr}
+use Rattle.war_types.specs.declared.settings.RawSettings.{RawSettings}
+use Rattle.war_types.specs.Settings.{AreSettings}
+use Rattle.war_types.specs.Title.{IsPrintable}
+use Rattle.war_types.specs.Warrior.{WarriorParts, HasNumbersBelow}
+use Rattle.hill_bytes.specs.Layout.{code_places, filled, IsSlot}
+use Rattle.hill_bytes.proofs.OneHeader.{same-at}
+use Rattle.hill_bytes.proofs.SlotBytes.{back_rest, front-at, codes-at, len-at, start-at, name-at, author-at}
+
+abbrev op_of : ℕ → Op
+op_of n =
+    get_or (ops.Dat ∷ ops.Mov ∷ ops.Add ∷ ops.Sub ∷ ops.Mul ∷ ops.Div ∷ ops.Mdl ∷ ops.Jmp ∷ ops.Jmz ∷ ops.Jmn ∷ ops.Djn ∷ ops.Seq ∷ ops.Sne ∷ ops.Slt ∷ ops.Spl ∷ ops.Nop ∷ []) n ops.Dat
+
+op-back : (o : Op) → op_of (op_code o) ≡ o
+op-back ops.Dat = refl
+op-back ops.Mov = refl
+op-back ops.Add = refl
+op-back ops.Sub = refl
+op-back ops.Mul = refl
+op-back ops.Div = refl
+op-back ops.Mdl = refl
+op-back ops.Jmp = refl
+op-back ops.Jmz = refl
+op-back ops.Jmn = refl
+op-back ops.Djn = refl
+op-back ops.Seq = refl
+op-back ops.Sne = refl
+op-back ops.Slt = refl
+op-back ops.Spl = refl
+op-back ops.Nop = refl
+
+abbrev modifier_of : ℕ → Modifier
+modifier_of n = get_or (modifiers.A ∷ modifiers.B ∷ modifiers.AB ∷ modifiers.BA ∷ modifiers.F ∷ modifiers.X ∷ modifiers.I ∷ []) n modifiers.A
+
+modifier-back : (m : Modifier) → modifier_of (modifier_code m) ≡ m
+modifier-back modifiers.A = refl
+modifier-back modifiers.B = refl
+modifier-back modifiers.AB = refl
+modifier-back modifiers.BA = refl
+modifier-back modifiers.F = refl
+modifier-back modifiers.X = refl
+modifier-back modifiers.I = refl
+
+abbrev mode_of : ℕ → Mode
+mode_of n =
+    get_or (modes.Immediate ∷ modes.Direct ∷ modes.AIndirect ∷ modes.BIndirect ∷ modes.APre ∷ modes.BPre ∷ modes.APost ∷ modes.BPost ∷ []) n modes.Immediate
+
+mode-back : (m : Mode) → mode_of (mode_code m) ≡ m
+mode-back modes.Immediate = refl
+mode-back modes.Direct = refl
+mode-back modes.AIndirect = refl
+mode-back modes.BIndirect = refl
+mode-back modes.APre = refl
+mode-back modes.BPre = refl
+mode-back modes.APost = refl
+mode-back modes.BPost = refl
+
+mode-same : (m n : Mode) → mode_code m ≡ mode_code n → m ≡ n
+mode-same m n e = sym (mode-back m) ∙ ap mode_of e ∙ mode-back n
+
+instr-same : (core : ℕ) (i j : Instr) (r q : List ℕ) → core ≤ 65535 → HasNumbersBelow core i → HasNumbersBelow core j → instr_bytes i ++ r ≡ instr_bytes j ++ q → i ≡ j
+instr-same core i j r q most below_i below_j same =
+    let x : List ℕ = instr_bytes i ++ r in
+    let y : List ℕ = instr_bytes j ++ q in
+    let op : i.op ≡ j.op = sym (op-back i.op) ∙ ap (λ bytes. op_of (get_or bytes 0 0)) same ∙ op-back j.op in
+    let modifier : i.modifier ≡ j.modifier = sym (modifier-back i.modifier) ∙ ap (λ bytes. modifier_of (get_or bytes 1 0)) same ∙ modifier-back j.modifier in
+    let a_mode : i.a_mode ≡ j.a_mode = mode-same i.a_mode j.a_mode (ap (λ bytes. get_or bytes 2 0) same) in
+    let b_mode : i.b_mode ≡ j.b_mode = mode-same i.b_mode j.b_mode (ap (λ bytes. get_or bytes 3 0) same) in
+    let a : i.a ≡ j.a = same-at 2 i.a j.a (drop 4 x) (drop 6 x) (drop 6 y) (omega (arith, most, below_i.a)) (omega (arith, most, below_j.a)) refl (ap (drop 4) same) in
+    let b : i.b ≡ j.b = same-at 2 i.b j.b (drop 6 x) r q (omega (arith, most, below_i.b)) (omega (arith, most, below_j.b)) refl (ap (drop 6) same) in
+    λ k. record { op = op k; modifier = modifier k; a_mode = a_mode k; a = a k; b_mode = b_mode k; b = b k }
+
+-- all instructions are the same where both parts of them stand in the same places
+code-same : (n m core : ℕ) (is js : List Instr) (r q s t : List ℕ) → core ≤ 65535 → length is ≡ length js → length is ≤ n + m → All (HasNumbersBelow core) is → All (HasNumbersBelow core) js → code_places n is ++ r ≡ code_places n js ++ q → code_places m (drop n is) ++ s ≡ code_places m (drop n js) ++ t → is ≡ js
+code-same n m core [] [] r q s t most size few below_i below_j front back = refl
+code-same n m core [] (j ∷ js) r q s t most size few below_i below_j front back = absurd (omega (arith, size))
+code-same n m core (i ∷ is) [] r q s t most size few below_i below_j front back = absurd (omega (arith, size))
+code-same zero zero core (i ∷ is) (j ∷ js) r q s t most size few below_i below_j front back = absurd (omega (arith, few))
+code-same zero (suc m) core (i ∷ is) (j ∷ js) r q s t most size few below_i below_j front back =
+    let head : i ≡ j = instr-same core i j (code_places m is ++ s) (code_places m js ++ t) most (All-head (HasNumbersBelow core) i is below_i) (All-head (HasNumbersBelow core) j js below_j) back in
+    let tail : is ≡ js = code-same zero m core is js r q s t most (omega (arith, size)) (omega (arith, few)) (All-tail (HasNumbersBelow core) i is below_i) (All-tail (HasNumbersBelow core) j js below_j) front (ap (drop 8) back) in
+    ap (λ x. x ∷ is) head ∙ ap (λ xs. j ∷ xs) tail
+code-same (suc n) m core (i ∷ is) (j ∷ js) r q s t most size few below_i below_j front back =
+    let head : i ≡ j = instr-same core i j (code_places n is ++ r) (code_places n js ++ q) most (All-head (HasNumbersBelow core) i is below_i) (All-head (HasNumbersBelow core) j js below_j) front in
+    let tail : is ≡ js = code-same n m core is js r q s t most (omega (arith, size)) (omega (arith, few)) (All-tail (HasNumbersBelow core) i is below_i) (All-tail (HasNumbersBelow core) j js below_j) (ap (drop 8) front) back in
+    ap (λ x. x ∷ is) head ∙ ap (λ xs. j ∷ xs) tail
+
+not-zero : (b : ℕ) → IsPrintable b → b ≡ 0 → ⊥
+not-zero b is e = let low = is.low in omega (arith, low, e)
+
+-- titles are the same where the same bytes are filled with them
+title-same : (n : ℕ) (x y r q : List ℕ) → length x ≤ n → length y ≤ n → All IsPrintable x → All IsPrintable y → filled n x ++ r ≡ filled n y ++ q → x ≡ y
+title-same n [] [] r q few_x few_y is_x is_y same = refl
+title-same zero [] (b ∷ y) r q few_x few_y is_x is_y same = absurd (omega (arith, few_y))
+title-same zero (a ∷ x) y r q few_x few_y is_x is_y same = absurd (omega (arith, few_x))
+title-same (suc n) [] (b ∷ y) r q few_x few_y is_x is_y same = absurd (not-zero b (All-head IsPrintable b y is_y) (sym (ap (λ bytes. get_or bytes 0 0) same)))
+title-same (suc n) (a ∷ x) [] r q few_x few_y is_x is_y same = absurd (not-zero a (All-head IsPrintable a x is_x) (ap (λ bytes. get_or bytes 0 0) same))
+title-same (suc n) (a ∷ x) (b ∷ y) r q few_x few_y is_x is_y same =
+    let head : a ≡ b = ap (λ bytes. get_or bytes 0 0) same in
+    let tail : x ≡ y = title-same n x y r q (omega (arith, few_x)) (omega (arith, few_y)) (All-tail IsPrintable a x is_x) (All-tail IsPrintable b y is_y) (ap (drop 1) same) in
+    ap (λ c. c ∷ x) head ∙ ap (λ cs. b ∷ cs) tail
+
+-- one warrior at most stands in these sectors
+pub same_warrior : (s : RawSettings) (front back : List ℕ) (v w : WarriorParts) → AreSettings s → IsSlot s front back v → IsSlot s front back w → v ≡ w
+same_warrior s front back v w are is_v is_w =
+    let most = are.length_most in
+    let core : s.core ≤ 65535 = are.core_most in
+    let few_v = is_v.fits.length in
+    let few_w = is_w.fits.length in
+    let first_v = is_v.fits.start in
+    let first_w = is_w.fits.start in
+    let zeros : List ℕ = replicate 84 0 ++ replicate 40 0 in
+    let size : length v.code ≡ length w.code = same-at 2 (length v.code) (length w.code) (drop 288 back) (drop 2 (back_rest v)) (drop 2 (back_rest w)) (omega (arith, most, few_v)) (omega (arith, most, few_w)) (len-at back v is_v.back_is) (len-at back w is_w.back_is) in
+    let start : v.start ≡ w.start = same-at 2 v.start w.start (drop 290 back) (drop 4 (back_rest v)) (drop 4 (back_rest w)) (omega (arith, most, few_v, first_v)) (omega (arith, most, few_w, first_w)) (start-at back v is_v.back_is) (start-at back w is_w.back_is) in
+    let name : v.name ≡ w.name = title-same 48 v.name w.name (filled 48 v.author ++ zeros) (filled 48 w.author ++ zeros) is_v.titled.name.short is_w.titled.name.short is_v.titled.name.printable is_w.titled.name.printable (sym (name-at back v is_v.back_is) ∙ name-at back w is_w.back_is) in
+    let author : v.author ≡ w.author = title-same 48 v.author w.author zeros zeros is_v.titled.author.short is_w.titled.author.short is_v.titled.author.printable is_w.titled.author.printable (sym (author-at back v is_v.back_is) ∙ author-at back w is_w.back_is) in
+    let fronts : code_places 64 v.code ++ [] ≡ code_places 64 w.code ++ [] = ap (λ x. x ++ []) (sym (front-at front v is_v.front_is) ∙ front-at front w is_w.front_is) in
+    let code : v.code ≡ w.code = code-same 64 36 s.core v.code w.code [] [] (back_rest v) (back_rest w) core size (omega (arith, most, few_v)) is_v.fits.numbers is_w.fits.numbers fronts (sym (codes-at back v is_v.back_is) ∙ codes-at back w is_w.back_is) in
+    λ k. record { code = code k; start = start k; name = name k; author = author k }

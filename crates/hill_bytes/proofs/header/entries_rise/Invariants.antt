@@ -1,0 +1,7 @@
+-- The entries rise where those that are left rise behind the last one.
+use Rattle.std.proofs.Common.{◌↔◌, drop}
+use Rattle.hill_bytes.specs.Layout.{EntriesRise}
+use Rattle.hill_bytes.proofs.header.entries_rise.Given as goal
+
+abbrev pub invariant-loop-entry : goal.invariant-loop-entry
+invariant-loop-entry l = EntriesRise 0 l.entries ↔ EntriesRise l.before (drop l.entry-index l.entries)

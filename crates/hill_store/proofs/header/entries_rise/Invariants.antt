@@ -1,7 +1,0 @@
--- The entries rise where those that are left rise behind the last one.
-use Rattle.std.proofs.Common.{◌↔◌, drop}
-use Rattle.hill_store.specs.Layout.{EntriesRise}
-use Rattle.hill_store.proofs.header.entries_rise.Given as goal
-
-abbrev pub invariant-loop-entry : goal.invariant-loop-entry
-invariant-loop-entry l = EntriesRise 0 l.entries ↔ EntriesRise l.before (drop l.entry-index l.entries)

@@ -1,7 +1,0 @@
--- The slot is free where it is free among the entries that are left.
-use Rattle.std.proofs.Common.{◌↔◌, drop}
-use Rattle.hill_store.specs.Layout.{SlotIsFree}
-use Rattle.hill_store.proofs.header.slot_is_free.Given as goal
-
-abbrev pub invariant-loop-entry : goal.invariant-loop-entry
-invariant-loop-entry l = SlotIsFree l.slot l.entries ↔ SlotIsFree l.slot (drop l.entry-index l.entries)

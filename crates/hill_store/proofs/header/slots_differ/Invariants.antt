@@ -1,7 +1,0 @@
--- The slots differ where those of the entries that are left differ.
-use Rattle.std.proofs.Common.{◌↔◌, drop}
-use Rattle.hill_store.specs.Layout.{SlotsDiffer}
-use Rattle.hill_store.proofs.header.slots_differ.Given as goal
-
-abbrev pub invariant-loop-i : goal.invariant-loop-i
-invariant-loop-i l = SlotsDiffer l.entries ↔ SlotsDiffer (drop l.i l.entries)

@@ -1,0 +1,67 @@
+//! Settings, instructions and warriors that the tests share.
+
+ghost use Rattle.std.specs.Prelude.{◌≡◌, IfOk};
+ghost use Rattle.war_types.specs.Warrior.{Fits};
+
+use std::alloc::Global;
+use std::test::Fail;
+use war_types::{Instr, Mode, Modifier, Op, RawSettings, Settings, Title, Warrior};
+
+pub const SMALL: RawSettings = RawSettings {
+    core: 64,
+    cycles: 100,
+    processes: 8,
+    length: 10,
+    distance: 10,
+    rounds: 2,
+    seed: 1,
+    capacity: 2,
+};
+
+pub fn instr(op: Op, modifier: Modifier, a_mode: Mode, a: u16, b_mode: Mode, b: u16) -> Instr {
+    Instr {
+        op,
+        modifier,
+        a_mode,
+        a,
+        b_mode,
+        b,
+    }
+}
+
+/// An instruction with two direct operands.
+pub fn direct(op: Op, modifier: Modifier, a: u16, b: u16) -> Instr {
+    instr(op, modifier, Mode::Direct, a, Mode::Direct, b)
+}
+
+pub fn dat(a: u16, b: u16) -> Instr {
+    direct(Op::Dat, Modifier::F, a, b)
+}
+
+/// DAT 0, 0
+pub fn die() -> Instr {
+    dat(0, 0)
+}
+
+/// MOV 0, 1
+pub fn imp() -> Instr {
+    direct(Op::Mov, Modifier::I, 0, 1)
+}
+
+/// JMP 0
+pub fn stay() -> Instr {
+    direct(Op::Jmp, Modifier::B, 0, 0)
+}
+
+fn title(text: &[u8]) -> Title {
+    Title::new(text, "Unnamed")
+}
+
+/// A warrior of this code that starts at its first instruction.
+pub fn warrior(alloc: Global, code: &[Instr], settings: &Settings) -> Result<Warrior<Global>, Fail>
+    ensures { IfOk result (λ w. Fits settings.now w × (w.code ≡ code.now)) }
+{
+    let code = Vec::from_slice(alloc, code)?;
+    let (name, author) = (title(b"Imp"), title(b"A. K. Dewdney"));
+    Ok(Warrior::new(code, 0, name, author, settings).ok_or("it fits")?)
+}

@@ -1,0 +1,5 @@
+mod Lines
+mod Readings
+mod Fronts
+mod Joining
+mod SourceLines

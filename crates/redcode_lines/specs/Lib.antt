@@ -1,0 +1,5 @@
+pub mod Source
+pub mod Word
+pub mod Counter
+pub mod Operand
+pub mod Block

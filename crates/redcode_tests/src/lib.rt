@@ -1,0 +1,23 @@
+//! Tests of the public calls of `redcode_text`, `redcode_expand` and `redcode_asm`: of what no clause of them says.
+//!
+//! No crate stands on this one, so a check of the crates above waits for none of them. A module a subject:
+//!
+//! - `tokens`: the tokens of lines and their places, and what expressions come to;
+//! - `expansion`: the lines that sources are written out to, their labels, and the refusals of these;
+//! - `sources`: the load text and the titles that sources give; its helpers serve the two below;
+//! - `refusals`: sources that are refused, with the line and the kind;
+//! - `long_tests`: sources that are long once they are written out, on both sides of what an assembly may take.
+//!
+//! What a contract says is proved there and not tried here.
+#![tactic(auto)]
+
+#[cfg(test)]
+mod expansion;
+#[cfg(test)]
+mod long_tests;
+#[cfg(test)]
+mod refusals;
+#[cfg(test)]
+mod sources;
+#[cfg(test)]
+mod tokens;

@@ -1,0 +1,253 @@
+//! Sources that are refused, with the line and the kind.
+
+use crate::sources::{defaults, printed, repeated};
+use redcode_asm::assemble;
+use refusing::Refusing;
+use std::alloc::Global;
+use std::process::Abort;
+use std::test::Fail;
+use war_types::AsmKind;
+
+/// A source that is refused so.
+fn check_refused(rt: &(impl Abort + AllocGlobal), source: &str, refusal: &str) -> Result<(), Fail> {
+    match printed(rt.alloc(), source.as_bytes(), &defaults()?) {
+        Ok(_) => assert!(rt; false, "{source:?} is accepted"),
+        Err(fault) => {
+            let found = format!(in rt.alloc(); "{fault}")?;
+            assert_eq!(rt; found.as_str(), refusal, "{source:?}");
+        }
+    }
+    Ok(())
+}
+
+/// Each refusal with a smallest source that earns it, as the document of the language has them; those of many lines are
+/// among the limits.
+const SMALLEST: [(&str, &str); 24] = [
+    ("FOR", "1 UnmatchedFor"),
+    ("ROF", "1 UnmatchedRof"),
+    ("FOR 4097\nROF", "1 ForLimit"),
+    ("x\nx", "2 DuplicateName"),
+    ("EQU", "1 BadEqu"),
+    ("FOR\nROF", "1 BadExpression"),
+    ("FOR x\nROF", "1 UnknownName"),
+    ("FOR 1/0\nROF", "1 DivideByZero"),
+    ("FOR 9223372036854775808\nROF", "1 Overflow"),
+    ("a EQU a\nFOR a\nROF", "2 EquLimit"),
+    ("a EQU a\nDAT a", "2 EquLimit"),
+    ("=", "1 BadToken"),
+    ("+", "1 BadOperation"),
+    ("PIN", "1 Pspace"),
+    ("NOP.", "1 BadModifier"),
+    ("JMP", "1 MissingOperand"),
+    ("DAT #", "1 BadExpression"),
+    ("DAT x", "1 UnknownName"),
+    ("DAT 1/0", "1 DivideByZero"),
+    ("DAT 9223372036854775808", "1 Overflow"),
+    ("ORG 0,", "1 ExtraText"),
+    ("", "0 Empty"),
+    ("DAT\nEND 1", "2 BadStart"),
+    ("DAT\n;assert 0", "2 AssertFalse"),
+];
+
+#[test]
+fn smallest_sources(rt: HostRuntime) -> Result<(), Fail> {
+    for (source, refusal) in SMALLEST {
+        check_refused(&rt, source, refusal)?;
+    }
+    Ok(())
+}
+
+/// Sources with a line that has a fault, and how they are refused.
+const FAULTS: [(&str, &str); 57] = [
+    ("x DAT 0\nx DAT 1", "2 DuplicateName"),
+    ("CORESIZE DAT 0", "1 DuplicateName"),
+    ("DAT 0 = 1", "1 BadToken"),
+    ("DAT 5x", "1 BadExpression"),
+    ("MOV.Q 0, 1", "1 BadModifier"),
+    ("MOV 0, 1, 2", "1 ExtraText"),
+    ("MOV 0,,2", "1 MissingOperand"),
+    ("FOO 0", "1 BadOperation"),
+    ("DAT 0\n;assert WARRIORS == 3", "2 AssertFalse"),
+    ("LDP 0, 1", "1 Pspace"),
+    ("DAT 0\nEND 5", "2 BadStart"),
+    // a misspelt operation is a label, and the walk over the lines comes first
+    ("MVO 0, 1\nMVO 0, 1", "2 DuplicateName"),
+    ("FOO 0\nFOO 0", "2 DuplicateName"),
+    ("X DAT x", "1 UnknownName"),
+    ("DAT 0 ; FOR\nx FOR 2", "2 UnmatchedFor"),
+    ("?\nROF", "2 UnmatchedRof"),
+    ("here:", "1 BadOperation"),
+    ("MOV #, 1", "1 BadExpression"),
+    ("MOV >=5", "1 BadExpression"),
+    ("DAT MOV", "1 UnknownName"),
+    ("DAT coresize", "1 UnknownName"),
+    ("ORG #1\nDAT 0", "1 BadExpression"),
+    ("ORG . 0\nDAT 0", "1 BadExpression"),
+    ("DAT 0\n;assert #1", "2 BadExpression"),
+    ("LDP ?", "1 BadToken"),
+    ("PIN ?", "1 BadToken"),
+    ("x PIN", "1 Pspace"),
+    ("MOV (1, 2)", "1 BadExpression"),
+    ("MOV foo, 1, 2", "1 UnknownName"),
+    ("MOV foo,", "1 MissingOperand"),
+    ("MOV.Q", "1 BadModifier"),
+    ("STP.Q ,", "1 Pspace"),
+    ("MOV , 1, 2", "1 MissingOperand"),
+    ("MOV 1/0, foo", "1 DivideByZero"),
+    ("MOV 1, foo, 2", "1 UnknownName"),
+    ("DAT -9223372036854775808", "1 Overflow"),
+    ("DAT 1||1/0", "1 DivideByZero"),
+    ("DAT - -5 5", "1 BadExpression"),
+    ("ORG\nDAT 0", "1 MissingOperand"),
+    ("DAT 0\nORG 0,", "2 ExtraText"),
+    ("DAT 0\nEND ,0", "2 MissingOperand"),
+    ("DAT 0\n;assert ,1", "2 MissingOperand"),
+    ("DAT 0\n;assert 1,foo", "2 ExtraText"),
+    ("DAT 0\n;assert foo,", "2 UnknownName"),
+    // EQU
+    ("x EQU MOV 0, 1", "1 BadEqu"),
+    ("x EQU", "1 BadEqu"),
+    ("x\nEQU 1", "2 BadEqu"),
+    ("x EQU 1\nX x EQU 1", "2 DuplicateName"),
+    ("x EQU ?\nDAT x", "2 BadToken"),
+    ("m EQU I\nMOV.m 0, 1", "2 BadModifier"),
+    ("p EQU 1\nPIN p", "2 Pspace"),
+    ("m EQU 1,2\nDAT\n;assert m", "3 ExtraText"),
+    ("a EQU b b\nb EQU a a\nDAT 0, a", "3 EquLimit"),
+    // FOR and ROF
+    ("i FOR 1\nMOV.A&i 1, 2\nROF", "2 BadModifier"),
+    ("i01 FOR 1\nDAT i&i01\nROF", "2 UnknownName"),
+    ("x EQU i\ni FOR 1\nDAT x\nROF", "3 UnknownName"),
+    ("FOR 1\nEND\nROF", "0 Empty"),
+];
+
+#[test]
+fn lines_with_a_fault(rt: HostRuntime) -> Result<(), Fail> {
+    for (source, refusal) in FAULTS {
+        check_refused(&rt, source, refusal)?;
+    }
+    Ok(())
+}
+
+/// Without memory every source is refused alike.
+#[test]
+fn no_memory(rt: HostRuntime) -> Result<(), Fail> {
+    let settings = defaults()?;
+    let memory = Refusing::new(rt.alloc());
+    memory.refuse(0, 1);
+    match assemble(&memory, b"DAT", &settings) {
+        Ok(_) => assert!(rt; false, "it is accepted"),
+        Err(fault) => assert_eq!(rt; (fault.line, fault.kind), (0, AsmKind::Memory)),
+    }
+    assert_eq!(rt; memory.refused(), 1);
+    Ok(())
+}
+
+/// Of several faults the one that is told.
+const ORDERED: [(&str, &str); 14] = [
+    ("SPL\nDAT foo\nx\nx", "4 DuplicateName"),
+    ("DAT foo\nDAT a\na EQU a\nEQU 1", "4 BadEqu"),
+    ("DAT ?\na EQU a\nDAT a\n;assert a", "3 EquLimit"),
+    ("SPL\nDAT 9223372036854775808", "1 MissingOperand"),
+    ("DAT foo\nDAT ?", "1 UnknownName"),
+    ("ORG 0\nDAT 0\nEND foo", "3 UnknownName"),
+    ("ORG -9223372036854775808\nORG 0\nDAT 0\nSPL", "1 Overflow"),
+    ("ORG 99\nORG 0", "0 Empty"),
+    ("DAT 0\nORG -1\n", "2 BadStart"),
+    ("DAT 0\nORG 8000\n", "2 BadStart"),
+    ("ORG 5\nDAT 0\nEND 0", "1 BadStart"),
+    (";assert 0\nDAT 0\nEND 1", "3 BadStart"),
+    (";assert 1\n;assert 0\n;assert 0\nDAT 0", "2 AssertFalse"),
+    (";assert 0\nDAT 0\n;assert 1/0", "3 DivideByZero"),
+];
+
+#[test]
+fn order_of_faults(rt: HostRuntime) -> Result<(), Fail> {
+    for (source, refusal) in ORDERED {
+        check_refused(&rt, source, refusal)?;
+    }
+    Ok(())
+}
+
+#[test]
+fn limits(rt: HostRuntime) -> Result<(), Fail> {
+    let settings = defaults()?;
+    for (line, count, refusal) in [
+        ("DAT 0\n", 100, None),
+        ("DAT 0\n", 101, Some((0, AsmKind::TooLong))),
+        ("DAT 0\n", 4096, Some((0, AsmKind::TooLong))),
+        ("DAT 0\n", 4097, Some((4097, AsmKind::ForLimit))),
+        (";name x\n", 4097, Some((4097, AsmKind::ForLimit))),
+        ("\n", 65_536, Some((0, AsmKind::Empty))),
+        ("\n", 65_537, Some((0, AsmKind::SourceTooLong))),
+    ] {
+        let source = repeated(rt.alloc(), line.as_bytes(), count)?;
+        let refused = match assemble(rt.alloc(), source.as_slice(), &settings) {
+            Ok(warrior) => {
+                assert_eq!(rt; warrior.code().len(), count);
+                None
+            }
+            Err(fault) => Some((fault.line, fault.kind)),
+        };
+        assert_eq!(rt; refused, refusal, "{count} lines");
+    }
+    Ok(())
+}
+
+/// Each of 15 names is the next one.
+const CHAIN: &str =
+    "y0 EQU y1\ny1 EQU y2\ny2 EQU y3\ny3 EQU y4\ny4 EQU y5\ny5 EQU y6\ny6 EQU y7\ny7 EQU y8\ny8 EQU y9\ny9 EQU y10\ny10 EQU y11\ny11 EQU y12\ny12 EQU y13\ny13 EQU y14\ny14 EQU y15\n";
+
+/// Each of 8 names is twice the next one, and the last is 1.
+const DOUBLE: &str =
+    "x0 EQU x1+x1\nx1 EQU x2+x2\nx2 EQU x3+x3\nx3 EQU x4+x4\nx4 EQU x5+x5\nx5 EQU x6+x6\nx6 EQU x7+x7\nx7 EQU x8+x8\nx8 EQU 1\n";
+
+/// Lines with a chain of names or with doublings, those behind them, and the B-number of the first instruction, or the refusal.
+const ROUNDS: [(&str, &str, Result<u16, (u32, AsmKind)>); 4] = [
+    (CHAIN, "y15 EQU 7\nDAT y0", Ok(7)),
+    (
+        CHAIN,
+        "y15 EQU y16\ny16 EQU 7\nDAT y0",
+        Err((18, AsmKind::EquLimit)),
+    ),
+    (DOUBLE, "DAT x0", Ok(256)),
+    (DOUBLE, "DAT 0, x0", Err((10, AsmKind::EquLimit))),
+];
+
+/// The B-number of the first instruction that a source gives, or its refusal.
+fn first_number(alloc: Global, source: &[u8]) -> Result<Result<u16, (u32, AsmKind)>, Fail> {
+    match assemble(alloc, source, &defaults()?) {
+        Ok(warrior) => Ok(Ok(warrior.code()[0].b)),
+        Err(fault) => Ok(Err((fault.line, fault.kind))),
+    }
+}
+
+/// Chains of names are followed 16 deep, and doublings up to 512 tokens.
+#[test]
+fn rounds_of_replacement(rt: HostRuntime) -> Result<(), Fail> {
+    for (lines, others, answer) in ROUNDS {
+        let mut source = Vec::from_slice(rt.alloc(), lines.as_bytes())?;
+        source.extend_from_slice(others.as_bytes())?;
+        let found = first_number(rt.alloc(), source.as_slice())?;
+        assert_eq!(rt; found, answer, "{others:?}");
+    }
+    Ok(())
+}
+
+/// A line has at most 512 tokens behind its word.
+#[test]
+fn tokens_of_a_line(rt: HostRuntime) -> Result<(), Fail> {
+    let settings = defaults()?;
+    for (sign, sums, refusal) in [("-", 255, None), ("", 256, Some((1, AsmKind::EquLimit)))] {
+        let mut source = Vec::from_slice(rt.alloc(), b"DAT ")?;
+        source.extend_from_slice(sign.as_bytes())?;
+        source.extend_from_slice(repeated(rt.alloc(), b"1+", sums)?.as_slice())?;
+        source.push(b'1')?;
+        let refused = match assemble(rt.alloc(), source.as_slice(), &settings) {
+            Ok(_) => None,
+            Err(fault) => Some((fault.line, fault.kind)),
+        };
+        assert_eq!(rt; refused, refusal, "{sums} sums");
+    }
+    Ok(())
+}

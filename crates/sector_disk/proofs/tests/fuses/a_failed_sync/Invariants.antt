@@ -1,6 +1,0 @@
-use Rattle.std.proofs.Common.{◌≡◌}
-use Rattle.sector_disk.specs.Memory.{memory_size}
-use Rattle.sector_disk.proofs.tests.fuses.a_failed_sync.Given as goal
-
-abbrev pub invariant-loop-step : goal.invariant-loop-step
-invariant-loop-step g l = memory_size l.device.inner ≡ 2

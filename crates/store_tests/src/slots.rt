@@ -1,0 +1,85 @@
+//! The two sectors of a slot, and what is no slot's.
+
+use hill_bytes::Slot;
+use std::test::Fail;
+use war_types::{Instr, Mode, Modifier, Op, RawSettings, Settings};
+
+const SMALL: RawSettings = RawSettings {
+    core: 64,
+    cycles: 100,
+    processes: 8,
+    length: 10,
+    distance: 10,
+    rounds: 2,
+    seed: 1,
+    capacity: 2,
+};
+
+/// `MOV.I $0, $1` as it is stored, and `DAT.F #0, #63`.
+const STORED: [u8; 16] = [1, 6, 1, 1, 0, 0, 0, 1, 0, 4, 0, 0, 0, 0, 0, 63];
+
+const MOV: Instr = Instr {
+    op: Op::Mov,
+    modifier: Modifier::I,
+    a_mode: Mode::Direct,
+    a: 0,
+    b_mode: Mode::Direct,
+    b: 1,
+};
+
+const DAT: Instr = Instr {
+    op: Op::Dat,
+    modifier: Modifier::F,
+    a_mode: Mode::Immediate,
+    a: 0,
+    b_mode: Mode::Immediate,
+    b: 63,
+};
+
+/// The slot of a warrior of two instructions that starts at the second, `Imp` of `Ann`.
+fn stored() -> Slot {
+    let mut front = [0; 512];
+    front[..16].copy_from_slice(STORED.as_slice());
+    let mut back = [0; 512];
+    back[289] = 2;
+    back[291] = 1;
+    back[292] = b'I';
+    back[293] = b'm';
+    back[294] = b'p';
+    back[340] = b'A';
+    back[341] = b'n';
+    back[342] = b'n';
+    Slot { front, back }
+}
+
+#[test]
+fn a_slot_is_read_and_written(rt: HostRuntime) -> Result<(), Fail> {
+    let settings = Settings::new(SMALL)?;
+    let slot = stored();
+    let warrior = slot.decode(rt.alloc(), &settings)?.ok_or("its warrior")?;
+    assert_eq!(rt; warrior.code(), [MOV, DAT].as_slice());
+    assert_eq!(rt; warrior.start(), 1);
+    assert_eq!(rt; warrior.name().bytes(), b"Imp".as_slice());
+    assert_eq!(rt; warrior.author().bytes(), b"Ann".as_slice());
+    let again = Slot::encode(&warrior);
+    assert!(rt; again.front == slot.front);
+    assert!(rt; again.back == slot.back);
+    Ok(())
+}
+
+#[test]
+fn sectors_that_hold_no_warrior(rt: HostRuntime) -> Result<(), Fail> {
+    let settings = Settings::new(SMALL)?;
+    let blank = Slot::blank();
+    assert!(rt; blank.decode(rt.alloc(), &settings)?.is_none());
+    let mut slot = stored();
+    slot.back[511] = 1;
+    assert!(rt; slot.decode(rt.alloc(), &settings)?.is_none());
+    slot.back[511] = 0;
+    slot.front[16] = 1;
+    assert!(rt; slot.decode(rt.alloc(), &settings)?.is_none());
+    slot.front[16] = 0;
+    slot.front[15] = 64;
+    assert!(rt; slot.decode(rt.alloc(), &settings)?.is_none());
+    Ok(())
+}

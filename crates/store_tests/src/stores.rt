@@ -1,0 +1,306 @@
+//! A store over a device in memory: what is answered, how many calls are made, and what opens again.
+
+use hill_store::{Header, Refusal, Reply, Store, encode_header};
+use koth_hill::Row;
+use refusing::Refusing;
+use sector_disk::{Device, Fault, FuseDevice, FuseKind, MemoryDevice};
+use std::alloc::{Allocator, Global};
+use std::process::Abort;
+use std::test::Fail;
+use war_types::{AsmFault, AsmKind, RawSettings, Settings};
+
+const SMALL: RawSettings = RawSettings {
+    core: 64,
+    cycles: 100,
+    processes: 8,
+    length: 10,
+    distance: 10,
+    rounds: 2,
+    seed: 1,
+    capacity: 2,
+};
+
+/// A hill of two without warriors, on a device that was blank.
+fn created<D: Device + Drop, A: Allocator + Copy>(
+    alloc: A,
+    device: D,
+) -> Result<Store<D, A>, Fail> {
+    match Store::create(alloc, device, Settings::new(SMALL)?) {
+        Ok(store) => Ok(store),
+        Err(_) => Err("it is created".into()),
+    }
+}
+
+fn opened<D: Device + Drop>(alloc: Global, device: D) -> Result<Store<D, Global>, Fail> {
+    match Store::open(alloc, device) {
+        Ok(store) => Ok(store),
+        Err(_) => Err("it opens".into()),
+    }
+}
+
+/// Counts the calls of read, write and sync.
+#[derive(Drop)]
+struct Counting<D> {
+    inner: D,
+    calls: u32,
+}
+
+impl<D: Device> Device for Counting<D> {
+    ghost disk = { λ c. D.disk c.inner };
+
+    ghost size = { λ c. D.size c.inner };
+
+    ghost lawful = { λ c. D.lawful c.inner };
+
+    ghost failures = { λ c. D.failures c.inner };
+
+    fn sectors(&self) -> u32 {
+        self.inner.sectors()
+    }
+
+    fn faults(&self) -> u64 {
+        self.inner.faults()
+    }
+
+    fn read(&mut self, n: u32, to: &mut [u8; 512]) -> Result<(), Fault> {
+        self.calls = self.calls.saturating_add(1);
+        self.inner.read(n, to)
+    }
+
+    fn write(&mut self, n: u32, from: &[u8; 512]) -> Result<(), Fault> {
+        self.calls = self.calls.saturating_add(1);
+        self.inner.write(n, from)
+    }
+
+    fn sync(&mut self) -> Result<(), Fault> {
+        self.calls = self.calls.saturating_add(1);
+        self.inner.sync()
+    }
+}
+
+fn counted(inner: MemoryDevice<Global>) -> Counting<MemoryDevice<Global>> {
+    Counting { inner, calls: 0 }
+}
+
+fn placed(entry: u64, rank: u32, score: u32) -> Reply {
+    Reply::Placed { entry, rank, score }
+}
+
+fn fell(entry: u64, score: u32) -> Reply {
+    Reply::Fell { entry, score }
+}
+
+fn refused(line: u32, kind: AsmKind) -> Reply {
+    Reply::Refused(AsmFault { line, kind })
+}
+
+/// A row as three numbers: entry, score and age.
+fn numbers(row: Option<&Row<'_>>) -> Option<(u64, u32, u64)> {
+    match row {
+        Some(row) => Some((row.entry, row.score, row.age)),
+        None => None,
+    }
+}
+
+#[test]
+fn submissions_one_by_one(rt: HostRuntime) -> Result<(), Fail> {
+    let mut store = created(rt.alloc(), MemoryDevice::new(rt.alloc(), 8)?)?;
+    assert_eq!(rt; store.submit(b"MOV 0,1"), placed(1, 1, 0));
+    assert_eq!(rt; store.submit(b"JMP 0"), placed(2, 2, 2));
+    assert_eq!(rt; store.submit(b"DAT 0,0"), fell(3, 0));
+    expect_two_rows(&rt, &store)?;
+    assert_eq!(rt; store.submit(b"MOV 0,1"), fell(4, 4));
+    Ok(())
+}
+
+/// Both have two points, and the one that came first is one older.
+fn expect_two_rows(
+    rt: &impl Abort,
+    store: &Store<MemoryDevice<Global>, Global>,
+) -> Result<(), Fail> {
+    let rows = store.rows()?;
+    assert_eq!(rt; rows.len(), 2);
+    assert_eq!(rt; numbers(rows.first()), Some((1, 2, 1)));
+    assert_eq!(rt; numbers(rows.get(1)), Some((2, 2, 0)));
+    Ok(())
+}
+
+/// Creating makes five calls: sync, read, read, write, sync. Each warrior that is placed makes five more, the one that falls two.
+#[test]
+fn a_list_of_submissions(rt: HostRuntime) -> Result<(), Fail> {
+    let device = counted(MemoryDevice::new(rt.alloc(), 8)?);
+    let mut store = created(rt.alloc(), device)?;
+    let sources: [&[u8]; 4] = [b"MOV 0,1", b"JMP 0", b"", b"DAT 0,0"];
+    let replies = store.submit_all(&sources)?;
+    assert_eq!(rt; replies.len(), 4);
+    assert_eq!(rt; replies[0], placed(1, 1, 0));
+    assert_eq!(rt; replies[1], placed(2, 2, 2));
+    assert_eq!(rt; replies[2], refused(0, AsmKind::Empty));
+    assert_eq!(rt; replies[3], fell(3, 0));
+    assert_eq!(rt; store.submit_all(&[])?.len(), 0);
+    assert_eq!(rt; store.close().calls, 5 + 12);
+    Ok(())
+}
+
+#[test]
+fn a_stopped_image_opens(rt: HostRuntime) -> Result<(), Fail> {
+    let device = device_of_one(&rt, rt.alloc())?.stopped(&[])?;
+    let rows = rows_found(rt.alloc(), device)?;
+    assert_eq!(rt; rows, (1, Some((1, 0, 0))));
+    Ok(())
+}
+
+/// A device that holds a hill of one warrior.
+fn device_of_one(rt: &impl Abort, alloc: Global) -> Result<MemoryDevice<Global>, Fail> {
+    let mut store = created(alloc, MemoryDevice::new(alloc, 8)?)?;
+    assert_eq!(rt; store.submit(b"MOV 0,1"), placed(1, 1, 0));
+    Ok(store.close())
+}
+
+/// How many rows the hill has that is opened on a device, and the first one's numbers.
+fn rows_found(
+    alloc: Global,
+    device: MemoryDevice<Global>,
+) -> Result<(usize, Option<(u64, u32, u64)>), Fail> {
+    let store = opened(alloc, device)?;
+    let rows = store.rows()?;
+    Ok((rows.len(), numbers(rows.first())))
+}
+
+/// Why no hill is opened on a device, if none is.
+fn refusal_to_open<A: Allocator + Copy>(alloc: A, device: MemoryDevice<Global>) -> Option<Refusal> {
+    match Store::open(alloc, device) {
+        Ok(_) => None,
+        Err((_, refusal)) => Some(refusal),
+    }
+}
+
+/// Why no hill of two is created on a device, if none is.
+fn refusal_to_create<A: Allocator + Copy>(
+    alloc: A,
+    device: MemoryDevice<Global>,
+) -> Result<Option<Refusal>, Fail> {
+    match Store::create(alloc, device, Settings::new(SMALL)?) {
+        Ok(_) => Ok(None),
+        Err((_, refusal)) => Ok(Some(refusal)),
+    }
+}
+
+/// How a device of so many sectors, and nothing on them, is refused: to open, and to create.
+fn refusal_of_blank(
+    alloc: Global,
+    sectors: u32,
+) -> Result<(Option<Refusal>, Option<Refusal>), Fail> {
+    let opening = refusal_to_open(alloc, MemoryDevice::new(alloc, sectors)?);
+    let creation = refusal_to_create(alloc, MemoryDevice::new(alloc, sectors)?)?;
+    Ok((opening, creation))
+}
+
+/// Why no hill is created on a device that holds one.
+fn refusal_of_a_hill(alloc: Global) -> Result<Option<Refusal>, Fail> {
+    let store = created(alloc, MemoryDevice::new(alloc, 8)?)?;
+    refusal_to_create(alloc, store.close())
+}
+
+#[test]
+fn devices_that_are_refused(rt: HostRuntime) -> Result<(), Fail> {
+    let blank = refusal_of_blank(rt.alloc(), 8)?;
+    assert_eq!(rt; blank, (Some(Refusal::NotAHill), None));
+    let small = refusal_of_blank(rt.alloc(), 4)?;
+    assert_eq!(rt; small, (Some(Refusal::NotAHill), Some(Refusal::TooSmall)));
+    let tiny = refusal_of_blank(rt.alloc(), 1)?;
+    assert_eq!(rt; tiny, (Some(Refusal::TooSmall), Some(Refusal::TooSmall)));
+    let occupied = refusal_of_a_hill(rt.alloc())?;
+    assert_eq!(rt; occupied, Some(Refusal::Occupied));
+    Ok(())
+}
+
+/// A device with the header of the greatest generation, of a hill of two without warriors.
+fn worn(alloc: Global) -> Result<MemoryDevice<Global>, Fail> {
+    let mut device = MemoryDevice::new(alloc, 8)?;
+    let header = Header::new(u64::MAX, Settings::new(SMALL)?, 0, &[]).ok_or("a header")?;
+    device.set(1, &encode_header(&header));
+    Ok(device)
+}
+
+/// Opening makes three calls where the hill is empty, and what follows none.
+#[test]
+fn the_greatest_generation(rt: HostRuntime) -> Result<(), Fail> {
+    let mut store = opened(rt.alloc(), counted(worn(rt.alloc())?))?;
+    assert_eq!(rt; store.submit(b""), refused(0, AsmKind::Empty));
+    assert_eq!(rt; store.submit(b"MOV 0,1"), Reply::Worn);
+    assert_eq!(rt; store.close().calls, 3);
+    Ok(())
+}
+
+#[test]
+fn a_device_that_fails(rt: HostRuntime) -> Result<(), Fail> {
+    let cut = cut_at_the_last_sync(&rt, rt.alloc())?;
+    let lost = rows_found(rt.alloc(), cut.stopped(&[])?)?;
+    assert_eq!(rt; lost.0, 1);
+    let kept = rows_found(rt.alloc(), cut.stopped(&[1])?)?;
+    assert_eq!(rt; kept.0, 2);
+    Ok(())
+}
+
+/// A device that was stopped at the last sync of a second warrior.
+fn cut_at_the_last_sync(rt: &impl Abort, alloc: Global) -> Result<MemoryDevice<Global>, Fail> {
+    let device = FuseDevice::new(MemoryDevice::new(alloc, 8)?, 14, FuseKind::Stop);
+    let mut store = created(alloc, device)?;
+    assert_eq!(rt; store.submit(b"MOV 0,1"), placed(1, 1, 0));
+    assert_eq!(rt; store.submit(b"JMP 0"), Reply::Disk);
+    assert_eq!(rt; store.submit(b"JMP 0"), Reply::Reopen);
+    Ok(store.close().into_inner())
+}
+
+#[test]
+fn each_growth_of_a_creation(rt: HostRuntime) -> Result<(), Fail> {
+    let memory = Refusing::new(rt.alloc());
+    for k in 0..100_u64 {
+        let device = MemoryDevice::new(rt.alloc(), 8)?;
+        memory.refuse(k, 1);
+        let refusal = refusal_to_create(&memory, device)?;
+        if memory.refused() == 0 {
+            assert_eq!(rt; (refusal, k), (None, 4));
+            return Ok(());
+        }
+        assert_eq!(rt; refusal, Some(Refusal::Memory));
+    }
+    Err("each run met a refusal".into())
+}
+
+#[test]
+fn each_growth_of_an_opening(rt: HostRuntime) -> Result<(), Fail> {
+    let memory = Refusing::new(rt.alloc());
+    let device = device_of_one(&rt, rt.alloc())?;
+    for k in 0..100_u64 {
+        memory.refuse(k, 1);
+        let refusal = refusal_to_open(&memory, device.stopped(&[])?);
+        if memory.refused() == 0 {
+            assert_eq!(rt; (refusal, k), (None, 5));
+            return Ok(());
+        }
+        assert_eq!(rt; refusal, Some(Refusal::Memory));
+    }
+    Err("each run met a refusal".into())
+}
+
+/// A submission that is answered `Memory` leaves the hill as it was, so the first that isn't is entry 1.
+#[test]
+fn each_growth_of_a_submission(rt: HostRuntime) -> Result<(), Fail> {
+    let memory = Refusing::new(rt.alloc());
+    let device = counted(MemoryDevice::new(rt.alloc(), 8)?);
+    let mut store = created(&memory, device)?;
+    for k in 0..1000_u64 {
+        memory.refuse(k, 1);
+        let reply = store.submit(b"MOV 0,1");
+        if memory.refused() == 0 {
+            assert_eq!(rt; reply, placed(1, 1, 0));
+            assert_eq!(rt; store.close().calls, 5 + 5);
+            assert_eq!(rt; k, 11);
+            return Ok(());
+        }
+        assert_eq!(rt; reply, Reply::Memory);
+    }
+    Err("each run met a refusal".into())
+}
