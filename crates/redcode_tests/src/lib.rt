@@ -4,6 +4,7 @@
 //!
 //! - `tokens`: the tokens of lines and their places, and what expressions come to;
 //! - `expansion`: the lines that sources are written out to, their labels, and the refusals of these;
+//! - `printer`: the load text of codes made by hand;
 //! - `sources`: the load text and the titles that sources give; its helpers serve the two below;
 //! - `refusals`: sources that are refused, with the line and the kind;
 //! - `long_tests`: sources that are long once they are written out, on both sides of what an assembly may take.
@@ -15,6 +16,8 @@
 mod expansion;
 #[cfg(test)]
 mod long_tests;
+#[cfg(test)]
+mod printer;
 #[cfg(test)]
 mod refusals;
 #[cfg(test)]
