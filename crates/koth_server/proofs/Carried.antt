@@ -12,19 +12,19 @@ use Rattle.koth_server.specs.Asm.{EndsAsm}
 use Rattle.koth_server.specs.Failure.{failure_line}
 use Rattle.koth_server.specs.Fight.{EndsFight}
 use Rattle.koth_server.specs.Hills.{EndsCreate, EndsHill, EndsServe, Said, SaysCreated, SaysReply, SaysTable, listening_line}
-use Rattle.koth_server.specs.Options.{settings_in}
+use Rattle.koth_words.specs.Options.{settings_in}
 use Rattle.koth_server.specs.Run.{EndsRequest, EndsWithout, unread}
 use Rattle.koth_session.specs.Written.{WritesPart}
 use Rattle.koth_server.specs.Streams.{Streams, streams}
-use Rattle.koth_server.specs.Words.{AsksBy, IsRefusal, given_in}
+use Rattle.koth_words.specs.Words.{AsksBy, IsRefusal, given_in}
 use Rattle.koth_server.specs.declared.failure.Failure.TheVariants as failures
 use Rattle.koth_server.specs.declared.hill_fault.HillFault.TheVariants.{Failed}
 use Rattle.koth_server.specs.declared.status.Status.{Status}
 use Rattle.koth_server.specs.declared.status.Status.TheVariants.{NoMemory, WordFault}
-use Rattle.koth_server.specs.declared.words.NoRequest.{NoRequest}
-use Rattle.koth_server.specs.declared.words.NoRequest.TheVariants as reasons
-use Rattle.koth_server.specs.declared.words.Request.{Request}
-use Rattle.koth_server.specs.declared.words.Request.TheVariants.{Asm, Fight, Create, Submit, Show, Serve}
+use Rattle.koth_words.specs.declared.words.NoRequest.{NoRequest}
+use Rattle.koth_words.specs.declared.words.NoRequest.TheVariants as reasons
+use Rattle.koth_words.specs.declared.words.Request.{Request}
+use Rattle.koth_words.specs.declared.words.Request.TheVariants.{Asm, Fight, Create, Submit, Show, Serve}
 
 -- one name isn't another
 other_verb : (a b name : Text) → bytes_eq a b ≡ false → bytes_eq b b ≡ true → name ≡ a → Some name ≡ Some b → ⊥

@@ -1,10 +1,5 @@
 mod Carried
-mod Commands
 mod Ends
-mod Entered
-mod Named
-mod Numbers
+mod Listening
 mod Parts
-mod Requests
-mod Rows
 mod Sources

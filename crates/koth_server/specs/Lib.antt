@@ -1,6 +1,3 @@
--- What the words of the command line ask for.
-pub mod Options
-pub mod Words
 -- The three streams, how the program ends, and what it tells of a failure.
 pub mod Streams
 pub mod Status

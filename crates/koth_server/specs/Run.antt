@@ -11,10 +11,10 @@ use Rattle.koth_server.specs.Streams.{Streams, streams}
 use Rattle.koth_server.specs.declared.failure.Failure.TheVariants as failures
 use Rattle.koth_server.specs.declared.status.Status.{Status}
 use Rattle.koth_server.specs.declared.status.Status.TheVariants as statuses
-use Rattle.koth_server.specs.declared.words.NoRequest.{NoRequest}
-use Rattle.koth_server.specs.declared.words.NoRequest.TheVariants as reasons
-use Rattle.koth_server.specs.declared.words.Request.{Request}
-use Rattle.koth_server.specs.declared.words.Request.TheVariants.{Asm, Fight, Create, Submit, Show, Serve}
+use Rattle.koth_words.specs.declared.words.NoRequest.{NoRequest}
+use Rattle.koth_words.specs.declared.words.NoRequest.TheVariants as reasons
+use Rattle.koth_words.specs.declared.words.Request.{Request}
+use Rattle.koth_words.specs.declared.words.Request.TheVariants.{Asm, Fight, Create, Submit, Show, Serve}
 
 -- the code is that of a status of which this holds
 abbrev pub Leaves : ℕ → (Status → Type 0) → Type 0

@@ -1,10 +1,9 @@
-//! The program `koth`: its words, its commands and its streams.
+//! The program `koth`: its commands and its streams.
 //!
 //! It stands on all other layers and says what each word of the command line makes of them. The modules, in the order in
 //! which the data pass:
 //!
-//! - `options` and `words`: the words of the command line, read by `clap`, as a request;
-//! - `program`: `run`, which carries a request out and ends with a status;
+//! - `program`: `run`, which carries out what the words of the command line ask for, by `koth_words`, and ends with a status;
 //! - `stream`, `files`: an input that is read up to a limit, an output that is written whole, a hill in a file;
 //! - `asm`, `fight`, `create`, `submit`, `show`, `serve`: a command each;
 //! - `status`, `failure`, `hill_fault`, `answer`: how the program ends, and what it tells of what went wrong.
@@ -24,14 +23,12 @@ mod failure;
 mod fight;
 mod files;
 mod hill_fault;
-mod options;
 mod program;
 mod serve;
 mod show;
 mod status;
 mod stream;
 mod submit;
-mod words;
 
 pub use failure::Failure;
 pub use hill_fault::HillFault;

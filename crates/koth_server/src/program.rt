@@ -9,7 +9,7 @@ ghost use Rattle.koth_server.specs.Fight.{EndsFight};
 ghost use Rattle.koth_server.specs.Hills.{EndsCreate, EndsHill, EndsServe, SaysReply, SaysTable};
 ghost use Rattle.koth_server.specs.Run.{EndsRequest, EndsWithout, Leaves};
 ghost use Rattle.koth_server.specs.Streams.{streams};
-ghost use Rattle.koth_server.specs.Words.{koth_app, settings_named, AreWrong, AsksFor};
+ghost use Rattle.koth_words.specs.Words.{koth_app, settings_named, AreWrong, AsksFor};
 
 use crate::asm::asm;
 use crate::create::create;
@@ -20,7 +20,7 @@ use crate::show::show;
 use crate::status::Status;
 use crate::stream::{StreamFault, write_whole};
 use crate::submit::submit;
-use crate::words::{NoRequest, Request, parse};
+use koth_words::{NoRequest, Request, parse};
 use std::alloc::{Allocator, Global};
 use std::io::{Read, Write};
 use std::net::Net;

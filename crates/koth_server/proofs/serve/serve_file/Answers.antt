@@ -1,6 +1,6 @@
 -- Before the line nothing was written, and behind it nothing more.
 use Rattle.std.proofs.Common.{rules}
-use Rattle.koth_server.proofs.Requests.{no_line, whole_line}
+use Rattle.koth_server.proofs.Listening.{no_line, whole_line}
 use Rattle.koth_server.proofs.serve.serve_file.Goals as goal
 
 pub returns-in-Err : goal.returns-in-Err

@@ -2,8 +2,8 @@
 use Rattle.std.proofs.Common.{ap, ap₂, ◌∙◌}
 use Rattle.std.proofs.lemmas.Result.{IfOk-weaker}
 use Rattle.clap.specs.Words.{App, with_subcommand}
-use Rattle.koth_server.specs.Words.{koth_app}
-use Rattle.koth_server.proofs.words.koth_command.Goals as goal
+use Rattle.koth_words.specs.Words.{koth_app}
+use Rattle.koth_words.proofs.words.koth_command.Goals as goal
 
 pub returns : goal.returns
 unfolding koth_app

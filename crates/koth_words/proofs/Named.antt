@@ -15,8 +15,8 @@ use Rattle.clap.specs.declared.parser.matches.ArgMatches.{ArgMatches}
 use Rattle.clap.specs.declared.parser.matches.ArgMatches.TheViews.{out-ArgMatches, out-SubCommand}
 use Rattle.clap.specs.declared.parser.matches.SubCommand.{SubCommand}
 use Rattle.clap.proofs.OnLiterals.{clap_on_literals}
-use Rattle.koth_server.proofs.Entered.{OnNames, level_has, level_walks, walk_stops}
-use Rattle.koth_server.specs.Words.{AreWrong, NamesCommand, koth_app}
+use Rattle.koth_words.proofs.Entered.{OnNames, level_has, level_walks, walk_stops}
+use Rattle.koth_words.specs.Words.{AreWrong, NamesCommand, koth_app}
 
 koth_is_simple : (is_simple koth_app ≡ true) × (is_simple_and_free koth_app ≡ true)
 unfolding clap_on_literals koth_app

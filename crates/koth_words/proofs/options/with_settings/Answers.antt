@@ -2,8 +2,8 @@
 use Rattle.std.proofs.Common.{◌∙◌, ap, codes}
 use Rattle.std.proofs.lemmas.Result.{IfOk-weaker}
 use Rattle.clap.specs.Words.{App}
-use Rattle.koth_server.specs.Options.{with_option}
-use Rattle.koth_server.proofs.options.with_settings.Goals as goal
+use Rattle.koth_words.specs.Options.{with_option}
+use Rattle.koth_words.proofs.options.with_settings.Goals as goal
 
 pub returns-clause-app : goal.returns-clause-app
 returns-clause-app c =

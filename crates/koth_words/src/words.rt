@@ -3,8 +3,8 @@
 ghost use Rattle.std.specs.Prelude.{◌≡◌, ◌≢◌, true, false, codes, map, IfOk, IfErr, IsErrAnd, option_map, string_bytes};
 ghost use Rattle.clap.specs.Words.{app_of, first_of, found_of, kind_of, new_app, new_rule, one_of, rows_of, rule_of, subcommand_name_of, subcommand_of, subcommand_rows_of, takes, with_rule};
 ghost use Rattle.clap.specs.declared.builder.command.Command.TheViews.{out-Command};
-ghost use Rattle.koth_server.specs.Options.{number_below, number_or, required_rule, with_settings};
-ghost use Rattle.koth_server.specs.Words.{asm_app, create_app, fight_app, file_rule, koth_app, serve_app, show_app, submit_app, text_or_none, wants_subcommand, AreWrong, AsksBy, IsRefusal, NamesCommand};
+ghost use Rattle.koth_words.specs.Options.{number_below, number_or, required_rule, with_settings};
+ghost use Rattle.koth_words.specs.Words.{asm_app, create_app, fight_app, file_rule, koth_app, serve_app, show_app, submit_app, text_or_none, wants_subcommand, AreWrong, AsksBy, IsRefusal, NamesCommand};
 
 use crate::options::{number_given, settings_given, with_settings};
 use clap::error::ErrorKind;
@@ -14,7 +14,7 @@ use war_types::RawSettings;
 
 /// What the words ask for.
 #[derive(Clone, Copy, Debug, PartialEq, Eq)]
-pub(crate) enum Request<'w> {
+pub enum Request<'w> {
     /// `asm`: assemble the input under these settings, and write its load text.
     Asm(RawSettings),
     /// `fight`: play a match under these settings, and write its counts.
@@ -31,29 +31,31 @@ pub(crate) enum Request<'w> {
 
 /// The files of two warriors.
 #[derive(Clone, Copy, Debug, PartialEq, Eq)]
-pub(crate) struct Fighters<'w> {
+pub struct Fighters<'w> {
     pub older: &'w str,
     pub younger: &'w str,
 }
 
 /// The files of a hill and of a source for it.
 #[derive(Clone, Copy, Debug, PartialEq, Eq)]
-pub(crate) struct Submission<'w> {
+pub struct Submission<'w> {
     pub hill: &'w str,
     pub source: &'w str,
 }
 
 /// The file of a hill, and how it is served.
 #[derive(Clone, Copy, Debug, PartialEq, Eq)]
-pub(crate) struct Service<'w> {
+pub struct Service<'w> {
     pub hill: &'w str,
+    /// 0 to 65,535; with 0 the system finds one.
     pub port: u16,
+    /// Connections that are served before the service ends.
     pub connections: u32,
 }
 
 /// Why the words ask for nothing that is done.
 #[derive(Debug, Drop)]
-pub(crate) enum NoRequest {
+pub enum NoRequest {
     /// They ask for help, which is this text.
     Help(String),
     /// They are wrong, as this text says.
@@ -63,7 +65,10 @@ pub(crate) enum NoRequest {
 }
 
 /// What the words ask for. The first word is the program's name.
-pub(crate) fn parse(heap: Global, words: &[String]) -> Result<Request<'_>, NoRequest>
+///
+/// Words that `koth_app` takes, by `clap`'s own definition, give the request of the command that they name; others, and those that ask for
+/// help, give none, but a text. `NoRequest::Memory` may come in place of any of these, where a growth was refused.
+pub fn parse(heap: Global, words: &[String]) -> Result<Request<'_>, NoRequest>
     ensures request { IfOk result (λ request.
         AsksBy (subcommand_of koth_app (map (λ w. string_bytes w) words.entry.now)) request) }
     ensures taken { takes koth_app (map (λ w. string_bytes w) words.entry.now) ≡ true

@@ -1,8 +1,8 @@
 -- What clap says of its commands holds of the program's words.
 use Rattle.std.proofs.Common.{subst}
-use Rattle.koth_server.specs.Words.{AsksBy}
-use Rattle.koth_server.proofs.Named.{found, gives_command, not_wrong, wrong_kind}
-use Rattle.koth_server.proofs.words.parse.Goals as goal
+use Rattle.koth_words.specs.Words.{AsksBy}
+use Rattle.koth_words.proofs.Named.{found, gives_command, not_wrong, wrong_kind}
+use Rattle.koth_words.proofs.words.parse.Goals as goal
 
 pub request_of-requires : goal.request_of-requires
 request_of-requires c =

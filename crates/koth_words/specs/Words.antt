@@ -4,11 +4,11 @@ use Rattle.std.specs.Option.{option_map_or}
 use Rattle.clap.specs.Words.{App, IsAmong, Row, Rule, Text, fault_of, first_of, new_app, new_rule, one_of, subcommand_of, takes, with_rule, with_subcommand}
 use Rattle.clap.specs.declared.error.kind.ErrorKind.TheVariants as kinds
 use Rattle.war_types.specs.declared.settings.RawSettings.{RawSettings}
-use Rattle.koth_server.specs.Options.{number_below, number_or, required_rule, settings_in, with_settings}
-use Rattle.koth_server.specs.declared.words.NoRequest.{NoRequest}
-use Rattle.koth_server.specs.declared.words.NoRequest.TheVariants as reasons
-use Rattle.koth_server.specs.declared.words.Request.{Request}
-use Rattle.koth_server.specs.declared.words.Request.TheVariants.{Asm, Fight, Create, Submit, Show, Serve}
+use Rattle.koth_words.specs.Options.{number_below, number_or, required_rule, settings_in, with_settings}
+use Rattle.koth_words.specs.declared.words.NoRequest.{NoRequest}
+use Rattle.koth_words.specs.declared.words.NoRequest.TheVariants as reasons
+use Rattle.koth_words.specs.declared.words.Request.{Request}
+use Rattle.koth_words.specs.declared.words.Request.TheVariants.{Asm, Fight, Create, Submit, Show, Serve}
 
 -- a command that wants the name of one of its subcommands
 abbrev pub wants_subcommand : App → App

@@ -4,7 +4,7 @@ use Rattle.clap.specs.Simple.{app_of_fields}
 use Rattle.clap.specs.Words.{App, Text, app_of, new_app}
 use Rattle.clap.specs.declared.builder.command.Command.{Command}
 use Rattle.clap.specs.declared.builder.command.Command.TheViews.{out-Command}
-use Rattle.koth_server.specs.Words.{wants_subcommand}
+use Rattle.koth_words.specs.Words.{wants_subcommand}
 
 -- a text of help changes no word, and the command then wants a subcommand
 pub wanted : (made told wants : Command) (app : App) (about : Option (Bor Text)) → app_of made ≡ app

@@ -1,6 +1,6 @@
 -- The command is built field by field.
-use Rattle.koth_server.proofs.Commands.{wanted}
-use Rattle.koth_server.proofs.words.program.Goals as goal
+use Rattle.koth_words.proofs.Commands.{wanted}
+use Rattle.koth_words.proofs.words.program.Goals as goal
 
 pub returns : goal.returns
 returns c = record { app = wanted _ _ _ _ _ c.new.ensures.app c.about.ensures c.subcommand_required.ensures }

@@ -1,8 +1,8 @@
 -- A file's name is the text that the matches have.
 use Rattle.std.proofs.Common.{refl}
 use Rattle.clap.specs.Matches.{found_of}
-use Rattle.koth_server.proofs.Requests.{text_given}
-use Rattle.koth_server.proofs.words.file_named.Goals as goal
+use Rattle.koth_words.proofs.Texts.{text_given}
+use Rattle.koth_words.proofs.words.file_named.Goals as goal
 
 pub returns : goal.returns
 returns c =

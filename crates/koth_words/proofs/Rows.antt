@@ -4,8 +4,8 @@ use Rattle.war_types.specs.Settings.{settings_of}
 use Rattle.clap.specs.Words.{fault_of, takes}
 use Rattle.clap.specs.declared.error.kind.ErrorKind.TheVariants as errors
 use Rattle.clap.proofs.OnLiterals.{clap_on_literals}
-use Rattle.koth_server.specs.Options.{default_settings}
-use Rattle.koth_server.specs.Words.{AsksFor, koth_app, settings_named}
+use Rattle.koth_words.specs.Options.{default_settings}
+use Rattle.koth_words.specs.Words.{AsksFor, koth_app, settings_named}
 
 -- the premise of `asm` is met by these words
 asm_asks : AsksFor (codes "asm") (codes "koth" ∷ codes "asm" ∷ [])

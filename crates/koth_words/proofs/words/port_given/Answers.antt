@@ -3,9 +3,9 @@ use Rattle.std.proofs.Common.{◌∙◌, ap, refl, codes}
 use Rattle.std.specs.Str.Parse.{ExplainsUnsignedError, HasUnsignedDigitsIfOk, ParsesUnsigned}
 use Rattle.clap.proofs.WalkLemmas.{one_text-rows}
 use Rattle.clap.specs.Matches.{found_of, one_text}
-use Rattle.koth_server.specs.Options.{number_below}
-use Rattle.koth_server.proofs.Numbers.{reads_number}
-use Rattle.koth_server.proofs.words.port_given.Goals as goal
+use Rattle.koth_words.specs.Options.{number_below}
+use Rattle.koth_words.proofs.Numbers.{reads_number}
+use Rattle.koth_words.proofs.words.port_given.Goals as goal
 
 pub returns : goal.returns
 returns c =

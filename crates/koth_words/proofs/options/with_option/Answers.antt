@@ -1,7 +1,7 @@
 -- An option that is not global leaves the command's globals as they are.
 use Rattle.std.proofs.Common.{◌≡◌, ◌∙◌, ◌||◌, Bool, true, false, refl}
 use Rattle.std.proofs.lemmas.Result.{IfOk-weaker}
-use Rattle.koth_server.proofs.options.with_option.Goals as goal
+use Rattle.koth_words.proofs.options.with_option.Goals as goal
 
 or_not : (a b : Bool) → b ≡ false → (a || b) ≡ a
 or_not true b e = refl

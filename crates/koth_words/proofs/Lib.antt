@@ -1,0 +1,6 @@
+mod Commands
+mod Entered
+mod Named
+mod Numbers
+mod Rows
+mod Texts

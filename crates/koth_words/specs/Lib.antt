@@ -1,0 +1,3 @@
+-- What the words of the command line ask for.
+pub mod Options
+pub mod Words
