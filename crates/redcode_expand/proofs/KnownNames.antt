@@ -1,12 +1,12 @@
 -- What the names of counters say of open blocks.
-use Rattle.std.proofs.Common.{◌≡◌, ℕ, Bool, ◌&&◌, ◌||◌, true, false, List, [], ◌∷◌, ◌++◌, if◌then◌else◌, refl, sym, ap, ◌∙◌}
+use Rattle.std.proofs.Common.{◌≡◌, ℕ, ◌-◌, ◌≤◌, Bool, ◌&&◌, ◌||◌, true, false, List, [], ◌∷◌, ◌++◌, length, get_or, take, drop, take_all, if◌then◌else◌, refl, sym, ap, ◌∙◌, arith}
 use Rattle.std.proofs.lemmas.Bool.{true≢false}
 use Rattle.std.proofs.lemmas.Slice.Eq.{bytes_eq-Decides}
 use Rattle.std.specs.Str.{bytes_eq}
 use Rattle.redcode_text.specs.Tokens.{Piece}
 use Rattle.redcode_lines.specs.declared.source_line.LineForm.{LineForm}
 use Rattle.redcode_lines.specs.Word.{is_name}
-use Rattle.redcode_lines.specs.Counter.{Counter, names_counter, in_copies, rewritten, has_name, with_name, are_named}
+use Rattle.redcode_lines.specs.Counter.{Counter, names_counter, in_copy, in_copies, rewritten, has_name, with_name, are_named}
 use Rattle.redcode_expand.specs.Rest.{OpenBlock, AreKnown}
 use Rattle.redcode_expand.proofs.Counters.{counters_in}
 
@@ -89,3 +89,21 @@ unnamed-same names (b ∷ bs) form tokens known is =
     ap (λ (ts : List Piece). in_copies (counters_in bs) form ts)
     (ap (λ (named : Bool). if named then rewritten b.counter form tokens else tokens) (counter-differs names b.counter tokens known.0 is))
     ∙ unnamed-same names bs form tokens known.1 is
+
+-- ---- a line in the copy of the outermost block
+
+-- what it is then in those of the blocks behind
+pub first-copied : (names : List (List ℕ)) (bs : List OpenBlock) (d : OpenBlock) (c : Counter) (form : LineForm) (tokens copy due : List Piece) → 1 ≤ length bs
+    → c ≡ (get_or bs 0 d).counter → copy ≡ in_copy c form tokens → (in_copies (counters_in bs) form tokens ≡ due) × AreKnown names bs
+    → (in_copies (counters_in (take (length bs - 1) (drop 1 bs))) form copy ≡ due) × AreKnown names (take (length bs - 1) (drop 1 bs))
+first-copied names [] d c form tokens copy due some first is known = absurd (omega arith)
+first-copied names (b ∷ bs) d c form tokens copy due some first is known =
+    let all : take (length (b ∷ bs) - 1) bs ≡ bs = take_all (length (b ∷ bs) - 1) bs (omega arith) in
+    rw (all, is, first) (known.0, known.1.1)
+
+-- and where its counter is not named
+pub first-passed : (names : List (List ℕ)) (bs : List OpenBlock) (d : OpenBlock) (c : Counter) (form : LineForm) (tokens due : List Piece) → 1 ≤ length bs
+    → c ≡ (get_or bs 0 d).counter → names_counter c tokens ≡ false → (in_copies (counters_in bs) form tokens ≡ due) × AreKnown names bs
+    → (in_copies (counters_in (take (length bs - 1) (drop 1 bs))) form tokens ≡ due) × AreKnown names (take (length bs - 1) (drop 1 bs))
+first-passed names bs d c form tokens due some first absent known =
+    first-copied names bs d c form tokens tokens due some first (sym (ap (λ (named : Bool). if named then rewritten c form tokens else tokens) absent)) known

@@ -15,3 +15,7 @@ mod GoingOn
 mod Pairing
 mod EndingCopies
 mod Rows
+mod Keeping
+mod AddedEqus
+mod KeptCounts
+mod BeginningBlocks

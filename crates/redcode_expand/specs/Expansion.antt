@@ -6,7 +6,6 @@ use Rattle.war_types.specs.declared.settings.RawSettings.{RawSettings}
 use Rattle.redcode_text.specs.Tokens.{Piece}
 use Rattle.redcode_lines.specs.declared.line.Line.{Line}
 use Rattle.redcode_lines.specs.declared.line.LineKind.{LineKind}
-use Rattle.redcode_lines.specs.declared.line.LineKind.TheVariants as lines
 use Rattle.redcode_expand.specs.Gives.{◌>>=◌, fault_at}
 use Rattle.redcode_lines.specs.Operand.{operands_of}
 use Rattle.redcode_lines.specs.Source.{NumberedLine, live_lines}

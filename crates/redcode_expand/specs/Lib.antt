@@ -4,4 +4,5 @@ pub mod Link
 pub mod Name
 pub mod Walk
 pub mod Rest
+pub mod Kept
 pub mod Expansion

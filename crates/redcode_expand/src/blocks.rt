@@ -1,17 +1,21 @@
 //! The lines of a source written out, copy by copy.
 
-ghost use Rattle.std.specs.Prelude.{◌≡◌, ◌+◌, ◌<◌, ◌≤◌, ◌∷◌, false, Some, drop, length, MatchResult};
+ghost use Rattle.std.specs.Prelude.{◌≡◌, ◌+◌, ◌<◌, ◌≤◌, ◌∷◌, ◌^◌, [], true, false, Some, drop, length, MatchResult, OnOk, IfOk};
 ghost use Rattle.redcode_expand.specs.Gives.{Gives, Fails, fault_at};
 ghost use Rattle.redcode_lines.specs.Block.{parsed, word_in};
-ghost use Rattle.redcode_expand.specs.Rest.{rest_of, rest_behind, steps_left, AreOpen, GoesOn, IsUnmatched, Passes};
+ghost use Rattle.redcode_lines.specs.Word.{labels_of};
+ghost use Rattle.redcode_lines.specs.Counter.{in_copies};
+ghost use Rattle.redcode_expand.specs.Rest.{counters_of, rest_of, rest_behind, steps_left, AreOpen, GoesOn, IsUnmatched, Passes};
 ghost use Rattle.redcode_lines.specs.declared.word.Word.TheVariants.{For, Rof};
 ghost use Rattle.war_types.specs.declared.fault.AsmKind.TheVariants.{UnmatchedFor};
-ghost use Rattle.redcode_expand.specs.Walk.{walk_all, walk_begin};
+ghost use Rattle.redcode_expand.specs.Walk.{walk_all, walk_begin, begun, begun_as};
+ghost use Rattle.redcode_expand.specs.Kept.{AreKept};
 
+use crate::counts::Counts;
 use crate::name_key::NameHash;
 use crate::open_blocks::{OpenBlock, OpenBlocks};
-use crate::walk::Walk;
-use redcode_lines::{SourceLine, Word, line_at, rof_behind};
+use crate::walk::{Begun, Walk};
+use redcode_lines::{SourceLine, Word, line_at, line_word, may_label, rof_behind};
 use std::alloc::Allocator;
 use war_types::{AsmFault, AsmKind, Settings};
 
@@ -27,9 +31,10 @@ pub(crate) fn walk_all<'s, A: Allocator + Copy>(
 {
     let mut walk = Walk::new(alloc, hash);
     let mut blocks = OpenBlocks::new(alloc, hash);
+    let mut counts = Counts::new(alloc, lines.len())?;
     let mut at = 0;
     while at < lines.len() && !walk.has_ended() {
-        at = step(settings, &mut walk, &mut blocks, lines, at)?;
+        at = step(settings, &mut walk, &mut blocks, &mut counts, lines, at)?;
     }
     Ok(walk)
 }
@@ -40,6 +45,7 @@ fn step<'s, A: Allocator + Copy>(
     settings: &Settings,
     walk: &mut Walk<'s, A>,
     blocks: &mut OpenBlocks<A>,
+    counts: &mut Counts<A>,
     lines: &[SourceLine<'s, A>],
     at: usize,
 ) -> Result<usize, AsmFault>
@@ -47,13 +53,15 @@ fn step<'s, A: Allocator + Copy>(
     requires some { at < length lines.now }
     requires goes_on { walk.old.ended ≡ false }
     requires opened { AreOpen lines.now blocks.old (parsed (drop at lines.now)).1 }
-    ensures { let due = rest_of settings.now lines.now blocks.old (parsed (drop at lines.now)) walk.old in
+    requires kept { AreKept settings.now lines.now walk.old.names.equs counts.old }
+    ensures goes_on { let due = rest_of settings.now lines.now blocks.old (parsed (drop at lines.now)) walk.old in
         let steps = steps_left lines.now blocks.old at walk.old in
         MatchResult result (λ next. GoesOn settings.now lines.now due steps blocks.new next walk.new) (λ fault. Fails fault due) }
+    ensures kept { OnOk result (AreKept settings.now lines.now walk.new.names.equs counts.new) }
 {
     let line = line_at(lines, at);
     match line.word() {
-        Some(Word::For) => begin(settings, walk, blocks, lines, at, line),
+        Some(Word::For) => begin(settings, walk, blocks, counts, lines, at, line),
         Some(Word::Rof) => end_copy(settings, walk, blocks, lines, at, line),
         _ => {
             walk.step(settings, blocks, line)?;
@@ -67,6 +75,7 @@ fn begin<'s, A: Allocator + Copy>(
     settings: &Settings,
     walk: &mut Walk<'s, A>,
     blocks: &mut OpenBlocks<A>,
+    counts: &mut Counts<A>,
     lines: &[SourceLine<'s, A>],
     at: usize,
     line: &SourceLine<'s, A>,
@@ -77,15 +86,17 @@ fn begin<'s, A: Allocator + Copy>(
     requires opened { AreOpen lines.now blocks.old (parsed (drop at lines.now)).1 }
     requires line { drop at lines.now ≡ line.now ∷ drop (at + 1) lines.now }
     requires word { word_in line.now ≡ Some For }
-    ensures { let due = rest_of settings.now lines.now blocks.old (parsed (drop at lines.now)) walk.old in
+    requires kept { AreKept settings.now lines.now walk.old.names.equs counts.old }
+    ensures goes_on { let due = rest_of settings.now lines.now blocks.old (parsed (drop at lines.now)) walk.old in
         let steps = steps_left lines.now blocks.old at walk.old in
         MatchResult result (λ next. GoesOn settings.now lines.now due steps blocks.new next walk.new) (λ fault. Fails fault due) }
+    ensures kept { OnOk result (AreKept settings.now lines.now walk.new.names.equs counts.new) }
 {
     let body = at + 1;
     if is_unmatched(blocks, lines, body) {
         return Err(unmatched_for(line.number()));
     }
-    let begun = walk.begin(settings, blocks, line)?;
+    let begun = begun(settings, walk, blocks, counts, lines, at, line)?;
     if begun.copies == 0 {
         let next = pass(settings, walk, blocks, lines, body, line.number())?;
         return Ok(next);
@@ -94,6 +105,55 @@ fn begin<'s, A: Allocator + Copy>(
     let left = begun.copies - 1;
     blocks.push(OpenBlock::new(line.number(), begun.counter, left, start, body))?;
     Ok(body)
+}
+
+/// How a block begins: by the count that is kept, or by one that is worked out, and kept where it stays the same.
+fn begun<'s, A: Allocator + Copy>(
+    settings: &Settings,
+    walk: &mut Walk<'s, A>,
+    blocks: &OpenBlocks<A>,
+    counts: &mut Counts<A>,
+    lines: &[SourceLine<'s, A>],
+    at: usize,
+    line: &SourceLine<'s, A>,
+) -> Result<Begun<A>, AsmFault>
+    requires some { at < length lines.now }
+    requires line { drop at lines.now ≡ line.now ∷ drop (at + 1) lines.now }
+    requires kept { AreKept settings.now lines.now walk.old.names.equs counts.old }
+    ensures begun { Gives (λ b. begun_as walk.new b.counter.items b.copies) result (begun settings.now (counters_of blocks.now) line.now walk.old) }
+    ensures goes_on { OnOk result (walk.new.ended ≡ walk.old.ended) }
+    ensures counted { OnOk result (walk.new.counted ≡ walk.old.counted) }
+    ensures few { IfOk result (λ b. b.copies < 2 ^ 63) }
+    ensures kept { OnOk result (AreKept settings.now lines.now walk.new.names.equs counts.new) }
+{
+    if !may_keep(blocks, line) {
+        let begun = walk.begin(settings, blocks, line)?;
+        return Ok(begun);
+    }
+    if let Some(copies) = counts.at(at) {
+        return Ok(walk.begun_by(copies));
+    }
+    let begun = walk.begin(settings, blocks, line)?;
+    counts.learn(at, begun.copies, begun.is_fixed);
+    Ok(begun)
+}
+
+/// Whether the count of a line may be kept: the line has no labels and names no counter.
+fn may_keep<A: Allocator + Copy>(blocks: &OpenBlocks<A>, line: &SourceLine<'_, A>) -> bool
+    ensures { result ≡ true → (labels_of line.now.tokens ≡ []) × (in_copies (counters_of blocks.now) line.now.form line.now.tokens ≡ line.now.tokens) }
+{
+    !has_label(line) && blocks.leaves(line)
+}
+
+/// Whether what may be a label stands at the front of a line.
+fn has_label<A: Allocator>(line: &SourceLine<'_, A>) -> bool
+    ensures { result ≡ false → labels_of line.now.tokens ≡ [] }
+{
+    let tokens = line.tokens();
+    match tokens {
+        [first, ..] => may_label(line_word(tokens), first),
+        [] => false,
+    }
 }
 
 /// Whether the `FOR` before a body has no `ROF`. Within a block each has one.
@@ -119,8 +179,9 @@ fn pass<'s, A: Allocator + Copy>(
 ) -> Result<usize, AsmFault>
     requires few { length lines.now ≤ 65536 }
     requires goes_on { walk.old.ended ≡ false }
-    ensures { let due = rest_behind settings.now lines.now blocks.now number (parsed (drop body lines.now)).1 walk.old in
+    ensures passes { let due = rest_behind settings.now lines.now blocks.now number (parsed (drop body lines.now)).1 walk.old in
         MatchResult result (λ next. Passes settings.now lines.now due blocks.now body walk.old next walk.new) (λ fault. Fails fault due) }
+    ensures equs { OnOk result (walk.new.names.equs ≡ walk.old.names.equs) }
 {
     let rof = rof_behind(lines, body);
     if rof >= lines.len() {
@@ -145,9 +206,10 @@ fn end_copy<'s, A: Allocator + Copy>(
     requires opened { AreOpen lines.now blocks.old (parsed (drop at lines.now)).1 }
     requires line { drop at lines.now ≡ line.now ∷ drop (at + 1) lines.now }
     requires word { word_in line.now ≡ Some Rof }
-    ensures { let due = rest_of settings.now lines.now blocks.old (parsed (drop at lines.now)) walk.old in
+    ensures goes_on { let due = rest_of settings.now lines.now blocks.old (parsed (drop at lines.now)) walk.old in
         let steps = steps_left lines.now blocks.old at walk.old in
         MatchResult result (λ next. GoesOn settings.now lines.now due steps blocks.new next walk.new) (λ fault. Fails fault due) }
+    ensures equs { OnOk result (walk.new.names.equs ≡ walk.old.names.equs) }
 {
     let Some(block) = blocks.pop() else {
         return Err(AsmFault {

@@ -1,14 +1,17 @@
 //! The count of a block.
 
 ghost use Rattle.std.specs.Prelude.{◌≡◌, ◌<◌, ◌^◌, IfOk};
+ghost use Rattle.redcode_text.specs.Value.{value_of};
 ghost use Rattle.redcode_expand.specs.Gives.{Gives};
+ghost use Rattle.redcode_expand.specs.Name.{predefined};
 ghost use Rattle.redcode_expand.specs.Walk.{copies_of, count_by};
 ghost use Rattle.redcode_expand.specs.Equ.{replaced};
+ghost use Rattle.redcode_expand.specs.Kept.{has_loose, CountIsFixed};
 
 use crate::equs::Equs;
-use crate::name::predefined;
+use crate::name::{is_loose, predefined};
 use crate::replace::replaced;
-use redcode_lines::{Part, tokens_of};
+use redcode_lines::{Part, is_name, tokens_of};
 use redcode_text::{Names, value};
 use std::alloc::Allocator;
 use war_types::{AsmFault, AsmKind, Settings};
@@ -31,6 +34,14 @@ impl<'e> Names for Predefined<'e> {
     }
 }
 
+/// How many copies a count asks for.
+#[derive(Clone, Copy)]
+pub(crate) struct Copies {
+    pub count: u64,
+    /// Whether it asks for so many on every line, and whatever EQUs there are later.
+    pub is_fixed: bool,
+}
+
 /// How many copies a count asks for: none where its value is negative. The names of the `EQU`s so far are replaced in it.
 pub(crate) fn copies_of<'s, A: Allocator + Copy>(
     alloc: A,
@@ -39,12 +50,29 @@ pub(crate) fn copies_of<'s, A: Allocator + Copy>(
     before: u32,
     equs: &Equs<'s, A>,
     tokens: &[Part<'s, A>],
-) -> Result<u64, AsmFault>
-    ensures copies { Gives (λ n. n) result (copies_of settings.now line before equs.now tokens.now) }
-    ensures few { IfOk result (λ n. n < 2 ^ 63) }
+) -> Result<Copies, AsmFault>
+    ensures copies { Gives (λ c. c.count) result (copies_of settings.now line before equs.now tokens.now) }
+    ensures few { IfOk result (λ c. c.count < 2 ^ 63) }
+    ensures fixed { IfOk result (λ c. CountIsFixed settings.now line equs.now tokens.now c.is_fixed c.count) }
 {
     let replaced = replaced(alloc, equs, line, tokens)?;
-    let tokens = tokens_of(alloc, replaced.as_slice())?;
+    let count = count_of(alloc, settings, line, before, replaced.as_slice())?;
+    let is_fixed = !has_loose(settings, replaced.as_slice());
+    Ok(Copies { count, is_fixed })
+}
+
+/// How many copies a count without a name of an `EQU` asks for.
+fn count_of<A: Allocator + Copy>(
+    alloc: A,
+    settings: &Settings,
+    line: u32,
+    before: u32,
+    tokens: &[Part<'_, A>],
+) -> Result<u64, AsmFault>
+    ensures copies { Gives (λ n. n) result (count_by line (value_of (predefined settings.now before) tokens.now)) }
+    ensures few { IfOk result (λ n. n < 2 ^ 63) }
+{
+    let tokens = tokens_of(alloc, tokens)?;
     match value(tokens.as_slice(), &Predefined { settings, before }) {
         Ok(count) if count > 0 => Ok(count as u64),
         Ok(_) => Ok(0),
@@ -53,4 +81,18 @@ pub(crate) fn copies_of<'s, A: Allocator + Copy>(
             kind: AsmKind::ForCount(fault),
         }),
     }
+}
+
+/// Whether a name among the tokens is not predefined, or its value changes from line to line.
+fn has_loose<A: Allocator>(settings: &Settings, tokens: &[Part<'_, A>]) -> bool
+    ensures { result ≡ has_loose settings.now tokens.now }
+{
+    let mut rest = tokens;
+    while let [first, behind @ ..] = rest {
+        if is_name(first) && is_loose(settings, first.text()) {
+            return true;
+        }
+        rest = behind;
+    }
+    false
 }

@@ -4,6 +4,7 @@
 mod blocks;
 mod count;
 mod counter_names;
+mod counts;
 mod entry;
 mod equs;
 mod expanded;

@@ -3,6 +3,7 @@
 ghost use Rattle.std.specs.Prelude.{◌≡◌};
 ghost use Rattle.std.specs.Str.{bytes_eq};
 ghost use Rattle.redcode_expand.specs.Name.{predefined};
+ghost use Rattle.redcode_expand.specs.Kept.{is_loose};
 
 use war_types::Settings;
 
@@ -28,6 +29,16 @@ pub fn predefined(settings: &Settings, before: u32, name: &[u8]) -> Option<i64>
         Some(i64::from(before))
     } else {
         None
+    }
+}
+
+/// Whether a name is not predefined, or its value changes from line to line.
+pub(crate) fn is_loose(settings: &Settings, name: &[u8]) -> bool
+    ensures { result ≡ is_loose settings.now name.now }
+{
+    match predefined(settings, 0, name) {
+        Some(_) => is_same(name, b"CURLINE"),
+        None => true,
     }
 }
 

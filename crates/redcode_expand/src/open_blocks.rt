@@ -1,9 +1,14 @@
 //! The blocks whose copies are being written.
 
+ghost use Rattle.std.specs.Prelude.{◌≡◌, IfOk, reverse};
+ghost use Rattle.redcode_lines.specs.Counter.{in_copies};
+ghost use Rattle.redcode_expand.specs.Rest.{AreKnown, counters_of};
+
 use crate::counter_names::CounterNames;
 use crate::name_key::NameHash;
-use redcode_lines::{Counter, Part, SourceLine, copied, in_copy};
+use redcode_lines::{Counter, LineForm, Part, SourceLine, copied, in_copy};
 use std::alloc::{AllocError, Allocator};
+use std::borrow::CowSlice;
 use std::marker::Model;
 
 /// A block whose copies are being written.
@@ -117,7 +122,8 @@ impl<A: Allocator + Copy> Model for OpenBlocks<A> {
 }
 
 impl<A: Allocator + Copy> OpenBlocks<A> {
-    ghost use Rattle.std.specs.Prelude.{◌≡◌, ◌∷◌, [], IfOk, OnOk, MatchOption};
+    ghost use Rattle.std.specs.Prelude.{◌≡◌, ◌∷◌, [], true, IfOk, OnOk, MatchOption};
+    ghost use Rattle.std.specs.Cow.{cow_slice_items};
     ghost use Rattle.redcode_lines.specs.Counter.{in_copies};
     ghost use Rattle.redcode_expand.specs.Rest.{counters_of, has_none};
 
@@ -154,23 +160,63 @@ impl<A: Allocator + Copy> OpenBlocks<A> {
         self.blocks.pop()
     }
 
-    /// The tokens of a line within the copies that are being written. They are copied even where no counter is named, and again
-    /// for each block where one is, so that what a line takes grows with its time.
-    pub(crate) fn tokens_of<'s>(
+    /// Whether a line is in the copies that are being written as it is in the source: no counter is named.
+    pub(crate) fn leaves(&self, line: &SourceLine<'_, A>) -> bool
+        ensures { result ≡ true → in_copies (counters_of self.now) line.now.form line.now.tokens ≡ line.now.tokens }
+    {
+        !self.names.are_named(line.tokens())
+    }
+
+    /// The tokens of a line within the copies that are being written: its own where no counter is named.
+    pub(crate) fn tokens_of<'l, 's>(
         &self,
-        line: &SourceLine<'s, A>,
-    ) -> Result<Vec<Part<'s, A>, A>, AllocError>
+        line: &'l SourceLine<'s, A>,
+    ) -> Result<CowSlice<'l, Part<'s, A>, A>, AllocError>
+        ensures { IfOk result (λ tokens. cow_slice_items tokens ≡ in_copies (counters_of self.now) line.now.form line.now.tokens) }
+    {
+        if self.names.are_named(line.tokens()) {
+            Ok(CowSlice::Owned(self.rewritten(line)?))
+        } else {
+            Ok(CowSlice::Borrowed(line.tokens()))
+        }
+    }
+
+    /// The tokens of a line with each counter replaced, the outermost first.
+    fn rewritten<'s>(&self, line: &SourceLine<'s, A>) -> Result<Vec<Part<'s, A>, A>, AllocError>
         ensures { IfOk result (λ tokens. tokens.items ≡ in_copies (counters_of self.now) line.now.form line.now.tokens) }
     {
-        let mut tokens = copied(self.alloc, line.tokens())?;
-        if !self.names.are_named(tokens.as_slice()) {
+        let tokens = copied(self.alloc, line.tokens())?;
+        in_blocks(
+            self.alloc,
+            &self.names,
+            self.blocks.as_slice(),
+            line.form(),
+            tokens,
+        )
+    }
+}
+
+/// The tokens of a line within copies of these blocks, the outermost first, until none of the names is left in it.
+fn in_blocks<'s, A: Allocator + Copy>(
+    alloc: A,
+    names: &CounterNames<A>,
+    blocks: &[OpenBlock<A>],
+    form: LineForm,
+    mut tokens: Vec<Part<'s, A>, A>,
+) -> Result<Vec<Part<'s, A>, A>, AllocError>
+    requires { AreKnown names.now blocks.now }
+    ensures { IfOk result (λ copy. copy.items ≡ in_copies (counters_of (reverse blocks.now)) form tokens.entry.items) }
+{
+    let mut rest = blocks;
+    while let [first, behind @ ..] = rest {
+        rest = behind;
+        if !first.counter.is_named(tokens.as_slice()) {
+            continue;
+        }
+        tokens = in_copy(alloc, &first.counter, form, tokens)?;
+        if !names.are_named(tokens.as_slice()) {
             return Ok(tokens);
         }
-        let mut rest = self.blocks.as_slice();
-        while let [first, behind @ ..] = rest {
-            tokens = in_copy(self.alloc, &first.counter, line.form(), tokens.as_slice())?;
-            rest = behind;
-        }
-        Ok(tokens)
     }
+    Ok(tokens)
 }

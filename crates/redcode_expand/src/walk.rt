@@ -1,11 +1,13 @@
 //! The walk over the lines of a source.
 
-ghost use Rattle.std.specs.Prelude.{◌≡◌, ◌+◌, ◌<◌, ◌^◌, Ok, OnOk, IfOk};
+ghost use Rattle.std.specs.Prelude.{◌≡◌, ◌+◌, ◌<◌, ◌^◌, [], drop, Ok, OnOk, IfOk};
 ghost use Rattle.redcode_expand.specs.Gives.{Gives};
-ghost use Rattle.redcode_lines.specs.Word.{may_label, names_among, taken_while};
+ghost use Rattle.redcode_lines.specs.Word.{behind_labels, may_label, names_among, taken_while};
 ghost use Rattle.redcode_expand.specs.Name.{all_defined};
 ghost use Rattle.redcode_expand.specs.Expansion.{finished};
 ghost use Rattle.redcode_expand.specs.Rest.{counters_of};
+ghost use Rattle.redcode_expand.specs.Kept.{CountIsFixed};
+ghost use Rattle.redcode_lines.specs.Counter.{in_copies};
 ghost use Rattle.redcode_expand.specs.Walk.{walk_begin, begun, begun_as, closed, copied, counted, labelled, with_line, placed, statement, titled, step, IsCopied};
 
 use crate::count::copies_of;
@@ -32,6 +34,8 @@ pub(crate) struct Begun<A: Allocator> {
     /// The counter's name, empty where there is none.
     pub counter: Vec<u8, A>,
     pub copies: u64,
+    /// Whether the count asks for so many on every line, and whatever EQUs there are later.
+    pub is_fixed: bool,
 }
 
 /// How far the walk has come.
@@ -118,6 +122,8 @@ impl<'s, A: Allocator + Copy> Walk<'s, A> {
         ensures goes_on { OnOk result (self.new.ended ≡ self.old.ended) }
         ensures counted { OnOk result (self.new.counted ≡ self.old.counted) }
         ensures few { IfOk result (λ b. b.copies < 2 ^ 63) }
+        ensures fixed { let tokens = in_copies (counters_of blocks.now) line.now.form line.now.tokens in
+            IfOk result (λ b. CountIsFixed settings.now line.now.number self.new.names.equs (drop 1 (behind_labels tokens)) b.is_fixed b.copies) }
     {
         let tokens = blocks.tokens_of(line)?;
         let number = line.number();
@@ -136,7 +142,23 @@ impl<'s, A: Allocator + Copy> Walk<'s, A> {
             &self.names.equs,
             operands,
         )?;
-        Ok(Begun { counter, copies })
+        Ok(Begun {
+            counter,
+            copies: copies.count,
+            is_fixed: copies.is_fixed,
+        })
+    }
+
+    /// How a block begins that has no counter's name, and so many copies on every line.
+    pub(crate) fn begun_by(&self, copies: u64) -> Begun<A>
+        ensures counter { result.counter.items ≡ [] }
+        ensures copies { result.copies ≡ copies }
+    {
+        Begun {
+            counter: Vec::new(self.alloc),
+            copies,
+            is_fixed: true,
+        }
     }
 
     /// Walks over the `ROF` of a block: its labels.

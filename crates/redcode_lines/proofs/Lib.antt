@@ -2,4 +2,5 @@ mod Lines
 mod Readings
 mod Fronts
 mod Joining
+mod Numbers
 mod SourceLines

@@ -4,8 +4,9 @@ ghost use Rattle.std.specs.Prelude.{◌≡◌, ◌≤◌, ◌++◌, length, Some
 ghost use Rattle.redcode_lines.specs.Word.{is_front, dropped_while};
 ghost use Rattle.redcode_lines.specs.Counter.{in_copy, is_label, joined, kept, numbered, behind_word, rewritten, rewritten_by, two_digits};
 
+use crate::numbering::{has_and, renumbered};
 use crate::operands::behind_first;
-use crate::part::{Part, copied};
+use crate::part::Part;
 use crate::reading::{has_text, is_front, is_name, line_word};
 use crate::source_line::LineForm;
 use crate::word::Word;
@@ -34,7 +35,7 @@ type Joined<'s, A> = (bool, Part<'s, A>);
 
 impl<A: Allocator + Copy> Counter<A> {
     ghost use Rattle.std.specs.Prelude.{◌≡◌, IfOk};
-    ghost use Rattle.redcode_lines.specs.Counter.{counter_of, is_counter, is_join, joined_name, joins, names_counter, number_or};
+    ghost use Rattle.redcode_lines.specs.Counter.{counter_of, is_counter, is_join, joined_name, joins, names_counter, number_or, number_token};
 
     /// A counter of this name in the copy of this number.
     pub fn new(name: Vec<u8, A>, number: u64) -> Counter<A>
@@ -44,14 +45,14 @@ impl<A: Allocator + Copy> Counter<A> {
     }
 
     /// Whether a token is this counter.
-    fn is_counter(&self, token: &Part<'_, A>) -> bool
+    pub(crate) fn is_counter(&self, token: &Part<'_, A>) -> bool
         ensures { result ≡ is_counter self.now token.now }
     {
         is_name(token) && token.text() == self.name.as_slice()
     }
 
     /// Whether this counter is among the tokens.
-    fn is_named(&self, parts: &[Part<'_, A>]) -> bool
+    pub fn is_named(&self, parts: &[Part<'_, A>]) -> bool
         ensures { result ≡ names_counter self.now parts.now }
     {
         let mut rest = parts;
@@ -99,6 +100,13 @@ impl<A: Allocator + Copy> Counter<A> {
         if *is_joined || !self.is_counter(part) {
             return part.copy(alloc);
         }
+        self.number_token(alloc)
+    }
+
+    /// The number of the copy.
+    pub(crate) fn number_token<'s>(&self, alloc: A) -> Result<Part<'s, A>, AllocError>
+        ensures { IfOk result (λ part. part ≡ number_token self.now) }
+    {
         let text = Vec::from_slice(alloc, Buffer::new().format(self.number).as_bytes())?;
         Ok(Part::made(TokenKind::Number, text))
     }
@@ -109,14 +117,16 @@ pub fn in_copy<'s, A: Allocator + Copy>(
     alloc: A,
     counter: &Counter<A>,
     form: LineForm,
-    tokens: &[Part<'s, A>],
+    tokens: Vec<Part<'s, A>, A>,
 ) -> Result<Vec<Part<'s, A>, A>, AllocError>
-    ensures { IfOk result (λ copy. copy.items ≡ in_copy counter.now form tokens.now) }
+    ensures { IfOk result (λ copy. copy.items ≡ in_copy counter.now form tokens.entry.items) }
 {
-    if counter.is_named(tokens) {
-        rewritten(alloc, counter, form, tokens)
+    if !counter.is_named(tokens.as_slice()) {
+        Ok(tokens)
+    } else if has_and(tokens.as_slice()) {
+        rewritten(alloc, counter, form, tokens.as_slice())
     } else {
-        copied(alloc, tokens)
+        renumbered(alloc, counter, form, tokens)
     }
 }
 

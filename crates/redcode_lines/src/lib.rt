@@ -6,6 +6,7 @@
 mod counter;
 mod directive;
 mod line;
+mod numbering;
 mod operands;
 mod part;
 mod reading;

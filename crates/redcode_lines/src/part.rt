@@ -9,9 +9,6 @@ use std::alloc::{AllocError, Allocator};
 use std::borrow::CowSlice;
 use std::marker::Model;
 
-/// Bytes of a text that a copy of its token borrows at most.
-const SHORT: usize = 64;
-
 /// A token of the source, or one that was made and has its text itself, as a joined name.
 #[derive(Drop)]
 pub struct Part<'s, A: Allocator> {
@@ -57,13 +54,13 @@ impl<'s, A: Allocator> Part<'s, A> {
         }
     }
 
-    /// The same token. A long text is copied too, as looking it up takes time in its measure.
+    /// The same token.
     pub fn copy(&self, alloc: A) -> Result<Part<'s, A>, AllocError>
         ensures { IfOk result (λ part. part ≡ self.now) }
     {
         let text = match &self.text {
-            CowSlice::Borrowed(text) if text.len() <= SHORT => CowSlice::Borrowed(*text),
-            text => CowSlice::Owned(Vec::from_slice(alloc, text.as_slice())?),
+            CowSlice::Borrowed(text) => CowSlice::Borrowed(*text),
+            CowSlice::Owned(text) => CowSlice::Owned(Vec::from_slice(alloc, text.as_slice())?),
         };
         Ok(Part {
             kind: self.kind,

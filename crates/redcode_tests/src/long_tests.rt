@@ -2,9 +2,23 @@
 
 use crate::sources::{defaults, repeated};
 use redcode_asm::assemble;
-use std::alloc::Global;
+use std::alloc::{AllocError, Global};
 use std::test::Fail;
 use war_types::AsmKind;
+
+/// A head, so many times a part, and a tail.
+fn source_of(
+    alloc: Global,
+    head: &str,
+    part: &str,
+    count: usize,
+    tail: &str,
+) -> Result<Vec<u8>, AllocError> {
+    let mut source = Vec::from_slice(alloc, head.as_bytes())?;
+    source.extend_from_slice(repeated(alloc, part.as_bytes(), count)?.as_slice())?;
+    source.extend_from_slice(tail.as_bytes())?;
+    Ok(source)
+}
 
 /// Whether a source is refused for want of memory.
 fn is_past_the_limit(alloc: Global, source: &[u8]) -> Result<bool, Fail> {
@@ -14,18 +28,15 @@ fn is_past_the_limit(alloc: Global, source: &[u8]) -> Result<bool, Fail> {
     })
 }
 
-/// Sources of the greatest length that meet millions of `FOR`s or repeat a long line.
+/// Sources of the greatest length that work out millions of counts of a counter, or repeat a long line.
 #[test]
 fn sources_past_the_limit(rt: HostRuntime) -> Result<(), Fail> {
     for (head, part, count, tail) in [
-        ("FOR 4096\n", "FOR 0\nROF\n", 6550, "ROF\n"),
         ("i FOR 4096\n", "FOR -i\nROF\n", 5950, "ROF\n"),
         ("FOR 4096\nDAT ", "+", 65_500, "\nROF\n"),
         ("FOR 4096\n", ":", 65_500, "\nROF\n"),
     ] {
-        let mut source = repeated(rt.alloc(), head.as_bytes(), 1)?;
-        source.extend_from_slice(repeated(rt.alloc(), part.as_bytes(), count)?.as_slice())?;
-        source.extend_from_slice(tail.as_bytes())?;
+        let source = source_of(rt.alloc(), head, part, count, tail)?;
         assert!(rt;
             is_past_the_limit(rt.alloc(), source.as_slice())?,
             "{part:?}"
@@ -77,12 +88,22 @@ fn copies_of_a_long_line_within_the_limit(rt: HostRuntime) -> Result<(), Fail> {
     Ok(())
 }
 
-/// Twenty blocks in each of 4,000 copies, each with the name of an `EQU` as its count.
+/// Thousands of blocks in each of as many copies, whose counts are a number or the name of an `EQU`.
 #[test]
-fn counts_of_names_within_the_limit(rt: HostRuntime) -> Result<(), Fail> {
-    let mut source = Vec::from_slice(rt.alloc(), b"DAT\noff EQU 0\nFOR 4000\n;assert 1\n")?;
-    source.extend_from_slice(repeated(rt.alloc(), b"FOR off\nROF\n", 20)?.as_slice())?;
-    source.extend_from_slice(b"ROF\n")?;
-    assert!(rt; is_one_instruction(rt.alloc(), source.as_slice())?);
+fn blocks_without_a_copy_within_the_limit(rt: HostRuntime) -> Result<(), Fail> {
+    for (head, part, count) in [
+        ("DAT\nFOR 4000\n;assert 1\n", "FOR 0\nROF\n", 6500),
+        (
+            "DAT\noff EQU 0\nFOR 4000\n;assert 1\n",
+            "FOR off\nROF\n",
+            5400,
+        ),
+    ] {
+        let source = source_of(rt.alloc(), head, part, count, "ROF\n")?;
+        assert!(rt;
+            is_one_instruction(rt.alloc(), source.as_slice())?,
+            "{part:?}"
+        );
+    }
     Ok(())
 }

@@ -1,8 +1,9 @@
-use Rattle.std.proofs.Common.{◌≡◌, Err, refl, sym, subst, ◌∙◌, arith}
+use Rattle.std.proofs.Common.{◌≡◌, [], Err, refl, sym, subst, ◌∙◌, arith}
 use Rattle.redcode_expand.specs.Gives.{Fails}
 use Rattle.redcode_expand.proofs.Residuals.{err-from}
 use Rattle.redcode_expand.proofs.GoingOn.{rest-ended}
 use Rattle.redcode_expand.proofs.Pairing.{rest-done}
+use Rattle.redcode_expand.proofs.KeptCounts.{none-kept}
 use Rattle.redcode_expand.proofs.blocks.walk_all.Goals.{then-loop-at-test+else-not-has_ended, else-loop-at-test}
 use Rattle.redcode_expand.proofs.blocks.walk_all.Goals as goal
 
@@ -15,9 +16,9 @@ returns g c = elim c.loop-at-test.branch [
 ]
 
 pub loop-at-init : goal.loop-at-init
-loop-at-init g c = rw (c.new-blocks.ensures, c.new-walk.ensures) (refl, tt)
+loop-at-init g c = rw (c.new-blocks.ensures, c.new-walk.ensures) (refl, tt, none-kept c.args.settings.now c.args.lines.now [] c.in_ok-counts.counts c.in_ok-counts.ensures)
 
 pub returns-in_err-at : goal.returns-in_err-at
 returns-in_err-at g c =
-    let same : c.from_residual.result ≡ Err c.in_err-at.field-0.0 = err-from c.from_residual.result c.in_err-at.field-0.0 c.from_residual.ensures.1 in
-    rw same (subst (Fails c.in_err-at.field-0.0) c.loop-at.invariant.0 c.in_err-at.ensures)
+    let same : c.from_residual-in_err-at.result ≡ Err c.in_err-at.field-0.0 = err-from c.from_residual-in_err-at.result c.in_err-at.field-0.0 c.from_residual-in_err-at.ensures.1 in
+    rw same (subst (Fails c.in_err-at.field-0.0) c.loop-at.invariant.0 c.in_err-at.ensures.goes_on)

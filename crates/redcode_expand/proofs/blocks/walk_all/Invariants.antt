@@ -3,12 +3,14 @@ use Rattle.std.proofs.Common.{◌≡◌, drop}
 use Rattle.redcode_lines.specs.Block.{parsed}
 use Rattle.redcode_expand.specs.Walk.{walk_all, walk_begin}
 use Rattle.redcode_expand.specs.Rest.{rest_of, steps_left, AreOpen}
+use Rattle.redcode_expand.specs.Kept.{AreKept}
 use Rattle.redcode_expand.proofs.blocks.walk_all.Given as goal
 
 abbrev pub invariant-loop-at : goal.invariant-loop-at
 invariant-loop-at g l =
     (rest_of l.settings l.lines l.blocks (parsed (drop l.at l.lines)) l.walk ≡ walk_all l.settings (parsed l.lines) walk_begin)
     × AreOpen l.lines l.blocks (parsed (drop l.at l.lines)).1
+    × AreKept l.settings l.lines l.walk.names.equs l.counts
 
 abbrev pub decreases-loop-at : goal.decreases-loop-at
 decreases-loop-at g l = steps_left l.lines l.blocks l.at l.walk

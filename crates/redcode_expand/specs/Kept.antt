@@ -1,0 +1,50 @@
+-- Counts of blocks that stay the same in the rest of a source.
+use Rattle.std.specs.Prelude.{◌≡◌, ℕ, ◌+◌, ◌<◌, ◌^◌, Bool, true, false, ◌||◌, ◌&&◌, not, List, [], ◌∷◌, length, drop, is_some, Option, Some, None, Result, Ok, codes, slice_index_or}
+use Rattle.std.specs.Str.{bytes_eq}
+use Rattle.war_types.specs.declared.settings.RawSettings.{RawSettings}
+use Rattle.redcode_text.specs.Tokens.{Piece}
+use Rattle.redcode_text.specs.Value.{value_of}
+use Rattle.redcode_lines.specs.Block.{SourceLine}
+use Rattle.redcode_lines.specs.Word.{is_name, labels_of, behind_labels}
+use Rattle.redcode_expand.specs.Equ.{EquList, body_of, has_tokens, replaced}
+use Rattle.redcode_expand.specs.Name.{predefined}
+use Rattle.redcode_expand.specs.Walk.{count_by}
+
+-- a name that is not predefined, or whose value changes from line to line
+abbrev pub is_loose : RawSettings → List ℕ → Bool
+is_loose s name = not (is_some (predefined s 0 name)) || bytes_eq name (codes "CURLINE")
+
+-- such a name is among the tokens
+abbrev pub has_loose : RawSettings → List Piece → Bool
+has_loose s [] = false
+has_loose s (token ∷ tokens) = (is_name token.kind && is_loose s token.text) || has_loose s tokens
+
+-- among later EQUs the names of these and the predefined ones stand for what they stood for
+pub record Keeps (s : RawSettings) (old new : EquList) : Type 0 where
+  pub same : (name : List ℕ) → (has_tokens (body_of old name) || is_some (predefined s 0 name)) ≡ true → body_of new name ≡ body_of old name
+
+-- the tokens of a count ask for so many copies on every line
+pub record IsFixed (s : RawSettings) (line : ℕ) (equs : EquList) (tokens : List Piece) (n : ℕ) : Type 0 where
+  pub left : List Piece
+  pub replaces : replaced line equs tokens ≡ Ok left
+  pub fixed : has_loose s left ≡ false
+  pub copies : (before : ℕ) → count_by line (value_of (predefined s before) left) ≡ Ok n
+
+-- where a count is said to be fixed, it is
+pub record CountIsFixed (s : RawSettings) (line : ℕ) (equs : EquList) (tokens : List Piece) (told : Bool) (n : ℕ) : Type 0 where
+  pub if_told : told ≡ true → IsFixed s line equs tokens n
+
+-- so does the count of a FOR line with these tokens, which has no labels
+pub record IsKept (s : RawSettings) (line : ℕ) (equs : EquList) (tokens : List Piece) (n : ℕ) : Type 0 where
+  pub labels : labels_of tokens ≡ []
+  pub count : IsFixed s line equs (drop 1 (behind_labels tokens)) n
+  pub few : n < 2 ^ 63
+
+-- what is kept of a line behind so many others
+abbrev pub kept_at : List (Option ℕ) → ℕ → Option ℕ
+kept_at counts at = slice_index_or counts at None
+
+-- each count that is kept is that of the line at its place
+pub record AreKept (s : RawSettings) (lines : List SourceLine) (equs : EquList) (counts : List (Option ℕ)) : Type 0 where
+  pub room : length counts ≡ length lines
+  pub kept : (at : ℕ) → (line : SourceLine) → (n : ℕ) → at < length lines → drop at lines ≡ line ∷ drop (at + 1) lines → kept_at counts at ≡ Some n → IsKept s line.number equs line.tokens n
