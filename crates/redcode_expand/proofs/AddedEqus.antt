@@ -9,17 +9,17 @@ use Rattle.war_types.specs.declared.settings.RawSettings.{RawSettings}
 use Rattle.redcode_text.specs.Tokens.{Piece}
 use Rattle.redcode_lines.specs.declared.line.LineKind.{LineKind}
 use Rattle.redcode_lines.specs.declared.line.LineKind.TheVariants as line_kinds
-use Rattle.redcode_lines.specs.declared.source_line.LineForm.{LineForm}
-use Rattle.redcode_lines.specs.declared.source_line.LineForm.TheVariants as forms
+use Rattle.redcode_copies.specs.declared.source_line.LineForm.{LineForm}
+use Rattle.redcode_copies.specs.declared.source_line.LineForm.TheVariants as forms
 use Rattle.redcode_lines.specs.declared.word.Word.{Word}
 use Rattle.redcode_lines.specs.declared.word.Word.TheVariants as words
-use Rattle.redcode_lines.specs.Block.{SourceLine}
-use Rattle.redcode_lines.specs.Counter.{Counter, in_copies}
+use Rattle.redcode_copies.specs.Block.{SourceLine}
+use Rattle.redcode_copies.specs.Counter.{Counter, in_copies}
 use Rattle.redcode_lines.specs.Word.{labels_of, line_word, behind_labels, unplaced}
-use Rattle.redcode_expand.specs.Gives.{◌>>=◌, fault_at}
-use Rattle.redcode_expand.specs.Equ.{EquList, body_of, has_tokens, is_equ, is_bad_body}
-use Rattle.redcode_expand.specs.Name.{Names, is_taken, defined, all_defined, equ_defined, equ_line, predefined, address_of}
-use Rattle.redcode_expand.specs.Walk.{WalkState, Begun, begun_as, counted, labelled, equated, with_line, with_other, placed, is_equ_word, worded, statement, titled, asserted, step_by, step, for_labels, copies_of, begun_by, begun, closed, copied}
+use Rattle.redcode_names.specs.Gives.{◌>>=◌, fault_at}
+use Rattle.redcode_names.specs.Equ.{EquList, body_of, has_tokens, is_equ, is_bad_body}
+use Rattle.redcode_names.specs.Name.{Names, is_taken, defined, all_defined, equ_defined, equ_line, predefined, address_of, for_labels}
+use Rattle.redcode_expand.specs.Walk.{WalkState, Begun, begun_as, counted, labelled, equated, with_line, with_other, placed, is_equ_word, worded, statement, titled, asserted, step_by, step, copies_of, begun_by, begun, closed, copied}
 use Rattle.redcode_expand.specs.Kept.{Keeps}
 
 -- ---- what is bound

@@ -1,8 +1,8 @@
 -- The lines with the names of EQUs replaced, one after another.
 use Rattle.std.proofs.Common.{◌≡◌, List, [], ◌∷◌, ◌++◌, length, Result, Ok, Err, refl, sym, ap, ◌∙◌, append_assoc, append-nil, inl, inr, arith}
 use Rattle.war_types.specs.declared.fault.AsmFault.{AsmFault}
-use Rattle.redcode_expand.specs.Gives.{◌>>=◌, Fails}
-use Rattle.redcode_expand.specs.Equ.{EquList}
+use Rattle.redcode_names.specs.Gives.{◌>>=◌, Fails}
+use Rattle.redcode_names.specs.Equ.{EquList}
 use Rattle.redcode_expand.specs.Expansion.{ExpandedLine, line_replaced, all_replaced}
 
 -- lines before those that are left

@@ -5,13 +5,13 @@ use Rattle.war_types.specs.declared.settings.RawSettings.{RawSettings}
 use Rattle.redcode_text.specs.Tokens.{Piece}
 use Rattle.redcode_text.specs.Value.{value_of}
 use Rattle.redcode_lines.specs.declared.word.Word.{Word}
-use Rattle.redcode_lines.specs.Block.{SourceLine}
-use Rattle.redcode_lines.specs.Counter.{Counter, in_copies}
+use Rattle.redcode_copies.specs.Block.{SourceLine}
+use Rattle.redcode_copies.specs.Counter.{Counter, in_copies}
 use Rattle.redcode_lines.specs.Word.{labels_of, line_word, behind_labels, names_among, taken_while, dropped_while, may_label}
-use Rattle.redcode_expand.specs.Gives.{◌>>=◌, Fails}
-use Rattle.redcode_expand.specs.Equ.{EquList, replaced}
-use Rattle.redcode_expand.specs.Name.{Names, LabelList, names_of, predefined}
-use Rattle.redcode_expand.specs.Walk.{WalkState, walk_state, ExpandedLine, Begun, begun_as, begun_by, begun_of, begun, copies_of, count_by, for_labels}
+use Rattle.redcode_names.specs.Gives.{◌>>=◌, Fails}
+use Rattle.redcode_names.specs.Equ.{EquList, replaced}
+use Rattle.redcode_names.specs.Name.{Names, LabelList, names_of, predefined, for_labels}
+use Rattle.redcode_expand.specs.Walk.{WalkState, walk_state, ExpandedLine, Begun, begun_as, begun_by, begun_of, begun, copies_of, count_by}
 use Rattle.redcode_expand.specs.Kept.{has_loose, IsFixed, CountIsFixed}
 use Rattle.redcode_expand.proofs.Keeping.{value-same}
 

@@ -1,12 +1,8 @@
 -- The counters of open blocks, the outermost first.
 use Rattle.std.proofs.Common.{◌≡◌, List, [], ◌∷◌, ◌++◌, reverse, refl, ap, ◌∙◌}
 use Rattle.std.proofs.lemmas.List.{reverse-append}
-use Rattle.redcode_lines.specs.Counter.{Counter}
-use Rattle.redcode_expand.specs.Rest.{OpenBlock, counters_of}
-
-abbrev pub counters_in : List OpenBlock → List Counter
-counters_in [] = []
-counters_in (b ∷ bs) = b.counter ∷ counters_in bs
+use Rattle.redcode_copies.specs.Counter.{Counter}
+use Rattle.redcode_expand.specs.Rest.{OpenBlock, counters_in, counters_of}
 
 counters-outer : (bs : List OpenBlock) (b : OpenBlock) → counters_of (bs ++ b ∷ []) ≡ b.counter ∷ counters_of bs
 counters-outer [] b = refl

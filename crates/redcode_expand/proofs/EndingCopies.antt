@@ -6,9 +6,9 @@ use Rattle.war_types.specs.declared.fault.AsmFault.{AsmFault}
 use Rattle.war_types.specs.declared.fault.AsmKind.TheVariants as kinds
 use Rattle.war_types.specs.declared.settings.RawSettings.{RawSettings}
 use Rattle.redcode_lines.specs.declared.word.Word.TheVariants as words
-use Rattle.redcode_expand.specs.Gives.{◌>>=◌, Fails, fault_at}
-use Rattle.redcode_lines.specs.Block.{SourceLine, Blocks, Parsed, parsed, word_in}
-use Rattle.redcode_lines.specs.Counter.{counter_of}
+use Rattle.redcode_names.specs.Gives.{◌>>=◌, Fails, fault_at}
+use Rattle.redcode_copies.specs.Block.{SourceLine, Blocks, Parsed, parsed, word_in}
+use Rattle.redcode_copies.specs.Counter.{counter_of}
 use Rattle.redcode_expand.specs.Walk.{WalkState, closed, copied, unmatched, IsCopied}
 use Rattle.redcode_expand.specs.Rest.{OpenBlock, open_block, counters_of, rest_of, AreOpen, counts, steps_left, GoesOn}
 use Rattle.redcode_expand.proofs.GoingOn.{fails-first, fewer-counted, nat_eq-same, nat_eq-other, one-or-none, goes, rof-here, copied_rest, rest-rof, rest-last, rest-next}

@@ -9,9 +9,9 @@ use Rattle.war_types.specs.declared.fault.AsmKind.TheVariants as kinds
 use Rattle.war_types.specs.declared.settings.RawSettings.{RawSettings}
 use Rattle.redcode_lines.specs.declared.word.Word.{Word}
 use Rattle.redcode_lines.specs.declared.word.Word.TheVariants as words
-use Rattle.redcode_expand.specs.Gives.{◌>>=◌, Fails, fault_at}
-use Rattle.redcode_lines.specs.Block.{SourceLine, Blocks, Parsed, parsed, word_in, AreFromRof, behind_by, behind_for, behind_rof, behind_line, with_body, finish, one_line, block, open_for}
-use Rattle.redcode_lines.specs.Counter.{Counter, counter_of}
+use Rattle.redcode_names.specs.Gives.{◌>>=◌, Fails, fault_at}
+use Rattle.redcode_copies.specs.Block.{SourceLine, Blocks, Parsed, parsed, word_in, AreFromRof, behind_by, behind_for, behind_rof, behind_line, with_body, finish, one_line, block, open_for}
+use Rattle.redcode_copies.specs.Counter.{Counter, counter_of}
 use Rattle.redcode_expand.specs.Walk.{WalkState, Begun, begun_as, walk, step, begun, closed, copied, copies, unmatched, until_end}
 use Rattle.redcode_expand.specs.Rest.{OpenBlock, open_block, counters_of, more_copies, behind_copy, rest_of, rest_behind, AreOpen, counts, steps_left, GoesOn, IsUnmatched, Passes}
 

@@ -10,12 +10,12 @@ use Rattle.redcode_text.specs.declared.token.TokenKind.{TokenKind}
 use Rattle.redcode_text.specs.declared.token.TokenKind.TheVariants as tokens
 use Rattle.redcode_text.specs.Value.{part_of, part_by_kind, value_of, value_within, or_bad}
 use Rattle.redcode_lines.specs.Word.{is_name}
-use Rattle.redcode_expand.specs.Gives.{fault_at}
-use Rattle.redcode_expand.specs.Equ.{EquList, body_of, body_at, or_itself, round, has_tokens, has_equ, left_over, replaced, after_rounds}
-use Rattle.redcode_expand.specs.Name.{predefined}
-use Rattle.redcode_expand.specs.Kept.{is_loose, has_loose, Keeps}
-use Rattle.redcode_expand.proofs.Replacing.{left_over-all}
-use Rattle.redcode_expand.proofs.OneLine.{replaced-left}
+use Rattle.redcode_names.specs.Gives.{fault_at}
+use Rattle.redcode_names.specs.Equ.{EquList, body_of, body_at, or_itself, round, has_tokens, has_equ, left_over, replaced, after_rounds}
+use Rattle.redcode_names.specs.Name.{is_loose, predefined}
+use Rattle.redcode_expand.specs.Kept.{has_loose, Keeps}
+use Rattle.redcode_names.proofs.Replacing.{left_over-all}
+use Rattle.redcode_names.proofs.Unchanged.{replaced-left}
 
 -- ---- the value of a name that is not loose
 

@@ -7,13 +7,13 @@ use Rattle.war_types.specs.declared.fault.AsmFault.{AsmFault}
 use Rattle.war_types.specs.declared.settings.RawSettings.{RawSettings}
 use Rattle.redcode_text.specs.Tokens.{Piece}
 use Rattle.redcode_text.specs.Value.{value_of}
-use Rattle.redcode_lines.specs.Block.{SourceLine}
-use Rattle.redcode_lines.specs.Counter.{Counter, in_copies}
+use Rattle.redcode_copies.specs.Block.{SourceLine}
+use Rattle.redcode_copies.specs.Counter.{Counter, in_copies}
 use Rattle.redcode_lines.specs.Word.{labels_of, behind_labels}
-use Rattle.redcode_expand.specs.Gives.{◌>>=◌}
-use Rattle.redcode_expand.specs.Equ.{EquList, replaced}
-use Rattle.redcode_expand.specs.Name.{Names, predefined}
-use Rattle.redcode_expand.specs.Walk.{WalkState, Begun, begun_as, begun_by, begun_of, begun, copies_of, count_by, for_labels}
+use Rattle.redcode_names.specs.Gives.{◌>>=◌}
+use Rattle.redcode_names.specs.Equ.{EquList, replaced}
+use Rattle.redcode_names.specs.Name.{Names, predefined, for_labels}
+use Rattle.redcode_expand.specs.Walk.{WalkState, Begun, begun_as, begun_by, begun_of, begun, copies_of, count_by}
 use Rattle.redcode_expand.specs.Kept.{Keeps, IsFixed, CountIsFixed, IsKept, AreKept, kept_at}
 use Rattle.redcode_expand.proofs.Keeping.{replaced-kept}
 use Rattle.redcode_expand.proofs.GoingOn.{nat_eq-other}

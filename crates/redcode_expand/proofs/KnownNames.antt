@@ -4,15 +4,10 @@ use Rattle.std.proofs.lemmas.Bool.{true≢false}
 use Rattle.std.proofs.lemmas.Slice.Eq.{bytes_eq-Decides}
 use Rattle.std.specs.Str.{bytes_eq}
 use Rattle.redcode_text.specs.Tokens.{Piece}
-use Rattle.redcode_lines.specs.declared.source_line.LineForm.{LineForm}
+use Rattle.redcode_copies.specs.declared.source_line.LineForm.{LineForm}
 use Rattle.redcode_lines.specs.Word.{is_name}
-use Rattle.redcode_lines.specs.Counter.{Counter, names_counter, in_copy, in_copies, rewritten, has_name, with_name, are_named}
-use Rattle.redcode_expand.specs.Rest.{OpenBlock, AreKnown}
-use Rattle.redcode_expand.proofs.Counters.{counters_in}
-
-or-later : (b c d : Bool) → (c ≡ true → d ≡ true) → (b || c) ≡ true → (b || d) ≡ true
-or-later true c d later is = refl
-or-later false c d later is = later is
+use Rattle.redcode_copies.specs.Counter.{Counter, names_counter, in_copy, in_copies, rewritten, has_name, are_named}
+use Rattle.redcode_expand.specs.Rest.{OpenBlock, AreKnown, counters_in, names_in}
 
 or-right : (b c : Bool) → c ≡ true → (b || c) ≡ true
 or-right true c is = refl
@@ -22,43 +17,18 @@ or-false : (b c : Bool) → (b || c) ≡ false → (b ≡ false) × (c ≡ false
 or-false true c is = absurd (true≢false is)
 or-false false c is = (refl, is)
 
--- ---- names behind names
-
-has-later : (xs ys : List (List ℕ)) (name : List ℕ) → has_name xs name ≡ true → has_name (xs ++ ys) name ≡ true
-has-later [] ys name is = absurd (true≢false (sym is))
-has-later (x ∷ xs) ys name is = or-later (bytes_eq name x) (has_name xs name) (has_name (xs ++ ys) name) (has-later xs ys name) is
-
-has-last : (xs : List (List ℕ)) (name : List ℕ) → has_name (xs ++ name ∷ []) name ≡ true
-has-last [] name = ap (λ (b : Bool). b || false) ((bytes_eq-Decides name name).1 refl)
-has-last (x ∷ xs) name = or-right (bytes_eq name x) (has_name (xs ++ name ∷ []) name) (has-last xs name)
-
-has-by : (b : Bool) (names : List (List ℕ)) (name x : List ℕ) → has_name names x ≡ true → has_name (if b then names else names ++ name ∷ []) x ≡ true
-has-by true names name x is = is
-has-by false names name x is = has-later names (name ∷ []) x is
-
-last-by : (b : Bool) (names : List (List ℕ)) (name : List ℕ) → has_name names name ≡ b → has_name (if b then names else names ++ name ∷ []) name ≡ true
-last-by true names name is = is
-last-by false names name is = has-last names name
-
 -- ---- the names of open blocks
 
-pub known-with : (names : List (List ℕ)) (name : List ℕ) (bs : List OpenBlock) → AreKnown names bs → AreKnown (with_name names name) bs
-known-with names name [] known = tt
-known-with names name (b ∷ bs) known = (has-by (has_name names name) names name b.counter.name known.0, known-with names name bs known.1)
+known-later : (names : List (List ℕ)) (x : List ℕ) (bs : List OpenBlock) → AreKnown names bs → AreKnown (x ∷ names) bs
+known-later names x [] known = tt
+known-later names x (b ∷ bs) known = (or-right (bytes_eq b.counter.name x) (has_name names b.counter.name) known.0, known-later names x bs known.1)
 
-known-last : (names : List (List ℕ)) (bs : List OpenBlock) (b : OpenBlock) → AreKnown names bs → has_name names b.counter.name ≡ true → AreKnown names (bs ++ b ∷ [])
-known-last names [] b known is = (is, tt)
-known-last names (x ∷ xs) b known is = (known.0, known-last names xs b known.1 is)
-
--- a block was opened
-pub known-opened : (names : List (List ℕ)) (bs : List OpenBlock) (b : OpenBlock) → AreKnown names bs → AreKnown (with_name names b.counter.name) (bs ++ b ∷ [])
-known-opened names bs b known =
-    known-last (with_name names b.counter.name) bs b (known-with names b.counter.name bs known) (last-by (has_name names b.counter.name) names b.counter.name refl)
-
--- the last block was left
-pub known-front : (names : List (List ℕ)) (bs others : List OpenBlock) → AreKnown names (bs ++ others) → AreKnown names bs
-known-front names [] others known = tt
-known-front names (b ∷ bs) others known = (known.0, known-front names bs others known.1)
+-- those of all blocks are the names of each
+pub known-all : (bs : List OpenBlock) → AreKnown (names_in bs) bs
+known-all [] = tt
+known-all (b ∷ bs) =
+    let same : bytes_eq b.counter.name b.counter.name ≡ true = (bytes_eq-Decides b.counter.name b.counter.name).1 refl in
+    (ap (λ (is : Bool). is || has_name (names_in bs) b.counter.name) same, known-later (names_in bs) b.counter.name bs (known-all bs))
 
 -- ---- a line without such a name
 

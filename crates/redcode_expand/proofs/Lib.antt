@@ -1,21 +1,18 @@
 pub mod Plain
-mod Lookups
-mod Replacing
-mod Written
-mod Linked
 mod AllLines
 mod OneLine
 mod Unchanged
-mod LastNames
 mod Places
-mod Residuals
 mod Counters
 mod KnownNames
+mod PlacedNames
+mod BareLines
 mod GoingOn
 mod Pairing
 mod EndingCopies
 mod Rows
 mod Keeping
+mod LongSteps
 mod AddedEqus
 mod KeptCounts
 mod BeginningBlocks

@@ -7,7 +7,7 @@ use Rattle.war_types.specs.declared.fault.AsmFault.{AsmFault}
 use Rattle.war_types.specs.declared.settings.RawSettings.{RawSettings}
 use Rattle.redcode_lines.specs.declared.word.Word.{Word}
 use Rattle.redcode_lines.specs.declared.word.Word.TheVariants as words
-use Rattle.redcode_lines.specs.Block.{SourceLine, Blocks, Parsed, parsed, word_in, AreFromRof, behind_by, with_body, ends_block, depth_behind}
+use Rattle.redcode_copies.specs.Block.{SourceLine, Blocks, Parsed, parsed, word_in, AreFromRof, behind_by, with_body, ends_block, depth_behind}
 use Rattle.redcode_expand.specs.Walk.{WalkState}
 use Rattle.redcode_expand.specs.Rest.{OpenBlock, rest_of, AreOpen, IsUnmatched}
 

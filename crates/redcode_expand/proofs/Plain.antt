@@ -11,11 +11,11 @@ use Rattle.redcode_lines.specs.declared.word.Word.{Word}
 use Rattle.redcode_lines.specs.declared.word.Word.TheVariants as words
 use Rattle.redcode_lines.specs.Source.{lines_of, numbered_from, directive_of, redcode_on}
 use Rattle.redcode_lines.specs.Word.{has_text, is_name, labels_of, line_word, behind_labels, statement_tokens, unplaced}
-use Rattle.redcode_lines.specs.declared.source_line.LineForm.TheVariants as forms
-use Rattle.redcode_lines.specs.Block.{SourceLine, Blocks, source_line, source_lines, parsed, finish, one_line}
+use Rattle.redcode_copies.specs.declared.source_line.LineForm.TheVariants as forms
+use Rattle.redcode_copies.specs.Block.{SourceLine, Blocks, source_line, source_lines, parsed, finish, one_line}
 use Rattle.redcode_expand.specs.Walk.{ExpandedLine, walk_state, walk}
-use Rattle.redcode_expand.specs.Name.{names_of}
-use Rattle.redcode_expand.specs.Equ.{body_at, round, has_equ, rounds, replaced}
+use Rattle.redcode_names.specs.Name.{names_of}
+use Rattle.redcode_names.specs.Equ.{body_at, round, has_equ, rounds, replaced}
 use Rattle.redcode_expand.specs.Expansion.{expansion, before_operands, line_replaced, all_replaced}
 use Rattle.redcode_lines.specs.Operand.{operands_of}
 

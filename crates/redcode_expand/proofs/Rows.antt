@@ -5,13 +5,13 @@ use Rattle.war_types.specs.declared.fault.AsmFault.{AsmFault}
 use Rattle.war_types.specs.declared.settings.RawSettings.{RawSettings}
 use Rattle.redcode_lines.specs.declared.line.LineKind.{LineKind}
 use Rattle.redcode_lines.specs.declared.line.LineKind.TheVariants as lines
-use Rattle.redcode_expand.specs.Gives.{fault_at}
+use Rattle.redcode_names.specs.Gives.{fault_at}
 use Rattle.war_types.specs.declared.fault.ExprFault.TheVariants as faults
 use Rattle.redcode_text.specs.Tokens.{Piece}
 use Rattle.std.specs.Fmt.{digits}
 use Rattle.redcode_text.specs.Value.{value_within}
-use Rattle.redcode_expand.specs.Equ.{replaced}
-use Rattle.redcode_expand.specs.Name.{LabelList}
+use Rattle.redcode_names.specs.Equ.{replaced}
+use Rattle.redcode_names.specs.Name.{LabelList}
 use Rattle.redcode_expand.specs.Expansion.{Expansion, ExpandedLine, expansion}
 
 abbrev defaults : RawSettings

@@ -6,44 +6,13 @@ use Rattle.war_types.specs.declared.fault.AsmKind.TheVariants as kinds
 use Rattle.redcode_text.specs.Tokens.{Piece}
 use Rattle.redcode_lines.specs.declared.line.LineKind.{LineKind}
 use Rattle.redcode_lines.specs.declared.line.LineKind.TheVariants as lines
-use Rattle.redcode_expand.specs.Gives.{Fails, fault_at}
+use Rattle.redcode_names.specs.Gives.{Fails, fault_at}
 use Rattle.redcode_lines.specs.Word.{has_text}
-use Rattle.redcode_expand.specs.Equ.{EquList, body_at, or_itself, round, has_tokens, has_equ, left_over, after_rounds, replaced}
+use Rattle.redcode_names.specs.Equ.{EquList, has_equ, replaced}
 use Rattle.redcode_expand.specs.Expansion.{ExpandedLine, line_replaced}
 use Rattle.redcode_lines.specs.Operand.{behind_modifier, operands_of}
-use Rattle.redcode_expand.proofs.OneLine.{replaced-left, line-refused, line-written}
-
-or_itself-none : (x : Piece) (body : List Piece) → has_tokens body ≡ false → or_itself x body ≡ x ∷ []
-or_itself-none x [] none = refl
-or_itself-none x (b ∷ bs) none = absurd (true≢false none)
-
--- ---- no round changes anything
-
-round-same : (equs : EquList) (xs : List Piece) → has_equ equs xs ≡ false → round equs xs ≡ xs
-round-same equs [] none = refl
-round-same equs (x ∷ xs) none =
-    let parts = or_parts _ _ none in
-    rw (or_itself-none x (body_at equs x) parts.0, round-same equs xs parts.1) refl
-
-after-same : (n : ℕ) (equs : EquList) (xs : List Piece) → has_equ equs xs ≡ false → after_rounds n equs xs ≡ xs
-after-same zero equs xs none = refl
-after-same (suc n) equs xs none = ap (after_rounds n equs) (round-same equs xs none) ∙ after-same n equs xs none
-
-replaced-same : (line : ℕ) (equs : EquList) (xs : List Piece) → has_equ equs xs ≡ false → replaced line equs xs ≡ left_over line equs xs
-replaced-same line equs xs none = replaced-left line equs xs ∙ ap (left_over line equs) (after-same 16 equs xs none)
-
--- tokens that are none are as they were
-pub tokens-same : (line : ℕ) (equs : EquList) (xs : List Piece) → has_equ equs xs ≡ false → length xs ≤ 512 → replaced line equs xs ≡ Ok xs
-tokens-same line equs xs none short =
-    let left : left_over line equs xs ≡ Ok xs = rw (le-ltb 512 _ short, none) refl in
-    replaced-same line equs xs none ∙ left
-
--- or there are too many
-pub tokens-over : (line : ℕ) (equs : EquList) (xs : List Piece) (fault : AsmFault) → has_equ equs xs ≡ false → 512 < length xs → fault ≡ fault_at line kinds.EquLimit
-    → replaced line equs xs ≡ Err fault
-tokens-over line equs xs fault none long is =
-    let left : left_over line equs xs ≡ Err fault = rw (lt-ltb 512 _ long, is) refl in
-    replaced-same line equs xs none ∙ left
+use Rattle.redcode_expand.proofs.OneLine.{line-refused, line-written}
+use Rattle.redcode_names.proofs.Unchanged.{tokens-same, tokens-over}
 
 -- ---- the operands are the last tokens
 

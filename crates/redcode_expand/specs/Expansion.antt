@@ -6,14 +6,14 @@ use Rattle.war_types.specs.declared.settings.RawSettings.{RawSettings}
 use Rattle.redcode_text.specs.Tokens.{Piece}
 use Rattle.redcode_lines.specs.declared.line.Line.{Line}
 use Rattle.redcode_lines.specs.declared.line.LineKind.{LineKind}
-use Rattle.redcode_expand.specs.Gives.{◌>>=◌, fault_at}
+use Rattle.redcode_names.specs.Gives.{◌>>=◌, fault_at}
 use Rattle.redcode_lines.specs.Operand.{operands_of}
 use Rattle.redcode_lines.specs.Source.{NumberedLine, live_lines}
-use Rattle.redcode_expand.specs.Equ.{EquList, replaced}
-use Rattle.redcode_lines.specs.Block.{parsed, source_lines}
-use Rattle.redcode_expand.specs.Name.{LabelList}
+use Rattle.redcode_names.specs.Equ.{EquList, replaced}
+use Rattle.redcode_copies.specs.Block.{parsed, source_lines}
+use Rattle.redcode_names.specs.Name.{LabelList}
 use Rattle.redcode_expand.specs.Walk.{WalkState, walk_all, walk_begin}
-pub use Rattle.redcode_expand.specs.Name.{address_of, predefined}
+pub use Rattle.redcode_names.specs.Name.{address_of, predefined}
 pub use Rattle.redcode_expand.specs.Walk.{ExpandedLine}
 
 pub record Expansion : Type 0 where

@@ -4,15 +4,11 @@ use Rattle.std.specs.Str.{bytes_eq}
 use Rattle.war_types.specs.declared.settings.RawSettings.{RawSettings}
 use Rattle.redcode_text.specs.Tokens.{Piece}
 use Rattle.redcode_text.specs.Value.{value_of}
-use Rattle.redcode_lines.specs.Block.{SourceLine}
+use Rattle.redcode_copies.specs.Block.{SourceLine}
 use Rattle.redcode_lines.specs.Word.{is_name, labels_of, behind_labels}
-use Rattle.redcode_expand.specs.Equ.{EquList, body_of, has_tokens, replaced}
-use Rattle.redcode_expand.specs.Name.{predefined}
+use Rattle.redcode_names.specs.Equ.{EquList, body_of, has_tokens, replaced}
+use Rattle.redcode_names.specs.Name.{is_loose, predefined}
 use Rattle.redcode_expand.specs.Walk.{count_by}
-
--- a name that is not predefined, or whose value changes from line to line
-abbrev pub is_loose : RawSettings → List ℕ → Bool
-is_loose s name = not (is_some (predefined s 0 name)) || bytes_eq name (codes "CURLINE")
 
 -- such a name is among the tokens
 abbrev pub has_loose : RawSettings → List Piece → Bool

@@ -1,8 +1,7 @@
-pub mod Gives
-pub mod Equ
-pub mod Link
-pub mod Name
 pub mod Walk
 pub mod Rest
 pub mod Kept
+pub mod Bare
 pub mod Expansion
+pub mod Long
+pub mod Found

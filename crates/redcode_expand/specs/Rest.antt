@@ -1,11 +1,14 @@
 -- What is left of a source within blocks that are open.
-use Rattle.std.specs.Prelude.{◌≡◌, ℕ, ◌+◌, ◌-◌, ◌*◌, ◌≤◌, ◌<◌, Bool, true, false, IsTrue, nat_eq, if◌then◌else◌, List, [], ◌∷◌, ◌++◌, length, drop, ⊤, Result, Ok, Err}
+use Rattle.std.specs.Prelude.{◌≡◌, ℕ, suc, ◌+◌, ◌-◌, ◌*◌, ◌≤◌, ◌<◌, ◌^◌, Bool, true, false, IsTrue, nat_eq, if◌then◌else◌, List, [], ◌∷◌, ◌++◌, length, drop, ⊤, Option, Some, None, Result, Ok, Err}
+use Rattle.std.specs.Option.{option_map}
+use Rattle.std.specs.Str.{bytes_eq}
 use Rattle.war_types.specs.declared.fault.AsmFault.{AsmFault}
 use Rattle.war_types.specs.declared.fault.AsmKind.TheVariants as kinds
 use Rattle.war_types.specs.declared.settings.RawSettings.{RawSettings}
-use Rattle.redcode_expand.specs.Gives.{◌>>=◌, fault_at}
-use Rattle.redcode_lines.specs.Block.{SourceLine, Blocks, Parsed, parsed}
-use Rattle.redcode_lines.specs.Counter.{Counter, counter_of, has_name}
+use Rattle.redcode_names.specs.Gives.{◌>>=◌, fault_at}
+use Rattle.redcode_copies.specs.Block.{SourceLine, Blocks, Parsed, parsed}
+use Rattle.redcode_copies.specs.Counter.{Counter, counter_of, has_name}
+use Rattle.redcode_names.specs.Name.{LabelList, address_of}
 use Rattle.redcode_expand.specs.Walk.{WalkState, walk, copies, copied, closed, unmatched, until_end}
 
 -- a block whose copies are being written
@@ -89,7 +92,31 @@ pub record Passes (s : RawSettings) (lines : List SourceLine) (due : Result Walk
   pub later : body ≤ at
   pub counted : st.counted ≡ old.counted
 
+-- the counters of blocks, the outermost block first
+abbrev pub counters_in : List OpenBlock → List Counter
+counters_in [] = []
+counters_in (b ∷ bs) = b.counter ∷ counters_in bs
+
+-- their names
+abbrev pub names_in : List OpenBlock → List (List ℕ)
+names_in [] = []
+names_in (b ∷ bs) = b.counter.name ∷ names_in bs
+
 -- the counter of each block has one of these names
 abbrev pub AreKnown : List (List ℕ) → List OpenBlock → Type 0
 AreKnown names [] = ⊤
 AreKnown names (b ∷ bs) = (has_name names b.counter.name ≡ true) × AreKnown names bs
+
+-- where the first of the blocks stands whose counter has this name
+abbrev pub place_in : List OpenBlock → List ℕ → Option ℕ
+place_in [] name = None
+place_in (b ∷ bs) name = if bytes_eq name b.counter.name then Some 0 else option_map (λ place. suc place) (place_in bs name)
+
+-- of each counter's name this is the place of the first block that has it, the outermost block being the first
+abbrev pub ArePlaced : LabelList → List OpenBlock → Type 0
+ArePlaced places bs = (name : List ℕ) → (place : ℕ) → place_in bs name ≡ Some place → address_of places name ≡ Some place
+
+-- the numbers of counters are values
+abbrev pub AreFew : List Counter → Type 0
+AreFew [] = ⊤
+AreFew (c ∷ cs) = (c.number < 2 ^ 63) × AreFew cs

@@ -6,17 +6,17 @@ use Rattle.war_types.specs.declared.settings.RawSettings.{RawSettings}
 use Rattle.war_types.specs.declared.fault.ExprFault.{ExprFault}
 use Rattle.redcode_text.specs.Tokens.{Piece}
 use Rattle.redcode_text.specs.Value.{value_of}
-use Rattle.redcode_lines.specs.declared.source_line.LineForm.{LineForm}
-use Rattle.redcode_lines.specs.declared.source_line.LineForm.TheVariants as forms
+use Rattle.redcode_copies.specs.declared.source_line.LineForm.{LineForm}
+use Rattle.redcode_copies.specs.declared.source_line.LineForm.TheVariants as forms
 use Rattle.redcode_lines.specs.declared.line.LineKind.{LineKind}
 use Rattle.redcode_lines.specs.declared.line.LineKind.TheVariants as lines
 use Rattle.redcode_lines.specs.declared.word.Word.{Word}
 use Rattle.redcode_lines.specs.declared.word.Word.TheVariants as words
-use Rattle.redcode_expand.specs.Gives.{◌>>=◌, fault_at}
-use Rattle.redcode_lines.specs.Block.{SourceLine, Blocks, Parsed, finish, one_line, block, open_for}
-use Rattle.redcode_lines.specs.Counter.{Counter, counter_of, in_copies}
-use Rattle.redcode_expand.specs.Equ.{EquList, replaced}
-use Rattle.redcode_expand.specs.Name.{Names, names_of, all_defined, defined, equ_line, predefined}
+use Rattle.redcode_names.specs.Gives.{◌>>=◌, fault_at}
+use Rattle.redcode_copies.specs.Block.{SourceLine, Blocks, Parsed, finish, one_line, block, open_for}
+use Rattle.redcode_copies.specs.Counter.{Counter, counter_of, in_copies}
+use Rattle.redcode_names.specs.Equ.{EquList, replaced}
+use Rattle.redcode_names.specs.Name.{Names, names_of, all_defined, equ_line, for_labels, predefined}
 use Rattle.redcode_lines.specs.Word.{labels_of, line_word, behind_labels, unplaced}
 
 -- a line of the expanded source
@@ -120,12 +120,6 @@ abbrev pub step : RawSettings → List Counter → SourceLine → WalkState → 
 step s counters line st = step_by s line.number line.form line.title (in_copies counters line.form line.tokens) st
 
 -- ---- blocks
-
--- labels but for the last one at this address, and the last one, which is the counter's name
-abbrev pub for_labels : RawSettings → ℕ → ℕ → List (List ℕ) → Names → Result (Names × List ℕ) AsmFault
-for_labels s line address [] names = Ok (names, [])
-for_labels s line address (name ∷ []) names = Ok (names, name)
-for_labels s line address (name ∷ next ∷ others) names = defined s line address name names >>= for_labels s line address (next ∷ others)
 
 -- no copy where the count is negative
 abbrev pub copies_by : ℤ → ℕ

@@ -1,18 +1,17 @@
 //! The count of a block.
 
 ghost use Rattle.std.specs.Prelude.{◌≡◌, ◌<◌, ◌^◌, IfOk};
+ghost use Rattle.redcode_text.specs.Tokens.{pieces};
 ghost use Rattle.redcode_text.specs.Value.{value_of};
-ghost use Rattle.redcode_expand.specs.Gives.{Gives};
-ghost use Rattle.redcode_expand.specs.Name.{predefined};
+ghost use Rattle.redcode_names.specs.Gives.{Gives};
+ghost use Rattle.redcode_names.specs.Name.{predefined};
 ghost use Rattle.redcode_expand.specs.Walk.{copies_of, count_by};
-ghost use Rattle.redcode_expand.specs.Equ.{replaced};
+ghost use Rattle.redcode_names.specs.Equ.{replaced};
 ghost use Rattle.redcode_expand.specs.Kept.{has_loose, CountIsFixed};
 
-use crate::equs::Equs;
-use crate::name::{is_loose, predefined};
-use crate::replace::replaced;
 use redcode_lines::{Part, is_name, tokens_of};
-use redcode_text::{Names, value};
+use redcode_names::{Equs, is_loose, predefined, replaced};
+use redcode_text::{Names, Token, value};
 use std::alloc::Allocator;
 use war_types::{AsmFault, AsmKind, Settings};
 
@@ -25,7 +24,7 @@ struct Predefined<'e> {
 }
 
 impl<'e> Names for Predefined<'e> {
-    ghost use Rattle.redcode_expand.specs.Name.{predefined};
+    ghost use Rattle.redcode_names.specs.Name.{predefined};
 
     ghost values = { λ it. predefined it.settings.now it.before };
 
@@ -73,7 +72,15 @@ fn count_of<A: Allocator + Copy>(
     ensures few { IfOk result (λ n. n < 2 ^ 63) }
 {
     let tokens = tokens_of(alloc, tokens)?;
-    match value(tokens.as_slice(), &Predefined { settings, before }) {
+    counted(line, tokens.as_slice(), &Predefined { settings, before })
+}
+
+/// How many copies a count asks for by the values of names.
+pub(crate) fn counted<N: Names>(line: u32, tokens: &[Token<'_>], names: &N) -> Result<u64, AsmFault>
+    ensures copies { Gives (λ n. n) result (count_by line (value_of (N.values names.now) (pieces tokens.now))) }
+    ensures few { IfOk result (λ n. n < 2 ^ 63) }
+{
+    match value(tokens, names) {
         Ok(count) if count > 0 => Ok(count as u64),
         Ok(_) => Ok(0),
         Err(fault) => Err(AsmFault {

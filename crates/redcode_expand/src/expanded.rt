@@ -2,14 +2,14 @@
 
 ghost use Rattle.std.specs.Prelude.{◌≡◌, ◌<◌, map, length, IfOk, Ok};
 ghost use Rattle.redcode_text.specs.Tokens.{pieces};
-ghost use Rattle.redcode_expand.specs.Gives.{Gives};
+ghost use Rattle.redcode_names.specs.Gives.{Gives};
 ghost use Rattle.redcode_expand.specs.Expansion.{expansion, address_of, line_of, title_at, tokens_at};
 
 use crate::blocks::walk_all;
 use crate::entry::Entry;
-use crate::labels::Labels;
-use crate::name_key::NameHash;
-use redcode_lines::{Line, live_source, source_lines};
+use redcode_copies::source_lines;
+use redcode_lines::{Line, live_source};
+use redcode_names::{Labels, NameHash};
 use redcode_text::Token;
 use std::alloc::{AllocError, Allocator};
 use std::marker::Model;

@@ -1,26 +1,30 @@
 //! The walk over the lines of a source.
 
 ghost use Rattle.std.specs.Prelude.{◌≡◌, ◌+◌, ◌<◌, ◌^◌, [], drop, Ok, OnOk, IfOk};
-ghost use Rattle.redcode_expand.specs.Gives.{Gives};
+ghost use Rattle.redcode_names.specs.Gives.{Gives};
 ghost use Rattle.redcode_lines.specs.Word.{behind_labels, may_label, names_among, taken_while};
-ghost use Rattle.redcode_expand.specs.Name.{all_defined};
+ghost use Rattle.redcode_names.specs.Name.{all_defined};
 ghost use Rattle.redcode_expand.specs.Expansion.{finished};
 ghost use Rattle.redcode_expand.specs.Rest.{counters_of};
 ghost use Rattle.redcode_expand.specs.Kept.{CountIsFixed};
-ghost use Rattle.redcode_lines.specs.Counter.{in_copies};
+ghost use Rattle.redcode_copies.specs.Counter.{in_copies};
+ghost use Rattle.redcode_copies.specs.Long.{IsLong};
+ghost use Rattle.redcode_copies.specs.declared.source_line.LineForm.TheVariants.{Statement};
+ghost use Rattle.redcode_expand.specs.Long.{long_assertion, long_statement, passed, with_copy};
 ghost use Rattle.redcode_expand.specs.Walk.{walk_begin, begun, begun_as, closed, copied, counted, labelled, with_line, placed, statement, titled, step, IsCopied};
 
 use crate::count::copies_of;
 use crate::entry::Entry;
 use crate::expanded::Expanded;
-use crate::name_key::NameHash;
-use crate::names::Names;
+use crate::found::Found;
+use crate::long_line::LongLine;
 use crate::open_blocks::OpenBlocks;
 use crate::replace::replace_all;
+use redcode_copies::{LineForm, SourceLine};
 use redcode_lines::{
-    Line, LineForm, LineKind, Part, SourceLine, Word, behind_first, behind_labels, line_word,
-    unplaced_parts,
+    Line, LineKind, Part, Word, behind_first, behind_labels, line_word, unplaced_parts,
 };
+use redcode_names::{Equs, NameHash, Names};
 use std::alloc::Allocator;
 use std::marker::Model;
 use war_types::{AsmFault, AsmKind, Settings};
@@ -45,7 +49,7 @@ pub(crate) struct Walk<'s, A: Allocator + Copy> {
     counted: u32,
     before: u32,
     names: Names<'s, A>,
-    entries: Vec<Entry<'s, A>, A>,
+    entries: Vec<Found<'s, A>, A>,
     ended: bool,
 }
 
@@ -88,6 +92,20 @@ impl<'s, A: Allocator + Copy> Walk<'s, A> {
         self.counted
     }
 
+    /// Instructions so far.
+    pub(crate) fn before(&self) -> u32
+        ensures { result ≡ self.now.before }
+    {
+        self.before
+    }
+
+    /// The EQUs so far.
+    pub(crate) fn equs(&self) -> &Equs<'s, A>
+        ensures { result.now ≡ self.now.names.equs }
+    {
+        &self.names.equs
+    }
+
     /// Walks over a line within blocks.
     pub(crate) fn step(
         &mut self,
@@ -98,6 +116,9 @@ impl<'s, A: Allocator + Copy> Walk<'s, A> {
         ensures step { Gives (λ _. self.new) result (step settings.now (counters_of blocks.now) line.now self.old) }
         ensures counted { OnOk result ((self.new.counted ≡ self.old.counted + 1) × (self.old.counted < 4096)) }
     {
+        if let Some(kind) = line.long_kind() {
+            return self.long(settings, blocks, line, kind);
+        }
         let tokens = blocks.tokens_of(line)?;
         let number = line.number();
         match line.form() {
@@ -307,11 +328,99 @@ impl<'s, A: Allocator + Copy> Walk<'s, A> {
             before: self.before,
         };
         let tokens = unplaced_parts(self.alloc, tokens)?;
-        self.entries.push(Entry {
+        self.entries.push(Found::kept(Entry {
             line,
             title,
             tokens,
-        })?;
+        }))?;
         Ok(())
+    }
+
+    /// A line that is long, of this kind: what is kept of it needs none of its tokens.
+    fn long(
+        &mut self,
+        settings: &Settings,
+        blocks: &OpenBlocks<A>,
+        line: &SourceLine<'s, A>,
+        kind: LineKind,
+    ) -> Result<(), AsmFault>
+        requires { IsLong line.now.form line.now.tokens kind }
+        ensures step { Gives (λ _. self.new) result (step settings.now (counters_of blocks.now) line.now self.old) }
+        ensures counted { OnOk result ((self.new.counted ≡ self.old.counted + 1) × (self.old.counted < 4096)) }
+    {
+        match line.form() {
+            LineForm::Statement => self.long_statement(settings, blocks, line, kind),
+            LineForm::Assert | LineForm::Name | LineForm::Author => {
+                self.long_assertion(blocks, line, kind)
+            }
+        }
+    }
+
+    /// A statement that is long: its labels are those that it has in the source.
+    fn long_statement(
+        &mut self,
+        settings: &Settings,
+        blocks: &OpenBlocks<A>,
+        line: &SourceLine<'s, A>,
+        kind: LineKind,
+    ) -> Result<(), AsmFault>
+        requires form { line.now.form ≡ Statement }
+        requires long { IsLong line.now.form line.now.tokens kind }
+        ensures step { Gives (λ _. self.new) result (long_statement settings.now (counters_of blocks.now) line.now kind self.old) }
+        ensures counted { OnOk result ((self.new.counted ≡ self.old.counted + 1) × (self.old.counted < 4096)) }
+    {
+        let number = line.number();
+        self.count(number)?;
+        self.label(settings, number, line.word(), line.tokens())?;
+        self.push_long(blocks, line, kind)?;
+        self.pass(kind);
+        Ok(())
+    }
+
+    /// An assertion that is long.
+    fn long_assertion(
+        &mut self,
+        blocks: &OpenBlocks<A>,
+        line: &SourceLine<'s, A>,
+        kind: LineKind,
+    ) -> Result<(), AsmFault>
+        requires { IsLong line.now.form line.now.tokens kind }
+        ensures step { Gives (λ _. self.new) result (long_assertion (counters_of blocks.now) line.now kind self.old) }
+        ensures counted { OnOk result ((self.new.counted ≡ self.old.counted + 1) × (self.old.counted < 4096)) }
+    {
+        self.count(line.number())?;
+        self.push_long(blocks, line, kind)
+    }
+
+    /// A further line of the expanded source, which is long.
+    fn push_long(
+        &mut self,
+        blocks: &OpenBlocks<A>,
+        line: &SourceLine<'s, A>,
+        kind: LineKind,
+    ) -> Result<(), AsmFault>
+        requires { IsLong line.now.form line.now.tokens kind }
+        ensures pushed { Gives (λ _. self.new) result (Ok (with_copy (counters_of blocks.now) line.now kind self.old)) }
+    {
+        let place = Line {
+            source_line: line.number(),
+            kind,
+            before: self.before,
+        };
+        self.entries
+            .push(Found::long(LongLine::new(place, line, blocks)))?;
+        Ok(())
+    }
+
+    /// Goes on behind a line of this kind.
+    fn pass(&mut self, kind: LineKind)
+        requires { self.old.before < self.old.counted }
+        ensures { self.new ≡ passed kind self.old }
+    {
+        match kind {
+            LineKind::Operation => self.before += 1,
+            LineKind::End => self.ended = true,
+            _ => {}
+        }
     }
 }

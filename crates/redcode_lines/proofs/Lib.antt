@@ -1,6 +1,3 @@
 mod Lines
-mod Readings
-mod Fronts
-mod Joining
-mod Numbers
-mod SourceLines
+pub mod Readings
+mod Words

@@ -98,3 +98,7 @@ statement_tokens line = without_comment (tokens_of line)
 -- a token without its place in a line
 abbrev pub unplaced : Piece → Piece
 unplaced token = record { kind = token.kind; text = token.text; at = 0 }
+
+-- a token that is not written in the source
+abbrev pub piece : TokenKind → List ℕ → Piece
+piece kind text = record { kind = kind; text = text; at = 0 }

@@ -9,7 +9,7 @@ use crate::word::is_word;
 
 /// What a line is that begins with a semicolon.
 #[derive(Clone, Copy, Debug, PartialEq, Eq)]
-pub(crate) enum Directive {
+pub enum Directive {
     Redcode,
     Name,
     Author,
@@ -26,7 +26,7 @@ pub(crate) fn is_redcode(line: &[u8]) -> bool
 }
 
 /// The directive of a line that begins with a semicolon, and the text behind its word.
-pub(crate) fn directive_of(line: &[u8]) -> Option<(Directive, &[u8])>
+pub fn directive_of(line: &[u8]) -> Option<(Directive, &[u8])>
     ensures found { option_map seen result ≡ directive_of line.entry.now }
     ensures short { IfSome result (λ found. length found.1.now ≤ length line.entry.now) }
 {

@@ -29,8 +29,7 @@ impl<'s, A: Allocator> Model for Part<'s, A> {
 impl<'s, A: Allocator> Part<'s, A> {
     ghost use Rattle.std.specs.Prelude.{◌≡◌, IfOk};
     ghost use Rattle.redcode_text.specs.Tokens.{Piece, piece_of};
-    ghost use Rattle.redcode_lines.specs.Counter.{piece};
-    ghost use Rattle.redcode_lines.specs.Word.{unplaced};
+    ghost use Rattle.redcode_lines.specs.Word.{piece, unplaced};
 
     /// A token of the source.
     pub(crate) fn of(token: &Token<'s>) -> Part<'s, A>
@@ -44,7 +43,7 @@ impl<'s, A: Allocator> Part<'s, A> {
     }
 
     /// A token of this kind and this text, with a place of 0.
-    pub(crate) fn made(kind: TokenKind, text: Vec<u8, A>) -> Part<'s, A>
+    pub fn made(kind: TokenKind, text: Vec<u8, A>) -> Part<'s, A>
         ensures { result ≡ piece kind text.items }
     {
         Part {
@@ -90,12 +89,16 @@ impl<'s, A: Allocator> Part<'s, A> {
         self.text.as_slice()
     }
 
-    /// The text, to write behind.
-    pub(crate) fn into_text(self, alloc: A) -> Result<Vec<u8, A>, AllocError>
+    /// The text, to write behind, with room for so many bytes where it is of the source.
+    pub fn into_text(self, alloc: A, room: usize) -> Result<Vec<u8, A>, AllocError>
         ensures { IfOk result (λ text. text.items ≡ self.entry.text) }
     {
         match self.text {
-            CowSlice::Borrowed(text) => Vec::from_slice(alloc, text),
+            CowSlice::Borrowed(text) => {
+                let mut copy = Vec::with_capacity(alloc, text.len().saturating_add(room))?;
+                copy.extend_from_slice(text)?;
+                Ok(copy)
+            }
             CowSlice::Owned(text) => Ok(text),
         }
     }
@@ -113,7 +116,7 @@ impl<'s, A: Allocator> Part<'s, A> {
 }
 
 /// The same tokens.
-pub(crate) fn parts_of<'s, A: Allocator + Copy>(
+pub fn parts_of<'s, A: Allocator + Copy>(
     alloc: A,
     tokens: &[Token<'s>],
 ) -> Result<Vec<Part<'s, A>, A>, AllocError>

@@ -52,7 +52,7 @@ pub fn may_label<A: Allocator>(word: Option<Word>, token: &Part<'_, A>) -> bool
 }
 
 /// Whether a token may stand before a word: a name that is none, `&` or `:`.
-pub(crate) fn is_front<A: Allocator>(token: &Part<'_, A>) -> bool
+pub fn is_front<A: Allocator>(token: &Part<'_, A>) -> bool
     ensures { result ≡ is_front token.now }
 {
     is_name(token) && word_of(token.text()).is_none()
@@ -79,14 +79,14 @@ pub fn is_name<A: Allocator>(token: &Part<'_, A>) -> bool
 }
 
 /// Whether the token is spelled so.
-pub(crate) fn has_text<A: Allocator>(token: &Part<'_, A>, text: &[u8]) -> bool
+pub fn has_text<A: Allocator>(token: &Part<'_, A>, text: &[u8]) -> bool
     ensures { result ≡ has_text text.now token.now }
 {
     token.text() == text
 }
 
 /// The tokens of a line without the comment at its end.
-pub(crate) fn without_comment<'t, 'l>(tokens: &'t [Token<'l>]) -> &'t [Token<'l>]
+pub fn without_comment<'t, 'l>(tokens: &'t [Token<'l>]) -> &'t [Token<'l>]
     ensures { pieces result.now ≡ without_comment (pieces tokens.entry.now) }
 {
     let comment = comment_at_end(tokens);

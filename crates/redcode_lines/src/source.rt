@@ -27,7 +27,7 @@ pub fn live_source(source: &[u8]) -> (u32, &[u8])
 }
 
 /// The first line without the line feed that ends it, and what is behind that.
-pub(crate) fn first_line(source: &[u8]) -> (&[u8], &[u8])
+pub fn first_line(source: &[u8]) -> (&[u8], &[u8])
     requires { 0 < length source.now }
     ensures lines { lines_of source.entry.now ≡ result.0.now ∷ lines_of result.1.now }
     ensures shorter { length result.1.now < length source.entry.now }

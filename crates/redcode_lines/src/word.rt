@@ -16,10 +16,17 @@ pub enum Word {
     Pin,
 }
 
-/// The reserved word that a name is, in whatever letter case.
+/// Letters of a reserved word.
+const LETTERS: usize = 3;
+
+/// The reserved word that a name is, in whatever letter case. All have three letters.
+#[tactic(auto, using(crate::proofs::Words::no_word))]
 pub(crate) fn word_of(text: &[u8]) -> Option<Word>
     ensures { result ≡ word_of text.now }
 {
+    if text.len() != LETTERS {
+        return None;
+    }
     if is_operation(text) {
         Some(Word::Operation)
     } else if is_word(b"EQU", text) {

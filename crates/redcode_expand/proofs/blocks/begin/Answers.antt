@@ -1,13 +1,18 @@
 use Rattle.std.proofs.Common.{◌-◌, ◌+◌, subst, ℕ, Bool, List, ◌∷◌, Ok, sym, ap, ◌∙◌, drop, arith}
 use Rattle.std.proofs.lemmas.Grind.{common_steps}
-use Rattle.redcode_lines.specs.Block.{parsed}
-use Rattle.redcode_expand.specs.Gives.{Fails}
-use Rattle.redcode_lines.specs.Counter.{counter_of}
+use Rattle.redcode_copies.specs.Block.{parsed}
+use Rattle.redcode_names.specs.Gives.{Fails}
+use Rattle.redcode_copies.specs.Counter.{counter_of}
 use Rattle.redcode_expand.specs.Walk.{begun_as}
 use Rattle.redcode_expand.specs.Rest.{OpenBlock, open_block, rest_of, rest_behind, steps_left, GoesOn, IsUnmatched, Passes}
+use Rattle.redcode_expand.proofs.BareLines.{bare-there}
 use Rattle.redcode_expand.proofs.GoingOn.{begun-fails, none-fails, none-goes-on, block-goes-on}
 use Rattle.redcode_expand.proofs.KeptCounts.{all-same}
 use Rattle.redcode_expand.proofs.blocks.begin.Goals as goal
+
+pub begun-requires-clause-bare : goal.begun-requires-clause-bare
+begun-requires-clause-bare g c =
+    bare-there c.args.lines.now c.args.bare.now c.args.at c.args.line.now c.bare_at.result.now c.requires.bare c.requires.line c.bare_at.ensures
 
 pub returns-in_err-begun-clause-goes_on : goal.returns-in_err-begun-clause-goes_on
 returns-in_err-begun-clause-goes_on g c =

@@ -1,5 +1,5 @@
 use Rattle.std.proofs.Common.{◌≡◌, Ok, List, ℕ, refl, sym, ap, ◌∙◌}
-use Rattle.redcode_lines.specs.Counter.{in_copies}
+use Rattle.redcode_copies.specs.Counter.{in_copies}
 use Rattle.redcode_expand.specs.Rest.{counters_of}
 use Rattle.redcode_expand.specs.Walk.{begun_as}
 use Rattle.redcode_expand.proofs.AddedEqus.{begun-equs}
@@ -8,9 +8,9 @@ use Rattle.redcode_expand.proofs.blocks.begun.Goals as goal
 
 pub returns-then-not-may_keep-clause-kept : goal.returns-then-not-may_keep-clause-kept
 returns-then-not-may_keep-clause-kept g c =
-    all-same c.args.settings.now c.args.lines.now c.args.walk.now.names.equs c.begin.new.self.names.equs c.args.counts.now
+    all-same c.args.settings.now c.args.lines.now c.args.walk.now.names.equs c.begun_within.new.walk.names.equs c.args.counts.now
     (begun-equs c.args.settings.now (counters_of c.args.blocks.now) c.args.line.now c.args.walk.now
-    (begun_as c.begin.new.self c.in_ok-begun.begun.counter.items c.in_ok-begun.begun.copies) c.in_ok-begun.ensures.begun) c.requires.kept
+    (begun_as c.begun_within.new.walk c.in_ok-begun.begun.counter.items c.in_ok-begun.begun.copies) c.in_ok-begun.ensures.begun) c.requires.kept
 
 pub returns-in-Some-clause-begun : goal.returns-in-Some-clause-begun
 returns-in-Some-clause-begun g c =
@@ -27,7 +27,7 @@ returns-clause-kept g c =
     let line = c.args.line.now in
     let b = c.in_ok-begun-2.begun in
     let cs = counters_of c.args.blocks.now in
-    all-learned c.args.settings.now c.args.lines.now c.args.walk.now.names.equs c.begin-2.new.self.names.equs c.args.counts.now c.learn.new.self c.args.at line b.copies b.is_fixed
+    all-learned c.args.settings.now c.args.lines.now c.args.walk.now.names.equs c.begin.new.self.names.equs c.args.counts.now c.learn.new.self c.args.at line b.copies b.is_fixed
     (in_copies cs line.form line.tokens)
-    (begun-equs c.args.settings.now cs line c.args.walk.now (begun_as c.begin-2.new.self b.counter.items b.copies) c.in_ok-begun-2.ensures.begun)
+    (begun-equs c.args.settings.now cs line c.args.walk.now (begun_as c.begin.new.self b.counter.items b.copies) c.in_ok-begun-2.ensures.begun)
     c.requires.some c.requires.line c.requires.kept told.0 told.1 c.in_ok-begun-2.ensures.fixed c.in_ok-begun-2.ensures.few c.learn.ensures

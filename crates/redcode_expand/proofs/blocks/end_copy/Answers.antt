@@ -2,7 +2,12 @@ use Rattle.std.proofs.Common.{◌∙◌}
 use Rattle.redcode_expand.specs.Rest.{counters_of}
 use Rattle.redcode_expand.proofs.EndingCopies.{next-copied}
 use Rattle.redcode_expand.proofs.AddedEqus.{closed-equs, copied-equs}
+use Rattle.redcode_expand.proofs.BareLines.{bare-there}
 use Rattle.redcode_expand.proofs.blocks.end_copy.Goals as goal
+
+pub close-requires : goal.close-requires
+close-requires g c =
+    bare-there c.args.lines.now c.args.bare.now c.args.at c.args.line.now c.bare_at.result.now c.requires.bare c.requires.line c.bare_at.ensures
 
 pub returns-clause-goes_on : goal.returns-clause-goes_on
 returns-clause-goes_on g c =
@@ -17,5 +22,5 @@ returns-clause-equs g c = copied-equs c.number-2.result c.start.result c.args.wa
 
 pub returns-then-left-eq0-clause-equs : goal.returns-then-left-eq0-clause-equs
 returns-then-left-eq0-clause-equs g c =
-    closed-equs c.args.settings.now (counters_of c.pop.new.self) c.args.line.now c.end_copy.new.self c.close.new.self c.in_ok-close.ensures.closed
+    closed-equs c.args.settings.now (counters_of c.pop.new.self) c.args.line.now c.end_copy.new.self c.close.new.walk c.in_ok-close.ensures.closed
     ∙ copied-equs c.number-2.result c.start.result c.args.walk.now c.end_copy.new.self c.in_ok-end_copy.ensures.copied

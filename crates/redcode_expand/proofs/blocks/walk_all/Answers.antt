@@ -1,6 +1,7 @@
-use Rattle.std.proofs.Common.{◌≡◌, [], Err, refl, sym, subst, ◌∙◌, arith}
-use Rattle.redcode_expand.specs.Gives.{Fails}
-use Rattle.redcode_expand.proofs.Residuals.{err-from}
+use Rattle.std.proofs.Common.{◌≡◌, [], Err, refl, sym, subst, ◌∙◌, inl, arith}
+use Rattle.war_types.specs.Fault.{no_memory}
+use Rattle.redcode_names.specs.Gives.{Fails}
+use Rattle.redcode_names.proofs.Residuals.{err-from}
 use Rattle.redcode_expand.proofs.GoingOn.{rest-ended}
 use Rattle.redcode_expand.proofs.Pairing.{rest-done}
 use Rattle.redcode_expand.proofs.KeptCounts.{none-kept}
@@ -22,3 +23,8 @@ pub returns-in_err-at : goal.returns-in_err-at
 returns-in_err-at g c =
     let same : c.from_residual-in_err-at.result ≡ Err c.in_err-at.field-0.0 = err-from c.from_residual-in_err-at.result c.in_err-at.field-0.0 c.from_residual-in_err-at.ensures.1 in
     rw same (subst (Fails c.in_err-at.field-0.0) c.loop-at.invariant.0 c.in_err-at.ensures.goes_on)
+
+pub returns-in_err-bare : goal.returns-in_err-bare
+returns-in_err-bare g c =
+    let same : c.from_residual-in_err-bare.result ≡ Err no_memory = err-from c.from_residual-in_err-bare.result no_memory c.from_residual-in_err-bare.ensures.1 in
+    rw same (inl refl)

@@ -1,7 +1,7 @@
 use Rattle.std.proofs.Common.{◌≡◌, Err, length, sym, ap, subst, ◌∙◌, arith}
 use Rattle.std.proofs.lemmas.Grind.{common_steps}
-use Rattle.redcode_expand.specs.Gives.{Fails}
-use Rattle.redcode_expand.specs.Equ.{EquList}
+use Rattle.redcode_names.specs.Gives.{Fails}
+use Rattle.redcode_names.specs.Equ.{EquList}
 use Rattle.redcode_expand.specs.Expansion.{line_replaced}
 use Rattle.redcode_expand.proofs.AllLines.{lines-begin, line-kept, line-fails, lines-end}
 use Rattle.redcode_expand.proofs.replace.replace_all.Goals as goal
@@ -12,11 +12,11 @@ loop-entry-init g c = (
   let gives = c.into_iter-entry-iterator.ensures.into_iter_gives in omega (arith, gives.1, ap length gives.0, c.args.entries.ok.0),
 )
 
-pub returns-in_err-replace_in : goal.returns-in_err-replace_in
-returns-in_err-replace_in g c =
-    let refused = subst (λ (es : EquList). Fails c.in_err-replace_in.field-0.0 (line_replaced es c.in-Some.entry)) c.in_ok-linked.ensures c.in_err-replace_in.ensures in
-    let fails = line-fails c.args.equs.now _ _ c.loop-entry.lines.items c.in-Some.entry c.in_err-replace_in.field-0.0 _ c.in-Some.ensures.steps.0 refused c.loop-entry.invariant.0 in
-    let same : c.from_residual-in_err-replace_in.result ≡ Err c.in_err-replace_in.field-0.0 = grind (arith, common_steps) in
+pub returns-in_err-replace_found : goal.returns-in_err-replace_found
+returns-in_err-replace_found g c =
+    let refused = subst (λ (es : EquList). Fails c.in_err-replace_found.field-0.0 (line_replaced es c.in-Some.entry)) c.in_ok-linked.ensures c.in_err-replace_found.ensures in
+    let fails = line-fails c.args.equs.now _ _ c.loop-entry.lines.items c.in-Some.entry c.in_err-replace_found.field-0.0 _ c.in-Some.ensures.steps.0 refused c.loop-entry.invariant.0 in
+    let same : c.from_residual-in_err-replace_found.result ≡ Err c.in_err-replace_found.field-0.0 = grind (arith, common_steps) in
     rw same fails
 
 pub loop-entry-preserved : goal.loop-entry-preserved
@@ -24,9 +24,9 @@ loop-entry-preserved g c =
     let steps = c.in-Some.ensures.steps in
     let gone = steps.1 in
     let was = c.loop-entry.invariant.1 in
-    let gives = ap (λ (es : EquList). line_replaced es c.in-Some.entry) (sym c.in_ok-linked.ensures) ∙ c.in_ok-replace_in.ensures in
+    let gives = ap (λ (es : EquList). line_replaced es c.in-Some.entry) (sym c.in_ok-linked.ensures) ∙ c.in_ok-replace_found.ensures in
     let short = ap length steps.0 in (
-      line-kept c.args.equs.now _ _ c.loop-entry.lines.items c.push.new.self.items c.in-Some.entry c.in_ok-replace_in.field-0 _
+      line-kept c.args.equs.now _ _ c.loop-entry.lines.items c.push.new.self.items c.in-Some.entry c.in_ok-replace_found.field-0 _
           steps.0 gives c.in_ok-push.ensures.items c.loop-entry.invariant.0,
       omega arith,
     )

@@ -1,7 +1,7 @@
 use Rattle.std.proofs.Common.{◌≡◌, List, Ok, subst, sym, ap, ◌∙◌}
 use Rattle.redcode_text.specs.Tokens.{Piece}
-use Rattle.redcode_expand.specs.Gives.{Fails}
-use Rattle.redcode_expand.specs.Equ.{EquList, has_equ}
+use Rattle.redcode_names.specs.Gives.{Fails}
+use Rattle.redcode_names.specs.Equ.{EquList, has_equ}
 use Rattle.redcode_expand.specs.Expansion.{ExpandedLine, line_replaced}
 use Rattle.redcode_lines.specs.Operand.{operands_of}
 use Rattle.redcode_expand.proofs.Unchanged.{line-same, line-over}

@@ -1,0 +1,5 @@
+mod Fronts
+mod Joining
+pub mod Numbers
+pub mod LongLines
+mod SourceLines

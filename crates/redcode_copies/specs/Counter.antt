@@ -1,0 +1,131 @@
+-- The counters of blocks, and what a copy of a line is under them.
+use Rattle.std.specs.Prelude.{ℕ, Bool, true, false, ◌&&◌, ◌||◌, nat_lt, if◌then◌else◌, List, [], ◌∷◌, ◌++◌, map, Option, Some, None, codes, decimal}
+use Rattle.std.specs.Str.{bytes_eq}
+use Rattle.redcode_text.specs.declared.token.TokenKind.{TokenKind}
+use Rattle.redcode_text.specs.declared.token.TokenKind.TheVariants as kinds
+use Rattle.redcode_text.specs.Tokens.{Piece}
+use Rattle.redcode_copies.specs.declared.source_line.LineForm.{LineForm}
+use Rattle.redcode_copies.specs.declared.source_line.LineForm.TheVariants as forms
+use Rattle.redcode_lines.specs.declared.word.Word.{Word}
+use Rattle.redcode_lines.specs.declared.word.Word.TheVariants as words
+use Rattle.redcode_lines.specs.Word.{piece, is_name, is_front, has_text, line_word, taken_while, dropped_while}
+
+-- a name that stands for the number of a copy
+pub record Counter : Type 0 where
+  pub name : List ℕ
+  pub number : ℕ
+
+abbrev pub counter_of : List ℕ → ℕ → Counter
+counter_of name number = record { name = name; number = number }
+
+abbrev pub is_counter : Counter → Piece → Bool
+is_counter c token = is_name token.kind && bytes_eq token.text c.name
+
+abbrev pub names_counter : Counter → List Piece → Bool
+names_counter c [] = false
+names_counter c (token ∷ tokens) = is_counter c token || names_counter c tokens
+
+-- the number in decimal digits, two at least
+abbrev pub two_digits : ℕ → List ℕ
+two_digits n = if nat_lt n 10 then codes "0" ++ decimal n else decimal n
+
+abbrev pub number_token : Counter → Piece
+number_token c = piece kinds.Number (decimal c.number)
+
+-- ---- names joined to the number by an &
+
+abbrev pub is_join : Counter → Piece → Piece → Piece → Bool
+is_join c token next after = is_name token.kind && (has_text (codes "&") next && is_counter c after)
+
+abbrev pub joined_name : Counter → Piece → Piece
+joined_name c token = piece kinds.Name (token.text ++ two_digits c.number)
+
+-- a name that an & and the counter follow
+abbrev pub joins : Counter → Piece → List Piece → Bool
+joins c token [] = false
+joins c token (next ∷ []) = false
+joins c token (next ∷ after ∷ tokens) = is_join c token next after
+
+-- a token, which may have been joined, before others; a joined name may be joined again
+abbrev pub joined_from : Counter → Bool → Piece → List Piece → List (Bool × Piece)
+joined_from c joined token [] = (joined, token) ∷ []
+joined_from c joined token (next ∷ []) = (joined, token) ∷ (false, next) ∷ []
+joined_from c joined token (next ∷ after ∷ tokens) =
+    if is_join c token next after then joined_from c true (joined_name c token) tokens else (joined, token) ∷ joined_from c false next (after ∷ tokens)
+
+-- each name that an & and the counter follow is one name with the number, from the left on; with each token whether it was joined
+abbrev pub joined : Counter → List Piece → List (Bool × Piece)
+joined c [] = []
+joined c (token ∷ tokens) = joined_from c false token tokens
+
+-- ---- the other tokens that are the counter
+
+-- the tokens as they are
+abbrev pub kept : List (Bool × Piece) → List Piece
+kept tokens = map (λ token. token.1) tokens
+
+abbrev pub number_or : Counter → Bool × Piece → Piece
+number_or c token = if token.0 then token.1 else (if is_counter c token.1 then number_token c else token.1)
+
+-- the number for the counter, but for what was joined
+abbrev pub numbered : Counter → List (Bool × Piece) → List Piece
+numbered c tokens = map (number_or c) tokens
+
+-- behind an operation the modifier's name stays
+abbrev pub behind_operation : Counter → List (Bool × Piece) → List Piece
+behind_operation c [] = []
+behind_operation c (token ∷ []) = numbered c (token ∷ [])
+behind_operation c (token ∷ name ∷ tokens) =
+    if has_text (codes ".") token.1 then token.1 ∷ name.1 ∷ numbered c tokens else numbered c (token ∷ name ∷ tokens)
+
+abbrev pub behind_word : Counter → Word → List (Bool × Piece) → List Piece
+behind_word c words.Operation tokens = behind_operation c tokens
+behind_word c words.Equ tokens = numbered c tokens
+behind_word c words.For tokens = numbered c tokens
+behind_word c words.Rof tokens = numbered c tokens
+behind_word c words.Org tokens = numbered c tokens
+behind_word c words.End tokens = numbered c tokens
+behind_word c words.Pin tokens = numbered c tokens
+
+-- the word is never joined
+abbrev pub from_word : Counter → Word → List Piece → List Piece
+from_word c word [] = []
+from_word c word (token ∷ tokens) = token ∷ behind_word c word (joined c tokens)
+
+abbrev pub is_label : Bool × Piece → Bool
+is_label token = is_name token.1.kind
+
+-- among labels no number stands for the counter
+abbrev pub rewritten_by : Counter → Option Word → List Piece → List Piece
+rewritten_by c (Some word) tokens = kept (joined c (taken_while is_front tokens)) ++ from_word c word (dropped_while is_front tokens)
+rewritten_by c None tokens = kept (taken_while is_label (joined c tokens)) ++ numbered c (dropped_while is_label (joined c tokens))
+
+abbrev pub rewritten : Counter → LineForm → List Piece → List Piece
+rewritten c forms.Statement tokens = rewritten_by c (line_word tokens) tokens
+rewritten c forms.Assert tokens = numbered c (joined c tokens)
+rewritten c forms.Name tokens = []
+rewritten c forms.Author tokens = []
+
+-- the tokens of a line in the copy of this number; a line that does not name the counter stays as it is
+abbrev pub in_copy : Counter → LineForm → List Piece → List Piece
+in_copy c form tokens = if names_counter c tokens then rewritten c form tokens else tokens
+
+-- the tokens of a line within copies of several blocks, the outermost first
+abbrev pub in_copies : List Counter → LineForm → List Piece → List Piece
+in_copies [] form tokens = tokens
+in_copies (c ∷ cs) form tokens = in_copies cs form (in_copy c form tokens)
+
+-- ---- the names of counters
+
+abbrev pub has_name : List (List ℕ) → List ℕ → Bool
+has_name [] name = false
+has_name (x ∷ xs) name = bytes_eq name x || has_name xs name
+
+-- these names, with this one behind them if it is new
+abbrev pub with_name : List (List ℕ) → List ℕ → List (List ℕ)
+with_name names name = if has_name names name then names else names ++ name ∷ []
+
+-- one of these names is among the tokens
+abbrev pub are_named : List (List ℕ) → List Piece → Bool
+are_named names [] = false
+are_named names (token ∷ tokens) = (is_name token.kind && has_name names token.text) || are_named names tokens

@@ -1,0 +1,4 @@
+pub mod Counter
+pub mod Numbering
+pub mod Block
+pub mod Long

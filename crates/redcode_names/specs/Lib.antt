@@ -1,0 +1,4 @@
+pub mod Gives
+pub mod Equ
+pub mod Link
+pub mod Name

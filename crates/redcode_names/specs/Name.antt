@@ -1,0 +1,75 @@
+-- The names of a source: its labels, those of its EQU lines, and those that are known before it.
+use Rattle.std.specs.Prelude.{ℕ, Bool, not, ◌||◌, if◌then◌else◌, List, [], ◌∷◌, ◌++◌, map, is_some, Option, Some, None, Result, Ok, Err, ℤ, pos, codes}
+use Rattle.std.specs.Str.{bytes_eq}
+use Rattle.war_types.specs.declared.fault.AsmKind.TheVariants as kinds
+use Rattle.war_types.specs.declared.fault.AsmFault.{AsmFault}
+use Rattle.war_types.specs.declared.settings.RawSettings.{RawSettings}
+use Rattle.redcode_text.specs.Tokens.{Piece}
+use Rattle.redcode_names.specs.Gives.{◌>>=◌, fault_at}
+use Rattle.redcode_lines.specs.Word.{unplaced}
+use Rattle.redcode_names.specs.Equ.{EquList, is_equ, is_bad_body}
+
+-- names with the addresses that they stand for, in the order of their definition
+abbrev pub LabelList : Type 0
+LabelList = List (List ℕ × ℕ)
+
+-- the address of the label of this name
+abbrev pub address_of : LabelList → List ℕ → Option ℕ
+address_of [] name = None
+address_of (label ∷ labels) name = if bytes_eq name label.0 then Some label.1 else address_of labels name
+
+-- the value of a name that is known before any source, where so many instructions stand before the line; letter case counts
+abbrev pub predefined : RawSettings → ℕ → List ℕ → Option ℤ
+predefined s before name =
+    if bytes_eq name (codes "CORESIZE") then Some (pos s.core) else (
+    if bytes_eq name (codes "MAXPROCESSES") then Some (pos s.processes) else (
+    if bytes_eq name (codes "MAXCYCLES") then Some (pos s.cycles) else (
+    if bytes_eq name (codes "MAXLENGTH") then Some (pos s.length) else (
+    if bytes_eq name (codes "MINDISTANCE") then Some (pos s.distance) else (
+    if bytes_eq name (codes "ROUNDS") then Some (pos s.rounds) else (
+    if bytes_eq name (codes "WARRIORS") then Some (pos 2) else (
+    if bytes_eq name (codes "CURLINE") then Some (pos before) else None)))))))
+
+-- a name that is not predefined, or whose value changes from line to line
+abbrev pub is_loose : RawSettings → List ℕ → Bool
+is_loose s name = not (is_some (predefined s 0 name)) || bytes_eq name (codes "CURLINE")
+
+-- the names that a source has defined so far
+pub record Names : Type 0 where
+  pub labels : LabelList
+  pub equs : EquList
+
+abbrev pub names_of : LabelList → EquList → Names
+names_of labels equs = record { labels = labels; equs = equs }
+
+-- a name that can't be defined any more
+abbrev pub is_taken : RawSettings → Names → List ℕ → Bool
+is_taken s names name = is_some (predefined s 0 name) || (is_some (address_of names.labels name) || is_equ names.equs name)
+
+-- a label of this name at this address
+abbrev pub defined : RawSettings → ℕ → ℕ → List ℕ → Names → Result Names AsmFault
+defined s line address name names =
+    if is_taken s names name then Err (fault_at line kinds.DuplicateName) else Ok (record names { labels = names.labels ++ (name, address) ∷ [] })
+
+-- labels of these names at this address, one after another
+abbrev pub all_defined : RawSettings → ℕ → ℕ → List (List ℕ) → Names → Result Names AsmFault
+all_defined s line address [] names = Ok names
+all_defined s line address (name ∷ others) names = defined s line address name names >>= all_defined s line address others
+
+-- an EQU of this name and this body
+abbrev pub equ_defined : RawSettings → ℕ → List Piece → List ℕ → Names → Result Names AsmFault
+equ_defined s line body name names =
+    if is_taken s names name then Err (fault_at line kinds.DuplicateName) else (
+    if is_bad_body body then Err (fault_at line kinds.BadEqu) else Ok (record names { equs = names.equs ++ (name, map unplaced body) ∷ [] }))
+
+-- the labels of an EQU line: the last one is its name, and those before it stand at this address
+abbrev pub equ_line : RawSettings → ℕ → ℕ → List Piece → List (List ℕ) → Names → Result Names AsmFault
+equ_line s line address body [] names = Err (fault_at line kinds.BadEqu)
+equ_line s line address body (name ∷ []) names = equ_defined s line body name names
+equ_line s line address body (name ∷ next ∷ others) names = defined s line address name names >>= equ_line s line address body (next ∷ others)
+
+-- labels but for the last one at this address, and the last one, which is the counter's name
+abbrev pub for_labels : RawSettings → ℕ → ℕ → List (List ℕ) → Names → Result (Names × List ℕ) AsmFault
+for_labels s line address [] names = Ok (names, [])
+for_labels s line address (name ∷ []) names = Ok (names, name)
+for_labels s line address (name ∷ next ∷ others) names = defined s line address name names >>= for_labels s line address (next ∷ others)
