@@ -6,12 +6,12 @@ use Rattle.war_types.specs.declared.settings.RawSettings.{RawSettings}
 use Rattle.war_types.specs.Warrior.{WarriorParts, HasNumbersBelow}
 use Rattle.redcode_lines.specs.declared.line.LineKind.TheVariants as lines
 use Rattle.redcode_expand.specs.Expansion.{ExpandedLine, Expansion}
-use Rattle.redcode_asm.specs.declared.statement.Statement.TheVariants as statements
-use Rattle.redcode_asm.specs.Names.{absolute}
-use Rattle.redcode_asm.specs.Statement.{said_by}
+use Rattle.redcode_statement.specs.declared.statement.Statement.TheVariants as statements
+use Rattle.redcode_asm.specs.Names.{absolute, relative}
+use Rattle.redcode_asm.specs.Said.{said_by}
 use Rattle.redcode_asm.specs.Assembly.{Placed, said_at, said_on, all_said, code_of, org_of, last_of, given_start, all_hold, of_length, last_text, is_name, is_author, name_of, author_of, warrior_with, assembly_of}
-use Rattle.redcode_asm.proofs.OperandLemmas.{Reads-number, Writes-decimal}
-use Rattle.redcode_asm.proofs.InstrLemmas.{instr_tokens, said_by-line, before_comma-inside, behind_comma-inside}
+use Rattle.redcode_statement.proofs.OperandLemmas.{Reads-number, Writes-decimal}
+use Rattle.redcode_statement.proofs.InstrLemmas.{instr_tokens, not_bad-line, instruction_of-line, before_comma-inside, behind_comma-inside}
 use Rattle.redcode_asm.proofs.LoadLemmas.{line, end_tokens, org_tokens, code_lines, load_lines}
 
 -- what the lines of so many instructions and END say, from this line number on
@@ -33,6 +33,11 @@ unfolding said_by
 said_by-org s start small =
     let number = Reads-number _ start (Writes-decimal start small) in
     rw (before_comma-inside _ number.inside, behind_comma-inside _ number.inside, number.value (absolute s [] 0)) refl
+
+said_by-line : (s : RawSettings) (before : ℕ) (i : Instr) → HasNumbersBelow s.core i → s.core ≤ 65535
+    → said_by s [] lines.Operation before (instr_tokens s.core i) ≡ Ok (statements.Instruction i)
+unfolding said_by
+said_by-line s before i below most = rw (not_bad-line s.core i below most, instruction_of-line s.core (relative s [] before) i below most) refl
 
 all_said-code : (s : RawSettings) (n before : ℕ) (code : List Instr) → AllByRecursion (HasNumbersBelow s.core) code → s.core ≤ 65535
     → all_said s [] (code_lines s.core n before code) ≡ Ok (said_lines n code)

@@ -12,7 +12,7 @@ use Rattle.war_types.specs.declared.settings.RawSettings.{RawSettings}
 use Rattle.war_types.specs.Settings.{AreSettings}
 use Rattle.war_types.specs.Warrior.{HasNumbersBelow, Fits, warrior_parts}
 use Rattle.redcode_expand.specs.Expansion.{ExpandedLine}
-use Rattle.redcode_expand.specs.Gives.{fault_at}
+use Rattle.redcode_names.specs.Gives.{fault_at}
 use Rattle.redcode_asm.specs.Names.{Labels}
 use Rattle.redcode_asm.specs.Assembly.{Placed, all_said, code_of, of_length, start_of}
 use Rattle.redcode_asm.proofs.Bounds.{HasCode, below-all_said}

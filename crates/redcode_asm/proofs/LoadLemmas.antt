@@ -19,12 +19,14 @@ use Rattle.redcode_lines.specs.Source.{lines_of, directive_of}
 use Rattle.redcode_lines.specs.Word.{is_front, word_at}
 use Rattle.redcode_expand.specs.Expansion.{ExpandedLine, expansion}
 use Rattle.redcode_expand.proofs.Plain.{PlainLine, ArePlain, plain_word, plain_lines, expansion-plain}
-use Rattle.redcode_asm.specs.Name.{op_text, modifier_text}
-use Rattle.redcode_asm.specs.LoadText.{load_text, instr_line, spaces, operand_text}
-use Rattle.redcode_asm.proofs.LineLemmas.{AreInLine, in_line-append, lines_of-line}
-use Rattle.redcode_asm.proofs.TokenLemmas.{piece, bare, bare-is}
-use Rattle.redcode_asm.proofs.OperandLemmas.{Writes-decimal, bare-number, number_tokens, operand_tokens, in_line-decimal}
-use Rattle.redcode_asm.proofs.InstrLemmas.{head_text, both_tokens, instr_tokens, line_of, line_parts, left_parts, bare-line, in_line-line, length-line}
+use Rattle.redcode_statement.specs.Name.{op_text, modifier_text}
+use Rattle.redcode_statement.specs.InstrLine.{instr_line, spaces, operand_text}
+use Rattle.redcode_asm.specs.LoadText.{load_text}
+use Rattle.redcode_statement.proofs.LineLemmas.{AreInLine, in_line-append}
+use Rattle.redcode_asm.proofs.LineLemmas.{lines_of-line}
+use Rattle.redcode_statement.proofs.TokenLemmas.{piece, bare, bare-is}
+use Rattle.redcode_statement.proofs.OperandLemmas.{Writes-decimal, bare-number, number_tokens, operand_tokens, in_line-decimal}
+use Rattle.redcode_statement.proofs.InstrLemmas.{head_text, both_tokens, instr_tokens, line_of, line_parts, left_parts, bare-line, in_line-line, length-line}
 use Rattle.redcode_asm.proofs.PlainLemmas.{IsNoComment, ReadsAs, ReadsAs-from, plain-operation, plain-org, plain-end}
 
 -- ---- the expanded lines

@@ -7,12 +7,13 @@ use Rattle.war_types.specs.declared.fault.ExprFault.TheVariants as expressions
 use Rattle.war_types.specs.declared.settings.RawSettings.{RawSettings}
 use Rattle.war_types.specs.Warrior.{WarriorParts}
 use Rattle.redcode_text.specs.Value.{value_within}
-use Rattle.redcode_expand.specs.Equ.{replaced}
+use Rattle.redcode_names.specs.Equ.{replaced}
 use Rattle.redcode_expand.specs.Expansion.{expansion}
-use Rattle.redcode_expand.specs.Gives.{fault_at}
-use Rattle.redcode_asm.specs.Statement.{said_by}
+use Rattle.redcode_names.specs.Gives.{fault_at}
+use Rattle.redcode_asm.specs.Said.{said_by}
 use Rattle.redcode_asm.specs.Assembly.{assembly, assembly_of}
-use Rattle.redcode_asm.specs.LoadText.{load_text, instr_line}
+use Rattle.redcode_asm.specs.LoadText.{load_text}
+use Rattle.redcode_statement.specs.InstrLine.{instr_line}
 
 abbrev defaults : RawSettings
 defaults = record { core = 8000; cycles = 80000; processes = 8000; length = 100; distance = 100; rounds = 10; seed = 1; capacity = 20 }

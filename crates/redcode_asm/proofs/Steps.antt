@@ -10,12 +10,12 @@ use Rattle.redcode_lines.specs.declared.line.LineKind.{LineKind}
 use Rattle.redcode_lines.specs.declared.line.LineKind.TheVariants.{Other}
 use Rattle.redcode_expand.specs.Expansion.{ExpandedLine, line_of, title_at, tokens_at}
 use Rattle.redcode_asm.specs.Names.{Labels}
-use Rattle.redcode_asm.specs.Statement.{said_by}
+use Rattle.redcode_asm.specs.Said.{said_by}
 use Rattle.redcode_asm.specs.Assembly.{Placed, said_at, said_on, all_said, title_if, last_text}
-use Rattle.redcode_expand.specs.Gives.{Fails}
+use Rattle.redcode_names.specs.Gives.{Fails}
 use Rattle.redcode_asm.specs.declared.assembler.Said.{Said}
 use Rattle.redcode_asm.specs.Placed.{placed, all_placed}
-use Rattle.redcode_asm.specs.Chain.{◌>>=◌}
+use Rattle.redcode_statement.specs.Chain.{◌>>=◌}
 
 -- what was said before, and what is still said
 abbrev pub with_front : List Placed → Result (List Placed) AsmFault → Result (List Placed) AsmFault

@@ -13,12 +13,13 @@ use Rattle.redcode_text.specs.Operators.{is_zero}
 use Rattle.redcode_lines.specs.declared.line.LineKind.{LineKind}
 use Rattle.redcode_lines.specs.declared.line.LineKind.TheVariants as lines
 use Rattle.redcode_expand.specs.Expansion.{ExpandedLine, Expansion, expansion}
-use Rattle.redcode_expand.specs.Gives.{fault_at}
-use Rattle.redcode_asm.specs.declared.statement.Statement.{Statement}
-use Rattle.redcode_asm.specs.declared.statement.Statement.TheVariants as statements
-use Rattle.redcode_asm.specs.Chain.{◌>>=◌}
+use Rattle.redcode_names.specs.Gives.{fault_at}
+use Rattle.redcode_statement.specs.declared.statement.Statement.{Statement}
+use Rattle.redcode_statement.specs.declared.statement.Statement.TheVariants as statements
+use Rattle.redcode_statement.specs.Chain.{◌>>=◌}
 use Rattle.redcode_asm.specs.Names.{Labels}
-use Rattle.redcode_asm.specs.Statement.{statement_of}
+use Rattle.redcode_statement.specs.Statement.{instr_said}
+use Rattle.redcode_asm.specs.Said.{statement_of}
 
 -- a statement with the source line that it stands on
 abbrev pub Placed : Type 0
@@ -39,13 +40,6 @@ all_said s labels [] = Ok []
 all_said s labels (line ∷ others) = said_on s labels line >>= λ first. all_said s labels others >>= λ behind. Ok (first ∷ behind)
 
 -- ---- the code
-
-abbrev pub instr_said : Statement → List Instr
-instr_said (statements.Instruction instr) = instr ∷ []
-instr_said (statements.Org z) = []
-instr_said (statements.End z) = []
-instr_said (statements.Assert z) = []
-instr_said statements.Nothing = []
 
 abbrev pub code_of : List Placed → List Instr
 code_of said = flat_map (λ s. instr_said s.1) said

@@ -1,11 +1,5 @@
-pub mod Chain
-pub mod Name
-pub mod Sides
-pub mod Views
-pub mod Operand
-pub mod Instruction
 pub mod Names
-pub mod Statement
+pub mod Said
 pub mod Assembly
 pub mod LoadText
 pub mod Placed

@@ -1,28 +1,22 @@
 //! The assembler.
 
-ghost use Rattle.std.specs.Prelude.{◌≡◌, ◌^◌, ◌<◌, length, if◌then◌else◌, IfOk, unwrap_or, []};
+ghost use Rattle.std.specs.Prelude.{◌≡◌, ◌^◌, ◌<◌, length, if◌then◌else◌, IfOk, unwrap_or, [], drop};
 ghost use Rattle.war_types.specs.Warrior.{Fits};
 ghost use Rattle.redcode_text.specs.Tokens.{pieces};
 ghost use Rattle.redcode_expand.specs.Expansion.{tokens_at};
-ghost use Rattle.redcode_expand.specs.Gives.{Gives, fault_at};
-ghost use Rattle.redcode_asm.specs.Statement.{said_by};
+ghost use Rattle.redcode_names.specs.Gives.{Gives, fault_at};
+ghost use Rattle.redcode_asm.specs.Said.{said_by};
 ghost use Rattle.redcode_asm.specs.Placed.{placed, all_placed};
 ghost use Rattle.redcode_asm.specs.Assembly.{Assembles, assembly, said_at, all_said, code_of, given_start, start_of, of_length, all_hold, last_text, is_name, is_author};
 
-use crate::instruction::instruction_of;
 use crate::names::{Absolute, Relative};
-use crate::statement::{
-    Statement, assert_said, behind_word, end_said, has_bad_token, org_said, other_said,
-};
-use crate::work::Work;
 use redcode_expand::{Expanded, Line, LineKind, expand};
+use redcode_statement::{
+    Statement, assert_said, end_said, has_bad_token, instruction_of, org_said, other_said,
+};
 use redcode_text::Token;
 use std::alloc::Allocator;
 use war_types::{AsmFault, AsmKind, Instr, Settings, Title, Warrior};
-
-/// Bytes that the growths of an assembly come to at most: 256 MiB. Most steps of it take memory, so this keeps its time short too
-/// where a source meets some million `FOR`s or defines some million labels.
-const WORK_LIMIT: usize = 256 << 20;
 
 /// What a line of the source says.
 #[derive(Clone, Copy, Debug)]
@@ -37,8 +31,7 @@ pub(crate) struct Said {
 /// The first refusal that is due is answered: those of the expansion, then the first expanded line with a fault, and in
 /// it the first fault in the order of `AsmKind`, then `Empty`, `TooLong`, `BadStart`, and the first assertion that doesn't
 /// hold. It names a line of the source, counted from 1, or 0 where none is to blame; `AsmKind::Memory` stands only
-/// where a growth was refused. The growths of an assembly come to at most 256 MiB, what was given back included and each
-/// counted as 64 bytes more than it has; the next is refused.
+/// where a growth was refused.
 #[tactic(auto, unfolding(crate::specs::Assembly::assembly, crate::specs::Assembly::assembly_of))]
 pub fn assemble<A: Allocator + Copy>(
     alloc: A,
@@ -48,9 +41,8 @@ pub fn assemble<A: Allocator + Copy>(
     ensures assembled { Assembles result (assembly settings.now source.now) }
     ensures fits { IfOk result (Fits settings.now) }
 {
-    let work = Work::new(alloc, WORK_LIMIT);
-    let expanded = expand(&work, source, settings)?;
-    let said = all_said(&work, &expanded, settings)?;
+    let expanded = expand(alloc, source, settings)?;
+    let said = all_said(alloc, &expanded, settings)?;
     let code = code_of(alloc, said.as_slice())?;
     check_length(code.as_slice(), settings.length())?;
     let start = start_of(code.as_slice(), given_start(said.as_slice()))?;
@@ -104,7 +96,7 @@ fn said_on<A: Allocator + Copy>(
 }
 
 /// What a line says, or the first of its faults.
-#[tactic(auto, unfolding(crate::specs::Statement::said_by))]
+#[tactic(auto, unfolding(crate::specs::Said::said_by))]
 fn said_by<A: Allocator + Copy>(
     expanded: &Expanded<'_, A>,
     settings: &Settings,
@@ -137,6 +129,16 @@ fn said_by<A: Allocator + Copy>(
         LineKind::Assert => assert_said(tokens, &absolute),
         LineKind::Name | LineKind::Author => Ok(Statement::Nothing),
         LineKind::Other => other_said(tokens),
+    }
+}
+
+/// The tokens behind the word at the front.
+fn behind_word<'t, 'l>(tokens: &'t [Token<'l>]) -> &'t [Token<'l>]
+    ensures { pieces result.now ≡ drop 1 (pieces tokens.entry.now) }
+{
+    match tokens {
+        [] => tokens,
+        [_, behind @ ..] => behind,
     }
 }
 

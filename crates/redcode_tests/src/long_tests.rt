@@ -1,10 +1,18 @@
-//! Sources on both sides of the limit of an assembly's growths.
+//! Sources that are long, or met often, once they are written out.
 
 use crate::sources::{defaults, repeated};
 use redcode_asm::assemble;
 use std::alloc::{AllocError, Global};
 use std::test::Fail;
 use war_types::AsmKind;
+
+/// The refusal of a source, none where it is assembled.
+fn refusal_of(alloc: Global, source: &[u8]) -> Result<Option<(u32, AsmKind)>, Fail> {
+    Ok(match assemble(alloc, source, &defaults()?) {
+        Ok(_) => None,
+        Err(fault) => Some((fault.line, fault.kind)),
+    })
+}
 
 /// A head, so many times a part, and a tail.
 fn source_of(
@@ -20,53 +28,78 @@ fn source_of(
     Ok(source)
 }
 
-/// Whether a source is refused for want of memory.
-fn is_past_the_limit(alloc: Global, source: &[u8]) -> Result<bool, Fail> {
-    Ok(match assemble(alloc, source, &defaults()?) {
-        Ok(_) => false,
-        Err(fault) => fault.line == 0 && matches!(fault.kind, AsmKind::Memory),
-    })
-}
-
-/// Sources of the greatest length that work out millions of counts of a counter, or repeat a long line.
+/// Sources of the greatest length that meet millions of blocks without a copy, or repeat a line of 65,500 tokens.
 #[test]
-fn sources_past_the_limit(rt: HostRuntime) -> Result<(), Fail> {
-    for (head, part, count, tail) in [
-        ("i FOR 4096\n", "FOR -i\nROF\n", 5950, "ROF\n"),
-        ("FOR 4096\nDAT ", "+", 65_500, "\nROF\n"),
-        ("FOR 4096\n", ":", 65_500, "\nROF\n"),
+fn long_sources_that_are_refused(rt: HostRuntime) -> Result<(), Fail> {
+    for (head, part, count, tail, line, kind) in [
+        (
+            "FOR 400\n",
+            "FOR 0\nROF\n",
+            6550,
+            "ROF\n",
+            0,
+            AsmKind::Empty,
+        ),
+        (
+            "i FOR 400\n",
+            "FOR -i\nROF\n",
+            5900,
+            "ROF\n",
+            0,
+            AsmKind::Empty,
+        ),
+        (
+            "FOR 4096\nDAT ",
+            "+",
+            65_500,
+            "\nROF\n",
+            2,
+            AsmKind::EquLimit,
+        ),
+        (
+            "FOR 100\n",
+            ":",
+            65_500,
+            "\nROF\n",
+            2,
+            AsmKind::BadOperation,
+        ),
     ] {
         let source = source_of(rt.alloc(), head, part, count, tail)?;
-        assert!(rt;
-            is_past_the_limit(rt.alloc(), source.as_slice())?,
+        let refusal = refusal_of(rt.alloc(), source.as_slice())?;
+        assert_eq!(rt; refusal, Some((line, kind)), "{part:?}");
+    }
+    Ok(())
+}
+
+/// Copies of a line of as many tokens as it may have, which are numbers, a counter or the name of an `EQU`, and of blocks that are dropped.
+#[test]
+fn long_sources_that_are_assembled(rt: HostRuntime) -> Result<(), Fail> {
+    for (head, part, count, tail) in [
+        ("DAT\nFOR 4095\n;assert 1", "+1", 255, "\nROF\n"),
+        ("DAT 0\ni FOR 4000\n;assert i", "+i", 255, "\nROF\n"),
+        ("x EQU 1\nDAT 0\nFOR 4000\n;assert x", "+x", 255, "\nROF\n"),
+        ("DAT 0\nFOR 400\n;assert 1\n", "FOR 0\nROF\n", 6400, "ROF\n"),
+        (
+            "DAT\noff EQU 0\nFOR 400\n;assert 1\n",
+            "FOR off\nROF\n",
+            5000,
+            "ROF\n",
+        ),
+    ] {
+        let source = source_of(rt.alloc(), head, part, count, tail)?;
+        assert_eq!(rt;
+            refusal_of(rt.alloc(), source.as_slice())?,
+            None,
             "{part:?}"
         );
     }
     Ok(())
 }
 
-/// Millions of labels.
-#[test]
-fn labels_past_the_limit(rt: HostRuntime) -> Result<(), Fail> {
-    let mut source = Vec::from_slice(rt.alloc(), b"i FOR 4096\n")?;
-    for n in 0..3000u32 {
-        let label = format!(in rt.alloc(); "x{}_&i ", n)?;
-        source.extend_from_slice(label.as_bytes())?;
-    }
-    source.extend_from_slice(b"DAT\nROF\n")?;
-    assert!(rt; is_past_the_limit(rt.alloc(), source.as_slice())?);
-    Ok(())
-}
-
-/// Whether a source is assembled to one instruction.
-fn is_one_instruction(alloc: Global, source: &[u8]) -> Result<bool, Fail> {
-    let warrior = assemble(alloc, source, &defaults()?)?;
-    Ok(warrior.code().len() == 1)
-}
-
 /// As many lines as count, each of which `EQU` makes nearly as many tokens as an operand may have.
 #[test]
-fn lines_made_long_within_the_limit(rt: HostRuntime) -> Result<(), Fail> {
+fn lines_made_long(rt: HostRuntime) -> Result<(), Fail> {
     let mut source = Vec::new(rt.alloc());
     for i in 0..8u32 {
         let line = format!(in rt.alloc(); "x{} EQU x{}+x{}\n", i, i + 1, i + 1)?;
@@ -74,36 +107,36 @@ fn lines_made_long_within_the_limit(rt: HostRuntime) -> Result<(), Fail> {
     }
     source.extend_from_slice(b"x8 EQU 1\nDAT\n")?;
     source.extend_from_slice(repeated(rt.alloc(), b";assert x0\n", 4086)?.as_slice())?;
-    assert!(rt; is_one_instruction(rt.alloc(), source.as_slice())?);
+    assert_eq!(rt; refusal_of(rt.alloc(), source.as_slice())?, None);
     Ok(())
 }
 
-/// As many copies as count of a line of as many tokens.
+/// Copies of a line of 256 counters within 63 blocks, each with a counter of its own.
 #[test]
-fn copies_of_a_long_line_within_the_limit(rt: HostRuntime) -> Result<(), Fail> {
-    let mut source = Vec::from_slice(rt.alloc(), b"DAT\nFOR 4095\n;assert 1")?;
-    source.extend_from_slice(repeated(rt.alloc(), b"+1", 255)?.as_slice())?;
-    source.extend_from_slice(b"\nROF\n")?;
-    assert!(rt; is_one_instruction(rt.alloc(), source.as_slice())?);
-    Ok(())
-}
-
-/// Thousands of blocks in each of as many copies, whose counts are a number or the name of an `EQU`.
-#[test]
-fn blocks_without_a_copy_within_the_limit(rt: HostRuntime) -> Result<(), Fail> {
-    for (head, part, count) in [
-        ("DAT\nFOR 4000\n;assert 1\n", "FOR 0\nROF\n", 6500),
-        (
-            "DAT\noff EQU 0\nFOR 4000\n;assert 1\n",
-            "FOR off\nROF\n",
-            5400,
-        ),
-    ] {
-        let source = source_of(rt.alloc(), head, part, count, "ROF\n")?;
-        assert!(rt;
-            is_one_instruction(rt.alloc(), source.as_slice())?,
-            "{part:?}"
-        );
+fn copies_of_a_long_line_within_blocks(rt: HostRuntime) -> Result<(), Fail> {
+    let mut source = Vec::from_slice(rt.alloc(), b"DAT 0\n")?;
+    for k in 0..63u32 {
+        let line = format!(in rt.alloc(); "c{} FOR 1\n", k)?;
+        source.extend_from_slice(line.as_bytes())?;
     }
+    source.extend_from_slice(b"i FOR 200\n;assert i")?;
+    source.extend_from_slice(repeated(rt.alloc(), b"+i", 255)?.as_slice())?;
+    source.extend_from_slice(b"\n")?;
+    source.extend_from_slice(repeated(rt.alloc(), b"ROF\n", 64)?.as_slice())?;
+    assert_eq!(rt; refusal_of(rt.alloc(), source.as_slice())?, None);
+    Ok(())
+}
+
+/// The first of 3,000 copies of an assertion of 80 terms doesn't hold: 1 isn't greater than 2 less 1.
+#[test]
+fn copies_of_an_assertion_that_fails(rt: HostRuntime) -> Result<(), Fail> {
+    let mut source = Vec::from_slice(rt.alloc(), b"DAT 0\ni FOR 3000\n;assert i>0-i")?;
+    for k in 1..80u32 {
+        let term = format!(in rt.alloc(); " && i>{}-i", k)?;
+        source.extend_from_slice(term.as_bytes())?;
+    }
+    source.extend_from_slice(b"\nROF\n")?;
+    let refusal = refusal_of(rt.alloc(), source.as_slice())?;
+    assert_eq!(rt; refusal, Some((3, AsmKind::AssertFalse)));
     Ok(())
 }

@@ -2,7 +2,7 @@
 use Rattle.std.proofs.Common.{◌≡◌, ◌++◌, codes, take}
 use Rattle.std.specs.List.{flat_map}
 use Rattle.std.specs.Fmt.{decimal}
-use Rattle.redcode_asm.specs.LoadText.{instr_line}
+use Rattle.redcode_statement.specs.InstrLine.{instr_line}
 use Rattle.redcode_asm.proofs.printer.load_text.Given as goal
 
 abbrev pub invariant-loop-instr : goal.invariant-loop-instr

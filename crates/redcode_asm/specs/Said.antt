@@ -1,0 +1,33 @@
+-- What an expanded line says.
+use Rattle.std.specs.Prelude.{if◌then◌else◌, ℕ, List, drop, Result, Ok, Err}
+use Rattle.std.specs.List.{list_any}
+use Rattle.war_types.specs.declared.fault.AsmKind.{AsmKind}
+use Rattle.war_types.specs.declared.fault.AsmKind.TheVariants as kinds
+use Rattle.war_types.specs.declared.settings.RawSettings.{RawSettings}
+use Rattle.redcode_text.specs.Tokens.{Piece}
+use Rattle.redcode_statement.specs.declared.statement.Statement.{Statement}
+use Rattle.redcode_statement.specs.declared.statement.Statement.TheVariants as statements
+use Rattle.redcode_statement.specs.Instruction.{instruction_of}
+use Rattle.redcode_statement.specs.Statement.{is_bad, org_said, end_said, assert_said, instruction_said, other_said}
+use Rattle.redcode_lines.specs.declared.line.LineKind.{LineKind}
+use Rattle.redcode_lines.specs.declared.line.LineKind.TheVariants as lines
+use Rattle.redcode_expand.specs.Expansion.{ExpandedLine}
+use Rattle.redcode_asm.specs.Names.{Labels, absolute, relative}
+
+abbrev pub said_by_kind : RawSettings → Labels → LineKind → ℕ → List Piece → Result Statement AsmKind
+said_by_kind s labels lines.Operation before tokens = instruction_said (instruction_of s.core (relative s labels before) tokens)
+said_by_kind s labels lines.Org before tokens = org_said (absolute s labels before) (drop 1 tokens)
+said_by_kind s labels lines.End before tokens = end_said (absolute s labels before) (drop 1 tokens)
+said_by_kind s labels lines.Assert before tokens = assert_said (absolute s labels before) tokens
+said_by_kind s labels lines.Name before tokens = Ok statements.Nothing
+said_by_kind s labels lines.Author before tokens = Ok statements.Nothing
+said_by_kind s labels lines.Other before tokens = other_said tokens
+
+-- what a line of this kind and these tokens says, with so many instructions before it, or the first of its faults in the
+-- order of their kinds
+unfoldable pub said_by : RawSettings → Labels → LineKind → ℕ → List Piece → Result Statement AsmKind
+said_by s labels kind before tokens = if list_any is_bad tokens then Err kinds.BadToken else said_by_kind s labels kind before tokens
+
+-- what a line says under these settings and with these labels
+abbrev pub statement_of : RawSettings → Labels → ExpandedLine → Result Statement AsmKind
+statement_of s labels line = said_by s labels line.kind line.before line.tokens

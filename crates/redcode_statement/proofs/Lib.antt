@@ -1,0 +1,5 @@
+pub mod Bounds
+pub mod LineLemmas
+pub mod TokenLemmas
+pub mod OperandLemmas
+pub mod InstrLemmas

@@ -1,0 +1,7 @@
+-- So far as many spaces are appended as the loop has counted.
+use Rattle.std.proofs.Common.{◌≡◌, ◌++◌}
+use Rattle.redcode_statement.specs.InstrLine.{spaces}
+use Rattle.redcode_statement.proofs.line.append_spaces.Given as goal
+
+abbrev pub invariant-loop : goal.invariant-loop
+invariant-loop g l = l.text.items ≡ l.fn.text.items ++ spaces l.counter

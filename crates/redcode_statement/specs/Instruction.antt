@@ -1,0 +1,113 @@
+-- The instruction that the tokens of a line give, the operation's name first.
+use Rattle.std.specs.Prelude.{ℕ, ◌-◌, ◌%◌, Bool, true, false, ◌||◌, if◌then◌else◌, List, [], ◌∷◌, Option, Some, None, Result, Ok, Err, ℤ, pos, negsuc, ok_or, unwrap_or, codes}
+use Rattle.war_types.specs.declared.fault.AsmKind.{AsmKind}
+use Rattle.war_types.specs.declared.fault.AsmKind.TheVariants as kinds
+use Rattle.war_types.specs.declared.instr.Op.{Op}
+use Rattle.war_types.specs.declared.instr.Op.TheVariants as ops
+use Rattle.war_types.specs.declared.instr.Modifier.{Modifier}
+use Rattle.war_types.specs.declared.instr.Modifier.TheVariants as modifiers
+use Rattle.war_types.specs.declared.instr.Mode.{Mode}
+use Rattle.war_types.specs.declared.instr.Mode.TheVariants as modes
+use Rattle.war_types.specs.declared.instr.Instr.{Instr}
+use Rattle.redcode_text.specs.Operators.{Value}
+use Rattle.redcode_text.specs.Tokens.{Piece}
+use Rattle.redcode_statement.specs.declared.operand.Operand.{Operand}
+use Rattle.redcode_statement.specs.Chain.{◌>>=◌}
+use Rattle.redcode_statement.specs.Name.{is_word, named, operations, modifier_names}
+use Rattle.redcode_statement.specs.Operand.{operand_of}
+use Rattle.redcode_statement.specs.Sides.{SideTokens, has_text, sides_of}
+
+abbrev pub is_immediate : Mode → Bool
+is_immediate modes.Immediate = true
+is_immediate modes.Direct = false
+is_immediate modes.AIndirect = false
+is_immediate modes.BIndirect = false
+is_immediate modes.APre = false
+is_immediate modes.BPre = false
+is_immediate modes.APost = false
+is_immediate modes.BPost = false
+
+-- one modifier where the A operand is immediate, another where the B operand is, a third elsewhere
+abbrev pub by_modes : Mode → Mode → Modifier → Modifier → Modifier → Modifier
+by_modes a b at_a at_b elsewhere = if is_immediate a then at_a else (if is_immediate b then at_b else elsewhere)
+
+-- the modifier where none is written (the draft standard's table of default modifiers; for SLT and NOP the project's own)
+abbrev pub default_modifier : Op → Mode → Mode → Modifier
+default_modifier ops.Dat a b = modifiers.F
+default_modifier ops.Nop a b = modifiers.F
+default_modifier ops.Mov a b = by_modes a b modifiers.AB modifiers.B modifiers.I
+default_modifier ops.Seq a b = by_modes a b modifiers.AB modifiers.B modifiers.I
+default_modifier ops.Sne a b = by_modes a b modifiers.AB modifiers.B modifiers.I
+default_modifier ops.Add a b = by_modes a b modifiers.AB modifiers.B modifiers.F
+default_modifier ops.Sub a b = by_modes a b modifiers.AB modifiers.B modifiers.F
+default_modifier ops.Mul a b = by_modes a b modifiers.AB modifiers.B modifiers.F
+default_modifier ops.Div a b = by_modes a b modifiers.AB modifiers.B modifiers.F
+default_modifier ops.Mdl a b = by_modes a b modifiers.AB modifiers.B modifiers.F
+default_modifier ops.Slt a b = by_modes a b modifiers.AB modifiers.B modifiers.B
+default_modifier ops.Jmp a b = modifiers.B
+default_modifier ops.Jmz a b = modifiers.B
+default_modifier ops.Jmn a b = modifiers.B
+default_modifier ops.Djn a b = modifiers.B
+default_modifier ops.Spl a b = modifiers.B
+
+-- a number as an address of a core of this size: its remainder, from 0 on
+abbrev pub reduced : ℕ → ℤ → ℕ
+reduced core (pos n) = n % core
+reduced core (negsuc n) = core - 1 - n % core
+
+-- what is said where nothing stands behind the operands
+abbrev pub unless_more : {X : Type 0} → Bool → X → Result X AsmKind
+unless_more true x = Err kinds.ExtraText
+unless_more false x = Ok x
+
+-- the A operand's fault, else that of the B operand, else a second comma's
+abbrev pub instr_of_values : ℕ → Op → Option Modifier → Mode → Mode → Value → Value → Bool → Result Instr AsmKind
+instr_of_values core op modifier a_mode b_mode (Err fault) b more = Err (kinds.Expression fault)
+instr_of_values core op modifier a_mode b_mode (Ok a) (Err fault) more = Err (kinds.Expression fault)
+instr_of_values core op modifier a_mode b_mode (Ok a) (Ok b) more =
+    unless_more more (record {
+      op = op;
+      modifier = unwrap_or modifier (default_modifier op a_mode b_mode);
+      a_mode = a_mode;
+      a = reduced core a;
+      b_mode = b_mode;
+      b = reduced core b;
+    })
+
+abbrev pub instr_of : ℕ → Op → Option Modifier → Operand → Operand → Bool → Result Instr AsmKind
+instr_of core op modifier a b more = instr_of_values core op modifier a.mode b.mode a.value b.value more
+
+-- ---- from tokens
+
+-- there is no P-space
+abbrev pub is_pspace : List ℕ → Bool
+is_pspace word = is_word (codes "LDP") word || is_word (codes "STP") word
+
+abbrev pub op_of : List ℕ → Result Op AsmKind
+op_of word = if is_pspace word then Err kinds.Pspace else ok_or (named operations word) kinds.BadOperation
+
+-- the modifier of this name, and the tokens behind it
+abbrev pub modifier_or_bad : Option Modifier → List Piece → Result (Option Modifier × List Piece) AsmKind
+modifier_or_bad None behind = Err kinds.BadModifier
+modifier_or_bad (Some modifier) behind = Ok (Some modifier, behind)
+
+abbrev pub modifier_named_at : List Piece → Result (Option Modifier × List Piece) AsmKind
+modifier_named_at [] = Err kinds.BadModifier
+modifier_named_at (t ∷ ts) = modifier_or_bad (named modifier_names t.text) ts
+
+-- the modifier behind a dot, or none where no dot stands there, and the tokens of the operands
+abbrev pub modifier_at : List Piece → Result (Option Modifier × List Piece) AsmKind
+modifier_at [] = Ok (None, [])
+modifier_at (t ∷ ts) = if has_text (codes ".") t then modifier_named_at ts else Ok (None, t ∷ ts)
+
+abbrev pub instr_of_sides : ℕ → (List ℕ → Option ℤ) → Op → Option Modifier → SideTokens → Result Instr AsmKind
+instr_of_sides core names op modifier sides = instr_of core op modifier (operand_of names sides.a) (operand_of names sides.b) sides.more
+
+-- the instruction in a core of this size, by what the names stand for, or its first fault
+abbrev pub instruction_of : ℕ → (List ℕ → Option ℤ) → List Piece → Result Instr AsmKind
+instruction_of core names [] = Err kinds.BadOperation
+instruction_of core names (word ∷ tokens) =
+    op_of word.text >>= λ op.
+    modifier_at tokens >>= λ modifier.
+    sides_of op modifier.1 >>= λ sides.
+    instr_of_sides core names op modifier.0 sides

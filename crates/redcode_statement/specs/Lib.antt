@@ -1,0 +1,8 @@
+pub mod Chain
+pub mod Name
+pub mod Sides
+pub mod Views
+pub mod Operand
+pub mod Instruction
+pub mod Statement
+pub mod InstrLine

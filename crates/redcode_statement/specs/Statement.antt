@@ -1,0 +1,74 @@
+-- What the tokens of a line say.
+use Rattle.std.specs.Prelude.{Bool, true, false, if◌then◌else◌, ℕ, List, [], ◌∷◌, Option, Some, None, Result, Ok, Err, ℤ, codes}
+use Rattle.war_types.specs.declared.fault.AsmKind.{AsmKind}
+use Rattle.war_types.specs.declared.fault.AsmKind.TheVariants as kinds
+use Rattle.war_types.specs.declared.instr.Instr.{Instr}
+use Rattle.redcode_text.specs.declared.token.TokenKind.{TokenKind}
+use Rattle.redcode_text.specs.declared.token.TokenKind.TheVariants as token_kinds
+use Rattle.redcode_text.specs.Operators.{Value}
+use Rattle.redcode_text.specs.Tokens.{Piece}
+use Rattle.redcode_text.specs.Value.{value_of}
+use Rattle.redcode_statement.specs.declared.statement.Statement.{Statement}
+use Rattle.redcode_statement.specs.declared.statement.Statement.TheVariants as statements
+use Rattle.redcode_statement.specs.Chain.{◌>>=◌}
+use Rattle.redcode_statement.specs.Name.{is_word}
+use Rattle.redcode_statement.specs.Sides.{before_comma, behind_comma}
+
+abbrev pub is_bad_kind : TokenKind → Bool
+is_bad_kind token_kinds.Bad = true
+is_bad_kind token_kinds.Name = false
+is_bad_kind token_kinds.Number = false
+is_bad_kind token_kinds.Symbol = false
+is_bad_kind token_kinds.Comment = false
+
+abbrev pub is_bad : Piece → Bool
+is_bad token = is_bad_kind token.kind
+
+-- ---- the expression of ORG, END and ;assert, which a comma ends
+
+abbrev pub as_said : Value → Result ℤ AsmKind
+as_said (Ok z) = Ok z
+as_said (Err fault) = Err (kinds.Expression fault)
+
+abbrev pub value_or_missing : (List ℕ → Option ℤ) → List Piece → Result ℤ AsmKind
+value_or_missing names [] = Err kinds.MissingOperand
+value_or_missing names (t ∷ ts) = as_said (value_of names (t ∷ ts))
+
+abbrev pub unless_comma : Option (List Piece) → ℤ → Result ℤ AsmKind
+unless_comma None z = Ok z
+unless_comma (Some behind) z = Err kinds.ExtraText
+
+-- the expression's fault, else that of the comma
+abbrev pub single_value : (List ℕ → Option ℤ) → List Piece → Result ℤ AsmKind
+single_value names tokens = value_or_missing names (before_comma tokens) >>= unless_comma (behind_comma tokens)
+
+-- ---- the lines
+
+abbrev pub org_said : (List ℕ → Option ℤ) → List Piece → Result Statement AsmKind
+org_said names tokens = single_value names tokens >>= λ z. Ok (statements.Org z)
+
+-- END may stand alone
+abbrev pub end_said : (List ℕ → Option ℤ) → List Piece → Result Statement AsmKind
+end_said names [] = Ok statements.Nothing
+end_said names (t ∷ ts) = single_value names (t ∷ ts) >>= λ z. Ok (statements.End z)
+
+-- an assertion without a token says nothing
+abbrev pub assert_said : (List ℕ → Option ℤ) → List Piece → Result Statement AsmKind
+assert_said names [] = Ok statements.Nothing
+assert_said names (t ∷ ts) = single_value names (t ∷ ts) >>= λ z. Ok (statements.Assert z)
+
+abbrev pub instruction_said : Result Instr AsmKind → Result Statement AsmKind
+instruction_said instr = instr >>= λ i. Ok (statements.Instruction i)
+
+-- what is no line of the language: there is no P-space, so PIN is refused for that
+abbrev pub other_said : List Piece → Result Statement AsmKind
+other_said [] = Err kinds.BadOperation
+other_said (t ∷ ts) = if is_word (codes "PIN") t.text then Err kinds.Pspace else Err kinds.BadOperation
+
+-- the instruction of a statement that is one
+abbrev pub instr_said : Statement → List Instr
+instr_said (statements.Instruction instr) = instr ∷ []
+instr_said (statements.Org z) = []
+instr_said (statements.End z) = []
+instr_said (statements.Assert z) = []
+instr_said statements.Nothing = []

@@ -1,0 +1,23 @@
+-- What a contract sees of tokens that lie in memory.
+use Rattle.std.specs.Prelude.{List, Option, Result, Ok, Err}
+use Rattle.std.specs.Borrow.{Bor}
+use Rattle.std.specs.Option.{option_map}
+use Rattle.redcode_text.specs.declared.token.Token.{Token}
+use Rattle.redcode_text.specs.Tokens.{Piece, pieces}
+use Rattle.redcode_statement.specs.declared.side.Sides.{Sides}
+use Rattle.redcode_statement.specs.Sides.{SideTokens, side_tokens}
+
+-- a result with its value as a contract sees it
+abbrev pub result_map : {X Y E : Type 0} → (X → Y) → Result X E → Result Y E
+result_map view (Ok x) = Ok (view x)
+result_map view (Err fault) = Err fault
+
+abbrev pub tokens_seen : Option (Bor (List Token)) → Option (List Piece)
+tokens_seen tokens = option_map (λ ts. pieces ts.now) tokens
+
+abbrev pub sides_seen : Sides → SideTokens
+sides_seen sides = side_tokens (pieces sides.a.now) (pieces sides.b.now) sides.more
+
+-- something with tokens behind it
+abbrev pub read : {X : Type 0} → X × Bor (List Token) → X × List Piece
+read found = (found.0, pieces found.1.now)

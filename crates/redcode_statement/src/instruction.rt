@@ -1,0 +1,148 @@
+//! The instruction that the tokens of a line give.
+
+ghost use Rattle.std.specs.Prelude.{◌≡◌, ◌<◌, IfOk};
+ghost use Rattle.redcode_text.specs.Tokens.{pieces};
+ghost use Rattle.redcode_statement.specs.Instruction.{is_immediate, by_modes, default_modifier, reduced, instr_of, is_pspace, op_of, modifier_named_at, modifier_at, instruction_of};
+ghost use Rattle.redcode_statement.specs.Views.{read, result_map};
+
+use crate::operand::{Operand, operand_of};
+use crate::side::{has_text, sides_of};
+use crate::word::{is_word, modifier_named, operation_named};
+use redcode_text::{Names, Token};
+use war_types::{AsmKind, Instr, Mode, Modifier, Op};
+
+/// The instruction in a core of so many cells, of tokens from its operation on, or its first fault.
+pub fn instruction_of<N: Names>(
+    core: u16,
+    tokens: &[Token<'_>],
+    names: &N,
+) -> Result<Instr, AsmKind>
+    requires { 0 < core }
+    ensures { result ≡ instruction_of core (N.values names.now) (pieces tokens.now) }
+{
+    let [word, behind @ ..] = tokens else {
+        return Err(AsmKind::BadOperation);
+    };
+    let op = op_of(word.text)?;
+    let (modifier, behind) = modifier_at(behind)?;
+    let sides = sides_of(op, behind)?;
+    let a = operand_of(sides.a, names);
+    let b = operand_of(sides.b, names);
+    instr_of(core, op, modifier, a, b, sides.more)
+}
+
+/// The operation of this name. There is no P-space.
+fn op_of(word: &[u8]) -> Result<Op, AsmKind>
+    ensures { result ≡ op_of word.now }
+{
+    if is_word(b"LDP", word) || is_word(b"STP", word) {
+        return Err(AsmKind::Pspace);
+    }
+    operation_named(word).ok_or(AsmKind::BadOperation)
+}
+
+/// The modifier behind a dot, or none where no dot stands there, and the tokens of the operands.
+fn modifier_at<'t, 'l>(
+    tokens: &'t [Token<'l>],
+) -> Result<(Option<Modifier>, &'t [Token<'l>]), AsmKind>
+    ensures { result_map read result ≡ modifier_at (pieces tokens.entry.now) }
+{
+    match tokens {
+        [dot, behind @ ..] if has_text(dot, b".") => modifier_named_at(behind),
+        _ => Ok((None, tokens)),
+    }
+}
+
+/// The modifier whose name stands there, and the tokens behind it.
+fn modifier_named_at<'t, 'l>(
+    tokens: &'t [Token<'l>],
+) -> Result<(Option<Modifier>, &'t [Token<'l>]), AsmKind>
+    ensures { result_map read result ≡ modifier_named_at (pieces tokens.entry.now) }
+{
+    let [name, behind @ ..] = tokens else {
+        return Err(AsmKind::BadModifier);
+    };
+    match modifier_named(name.text) {
+        Some(modifier) => Ok((Some(modifier), behind)),
+        None => Err(AsmKind::BadModifier),
+    }
+}
+
+/// The instruction of these parts: the A operand's fault, else that of the B operand, else that of more text behind
+/// them.
+fn instr_of(
+    core: u16,
+    op: Op,
+    modifier: Option<Modifier>,
+    a: Operand,
+    b: Operand,
+    more: bool,
+) -> Result<Instr, AsmKind>
+    requires { 0 < core }
+    ensures { result ≡ instr_of core op modifier a b more }
+{
+    let a_value = match a.value {
+        Ok(value) => value,
+        Err(fault) => return Err(AsmKind::Expression(fault)),
+    };
+    let b_value = match b.value {
+        Ok(value) => value,
+        Err(fault) => return Err(AsmKind::Expression(fault)),
+    };
+    if more {
+        return Err(AsmKind::ExtraText);
+    }
+    Ok(Instr {
+        op,
+        modifier: match modifier {
+            Some(modifier) => modifier,
+            None => default_modifier(op, a.mode, b.mode),
+        },
+        a_mode: a.mode,
+        a: reduced(core, a_value),
+        b_mode: b.mode,
+        b: reduced(core, b_value),
+    })
+}
+
+/// The modifier of an instruction that is written without one.
+fn default_modifier(op: Op, a: Mode, b: Mode) -> Modifier
+    ensures { result ≡ default_modifier op a b }
+{
+    match op {
+        Op::Dat | Op::Nop => Modifier::F,
+        Op::Mov | Op::Seq | Op::Sne => by_modes(a, b, Modifier::AB, Modifier::B, Modifier::I),
+        Op::Add | Op::Sub | Op::Mul | Op::Div | Op::Mdl => {
+            by_modes(a, b, Modifier::AB, Modifier::B, Modifier::F)
+        }
+        Op::Slt => by_modes(a, b, Modifier::AB, Modifier::B, Modifier::B),
+        Op::Jmp | Op::Jmz | Op::Jmn | Op::Djn | Op::Spl => Modifier::B,
+    }
+}
+
+fn by_modes(a: Mode, b: Mode, at_a: Modifier, at_b: Modifier, elsewhere: Modifier) -> Modifier
+    ensures { result ≡ by_modes a b at_a at_b elsewhere }
+{
+    if is_immediate(a) {
+        at_a
+    } else if is_immediate(b) {
+        at_b
+    } else {
+        elsewhere
+    }
+}
+
+fn is_immediate(mode: Mode) -> bool
+    ensures { result ≡ is_immediate mode }
+{
+    matches!(mode, Mode::Immediate)
+}
+
+/// A number as an address of a core of so many cells.
+fn reduced(core: u16, value: i64) -> u16
+    requires { 0 < core }
+    ensures value { result ≡ reduced core value }
+    ensures below { result < core }
+{
+    value.rem_euclid(i64::from(core)) as u16
+}

@@ -1,0 +1,23 @@
+//! What the tokens of a line say, and how the line of an instruction is written. It stands on the tokens alone, and not on how
+//! a source is cut into lines.
+//!
+//! Data passes through the modules in this order: `word` finds the operation, the modifier and the mode that a word names, in
+//! whatever letter case; `side` parts the operands at the commas; `operand` reads a mode and the value of an expression;
+//! `instruction` puts these together, or answers the first fault; `statement` says what an `ORG`, an `END` and an assertion say.
+//! The way back is `name`, how load text spells the names, and `line`, which writes an instruction.
+//!
+//! The main clauses: `instruction_of` and the statements are the definitions of `Instruction` and `Statement` in `specs`, in terms
+//! of what the names stand for, and `append_line` appends the text of `InstrLine`.
+#![tactic(auto)]
+
+mod instruction;
+mod line;
+mod name;
+mod operand;
+mod side;
+mod statement;
+mod word;
+
+pub use instruction::instruction_of;
+pub use line::append_line;
+pub use statement::{Statement, assert_said, end_said, has_bad_token, org_said, other_said};
