@@ -6,15 +6,16 @@ use Rattle.sector_disk.specs.Image.{Images}
 use Rattle.sector_disk.specs.Changes.{Begun}
 use Rattle.sector_disk.proofs.Images.{images_read, images_sync}
 use Rattle.koth_hill.specs.Hill.{Hill}
-use Rattle.hill_store.specs.declared.reply.Refusal.{Refusal}
-use Rattle.hill_store.specs.declared.reply.Refusal.TheVariants as refusals
+use Rattle.hill_images.specs.declared.refusal.Refusal.{Refusal}
+use Rattle.hill_images.specs.declared.refusal.Refusal.TheVariants as refusals
 use Rattle.hill_bytes.specs.Layout.{HeaderParts, sectors_for}
 use Rattle.hill_store.specs.Earned.{earned}
-use Rattle.hill_store.specs.Stands.{Shows, Stands, StandsFor, Holds}
+use Rattle.hill_images.specs.Stands.{Shows, Stands}
 use Rattle.hill_store.specs.Seen.{Seen}
-use Rattle.hill_store.specs.Opened.{IsKept, IsCreated, IsOpened, IsNotOpened, Refuses}
-use Rattle.hill_store.specs.Holding.{IsHolding, IsDecided, IsUndecided}
-use Rattle.hill_store.proofs.Newest.{one_newest, stands_once}
+use Rattle.hill_images.specs.Opening.{IsKept, IsNotOpened, Refuses}
+use Rattle.hill_store.specs.Opened.{IsCreated, IsOpened}
+use Rattle.hill_store.specs.Holding.{StandsFor, Holds, IsHolding, IsDecided, IsUndecided}
+use Rattle.hill_images.proofs.Newest.{one_newest, stands_once}
 
 -- a hill that was created holds no sources
 pub created_holds : {D : Type 0} (size : D → ℕ) (is_lawful : D → Type 0) (disk : D → Disk) (failures : D → ℕ) (old : D) (s : RawSettings) (store : Seen D) → IsKept size is_lawful failures old store.device → IsCreated size is_lawful disk old s store → is_lawful old → IsHolding size is_lawful disk s [] store

@@ -8,7 +8,7 @@ use Rattle.koth_hill.specs.Step.{new_hill}
 use Rattle.hill_store.specs.declared.reply.Reply.{Reply}
 use Rattle.hill_store.specs.declared.reply.Reply.TheVariants as replies
 use Rattle.hill_store.specs.Earned.{step_source, steps, earned}
-use Rattle.hill_store.specs.Stands.{Stands}
+use Rattle.hill_images.specs.Stands.{Stands}
 use Rattle.hill_store.specs.Seen.{Seen, IsAnswered, IsCut, IsLeft, Submits}
 use Rattle.hill_store.specs.Runs.{RunsOn}
 use Rattle.hill_store.specs.Holding.{answered, under_way, IsHolding, IsCutOff, IsHeldWith, HoldsMore}

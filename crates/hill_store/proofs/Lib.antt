@@ -1,15 +1,4 @@
-pub mod Held
-pub mod Newest
-pub mod Stops
-pub mod Nexts
-pub mod Finds
-pub mod Slots
-pub mod Submitted
-pub mod Exits
-pub mod Firsts
-pub mod Recovered
-pub mod Creations
-pub mod Openings
+pub mod Replies
 pub mod Lists
 pub mod Holdings
 pub mod Decided

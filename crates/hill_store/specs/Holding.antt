@@ -2,14 +2,23 @@
 use Rattle.std.specs.Prelude.{◌≡◌, ◌⊎◌, ℕ, Bool, true, false, if◌then◌else◌, List, [], ◌∷◌, ◌++◌, Option, Some, None}
 use Rattle.war_types.specs.declared.settings.RawSettings.{RawSettings}
 use Rattle.sector_disk.specs.Disk.{Disk}
+use Rattle.sector_disk.specs.Image.{Images}
 use Rattle.hill_store.specs.declared.reply.Reply.{Reply}
 use Rattle.hill_store.specs.declared.reply.Reply.TheVariants as replies
-use Rattle.hill_store.specs.declared.reply.Refusal.{Refusal}
-use Rattle.hill_store.specs.declared.reply.Refusal.TheVariants as refusals
+use Rattle.hill_images.specs.declared.refusal.Refusal.{Refusal}
+use Rattle.hill_images.specs.declared.refusal.Refusal.TheVariants as refusals
 use Rattle.hill_store.specs.Earned.{earned}
-use Rattle.hill_store.specs.Stands.{Holds}
+use Rattle.hill_images.specs.Stands.{Stands}
 use Rattle.hill_store.specs.Seen.{Seen}
 use Rattle.hill_store.specs.Runs.{is_disk}
+
+-- The hill that these sources earn, or these and one more, is what every image stands for.
+abbrev pub StandsFor : ℕ → RawSettings → List (List ℕ) → Option (List ℕ) → (ℕ → List ℕ) → Type 0
+StandsFor size s sources None image = Stands size image (earned s sources)
+StandsFor size s sources (Some source) image = Stands size image (earned s sources) ⊎ Stands size image (earned s (sources ++ source ∷ []))
+
+abbrev pub Holds : ℕ → Disk → RawSettings → List (List ℕ) → Option (List ℕ) → Type 0
+Holds size disk s sources more = Images disk (StandsFor size s sources more)
 
 -- the submission was answered: it was placed, or fell, or was refused
 abbrev pub is_answer : Reply → Bool

@@ -1,9 +1,5 @@
 pub mod Earned
-pub mod Stands
-pub mod Places
-pub mod Found
 pub mod Seen
 pub mod Opened
 pub mod Runs
 pub mod Holding
-pub mod Laws

@@ -5,7 +5,7 @@ use Rattle.sector_disk.specs.Disk.{Disk}
 use Rattle.hill_store.specs.declared.reply.Reply.{Reply}
 use Rattle.hill_store.specs.declared.reply.Reply.TheVariants as replies
 use Rattle.hill_store.specs.Seen.{Seen, Submits}
-use Rattle.hill_store.specs.Opened.{IsKept}
+use Rattle.hill_images.specs.Opening.{IsKept}
 
 abbrev pub is_disk : Reply → Bool
 is_disk replies.Disk = true

@@ -1,16 +1,13 @@
 -- A store as its caller sees it, and what a submission makes of it.
-use Rattle.std.specs.Prelude.{◌≡◌, ◌≢◌, ◌⊎◌, ℕ, ◌-◌, ◌^◌, ◌<◌, ◌≤◌, Bool, true, false, List, [], ◌∷◌, Ok}
-use Rattle.war_types.specs.declared.settings.RawSettings.{RawSettings}
+use Rattle.std.specs.Prelude.{◌≡◌, ◌≢◌, ◌⊎◌, ℕ, ◌-◌, ◌^◌, ◌<◌, Bool, true, false, List, Ok}
 use Rattle.war_types.specs.Warrior.{WarriorParts}
 use Rattle.sector_disk.specs.Disk.{Disk}
 use Rattle.sector_disk.specs.Image.{Images}
-use Rattle.koth_hill.specs.Hill.{Member, Hill, IsHill}
+use Rattle.koth_hill.specs.Hill.{Hill}
 use Rattle.redcode_asm.specs.Assembly.{assembly}
-use Rattle.hill_bytes.specs.declared.header.HeaderEntry.{HeaderEntry}
 use Rattle.hill_store.specs.declared.reply.Reply.{Reply}
 use Rattle.hill_store.specs.declared.reply.Reply.TheVariants as replies
-use Rattle.hill_bytes.specs.Layout.{HeaderParts, IsHeaderParts, sectors_for}
-use Rattle.hill_store.specs.Stands.{IsReady, Stands}
+use Rattle.hill_images.specs.Stands.{Stands}
 use Rattle.hill_store.specs.Earned.{reply_of, step_source, reply_judged}
 use Rattle.koth_hill.specs.Step.{step, verdict}
 use Rattle.war_types.specs.declared.fault.AsmFault.{AsmFault}
@@ -25,28 +22,6 @@ pub record Seen (D : Type 0) : Type 0 where
 
 abbrev pub seen : {D : Type 0} → D → Hill → ℕ → Bool → Seen D
 seen device hill generation reopen = record { device = device; hill = hill; generation = generation; reopen = reopen }
-
--- entries and members agree one by one
-abbrev pub Agree : List HeaderEntry → List Member → Type 0
-Agree [] [] = Unit {0}
-Agree [] (m ∷ ms) = ⊥
-Agree (e ∷ es) [] = ⊥
-Agree (e ∷ es) (m ∷ ms) = (m.entry ≡ e.entry) × (m.age ≡ e.age) × Agree es ms
-
--- the header names those on the hill
-pub record IsNamed (h : HeaderParts) (hill : Hill) : Type 0 where
-  pub settings : h.settings ≡ hill.settings
-  pub counter : h.counter ≡ hill.counter
-  pub entries : Agree h.entries hill.members
-
--- what every store keeps
-pub record IsSound {D : Type 0} (size : D → ℕ) (is_lawful : D → Type 0) (disk : D → Disk) (device : D) (h : HeaderParts) (hill : Hill) (arena : RawSettings) (reopen : Bool) : Type 0 where
-  pub room : sectors_for hill.settings.capacity ≤ size device
-  pub arena_of : arena ≡ hill.settings
-  pub header : IsHeaderParts h
-  pub is_hill : IsHill hill
-  pub named : IsNamed h hill
-  pub ready : is_lawful device → reopen ≡ false → IsReady (disk device) h hill
 
 -- a submission that moved the hill and is durable
 pub record IsAnswered {D : Type 0} (size : D → ℕ) (is_lawful : D → Type 0) (disk : D → Disk) (old : Seen D) (next : Hill) (new : Seen D) : Type 0 where

@@ -1,16 +1,18 @@
-//! The store: a hill on a device of sectors, which survives any stop. The bytes of its sectors are those of `hill_bytes`.
+//! The store: a hill on a device of sectors, which survives any stop. What is written and found again is `hill_images`, and the
+//! bytes of the sectors are those of `hill_bytes`.
+//!
+//! `store` assembles a source, has its warrior judged, makes the outcome durable, and only then counts it; `reply` is what it
+//! answers.
+//!
+//! The main clauses: `submit` and `submit_all` answer the reply that is due, and on a lawful device every image then stands for
+//! the hill after the sources that were answered (`Seen`, `Runs`, `Holding` in `specs`); after a stop, `open` finds the hill with
+//! or without the source that was under way.
 #![tactic(auto)]
 
-mod durable;
-mod entries;
-mod found;
-mod laws;
-mod opening;
 mod reply;
 mod store;
 
 pub use hill_bytes::{Header, HeaderEntry, decode_header, encode_header};
-pub use laws::laws_of_storage;
-pub use opening::sectors_for;
-pub use reply::{Refusal, Reply};
+pub use hill_images::{Refusal, laws_of_storage, sectors_for};
+pub use reply::Reply;
 pub use store::Store;

@@ -1,9 +1,8 @@
-//! What a submission is answered, and why a device is refused.
+//! What a submission is answered.
 
 ghost use Rattle.std.specs.Prelude.{◌≡◌};
 ghost use Rattle.hill_store.specs.Runs.{is_disk};
 
-use thiserror::Error;
 use war_types::AsmFault;
 
 /// The answer to a submission.
@@ -30,32 +29,14 @@ impl Reply {
     pub fn is_disk(&self) -> bool
         ensures { result ≡ is_disk self.now }
     {
-        match self {
+        match *self {
             Reply::Disk => true,
-            _ => false,
+            Reply::Placed { .. }
+            | Reply::Fell { .. }
+            | Reply::Refused(_)
+            | Reply::Memory
+            | Reply::Worn
+            | Reply::Reopen => false,
         }
     }
-}
-
-/// Why there is no store.
-#[derive(Clone, Copy, Debug, PartialEq, Eq, Error)]
-pub enum Refusal {
-    /// The device failed.
-    #[error("Disk")]
-    Disk,
-    /// The device has too few sectors.
-    #[error("TooSmall")]
-    TooSmall,
-    /// The device holds a hill already.
-    #[error("Occupied")]
-    Occupied,
-    /// A growth was refused.
-    #[error("Memory")]
-    Memory,
-    /// The device holds no hill.
-    #[error("NotAHill")]
-    NotAHill,
-    /// A slot of a warrior on the hill holds other bytes than a warrior's.
-    #[error("Damaged")]
-    Damaged,
 }

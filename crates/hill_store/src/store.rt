@@ -6,18 +6,20 @@ ghost use Rattle.koth_hill.specs.Step.{verdict, stays, step, after_stay, after_f
 ghost use Rattle.koth_hill.specs.Table.{table};
 ghost use Rattle.koth_hill.specs.Rows.{rows_parts};
 ghost use Rattle.hill_store.specs.Runs.{Runs, texts};
-ghost use Rattle.hill_store.specs.Opened.{IsKept, IsCreated, IsNotCreated, IsOpened, IsNotOpened};
+ghost use Rattle.hill_images.specs.Opening.{IsKept, IsNotOpened};
+ghost use Rattle.hill_store.specs.Opened.{IsCreated, IsNotCreated, IsOpened};
 ghost use Rattle.war_types.specs.declared.settings.RawSettings.{RawSettings};
 ghost use Rattle.hill_store.specs.Earned.{reply_judged};
-ghost use Rattle.hill_store.specs.Stands.{Holds};
+ghost use Rattle.hill_store.specs.Holding.{Holds};
 ghost use Rattle.hill_store.specs.Holding.{IsHolding, HoldsMore, IsDecided, IsUndecided};
 ghost use Rattle.hill_store.specs.Seen.{Seen, IsAnswered, IsCut, IsLeft, Submits, Challenges, IsRefusal};
 
-use crate::durable::{commit, place};
-use crate::entries::{free_slot, header_passed, header_placed};
-use crate::opening::{recover, sectors_for, write_first};
-use crate::reply::{Refusal, Reply};
+use crate::reply::Reply;
 use hill_bytes::Header;
+use hill_images::{
+    Refusal, commit, free_slot, header_passed, header_placed, place, recover, sectors_for,
+    write_first,
+};
 use koth_hill::{Hill, Row, Verdict};
 use mars_core::Arena;
 use redcode_asm::assemble;
@@ -38,7 +40,8 @@ pub struct Store<D: Device, A: Allocator> {
 }
 
 impl<D: Device, A: Allocator> Model for Store<D, A> {
-    ghost use Rattle.hill_store.specs.Seen.{Seen, seen, IsSound};
+    ghost use Rattle.hill_store.specs.Seen.{Seen, seen};
+    ghost use Rattle.hill_images.specs.Named.{IsSound};
 
     ghost Value = { Seen D };
 
@@ -275,8 +278,9 @@ fn answer(judged: &Verdict) -> Reply
 fn refused(fault: AsmFault) -> Reply
     ensures { IsRefusal fault result }
 {
-    match fault.kind {
-        AsmKind::Memory => Reply::Memory,
-        _ => Reply::Refused(fault),
+    if matches!(fault.kind, AsmKind::Memory) {
+        Reply::Memory
+    } else {
+        Reply::Refused(fault)
     }
 }

@@ -297,7 +297,7 @@ fn each_growth_of_a_submission(rt: HostRuntime) -> Result<(), Fail> {
         if memory.refused() == 0 {
             assert_eq!(rt; reply, placed(1, 1, 0));
             assert_eq!(rt; store.close().calls, 5 + 5);
-            assert_eq!(rt; k, 11);
+            assert_eq!(rt; k, 12);
             return Ok(());
         }
         assert_eq!(rt; reply, Reply::Memory);

@@ -1,12 +1,14 @@
 use Rattle.std.proofs.Common.{◌≡◌, ◌<◌, ◌⊎◌, ◌-◌, ◌^◌, refl, sym, ap, ◌∙◌, subst}
-use Rattle.hill_store.specs.Seen.{Seen, seen, IsSound, Challenges}
+use Rattle.hill_store.specs.Seen.{Seen, seen, Challenges}
+use Rattle.hill_images.specs.Named.{IsSound}
 use Rattle.koth_hill.specs.Step.{verdict, step}
 use Rattle.war_types.specs.Warrior.{Fits}
 use Rattle.sector_disk.specs.Image.{Images}
-use Rattle.hill_store.specs.Stands.{Stands}
+use Rattle.hill_images.specs.Stands.{Stands}
 use Rattle.sector_disk.specs.Changes.{after, Begun}
-use Rattle.hill_store.specs.Places.{header_placed, places}
-use Rattle.hill_store.proofs.Exits.{admit_header, admit_sound, admit_cut, admit_stands, answers}
+use Rattle.hill_images.specs.Places.{header_placed, places}
+use Rattle.hill_images.proofs.Exits.{admit_header, admit_sound, admit_cut, admit_stands}
+use Rattle.hill_store.proofs.Replies.{answers}
 use Rattle.hill_store.proofs.store.Store.admit.Goals as goal
 
 pub header_placed-header-requires : goal.header_placed-header-requires

@@ -1,7 +1,7 @@
 use Rattle.std.proofs.Common.{◌+◌, ap, sym, ◌∙◌}
 use Rattle.koth_hill.specs.declared.verdict.Verdict.{Verdict}
 use Rattle.koth_hill.specs.Hill.{Hill}
-use Rattle.hill_store.proofs.Submitted.{verdict_is}
+use Rattle.hill_images.proofs.Submitted.{verdict_is}
 use Rattle.hill_store.proofs.store.Store.challenge.Goals as goal
 
 pub pass-requires-clause-entry : goal.pass-requires-clause-entry

@@ -1,6 +1,6 @@
 use Rattle.std.proofs.Common.{refl, rules}
 use Rattle.koth_hill.specs.Step.{new_hill}
-use Rattle.hill_store.proofs.Submitted.{ready_stands}
+use Rattle.hill_images.proofs.Submitted.{ready_stands}
 use Rattle.hill_store.proofs.Decided.{created_holds}
 use Rattle.hill_store.proofs.store.Store.create.Goals as goal
 

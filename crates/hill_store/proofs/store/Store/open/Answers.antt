@@ -1,5 +1,5 @@
 use Rattle.std.proofs.Common.{refl}
-use Rattle.hill_store.proofs.Exits.{sound_stands}
+use Rattle.hill_images.proofs.Exits.{sound_stands}
 use Rattle.hill_store.proofs.Decided.{decided, undecided}
 use Rattle.hill_store.proofs.store.Store.open.Goals as goal
 

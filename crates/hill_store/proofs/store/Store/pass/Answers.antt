@@ -2,10 +2,12 @@ use Rattle.std.proofs.Common.{◌≡◌, ◌<◌, ◌⊎◌, ◌-◌, ◌^◌, r
 use Rattle.sector_disk.specs.Changes.{after, Begun}
 use Rattle.sector_disk.specs.Image.{Images}
 use Rattle.koth_hill.specs.Step.{step, after_fall}
-use Rattle.hill_store.specs.Stands.{Stands}
-use Rattle.hill_store.specs.Seen.{Seen, seen, IsSound, Challenges}
-use Rattle.hill_store.specs.Places.{header_passed, commits}
-use Rattle.hill_store.proofs.Exits.{pass_header, pass_sound, pass_stands, pass_step, pass_cut, answers}
+use Rattle.hill_images.specs.Stands.{Stands}
+use Rattle.hill_store.specs.Seen.{Seen, seen, Challenges}
+use Rattle.hill_images.specs.Named.{IsSound}
+use Rattle.hill_images.specs.Places.{header_passed, commits}
+use Rattle.hill_images.proofs.Exits.{pass_header, pass_sound, pass_stands, pass_step, pass_cut}
+use Rattle.hill_store.proofs.Replies.{answers}
 use Rattle.hill_store.proofs.store.Store.pass.Goals as goal
 
 pub header_passed-header-requires : goal.header_passed-header-requires

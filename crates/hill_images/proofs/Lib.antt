@@ -1,0 +1,12 @@
+pub mod Held
+pub mod Newest
+pub mod Stops
+pub mod Nexts
+pub mod Finds
+pub mod Slots
+pub mod Submitted
+pub mod Exits
+pub mod Firsts
+pub mod WarriorsRead
+pub mod Creations
+pub mod Openings

@@ -1,0 +1,82 @@
+-- The newest header, while sectors are written, and that there is one.
+use Rattle.std.proofs.Common.{◌≡◌, ℕ, inl, inr, ◌+◌, ◌%◌, ◌<◌, ◌≤◌, List, [], ◌∷◌, refl, sym, ap, subst, ◌∙◌, arith}
+use Rattle.std.proofs.lemmas.Bool.{cases_eq}
+use Rattle.std.proofs.Math.Nat.{mod-lt}
+use Rattle.sector_disk.specs.Image.{put}
+use Rattle.sector_disk.proofs.Images.{put-same, put-other}
+use Rattle.koth_hill.specs.Hill.{Member, Hill}
+use Rattle.war_types.specs.declared.settings.RawSettings.{RawSettings}
+use Rattle.war_types.specs.Settings.{AreSettings}
+use Rattle.hill_bytes.specs.declared.header.HeaderEntry.{HeaderEntry}
+use Rattle.hill_bytes.specs.Layout.{HeaderParts, IsHeaderParts, IsHeader, header_bytes, front_sector, back_sector}
+use Rattle.hill_images.specs.Stands.{IsNewest, IsHeld, AllHeld, Shows, Stands}
+use Rattle.hill_bytes.proofs.Codes.{one_header, one_slot}
+
+-- the sector of a generation is one of the first two
+pub parity_low : (generation : ℕ) → generation % 2 < 2
+parity_low generation = mod-lt generation (omega arith)
+
+-- a write past the headers leaves the newest
+pub newest_elsewhere : (image : ℕ → List ℕ) (n : ℕ) (content : List ℕ) (h : HeaderParts) → 2 ≤ n → IsNewest image h → IsNewest (put n content image) h
+newest_elsewhere image n content h past is = record {
+  here = subst (λ bytes. IsHeader bytes h) (sym (as_before h)) is.here;
+  newest = λ g. λ here. is.newest g (subst (λ bytes. IsHeader bytes g) (as_before g) here);
+}
+  where
+    as_before : (g : HeaderParts) → put n content image (g.generation % 2) ≡ image (g.generation % 2)
+    as_before g = put-other image n (g.generation % 2) content (λ same. let low : g.generation % 2 < 2 = parity_low g.generation in omega arith)
+
+-- the next header is the newest once it is written
+pub newest_next : (image : ℕ → List ℕ) (h next : HeaderParts) → IsHeaderParts next → next.generation ≡ h.generation + 1 → IsNewest image h → IsNewest (put (next.generation % 2) (header_bytes next) image) next
+newest_next image h next fits follows is = record {
+  here = record { header = fits; bytes_are = put-same image (next.generation % 2) (header_bytes next) };
+  newest = λ g. λ here. elim (cases_eq (g.generation % 2) (next.generation % 2)) [
+    | inl same ↦
+        let bytes : put (next.generation % 2) (header_bytes next) image (g.generation % 2) ≡ header_bytes next =
+        ap (put (next.generation % 2) (header_bytes next) image) same ∙ put-same image (next.generation % 2) (header_bytes next) in
+        let one : g ≡ next = one_header (header_bytes next) g next (subst (λ x. IsHeader x g) bytes here) (record { header = fits; bytes_are = refl }) in
+        let equal : g.generation ≡ next.generation = ap (λ (x : HeaderParts). x.generation) one in
+        omega arith
+    | inr other ↦
+        let before : IsHeader (image (g.generation % 2)) g = subst (λ x. IsHeader x g) (put-other image (next.generation % 2) (g.generation % 2) (header_bytes next) other) here in
+        let below : g.generation ≤ h.generation = is.newest g before in
+        omega arith
+  ];
+}
+
+-- there is one newest header
+pub one_newest : (image : ℕ → List ℕ) (g h : HeaderParts) → IsNewest image g → IsNewest image h → g ≡ h
+one_newest image g h is_g is_h =
+    let equal : g.generation ≡ h.generation = (let up : g.generation ≤ h.generation = is_h.newest g is_g.here in let down : h.generation ≤ g.generation = is_g.newest h is_h.here in omega arith) in
+    one_header (image (h.generation % 2)) g h (subst (λ n. IsHeader (image (n % 2)) g) equal is_g.here) is_h.here
+
+one_member : (s : RawSettings) (image : ℕ → List ℕ) (e : HeaderEntry) (m n : Member) → AreSettings s → IsHeld s image e m → IsHeld s image e n → m ≡ n
+one_member s image e m n are is_m is_n = λ i. record {
+  entry = (is_m.entry ∙ sym is_n.entry) i;
+  age = (is_m.age ∙ sym is_n.age) i;
+  warrior = one_slot s (image (front_sector e.slot)) (image (back_sector e.slot)) m.warrior n.warrior are is_m.slot is_n.slot i;
+}
+
+-- these entries name one list of members
+pub one_list : (s : RawSettings) (image : ℕ → List ℕ) (es : List HeaderEntry) (ms ns : List Member) → AreSettings s → AllHeld s image es ms → AllHeld s image es ns → ms ≡ ns
+one_list s image [] [] [] are a b = refl
+one_list s image [] [] (n ∷ ns) are a b = absurd b
+one_list s image [] (m ∷ ms) ns are a b = absurd a
+one_list s image (e ∷ es) [] ns are a b = absurd a
+one_list s image (e ∷ es) (m ∷ ms) [] are a b = absurd b
+one_list s image (e ∷ es) (m ∷ ms) (n ∷ ns) are a b = λ i. one_member s image e m n are a.0 b.0 i ∷ one_list s image es ms ns are a.1 b.1 i
+
+-- a newest header shows one hill
+pub one_shown : (image : ℕ → List ℕ) (h : HeaderParts) (x y : Hill) → Shows image h x → Shows image h y → x ≡ y
+one_shown image h x y is_x is_y =
+    let settings : x.settings ≡ y.settings = sym is_x.settings ∙ is_y.settings in
+    let are : AreSettings x.settings = subst AreSettings is_x.settings is_x.newest.here.header.settings in
+    let members : x.members ≡ y.members = one_list x.settings image h.entries x.members y.members are is_x.members (subst (λ s. AllHeld s image h.entries y.members) (sym settings) is_y.members) in
+    λ i. record { settings = settings i; counter = (sym is_x.counter ∙ is_y.counter) i; members = members i }
+
+-- an image stands for one hill at most
+pub stands_once : (size : ℕ) (image : ℕ → List ℕ) (x y : Hill) → Stands size image x → Stands size image y → x ≡ y
+stands_once size image x y is_x is_y =
+    one_shown image is_y.header x y
+    (subst (λ h. Shows image h x) (one_newest image is_x.header is_y.header is_x.shows.newest is_y.shows.newest) is_x.shows)
+    is_y.shows

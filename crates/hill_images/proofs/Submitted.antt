@@ -1,0 +1,229 @@
+-- A submission that is placed or falls: its header, its hill, and what every image then stands for.
+use Rattle.std.proofs.Common.{◌≡◌, ◌≢◌, ◌⊎◌, inl, inr, ℕ, suc, ◌+◌, ◌-◌, ◌^◌, ◌<◌, ◌≤◌, Bool, true, false, if◌then◌else◌, List, [], ◌∷◌, ◌++◌, length, All, Option, refl, sym, ap, subst, arith}
+use Rattle.std.proofs.lemmas.List.Elements.{All-nil, All-cons, All-head, All-tail}
+use Rattle.war_types.specs.declared.settings.RawSettings.{RawSettings}
+use Rattle.war_types.specs.Settings.{AreSettings}
+use Rattle.war_types.specs.Warrior.{WarriorParts, Fits}
+use Rattle.sector_disk.specs.Disk.{Disk, current}
+use Rattle.sector_disk.specs.Image.{Images}
+use Rattle.sector_disk.specs.Changes.{after, Begun}
+use Rattle.sector_disk.proofs.Images.{images_settled}
+use Rattle.koth_hill.specs.declared.verdict.Verdict.{Verdict}
+use Rattle.koth_hill.specs.Hill.{Member, Hill, IsHill, MayStand, RiseFrom}
+use Rattle.koth_hill.specs.Step.{is_entry, without, one_older, challenger, falling, stays, verdict, step, after_stay, after_fall}
+use Rattle.hill_bytes.specs.declared.header.HeaderEntry.{HeaderEntry}
+use Rattle.hill_bytes.specs.Layout.{HeaderParts, IsHeaderParts, IsEntry, EntriesRise, SlotsDiffer, SlotIsFree, IsTitled, sectors_for}
+use Rattle.hill_images.specs.Stands.{Stands, IsReady}
+use Rattle.hill_images.specs.Named.{Agree, IsNamed}
+use Rattle.hill_images.specs.Places.{kept_entries, new_entry, header_placed, header_passed, commits, places}
+use Rattle.hill_images.proofs.Stops.{Either, IsStep, IsPlacing, committed, commit_stopped, placed, place_stopped}
+use Rattle.hill_images.proofs.Nexts.{shows_placed, shows_passed}
+
+-- the verdict and the step are of one mind
+verdict_by : (b : Bool) (x y : Verdict) → x.entry ≡ y.entry → x.falls ≡ y.falls → x.stays ≡ true → y.stays ≡ false → ((if b then x else y).stays ≡ b) × ((if b then x else y).falls ≡ x.falls) × ((if b then x else y).entry ≡ x.entry)
+verdict_by true x y entry falls up down = (up, refl, refl)
+verdict_by false x y entry falls up down = (down, sym falls, sym entry)
+
+pub verdict_is : (h : Hill) (w : WarriorParts) → ((verdict h w).stays ≡ stays h w) × ((verdict h w).falls ≡ falling h w) × ((verdict h w).entry ≡ h.counter + 1)
+unfolding verdict
+verdict_is h w = verdict_by (stays h w) _ _ refl refl refl refl
+
+pub step_stays : (h : Hill) (w : WarriorParts) → stays h w ≡ true → step h w ≡ after_stay h w (falling h w)
+unfolding step
+step_stays h w is = ap (λ b. if b then after_stay h w (falling h w) else after_fall h) is
+
+pub step_falls : (h : Hill) (w : WarriorParts) → stays h w ≡ false → step h w ≡ after_fall h
+unfolding step
+step_falls h w is = ap (λ b. if b then after_stay h w (falling h w) else after_fall h) is
+
+-- entries that agree with members rise, are few, and are old, as those are
+pub agree_length : (es : List HeaderEntry) (ms : List Member) → Agree es ms → length es ≡ length ms
+agree_length [] [] agree = refl
+agree_length [] (m ∷ ms) agree = absurd agree
+agree_length (e ∷ es) [] agree = absurd agree
+agree_length (e ∷ es) (m ∷ ms) agree = ap suc (agree_length es ms agree.2)
+
+pub agree_rising : (before : ℕ) (es : List HeaderEntry) (ms : List Member) → Agree es ms → RiseFrom before ms → EntriesRise before es
+agree_rising before [] [] agree rise = tt
+agree_rising before [] (m ∷ ms) agree rise = absurd agree
+agree_rising before (e ∷ es) [] agree rise = absurd agree
+agree_rising before (e ∷ es) (m ∷ ms) agree rise =
+    (subst (λ n. before < n) agree.0 rise.0, agree_rising e.entry es ms agree.2 (subst (λ n. RiseFrom n ms) agree.0 rise.1))
+
+-- no slot is past these
+abbrev pub SlotsUpTo : ℕ → List HeaderEntry → Type 0
+SlotsUpTo capacity [] = Unit {0}
+SlotsUpTo capacity (e ∷ es) = (e.slot ≤ capacity) × SlotsUpTo capacity es
+
+pub agree_entries : (s : RawSettings) (capacity counter : ℕ) (es : List HeaderEntry) (ms : List Member) → Agree es ms → SlotsUpTo capacity es → All (MayStand s counter) ms → All (IsEntry capacity counter) es
+agree_entries s capacity counter [] [] agree slots may = All-nil (IsEntry capacity counter)
+agree_entries s capacity counter [] (m ∷ ms) agree slots may = absurd agree
+agree_entries s capacity counter (e ∷ es) [] agree slots may = absurd agree
+agree_entries s capacity counter (e ∷ es) (m ∷ ms) agree slots may =
+    let this : MayStand s counter m = All-head (MayStand s counter) m ms may in
+    All-cons (IsEntry capacity counter) e es (record {
+      entry = subst (λ n. n ≤ counter) agree.0 this.entry;
+      slot = slots.0;
+      age = subst (λ a. a ≤ counter - e.entry) agree.1 (subst (λ n. m.age ≤ counter - n) agree.0 this.age);
+    }) (agree_entries s capacity counter es ms agree.2 slots.1 (All-tail (MayStand s counter) m ms may))
+
+agree_choose : (falls : Bool) (e : HeaderEntry) (m : Member) (es : List HeaderEntry) (ms : List Member) → Agree es (one_older ms) → m.entry ≡ e.entry → m.age + 1 ≡ e.age → Agree (if falls then es else e ∷ es) (one_older (if falls then ms else m ∷ ms))
+agree_choose true e m es ms others entry age = others
+agree_choose false e m es ms others entry age = (entry, age, others)
+
+-- they agree after a fall
+pub agree_kept : (fallen : Option ℕ) (es : List HeaderEntry) (ms : List Member) → Agree es ms → Agree (kept_entries fallen es) (one_older (without fallen ms))
+agree_kept fallen [] [] agree = tt
+agree_kept fallen [] (m ∷ ms) agree = absurd agree
+agree_kept fallen (e ∷ es) [] agree = absurd agree
+agree_kept fallen (e ∷ es) (m ∷ ms) agree =
+    subst (λ b. Agree (kept_entries fallen (e ∷ es)) (one_older (if b then without fallen ms else m ∷ without fallen ms)))
+    (ap (λ n. is_entry n fallen) (sym agree.0))
+    (agree_choose (is_entry e.entry fallen) (record { entry = e.entry; slot = e.slot; age = e.age + 1 }) m (kept_entries fallen es) (without fallen ms)
+    (agree_kept fallen es ms agree.2) agree.0 (ap (λ n. n + 1) agree.1))
+
+pub agree_more : (es : List HeaderEntry) (ms : List Member) (e : HeaderEntry) (m : Member) → Agree es ms → m.entry ≡ e.entry → m.age ≡ e.age → Agree (es ++ e ∷ []) (ms ++ m ∷ [])
+agree_more [] [] e m agree entry age = (entry, age, tt)
+agree_more [] (x ∷ ms) e m agree entry age = absurd agree
+agree_more (x ∷ es) [] e m agree entry age = absurd agree
+agree_more (x ∷ es) (y ∷ ms) e m agree entry age = (agree.0, agree.1, agree_more es ms e m agree.2 entry age)
+
+-- slots of those that stay and of one more
+free_choose : (falls : Bool) (slot : ℕ) (e : HeaderEntry) (es : List HeaderEntry) → e.slot ≢ slot → SlotIsFree slot es → SlotIsFree slot (if falls then es else e ∷ es)
+free_choose true slot e es other free = free
+free_choose false slot e es other free = (other, free)
+
+free_kept : (fallen : Option ℕ) (slot : ℕ) (es : List HeaderEntry) → SlotIsFree slot es → SlotIsFree slot (kept_entries fallen es)
+free_kept fallen slot [] free = tt
+free_kept fallen slot (e ∷ es) free = free_choose (is_entry e.entry fallen) slot (record { entry = e.entry; slot = e.slot; age = e.age + 1 }) (kept_entries fallen es) free.0 (free_kept fallen slot es free.1)
+
+differ_choose : (falls : Bool) (e : HeaderEntry) (es : List HeaderEntry) → SlotIsFree e.slot es → SlotsDiffer es → SlotsDiffer (if falls then es else e ∷ es)
+differ_choose true e es free differ = differ
+differ_choose false e es free differ = (free, differ)
+
+differ_kept : (fallen : Option ℕ) (es : List HeaderEntry) → SlotsDiffer es → SlotsDiffer (kept_entries fallen es)
+differ_kept fallen [] differ = tt
+differ_kept fallen (e ∷ es) differ = differ_choose (is_entry e.entry fallen) (record { entry = e.entry; slot = e.slot; age = e.age + 1 }) (kept_entries fallen es) (free_kept fallen e.slot es differ.0) (differ_kept fallen es differ.1)
+
+free_more : (slot : ℕ) (es : List HeaderEntry) (e : HeaderEntry) → SlotIsFree slot es → e.slot ≢ slot → SlotIsFree slot (es ++ e ∷ [])
+free_more slot [] e free other = (other, tt)
+free_more slot (x ∷ es) e free other = (free.0, free_more slot es e free.1 other)
+
+differ_more : (es : List HeaderEntry) (e : HeaderEntry) → SlotsDiffer es → SlotIsFree e.slot es → SlotsDiffer (es ++ e ∷ [])
+differ_more [] e differ free = (tt, tt)
+differ_more (x ∷ es) e differ free = (free_more x.slot es e differ.0 (λ same. free.0 (sym same)), differ_more es e differ.1 free.1)
+
+first_slot : (capacity counter : ℕ) (e : HeaderEntry) (es : List HeaderEntry) → All (IsEntry capacity counter) (e ∷ es) → e.slot ≤ capacity
+first_slot capacity counter e es are = let this : IsEntry capacity counter e = All-head (IsEntry capacity counter) e es are in this.slot
+
+up_to_choose : (falls : Bool) (capacity : ℕ) (e : HeaderEntry) (es : List HeaderEntry) → e.slot ≤ capacity → SlotsUpTo capacity es → SlotsUpTo capacity (if falls then es else e ∷ es)
+up_to_choose true capacity e es this others = others
+up_to_choose false capacity e es this others = (this, others)
+
+up_to_kept : (fallen : Option ℕ) (capacity counter : ℕ) (es : List HeaderEntry) → All (IsEntry capacity counter) es → SlotsUpTo capacity (kept_entries fallen es)
+up_to_kept fallen capacity counter [] are = tt
+up_to_kept fallen capacity counter (e ∷ es) are = up_to_choose (is_entry e.entry fallen) capacity (record { entry = e.entry; slot = e.slot; age = e.age + 1 }) (kept_entries fallen es) (first_slot capacity counter e es are) (up_to_kept fallen capacity counter es (All-tail (IsEntry capacity counter) e es are))
+
+up_to_more : (capacity : ℕ) (es : List HeaderEntry) (e : HeaderEntry) → SlotsUpTo capacity es → e.slot ≤ capacity → SlotsUpTo capacity (es ++ e ∷ [])
+up_to_more capacity [] e slots this = (this, tt)
+up_to_more capacity (x ∷ es) e slots this = (slots.0, up_to_more capacity es e slots.1 this)
+
+-- the header of a warrior that stays names those who are on the hill then
+pub named_placed : (h : HeaderParts) (hill : Hill) (w : WarriorParts) (fallen : Option ℕ) (slot : ℕ) → IsNamed h hill → IsNamed (header_placed h fallen slot) (after_stay hill w fallen)
+named_placed h hill w fallen slot named = record {
+  settings = named.settings;
+  counter = ap (λ n. n + 1) named.counter;
+  entries = agree_more (kept_entries fallen h.entries) (one_older (without fallen hill.members)) (new_entry (h.counter + 1) slot) (challenger hill w) (agree_kept fallen h.entries hill.members named.entries) (ap (λ n. n + 1) (sym named.counter)) refl;
+}
+
+pub named_passed : (h : HeaderParts) (hill : Hill) → IsNamed h hill → IsNamed (header_passed h) (after_fall hill)
+named_passed h hill named = record { settings = named.settings; counter = ap (λ n. n + 1) named.counter; entries = named.entries }
+
+-- a header that names those on a hill keeps what a header has to, where its slots do
+pub header_fits : (h : HeaderParts) (hill : Hill) → IsHill hill → IsNamed h hill → h.generation ≤ 2 ^ 64 - 1 → h.counter ≤ h.generation → SlotsUpTo h.settings.capacity h.entries → SlotsDiffer h.entries → IsHeaderParts h
+header_fits h hill is named generation counter slots differ = record {
+  settings = subst (λ s. AreSettings s) (sym named.settings) is.settings;
+  generation = generation;
+  counter = counter;
+  few = subst (λ n. n ≤ h.settings.capacity) (sym (agree_length h.entries hill.members named.entries)) (subst (λ s. length hill.members ≤ s.capacity) (sym named.settings) is.room);
+  rising = agree_rising 0 h.entries hill.members named.entries is.rising;
+  entries = agree_entries hill.settings h.settings.capacity h.counter h.entries hill.members named.entries slots (subst (λ n. All (MayStand hill.settings n) hill.members) (sym named.counter) is.members);
+  slots = differ;
+}
+
+pub placed_fits : (h : HeaderParts) (hill : Hill) (w : WarriorParts) (fallen : Option ℕ) (slot : ℕ) → IsHeaderParts h → IsNamed h hill → IsHill (after_stay hill w fallen) → h.generation < 2 ^ 64 - 1 → SlotIsFree slot h.entries → slot ≤ h.settings.capacity → IsHeaderParts (header_placed h fallen slot)
+placed_fits h hill w fallen slot is named hill_fits more free slot_fits =
+    header_fits (header_placed h fallen slot) (after_stay hill w fallen) hill_fits (named_placed h hill w fallen slot named) (omega (arith, more)) (let below : h.counter ≤ h.generation = is.counter in omega arith)
+    (up_to_more h.settings.capacity (kept_entries fallen h.entries) (new_entry (h.counter + 1) slot) (up_to_kept fallen h.settings.capacity h.counter h.entries is.entries) slot_fits)
+    (differ_more (kept_entries fallen h.entries) (new_entry (h.counter + 1) slot) (differ_kept fallen h.entries is.slots) (free_kept fallen slot h.entries free))
+
+up_to_all : (capacity counter : ℕ) (es : List HeaderEntry) → All (IsEntry capacity counter) es → SlotsUpTo capacity es
+up_to_all capacity counter [] are = tt
+up_to_all capacity counter (e ∷ es) are = (first_slot capacity counter e es are, up_to_all capacity counter es (All-tail (IsEntry capacity counter) e es are))
+
+-- a fall changes the counter alone
+may_more : (s : RawSettings) (counter : ℕ) (ms : List Member) → All (MayStand s counter) ms → All (MayStand s (counter + 1)) ms
+may_more s counter [] may = All-nil (MayStand s (counter + 1))
+may_more s counter (m ∷ ms) may =
+    let this : MayStand s counter m = All-head (MayStand s counter) m ms may in
+    All-cons (MayStand s (counter + 1)) m ms (record {
+      entry = (let low : m.entry ≤ counter = this.entry in omega arith);
+      age = (let low : m.age ≤ counter - m.entry = this.age in omega arith);
+      fits = this.fits;
+    }) (may_more s counter ms (All-tail (MayStand s counter) m ms may))
+
+pub hill_passed : (hill : Hill) → IsHill hill → IsHill (after_fall hill)
+hill_passed hill is = record { settings = is.settings; room = is.room; rising = is.rising; members = may_more hill.settings hill.counter hill.members is.members }
+
+pub passed_fits : (h : HeaderParts) (hill : Hill) → IsHeaderParts h → IsNamed h hill → IsHill hill → h.generation < 2 ^ 64 - 1 → IsHeaderParts (header_passed h)
+passed_fits h hill is named hill_fits more =
+    header_fits (header_passed h) (after_fall hill) (hill_passed hill hill_fits) (named_passed h hill named) (omega (arith, more)) (let below : h.counter ≤ h.generation = is.counter in omega arith)
+    (up_to_all h.settings.capacity h.counter h.entries is.entries) is.slots
+
+-- a ready device stands for its hill
+pub ready_stands : (size : ℕ) (disk : Disk) (h : HeaderParts) (hill : Hill) → sectors_for hill.settings.capacity ≤ size → IsReady disk h hill → Images disk (λ image. Stands size image hill)
+ready_stands size disk h hill room ready = images_settled disk (λ image. Stands size image hill) ready.settled (record { header = h; shows = ready.shows; room = room })
+
+either_stands : (size : ℕ) (disk : Disk) (h next : HeaderParts) (old new : Hill) → sectors_for old.settings.capacity ≤ size → sectors_for new.settings.capacity ≤ size → Images disk (Either h next old new) → Images disk (λ image. Stands size image old ⊎ Stands size image new)
+either_stands size disk h next old new old_room new_room each image is = elim (each image is) [
+  | inl shows ↦ inl (record { header = h; shows = shows; room = old_room })
+  | inr shows ↦ inr (record { header = next; shows = shows; room = new_room })
+]
+
+-- what a warrior that stays needs of a ready device
+pub record MayPlace (disk : Disk) (h : HeaderParts) (hill : Hill) (w : WarriorParts) (fallen : Option ℕ) (slot : ℕ) : Type 0 where
+  pub ready : IsReady disk h hill
+  pub free : SlotIsFree slot h.entries
+  pub fits : Fits hill.settings w
+  pub titled : IsTitled w
+  pub header : IsHeaderParts (header_placed h fallen slot)
+
+placing : (disk : Disk) (h : HeaderParts) (hill : Hill) (w : WarriorParts) (fallen : Option ℕ) (slot : ℕ) → MayPlace disk h hill w fallen slot → IsPlacing disk h (header_placed h fallen slot) slot w hill (after_stay hill w fallen)
+placing disk h hill w fallen slot may = record {
+  settled = may.ready.settled;
+  before = may.ready.shows;
+  free = may.free;
+  behind = shows_placed (current disk) h hill fallen slot w may.free (record { fits = may.fits; titled = may.titled; front_is = refl; back_is = refl }) may.header may.ready.shows;
+}
+
+pub ready_placed : (disk new : Disk) (h : HeaderParts) (hill : Hill) (w : WarriorParts) (fallen : Option ℕ) (slot : ℕ) → MayPlace disk h hill w fallen slot → new ≡ after (places (header_placed h fallen slot) slot w) disk → IsReady new (header_placed h fallen slot) (after_stay hill w fallen)
+ready_placed disk new h hill w fallen slot may made =
+    subst (λ d. IsReady d (header_placed h fallen slot) (after_stay hill w fallen)) (sym made)
+    (placed disk h (header_placed h fallen slot) slot w hill (after_stay hill w fallen) (placing disk h hill w fallen slot may))
+
+pub cut_placed : (size : ℕ) (disk new : Disk) (h : HeaderParts) (hill : Hill) (w : WarriorParts) (fallen : Option ℕ) (slot : ℕ) → sectors_for hill.settings.capacity ≤ size → MayPlace disk h hill w fallen slot → Begun (places (header_placed h fallen slot) slot w) disk new → Images new (λ image. Stands size image hill ⊎ Stands size image (after_stay hill w fallen))
+cut_placed size disk new h hill w fallen slot room may begun =
+    either_stands size new h (header_placed h fallen slot) hill (after_stay hill w fallen) room room
+    (place_stopped disk new h (header_placed h fallen slot) slot w hill (after_stay hill w fallen) (placing disk h hill w fallen slot may) begun)
+
+passing : (disk : Disk) (h : HeaderParts) (hill : Hill) → IsReady disk h hill → IsHeaderParts (header_passed h) → IsStep (current disk) h (header_passed h) hill (after_fall hill)
+passing disk h hill ready fits = record { before = ready.shows; behind = shows_passed (current disk) h hill fits ready.shows }
+
+pub ready_passed : (disk new : Disk) (h : HeaderParts) (hill : Hill) → IsReady disk h hill → IsHeaderParts (header_passed h) → new ≡ after (commits (header_passed h)) disk → IsReady new (header_passed h) (after_fall hill)
+ready_passed disk new h hill ready fits made =
+    subst (λ d. IsReady d (header_passed h) (after_fall hill)) (sym made) (committed disk h (header_passed h) hill (after_fall hill) (passing disk h hill ready fits))
+
+pub cut_passed : (size : ℕ) (disk new : Disk) (h : HeaderParts) (hill : Hill) → sectors_for hill.settings.capacity ≤ size → IsReady disk h hill → IsHeaderParts (header_passed h) → Begun (commits (header_passed h)) disk new → Images new (λ image. Stands size image hill ⊎ Stands size image (after_fall hill))
+cut_passed size disk new h hill room ready fits begun =
+    either_stands size new h (header_passed h) hill (after_fall hill) room room
+    (commit_stopped disk new h (header_passed h) hill (after_fall hill) ready.settled (passing disk h hill ready fits) begun)

@@ -1,0 +1,30 @@
+-- A header and the hill that it names.
+use Rattle.std.specs.Prelude.{◌≡◌, ℕ, ◌≤◌, Bool, false, List, [], ◌∷◌}
+use Rattle.war_types.specs.declared.settings.RawSettings.{RawSettings}
+use Rattle.sector_disk.specs.Disk.{Disk}
+use Rattle.koth_hill.specs.Hill.{Member, Hill, IsHill}
+use Rattle.hill_bytes.specs.declared.header.HeaderEntry.{HeaderEntry}
+use Rattle.hill_bytes.specs.Layout.{HeaderParts, IsHeaderParts, sectors_for}
+use Rattle.hill_images.specs.Stands.{IsReady}
+
+-- entries and members agree one by one
+abbrev pub Agree : List HeaderEntry → List Member → Type 0
+Agree [] [] = Unit {0}
+Agree [] (m ∷ ms) = ⊥
+Agree (e ∷ es) [] = ⊥
+Agree (e ∷ es) (m ∷ ms) = (m.entry ≡ e.entry) × (m.age ≡ e.age) × Agree es ms
+
+-- the header names those on the hill
+pub record IsNamed (h : HeaderParts) (hill : Hill) : Type 0 where
+  pub settings : h.settings ≡ hill.settings
+  pub counter : h.counter ≡ hill.counter
+  pub entries : Agree h.entries hill.members
+
+-- what every store keeps
+pub record IsSound {D : Type 0} (size : D → ℕ) (is_lawful : D → Type 0) (disk : D → Disk) (device : D) (h : HeaderParts) (hill : Hill) (arena : RawSettings) (reopen : Bool) : Type 0 where
+  pub room : sectors_for hill.settings.capacity ≤ size device
+  pub arena_of : arena ≡ hill.settings
+  pub header : IsHeaderParts h
+  pub is_hill : IsHill hill
+  pub named : IsNamed h hill
+  pub ready : is_lawful device → reopen ≡ false → IsReady (disk device) h hill

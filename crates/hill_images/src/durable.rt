@@ -1,0 +1,45 @@
+//! The durable order: what is written of a submission, and when it has reached the disk.
+
+ghost use Rattle.std.specs.Prelude.{◌≡◌, ◌<◌, ◌≤◌};
+ghost use Rattle.sector_disk.specs.Changes.{Changes};
+ghost use Rattle.sector_disk.specs.Served.{IsServed};
+ghost use Rattle.hill_bytes.specs.Layout.{front_bytes, back_bytes, back_sector, IsTitled};
+ghost use Rattle.hill_images.specs.Places.{commits, places};
+
+use hill_bytes::{Header, Slot, encode_header};
+use sector_disk::{Device, Fault};
+use std::alloc::Allocator;
+use war_types::Warrior;
+
+/// Places a warrior: both sectors of its slot, and only when these have reached the disk the header that names it.
+pub fn place<D: Device, A: Allocator>(
+    device: &mut D,
+    header: &Header,
+    slot: u8,
+    warrior: &Warrior<A>,
+) -> Result<(), Fault>
+    requires { back_sector slot < D.size device.old }
+    ensures served { IsServed D.size D.lawful D.failures device.old device.new result }
+    ensures titled { IsTitled warrior.now }
+    ensures changes { D.lawful device.old → Changes (places header.now slot warrior.now) (D.disk device.old) (D.disk device.new) result }
+{
+    let sectors = Slot::encode(warrior);
+    device.write(2 + 2 * u32::from(slot), &sectors.front)?;
+    device.write(3 + 2 * u32::from(slot), &sectors.back)?;
+    device.sync()?;
+    commit(device, header)?;
+    Ok(())
+}
+
+/// Writes a header, in the sector of its generation's parity. The one before it stays in the other until this one has
+/// reached the disk.
+pub fn commit<D: Device>(device: &mut D, header: &Header) -> Result<(), Fault>
+    requires { 2 ≤ D.size device.old }
+    ensures served { IsServed D.size D.lawful D.failures device.old device.new result }
+    ensures changes { D.lawful device.old → Changes (commits header.now) (D.disk device.old) (D.disk device.new) result }
+{
+    let sector = (header.generation() % 2) as u32;
+    device.write(sector, &encode_header(header))?;
+    device.sync()?;
+    Ok(())
+}

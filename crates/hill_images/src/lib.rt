@@ -1,0 +1,24 @@
+//! The images of a hill's device: what is written of a hill, in which order, and what opening finds. It stands on the bytes of
+//! `hill_bytes`, and knows warriors, but not the language of their sources.
+//!
+//! Data passes through the modules in this order: `entries` is the next header, and the slot that is free for a warrior; `durable`
+//! writes a slot and then the header that names it; `found` is the newest header that a device holds; `opening` writes the first
+//! header of a hill, or reads one back, and `refusal` says why it doesn't; `laws` are laws of the definitions.
+//!
+//! The main clauses: `place` and `commit` make the changes of `Places` in `specs` or begin them; `recover` answers the hill that
+//! the device reads as, settled so that no stop can lose it, or why there is none (`Opening`); an image stands for one hill at
+//! most (`Stands`, `Laws`). The lemmas of `Submitted` say what every image stands for after a stop.
+#![tactic(auto)]
+
+mod durable;
+mod entries;
+mod found;
+mod laws;
+mod opening;
+mod refusal;
+
+pub use durable::{commit, place};
+pub use entries::{free_slot, header_passed, header_placed};
+pub use laws::laws_of_storage;
+pub use opening::{Recovered, recover, sectors_for, write_first};
+pub use refusal::Refusal;

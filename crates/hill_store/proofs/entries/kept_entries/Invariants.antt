@@ -1,6 +1,0 @@
-use Rattle.std.proofs.Common.{◌≡◌, ◌≤◌, length, take}
-use Rattle.hill_store.specs.Places.{kept_entries}
-use Rattle.hill_store.proofs.entries.kept_entries.Given as goal
-
-abbrev pub invariant-loop-e : goal.invariant-loop-e
-invariant-loop-e l = (l.kept ≡ kept_entries l.falls (take l.e-index l.entries)) × (length l.kept ≤ l.e-index)

@@ -1,9 +1,0 @@
-//! Laws of the definitions, each the contract of a function that does nothing.
-
-ghost use Rattle.hill_store.specs.Laws.{LawsOfStorage};
-
-/// What is stored has one meaning: bytes are one header's at most, two sectors hold one warrior at most, and an image stands
-/// for one hill at most.
-pub fn laws_of_storage()
-    ensures { LawsOfStorage }
-{}
