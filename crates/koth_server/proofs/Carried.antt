@@ -8,19 +8,19 @@ use Rattle.clap.specs.Walk.{Row, Text}
 use Rattle.war_types.specs.declared.settings.RawSettings.{RawSettings}
 use Rattle.war_types.specs.declared.settings.SettingsFault.{SettingsFault}
 use Rattle.war_types.specs.Settings.{settings_of}
-use Rattle.koth_server.specs.Asm.{EndsAsm}
-use Rattle.koth_server.specs.Failure.{failure_line}
-use Rattle.koth_server.specs.Fight.{EndsFight}
+use Rattle.koth_commands.specs.Asm.{EndsAsm}
+use Rattle.koth_commands.specs.Failure.{failure_line}
+use Rattle.koth_commands.specs.Fight.{EndsFight}
 use Rattle.koth_server.specs.Hills.{EndsCreate, EndsHill, EndsServe, Said, SaysCreated, SaysReply, SaysTable, listening_line}
 use Rattle.koth_words.specs.Options.{settings_in}
 use Rattle.koth_server.specs.Run.{EndsRequest, EndsWithout, unread}
-use Rattle.koth_session.specs.Written.{WritesPart}
-use Rattle.koth_server.specs.Streams.{Streams, streams}
+use Rattle.koth_protocol.specs.Written.{WritesPart}
+use Rattle.koth_commands.specs.Streams.{Streams, streams}
 use Rattle.koth_words.specs.Words.{AsksBy, IsRefusal, given_in}
-use Rattle.koth_server.specs.declared.failure.Failure.TheVariants as failures
+use Rattle.koth_commands.specs.declared.failure.Failure.TheVariants as failures
 use Rattle.koth_server.specs.declared.hill_fault.HillFault.TheVariants.{Failed}
-use Rattle.koth_server.specs.declared.status.Status.{Status}
-use Rattle.koth_server.specs.declared.status.Status.TheVariants.{NoMemory, WordFault}
+use Rattle.koth_commands.specs.declared.status.Status.{Status}
+use Rattle.koth_commands.specs.declared.status.Status.TheVariants.{NoMemory, WordFault}
 use Rattle.koth_words.specs.declared.words.NoRequest.{NoRequest}
 use Rattle.koth_words.specs.declared.words.NoRequest.TheVariants as reasons
 use Rattle.koth_words.specs.declared.words.Request.{Request}

@@ -1,5 +1,4 @@
 mod Carried
-mod Ends
 mod Listening
-mod Parts
-mod Sources
+mod StillOpen
+mod Statuses

@@ -2,14 +2,14 @@
 use Rattle.std.specs.Prelude.{ℕ, List, codes}
 use Rattle.sector_disk.specs.declared.file_device.FileFault.{FileFault}
 use Rattle.sector_disk.specs.declared.file_device.FileFault.TheVariants as files
-use Rattle.hill_store.specs.declared.reply.Refusal.{Refusal}
-use Rattle.hill_store.specs.declared.reply.Refusal.TheVariants as refusals
-use Rattle.koth_server.specs.Failure.{failure_line, failure_status}
-use Rattle.koth_server.specs.declared.failure.Failure.TheVariants as failures
+use Rattle.hill_images.specs.declared.refusal.Refusal.{Refusal}
+use Rattle.hill_images.specs.declared.refusal.Refusal.TheVariants as refusals
+use Rattle.koth_commands.specs.Failure.{failure_line, failure_status}
+use Rattle.koth_commands.specs.declared.failure.Failure.TheVariants as failures
 use Rattle.koth_server.specs.declared.hill_fault.HillFault.{HillFault}
 use Rattle.koth_server.specs.declared.hill_fault.HillFault.TheVariants.{TooSmall, Occupied, NotAHill, Damaged, Failed}
-use Rattle.koth_server.specs.declared.status.Status.{Status}
-use Rattle.koth_server.specs.declared.status.Status.TheVariants as statuses
+use Rattle.koth_commands.specs.declared.status.Status.{Status}
+use Rattle.koth_commands.specs.declared.status.Status.TheVariants as statuses
 
 -- the line on the standard error
 abbrev pub fault_line : HillFault → List ℕ

@@ -9,27 +9,18 @@ use Rattle.koth_hill.specs.Table.{table}
 use Rattle.hill_store.specs.Opened.{IsCreated}
 use Rattle.hill_store.specs.Seen.{Seen, Submits}
 use Rattle.hill_store.specs.declared.reply.Reply.{Reply}
-use Rattle.hill_store.specs.declared.reply.Reply.TheVariants as replies
-use Rattle.koth_session.specs.Reply.{reply_line, show_text}
-use Rattle.koth_session.specs.Written.{WritesPart}
-use Rattle.koth_server.specs.Answer.{KeepsAll, RefusesSettings, Tells}
+use Rattle.koth_protocol.specs.Table.{show_text}
+use Rattle.koth_session.specs.Reply.{reply_line}
+use Rattle.koth_protocol.specs.Written.{WritesPart}
+use Rattle.koth_commands.specs.Answer.{KeepsAll, RefusesSettings, Tells}
 use Rattle.koth_server.specs.HillFault.{fault_line, fault_status}
-use Rattle.koth_server.specs.Streams.{Streams}
-use Rattle.koth_server.specs.declared.failure.Failure.TheVariants as kinds
+use Rattle.koth_server.specs.ReplyStatus.{reply_status}
+use Rattle.koth_commands.specs.Streams.{Streams}
+use Rattle.koth_commands.specs.declared.failure.Failure.TheVariants as kinds
 use Rattle.koth_server.specs.declared.hill_fault.HillFault.{HillFault}
 use Rattle.koth_server.specs.declared.hill_fault.HillFault.TheVariants as faults
-use Rattle.koth_server.specs.declared.status.Status.{Status}
-use Rattle.koth_server.specs.declared.status.Status.TheVariants as statuses
-
--- how `submit` ends with a reply
-abbrev pub reply_status : Reply → Status
-reply_status (replies.Placed entry rank score) = statuses.Done
-reply_status (replies.Fell entry score) = statuses.Done
-reply_status (replies.Refused fault) = statuses.Refused
-reply_status replies.Worn = statuses.Refused
-reply_status replies.Memory = statuses.NoMemory
-reply_status replies.Disk = statuses.StreamFault
-reply_status replies.Reopen = statuses.StreamFault
+use Rattle.koth_commands.specs.declared.status.Status.{Status}
+use Rattle.koth_commands.specs.declared.status.Status.TheVariants as statuses
 
 -- the line that tells the port
 abbrev pub listening_line : ℕ → List ℕ

@@ -2,15 +2,15 @@
 use Rattle.std.specs.Prelude.{◌≡◌, ◌≢◌, ℕ, None}
 use Rattle.std.specs.Io.KnownBytes.{Keeps}
 use Rattle.war_types.specs.Settings.{settings_of}
-use Rattle.koth_server.specs.Answer.{Tells}
-use Rattle.koth_server.specs.Asm.{EndsAsm}
-use Rattle.koth_server.specs.Fight.{EndsFight}
+use Rattle.koth_commands.specs.Answer.{Tells}
+use Rattle.koth_commands.specs.Asm.{EndsAsm}
+use Rattle.koth_commands.specs.Fight.{EndsFight}
 use Rattle.koth_server.specs.Hills.{EndsCreate, EndsHill, EndsServe, SaysReply, SaysTable}
-use Rattle.koth_server.specs.Status.{status_code}
-use Rattle.koth_server.specs.Streams.{Streams, streams}
-use Rattle.koth_server.specs.declared.failure.Failure.TheVariants as failures
-use Rattle.koth_server.specs.declared.status.Status.{Status}
-use Rattle.koth_server.specs.declared.status.Status.TheVariants as statuses
+use Rattle.koth_commands.specs.Status.{status_code}
+use Rattle.koth_commands.specs.Streams.{Streams, streams}
+use Rattle.koth_commands.specs.declared.failure.Failure.TheVariants as failures
+use Rattle.koth_commands.specs.declared.status.Status.{Status}
+use Rattle.koth_commands.specs.declared.status.Status.TheVariants as statuses
 use Rattle.koth_words.specs.declared.words.NoRequest.{NoRequest}
 use Rattle.koth_words.specs.declared.words.NoRequest.TheVariants as reasons
 use Rattle.koth_words.specs.declared.words.Request.{Request}

@@ -4,14 +4,11 @@ ghost use Rattle.std.specs.Prelude.{◌≡◌, ◌≢◌, None, OnOk};
 ghost use Rattle.std.specs.Io.KnownBytes.{Keeps};
 ghost use Rattle.war_types.specs.Settings.{settings_of};
 ghost use Rattle.koth_server.specs.Hills.{CreatesOn, EndsCreate, EndsHill, SaysCreated, Tries};
-ghost use Rattle.koth_server.specs.Streams.{streams};
+ghost use Rattle.koth_commands.specs.Streams.{streams};
 
-use crate::answer::refuse_settings;
-use crate::failure::Failure;
 use crate::hill_fault::{HillFault, fault_of_file, fault_of_refusal};
-use crate::status::Status;
-use crate::stream::{StreamFault, write_whole};
 use hill_store::{Store, sectors_for};
+use koth_commands::{Failure, Status, StreamFault, refuse_settings, write_whole};
 use sector_disk::{Device, FileDevice};
 use std::alloc::Allocator;
 use std::io::Write;
@@ -87,7 +84,7 @@ fn create_on<D: Device + Drop, A: Allocator + Copy>(
 {
     match Store::create(alloc, device, settings) {
         Ok(_) => Ok(()),
-        Err((_, refusal)) => Err(fault_of_refusal(refusal)),
+        Err((_device, refusal)) => Err(fault_of_refusal(refusal)),
     }
 }
 

@@ -2,12 +2,10 @@
 
 ghost use Rattle.std.specs.Prelude.{◌≡◌};
 ghost use Rattle.koth_server.specs.HillFault.{fault_of_file, fault_of_refusal};
-ghost use Rattle.koth_session.specs.Written.{WritesPart};
+ghost use Rattle.koth_protocol.specs.Written.{WritesPart};
 
-use crate::failure::Failure;
-use crate::status::Status;
-use crate::stream::write_whole;
 use hill_store::Refusal;
+use koth_commands::{Failure, Status, write_whole};
 use sector_disk::FileFault;
 use std::io::Write;
 

@@ -4,22 +4,20 @@ ghost use Rattle.std.specs.Prelude.{◌≡◌, ◌≢◌, ◌⊎◌, None, true,
 ghost use Rattle.std.specs.Io.KnownBytes.{Keeps};
 ghost use Rattle.clap.specs.Words.{takes};
 ghost use Rattle.war_types.specs.Settings.{settings_of};
-ghost use Rattle.koth_server.specs.Asm.{EndsAsm};
-ghost use Rattle.koth_server.specs.Fight.{EndsFight};
+ghost use Rattle.koth_commands.specs.Asm.{EndsAsm};
+ghost use Rattle.koth_commands.specs.Fight.{EndsFight};
 ghost use Rattle.koth_server.specs.Hills.{EndsCreate, EndsHill, EndsServe, SaysReply, SaysTable};
 ghost use Rattle.koth_server.specs.Run.{EndsRequest, EndsWithout, Leaves};
-ghost use Rattle.koth_server.specs.Streams.{streams};
+ghost use Rattle.koth_commands.specs.Streams.{streams};
 ghost use Rattle.koth_words.specs.Words.{koth_app, settings_named, AreWrong, AsksFor};
 
-use crate::asm::asm;
 use crate::create::create;
-use crate::failure::Failure;
-use crate::fight::fight;
 use crate::serve::serve;
 use crate::show::show;
-use crate::status::Status;
-use crate::stream::{StreamFault, write_whole};
 use crate::submit::submit;
+use koth_commands::asm::asm;
+use koth_commands::fight::fight;
+use koth_commands::{Failure, Status, StreamFault, write_whole};
 use koth_words::{NoRequest, Request, parse};
 use std::alloc::{Allocator, Global};
 use std::io::{Read, Write};

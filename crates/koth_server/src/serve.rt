@@ -2,21 +2,20 @@
 
 ghost use Rattle.std.specs.Prelude.{◌≡◌, ◌≢◌, None, false, IfOk, IfSome};
 ghost use Rattle.koth_server.specs.Hills.{listening_line, EndsServe, TriesServe};
-ghost use Rattle.koth_server.specs.Streams.{streams};
+ghost use Rattle.koth_commands.specs.Streams.{streams};
 
-use crate::failure::Failure;
 use crate::files::open_hill;
 use crate::hill_fault::HillFault;
-use crate::status::Status;
-use crate::stream::{StreamFault, write_whole};
 use hill_store::Store;
-use koth_session::{Counted, Line, SessionEnd, session};
+use koth_commands::{Failure, Status, StreamFault, write_whole};
+use koth_protocol::{Counted, Line};
+use koth_session::{SessionEnd, session};
 use koth_words::Service;
 use sector_disk::{Device, FileDevice};
 use std::alloc::Allocator;
 use std::io;
 use std::io::{Read, Write};
-use std::net::{Ipv4Addr, Net, OpenListener, OpenStream, SocketAddr, TcpListener};
+use std::net::{Ipv4Addr, Net, OpenListener, OpenStream, SocketAddr, SocketAddrV4, TcpListener};
 use std::rt::Files;
 use std::time::Duration;
 
@@ -76,7 +75,10 @@ fn serve_file<R: Files + Net, A: Allocator + Copy, O: Write>(
         Ok(store) => store,
         Err(fault) => return Err(fault),
     };
-    let Ok((listener, port)) = listen(rt, service.port) else {
+    let Ok(listener) = listen(rt, service.port) else {
+        return Err(HillFault::Failed(Failure::Stream));
+    };
+    let Ok(port) = port_of(&listener) else {
         return Err(HillFault::Failed(Failure::Stream));
     };
     match write_whole(output, listening_line(port).as_slice()) {
@@ -94,11 +96,14 @@ fn serve_file<R: Files + Net, A: Allocator + Copy, O: Write>(
     }
 }
 
-/// A listener at this port of 127.0.0.1, and the port, which the system chooses where 0 is asked for.
-fn listen<R: Net>(rt: &R, port: u16) -> io::Result<(R::Listener, u16)> {
-    let listener = TcpListener::bind(rt, SocketAddr::from((Ipv4Addr::LOCALHOST, port)))?;
-    let port = listener.local_addr()?.port();
-    Ok((listener, port))
+/// A listener at this port of 127.0.0.1, or at one that the system chooses where 0 is asked for.
+fn listen<R: Net>(rt: &R, port: u16) -> io::Result<R::Listener> {
+    TcpListener::bind(rt, SocketAddr::V4(SocketAddrV4::new(Ipv4Addr::LOCALHOST, port)))
+}
+
+/// The port that peers connect to.
+fn port_of<L: OpenListener>(listener: &L) -> io::Result<u16> {
+    Ok(listener.local_addr()?.port())
 }
 
 fn listening_line(port: u16) -> Line

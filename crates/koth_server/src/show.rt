@@ -2,14 +2,12 @@
 
 ghost use Rattle.std.specs.Prelude.{◌≡◌, ◌≢◌, None};
 ghost use Rattle.koth_server.specs.Hills.{EndsHill, SaysTable, ShowsOf, Tries};
-ghost use Rattle.koth_server.specs.Streams.{streams};
+ghost use Rattle.koth_commands.specs.Streams.{streams};
 
-use crate::failure::Failure;
 use crate::files::open_hill;
 use crate::hill_fault::HillFault;
-use crate::status::Status;
-use crate::stream::{StreamFault, write_whole};
 use hill_store::Store;
+use koth_commands::{Failure, Status, StreamFault, write_whole};
 use koth_session::table_of;
 use sector_disk::Device;
 use std::alloc::{AllocError, Allocator};

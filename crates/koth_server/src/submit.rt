@@ -1,16 +1,14 @@
 //! The command `submit`: one submission to the hill in a file.
 
-ghost use Rattle.std.specs.Prelude.{◌≡◌, ◌≢◌, None};
-ghost use Rattle.koth_server.specs.Hills.{reply_status, EndsHill, SaysReply, SubmitsTo, Tries};
-ghost use Rattle.koth_server.specs.Streams.{streams};
+ghost use Rattle.std.specs.Prelude.{◌≢◌, None};
+ghost use Rattle.koth_server.specs.Hills.{EndsHill, SaysReply, SubmitsTo, Tries};
+ghost use Rattle.koth_commands.specs.Streams.{streams};
 
-use crate::answer::source_buffer;
-use crate::failure::Failure;
-use crate::files::{open_hill, read_file};
+use crate::files::open_hill;
 use crate::hill_fault::HillFault;
-use crate::status::Status;
-use crate::stream::{StreamFault, write_whole};
-use hill_store::{Reply, Store};
+use crate::reply_status::status_of;
+use hill_store::Store;
+use koth_commands::{Failure, Status, StreamFault, read_file, source_buffer, write_whole};
 use koth_session::line_of;
 use koth_words::Submission;
 use sector_disk::Device;
@@ -73,17 +71,5 @@ fn submit_source<D: Device, A: Allocator + Copy, O: Write>(
     match write_whole(output, line_of(&reply).as_slice()) {
         Ok(()) => Ok(status_of(&reply)),
         Err(StreamFault) => Err(HillFault::Failed(Failure::Stream)),
-    }
-}
-
-/// How the program ends with a reply.
-fn status_of(reply: &Reply) -> Status
-    ensures { result ≡ reply_status reply.now }
-{
-    match reply {
-        Reply::Placed { .. } | Reply::Fell { .. } => Status::Done,
-        Reply::Refused(_) | Reply::Worn => Status::Refused,
-        Reply::Memory => Status::NoMemory,
-        Reply::Disk | Reply::Reopen => Status::StreamFault,
     }
 }

@@ -4,10 +4,10 @@ use Rattle.std.proofs.KnownBytes.{Consumes-trans}
 use Rattle.std.proofs.lemmas.List.{length-append, length-take-le, take_all}
 use Rattle.std.specs.Io.KnownBytes.{Consumes}
 use Rattle.sector_disk.specs.Disk.{Disk}
-use Rattle.koth_session.specs.Commands.{commands_of}
+use Rattle.koth_protocol.specs.Commands.{commands_of}
 use Rattle.koth_session.specs.Sessions.{AnswersAll, AnswersFirst, EndsSo, Goes, Scene, Stopped, WentOn}
 use Rattle.koth_session.specs.Transcript.{commands_in}
-use Rattle.koth_session.specs.declared.script.Script.{Script}
+use Rattle.koth_protocol.specs.declared.script.Script.{Script}
 use Rattle.koth_session.specs.declared.sessions.SessionEnd.{SessionEnd}
 use Rattle.koth_session.specs.declared.sessions.SessionEnd.TheVariants as ends
 use Rattle.koth_session.proofs.Holding.{holds_at, keeps_list}

@@ -7,8 +7,8 @@ use Rattle.koth_hill.specs.Hill.{Hill}
 use Rattle.koth_hill.specs.Step.{new_hill}
 use Rattle.hill_store.specs.Earned.{earned, step_source, steps}
 use Rattle.hill_store.specs.Seen.{Seen}
-use Rattle.hill_store.specs.Stands.{Stands}
-use Rattle.koth_session.specs.Commands.{Command}
+use Rattle.hill_images.specs.Stands.{Stands}
+use Rattle.koth_protocol.specs.Commands.{Command}
 use Rattle.koth_session.specs.Sessions.{Answers, HoldsAt, IsAnsweredTo, IsCutOff, IsServed, KeepsCut, KeepsList, Scene}
 use Rattle.koth_session.specs.Transcript.{Exchange, Mark, hill_after, submitted}
 use Rattle.koth_session.specs.declared.sessions.SessionEnd.{SessionEnd}

@@ -5,14 +5,14 @@ use Rattle.std.proofs.KnownBytes.{Appends-nil, Appends-trans, Keeps-refl}
 use Rattle.sector_disk.specs.Disk.{Disk}
 use Rattle.koth_hill.specs.Hill.{Hill}
 use Rattle.hill_store.specs.Seen.{Seen}
-use Rattle.koth_session.specs.Commands.{Command, commands_from}
-use Rattle.koth_session.specs.Lines.{lines_from}
-use Rattle.koth_session.specs.Reading.{IsReading, Reads, commands_met}
+use Rattle.koth_protocol.specs.Commands.{Command, commands_from}
+use Rattle.koth_protocol.specs.Lines.{lines_from}
+use Rattle.koth_protocol.specs.Reading.{IsReading, Reads, commands_met}
 use Rattle.koth_session.specs.Sessions.{Answers, Goes, HasWorn, IsAnsweredTo, IsServed, Scene, Stopped, WentOn}
 use Rattle.koth_session.specs.Transcript.{Exchange, Mark, answer, command_in, commands_in, hill_after, hill_next, transcript}
-use Rattle.koth_session.specs.declared.script.Met.{Met}
-use Rattle.koth_session.specs.declared.script.Met.TheVariants as met
-use Rattle.koth_session.specs.declared.script.Script.{Script}
+use Rattle.koth_protocol.specs.declared.script.Met.{Met}
+use Rattle.koth_protocol.specs.declared.script.Met.TheVariants as met
+use Rattle.koth_protocol.specs.declared.script.Script.{Script}
 use Rattle.koth_session.specs.declared.sessions.SessionEnd.{SessionEnd}
 use Rattle.koth_session.specs.declared.sessions.SessionEnd.TheVariants as ends
 

@@ -5,14 +5,14 @@ use Rattle.std.proofs.KnownBytes.{Keeps-refl}
 use Rattle.sector_disk.specs.Disk.{Disk}
 use Rattle.sector_disk.specs.Image.{Images}
 use Rattle.hill_store.specs.Seen.{IsAnswered, Seen, Submits}
-use Rattle.hill_store.specs.Stands.{Stands}
+use Rattle.hill_images.specs.Stands.{Stands}
 use Rattle.hill_store.specs.Earned.{step_source}
 use Rattle.hill_store.specs.declared.reply.Reply.{Reply}
 use Rattle.hill_store.specs.declared.reply.Reply.TheVariants as replies
-use Rattle.koth_session.specs.Commands.{Command}
+use Rattle.koth_protocol.specs.Commands.{Command}
 use Rattle.koth_session.specs.Reply.{reply_line}
 use Rattle.koth_session.specs.Sessions.{Answers, HasWorn, IsServed, Scene, has_failed, said, scene}
-use Rattle.koth_session.specs.Written.{WritesPart}
+use Rattle.koth_protocol.specs.Written.{WritesPart}
 use Rattle.koth_session.specs.Transcript.{Exchange, Mark, answer, command_in, hill_after}
 use Rattle.koth_session.specs.declared.sessions.SessionEnd.TheVariants as ends
 use Rattle.koth_session.proofs.Serving.{served_same}

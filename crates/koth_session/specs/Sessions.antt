@@ -8,14 +8,15 @@ use Rattle.hill_store.specs.Earned.{earned, step_source}
 use Rattle.hill_store.specs.Seen.{Seen}
 use Rattle.hill_store.specs.declared.reply.Reply.{Reply}
 use Rattle.hill_store.specs.declared.reply.Reply.TheVariants as replies
-use Rattle.hill_store.specs.Stands.{Holds, Stands}
-use Rattle.koth_session.specs.Commands.{Command, commands_from, commands_of}
-use Rattle.koth_session.specs.Counted.{Rose}
-use Rattle.koth_session.specs.Lines.{lines_from}
-use Rattle.koth_session.specs.Reading.{IsReading}
-use Rattle.koth_session.specs.Written.{WritesPart}
+use Rattle.hill_store.specs.Holding.{Holds}
+use Rattle.hill_images.specs.Stands.{Stands}
+use Rattle.koth_protocol.specs.Commands.{Command, commands_from, commands_of}
+use Rattle.koth_protocol.specs.Counted.{Rose}
+use Rattle.koth_protocol.specs.Lines.{lines_from}
+use Rattle.koth_protocol.specs.Reading.{IsReading}
+use Rattle.koth_protocol.specs.Written.{WritesPart}
 use Rattle.koth_session.specs.Transcript.{Exchange, Mark, answer, command_in, commands_in, hill_after, submitted, transcript}
-use Rattle.koth_session.specs.declared.script.Script.{Script}
+use Rattle.koth_protocol.specs.declared.script.Script.{Script}
 use Rattle.koth_session.specs.declared.sessions.SessionEnd.{SessionEnd}
 use Rattle.koth_session.specs.declared.sessions.SessionEnd.TheVariants as ends
 

@@ -3,8 +3,9 @@ use Rattle.std.specs.Prelude.{ℕ, List, [], ◌∷◌, ◌++◌, codes}
 use Rattle.koth_hill.specs.Hill.{Hill}
 use Rattle.koth_hill.specs.Table.{table}
 use Rattle.hill_store.specs.Earned.{reply_of, step_source}
-use Rattle.koth_session.specs.Commands.{Command}
-use Rattle.koth_session.specs.Reply.{reply_line, show_text}
+use Rattle.koth_protocol.specs.Commands.{Command}
+use Rattle.koth_protocol.specs.Table.{show_text}
+use Rattle.koth_session.specs.Reply.{reply_line}
 
 -- whether a submission is of the list: it is answered by its reply; or nothing was submitted, for want of memory, or since the
 -- device has taken as many headers as can be counted

@@ -1,30 +1,23 @@
-//! A session of the line protocol: commands come in as bytes, and answers go out as bytes.
+//! A session of the line protocol on a store: commands come in as bytes, and answers go out as bytes.
 //!
-//! It knows the store and two streams, and no words, files or sockets. The modules, in the order in which the data pass:
+//! It knows the store and two streams, and no words, files or sockets. What of the protocol needs no store is
+//! `koth_protocol`'s, and this crate passes it on. The modules, in the order in which the data pass:
 //!
-//! - `counted`: a stream that counts its faults, and a text that is written whole over it;
-//! - `kept` and `script`: what is kept of a line and of a source, and which command each byte brings to its end;
 //! - `sessions`: commands that are taken, carried out on the store and answered, one after the other, and how that ends;
-//! - `line`, `reply` and `table`: the lines of the answers.
+//! - `reply`: the lines of the replies.
 //!
 //! `session` writes the transcript of the commands in the bytes that it took, and nothing else, and leaves the hill of the
 //! submissions that it answered: no stop of the device loses one of these (`ends`). It takes 16,777,216 bytes at most, and
 //! blames a stream only where that stream's count of faults rose. `write_reply` writes exactly the reply's line, or a part
-//! of it where the output fails. `Line`, `line_of` and `table_of` give the program the same lines for its own outputs.
+//! of it where the output fails. `line_of` and `table_of` give the program the same lines for its own outputs.
 //!
 //! An answer must not be written before its submission is stored, and nothing of a submission in which the device failed.
 //! Only the buffers of a session and the text of a table take memory.
 #![tactic(auto)]
 
-mod counted;
-mod kept;
-mod line;
 mod reply;
-mod script;
 mod sessions;
-mod table;
 
-pub use counted::{Counted, ReadFault, WriteFault};
-pub use line::Line;
+pub use koth_protocol::{Counted, Line, ReadFault, WriteFault};
 pub use reply::{line_of, write_reply};
 pub use sessions::{SessionEnd, session, table_of};

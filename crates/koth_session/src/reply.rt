@@ -2,16 +2,14 @@
 
 ghost use Rattle.std.specs.Prelude.{◌≡◌, ◌≤◌, ◌++◌, length, codes, decimal, OnOk, OnErr};
 ghost use Rattle.std.specs.Io.KnownBytes.{Appends};
-ghost use Rattle.koth_session.specs.Reply.{refusal_line};
-ghost use Rattle.koth_session.specs.Counted.{Rose};
+ghost use Rattle.koth_protocol.specs.Counted.{Rose};
+ghost use Rattle.koth_protocol.specs.Refusal.{refusal_line};
+ghost use Rattle.koth_protocol.specs.Written.{WritesPart};
 ghost use Rattle.koth_session.specs.Reply.{reply_line};
-ghost use Rattle.koth_session.specs.Written.{WritesPart};
 
-use crate::counted::{Counted, WriteFault, send};
-use crate::line::Line;
 use hill_store::Reply;
+use koth_protocol::{Counted, Line, WriteFault, refusal_line, send};
 use std::io::Write;
-use war_types::AsmFault;
 
 /// Writes the line of a reply:
 ///
@@ -40,7 +38,7 @@ pub fn line_of(reply: &Reply) -> Line
     match *reply {
         Reply::Placed { entry, rank, score } => placed_line(entry, rank, score),
         Reply::Fell { entry, score } => fell_line(entry, score),
-        Reply::Refused(fault) => refused_line(fault),
+        Reply::Refused(fault) => refusal_line(fault),
         Reply::Memory => word_line(b"MEMORY\n"),
         Reply::Worn => word_line(b"WORN\n"),
         Reply::Disk => word_line(b"DISK\n"),
@@ -70,18 +68,6 @@ fn fell_line(entry: u64, score: u32) -> Line
     line.put_number(entry);
     line.put(b" ");
     line.put_number(u64::from(score));
-    line.put(b"\n");
-    line
-}
-
-fn refused_line(fault: AsmFault) -> Line
-    ensures { result ≡ refusal_line fault }
-{
-    let mut line = Line::new();
-    line.put(b"REFUSED ");
-    line.put_number(u64::from(fault.line));
-    line.put(b" ");
-    line.put_kind(fault.kind);
     line.put(b"\n");
     line
 }

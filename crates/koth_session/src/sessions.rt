@@ -3,17 +3,15 @@
 ghost use Rattle.std.specs.Prelude.{◌≡◌, ◌≢◌, ◌<◌, ◌≤◌, ℕ, [], ◌∷◌, List, None, Option, Some, length, take, IfOk, OnOk, OnErr};
 ghost use Rattle.std.specs.Io.KnownBytes.{Consumes, IsAtEnd, Keeps};
 ghost use Rattle.koth_hill.specs.Table.{table};
-ghost use Rattle.koth_session.specs.Commands.{Command};
-ghost use Rattle.koth_session.specs.Counted.{Rose};
-ghost use Rattle.koth_session.specs.Reading.{IsReading};
-ghost use Rattle.koth_session.specs.Reply.{show_text};
+ghost use Rattle.koth_protocol.specs.Commands.{Command};
+ghost use Rattle.koth_protocol.specs.Counted.{Rose};
+ghost use Rattle.koth_protocol.specs.Reading.{IsReading};
+ghost use Rattle.koth_protocol.specs.Table.{show_text};
 ghost use Rattle.koth_session.specs.Sessions.{has_failed, said, scene, Answers, EndsSession, Goes};
 
-use crate::counted::{Counted, ReadFault, WriteFault, send};
 use crate::reply::write_reply;
-use crate::script::{Met, Script};
-use crate::table::show_text;
 use hill_store::{Reply, Store};
+use koth_protocol::{Counted, Met, ReadFault, Script, WriteFault, send, show_text};
 use sector_disk::Device;
 use std::alloc::{AllocError, Allocator};
 use std::io::{Read, Write};
@@ -213,9 +211,13 @@ pub fn table_of<D: Device, A: Allocator + Copy>(
 fn has_failed(reply: &Reply) -> bool
     ensures { result ≡ has_failed reply.now }
 {
-    match reply {
+    match *reply {
         Reply::Disk | Reply::Reopen => true,
-        _ => false,
+        Reply::Placed { .. }
+        | Reply::Fell { .. }
+        | Reply::Refused(_)
+        | Reply::Memory
+        | Reply::Worn => false,
     }
 }
 

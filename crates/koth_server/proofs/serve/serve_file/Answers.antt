@@ -7,4 +7,4 @@ pub returns-in-Err : goal.returns-in-Err
 returns-in-Err g c = (0, no_line _)
 
 pub returns : goal.returns
-returns g c = (c.in-Ok-listen.port, whole_line _ _ c.in-Ok-listen.port _ (search rules) c.in-Ok-write_whole.ensures.whole)
+returns g c = (c.in-Ok-port_of.port, whole_line _ _ c.in-Ok-port_of.port _ (search rules) c.in-Ok-write_whole.ensures.whole)

@@ -1,10 +1,10 @@
 -- What a byte brings to its end is answered.
 use Rattle.std.proofs.Common.{[], ◌∷◌, refl, subst}
-use Rattle.koth_session.specs.Commands.{Command, kept_source}
-use Rattle.koth_session.specs.Reading.{Reads}
+use Rattle.koth_protocol.specs.Commands.{Command, kept_source}
+use Rattle.koth_protocol.specs.Reading.{Reads}
 use Rattle.koth_session.specs.Sessions.{Answers, said, scene}
 use Rattle.koth_session.specs.Transcript.{Exchange}
-use Rattle.koth_session.specs.declared.script.Met.TheVariants as met
+use Rattle.koth_protocol.specs.declared.script.Met.TheVariants as met
 use Rattle.koth_session.proofs.Serving.{command_met, nothing_met, quit_met, served_same}
 use Rattle.koth_session.proofs.Submissions.{answers_said}
 use Rattle.koth_session.proofs.sessions.serve_byte.Goals as goal

@@ -1,0 +1,5 @@
+mod Ends
+mod Outcomes
+mod Parts
+mod Sources
+pub mod Told

@@ -1,0 +1,13 @@
+-- What a read gives goes behind what came before.
+use Rattle.std.proofs.Common.{◌-◌, rules, length, sym, subst}
+use Rattle.std.specs.Io.KnownBytes.{Consumes}
+use Rattle.std.proofs.KnownBytes.{Consumes-trans}
+use Rattle.koth_commands.proofs.Parts.{take-put_mid_more}
+use Rattle.koth_commands.proofs.stream.fill.Goals as goal
+
+pub loop-filled-preserved : goal.loop-filled-preserved
+loop-filled-preserved g c =
+    let from = c.loop-filled.filled in
+    let room = length c.loop-filled.buffer - from in
+    let more = take-put_mid_more from room c.in-Ok.count c.loop-filled.buffer c.read.new.buf c.loop-filled.invariant.0 c.in-Ok.ensures.bound.0 in
+    (search rules, subst (Consumes _ _) (sym more) (Consumes-trans _ _ _ _ _ c.loop-filled.invariant.1 c.in-Ok.ensures.bytes.0))

@@ -1,0 +1,11 @@
+-- What came so far fills the buffer up to here.
+use Rattle.std.proofs.Common.{length, ◌-◌, ◌≤◌, take}
+use Rattle.std.specs.Io.KnownBytes.{Consumes}
+use Rattle.koth_commands.proofs.stream.fill.Given as goal
+
+abbrev pub invariant-loop-filled : goal.invariant-loop-filled
+invariant-loop-filled g l = (l.filled ≤ length l.buffer)
+    × Consumes (g.I.Read.remaining l.initial.input) (g.I.Read.remaining l.input) (take l.filled l.buffer)
+
+abbrev pub decreases-loop-filled : goal.decreases-loop-filled
+decreases-loop-filled g l = length l.buffer - l.filled

@@ -1,0 +1,8 @@
+-- The three streams, how the program ends, and what it tells of a failure.
+pub mod Streams
+pub mod Status
+pub mod Failure
+pub mod Answer
+-- What each command writes and how it ends: `asm`, and `fight`.
+pub mod Asm
+pub mod Fight

@@ -1,0 +1,28 @@
+//! The commands that need no hill: `asm` and `fight`, with what all commands end with and tell.
+//!
+//! It stands on the assembler and on the match, and knows no store, device, session or socket. The modules, in the order in
+//! which the data pass:
+//!
+//! - `stream` and `source`: an input that is read up to a limit, an output that is written whole, and a source in a file;
+//! - `asm`, `fight`: a command each;
+//! - `answer`: what is answered to a source, and to settings that are refused;
+//! - `failure`, `status`: what is told of a stream that failed or of want of memory, and how the program ends.
+//!
+//! `asm` and `fight` say what is written and how the program ends as a function of the settings and of what was read
+//! (`EndsAsm`, `EndsFight`): exactly the load text, the counts or the refusal that the source earns, or a part of it where a
+//! stream failed, and then the failure's line on the errors. Settings are checked before anything is read.
+#![tactic(auto)]
+
+mod answer;
+pub mod asm;
+mod failure;
+pub mod fight;
+mod source;
+mod status;
+mod stream;
+
+pub use answer::refuse_settings;
+pub use failure::Failure;
+pub use source::{read_file, source_buffer};
+pub use status::Status;
+pub use stream::{StreamFault, write_whole};

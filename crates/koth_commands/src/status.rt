@@ -1,0 +1,35 @@
+//! How a run of the program ends.
+
+ghost use Rattle.std.specs.Prelude.{◌≡◌};
+
+/// How a run ends. The order is that of the numbers that the program leaves with, 0 to 4.
+#[derive(Clone, Copy, Debug, PartialEq, Eq)]
+pub enum Status {
+    /// It is done. Help is done too.
+    Done,
+    /// It is refused: a source by the assembler, or a setting that is out of its range.
+    Refused,
+    /// The words ask for nothing that the program does.
+    WordFault,
+    /// A stream or a file failed: opening, a read or a write gave an error, or a write took no byte.
+    StreamFault,
+    /// A growth of memory was refused.
+    NoMemory,
+}
+
+impl Status {
+    ghost use Rattle.koth_commands.specs.Status.{status_code};
+
+    /// The number that the program leaves with.
+    pub fn code(self) -> u8
+        ensures { result ≡ status_code self }
+    {
+        match self {
+            Status::Done => 0,
+            Status::Refused => 1,
+            Status::WordFault => 2,
+            Status::StreamFault => 3,
+            Status::NoMemory => 4,
+        }
+    }
+}

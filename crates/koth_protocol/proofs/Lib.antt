@@ -1,0 +1,6 @@
+mod Cuts
+mod KindNames
+pub mod Parts
+mod ProtocolRows
+mod Readings
+mod RowLines

@@ -1,0 +1,212 @@
+-- What a line makes of a reading, where only its beginning is kept.
+use Rattle.std.proofs.Common.{◌≡◌, ◌≢◌, ◌⊎◌, inl, inr, ℕ, ◌+◌, ◌-◌, ◌<◌, ◌≤◌, ◌==◌, ◌&&◌, Bool, true, false, if◌then◌else◌, suc, List, [], ◌∷◌, ◌++◌, length, take, get_or, eqb-true, Option, None, Some, refl, sym, ap, append_assoc, subst, ◌∙◌, arith, codes}
+use Rattle.std.specs.Str.{bytes_eq}
+use Rattle.std.proofs.lemmas.List.{take-take, take_all, length-take-le}
+use Rattle.koth_protocol.specs.Lines.{without_dot, without_return}
+use Rattle.koth_protocol.specs.Commands.{kept_source, with_line, word_of}
+use Rattle.koth_protocol.specs.Kept.{kept}
+use Rattle.koth_protocol.specs.Reading.{IsReading, IsSourceKept, Reads, TakesCommand, TakesSourceLine}
+use Rattle.koth_protocol.specs.declared.script.Met.{Met}
+use Rattle.koth_protocol.specs.declared.script.Met.TheVariants as met
+use Rattle.koth_protocol.specs.declared.script.Script.{Script}
+use Rattle.koth_protocol.specs.declared.script.Word.TheVariants as words
+use Rattle.std.proofs.lemmas.Bool.{cases_lt}
+use Rattle.std.proofs.lemmas.Bool.Decides.{eqb_tells}
+use Rattle.koth_protocol.proofs.Cuts.{Same, same_append, same_dot, same_entry}
+
+-- ---- the code's line without its carriage return
+
+pub ends_return : (xs : List ℕ) → 0 < length xs → get_or xs (length xs - 1) 0 ≡ 13 → take (length xs - 1) xs ≡ without_return xs
+ends_return [] some is = absurd (omega (arith, some))
+ends_return (x ∷ xs) some is =
+    let last : length (x ∷ xs) - 1 ≡ length xs = omega arith in
+    ap (λ n. take n (x ∷ xs)) last ∙ at x xs (ap (λ n. get_or (x ∷ xs) n 0) (sym last) ∙ is)
+  where
+    at : (x : ℕ) (xs : List ℕ) → get_or (x ∷ xs) (length xs) 0 ≡ 13 → take (length xs) (x ∷ xs) ≡ without_return (x ∷ xs)
+    at x [] is = rw is refl
+    at x (y ∷ ys) is = ap (λ l. x ∷ l) (at y ys is)
+
+pub ends_otherwise : (xs : List ℕ) → get_or xs (length xs - 1) 0 ≢ 13 → xs ≡ without_return xs
+ends_otherwise [] is = refl
+ends_otherwise (x ∷ xs) is =
+    let last : length (x ∷ xs) - 1 ≡ length xs = omega arith in
+    at x xs (λ e. is (ap (λ n. get_or (x ∷ xs) n 0) last ∙ e))
+  where
+    one : (x : ℕ) (b : Bool) → (x == 13) ≡ b → x ≢ 13 → x ∷ [] ≡ (if b then [] else x ∷ [])
+    one x true e other = absurd (other (eqb-true x 13 e))
+    one x false e other = refl
+
+    at : (x : ℕ) (xs : List ℕ) → get_or (x ∷ xs) (length xs) 0 ≢ 13 → x ∷ xs ≡ without_return (x ∷ xs)
+    at x [] is = one x (x == 13) refl is
+    at x (y ∷ ys) is = ap (λ l. x ∷ l) (at y ys is)
+
+-- ---- words of a line that is cut
+
+and_false : (b : Bool) → (b && false) ≡ false
+and_false true = refl
+and_false false = refl
+
+differs : (xs ys : List ℕ) → length xs ≢ length ys → bytes_eq xs ys ≡ false
+differs [] [] other = absurd (other refl)
+differs [] (y ∷ ys) other = refl
+differs (x ∷ xs) [] other = refl
+differs (x ∷ xs) (y ∷ ys) other = rw (differs xs ys (λ e. other (ap suc e))) (and_false (x == y))
+
+long_return : (xs : List ℕ) → length xs ≤ length (without_return xs) + 1
+long_return [] = omega arith
+long_return (b ∷ []) = omega arith
+long_return (b ∷ c ∷ cs) = omega (arith, long_return (c ∷ cs))
+
+long_word : (xs : List ℕ) → 100 < length xs → word_of (without_return xs) ≡ words.Other
+long_word xs long =
+    let longer = long_return xs in
+    rw (
+      differs (without_return xs) (codes "SUBMIT") (λ e. absurd (omega (arith, long, longer, e))),
+      differs (without_return xs) (codes "SHOW") (λ e. absurd (omega (arith, long, longer, e))),
+      differs (without_return xs) (codes "QUIT") (λ e. absurd (omega (arith, long, longer, e))),
+    ) refl
+
+long_no_end : (xs : List ℕ) → 100 < length xs → bytes_eq (without_return xs) (codes ".") ≡ false
+long_no_end xs long = let longer = long_return xs in differs (without_return xs) (codes ".") (λ e. absurd (omega (arith, long, longer, e)))
+
+-- a line is kept whole, or both are long
+whole_or_long : (line : List ℕ) → (kept line ≡ line) ⊎ ((65540 < length line) × (length (kept line) ≡ 65540))
+whole_or_long line =
+    elim (cases_lt 65540 (length line)) [
+      | inl long ↦ inr (long, length-take-le 65540 line (omega (arith, long)))
+      | inr short ↦ inl (take_all 65540 line short)
+    ]
+
+pub word_kept : (line : List ℕ) → word_of (without_return (kept line)) ≡ word_of (without_return line)
+word_kept line = elim (whole_or_long line) [
+  | inl whole ↦ ap (λ l. word_of (without_return l)) whole
+  | inr long ↦ long_word (kept line) (omega (arith, long.1)) ∙ sym (long_word line (omega (arith, long.0)))
+]
+
+pub end_kept : (line : List ℕ) → bytes_eq (without_return (kept line)) (codes ".") ≡ bytes_eq (without_return line) (codes ".")
+end_kept line = elim (whole_or_long line) [
+  | inl whole ↦ ap (λ l. bytes_eq (without_return l) (codes ".")) whole
+  | inr long ↦ long_no_end (kept line) (omega (arith, long.1)) ∙ sym (long_no_end line (omega (arith, long.0)))
+]
+
+abbrev pub entry : List ℕ → List ℕ
+entry line = without_dot (without_return line) ++ 10 ∷ []
+
+pub entry_kept : (line : List ℕ) → Same 65537 (entry (kept line)) (entry line)
+entry_kept line = elim (whole_or_long line) [
+  | inl whole ↦ ap (λ l. take 65537 (entry l)) whole
+  | inr long ↦ same_entry 65537 (kept line) (omega (arith, long.1)) ∙ same_dot 65537 65540 line (omega arith)
+      ∙ sym (same_entry 65537 line (omega (arith, long.0)))
+]
+
+-- ---- what a line makes of the reading
+
+-- the source's beginning after a line, of which less is kept
+abbrev pub grown : List ℕ → List ℕ → List ℕ
+grown bytes line = kept (kept (bytes ++ without_dot (without_return (kept line))) ++ 10 ∷ [])
+
+grown_kept : (bytes source line : List ℕ) → kept_source bytes ≡ kept_source source
+    → kept_source (grown bytes line) ≡ kept_source (with_line source (without_return line))
+grown_kept bytes source line is =
+    let front = bytes ++ without_dot (without_return (kept line)) in
+    let cut_end = take-take 65537 65540 (kept front ++ 10 ∷ []) (omega arith) in
+    let cut_front : Same 65537 (kept front ++ 10 ∷ []) (front ++ 10 ∷ []) =
+    same_append 65537 (kept front) front (10 ∷ []) (10 ∷ []) (take-take 65537 65540 front (omega arith)) refl in
+    let moved = ap (take 65537) (append_assoc bytes (without_dot (without_return (kept line))) (10 ∷ [])) in
+    let back = ap (take 65537) (append_assoc source (without_dot (without_return line)) (10 ∷ [])) in
+    cut_end ∙ cut_front ∙ moved ∙ same_append 65537 bytes source (entry (kept line)) (entry line) is (entry_kept line) ∙ sym back
+
+not_equal : (a b : ℕ) → a ≢ b → (a == b) ≡ false
+not_equal a b other = elim (eqb_tells a b) [ inl same ↦ absurd (other same.1) | inr differ ↦ differ.0 ]
+
+module _ {A : Type 0} where
+  command_line : (script : Script A) (line : List ℕ) (m : Met) → script.line ≡ []
+      → TakesCommand (without_return (kept line)) m script.in_source script.source → Reads line None 10 m script
+  command_line script line met.Nothing empty takes = record {
+    new_line = [];
+    new_source = Some [];
+    reading = record { line_kept = empty; source_kept = rw (takes.1, takes.2) refl };
+    commands = λ more. rw (sym (word_kept line) ∙ takes.0) refl;
+  }
+  command_line script line met.Submit empty takes = absurd takes
+  command_line script line met.Show empty takes = record {
+    new_line = [];
+    new_source = None;
+    reading = record { line_kept = empty; source_kept = rw takes.1 tt };
+    commands = λ more. rw (sym (word_kept line) ∙ takes.0) refl;
+  }
+  command_line script line met.Quit empty takes = record {
+    new_line = [];
+    new_source = None;
+    reading = record { line_kept = empty; source_kept = rw takes.1 tt };
+    commands = λ more. rw (sym (word_kept line) ∙ takes.0) refl;
+  }
+  command_line script line met.Bad empty takes = record {
+    new_line = [];
+    new_source = None;
+    reading = record { line_kept = empty; source_kept = rw takes.1 tt };
+    commands = λ more. rw (sym (word_kept line) ∙ takes.0) refl;
+  }
+
+  source_line : (script : Script A) (bytes line source : List ℕ) (m : Met) → script.line ≡ [] → kept_source bytes ≡ kept_source source
+      → TakesSourceLine (without_return (kept line)) bytes m script.in_source script.source → Reads line (Some source) 10 m script
+  source_line script bytes line source met.Nothing empty is takes = record {
+    new_line = [];
+    new_source = Some (with_line source (without_return line));
+    reading = record { line_kept = empty; source_kept = rw (takes.1, takes.2) (grown_kept bytes source line is) };
+    commands = λ more. rw (sym (end_kept line) ∙ takes.0) refl;
+  }
+  source_line script bytes line source met.Submit empty is takes = record {
+    new_line = [];
+    new_source = None;
+    reading = record { line_kept = empty; source_kept = rw takes.1 tt };
+    commands = λ more. rw (sym (end_kept line) ∙ takes.0, takes.2, is) refl;
+  }
+  source_line script bytes line source met.Show empty is takes = absurd takes
+  source_line script bytes line source met.Quit empty is takes = absurd takes
+  source_line script bytes line source met.Bad empty is takes = absurd takes
+
+  -- the end of a line where a command is due
+  pub command_ends : (old script : Script A) (cut : List ℕ) (m : Met) → old.in_source ≡ false → cut ≡ without_return old.line → script.line ≡ []
+      → TakesCommand cut m script.in_source script.source
+      → (line : List ℕ) (source : Option (List ℕ)) → IsReading old line source → Reads line source 10 m script
+  command_ends old script cut m due is empty takes line source reading =
+      by old.in_source due source reading.source_kept
+    where
+      same : cut ≡ without_return (kept line)
+      same = is ∙ ap without_return reading.line_kept
+
+      by : (b : Bool) → b ≡ false → (source : Option (List ℕ)) → IsSourceKept b old.source source → Reads line source 10 m script
+      by true due source kept_so = absurd (cc)
+      by false due (Some s) kept_so = absurd kept_so
+      by false due None kept_so = command_line script line m empty (subst (λ l. TakesCommand l m script.in_source script.source) same takes)
+
+  -- the end of a line of a source
+  pub source_ends : (old script : Script A) (cut : List ℕ) (m : Met) → old.in_source ≡ true → cut ≡ without_return old.line → script.line ≡ []
+      → TakesSourceLine cut old.source m script.in_source script.source
+      → (line : List ℕ) (source : Option (List ℕ)) → IsReading old line source → Reads line source 10 m script
+  source_ends old script cut m under is empty takes line source reading =
+      by old.in_source under source reading.source_kept
+    where
+      same : cut ≡ without_return (kept line)
+      same = is ∙ ap without_return reading.line_kept
+
+      by : (b : Bool) → b ≡ true → (source : Option (List ℕ)) → IsSourceKept b old.source source → Reads line source 10 m script
+      by false under source kept_so = absurd (cc)
+      by true under None kept_so = absurd kept_so
+      by true under (Some s) kept_so =
+          source_line script old.source line s m empty kept_so (subst (λ l. TakesSourceLine l old.source m script.in_source script.source) same takes)
+
+  -- another byte of a line
+  pub byte_comes : (old script : Script A) (byte : ℕ) → byte ≢ 10 → script.line ≡ kept (old.line ++ byte ∷ []) → script.source ≡ old.source
+      → script.in_source ≡ old.in_source → (line : List ℕ) (source : Option (List ℕ)) → IsReading old line source → Reads line source byte met.Nothing script
+  byte_comes old script byte other is same_source same_state line source reading = record {
+    new_line = line ++ byte ∷ [];
+    new_source = source;
+    reading = record {
+      line_kept = is ∙ ap (λ l. kept (l ++ byte ∷ [])) reading.line_kept
+          ∙ same_append 65540 (kept line) line (byte ∷ []) (byte ∷ []) (take-take 65540 65540 line (omega arith)) refl;
+      source_kept = rw (same_source, same_state) reading.source_kept;
+    };
+    commands = λ more. rw (not_equal byte 10 other) refl;
+  }

@@ -1,0 +1,9 @@
+use Rattle.std.proofs.Common.{◌∙◌, ap}
+use Rattle.koth_protocol.specs.Lines.{without_return}
+use Rattle.koth_protocol.proofs.Readings.{source_ends}
+use Rattle.koth_protocol.proofs.script.Script.end_source_line.Goals as goal
+
+pub returns : goal.returns
+returns g c =
+    source_ends c.args.self.now _ c.without_return-line.result.now _ c.requires
+    (c.without_return-line.ensures ∙ ap without_return c.as_slice.ensures) c.clear.ensures c.take_source_line-met.ensures

@@ -1,0 +1,12 @@
+-- How a stream's faults are counted, and what is written of a text.
+pub mod Counted
+pub mod Written
+-- From bytes to lines, and from lines to commands.
+pub mod Lines
+pub mod Commands
+-- What is kept of a line and of a source, and how the commands are found as bytes come.
+pub mod Kept
+pub mod Reading
+-- The lines of the answers that need no store.
+pub mod Refusal
+pub mod Table

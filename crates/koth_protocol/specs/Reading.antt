@@ -1,0 +1,55 @@
+-- How the commands are found as bytes come.
+use Rattle.std.specs.Prelude.{◌≡◌, ℕ, ⊤, Bool, true, false, List, [], ◌∷◌, ◌++◌, Option, None, Some, codes}
+use Rattle.std.specs.Str.{bytes_eq}
+use Rattle.koth_protocol.specs.Commands.{Command, commands_from, kept_source, word_of}
+use Rattle.koth_protocol.specs.declared.script.Word.TheVariants as words
+use Rattle.koth_protocol.specs.Kept.{kept}
+use Rattle.koth_protocol.specs.Lines.{lines_from, without_dot}
+use Rattle.koth_protocol.specs.declared.script.Met.{Met}
+use Rattle.koth_protocol.specs.declared.script.Met.TheVariants as met
+use Rattle.koth_protocol.specs.declared.script.Script.{Script}
+
+-- these bytes are kept of the source under way
+abbrev pub IsSourceKept : Bool → List ℕ → Option (List ℕ) → Type 0
+IsSourceKept true bytes (Some source) = kept_source bytes ≡ kept_source source
+IsSourceKept true bytes None = ⊥
+IsSourceKept false bytes (Some source) = ⊥
+IsSourceKept false bytes None = ⊤
+
+-- what is kept of the beginning of a line, and of the source under way
+pub record IsReading {A : Type 0} (script : Script A) (line : List ℕ) (source : Option (List ℕ)) : Type 0 where
+  pub line_kept : script.line ≡ kept line
+  pub source_kept : IsSourceKept script.in_source script.source source
+
+-- the commands where this was met just now, with these bytes of a source, in front of others
+abbrev pub commands_met : Met → List ℕ → List Command → List Command
+commands_met met.Nothing bytes others = others
+commands_met met.Submit bytes others = Command.Submit (kept_source bytes) ∷ others
+commands_met met.Show bytes others = Command.Show ∷ others
+commands_met met.Quit bytes others = Command.Quit ∷ []
+commands_met met.Bad bytes others = Command.Bad ∷ others
+
+-- what a byte makes of a reading: the commands of the bytes from it on are that which was met, and those of the reading behind it
+pub record Reads {A : Type 0} (line : List ℕ) (source : Option (List ℕ)) (byte : ℕ) (met : Met) (script : Script A) : Type 0 where
+  pub new_line : List ℕ
+  pub new_source : Option (List ℕ)
+  pub reading : IsReading script new_line new_source
+  pub commands : (more : List ℕ) → commands_from source (lines_from line (byte ∷ more))
+      ≡ commands_met met script.source (commands_from new_source (lines_from new_line more))
+
+-- what a line makes where a command is due
+abbrev pub TakesCommand : List ℕ → Met → Bool → List ℕ → Type 0
+TakesCommand line met.Nothing in_source bytes = (word_of line ≡ words.Submit) × (in_source ≡ true) × (bytes ≡ [])
+TakesCommand line met.Submit in_source bytes = ⊥
+TakesCommand line met.Show in_source bytes = (word_of line ≡ words.Show) × (in_source ≡ false)
+TakesCommand line met.Quit in_source bytes = (word_of line ≡ words.Quit) × (in_source ≡ false)
+TakesCommand line met.Bad in_source bytes = (word_of line ≡ words.Other) × (in_source ≡ false)
+
+-- what a line makes of the source under way
+abbrev pub TakesSourceLine : List ℕ → List ℕ → Met → Bool → List ℕ → Type 0
+TakesSourceLine line old met.Nothing in_source bytes = (bytes_eq line (codes ".") ≡ false) × (in_source ≡ true)
+    × (bytes ≡ kept (kept (old ++ without_dot line) ++ 10 ∷ []))
+TakesSourceLine line old met.Submit in_source bytes = (bytes_eq line (codes ".") ≡ true) × (in_source ≡ false) × (bytes ≡ old)
+TakesSourceLine line old met.Show in_source bytes = ⊥
+TakesSourceLine line old met.Quit in_source bytes = ⊥
+TakesSourceLine line old met.Bad in_source bytes = ⊥

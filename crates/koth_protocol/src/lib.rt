@@ -1,0 +1,29 @@
+//! The line protocol, as far as it needs no store: commands come in as bytes, and lines go out.
+//!
+//! It knows two streams and the rows of a hill, and no device, words, files or sockets. The modules, in the order in which
+//! the data pass:
+//!
+//! - `counted`: a stream that counts its faults, and a text that is written whole over it;
+//! - `kept` and `script`: what is kept of a line and of a source, and which command each byte brings to its end;
+//! - `line`: a line that is built in place;
+//! - `refusal` and `table`: the line of a source that is refused, and the table of a hill.
+//!
+//! `Script::take` finds the commands that the bytes so far hold by `commands_of`, and no other (`Reads`); it keeps 65,540
+//! bytes of a line and of a source, since a source past its limit is refused whatever else it has. `send` writes exactly the
+//! text, or a part of it where the output fails, and a stream is blamed only where its count of faults rose.
+//!
+//! Only the two buffers of a script and the text of a table take memory.
+#![tactic(auto)]
+
+mod counted;
+mod kept;
+mod line;
+mod refusal;
+mod script;
+mod table;
+
+pub use counted::{Counted, ReadFault, WriteFault, send};
+pub use line::Line;
+pub use refusal::refusal_line;
+pub use script::{Met, Script};
+pub use table::show_text;

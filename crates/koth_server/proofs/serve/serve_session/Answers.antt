@@ -1,0 +1,8 @@
+-- A session in which the device didn't fail leaves the store open.
+use Rattle.std.proofs.Common.{◌∙◌}
+use Rattle.koth_server.proofs.StillOpen.{session_still}
+use Rattle.koth_server.proofs.serve.serve_session.Goals as goal
+
+pub returns-in_default : goal.returns-in_default
+returns-in_default g c =
+    session_still g.D.Device.size g.D.Device.lawful g.D.Device.disk g.D.Device.failures c.session.result _ _ _ _ c.session.ensures.ends c.in_default.not-StoreFailed ∙ c.requires

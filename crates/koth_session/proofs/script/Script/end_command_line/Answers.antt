@@ -1,9 +1,0 @@
-use Rattle.std.proofs.Common.{◌∙◌, ap}
-use Rattle.koth_session.specs.Lines.{without_return}
-use Rattle.koth_session.proofs.Readings.{command_ends}
-use Rattle.koth_session.proofs.script.Script.end_command_line.Goals as goal
-
-pub returns : goal.returns
-returns g c =
-    command_ends c.args.self.now _ c.without_return-line.result.now _ c.requires
-    (c.without_return-line.ensures ∙ ap without_return c.as_slice.ensures) c.clear.ensures c.take_command_line-met.ensures

@@ -1,8 +1,0 @@
--- The lines so far are those of the rows so far.
-use Rattle.std.proofs.Common.{◌≡◌, take}
-use Rattle.koth_hill.specs.Rows.{rows_parts}
-use Rattle.koth_session.specs.Reply.{row_lines}
-use Rattle.koth_session.proofs.table.show_text.Given as goal
-
-abbrev pub invariant-loop-place : goal.invariant-loop-place
-invariant-loop-place g l = l.text.items ≡ row_lines 1 (take l.place (rows_parts l.rows))
