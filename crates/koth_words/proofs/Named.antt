@@ -4,6 +4,7 @@ use Rattle.std.specs.Box.{box_value}
 use Rattle.std.specs.List.{find}
 use Rattle.clap.specs.Faults.{entered_fault, fault_of, is_simple_and_free, other_fault}
 use Rattle.clap.specs.Simple.{App, HasMatchesOf, argument_words, built, entered, is_simple, label_of, names_of, rows_at, subcommand_of, subcommand_rows, subcommand_rows_of}
+use Rattle.clap.specs.Takes.{takes}
 use Rattle.clap.specs.Kinds.{HasKind, IsAmong, Kinds}
 use Rattle.clap.specs.Matches.{subcommand_name_of}
 use Rattle.clap.specs.Values.{kind_of}
@@ -111,6 +112,11 @@ gives_command app m words is has none =
 
 pub not_wrong : (app : App) (words : List Text) → app ≡ koth_app → (is_simple_and_free app ≡ true → fault_of app words ≡ []) → AreWrong words → ⊥
 not_wrong app words is none wrong = wrong.0 (on_faults app words (λ faults. faults ≡ []) is none)
+
+-- where the words are taken, an error is a refused growth
+pub memory_kind : (app : App) (words : List Text) (e : Error) → app ≡ koth_app → (takes app words ≡ true → kind_of e ≡ kinds.OutOfMemory)
+    → takes koth_app words ≡ true → kind_of e ≡ kinds.OutOfMemory
+memory_kind app words e is passes taken = passes (ap (λ a. takes a words) is ∙ taken)
 
 -- an error at wrong words is no request for help
 pub wrong_kind : (app : App) (words : List Text) (e : Error) → app ≡ koth_app → (is_simple_and_free app ≡ true → HasKind (fault_of app words) e) → AreWrong words

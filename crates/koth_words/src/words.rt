@@ -100,16 +100,16 @@ fn koth_command<'a>(heap: Global) -> Result<Command<'a>, AllocError>
 fn program<'a>(heap: Global) -> Command<'a>
     ensures app { app_of result ≡ wants_subcommand (new_app (codes "koth")) }
 {
-    Command::new(heap, "koth")
-        .about("A King of the Hill server for Core War")
-        .subcommand_required(true)
+    described(heap, "koth", "A King of the Hill server for Core War").subcommand_required(true)
 }
 
 fn asm_command<'a>(heap: Global) -> Result<Command<'a>, AllocError>
     ensures app { IfOk result (λ c. app_of c ≡ asm_app) }
     ensures globals { IfOk result (λ c. (out-Command c).has_globals ≡ false) }
 {
-    let command = Command::new(heap, "asm").about(
+    let command = described(
+        heap,
+        "asm",
         "Assembles standard input, and writes its load text",
     );
     with_settings(heap, command)
@@ -119,55 +119,92 @@ fn fight_command<'a>(heap: Global) -> Result<Command<'a>, AllocError>
     ensures app { IfOk result (λ c. app_of c ≡ fight_app) }
     ensures globals { IfOk result (λ c. (out-Command c).has_globals ≡ false) }
 {
-    let command = Command::new(heap, "fight")
-        .about("Plays a match, and writes the rounds that A won, those that B won, and the ties")
-        .arg(file(heap, "A", "File of the older warrior"))?
-        .arg(file(heap, "B", "File of the younger warrior"))?;
-    with_settings(heap, command)
+    let command = described(
+        heap,
+        "fight",
+        "Plays a match, and writes the rounds that A won, those that B won, and the ties",
+    );
+    let older = with_file(heap, command, "A", "File of the older warrior")?;
+    let younger = with_file(heap, older, "B", "File of the younger warrior")?;
+    with_settings(heap, younger)
 }
 
 fn create_command<'a>(heap: Global) -> Result<Command<'a>, AllocError>
     ensures app { IfOk result (λ c. app_of c ≡ create_app) }
     ensures globals { IfOk result (λ c. (out-Command c).has_globals ≡ false) }
 {
-    let command = Command::new(heap, "create")
-        .about("Creates a hill without warriors in a file, and writes CREATED")
-        .arg(file(
-            heap,
-            "FILE",
-            "File of the hill, which is made where it is missing",
-        ))?;
-    with_settings(heap, command)
+    let command = described(
+        heap,
+        "create",
+        "Creates a hill without warriors in a file, and writes CREATED",
+    );
+    let hill = with_file(
+        heap,
+        command,
+        "FILE",
+        "File of the hill, which is made where it is missing",
+    )?;
+    with_settings(heap, hill)
 }
 
 fn submit_command<'a>(heap: Global) -> Result<Command<'a>, AllocError>
     ensures app { IfOk result (λ c. app_of c ≡ submit_app) }
     ensures globals { IfOk result (λ c. (out-Command c).has_globals ≡ false) }
 {
-    Command::new(heap, "submit")
-        .about("Submits a warrior to a hill, and writes its place, its points or its refusal")
-        .arg(file(heap, "FILE", "File of the hill"))?
-        .arg(file(heap, "SOURCE", "File of the warrior's source"))
+    let command = described(
+        heap,
+        "submit",
+        "Submits a warrior to a hill, and writes its place, its points or its refusal",
+    );
+    let hill = with_file(heap, command, "FILE", "File of the hill")?;
+    with_file(heap, hill, "SOURCE", "File of the warrior's source")
 }
 
 fn show_command<'a>(heap: Global) -> Result<Command<'a>, AllocError>
     ensures app { IfOk result (λ c. app_of c ≡ show_app) }
     ensures globals { IfOk result (λ c. (out-Command c).has_globals ≡ false) }
 {
-    Command::new(heap, "show")
-        .about("Writes a hill's table: rank, entry, score, age, name and author of each warrior")
-        .arg(file(heap, "FILE", "File of the hill"))
+    let command = described(
+        heap,
+        "show",
+        "Writes a hill's table: rank, entry, score, age, name and author of each warrior",
+    );
+    with_file(heap, command, "FILE", "File of the hill")
 }
 
 fn serve_command<'a>(heap: Global) -> Result<Command<'a>, AllocError>
     ensures app { IfOk result (λ c. app_of c ≡ serve_app) }
     ensures globals { IfOk result (λ c. (out-Command c).has_globals ≡ false) }
 {
-    Command::new(heap, "serve")
-        .about("Serves sessions on a hill over connections to 127.0.0.1, one after the other")
-        .arg(file(heap, "FILE", "File of the hill"))?
+    let command = described(
+        heap,
+        "serve",
+        "Serves sessions on a hill over connections to 127.0.0.1, one after the other",
+    );
+    with_file(heap, command, "FILE", "File of the hill")?
         .arg(port(heap))?
         .arg(connections(heap))
+}
+
+/// The command of this name, with what help says of it.
+fn described<'a>(heap: Global, name: &'a str, about: &'a str) -> Command<'a>
+    ensures app { app_of result ≡ new_app name.entry.now }
+    ensures globals { (out-Command result).has_globals ≡ false }
+{
+    Command::new(heap, name).about(about)
+}
+
+/// The command with a file that has to be named.
+fn with_file<'a>(
+    heap: Global,
+    command: Command<'a>,
+    name: &'a str,
+    help: &'a str,
+) -> Result<Command<'a>, AllocError>
+    ensures app { IfOk result (λ c. app_of c ≡ with_rule (app_of command.entry) (file_rule name.entry.now)) }
+    ensures globals { IfOk result (λ c. (out-Command c).has_globals ≡ (out-Command command.entry).has_globals) }
+{
+    command.arg(file(heap, name, help))
 }
 
 fn port<'a>(heap: Global) -> Arg<'a>

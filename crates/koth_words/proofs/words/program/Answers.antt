@@ -3,4 +3,4 @@ use Rattle.koth_words.proofs.Commands.{wanted}
 use Rattle.koth_words.proofs.words.program.Goals as goal
 
 pub returns : goal.returns
-returns c = record { app = wanted _ _ _ _ _ c.new.ensures.app c.about.ensures c.subcommand_required.ensures }
+returns c = record { app = wanted _ _ _ c.described.ensures.app c.subcommand_required.ensures }

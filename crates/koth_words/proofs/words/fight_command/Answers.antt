@@ -1,0 +1,18 @@
+-- Two files, and then the settings.
+use Rattle.std.proofs.Common.{◌∙◌, ap, ap₂, codes}
+use Rattle.std.proofs.lemmas.Result.{IfOk-weaker}
+use Rattle.clap.specs.Words.{App, with_rule, with_subcommand}
+use Rattle.koth_words.specs.Options.{with_settings}
+use Rattle.koth_words.specs.Words.{file_rule}
+use Rattle.koth_words.proofs.words.fight_command.Goals as goal
+
+pub returns-clause-app : goal.returns-clause-app
+returns-clause-app c =
+    let older = c.in_ok-older.ensures.app ∙ ap (λ (a : App). with_rule a (file_rule (codes "A"))) c.described-command.ensures.app in
+    let younger = c.in_ok-younger.ensures.app ∙ ap (λ (a : App). with_rule a (file_rule (codes "B"))) older in
+    IfOk-weaker c.with_settings.result _ _ (λ r is. is ∙ ap with_settings younger) c.with_settings.ensures.app
+
+pub returns-clause-globals : goal.returns-clause-globals
+returns-clause-globals c =
+    IfOk-weaker c.with_settings.result _ _
+    (λ r is. is ∙ c.in_ok-younger.ensures.globals ∙ c.in_ok-older.ensures.globals ∙ c.described-command.ensures.globals) c.with_settings.ensures.globals
