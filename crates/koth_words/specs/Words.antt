@@ -1,7 +1,8 @@
 -- What the words of the command line ask for.
-use Rattle.std.specs.Prelude.{◌≡◌, ◌≢◌, ◌⊎◌, ⊤, ℕ, true, List, [], codes, Option, None, Some, option_map, unwrap_or}
+use Rattle.std.specs.Prelude.{◌≡◌, ◌≢◌, ◌⊎◌, ⊤, ℕ, true, List, [], codes, Option, None, Some, Result, Ok, Err, option_map, unwrap_or}
 use Rattle.std.specs.Option.{option_map_or}
-use Rattle.clap.specs.Words.{App, IsAmong, Row, Rule, Text, fault_of, first_of, new_app, new_rule, one_of, subcommand_of, takes, with_rule, with_subcommand}
+use Rattle.clap.specs.Words.{App, IsAmong, Row, Rule, Text, app_of, fault_of, first_of, new_app, new_rule, one_of, subcommand_of, takes, with_rule, with_subcommand}
+use Rattle.clap.specs.declared.builder.command.Command.{Command}
 use Rattle.clap.specs.declared.error.kind.ErrorKind.TheVariants as kinds
 use Rattle.war_types.specs.declared.settings.RawSettings.{RawSettings}
 use Rattle.koth_words.specs.Options.{number_below, number_or, required_rule, settings_in, with_settings}
@@ -41,6 +42,11 @@ serve_app = with_rule (with_rule (with_rule (new_app (codes "serve")) (file_rule
 unfoldable pub koth_app : App
 koth_app = with_subcommand (with_subcommand (with_subcommand (with_subcommand (with_subcommand (with_subcommand
     (wants_subcommand (new_app (codes "koth"))) asm_app.top) fight_app.top) create_app.top) submit_app.top) show_app.top) serve_app.top
+
+-- a command has a further one among its own, which was made
+abbrev pub HasCommand : {E : Type 0} → App → Result Command E → Command → Type 0
+HasCommand app (Ok made) command = app_of command ≡ with_subcommand app (app_of made).top
+HasCommand app (Err e) command = ⊥
 
 -- the words are taken, and name this command
 abbrev pub AsksFor : List ℕ → List (List ℕ) → Type 0

@@ -4,7 +4,7 @@ ghost use Rattle.std.specs.Prelude.{◌≡◌, ◌≢◌, true, false, codes, ma
 ghost use Rattle.clap.specs.Words.{app_of, first_of, found_of, kind_of, new_app, new_rule, one_of, rows_of, rule_of, subcommand_name_of, subcommand_of, subcommand_rows_of, takes, with_rule};
 ghost use Rattle.clap.specs.declared.builder.command.Command.TheViews.{out-Command};
 ghost use Rattle.koth_words.specs.Options.{number_below, number_or, required_rule, with_settings};
-ghost use Rattle.koth_words.specs.Words.{asm_app, create_app, fight_app, file_rule, koth_app, serve_app, show_app, submit_app, text_or_none, wants_subcommand, AreWrong, AsksBy, IsRefusal, NamesCommand};
+ghost use Rattle.koth_words.specs.Words.{asm_app, create_app, fight_app, file_rule, koth_app, serve_app, show_app, submit_app, text_or_none, wants_subcommand, AreWrong, AsksBy, HasCommand, IsRefusal, NamesCommand};
 
 use crate::options::{number_given, settings_given, with_settings};
 use clap::error::ErrorKind;
@@ -88,13 +88,12 @@ pub fn parse(heap: Global, words: &[String]) -> Result<Request<'_>, NoRequest>
 fn koth_command<'a>(heap: Global) -> Result<Command<'a>, AllocError>
     ensures app { IfOk result (λ c. app_of c ≡ koth_app) }
 {
-    program(heap)
-        .subcommand(asm_command(heap)?)?
-        .subcommand(fight_command(heap)?)?
-        .subcommand(create_command(heap)?)?
-        .subcommand(submit_command(heap)?)?
-        .subcommand(show_command(heap)?)?
-        .subcommand(serve_command(heap)?)
+    let command = with_command(program(heap), asm_command(heap))?;
+    let command = with_command(command, fight_command(heap))?;
+    let command = with_command(command, create_command(heap))?;
+    let command = with_command(command, submit_command(heap))?;
+    let command = with_command(command, show_command(heap))?;
+    with_command(command, serve_command(heap))
 }
 
 fn program<'a>(heap: Global) -> Command<'a>
@@ -184,6 +183,17 @@ fn serve_command<'a>(heap: Global) -> Result<Command<'a>, AllocError>
     with_file(heap, command, "FILE", "File of the hill")?
         .arg(port(heap))?
         .arg(connections(heap))
+}
+
+/// The command with this one among its own, if that was made.
+fn with_command<'a>(
+    command: Command<'a>,
+    made: Result<Command<'a>, AllocError>,
+) -> Result<Command<'a>, AllocError>
+    requires { IfOk made (λ added. (out-Command added).has_globals ≡ false) }
+    ensures { IfOk result (λ c. HasCommand (app_of command.entry) made.entry c) }
+{
+    command.subcommand(made?)
 }
 
 /// The command of this name, with what help says of it.

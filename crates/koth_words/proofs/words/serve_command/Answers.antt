@@ -1,7 +1,7 @@
 -- A file, and two options that have to be given.
 use Rattle.std.proofs.Common.{◌∙◌, ap, ap₂, codes}
 use Rattle.std.proofs.lemmas.Result.{IfOk-weaker}
-use Rattle.clap.specs.Words.{App, with_rule, with_subcommand}
+use Rattle.clap.specs.Words.{App, with_rule}
 use Rattle.koth_words.proofs.Commands.{keeps_globals}
 use Rattle.koth_words.specs.Words.{file_rule}
 use Rattle.koth_words.proofs.words.serve_command.Goals as goal

@@ -1,8 +1,7 @@
 -- Two files.
-use Rattle.std.proofs.Common.{◌∙◌, ap, ap₂, codes}
+use Rattle.std.proofs.Common.{◌∙◌, ap, codes}
 use Rattle.std.proofs.lemmas.Result.{IfOk-weaker}
-use Rattle.clap.specs.Words.{App, with_rule, with_subcommand}
-use Rattle.koth_words.specs.Options.{with_settings}
+use Rattle.clap.specs.Words.{App, with_rule}
 use Rattle.koth_words.specs.Words.{file_rule}
 use Rattle.koth_words.proofs.words.submit_command.Goals as goal
 
