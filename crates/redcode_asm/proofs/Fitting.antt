@@ -1,5 +1,5 @@
 -- Code of the right length, with its start in it and its numbers below the core size, fits.
-use Rattle.std.proofs.Common.{◌≡◌, ℕ, ◌<◌, ◌≤◌, true, false, ltb, List, [], ◌∷◌, length, Option, Some, None, Result, Ok, Err, ℤ, pos, negsuc, All, IfOk, inl, inr, refl, subst, arith}
+use Rattle.std.proofs.Common.{◌≡◌, ℕ, ◌<◌, ◌≤◌, true, false, ltb, List, [], ◌∷◌, length, Option, Some, None, Result, Ok, Err, ℤ, pos, negsuc, All, IfOk, inl, inr, refl, subst, ◌∙◌, arith}
 use Rattle.std.specs.Prelude.{IsSome}
 use Rattle.std.specs.Option.{SomeIff}
 use Rattle.std.proofs.lemmas.Bool.{cases_lt}
@@ -14,7 +14,8 @@ use Rattle.war_types.specs.Warrior.{HasNumbersBelow, Fits, warrior_parts}
 use Rattle.redcode_expand.specs.Expansion.{ExpandedLine}
 use Rattle.redcode_names.specs.Gives.{fault_at}
 use Rattle.redcode_asm.specs.Names.{Labels}
-use Rattle.redcode_asm.specs.Assembly.{Placed, all_said, code_of, of_length, start_of}
+use Rattle.redcode_statement.specs.Chain.{◌>>=◌}
+use Rattle.redcode_asm.specs.Assembly.{Placed, all_said, code_of, of_length, start_of, checked_start, given_start, all_hold}
 use Rattle.redcode_asm.proofs.Bounds.{HasCode, below-all_said}
 
 of_length-some : (limit : ℕ) (code : List Instr) → of_length limit code ≡ Ok tt → 0 < length code
@@ -70,3 +71,18 @@ numbers-from_lines s labels lines said code are says is =
     let some : 0 < s.core = omega (arith, are.core_least) in
     let all : HasCode s.core said = subst (λ (r : Result (List Placed) AsmFault). IfOk r (HasCode s.core)) says (below-all_said s labels lines some) in
     subst (λ (code : List Instr). All (HasNumbersBelow s.core) code) is (All-from_recursion (HasNumbersBelow s.core) (code_of said) all)
+
+-- ---- what a start that was found says of the code
+
+bind-ok : {X Y E : Type 0} (r : Result X E) (f : X → Result Y E) (y : Y) → (r >>= f) ≡ Ok y → (x : X) × (r ≡ Ok x) × (f x ≡ Ok y)
+bind-ok (Ok x) f y is = (x, refl, is)
+bind-ok (Err e) f y is = cc
+
+-- the code has its length, and the start is one of its instructions
+pub checked-parts : (limit : ℕ) (said : List Placed) (start : ℕ) → checked_start limit said ≡ Ok start
+    → (of_length limit (code_of said) ≡ Ok tt) × (start_of (length (code_of said)) (given_start said) ≡ Ok start)
+checked-parts limit said start is =
+    let sized = bind-ok (of_length limit (code_of said)) _ start is in
+    let started = bind-ok (start_of (length (code_of said)) (given_start said)) _ start sized.2 in
+    let held = bind-ok (all_hold said) _ start started.2 in
+    (sized.1, started.1 ∙ held.2)

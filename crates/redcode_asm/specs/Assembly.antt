@@ -141,13 +141,20 @@ author_of all = title_of (unwrap_or (last_text is_author all) []) (codes "Anonym
 abbrev pub warrior_with : List Instr → ℕ → WarriorParts
 warrior_with code start = warrior_parts code start (codes "Unnamed") (codes "Anonymous")
 
-unfoldable pub assembly_of : RawSettings → Expansion → Result WarriorParts AsmFault
-assembly_of s e =
-    all_said s e.labels e.lines >>= λ said.
-    of_length s.length (code_of said) >>= λ _.
+-- the start of code that is neither too short nor too long, where no assertion fails
+abbrev pub checked_start : ℕ → List Placed → Result ℕ AsmFault
+checked_start limit said =
+    of_length limit (code_of said) >>= λ _.
     start_of (length (code_of said)) (given_start said) >>= λ start.
     all_hold said >>= λ _.
-    Ok (warrior_parts (code_of said) start (name_of e.lines) (author_of e.lines))
+    Ok start
+
+-- the warrior of lines that say this
+abbrev pub warrior_said : RawSettings → List ExpandedLine → List Placed → Result WarriorParts AsmFault
+warrior_said s all said = checked_start s.length said >>= λ start. Ok (warrior_parts (code_of said) start (name_of all) (author_of all))
+
+unfoldable pub assembly_of : RawSettings → Expansion → Result WarriorParts AsmFault
+assembly_of s e = all_said s e.labels e.lines >>= warrior_said s e.lines
 
 -- the warrior that a source gives under these settings, or the refusal
 unfoldable pub assembly : RawSettings → List ℕ → Result WarriorParts AsmFault

@@ -1,13 +1,13 @@
 //! The assembler.
 
-ghost use Rattle.std.specs.Prelude.{◌≡◌, ◌^◌, ◌<◌, length, if◌then◌else◌, IfOk, unwrap_or, [], drop};
+ghost use Rattle.std.specs.Prelude.{◌≡◌, ◌^◌, ◌<◌, length, if◌then◌else◌, IfOk, Ok, unwrap_or, [], drop};
 ghost use Rattle.war_types.specs.Warrior.{Fits};
 ghost use Rattle.redcode_text.specs.Tokens.{pieces};
 ghost use Rattle.redcode_expand.specs.Expansion.{tokens_at};
 ghost use Rattle.redcode_names.specs.Gives.{Gives, fault_at};
 ghost use Rattle.redcode_asm.specs.Said.{said_by};
 ghost use Rattle.redcode_asm.specs.Placed.{placed, all_placed};
-ghost use Rattle.redcode_asm.specs.Assembly.{Assembles, assembly, said_at, all_said, code_of, given_start, start_of, of_length, all_hold, last_text, is_name, is_author};
+ghost use Rattle.redcode_asm.specs.Assembly.{Assembles, assembly, assembly_of, checked_start, warrior_said, said_at, all_said, code_of, given_start, start_of, of_length, all_hold, last_text, is_name, is_author};
 
 use crate::names::{Absolute, Relative};
 use redcode_expand::{Expanded, Line, LineKind, expand};
@@ -42,15 +42,51 @@ pub fn assemble<A: Allocator + Copy>(
     ensures fits { IfOk result (Fits settings.now) }
 {
     let expanded = expand(alloc, source, settings)?;
-    let said = all_said(alloc, &expanded, settings)?;
-    let code = code_of(alloc, said.as_slice())?;
-    check_length(code.as_slice(), settings.length())?;
-    let start = start_of(code.as_slice(), given_start(said.as_slice()))?;
-    check_assertions(said.as_slice())?;
-    let (name, author) = last_texts(&expanded);
+    assembled(alloc, &expanded, settings)
+}
+
+/// The warrior of expanded lines, or the first refusal that is due behind the expansion.
+#[tactic(auto, unfolding(crate::specs::Assembly::assembly_of))]
+fn assembled<A: Allocator + Copy>(
+    alloc: A,
+    expanded: &Expanded<'_, A>,
+    settings: &Settings,
+) -> Result<Warrior<A>, AsmFault>
+    ensures assembled { Assembles result (assembly_of settings.now expanded.now) }
+    ensures fits { IfOk result (Fits settings.now) }
+{
+    let said = all_said(alloc, expanded, settings)?;
+    warrior_of(alloc, expanded, said.as_slice(), settings)
+}
+
+/// The warrior of lines that say this.
+fn warrior_of<A: Allocator + Copy>(
+    alloc: A,
+    expanded: &Expanded<'_, A>,
+    said: &[Said],
+    settings: &Settings,
+) -> Result<Warrior<A>, AsmFault>
+    requires { all_said settings.now expanded.now.labels expanded.now.lines ≡ Ok (all_placed said.now) }
+    ensures assembled { Assembles result (warrior_said settings.now expanded.now.lines (all_placed said.now)) }
+    ensures fits { IfOk result (Fits settings.now) }
+{
+    let code = code_of(alloc, said)?;
+    let start = checked_start(code.as_slice(), said, settings.length())?;
+    let (name, author) = last_texts(expanded);
     let name = Title::new(name, "Unnamed");
     let author = Title::new(author, "Anonymous");
     Ok(Warrior::new(code, start, name, author, settings).unwrap())
+}
+
+/// The start of the code of these lines, where that is neither too short nor too long and no assertion fails.
+fn checked_start(code: &[Instr], said: &[Said], limit: u16) -> Result<u16, AsmFault>
+    requires code { code.now ≡ code_of (all_placed said.now) }
+    ensures { result ≡ checked_start limit (all_placed said.now) }
+{
+    check_length(code, limit)?;
+    let start = start_of(code, given_start(said))?;
+    check_assertions(said)?;
+    Ok(start)
 }
 
 fn fault(line: u32, kind: AsmKind) -> AsmFault
