@@ -98,7 +98,10 @@ fn serve_file<R: Files + Net, A: Allocator + Copy, O: Write>(
 
 /// A listener at this port of 127.0.0.1, or at one that the system chooses where 0 is asked for.
 fn listen<R: Net>(rt: &R, port: u16) -> io::Result<R::Listener> {
-    TcpListener::bind(rt, SocketAddr::V4(SocketAddrV4::new(Ipv4Addr::LOCALHOST, port)))
+    TcpListener::bind(
+        rt,
+        SocketAddr::V4(SocketAddrV4::new(Ipv4Addr::LOCALHOST, port)),
+    )
 }
 
 /// The port that peers connect to.
