@@ -1,4 +1,4 @@
--- An file leaves the command's globals as they are.
+-- A file leaves the command's globals as they are.
 use Rattle.std.proofs.Common.{◌∙◌}
 use Rattle.std.proofs.lemmas.Result.{IfOk-weaker}
 use Rattle.koth_words.proofs.Commands.{keeps_globals}
