@@ -119,10 +119,6 @@ operation-over c (a ∷ b ∷ xs) is =
           rw written (record { plain = numbers-plain c (a ∷ b ∷ xs) is.plain; over = over })
     ]
 
-all-over : (c : Counter) (xs : List Piece) → IsOver (λ ts. ts) xs → IsOver (λ ts. ts) (map (plain_number c) xs)
-all-over c xs is =
-    record { plain = numbers-plain c xs is.plain; over = rw (length-numbers c xs) is.over }
-
 -- ---- what stands behind a word
 
 none≢kind : (kind : LineKind) → None ≡ Some kind → ⊥

@@ -121,10 +121,6 @@ abbrev pub has_name : List (List ℕ) → List ℕ → Bool
 has_name [] name = false
 has_name (x ∷ xs) name = bytes_eq name x || has_name xs name
 
--- these names, with this one behind them if it is new
-abbrev pub with_name : List (List ℕ) → List ℕ → List (List ℕ)
-with_name names name = if has_name names name then names else names ++ name ∷ []
-
 -- one of these names is among the tokens
 abbrev pub are_named : List (List ℕ) → List Piece → Bool
 are_named names [] = false

@@ -1,6 +1,6 @@
 -- What the lines of a walk make of its EQUs.
-use Rattle.std.proofs.Common.{◌≡◌, ℕ, ◌+◌, Bool, true, false, ◌||◌, is_some, nat_lt, nat_eq, if◌then◌else◌, List, [], ◌∷◌, ◌++◌, map, drop, Option, Some, None, Result, Ok, Err, refl, sym, ap, ◌∙◌, subst, inl, inr}
-use Rattle.std.proofs.lemmas.Bool.{true≢false, cases_Bool, or_parts, or_left, or_right}
+use Rattle.std.proofs.Common.{◌≡◌, ℕ, ◌+◌, Bool, true, false, ◌||◌, is_some, nat_lt, nat_eq, if◌then◌else◌, List, [], ◌∷◌, ◌++◌, map, drop, Option, Some, None, Result, Ok, Err, refl, sym, ap, ◌∙◌, subst}
+use Rattle.std.proofs.lemmas.Bool.{true≢false, or_parts}
 use Rattle.std.proofs.lemmas.Slice.Eq.{bytes_eq-Decides}
 use Rattle.std.specs.Str.{bytes_eq}
 use Rattle.war_types.specs.declared.fault.AsmFault.{AsmFault}
@@ -19,7 +19,7 @@ use Rattle.redcode_lines.specs.Word.{labels_of, line_word, behind_labels, unplac
 use Rattle.redcode_names.specs.Gives.{◌>>=◌, fault_at}
 use Rattle.redcode_names.specs.Equ.{EquList, body_of, has_tokens, is_equ, is_bad_body}
 use Rattle.redcode_names.specs.Name.{Names, is_taken, defined, all_defined, equ_defined, equ_line, predefined, address_of, for_labels}
-use Rattle.redcode_expand.specs.Walk.{WalkState, Begun, begun_as, counted, labelled, equated, with_line, with_other, placed, is_equ_word, worded, statement, titled, asserted, step_by, step, copies_of, begun_by, begun, closed, copied}
+use Rattle.redcode_expand.specs.Walk.{WalkState, Begun, begun_as, counted, labelled, equated, with_line, with_other, placed, is_equ_word, worded, statement, step_by, step, copies_of, begun, closed, copied}
 use Rattle.redcode_expand.specs.Kept.{Keeps}
 
 -- ---- what is bound

@@ -16,7 +16,7 @@ use Rattle.redcode_text.specs.declared.token.TokenKind.{TokenKind}
 use Rattle.redcode_text.specs.declared.token.TokenKind.TheVariants as kinds
 use Rattle.redcode_text.specs.Operators.{Value}
 use Rattle.redcode_text.specs.Tokens.{Piece}
-use Rattle.redcode_text.specs.Value.{known, number_from, number_value, or_bad, part_of, value_of, value_within}
+use Rattle.redcode_text.specs.Value.{number_from, number_value, or_bad, part_of, value_of, value_within}
 use Rattle.redcode_copies.specs.declared.source_line.LineForm.{LineForm}
 use Rattle.redcode_copies.specs.declared.source_line.LineForm.TheVariants as forms
 use Rattle.redcode_lines.specs.declared.word.Word.{Word}
@@ -27,11 +27,11 @@ use Rattle.redcode_copies.specs.Numbering.{has_and, plain_number}
 use Rattle.redcode_lines.specs.Word.{behind_labels, dropped_while, first_word, has_text, is_front, is_name, labels_of, line_word, may_label, names_among, taken_while, word_at}
 use Rattle.redcode_copies.proofs.Numbers.{joined-numbered}
 use Rattle.redcode_expand.specs.Bare.{bare_of, bare_tokens, counter_values, has_number, is_bare, is_of_block, number_of, or_value}
-use Rattle.redcode_names.specs.Equ.{EquList, body_at, has_equ, has_tokens, replaced}
+use Rattle.redcode_names.specs.Equ.{EquList, body_at, has_equ, has_tokens}
 use Rattle.redcode_names.specs.Gives.{◌>>=◌}
 use Rattle.redcode_names.specs.Name.{predefined}
 use Rattle.redcode_expand.specs.Rest.{AreFew}
-use Rattle.redcode_expand.specs.Walk.{WalkState, Begun, begun, begun_as, begun_by, begun_of, closed, count_by, labelled}
+use Rattle.redcode_expand.specs.Walk.{WalkState, begun, begun_as, begun_by, begun_of, closed, count_by, labelled}
 use Rattle.redcode_names.proofs.Unchanged.{tokens-same}
 
 -- ---- the digits of a number

@@ -1,5 +1,5 @@
 -- How a block begins, from the steps of the code.
-use Rattle.std.proofs.Common.{◌≡◌, ℕ, Bool, true, false, not, List, [], ◌∷◌, drop, Option, Result, Ok, Err, refl, sym, ap, ◌∙◌, inl, inr, subst}
+use Rattle.std.proofs.Common.{◌≡◌, ℕ, Bool, true, false, not, List, drop, Option, Result, Ok, refl, sym, ap, ◌∙◌, inl, inr}
 use Rattle.war_types.specs.declared.fault.AsmFault.{AsmFault}
 use Rattle.war_types.specs.declared.settings.RawSettings.{RawSettings}
 use Rattle.redcode_text.specs.Tokens.{Piece}
@@ -10,9 +10,9 @@ use Rattle.redcode_copies.specs.Counter.{Counter, in_copies}
 use Rattle.redcode_lines.specs.Word.{labels_of, line_word, behind_labels, names_among, taken_while, dropped_while, may_label}
 use Rattle.redcode_names.specs.Gives.{◌>>=◌, Fails}
 use Rattle.redcode_names.specs.Equ.{EquList, replaced}
-use Rattle.redcode_names.specs.Name.{Names, LabelList, names_of, predefined, for_labels}
-use Rattle.redcode_expand.specs.Walk.{WalkState, walk_state, ExpandedLine, Begun, begun_as, begun_by, begun_of, begun, copies_of, count_by}
-use Rattle.redcode_expand.specs.Kept.{has_loose, IsFixed, CountIsFixed}
+use Rattle.redcode_names.specs.Name.{Names, predefined, for_labels}
+use Rattle.redcode_expand.specs.Walk.{WalkState, walk_state, ExpandedLine, Begun, begun_as, begun_of, begun, copies_of, count_by}
+use Rattle.redcode_expand.specs.Kept.{has_loose, CountIsFixed}
 use Rattle.redcode_expand.proofs.Keeping.{value-same}
 
 -- ---- a count

@@ -1,5 +1,5 @@
 -- Counts that are kept, and how a block begins by one.
-use Rattle.std.proofs.Common.{◌≡◌, ◌≢◌, ℕ, nat_eq, Bool, true, false, if◌then◌else◌, ◌+◌, ◌<◌, ◌^◌, List, [], ◌∷◌, length, drop, get_or, Option, Some, None, Result, Ok, refl, sym, ap, subst, ◌∙◌, inl, inr, arith, replicate}
+use Rattle.std.proofs.Common.{◌≡◌, ℕ, nat_eq, Bool, true, false, if◌then◌else◌, ◌+◌, ◌<◌, ◌^◌, List, [], ◌∷◌, length, drop, Option, Some, None, Result, Ok, refl, sym, ap, subst, ◌∙◌, inl, inr, arith, replicate}
 use Rattle.std.specs.Prelude.{slice_set}
 use Rattle.std.proofs.lemmas.List.{get_or-set_same, get_or-set_other, get_or-replicate, length-set, length-replicate}
 use Rattle.std.proofs.lemmas.Bool.{cases_Bool, eqb-true}
@@ -11,9 +11,9 @@ use Rattle.redcode_copies.specs.Block.{SourceLine}
 use Rattle.redcode_copies.specs.Counter.{Counter, in_copies}
 use Rattle.redcode_lines.specs.Word.{labels_of, behind_labels}
 use Rattle.redcode_names.specs.Gives.{◌>>=◌}
-use Rattle.redcode_names.specs.Equ.{EquList, replaced}
-use Rattle.redcode_names.specs.Name.{Names, predefined, for_labels}
-use Rattle.redcode_expand.specs.Walk.{WalkState, Begun, begun_as, begun_by, begun_of, begun, copies_of, count_by}
+use Rattle.redcode_names.specs.Equ.{EquList}
+use Rattle.redcode_names.specs.Name.{predefined}
+use Rattle.redcode_expand.specs.Walk.{WalkState, begun_as, begun_by, begun_of, begun, copies_of, count_by}
 use Rattle.redcode_expand.specs.Kept.{Keeps, IsFixed, CountIsFixed, IsKept, AreKept, kept_at}
 use Rattle.redcode_expand.proofs.Keeping.{replaced-kept}
 use Rattle.redcode_expand.proofs.GoingOn.{nat_eq-other}

@@ -20,9 +20,9 @@ use Rattle.redcode_copies.specs.Long.{IsLong, kind_by, text_of}
 use Rattle.redcode_copies.proofs.LongLines.{long-copies, labels-copies}
 use Rattle.redcode_names.specs.Gives.{◌>>=◌, fault_at}
 use Rattle.redcode_names.specs.Equ.{EquList, replaced}
-use Rattle.redcode_expand.specs.Walk.{ExpandedLine, WalkState, counted, labelled, with_line, worded, step, step_by, statement, asserted}
+use Rattle.redcode_expand.specs.Walk.{ExpandedLine, WalkState, counted, labelled, with_line, worded, step, step_by, statement}
 use Rattle.redcode_expand.specs.Expansion.{before_operands}
-use Rattle.redcode_expand.specs.Long.{copy_of, passed, long_statement, long_assertion, IsRefused}
+use Rattle.redcode_expand.specs.Long.{copy_of, passed, long_statement, IsRefused}
 
 -- ---- the refusal
 
@@ -114,16 +114,3 @@ statement-step s cs line kind st form long =
     let placed : LineForm → Result WalkState AsmFault = λ (f : LineForm). counted line.number st >>= labelled s line.number (labels_of line.tokens)
     >>= λ st. Ok (passed kind (with_line line.number kind [] (text_of f (in_copies cs f line.tokens)) st)) in
     ap (λ (f : LineForm). step_by s line.number f line.title (in_copies cs f line.tokens) st) form ∙ due ∙ ap placed (sym form)
-
-assertion-by : (s : RawSettings) (cs : List Counter) (line : SourceLine) (kind : LineKind) (st : WalkState) (form : LineForm) → (form ≡ forms.Statement → ⊥) → IsLong form line.tokens kind
-    → step_by s line.number form line.title (in_copies cs form line.tokens) st ≡ (counted line.number st >>= λ st. Ok (with_line line.number kind [] (text_of form (in_copies cs form line.tokens)) st))
-assertion-by s cs line kind st forms.Statement other long = absurd (other refl)
-assertion-by s cs line kind st forms.Assert other long =
-    subst (λ (k : LineKind). asserted line.number (in_copies cs forms.Assert line.tokens) st ≡ (counted line.number st >>= λ st. Ok (with_line line.number k [] (in_copies cs forms.Assert line.tokens) st)))
-    (some-same lines.Assert kind long.kind_is) refl
-assertion-by s cs line kind st forms.Name other long = absurd (none≢kind kind long.kind_is)
-assertion-by s cs line kind st forms.Author other long = absurd (none≢kind kind long.kind_is)
-
-pub assertion-step : (s : RawSettings) (cs : List Counter) (line : SourceLine) (kind : LineKind) (st : WalkState) → (line.form ≡ forms.Statement → ⊥) → IsLong line.form line.tokens kind
-    → step s cs line st ≡ long_assertion cs line kind st
-assertion-step s cs line kind st other long = assertion-by s cs line kind st line.form other long

@@ -1,5 +1,5 @@
 -- A line with the names of EQUs replaced.
-use Rattle.std.proofs.Common.{◌≡◌, ℕ, ◌-◌, List, ◌++◌, length, take, Result, Ok, refl, sym, ap, ◌∙◌, inl, inr}
+use Rattle.std.proofs.Common.{◌≡◌, ◌-◌, List, ◌++◌, length, take, Result, Ok, refl, sym, ap, ◌∙◌, inl, inr}
 use Rattle.war_types.specs.declared.fault.AsmFault.{AsmFault}
 use Rattle.redcode_text.specs.Tokens.{Piece}
 use Rattle.redcode_names.specs.Gives.{◌>>=◌, Fails}

@@ -1,6 +1,6 @@
 -- A line in whose operands no name of an EQU is.
-use Rattle.std.proofs.Common.{◌≡◌, ℕ, zero, suc, ◌-◌, ◌<◌, ◌≤◌, false, List, [], ◌∷◌, ◌++◌, length, take, drop, take_at, take_all, codes, Ok, Err, refl, sym, ap, true≢false, ◌∙◌, append-nil, length-append, lt-ltb, le-ltb, inl, inr, arith}
-use Rattle.std.proofs.lemmas.Bool.{cases_Bool, or_parts}
+use Rattle.std.proofs.Common.{◌≡◌, ◌-◌, ◌<◌, ◌≤◌, false, List, [], ◌∷◌, ◌++◌, length, take, drop, take_at, take_all, codes, Ok, Err, refl, sym, ap, ◌∙◌, append-nil, length-append, inl, inr, arith}
+use Rattle.std.proofs.lemmas.Bool.{cases_Bool}
 use Rattle.war_types.specs.declared.fault.AsmFault.{AsmFault}
 use Rattle.war_types.specs.declared.fault.AsmKind.TheVariants as kinds
 use Rattle.redcode_text.specs.Tokens.{Piece}

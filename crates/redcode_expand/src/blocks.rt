@@ -33,24 +33,41 @@ pub(crate) fn walk_all<'s, A: Allocator + Copy>(
     requires { length lines.now ≤ 65536 }
     ensures { Gives (λ walk. walk) result (walk_all settings.now (parsed lines.now) walk_begin) }
 {
-    let mut walk = Walk::new(alloc, hash);
-    let mut blocks = OpenBlocks::new(alloc, hash);
     let mut counts = Counts::new(alloc, lines.len())?;
     let bare = bare_lines(alloc, lines)?;
-    let bare = bare.as_slice();
+    let mut walk = Walk::new(alloc, hash);
+    walk_lines(
+        settings,
+        &mut walk,
+        OpenBlocks::new(alloc, hash),
+        &mut counts,
+        lines,
+        bare.as_slice(),
+    )?;
+    Ok(walk)
+}
+
+/// Walks over all lines, with no count kept and no block begun.
+fn walk_lines<'s, A: Allocator + Copy>(
+    settings: &Settings,
+    walk: &mut Walk<'s, A>,
+    mut blocks: OpenBlocks<A>,
+    counts: &mut Counts<A>,
+    lines: &[SourceLine<'s, A>],
+    bare: &[BareLine<'_, A>],
+) -> Result<(), AsmFault>
+    requires few { length lines.now ≤ 65536 }
+    requires bare { bare.now ≡ map bare_of lines.now }
+    requires begin { walk.old ≡ walk_begin }
+    requires none { blocks ≡ [] }
+    requires kept { AreKept settings.now lines.now [] counts.old }
+    ensures { Gives (λ _. walk.new) result (walk_all settings.now (parsed lines.now) walk_begin) }
+{
     let mut at = 0;
     while at < lines.len() && !walk.has_ended() {
-        at = step(
-            settings,
-            &mut walk,
-            &mut blocks,
-            &mut counts,
-            lines,
-            bare,
-            at,
-        )?;
+        at = step(settings, walk, &mut blocks, counts, lines, bare, at)?;
     }
-    Ok(walk)
+    Ok(())
 }
 
 /// Walks over the line behind so many others, within blocks. The answer is how many lines stand before the one that is

@@ -1,6 +1,6 @@
 //! The blocks whose copies are being written.
 
-ghost use Rattle.std.specs.Prelude.{◌≡◌, ◌<◌, ◌^◌, Some, None, length, IfOk, IfSome, OnOk, reverse};
+ghost use Rattle.std.specs.Prelude.{◌≡◌, ◌<◌, ◌^◌, Some, None, true, length, IfOk, IfSome, OnOk, reverse};
 ghost use Rattle.redcode_copies.specs.Counter.{in_copies};
 ghost use Rattle.redcode_copies.specs.Counter.{are_named, has_name};
 ghost use Rattle.redcode_names.specs.Name.{address_of};
@@ -271,8 +271,21 @@ fn place_next<A: Allocator + Copy>(
     if has_name(names, blocks, name) {
         return Ok(());
     }
+    if is_placed(names, blocks.len(), name) {
+        return Ok(());
+    }
     names.set(name, blocks.len())?;
     Ok(())
+}
+
+/// Whether a name has this place: a block with its counter was here before.
+fn is_placed<A: Allocator + Copy>(names: &CounterNames<A>, place: usize, name: &[u8]) -> bool
+    ensures { result ≡ true → address_of names.now name.now ≡ Some place }
+{
+    match names.place_of(name) {
+        Some(found) => found == place,
+        None => false,
+    }
 }
 
 /// Whether a name is that of one of the blocks' counters.

@@ -11,7 +11,7 @@ ghost use Rattle.redcode_copies.specs.Counter.{in_copies};
 ghost use Rattle.redcode_copies.specs.Long.{IsLong};
 ghost use Rattle.redcode_copies.specs.declared.source_line.LineForm.TheVariants.{Statement};
 ghost use Rattle.redcode_expand.specs.Long.{long_assertion, long_statement, passed, with_copy};
-ghost use Rattle.redcode_expand.specs.Walk.{walk_begin, begun, begun_as, closed, copied, counted, labelled, with_line, placed, statement, titled, step, IsCopied};
+ghost use Rattle.redcode_expand.specs.Walk.{walk_begin, begun, begun_as, closed, copied, counted, labelled, with_line, placed, statement, titled, step, step_by, IsCopied};
 
 use crate::count::copies_of;
 use crate::entry::Entry;
@@ -120,15 +120,30 @@ impl<'s, A: Allocator + Copy> Walk<'s, A> {
             return self.long(settings, blocks, line, kind);
         }
         let tokens = blocks.tokens_of(line)?;
-        let number = line.number();
-        match line.form() {
-            LineForm::Statement => self.statement(settings, number, tokens.as_slice()),
+        let tokens = tokens.as_slice();
+        self.step_by(settings, line.number(), line.form(), line.title(), tokens)
+    }
+
+    /// Walks over a line that has these tokens.
+    fn step_by(
+        &mut self,
+        settings: &Settings,
+        number: u32,
+        form: LineForm,
+        title: &'s [u8],
+        tokens: &[Part<'s, A>],
+    ) -> Result<(), AsmFault>
+        ensures step { Gives (λ _. self.new) result (step_by settings.now number form title.entry.now tokens.entry.now self.old) }
+        ensures counted { OnOk result ((self.new.counted ≡ self.old.counted + 1) × (self.old.counted < 4096)) }
+    {
+        match form {
+            LineForm::Statement => self.statement(settings, number, tokens),
             LineForm::Assert => {
                 self.count(number)?;
-                self.push(number, LineKind::Assert, b"", tokens.as_slice())
+                self.push(number, LineKind::Assert, b"", tokens)
             }
-            LineForm::Name => self.titled(number, LineKind::Name, line.title()),
-            LineForm::Author => self.titled(number, LineKind::Author, line.title()),
+            LineForm::Name => self.titled(number, LineKind::Name, title),
+            LineForm::Author => self.titled(number, LineKind::Author, title),
         }
     }
 

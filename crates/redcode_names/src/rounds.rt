@@ -1,6 +1,7 @@
 //! The replacement of the names of EQUs, in 16 rounds at most.
 
 ghost use Rattle.std.specs.Prelude.{◌≡◌, ◌++◌, Ok};
+ghost use Rattle.std.specs.Cow.{cow_slice_items};
 ghost use Rattle.redcode_names.specs.Gives.{Gives, fault_at};
 ghost use Rattle.redcode_names.specs.Equ.{after_rounds, has_equ, left_over, replaced};
 ghost use Rattle.redcode_names.specs.Link.{AreLinked, tokens_of};
@@ -8,8 +9,9 @@ ghost use Rattle.war_types.specs.declared.fault.AsmKind.TheVariants.{EquLimit};
 
 use crate::equs::Equs;
 use crate::link::{Link, LinkedEqus, linked};
-use redcode_lines::{Part, copied};
+use redcode_lines::Part;
 use std::alloc::Allocator;
+use std::borrow::CowSlice;
 use war_types::{AsmFault, AsmKind};
 
 /// Rounds of replacement.
@@ -18,23 +20,24 @@ const ROUNDS: u32 = 16;
 /// Tokens that the operands of a line may have.
 pub const TOKEN_LIMIT: usize = 512;
 
-/// What the tokens of a count are with the names of EQUs replaced.
-pub fn replaced<'s, A: Allocator + Copy>(
+/// What the tokens of a count are with the names of EQUs replaced: themselves where there is none.
+pub fn replaced<'t, 's, A: Allocator + Copy>(
     alloc: A,
     equs: &Equs<'s, A>,
     line: u32,
-    tokens: &[Part<'s, A>],
-) -> Result<Vec<Part<'s, A>, A>, AsmFault>
-    ensures { Gives (λ parts. parts.items) result (replaced line equs.now tokens.now) }
+    tokens: &'t [Part<'s, A>],
+) -> Result<CowSlice<'t, Part<'s, A>, A>, AsmFault>
+    ensures { Gives cow_slice_items result (replaced line equs.now tokens.entry.now) }
 {
     if !has_equ(equs, tokens) {
         if tokens.len() > TOKEN_LIMIT {
             return Err(too_many(line));
         }
-        return Ok(copied(alloc, tokens)?);
+        return Ok(CowSlice::Borrowed(tokens));
     }
     let linked = LinkedEqus::new(alloc, equs)?;
-    written(alloc, &linked, line, tokens, tokens.len())
+    let all = written(alloc, &linked, line, tokens, tokens.len())?;
+    Ok(CowSlice::Owned(all))
 }
 
 /// What tokens are with the names of EQUs replaced, in a list with this much room at first.

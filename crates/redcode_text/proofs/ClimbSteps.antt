@@ -1,5 +1,5 @@
 -- The steps of the code are steps of the climb.
-use Rattle.std.proofs.Common.{◌≡◌, ◌≢◌, ℕ, zero, suc, ◌-◌, ◌<◌, ◌≤◌, true, List, [], ◌∷◌, length, Option, Some, None, ℤ, refl, ap, ◌∙◌, subst, arith, length-append}
+use Rattle.std.proofs.Common.{◌≡◌, ◌≢◌, ℕ, zero, suc, ◌+◌, ◌-◌, ◌<◌, ◌≤◌, true, List, [], ◌∷◌, length, Option, Some, None, ℤ, refl, ap, ◌∙◌, subst, arith, length-append}
 use Rattle.std.proofs.lemmas.List.{length-map}
 use Rattle.redcode_text.specs.declared.operator.Operator.{Operator}
 use Rattle.redcode_text.specs.declared.part.Part.{Part}
@@ -110,6 +110,35 @@ pub on_at : (r d : ℕ) (ps others rest : List Part) (v w : Value) (o : Operator
 on_at zero d ps others rest v w o out some e c later = absurd (some refl)
 on_at (suc r) d ps others rest v w o out some e c later =
     let less : suc r - 1 ≡ r = omega arith in climbs.on o e (subst (λ k. Climbs k d (Begin others) (Some (w, rest))) less c) later
+
+-- ---- ranks
+
+-- what is refused is so at each rank above
+refused_above : (n k r d : ℕ) (ps : List Part) → r ≡ n + k → Climbs k d (Begin ps) None → Climbs r d (Begin ps) None
+refused_above zero k r d ps is c = let same : k ≡ r = omega (arith, is) in subst (λ m. Climbs m d (Begin ps) None) same c
+refused_above (suc n) k r d ps is c =
+    let below : r - 1 ≡ n + k = omega (arith, is) in
+    let some : r ≢ 0 = omega (arith, is) in
+    unbegun_at r d ps some (refused_above n k (r - 1) d ps below c)
+
+pub refused_on : (k r d : ℕ) (ps : List Part) → k ≤ r → Climbs k d (Begin ps) None → Climbs r d (Begin ps) None
+refused_on k r d ps few c = let is : r ≡ r - k + k = omega (arith, few) in refused_above (r - k) k r d ps is c
+
+-- what has nothing behind it is so at each rank above
+ended_above : (n k r d : ℕ) (ps : List Part) (v : Value) → r ≡ n + k → Climbs k d (Begin ps) (Some (v, [])) → Climbs r d (Begin ps) (Some (v, []))
+ended_above zero k r d ps v is c = let same : k ≡ r = omega (arith, is) in subst (λ m. Climbs m d (Begin ps) (Some (v, []))) same c
+ended_above (suc n) k r d ps v is c =
+    let below : r - 1 ≡ n + k = omega (arith, is) in
+    let some : r ≢ 0 = omega (arith, is) in
+    begun_at r d ps [] v (Some (v, [])) some (ended_above n k (r - 1) d ps v below c) (over_at r d [] v some refl)
+
+pub ended_on : (k r d : ℕ) (ps : List Part) (v : Value) → k ≤ r → Climbs k d (Begin ps) (Some (v, [])) → Climbs r d (Begin ps) (Some (v, []))
+ended_on k r d ps v few c = let is : r ≡ r - k + k = omega (arith, few) in ended_above (r - k) k r d ps v is c
+
+pub ended_at : (names : List ℕ → Option ℤ) (tokens : List Token) (k r d : ℕ) (ps : List Part) (v : Value) → k ≤ r → length tokens ≡ 0
+    → Climbs k d (Begin ps) (Some (v, parts_of names tokens)) → Climbs r d (Begin ps) (Some (v, parts_of names tokens))
+ended_at names [] k r d ps v few none c = ended_on k r d ps v few c
+ended_at names (token ∷ tokens) k r d ps v few none c = absurd (omega (arith, none))
 
 -- ---- lengths
 

@@ -42,14 +42,15 @@ pub fn value<N: Names>(tokens: &[Token<'_>], names: &N) -> Result<i64, ExprFault
 fn climb<'t, 'l, N: Names>(tokens: &'t [Token<'l>], names: &N, rank: u8, depth: u8) -> Found<'t, 'l>
     ensures { Climbs rank depth (Begin (parts_of (N.values names.now) tokens.entry.now)) (found (N.values names.now) result) }
 {
-    if rank == 0 {
-        return operand(tokens, names, depth);
-    }
-    let (mut value, mut rest) = climb(tokens, names, rank - 1, depth)?;
-    while let Some((operator, behind)) = operator_at(rest, names, rank) {
-        let (right, after) = climb(behind, names, rank - 1, depth)?;
-        value = applied(operator, value, right);
-        rest = after;
+    let (mut value, mut rest) = operand(tokens, names, depth)?;
+    let mut climbed = 0;
+    while climbed < rank && !rest.is_empty() {
+        climbed += 1;
+        while let Some((operator, behind)) = operator_at(rest, names, climbed) {
+            let (right, after) = climb(behind, names, climbed - 1, depth)?;
+            value = applied(operator, value, right);
+            rest = after;
+        }
     }
     Some((value, rest))
 }

@@ -3,6 +3,7 @@
 ghost use Rattle.std.specs.Prelude.{◌≡◌};
 
 use std::alloc::{AllocError, AllocFailed};
+use std::fmt::{self, Display, Formatter, Write};
 use thiserror::Error;
 
 /// What is wrong with an expression.
@@ -42,65 +43,51 @@ impl ExprFault {
 #[derive(Clone, Copy, Debug, PartialEq, Eq, Error)]
 pub enum AsmKind {
     /// The source has more than 65,536 bytes.
-    #[error("SourceTooLong")]
     SourceTooLong,
     /// A `FOR` without its `ROF`.
-    #[error("UnmatchedFor")]
     UnmatchedFor,
     /// A `ROF` without its `FOR`.
-    #[error("UnmatchedRof")]
     UnmatchedRof,
     /// More than 4,096 counted lines.
-    #[error("ForLimit")]
     ForLimit,
     /// A label or an EQU name that is defined already.
-    #[error("DuplicateName")]
     DuplicateName,
     /// An `EQU` without a name, without a body, or with a reserved word in it.
-    #[error("BadEqu")]
     BadEqu,
     /// Sixteen rounds of EQU substitution leave a name, or a list has more than 512 tokens.
-    #[error("EquLimit")]
     EquLimit,
     /// The count of a `FOR`.
-    #[error("{0}")]
     ForCount(ExprFault),
     /// A growth of memory was refused.
-    #[error("Memory")]
     Memory,
     /// A byte that begins no token.
-    #[error("BadToken")]
     BadToken,
     /// Where an operation is due, something else stands.
-    #[error("BadOperation")]
     BadOperation,
     /// `LDP`, `STP` or `PIN`: there is no P-space.
-    #[error("Pspace")]
     Pspace,
     /// A `.` without a modifier's name.
-    #[error("BadModifier")]
     BadModifier,
     /// An operand is missing.
-    #[error("MissingOperand")]
     MissingOperand,
     /// The expression of an operand, of `ORG`, of `END` or of an assertion.
-    #[error("{0}")]
     Expression(ExprFault),
     /// Text after what the line may have.
-    #[error("ExtraText")]
     ExtraText,
     /// There is no instruction.
-    #[error("Empty")]
     Empty,
     /// There are more instructions than the settings allow.
-    #[error("TooLong")]
     TooLong,
     /// The start is no instruction of the warrior.
-    #[error("BadStart")]
     BadStart,
     /// An assertion doesn't hold.
-    #[error("AssertFalse")]
     AssertFalse,
+}
+
+impl Display for AsmKind {
+    fn fmt<W: Write>(&self, f: &mut Formatter<W>) -> fmt::Result {
+        f.write_str(self.name())
+    }
 }
 
 impl AsmKind {

@@ -1,4 +1,4 @@
-use Rattle.std.proofs.Common.{◌≡◌, List, map, ap, ◌∙◌, arith}
+use Rattle.std.proofs.Common.{List, map, ap, ◌∙◌, arith}
 use Rattle.std.proofs.lemmas.List.{take_all}
 use Rattle.redcode_copies.specs.Block.{SourceLine}
 use Rattle.redcode_expand.specs.Bare.{bare_of}

@@ -1,4 +1,4 @@
-use Rattle.std.proofs.Common.{◌≡◌, Ok, List, ℕ, refl, sym, ap, ◌∙◌}
+use Rattle.std.proofs.Common.{Ok, List, ℕ, refl, sym, ap, ◌∙◌}
 use Rattle.redcode_copies.specs.Counter.{in_copies}
 use Rattle.redcode_expand.specs.Rest.{counters_of}
 use Rattle.redcode_expand.specs.Walk.{begun_as}

@@ -1,4 +1,4 @@
-use Rattle.std.proofs.Common.{◌≡◌, List, ℕ, Bor, Err, Ok, [], sym, ap, ◌∙◌}
+use Rattle.std.proofs.Common.{◌≡◌, ℕ, Err, Ok, [], sym, ap, ◌∙◌}
 use Rattle.redcode_text.specs.Tokens.{pieces}
 use Rattle.redcode_text.specs.Value.{value_of}
 use Rattle.redcode_expand.specs.Bare.{counter_values}

@@ -1,4 +1,4 @@
-use Rattle.std.proofs.Common.{◌≡◌, List, sym, ap, ◌∙◌}
+use Rattle.std.proofs.Common.{sym, ◌∙◌}
 use Rattle.redcode_text.specs.Tokens.{pieces}
 use Rattle.redcode_expand.specs.Rest.{counters_of}
 use Rattle.redcode_expand.proofs.BareLines.{bare-same, found-is}

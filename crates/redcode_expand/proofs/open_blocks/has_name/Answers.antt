@@ -1,4 +1,4 @@
-use Rattle.std.proofs.Common.{◌≡◌, ap, ◌∙◌}
+use Rattle.std.proofs.Common.{ap, ◌∙◌}
 use Rattle.std.specs.Option.{is_some}
 use Rattle.redcode_expand.proofs.PlacedNames.{number-named}
 use Rattle.redcode_expand.proofs.open_blocks.has_name.Goals as goal

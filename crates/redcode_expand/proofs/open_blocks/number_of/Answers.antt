@@ -1,4 +1,4 @@
-use Rattle.std.proofs.Common.{◌≡◌, Bool, Option, Some, ℕ, sym, ap, ◌∙◌}
+use Rattle.std.proofs.Common.{Some, ℕ, sym, ap, ◌∙◌}
 use Rattle.std.specs.Str.{bytes_eq}
 use Rattle.redcode_expand.specs.Rest.{OpenBlock}
 use Rattle.redcode_expand.proofs.PlacedNames.{number-none, number-past, number-there, number-other}

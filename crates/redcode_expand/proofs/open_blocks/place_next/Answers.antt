@@ -1,6 +1,4 @@
-use Rattle.std.proofs.Common.{◌≡◌, List, ℕ, Some, None, false, true, sym, ap, subst, ◌∙◌}
-use Rattle.std.specs.Str.{bytes_eq}
-use Rattle.indexmap.specs.IndexMap.{insert_entry}
+use Rattle.std.proofs.Common.{sym, ap, subst, ◌∙◌}
 use Rattle.redcode_names.specs.Name.{LabelList, address_of}
 use Rattle.redcode_expand.specs.Rest.{ArePlaced}
 use Rattle.redcode_expand.proofs.PlacedNames.{placed-set, placed-next, unnamed-number, named-place}

@@ -1,5 +1,4 @@
-use Rattle.std.proofs.Common.{List, Ok, sym, ap, ◌∙◌, inr, arith}
-use Rattle.redcode_text.specs.Tokens.{Piece}
+use Rattle.std.proofs.Common.{sym, inr, arith}
 use Rattle.redcode_names.proofs.Unchanged.{tokens-same, tokens-over}
 use Rattle.redcode_names.proofs.rounds.replaced.Goals as goal
 
@@ -10,4 +9,3 @@ returns-then-tokens-gt-TOKEN_LIMIT g c =
 pub returns-then-not-has_equ : goal.returns-then-not-has_equ
 returns-then-not-has_equ g c =
     tokens-same c.args.line c.args.equs.now c.args.tokens.now (sym c.if-not-has_equ.ensures) (omega (arith, c.if-tokens-gt-TOKEN_LIMIT.false))
-    ∙ ap (λ (parts : List Piece). Ok parts) (sym c.in_ok-copied.ensures)

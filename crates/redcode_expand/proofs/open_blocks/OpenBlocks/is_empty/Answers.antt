@@ -1,4 +1,4 @@
-use Rattle.std.proofs.Common.{◌≡◌, sym, ap, subst, ◌∙◌}
+use Rattle.std.proofs.Common.{sym, ap, subst, ◌∙◌}
 use Rattle.redcode_expand.specs.Rest.{AreFew, counters_of}
 use Rattle.redcode_expand.proofs.Counters.{counters-reverse}
 use Rattle.redcode_expand.proofs.open_blocks.OpenBlocks.is_empty.Goals as goal

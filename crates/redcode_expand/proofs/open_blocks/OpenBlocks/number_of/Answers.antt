@@ -1,4 +1,4 @@
-use Rattle.std.proofs.Common.{◌≡◌, List, sym, ap, subst, ◌∙◌}
+use Rattle.std.proofs.Common.{List, sym, ap, subst, ◌∙◌}
 use Rattle.redcode_copies.specs.Counter.{Counter}
 use Rattle.redcode_expand.specs.Bare.{number_of}
 use Rattle.redcode_expand.specs.Rest.{OpenBlock, ArePlaced, counters_in, counters_of}

@@ -1,13 +1,11 @@
-use Rattle.std.proofs.Common.{◌≡◌, List, drop, Result, Err, refl, sym, ap, subst, ◌∙◌}
+use Rattle.std.proofs.Common.{◌≡◌, List, drop, Err, sym, ap, subst, ◌∙◌}
 use Rattle.std.specs.Cow.{cow_slice_items}
 use Rattle.redcode_expand.specs.declared.walk.Walk.TheInside.{Inside}
 use Rattle.redcode_text.specs.Tokens.{Piece}
 use Rattle.redcode_names.specs.Gives.{Fails}
 use Rattle.redcode_expand.specs.Rest.{counters_of}
 use Rattle.redcode_names.proofs.Residuals.{err-from}
-use Rattle.redcode_names.specs.Equ.{EquList}
-use Rattle.redcode_names.specs.Name.{Names}
-use Rattle.redcode_expand.specs.Walk.{WalkState, walk_state, copies_of}
+use Rattle.redcode_expand.specs.Walk.{WalkState, copies_of}
 use Rattle.redcode_expand.proofs.BeginningBlocks.{begun-due, begun-done, begun-refused}
 use Rattle.redcode_expand.proofs.walk.Walk.begin.Goals as goal
 

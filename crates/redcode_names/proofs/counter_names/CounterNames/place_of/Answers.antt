@@ -1,4 +1,4 @@
-use Rattle.std.proofs.Common.{◌≡◌, ap, ◌∙◌}
+use Rattle.std.proofs.Common.{ap, ◌∙◌}
 use Rattle.redcode_names.specs.Name.{LabelList, address_of}
 use Rattle.redcode_names.proofs.Lookups.{lookup-place}
 use Rattle.redcode_names.proofs.counter_names.CounterNames.place_of.Goals as goal

@@ -4,7 +4,7 @@ use Rattle.redcode_copies.specs.Block.{parsed}
 use Rattle.redcode_expand.specs.Walk.{walk_all, walk_begin}
 use Rattle.redcode_expand.specs.Rest.{rest_of, steps_left, AreOpen}
 use Rattle.redcode_expand.specs.Kept.{AreKept}
-use Rattle.redcode_expand.proofs.blocks.walk_all.Given as goal
+use Rattle.redcode_expand.proofs.blocks.walk_lines.Given as goal
 
 abbrev pub invariant-loop-at : goal.invariant-loop-at
 invariant-loop-at g l =
