@@ -11,7 +11,7 @@ use Rattle.war_types.specs.Settings.{settings_of}
 use Rattle.koth_commands.specs.Asm.{EndsAsm}
 use Rattle.koth_commands.specs.Failure.{failure_line}
 use Rattle.koth_commands.specs.Fight.{EndsFight}
-use Rattle.koth_server.specs.Hills.{EndsCreate, EndsHill, EndsServe, Said, SaysCreated, SaysReply, SaysTable, listening_line}
+use Rattle.koth_server.specs.Hills.{EndsCreate, EndsHill, EndsServe, Said, SaysReply, SaysTable, listening_line}
 use Rattle.koth_words.specs.Options.{settings_in}
 use Rattle.koth_server.specs.Run.{EndsRequest, EndsWithout, unread}
 use Rattle.koth_protocol.specs.Written.{WritesPart}

@@ -1,5 +1,5 @@
 -- A session in which the device didn't fail leaves the store as open as it was.
-use Rattle.std.proofs.Common.{◌≡◌, ◌≢◌, ◌⊎◌, inl, inr, ℕ, List, Option, ap, refl, ◌∙◌}
+use Rattle.std.proofs.Common.{◌≡◌, ◌≢◌, inl, inr, ℕ, List, Option, ap, refl, ◌∙◌}
 use Rattle.sector_disk.specs.Disk.{Disk}
 use Rattle.hill_store.specs.Seen.{Seen}
 use Rattle.koth_session.specs.Sessions.{EndsSession, EndsSo, Scene}

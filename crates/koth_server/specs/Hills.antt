@@ -96,9 +96,16 @@ abbrev pub EndsServe : Status → Streams → Streams → Type 0
 EndsServe status before after =
     (SaysPort status before.output after.output × Keeps before.errors after.errors) ⊎ TellsServeFault status before after
 
+-- the line of a port was written, or a part of one
+abbrev pub Announces : Option (List ℕ) → Option (List ℕ) → Type 0
+Announces old new = (port : ℕ) × Appends old new (listening_line port)
+
+abbrev pub AnnouncesPart : Option (List ℕ) → Option (List ℕ) → Type 0
+AnnouncesPart old new = (port : ℕ) × WritesPart old new (listening_line port)
+
 abbrev pub TriesServe : Result Status HillFault → Option (List ℕ) → Option (List ℕ) → Type 0
 TriesServe (Ok status) old new = SaysPort status old new
-TriesServe (Err fault) old new = (port : ℕ) × WritesPart old new (listening_line port)
+TriesServe (Err fault) old new = AnnouncesPart old new
 
 -- a source was submitted to a store, and the reply's line written, or a part of it where the output failed
 abbrev pub SubmitsTo : {D : Type 0} → (D → ℕ) → (D → Type 0) → (D → Disk) → (D → ℕ) → Seen D → List ℕ → Result Status HillFault → Seen D

@@ -1,7 +1,7 @@
 //! The command `serve`: sessions over a socket on the hill in a file.
 
-ghost use Rattle.std.specs.Prelude.{◌≡◌, ◌≢◌, None, false, IfOk, IfSome};
-ghost use Rattle.koth_server.specs.Hills.{listening_line, EndsServe, TriesServe};
+ghost use Rattle.std.specs.Prelude.{◌≡◌, ◌≢◌, None, false, IfOk, IfSome, MatchResult};
+ghost use Rattle.koth_server.specs.Hills.{listening_line, Announces, AnnouncesPart, EndsServe, TriesServe};
 ghost use Rattle.koth_commands.specs.Streams.{streams};
 
 use crate::files::open_hill;
@@ -75,16 +75,10 @@ fn serve_file<R: Files + Net, A: Allocator + Copy, O: Write>(
         Ok(store) => store,
         Err(fault) => return Err(fault),
     };
-    let Ok(listener) = listen(rt, service.port) else {
-        return Err(HillFault::Failed(Failure::Stream));
+    let listener = match announced(rt, service.port, output) {
+        Ok(listener) => listener,
+        Err(fault) => return Err(fault),
     };
-    let Ok(port) = port_of(&listener) else {
-        return Err(HillFault::Failed(Failure::Stream));
-    };
-    match write_whole(output, listening_line(port).as_slice()) {
-        Ok(()) => (),
-        Err(StreamFault) => return Err(HillFault::Failed(Failure::Stream)),
-    }
     let place = HillFile {
         rt,
         alloc,
@@ -93,6 +87,34 @@ fn serve_file<R: Files + Net, A: Allocator + Copy, O: Write>(
     match serve_connections(alloc, &listener, service.connections, store, &place) {
         Ok(()) => Ok(Status::Done),
         Err(fault) => Err(fault),
+    }
+}
+
+/// A listener at this port, whose line is written.
+fn announced<R: Net, O: Write>(rt: &R, port: u16, output: &mut O) -> Result<R::Listener, HillFault>
+    ensures { MatchResult result (λ _. Announces (O.contents output.old) (O.contents output.new))
+        (λ _. AnnouncesPart (O.contents output.old) (O.contents output.new)) }
+{
+    let Ok(listener) = listen(rt, port) else {
+        return Err(HillFault::Failed(Failure::Stream));
+    };
+    match announce(&listener, output) {
+        Ok(()) => Ok(listener),
+        Err(fault) => Err(fault),
+    }
+}
+
+/// Writes the line of a listener.
+fn announce<L: OpenListener, O: Write>(listener: &L, output: &mut O) -> Result<(), HillFault>
+    ensures { MatchResult result (λ _. Announces (O.contents output.old) (O.contents output.new))
+        (λ _. AnnouncesPart (O.contents output.old) (O.contents output.new)) }
+{
+    let Ok(port) = port_of(listener) else {
+        return Err(HillFault::Failed(Failure::Stream));
+    };
+    match write_whole(output, listening_line(port).as_slice()) {
+        Ok(()) => Ok(()),
+        Err(StreamFault) => Err(HillFault::Failed(Failure::Stream)),
     }
 }
 
@@ -139,19 +161,53 @@ where
 {
     let mut kept = Some(store);
     for _i in 0..connections {
-        let store = match kept.take() {
-            Some(store) => store,
-            None => match place.open() {
-                Ok(store) => store,
-                Err(fault) => return Err(fault),
-            },
+        kept = match serve_next(alloc, listener, kept, place) {
+            Ok(store) => store,
+            Err(fault) => return Err(fault),
         };
-        let Ok((stream, _)) = listener.accept() else {
-            return Err(HillFault::Failed(Failure::Stream));
-        };
-        kept = serve_connection(alloc, stream, store);
     }
     Ok(())
+}
+
+/// Serves the next connection on the store that is kept, or else on the hill opened again.
+fn serve_next<S, L, D, A, P>(
+    alloc: A,
+    listener: &L,
+    kept: Option<Store<D, A>>,
+    place: &P,
+) -> Result<Option<Store<D, A>>, HillFault>
+where
+    S: Read + Write + OpenStream + Drop,
+    L: OpenListener<Stream = S>,
+    D: Device + Drop,
+    A: Allocator + Copy,
+    P: HillPlace<D, A>,
+    requires { IfSome kept (λ store. store.reopen ≡ false) }
+    ensures { IfOk result (λ kept. IfSome kept (λ store. store.reopen ≡ false)) }
+{
+    let store = match opened(kept, place) {
+        Ok(store) => store,
+        Err(fault) => return Err(fault),
+    };
+    let Ok((stream, _)) = listener.accept() else {
+        return Err(HillFault::Failed(Failure::Stream));
+    };
+    Ok(serve_connection(alloc, stream, store))
+}
+
+/// The store that is kept, or else that of the hill opened again.
+fn opened<D, A, P>(kept: Option<Store<D, A>>, place: &P) -> Result<Store<D, A>, HillFault>
+where
+    D: Device + Drop,
+    A: Allocator + Copy,
+    P: HillPlace<D, A>,
+    requires { IfSome kept (λ store. store.reopen ≡ false) }
+    ensures { IfOk result (λ store. store.reopen ≡ false) }
+{
+    match kept {
+        Some(store) => Ok(store),
+        None => place.open(),
+    }
 }
 
 /// Serves one connection, and gives the store back unless the device failed. A peer that is silent for too long ends its session as

@@ -48,14 +48,27 @@ fn submit_file<R: Files, A: Allocator + Copy, O: Write>(
         Ok(store) => store,
         Err(fault) => return Err(fault),
     };
+    submit_read(rt, alloc, files.source, &mut store, output)
+}
+
+/// Submits the source in a file to a store, and then writes the reply's line.
+fn submit_read<R: Files, D: Device, A: Allocator + Copy, O: Write>(
+    rt: &R,
+    alloc: A,
+    path: &str,
+    store: &mut Store<D, A>,
+    output: &mut O,
+) -> Result<Status, HillFault>
+    ensures { Tries SaysReply result (O.contents output.old) (O.contents output.new) }
+{
     let Ok(mut buffer) = source_buffer(alloc) else {
         return Err(HillFault::Failed(Failure::Memory));
     };
-    let count = match read_file(rt, files.source, buffer.as_mut_slice()) {
+    let count = match read_file(rt, path, buffer.as_mut_slice()) {
         Ok(count) => count,
         Err(StreamFault) => return Err(HillFault::Failed(Failure::Stream)),
     };
-    submit_source(&mut store, &buffer.as_slice()[..count], output)
+    submit_source(store, &buffer.as_slice()[..count], output)
 }
 
 /// Submits a source to a store, and then writes the reply's line.
