@@ -2,7 +2,7 @@
 use Rattle.std.proofs.Common.{◌≡◌, ◌⊎◌, ℕ, ◌-◌, ◌^◌, ◌<◌, ◌≤◌, ◌↔◌, Bool, true, false, length, sym, ap, ◌∙◌, subst, arith}
 use Rattle.war_types.specs.declared.settings.RawSettings.{RawSettings}
 use Rattle.war_types.specs.Warrior.{WarriorParts, Fits}
-use Rattle.sector_disk.specs.Disk.{Disk}
+use Rattle.sector_disk.specs.Facts.{DeviceFacts}
 use Rattle.sector_disk.specs.Image.{Images}
 use Rattle.sector_disk.specs.Changes.{after, Begun}
 use Rattle.koth_hill.specs.declared.verdict.Verdict.{Verdict}
@@ -16,13 +16,13 @@ use Rattle.hill_images.specs.Places.{header_placed, header_passed, commits, plac
 use Rattle.hill_images.proofs.Submitted.{verdict_is, step_stays, step_falls, named_placed, named_passed, placed_fits, passed_fits, hill_passed, ready_stands, MayPlace, ready_placed, cut_placed, ready_passed, cut_passed}
 
 -- a sound store that may take submissions stands for its hill
-pub sound_stands : {D : Type 0} (size : D → ℕ) (is_lawful : D → Type 0) (disk : D → Disk) (device : D) (h : HeaderParts) (hill : Hill) (arena : RawSettings) (reopen : Bool) → IsSound size is_lawful disk device h hill arena reopen → reopen ≡ false → is_lawful device → Images (disk device) (λ image. Stands (size device) image hill)
-sound_stands size is_lawful disk device h hill arena reopen sound is_open lawful =
-    ready_stands (size device) (disk device) h hill sound.room (sound.ready lawful is_open)
+pub sound_stands : {D : Type 0} (facts : DeviceFacts D) (device : D) (h : HeaderParts) (hill : Hill) (arena : RawSettings) (reopen : Bool) → IsSound facts device h hill arena reopen → reopen ≡ false → facts.lawful device → Images (facts.disk device) (λ image. Stands (facts.size device) image hill)
+sound_stands facts device h hill arena reopen sound is_open lawful =
+    ready_stands (facts.size device) (facts.disk device) h hill sound.room (sound.ready lawful is_open)
 
 -- what is known of a warrior that stays, before the first call of the device
-pub record MayAdmit {D : Type 0} (size : D → ℕ) (is_lawful : D → Type 0) (disk : D → Disk) (device : D) (h : HeaderParts) (hill : Hill) (arena : RawSettings) (reopen : Bool) (w : WarriorParts) (judged : Verdict) (slot : ℕ) : Type 0 where
-  pub sound : IsSound size is_lawful disk device h hill arena reopen
+pub record MayAdmit {D : Type 0} (facts : DeviceFacts D) (device : D) (h : HeaderParts) (hill : Hill) (arena : RawSettings) (reopen : Bool) (w : WarriorParts) (judged : Verdict) (slot : ℕ) : Type 0 where
+  pub sound : IsSound facts device h hill arena reopen
   pub is_open : reopen ≡ false
   pub more : h.generation < 2 ^ 64 - 1
   pub fits : Fits hill.settings w
@@ -48,75 +48,75 @@ admit_hill : (hill : Hill) (w : WarriorParts) (judged : Verdict) → judged ≡ 
 admit_hill hill w judged is stays_is is_hill fits =
     subst (λ fallen. IsHill (after_stay hill w fallen)) (falls_so hill w judged is) (IsHill-after_stay hill w is_hill fits (stays_so hill w judged true is stays_is))
 
-slot_within : {D : Type 0} (size : D → ℕ) (is_lawful : D → Type 0) (disk : D → Disk) (device : D) (h : HeaderParts) (hill : Hill) (arena : RawSettings) (reopen : Bool) (w : WarriorParts) (judged : Verdict) (slot : ℕ) → MayAdmit size is_lawful disk device h hill arena reopen w judged slot → slot ≤ h.settings.capacity
-slot_within size is_lawful disk device h hill arena reopen w judged slot may =
+slot_within : {D : Type 0} (facts : DeviceFacts D) (device : D) (h : HeaderParts) (hill : Hill) (arena : RawSettings) (reopen : Bool) (w : WarriorParts) (judged : Verdict) (slot : ℕ) → MayAdmit facts device h hill arena reopen w judged slot → slot ≤ h.settings.capacity
+slot_within facts device h hill arena reopen w judged slot may =
     let low : slot ≤ length h.entries = may.within in
     let few : length h.entries ≤ h.settings.capacity = may.sound.header.few in
     omega arith
 
-pub admit_header : {D : Type 0} (size : D → ℕ) (is_lawful : D → Type 0) (disk : D → Disk) (device : D) (h : HeaderParts) (hill : Hill) (arena : RawSettings) (reopen : Bool) (w : WarriorParts) (judged : Verdict) (slot : ℕ) → MayAdmit size is_lawful disk device h hill arena reopen w judged slot → IsHeaderParts (header_placed h judged.falls slot)
-admit_header size is_lawful disk device h hill arena reopen w judged slot may =
+pub admit_header : {D : Type 0} (facts : DeviceFacts D) (device : D) (h : HeaderParts) (hill : Hill) (arena : RawSettings) (reopen : Bool) (w : WarriorParts) (judged : Verdict) (slot : ℕ) → MayAdmit facts device h hill arena reopen w judged slot → IsHeaderParts (header_placed h judged.falls slot)
+admit_header facts device h hill arena reopen w judged slot may =
     placed_fits h hill w judged.falls slot may.sound.header may.sound.named (admit_hill hill w judged may.judged_is may.stays_is may.sound.is_hill may.fits) may.more may.free
-    (slot_within size is_lawful disk device h hill arena reopen w judged slot may)
+    (slot_within facts device h hill arena reopen w judged slot may)
 
-may_place : {D : Type 0} (size : D → ℕ) (is_lawful : D → Type 0) (disk : D → Disk) (device : D) (h : HeaderParts) (hill : Hill) (arena : RawSettings) (reopen : Bool) (w : WarriorParts) (judged : Verdict) (slot : ℕ) → MayAdmit size is_lawful disk device h hill arena reopen w judged slot → IsTitled w → is_lawful device → MayPlace (disk device) h hill w judged.falls slot
-may_place size is_lawful disk device h hill arena reopen w judged slot may titled lawful = record {
+may_place : {D : Type 0} (facts : DeviceFacts D) (device : D) (h : HeaderParts) (hill : Hill) (arena : RawSettings) (reopen : Bool) (w : WarriorParts) (judged : Verdict) (slot : ℕ) → MayAdmit facts device h hill arena reopen w judged slot → IsTitled w → facts.lawful device → MayPlace (facts.disk device) h hill w judged.falls slot
+may_place facts device h hill arena reopen w judged slot may titled lawful = record {
   ready = may.sound.ready lawful may.is_open;
   free = may.free;
   fits = may.fits;
   titled = titled;
-  header = admit_header size is_lawful disk device h hill arena reopen w judged slot may;
+  header = admit_header facts device h hill arena reopen w judged slot may;
 }
 
 -- the five calls were made
-pub admit_sound : {D : Type 0} (size : D → ℕ) (is_lawful : D → Type 0) (disk : D → Disk) (device new : D) (h : HeaderParts) (hill : Hill) (arena : RawSettings) (reopen : Bool) (w : WarriorParts) (judged : Verdict) (slot : ℕ) → MayAdmit size is_lawful disk device h hill arena reopen w judged slot → IsTitled w → size new ≡ size device → (is_lawful new → is_lawful device) → (is_lawful device → disk new ≡ after (places (header_placed h judged.falls slot) slot w) (disk device)) → IsSound size is_lawful disk new (header_placed h judged.falls slot) (step hill w) arena reopen
-admit_sound size is_lawful disk device new h hill arena reopen w judged slot may titled same_size same_laws made =
-    subst (λ next. IsSound size is_lawful disk new (header_placed h judged.falls slot) next arena reopen) (sym (admit_step hill w judged may.judged_is may.stays_is)) (record {
+pub admit_sound : {D : Type 0} (facts : DeviceFacts D) (device new : D) (h : HeaderParts) (hill : Hill) (arena : RawSettings) (reopen : Bool) (w : WarriorParts) (judged : Verdict) (slot : ℕ) → MayAdmit facts device h hill arena reopen w judged slot → IsTitled w → facts.size new ≡ facts.size device → (facts.lawful new → facts.lawful device) → (facts.lawful device → facts.disk new ≡ after (places (header_placed h judged.falls slot) slot w) (facts.disk device)) → IsSound facts new (header_placed h judged.falls slot) (step hill w) arena reopen
+admit_sound facts device new h hill arena reopen w judged slot may titled same_size same_laws made =
+    subst (λ next. IsSound facts new (header_placed h judged.falls slot) next arena reopen) (sym (admit_step hill w judged may.judged_is may.stays_is)) (record {
       room = subst (λ n. sectors_for hill.settings.capacity ≤ n) (sym same_size) may.sound.room;
       arena_of = may.sound.arena_of;
-      header = admit_header size is_lawful disk device h hill arena reopen w judged slot may;
+      header = admit_header facts device h hill arena reopen w judged slot may;
       is_hill = admit_hill hill w judged may.judged_is may.stays_is may.sound.is_hill may.fits;
       named = named_placed h hill w judged.falls slot may.sound.named;
-      ready = λ lawful. λ is_open. ready_placed (disk device) (disk new) h hill w judged.falls slot (may_place size is_lawful disk device h hill arena reopen w judged slot may titled (same_laws lawful)) (made (same_laws lawful));
+      ready = λ lawful. λ is_open. ready_placed (facts.disk device) (facts.disk new) h hill w judged.falls slot (may_place facts device h hill arena reopen w judged slot may titled (same_laws lawful)) (made (same_laws lawful));
     })
 
 -- they were stopped
-pub admit_cut : {D : Type 0} (size : D → ℕ) (is_lawful : D → Type 0) (disk : D → Disk) (device new : D) (h : HeaderParts) (hill : Hill) (arena : RawSettings) (reopen : Bool) (w : WarriorParts) (judged : Verdict) (slot : ℕ) → MayAdmit size is_lawful disk device h hill arena reopen w judged slot → IsTitled w → size new ≡ size device → (is_lawful device → Begun (places (header_placed h judged.falls slot) slot w) (disk device) (disk new)) → is_lawful device → Images (disk new) (λ image. Stands (size new) image hill ⊎ Stands (size new) image (step hill w))
-admit_cut size is_lawful disk device new h hill arena reopen w judged slot may titled same_size begun lawful =
-    subst (λ next. Images (disk new) (λ image. Stands (size new) image hill ⊎ Stands (size new) image next)) (sym (admit_step hill w judged may.judged_is may.stays_is))
-    (cut_placed (size new) (disk device) (disk new) h hill w judged.falls slot (subst (λ n. sectors_for hill.settings.capacity ≤ n) (sym same_size) may.sound.room)
-    (may_place size is_lawful disk device h hill arena reopen w judged slot may titled lawful) (begun lawful))
+pub admit_cut : {D : Type 0} (facts : DeviceFacts D) (device new : D) (h : HeaderParts) (hill : Hill) (arena : RawSettings) (reopen : Bool) (w : WarriorParts) (judged : Verdict) (slot : ℕ) → MayAdmit facts device h hill arena reopen w judged slot → IsTitled w → facts.size new ≡ facts.size device → (facts.lawful device → Begun (places (header_placed h judged.falls slot) slot w) (facts.disk device) (facts.disk new)) → facts.lawful device → Images (facts.disk new) (λ image. Stands (facts.size new) image hill ⊎ Stands (facts.size new) image (step hill w))
+admit_cut facts device new h hill arena reopen w judged slot may titled same_size begun lawful =
+    subst (λ next. Images (facts.disk new) (λ image. Stands (facts.size new) image hill ⊎ Stands (facts.size new) image next)) (sym (admit_step hill w judged may.judged_is may.stays_is))
+    (cut_placed (facts.size new) (facts.disk device) (facts.disk new) h hill w judged.falls slot (subst (λ n. sectors_for hill.settings.capacity ≤ n) (sym same_size) may.sound.room)
+    (may_place facts device h hill arena reopen w judged slot may titled lawful) (begun lawful))
 
 -- a warrior that falls
-pub record MayPass {D : Type 0} (size : D → ℕ) (is_lawful : D → Type 0) (disk : D → Disk) (device : D) (h : HeaderParts) (hill : Hill) (arena : RawSettings) (reopen : Bool) : Type 0 where
-  pub sound : IsSound size is_lawful disk device h hill arena reopen
+pub record MayPass {D : Type 0} (facts : DeviceFacts D) (device : D) (h : HeaderParts) (hill : Hill) (arena : RawSettings) (reopen : Bool) : Type 0 where
+  pub sound : IsSound facts device h hill arena reopen
   pub is_open : reopen ≡ false
   pub more : h.generation < 2 ^ 64 - 1
 
-pub pass_header : {D : Type 0} (size : D → ℕ) (is_lawful : D → Type 0) (disk : D → Disk) (device : D) (h : HeaderParts) (hill : Hill) (arena : RawSettings) (reopen : Bool) → MayPass size is_lawful disk device h hill arena reopen → IsHeaderParts (header_passed h)
-pass_header size is_lawful disk device h hill arena reopen may = passed_fits h hill may.sound.header may.sound.named may.sound.is_hill may.more
+pub pass_header : {D : Type 0} (facts : DeviceFacts D) (device : D) (h : HeaderParts) (hill : Hill) (arena : RawSettings) (reopen : Bool) → MayPass facts device h hill arena reopen → IsHeaderParts (header_passed h)
+pass_header facts device h hill arena reopen may = passed_fits h hill may.sound.header may.sound.named may.sound.is_hill may.more
 
-pub pass_sound : {D : Type 0} (size : D → ℕ) (is_lawful : D → Type 0) (disk : D → Disk) (device new : D) (h : HeaderParts) (hill : Hill) (arena : RawSettings) (reopen : Bool) → MayPass size is_lawful disk device h hill arena reopen → size new ≡ size device → (is_lawful new → is_lawful device) → (is_lawful device → disk new ≡ after (commits (header_passed h)) (disk device)) → IsSound size is_lawful disk new (header_passed h) (after_fall hill) arena reopen
-pass_sound size is_lawful disk device new h hill arena reopen may same_size same_laws made = record {
+pub pass_sound : {D : Type 0} (facts : DeviceFacts D) (device new : D) (h : HeaderParts) (hill : Hill) (arena : RawSettings) (reopen : Bool) → MayPass facts device h hill arena reopen → facts.size new ≡ facts.size device → (facts.lawful new → facts.lawful device) → (facts.lawful device → facts.disk new ≡ after (commits (header_passed h)) (facts.disk device)) → IsSound facts new (header_passed h) (after_fall hill) arena reopen
+pass_sound facts device new h hill arena reopen may same_size same_laws made = record {
   room = subst (λ n. sectors_for hill.settings.capacity ≤ n) (sym same_size) may.sound.room;
   arena_of = may.sound.arena_of;
-  header = pass_header size is_lawful disk device h hill arena reopen may;
+  header = pass_header facts device h hill arena reopen may;
   is_hill = hill_passed hill may.sound.is_hill;
   named = named_passed h hill may.sound.named;
-  ready = λ lawful. λ is_open. ready_passed (disk device) (disk new) h hill (may.sound.ready (same_laws lawful) is_open) (pass_header size is_lawful disk device h hill arena reopen may) (made (same_laws lawful));
+  ready = λ lawful. λ is_open. ready_passed (facts.disk device) (facts.disk new) h hill (may.sound.ready (same_laws lawful) is_open) (pass_header facts device h hill arena reopen may) (made (same_laws lawful));
 }
 
-pub pass_cut : {D : Type 0} (size : D → ℕ) (is_lawful : D → Type 0) (disk : D → Disk) (device new : D) (h : HeaderParts) (hill : Hill) (arena : RawSettings) (reopen : Bool) → MayPass size is_lawful disk device h hill arena reopen → size new ≡ size device → (is_lawful device → Begun (commits (header_passed h)) (disk device) (disk new)) → is_lawful device → Images (disk new) (λ image. Stands (size new) image hill ⊎ Stands (size new) image (after_fall hill))
-pass_cut size is_lawful disk device new h hill arena reopen may same_size begun lawful =
-    cut_passed (size new) (disk device) (disk new) h hill (subst (λ n. sectors_for hill.settings.capacity ≤ n) (sym same_size) may.sound.room)
-    (may.sound.ready lawful may.is_open) (pass_header size is_lawful disk device h hill arena reopen may) (begun lawful)
+pub pass_cut : {D : Type 0} (facts : DeviceFacts D) (device new : D) (h : HeaderParts) (hill : Hill) (arena : RawSettings) (reopen : Bool) → MayPass facts device h hill arena reopen → facts.size new ≡ facts.size device → (facts.lawful device → Begun (commits (header_passed h)) (facts.disk device) (facts.disk new)) → facts.lawful device → Images (facts.disk new) (λ image. Stands (facts.size new) image hill ⊎ Stands (facts.size new) image (after_fall hill))
+pass_cut facts device new h hill arena reopen may same_size begun lawful =
+    cut_passed (facts.size new) (facts.disk device) (facts.disk new) h hill (subst (λ n. sectors_for hill.settings.capacity ≤ n) (sym same_size) may.sound.room)
+    (may.sound.ready lawful may.is_open) (pass_header facts device h hill arena reopen may) (begun lawful)
 
-pub admit_stands : {D : Type 0} (size : D → ℕ) (is_lawful : D → Type 0) (disk : D → Disk) (device new : D) (h : HeaderParts) (hill : Hill) (arena : RawSettings) (reopen : Bool) (w : WarriorParts) (judged : Verdict) (slot : ℕ) → MayAdmit size is_lawful disk device h hill arena reopen w judged slot → IsTitled w → size new ≡ size device → is_lawful new ↔ is_lawful device → (is_lawful device → disk new ≡ after (places (header_placed h judged.falls slot) slot w) (disk device)) → is_lawful device → Images (disk new) (λ image. Stands (size new) image (step hill w))
-admit_stands size is_lawful disk device new h hill arena reopen w judged slot may titled same_size same_laws made lawful =
-    sound_stands size is_lawful disk new (header_placed h judged.falls slot) (step hill w) arena reopen
-    (admit_sound size is_lawful disk device new h hill arena reopen w judged slot may titled same_size same_laws.0 made) may.is_open (same_laws.1 lawful)
+pub admit_stands : {D : Type 0} (facts : DeviceFacts D) (device new : D) (h : HeaderParts) (hill : Hill) (arena : RawSettings) (reopen : Bool) (w : WarriorParts) (judged : Verdict) (slot : ℕ) → MayAdmit facts device h hill arena reopen w judged slot → IsTitled w → facts.size new ≡ facts.size device → facts.lawful new ↔ facts.lawful device → (facts.lawful device → facts.disk new ≡ after (places (header_placed h judged.falls slot) slot w) (facts.disk device)) → facts.lawful device → Images (facts.disk new) (λ image. Stands (facts.size new) image (step hill w))
+admit_stands facts device new h hill arena reopen w judged slot may titled same_size same_laws made lawful =
+    sound_stands facts new (header_placed h judged.falls slot) (step hill w) arena reopen
+    (admit_sound facts device new h hill arena reopen w judged slot may titled same_size same_laws.0 made) may.is_open (same_laws.1 lawful)
 
-pub pass_stands : {D : Type 0} (size : D → ℕ) (is_lawful : D → Type 0) (disk : D → Disk) (device new : D) (h : HeaderParts) (hill : Hill) (arena : RawSettings) (reopen : Bool) → MayPass size is_lawful disk device h hill arena reopen → size new ≡ size device → is_lawful new ↔ is_lawful device → (is_lawful device → disk new ≡ after (commits (header_passed h)) (disk device)) → is_lawful device → Images (disk new) (λ image. Stands (size new) image (after_fall hill))
-pass_stands size is_lawful disk device new h hill arena reopen may same_size same_laws made lawful =
-    sound_stands size is_lawful disk new (header_passed h) (after_fall hill) arena reopen
-    (pass_sound size is_lawful disk device new h hill arena reopen may same_size same_laws.0 made) may.is_open (same_laws.1 lawful)
+pub pass_stands : {D : Type 0} (facts : DeviceFacts D) (device new : D) (h : HeaderParts) (hill : Hill) (arena : RawSettings) (reopen : Bool) → MayPass facts device h hill arena reopen → facts.size new ≡ facts.size device → facts.lawful new ↔ facts.lawful device → (facts.lawful device → facts.disk new ≡ after (commits (header_passed h)) (facts.disk device)) → facts.lawful device → Images (facts.disk new) (λ image. Stands (facts.size new) image (after_fall hill))
+pass_stands facts device new h hill arena reopen may same_size same_laws made lawful =
+    sound_stands facts new (header_passed h) (after_fall hill) arena reopen
+    (pass_sound facts device new h hill arena reopen may same_size same_laws.0 made) may.is_open (same_laws.1 lawful)

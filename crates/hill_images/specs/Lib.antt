@@ -2,5 +2,6 @@ pub mod Stands
 pub mod Places
 pub mod Found
 pub mod Named
+pub mod Reading
 pub mod Opening
 pub mod Laws

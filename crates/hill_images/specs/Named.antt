@@ -1,7 +1,7 @@
 -- A header and the hill that it names.
-use Rattle.std.specs.Prelude.{◌≡◌, ℕ, ◌≤◌, Bool, false, List, [], ◌∷◌}
+use Rattle.std.specs.Prelude.{◌≡◌, ◌≤◌, Bool, false, List, [], ◌∷◌}
 use Rattle.war_types.specs.declared.settings.RawSettings.{RawSettings}
-use Rattle.sector_disk.specs.Disk.{Disk}
+use Rattle.sector_disk.specs.Facts.{DeviceFacts}
 use Rattle.koth_hill.specs.Hill.{Member, Hill, IsHill}
 use Rattle.hill_bytes.specs.declared.header.HeaderEntry.{HeaderEntry}
 use Rattle.hill_bytes.specs.Layout.{HeaderParts, IsHeaderParts, sectors_for}
@@ -21,10 +21,10 @@ pub record IsNamed (h : HeaderParts) (hill : Hill) : Type 0 where
   pub entries : Agree h.entries hill.members
 
 -- what every store keeps
-pub record IsSound {D : Type 0} (size : D → ℕ) (is_lawful : D → Type 0) (disk : D → Disk) (device : D) (h : HeaderParts) (hill : Hill) (arena : RawSettings) (reopen : Bool) : Type 0 where
-  pub room : sectors_for hill.settings.capacity ≤ size device
+pub record IsSound {D : Type 0} (facts : DeviceFacts D) (device : D) (h : HeaderParts) (hill : Hill) (arena : RawSettings) (reopen : Bool) : Type 0 where
+  pub room : sectors_for hill.settings.capacity ≤ facts.size device
   pub arena_of : arena ≡ hill.settings
   pub header : IsHeaderParts h
   pub is_hill : IsHill hill
   pub named : IsNamed h hill
-  pub ready : is_lawful device → reopen ≡ false → IsReady (disk device) h hill
+  pub ready : facts.lawful device → reopen ≡ false → IsReady (facts.disk device) h hill

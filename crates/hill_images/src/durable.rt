@@ -18,10 +18,10 @@ pub fn place<D: Device, A: Allocator>(
     slot: u8,
     warrior: &Warrior<A>,
 ) -> Result<(), Fault>
-    requires { back_sector slot < D.size device.old }
-    ensures served { IsServed D.size D.lawful D.failures device.old device.new result }
+    requires { back_sector slot < D.facts.size device.old }
+    ensures served { IsServed D.facts device.old device.new result }
     ensures titled { IsTitled warrior.now }
-    ensures changes { D.lawful device.old → Changes (places header.now slot warrior.now) (D.disk device.old) (D.disk device.new) result }
+    ensures changes { D.facts.lawful device.old → Changes (places header.now slot warrior.now) (D.facts.disk device.old) (D.facts.disk device.new) result }
 {
     let sectors = Slot::encode(warrior);
     device.write(2 + 2 * u32::from(slot), &sectors.front)?;
@@ -34,9 +34,9 @@ pub fn place<D: Device, A: Allocator>(
 /// Writes a header, in the sector of its generation's parity. The one before it stays in the other until this one has
 /// reached the disk.
 pub fn commit<D: Device>(device: &mut D, header: &Header) -> Result<(), Fault>
-    requires { 2 ≤ D.size device.old }
-    ensures served { IsServed D.size D.lawful D.failures device.old device.new result }
-    ensures changes { D.lawful device.old → Changes (commits header.now) (D.disk device.old) (D.disk device.new) result }
+    requires { 2 ≤ D.facts.size device.old }
+    ensures served { IsServed D.facts device.old device.new result }
+    ensures changes { D.facts.lawful device.old → Changes (commits header.now) (D.facts.disk device.old) (D.facts.disk device.new) result }
 {
     let sector = (header.generation() % 2) as u32;
     device.write(sector, &encode_header(header))?;

@@ -12,10 +12,10 @@ use sector_disk::{Device, Fault};
 
 /// The newest header on a device; `None` where it holds none. Nothing is written.
 pub fn newest_header<D: Device>(device: &mut D) -> Result<Option<Header>, Fault>
-    requires { 2 ≤ D.size device.old }
-    ensures served { IsServed D.size D.lawful D.failures device.old device.new result }
-    ensures kept { D.lawful device.old → D.disk device.new ≡ D.disk device.old }
-    ensures found { D.lawful device.old → IfOk result (IsNewestFound (current (D.disk device.old))) }
+    requires { 2 ≤ D.facts.size device.old }
+    ensures served { IsServed D.facts device.old device.new result }
+    ensures kept { D.facts.lawful device.old → D.facts.disk device.new ≡ D.facts.disk device.old }
+    ensures found { D.facts.lawful device.old → IfOk result (IsNewestFound (current (D.facts.disk device.old))) }
 {
     let even = read_header(device, 0)?;
     let odd = read_header(device, 1)?;
@@ -24,10 +24,10 @@ pub fn newest_header<D: Device>(device: &mut D) -> Result<Option<Header>, Fault>
 
 /// The header that a sector holds; `None` where it holds none, or one of the other parity.
 fn read_header<D: Device>(device: &mut D, n: u32) -> Result<Option<Header>, Fault>
-    requires { n < D.size device.old }
-    ensures served { IsServed D.size D.lawful D.failures device.old device.new result }
-    ensures kept { D.lawful device.old → D.disk device.new ≡ D.disk device.old }
-    ensures found { D.lawful device.old → IfOk result (IsFoundIn n (current (D.disk device.old) n)) }
+    requires { n < D.facts.size device.old }
+    ensures served { IsServed D.facts device.old device.new result }
+    ensures kept { D.facts.lawful device.old → D.facts.disk device.new ≡ D.facts.disk device.old }
+    ensures found { D.facts.lawful device.old → IfOk result (IsFoundIn n (current (D.facts.disk device.old) n)) }
 {
     let mut bytes = [0; 512];
     device.read(n, &mut bytes)?;

@@ -2,8 +2,9 @@
 //! `hill_bytes`, and knows warriors, but not the language of their sources.
 //!
 //! Data passes through the modules in this order: `entries` is the next header, and the slot that is free for a warrior; `durable`
-//! writes a slot and then the header that names it; `found` is the newest header that a device holds; `opening` writes the first
-//! header of a hill, or reads one back, and `refusal` says why it doesn't; `laws` are laws of the definitions.
+//! writes a slot and then the header that names it; `found` is the newest header that a device holds, and `reading` are the warriors
+//! that it names; `opening` writes the first header of a hill, or reads one back, and `refusal` says why it doesn't; `laws` are laws of
+//! the definitions.
 //!
 //! The main clauses: `place` and `commit` make the changes of `Places` in `specs` or begin them; `recover` answers the hill that
 //! the device reads as, settled so that no stop can lose it, or why there is none (`Opening`); an image stands for one hill at
@@ -15,6 +16,7 @@ mod entries;
 mod found;
 mod laws;
 mod opening;
+mod reading;
 mod refusal;
 
 pub use durable::{commit, place};

@@ -1,7 +1,8 @@
 -- What opening decides of a device that may stand for either of two hills.
 use Rattle.std.proofs.Common.{◌≡◌, ◌⊎◌, inl, inr, ℕ, ◌<◌, ◌≤◌, List, [], ◌∷◌, ◌++◌, Option, Some, None, refl, sym, ap, subst, ◌∙◌, arith}
 use Rattle.war_types.specs.declared.settings.RawSettings.{RawSettings}
-use Rattle.sector_disk.specs.Disk.{Disk, current, synced}
+use Rattle.sector_disk.specs.Facts.{DeviceFacts}
+use Rattle.sector_disk.specs.Disk.{current, synced}
 use Rattle.sector_disk.specs.Image.{Images}
 use Rattle.sector_disk.specs.Changes.{Begun}
 use Rattle.sector_disk.proofs.Images.{images_read, images_sync}
@@ -12,42 +13,43 @@ use Rattle.hill_bytes.specs.Layout.{HeaderParts, sectors_for}
 use Rattle.hill_store.specs.Earned.{earned}
 use Rattle.hill_images.specs.Stands.{Shows, Stands}
 use Rattle.hill_store.specs.Seen.{Seen}
-use Rattle.hill_images.specs.Opening.{IsKept, IsNotOpened, Refuses}
+use Rattle.sector_disk.specs.Served.{IsKept}
+use Rattle.hill_images.specs.Opening.{IsNotOpened, Refuses}
 use Rattle.hill_store.specs.Opened.{IsCreated, IsOpened}
 use Rattle.hill_store.specs.Holding.{StandsFor, Holds, IsHolding, IsDecided, IsUndecided}
 use Rattle.hill_images.proofs.Newest.{one_newest, stands_once}
 
 -- a hill that was created holds no sources
-pub created_holds : {D : Type 0} (size : D → ℕ) (is_lawful : D → Type 0) (disk : D → Disk) (failures : D → ℕ) (old : D) (s : RawSettings) (store : Seen D) → IsKept size is_lawful failures old store.device → IsCreated size is_lawful disk old s store → is_lawful old → IsHolding size is_lawful disk s [] store
-created_holds size is_lawful disk failures old s store kept created lawful = record {
+pub created_holds : {D : Type 0} (facts : DeviceFacts D) (old : D) (s : RawSettings) (store : Seen D) → IsKept facts old store.device → IsCreated facts old s store → facts.lawful old → IsHolding facts s [] store
+created_holds facts old s store kept created lawful = record {
   lawful = kept.same_laws.1 lawful;
   open_now = created.open_now;
   hill = created.hill;
   holds = created.stands lawful;
 }
 
-opened_holding : {D : Type 0} (size : D → ℕ) (is_lawful : D → Type 0) (disk : D → Disk) (failures : D → ℕ) (old : D) (s : RawSettings) (found : List (List ℕ)) (store : Seen D) → IsKept size is_lawful failures old store.device → IsOpened size is_lawful disk old store → is_lawful old → Stands (size old) (current (disk old)) (earned s found) → IsHolding size is_lawful disk s found store
-opened_holding size is_lawful disk failures old s found store kept opened lawful stands = record {
+opened_holding : {D : Type 0} (facts : DeviceFacts D) (old : D) (s : RawSettings) (found : List (List ℕ)) (store : Seen D) → IsKept facts old store.device → IsOpened facts old store → facts.lawful old → Stands (facts.size old) (current (facts.disk old)) (earned s found) → IsHolding facts s found store
+opened_holding facts old s found store kept opened lawful stands = record {
   lawful = kept.same_laws.1 lawful;
   open_now = opened.open_now;
   hill = same;
-  holds = subst (λ h. Images (disk store.device) (λ image. Stands (size store.device) image h)) same (opened.stands lawful);
+  holds = subst (λ h. Images (facts.disk store.device) (λ image. Stands (facts.size store.device) image h)) same (opened.stands lawful);
 }
   where
     same : store.hill ≡ earned s found
-    same = stands_once (size old) (current (disk old)) store.hill (earned s found) (opened.reads_as lawful) stands
+    same = stands_once (facts.size old) (current (facts.disk old)) store.hill (earned s found) (opened.reads_as lawful) stands
 
 -- the hill that was opened
-pub decided : {D : Type 0} (size : D → ℕ) (is_lawful : D → Type 0) (disk : D → Disk) (failures : D → ℕ) (old : D) (s : RawSettings) (before : List (List ℕ)) (more : Option (List ℕ)) (store : Seen D) → IsKept size is_lawful failures old store.device → IsOpened size is_lawful disk old store → is_lawful old → Holds (size old) (disk old) s before more → IsDecided size is_lawful disk s before more store
-decided size is_lawful disk failures old s before None store kept opened lawful holds = record {
+pub decided : {D : Type 0} (facts : DeviceFacts D) (old : D) (s : RawSettings) (before : List (List ℕ)) (more : Option (List ℕ)) (store : Seen D) → IsKept facts old store.device → IsOpened facts old store → facts.lawful old → Holds (facts.size old) (facts.disk old) s before more → IsDecided facts s before more store
+decided facts old s before None store kept opened lawful holds = record {
   found = before;
   are = refl;
-  holding = opened_holding size is_lawful disk failures old s before store kept opened lawful
-      (images_read (disk old) (StandsFor (size old) s before None) holds);
+  holding = opened_holding facts old s before store kept opened lawful
+      (images_read (facts.disk old) (StandsFor (facts.size old) s before None) holds);
 }
-decided size is_lawful disk failures old s before (Some source) store kept opened lawful holds = elim (images_read (disk old) (StandsFor (size old) s before (Some source)) holds) [
-  | inl stands ↦ record { found = before; are = inl refl; holding = opened_holding size is_lawful disk failures old s before store kept opened lawful stands }
-  | inr stands ↦ record { found = before ++ source ∷ []; are = inr refl; holding = opened_holding size is_lawful disk failures old s (before ++ source ∷ []) store kept opened lawful stands }
+decided facts old s before (Some source) store kept opened lawful holds = elim (images_read (facts.disk old) (StandsFor (facts.size old) s before (Some source)) holds) [
+  | inl stands ↦ record { found = before; are = inl refl; holding = opened_holding facts old s before store kept opened lawful stands }
+  | inr stands ↦ record { found = before ++ source ∷ []; are = inr refl; holding = opened_holding facts old s (before ++ source ∷ []) store kept opened lawful stands }
 ]
 
 -- a device that reads as a hill is refused for want of memory or for a failure alone
@@ -57,7 +59,7 @@ reason_of size image hill refusals.Memory stands reason = inr refl
 reason_of size image hill refusals.Occupied stands reason = absurd reason
 reason_of size image hill refusals.NotAHill stands reason = absurd (reason stands.header stands.shows.newest.here)
 reason_of size image hill refusals.Damaged stands reason =
-    absurd (reason.2 hill (subst (λ h. Shows image h hill) (one_newest image stands.header reason.0 stands.shows.newest reason.1) stands.shows))
+    absurd (reason.3 hill (subst (λ h. Shows image h hill) (one_newest image stands.header reason.0 stands.shows.newest reason.1) stands.shows))
 reason_of size image hill refusals.TooSmall stands (inl few) = let room : sectors_for hill.settings.capacity ≤ size = stands.room in absurd (omega (arith, few, room))
 reason_of size image hill refusals.TooSmall stands (inr few) =
     let room : sectors_for hill.settings.capacity ≤ size = stands.room in
@@ -71,15 +73,15 @@ any_reason size image s before (Some source) why (inl stands) reason = reason_of
 any_reason size image s before (Some source) why (inr stands) reason = reason_of size image (earned s (before ++ source ∷ [])) why stands reason
 
 -- no hill was opened
-pub undecided : {D : Type 0} (size : D → ℕ) (is_lawful : D → Type 0) (disk : D → Disk) (failures : D → ℕ) (old : D) (s : RawSettings) (before : List (List ℕ)) (more : Option (List ℕ)) (new : D) (why : Refusal) → IsKept size is_lawful failures old new → IsNotOpened size is_lawful disk failures old new why → is_lawful old → Holds (size old) (disk old) s before more → IsUndecided size disk s before more new why
-undecided size is_lawful disk failures old s before more new why kept refused lawful holds = record {
-  cause = any_reason (size old) (current (disk old)) s before more why reads (refused.reason lawful);
-  holds = subst (λ n. Holds n (disk new) s before more) (sym kept.same_size) (held (refused.kept lawful));
+pub undecided : {D : Type 0} (facts : DeviceFacts D) (old : D) (s : RawSettings) (before : List (List ℕ)) (more : Option (List ℕ)) (new : D) (why : Refusal) → IsKept facts old new → IsNotOpened facts old new why → facts.lawful old → Holds (facts.size old) (facts.disk old) s before more → IsUndecided facts s before more new why
+undecided facts old s before more new why kept refused lawful holds = record {
+  cause = any_reason (facts.size old) (current (facts.disk old)) s before more why reads (refused.reason lawful);
+  holds = subst (λ n. Holds n (facts.disk new) s before more) (sym kept.same_size) (held (refused.kept lawful));
 }
   where
-    reads : StandsFor (size old) s before more (current (disk old))
-    reads = images_read (disk old) (StandsFor (size old) s before more) holds
+    reads : StandsFor (facts.size old) s before more (current (facts.disk old))
+    reads = images_read (facts.disk old) (StandsFor (facts.size old) s before more) holds
 
-    held : Begun (synced ∷ []) (disk old) (disk new) → Holds (size old) (disk new) s before more
-    held (inl same) = subst (λ d. Holds (size old) d s before more) (sym same) holds
-    held (inr same) = subst (λ d. Holds (size old) d s before more) (sym same) (images_sync (disk old) (StandsFor (size old) s before more) reads)
+    held : Begun (synced ∷ []) (facts.disk old) (facts.disk new) → Holds (facts.size old) (facts.disk new) s before more
+    held (inl same) = subst (λ d. Holds (facts.size old) d s before more) (sym same) holds
+    held (inr same) = subst (λ d. Holds (facts.size old) d s before more) (sym same) (images_sync (facts.disk old) (StandsFor (facts.size old) s before more) reads)

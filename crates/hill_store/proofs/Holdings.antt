@@ -1,7 +1,7 @@
 -- What a store holds after each submission, and after a list of them.
 use Rattle.std.proofs.Common.{◌≡◌, ◌⊎◌, ℕ, true, false, List, [], ◌∷◌, ◌++◌, Option, refl, sym, ap, subst, ◌∙◌, append-nil, append_assoc}
 use Rattle.war_types.specs.declared.settings.RawSettings.{RawSettings}
-use Rattle.sector_disk.specs.Disk.{Disk}
+use Rattle.sector_disk.specs.Facts.{DeviceFacts}
 use Rattle.sector_disk.specs.Image.{Images}
 use Rattle.koth_hill.specs.Hill.{Hill}
 use Rattle.koth_hill.specs.Step.{new_hill}
@@ -25,110 +25,110 @@ true_false : true ≡ false → ⊥
 true_false same = cc
 
 -- nothing was submitted
-left_holds : {D : Type 0} (size : D → ℕ) (is_lawful : D → Type 0) (disk : D → Disk) (s : RawSettings) (before : List (List ℕ)) (old new : Seen D) → IsHolding size is_lawful disk s before old → new ≡ old → IsHolding size is_lawful disk s (before ++ []) new
-left_holds size is_lawful disk s before old new holding same =
-    subst (λ xs. IsHolding size is_lawful disk s xs new) (sym (append-nil before))
-    (subst (λ store. IsHolding size is_lawful disk s before store) (sym same) holding)
+left_holds : {D : Type 0} (facts : DeviceFacts D) (s : RawSettings) (before : List (List ℕ)) (old new : Seen D) → IsHolding facts s before old → new ≡ old → IsHolding facts s (before ++ []) new
+left_holds facts s before old new holding same =
+    subst (λ xs. IsHolding facts s xs new) (sym (append-nil before))
+    (subst (λ store. IsHolding facts s before store) (sym same) holding)
 
 -- the source was refused, and takes the hill no step
-refused_holds : {D : Type 0} (size : D → ℕ) (is_lawful : D → Type 0) (disk : D → Disk) (s : RawSettings) (before : List (List ℕ)) (source : List ℕ) (old new : Seen D) → IsHolding size is_lawful disk s before old → step_source old.hill source ≡ old.hill → new ≡ old → IsHolding size is_lawful disk s (before ++ source ∷ []) new
-refused_holds {D} size is_lawful disk s before source old new holding stays same =
-    subst (λ store. IsHolding size is_lawful disk s (before ++ source ∷ []) store) (sym same) (record {
+refused_holds : {D : Type 0} (facts : DeviceFacts D) (s : RawSettings) (before : List (List ℕ)) (source : List ℕ) (old new : Seen D) → IsHolding facts s before old → step_source old.hill source ≡ old.hill → new ≡ old → IsHolding facts s (before ++ source ∷ []) new
+refused_holds {D} facts s before source old new holding stays same =
+    subst (λ store. IsHolding facts s (before ++ source ∷ []) store) (sym same) (record {
       lawful = holding.lawful;
       open_now = holding.open_now;
       hill = holding.hill ∙ sym next;
-      holds = subst (λ h. Images (disk old.device) (λ image. Stands (size old.device) image h)) (sym next) holding.holds;
+      holds = subst (λ h. Images (facts.disk old.device) (λ image. Stands (facts.size old.device) image h)) (sym next) holding.holds;
     })
   where
     next : earned s (before ++ source ∷ []) ≡ earned s before
     next = earned_more s before source ∙ ap (λ h. step_source h source) (sym holding.hill) ∙ stays ∙ holding.hill
 
 -- it was placed or fell
-answered_holds : {D : Type 0} (size : D → ℕ) (is_lawful : D → Type 0) (disk : D → Disk) (s : RawSettings) (before : List (List ℕ)) (source : List ℕ) (old new : Seen D) → IsHolding size is_lawful disk s before old → is_lawful new.device → IsAnswered size is_lawful disk old (step_source old.hill source) new → IsHolding size is_lawful disk s (before ++ source ∷ []) new
-answered_holds size is_lawful disk s before source old new holding lawful is = record {
+answered_holds : {D : Type 0} (facts : DeviceFacts D) (s : RawSettings) (before : List (List ℕ)) (source : List ℕ) (old new : Seen D) → IsHolding facts s before old → facts.lawful new.device → IsAnswered facts old (step_source old.hill source) new → IsHolding facts s (before ++ source ∷ []) new
+answered_holds facts s before source old new holding lawful is = record {
   lawful = lawful;
   open_now = is.open_still;
   hill = is.hill ∙ next;
-  holds = subst (λ h. Images (disk new.device) (λ image. Stands (size new.device) image h)) next (is.stands holding.lawful);
+  holds = subst (λ h. Images (facts.disk new.device) (λ image. Stands (facts.size new.device) image h)) next (is.stands holding.lawful);
 }
   where
     next : step_source old.hill source ≡ earned s (before ++ source ∷ [])
     next = ap (λ h. step_source h source) holding.hill ∙ sym (earned_more s before source)
 
 -- the device failed
-cut_holds : {D : Type 0} (size : D → ℕ) (is_lawful : D → Type 0) (disk : D → Disk) (failures : D → ℕ) (s : RawSettings) (before : List (List ℕ)) (source : List ℕ) (old new : Seen D) → IsHolding size is_lawful disk s before old → is_lawful new.device → IsCut size is_lawful disk failures old (step_source old.hill source) new → IsCutOff size is_lawful disk s (before ++ []) source new
-cut_holds size is_lawful disk failures s before source old new holding lawful is =
-    subst (λ xs. IsCutOff size is_lawful disk s xs source new) (sym (append-nil before)) (record {
+cut_holds : {D : Type 0} (facts : DeviceFacts D) (s : RawSettings) (before : List (List ℕ)) (source : List ℕ) (old new : Seen D) → IsHolding facts s before old → facts.lawful new.device → IsCut facts old (step_source old.hill source) new → IsCutOff facts s (before ++ []) source new
+cut_holds facts s before source old new holding lawful is =
+    subst (λ xs. IsCutOff facts s xs source new) (sym (append-nil before)) (record {
       lawful = lawful;
       broken = is.broken;
       hill = is.hill ∙ holding.hill;
-      holds = subst (λ h. Images (disk new.device) (λ image. Stands (size new.device) image (earned s before) ⊎ Stands (size new.device) image h)) (sym (earned_more s before source))
-          (subst (λ h. Images (disk new.device) (λ image. Stands (size new.device) image h ⊎ Stands (size new.device) image (step_source h source))) holding.hill (is.stands holding.lawful));
+      holds = subst (λ h. Images (facts.disk new.device) (λ image. Stands (facts.size new.device) image (earned s before) ⊎ Stands (facts.size new.device) image h)) (sym (earned_more s before source))
+          (subst (λ h. Images (facts.disk new.device) (λ image. Stands (facts.size new.device) image h ⊎ Stands (facts.size new.device) image (step_source h source))) holding.hill (is.stands holding.lawful));
     })
 
 -- after one submission
-pub holds_one : {D : Type 0} (size : D → ℕ) (is_lawful : D → Type 0) (disk : D → Disk) (failures : D → ℕ) (s : RawSettings) (before : List (List ℕ)) (old new : Seen D) (source : List ℕ) (reply : Reply) → IsHolding size is_lawful disk s before old → is_lawful new.device → Submits size is_lawful disk failures old source reply new → HoldsMore size is_lawful disk s before (source ∷ []) (reply ∷ []) new
-holds_one size is_lawful disk failures s before old new source (replies.Placed entry rank score) holding lawful submits =
-    answered_holds size is_lawful disk s before source old new holding lawful submits.1
-holds_one size is_lawful disk failures s before old new source (replies.Fell entry score) holding lawful submits =
-    answered_holds size is_lawful disk s before source old new holding lawful submits.1
-holds_one size is_lawful disk failures s before old new source (replies.Refused fault) holding lawful submits =
-    let left : IsLeft old new = submits.2 in refused_holds size is_lawful disk s before source old new holding submits.1 left.same
-holds_one size is_lawful disk failures s before old new source replies.Memory holding lawful submits =
-    let left : IsLeft old new = submits in left_holds size is_lawful disk s before old new holding left.same
-holds_one size is_lawful disk failures s before old new source replies.Worn holding lawful submits =
-    let left : IsLeft old new = submits.2 in left_holds size is_lawful disk s before old new holding left.same
-holds_one size is_lawful disk failures s before old new source replies.Disk holding lawful submits =
-    cut_holds size is_lawful disk failures s before source old new holding lawful submits
-holds_one size is_lawful disk failures s before old new source replies.Reopen holding lawful submits =
+pub holds_one : {D : Type 0} (facts : DeviceFacts D) (s : RawSettings) (before : List (List ℕ)) (old new : Seen D) (source : List ℕ) (reply : Reply) → IsHolding facts s before old → facts.lawful new.device → Submits facts old source reply new → HoldsMore facts s before (source ∷ []) (reply ∷ []) new
+holds_one facts s before old new source (replies.Placed entry rank score) holding lawful submits =
+    answered_holds facts s before source old new holding lawful submits.1
+holds_one facts s before old new source (replies.Fell entry score) holding lawful submits =
+    answered_holds facts s before source old new holding lawful submits.1
+holds_one facts s before old new source (replies.Refused fault) holding lawful submits =
+    let left : IsLeft old new = submits.2 in refused_holds facts s before source old new holding submits.1 left.same
+holds_one facts s before old new source replies.Memory holding lawful submits =
+    let left : IsLeft old new = submits in left_holds facts s before old new holding left.same
+holds_one facts s before old new source replies.Worn holding lawful submits =
+    let left : IsLeft old new = submits.2 in left_holds facts s before old new holding left.same
+holds_one facts s before old new source replies.Disk holding lawful submits =
+    cut_holds facts s before source old new holding lawful submits.1
+holds_one facts s before old new source replies.Reopen holding lawful submits =
     absurd (true_false (sym submits.0 ∙ holding.open_now))
 
 -- the sources before a list, and those of it that were answered
-more_holds : {D : Type 0} (size : D → ℕ) (is_lawful : D → Type 0) (disk : D → Disk) (s : RawSettings) (before xs : List (List ℕ)) (x : List ℕ) (cut : Option (List ℕ)) (new : Seen D) → IsHeldWith size is_lawful disk s ((before ++ x ∷ []) ++ xs) cut new → IsHeldWith size is_lawful disk s (before ++ x ∷ xs) cut new
-more_holds size is_lawful disk s before xs x cut new holds =
-    subst (λ ys. IsHeldWith size is_lawful disk s ys cut new) (append_assoc before (x ∷ []) xs) holds
+more_holds : {D : Type 0} (facts : DeviceFacts D) (s : RawSettings) (before xs : List (List ℕ)) (x : List ℕ) (cut : Option (List ℕ)) (new : Seen D) → IsHeldWith facts s ((before ++ x ∷ []) ++ xs) cut new → IsHeldWith facts s (before ++ x ∷ xs) cut new
+more_holds facts s before xs x cut new holds =
+    subst (λ ys. IsHeldWith facts s ys cut new) (append_assoc before (x ∷ []) xs) holds
 
-none_holds : {D : Type 0} (size : D → ℕ) (is_lawful : D → Type 0) (disk : D → Disk) (s : RawSettings) (before : List (List ℕ)) (store : Seen D) → IsHolding size is_lawful disk s (before ++ []) store → IsHolding size is_lawful disk s before store
-none_holds size is_lawful disk s before store holds = subst (λ xs. IsHolding size is_lawful disk s xs store) (append-nil before) holds
+none_holds : {D : Type 0} (facts : DeviceFacts D) (s : RawSettings) (before : List (List ℕ)) (store : Seen D) → IsHolding facts s (before ++ []) store → IsHolding facts s before store
+none_holds facts s before store holds = subst (λ xs. IsHolding facts s xs store) (append-nil before) holds
 
 -- nothing was submitted behind a `Disk`
-stopped_holds : {D : Type 0} (size : D → ℕ) (is_lawful : D → Type 0) (disk : D → Disk) (failures : D → ℕ) (s : RawSettings) (before xs : List (List ℕ)) (x : List ℕ) (rs : List Reply) (mid new : Seen D) → RunsOn size is_lawful disk failures true mid xs rs new → IsCutOff size is_lawful disk s (before ++ []) x mid → HoldsMore size is_lawful disk s before (x ∷ xs) (replies.Disk ∷ rs) new
-stopped_holds size is_lawful disk failures s before [] x [] mid new runs cut =
-    subst (λ store. IsCutOff size is_lawful disk s (before ++ []) x store) (sym runs) cut
-stopped_holds size is_lawful disk failures s before (y ∷ xs) x [] mid new runs cut =
-    subst (λ store. IsCutOff size is_lawful disk s (before ++ []) x store) (sym runs) cut
-stopped_holds size is_lawful disk failures s before [] x (r ∷ rs) mid new runs cut = absurd runs
-stopped_holds size is_lawful disk failures s before (y ∷ xs) x (r ∷ rs) mid new runs cut = absurd runs
+stopped_holds : {D : Type 0} (facts : DeviceFacts D) (s : RawSettings) (before xs : List (List ℕ)) (x : List ℕ) (rs : List Reply) (mid new : Seen D) → RunsOn facts true mid xs rs new → IsCutOff facts s (before ++ []) x mid → HoldsMore facts s before (x ∷ xs) (replies.Disk ∷ rs) new
+stopped_holds facts s before [] x [] mid new runs cut =
+    subst (λ store. IsCutOff facts s (before ++ []) x store) (sym runs) cut
+stopped_holds facts s before (y ∷ xs) x [] mid new runs cut =
+    subst (λ store. IsCutOff facts s (before ++ []) x store) (sym runs) cut
+stopped_holds facts s before [] x (r ∷ rs) mid new runs cut = absurd runs
+stopped_holds facts s before (y ∷ xs) x (r ∷ rs) mid new runs cut = absurd runs
 
 -- after a list of them
-pub holds_runs : {D : Type 0} (size : D → ℕ) (is_lawful : D → Type 0) (disk : D → Disk) (failures : D → ℕ) (s : RawSettings) (before : List (List ℕ)) (old new : Seen D) (xs : List (List ℕ)) (rs : List Reply) → RunsOn size is_lawful disk failures false old xs rs new → IsHolding size is_lawful disk s before old → HoldsMore size is_lawful disk s before xs rs new
-holds_runs size is_lawful disk failures s before old new [] [] runs holding = left_holds size is_lawful disk s before old new holding runs
-holds_runs size is_lawful disk failures s before old new [] (r ∷ rs) runs holding = absurd runs
-holds_runs size is_lawful disk failures s before old new (x ∷ xs) [] runs holding = absurd runs
-holds_runs size is_lawful disk failures s before old new (x ∷ xs) (replies.Placed entry rank score ∷ rs) runs holding =
-    more_holds size is_lawful disk s before (answered xs rs) x (under_way xs rs) new
-    (holds_runs size is_lawful disk failures s (before ++ x ∷ []) runs.0 new xs rs runs.2
-    (holds_one size is_lawful disk failures s before old runs.0 x (replies.Placed entry rank score) holding (runs.1.kept.same_laws.1 holding.lawful) runs.1.submits))
-holds_runs size is_lawful disk failures s before old new (x ∷ xs) (replies.Fell entry score ∷ rs) runs holding =
-    more_holds size is_lawful disk s before (answered xs rs) x (under_way xs rs) new
-    (holds_runs size is_lawful disk failures s (before ++ x ∷ []) runs.0 new xs rs runs.2
-    (holds_one size is_lawful disk failures s before old runs.0 x (replies.Fell entry score) holding (runs.1.kept.same_laws.1 holding.lawful) runs.1.submits))
-holds_runs size is_lawful disk failures s before old new (x ∷ xs) (replies.Refused fault ∷ rs) runs holding =
-    more_holds size is_lawful disk s before (answered xs rs) x (under_way xs rs) new
-    (holds_runs size is_lawful disk failures s (before ++ x ∷ []) runs.0 new xs rs runs.2
-    (holds_one size is_lawful disk failures s before old runs.0 x (replies.Refused fault) holding (runs.1.kept.same_laws.1 holding.lawful) runs.1.submits))
-holds_runs size is_lawful disk failures s before old new (x ∷ xs) (replies.Memory ∷ rs) runs holding =
-    holds_runs size is_lawful disk failures s before runs.0 new xs rs runs.2
-    (none_holds size is_lawful disk s before runs.0
-    (holds_one size is_lawful disk failures s before old runs.0 x replies.Memory holding (runs.1.kept.same_laws.1 holding.lawful) runs.1.submits))
-holds_runs size is_lawful disk failures s before old new (x ∷ xs) (replies.Worn ∷ rs) runs holding =
-    holds_runs size is_lawful disk failures s before runs.0 new xs rs runs.2
-    (none_holds size is_lawful disk s before runs.0
-    (holds_one size is_lawful disk failures s before old runs.0 x replies.Worn holding (runs.1.kept.same_laws.1 holding.lawful) runs.1.submits))
-holds_runs size is_lawful disk failures s before old new (x ∷ xs) (replies.Reopen ∷ rs) runs holding =
-    holds_runs size is_lawful disk failures s before runs.0 new xs rs runs.2
-    (none_holds size is_lawful disk s before runs.0
-    (holds_one size is_lawful disk failures s before old runs.0 x replies.Reopen holding (runs.1.kept.same_laws.1 holding.lawful) runs.1.submits))
-holds_runs size is_lawful disk failures s before old new (x ∷ xs) (replies.Disk ∷ rs) runs holding =
-    stopped_holds size is_lawful disk failures s before xs x rs runs.0 new runs.2
-    (holds_one size is_lawful disk failures s before old runs.0 x replies.Disk holding (runs.1.kept.same_laws.1 holding.lawful) runs.1.submits)
+pub holds_runs : {D : Type 0} (facts : DeviceFacts D) (s : RawSettings) (before : List (List ℕ)) (old new : Seen D) (xs : List (List ℕ)) (rs : List Reply) → RunsOn facts false old xs rs new → IsHolding facts s before old → HoldsMore facts s before xs rs new
+holds_runs facts s before old new [] [] runs holding = left_holds facts s before old new holding runs
+holds_runs facts s before old new [] (r ∷ rs) runs holding = absurd runs
+holds_runs facts s before old new (x ∷ xs) [] runs holding = absurd runs
+holds_runs facts s before old new (x ∷ xs) (replies.Placed entry rank score ∷ rs) runs holding =
+    more_holds facts s before (answered xs rs) x (under_way xs rs) new
+    (holds_runs facts s (before ++ x ∷ []) runs.0 new xs rs runs.2
+    (holds_one facts s before old runs.0 x (replies.Placed entry rank score) holding (runs.1.kept.same_laws.1 holding.lawful) runs.1.submits))
+holds_runs facts s before old new (x ∷ xs) (replies.Fell entry score ∷ rs) runs holding =
+    more_holds facts s before (answered xs rs) x (under_way xs rs) new
+    (holds_runs facts s (before ++ x ∷ []) runs.0 new xs rs runs.2
+    (holds_one facts s before old runs.0 x (replies.Fell entry score) holding (runs.1.kept.same_laws.1 holding.lawful) runs.1.submits))
+holds_runs facts s before old new (x ∷ xs) (replies.Refused fault ∷ rs) runs holding =
+    more_holds facts s before (answered xs rs) x (under_way xs rs) new
+    (holds_runs facts s (before ++ x ∷ []) runs.0 new xs rs runs.2
+    (holds_one facts s before old runs.0 x (replies.Refused fault) holding (runs.1.kept.same_laws.1 holding.lawful) runs.1.submits))
+holds_runs facts s before old new (x ∷ xs) (replies.Memory ∷ rs) runs holding =
+    holds_runs facts s before runs.0 new xs rs runs.2
+    (none_holds facts s before runs.0
+    (holds_one facts s before old runs.0 x replies.Memory holding (runs.1.kept.same_laws.1 holding.lawful) runs.1.submits))
+holds_runs facts s before old new (x ∷ xs) (replies.Worn ∷ rs) runs holding =
+    holds_runs facts s before runs.0 new xs rs runs.2
+    (none_holds facts s before runs.0
+    (holds_one facts s before old runs.0 x replies.Worn holding (runs.1.kept.same_laws.1 holding.lawful) runs.1.submits))
+holds_runs facts s before old new (x ∷ xs) (replies.Reopen ∷ rs) runs holding =
+    holds_runs facts s before runs.0 new xs rs runs.2
+    (none_holds facts s before runs.0
+    (holds_one facts s before old runs.0 x replies.Reopen holding (runs.1.kept.same_laws.1 holding.lawful) runs.1.submits))
+holds_runs facts s before old new (x ∷ xs) (replies.Disk ∷ rs) runs holding =
+    stopped_holds facts s before xs x rs runs.0 new runs.2
+    (holds_one facts s before old runs.0 x replies.Disk holding (runs.1.kept.same_laws.1 holding.lawful) runs.1.submits)

@@ -2,3 +2,6 @@ pub mod Replies
 pub mod Lists
 pub mod Holdings
 pub mod Decided
+pub mod Living
+pub mod Eventful
+pub mod Counting

@@ -1,7 +1,7 @@
 -- The reply of a verdict.
-use Rattle.std.proofs.Common.{◌≡◌, ℕ, Bool, true, false, if◌then◌else◌, sym, ap, subst}
+use Rattle.std.proofs.Common.{◌≡◌, Bool, true, false, if◌then◌else◌, sym, ap, subst}
 use Rattle.war_types.specs.Warrior.{WarriorParts}
-use Rattle.sector_disk.specs.Disk.{Disk}
+use Rattle.sector_disk.specs.Facts.{DeviceFacts}
 use Rattle.koth_hill.specs.declared.verdict.Verdict.{Verdict}
 use Rattle.koth_hill.specs.Step.{verdict, step}
 use Rattle.hill_store.specs.declared.reply.Reply.{Reply}
@@ -9,12 +9,12 @@ use Rattle.hill_store.specs.declared.reply.Reply.TheVariants as replies
 use Rattle.hill_store.specs.Earned.{reply_judged}
 use Rattle.hill_store.specs.Seen.{Seen, IsAnswered, Challenges}
 
-answer_by : {D : Type 0} (size : D → ℕ) (is_lawful : D → Type 0) (disk : D → Disk) (failures : D → ℕ) (old new : Seen D) (w : WarriorParts) (judged : Verdict) (b : Bool) → (if b then replies.Placed judged.entry judged.rank judged.score else replies.Fell judged.entry judged.score) ≡ reply_judged (verdict old.hill w) → IsAnswered size is_lawful disk old (step old.hill w) new → Challenges size is_lawful disk failures old w (if b then replies.Placed judged.entry judged.rank judged.score else replies.Fell judged.entry judged.score) new
-answer_by size is_lawful disk failures old new w judged true is answered = (is, answered)
-answer_by size is_lawful disk failures old new w judged false is answered = (is, answered)
+answer_by : {D : Type 0} (facts : DeviceFacts D) (old new : Seen D) (w : WarriorParts) (judged : Verdict) (b : Bool) → (if b then replies.Placed judged.entry judged.rank judged.score else replies.Fell judged.entry judged.score) ≡ reply_judged (verdict old.hill w) → IsAnswered facts old (step old.hill w) new → Challenges facts old w (if b then replies.Placed judged.entry judged.rank judged.score else replies.Fell judged.entry judged.score) new
+answer_by facts old new w judged true is answered = (is, answered)
+answer_by facts old new w judged false is answered = (is, answered)
 
 -- the reply of a verdict
-pub answers : {D : Type 0} (size : D → ℕ) (is_lawful : D → Type 0) (disk : D → Disk) (failures : D → ℕ) (old new : Seen D) (w : WarriorParts) (judged : Verdict) (reply : Reply) → reply ≡ reply_judged judged → judged ≡ verdict old.hill w → IsAnswered size is_lawful disk old (step old.hill w) new → Challenges size is_lawful disk failures old w reply new
-answers size is_lawful disk failures old new w judged reply is judged_is answered =
-    subst (λ r. Challenges size is_lawful disk failures old w r new) (sym is)
-    (answer_by size is_lawful disk failures old new w judged judged.stays (ap reply_judged judged_is) answered)
+pub answers : {D : Type 0} (facts : DeviceFacts D) (old new : Seen D) (w : WarriorParts) (judged : Verdict) (reply : Reply) → reply ≡ reply_judged judged → judged ≡ verdict old.hill w → IsAnswered facts old (step old.hill w) new → Challenges facts old w reply new
+answers facts old new w judged reply is judged_is answered =
+    subst (λ r. Challenges facts old w r new) (sym is)
+    (answer_by facts old new w judged judged.stays (ap reply_judged judged_is) answered)

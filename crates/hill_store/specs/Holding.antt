@@ -1,6 +1,7 @@
 -- What a device holds, in words of the sources that earn its hill.
 use Rattle.std.specs.Prelude.{◌≡◌, ◌⊎◌, ℕ, Bool, true, false, if◌then◌else◌, List, [], ◌∷◌, ◌++◌, Option, Some, None}
 use Rattle.war_types.specs.declared.settings.RawSettings.{RawSettings}
+use Rattle.sector_disk.specs.Facts.{DeviceFacts}
 use Rattle.sector_disk.specs.Disk.{Disk}
 use Rattle.sector_disk.specs.Image.{Images}
 use Rattle.hill_store.specs.declared.reply.Reply.{Reply}
@@ -17,6 +18,9 @@ abbrev pub StandsFor : ℕ → RawSettings → List (List ℕ) → Option (List 
 StandsFor size s sources None image = Stands size image (earned s sources)
 StandsFor size s sources (Some source) image = Stands size image (earned s sources) ⊎ Stands size image (earned s (sources ++ source ∷ []))
 
+-- What a disk of so many sectors holds: whatever a stop leaves of it stands for the hill that these sources earn from the beginning, with every
+-- pair fought anew, or where one more source is named, for that hill or for the one that it earns behind them. It stands for no other hill: an
+-- image stands for one at most.
 abbrev pub Holds : ℕ → Disk → RawSettings → List (List ℕ) → Option (List ℕ) → Type 0
 Holds size disk s sources more = Images disk (StandsFor size s sources more)
 
@@ -43,28 +47,28 @@ under_way (source ∷ sources) [] = None
 under_way (source ∷ sources) (reply ∷ rest) = if is_disk reply then Some source else under_way sources rest
 
 -- an open store on a lawful device: its hill is what these sources earn, and that is the hill of every image
-pub record IsHolding {D : Type 0} (size : D → ℕ) (is_lawful : D → Type 0) (disk : D → Disk) (s : RawSettings) (sources : List (List ℕ)) (store : Seen D) : Type 0 where
-  pub lawful : is_lawful store.device
+pub record IsHolding {D : Type 0} (facts : DeviceFacts D) (s : RawSettings) (sources : List (List ℕ)) (store : Seen D) : Type 0 where
+  pub lawful : facts.lawful store.device
   pub open_now : store.reopen ≡ false
   pub hill : store.hill ≡ earned s sources
-  pub holds : Holds (size store.device) (disk store.device) s sources None
+  pub holds : Holds (facts.size store.device) (facts.disk store.device) s sources None
 
 -- a store whose device failed while one more source was under way
-pub record IsCutOff {D : Type 0} (size : D → ℕ) (is_lawful : D → Type 0) (disk : D → Disk) (s : RawSettings) (sources : List (List ℕ)) (source : List ℕ) (store : Seen D) : Type 0 where
-  pub lawful : is_lawful store.device
+pub record IsCutOff {D : Type 0} (facts : DeviceFacts D) (s : RawSettings) (sources : List (List ℕ)) (source : List ℕ) (store : Seen D) : Type 0 where
+  pub lawful : facts.lawful store.device
   pub broken : store.reopen ≡ true
   pub hill : store.hill ≡ earned s sources
-  pub holds : Holds (size store.device) (disk store.device) s sources (Some source)
+  pub holds : Holds (facts.size store.device) (facts.disk store.device) s sources (Some source)
 
 -- the one or the other
-abbrev pub IsHeldWith : {D : Type 0} → (D → ℕ) → (D → Type 0) → (D → Disk) → RawSettings → List (List ℕ) → Option (List ℕ) → Seen D → Type 0
-IsHeldWith size is_lawful disk s sources None store = IsHolding size is_lawful disk s sources store
-IsHeldWith size is_lawful disk s sources (Some source) store = IsCutOff size is_lawful disk s sources source store
+abbrev pub IsHeldWith : {D : Type 0} → DeviceFacts D → RawSettings → List (List ℕ) → Option (List ℕ) → Seen D → Type 0
+IsHeldWith facts s sources None store = IsHolding facts s sources store
+IsHeldWith facts s sources (Some source) store = IsCutOff facts s sources source store
 
 -- what submitting these sources, so answered, makes of a store that holds those before them
-abbrev pub HoldsMore : {D : Type 0} → (D → ℕ) → (D → Type 0) → (D → Disk) → RawSettings → List (List ℕ) → List (List ℕ) → List Reply → Seen D → Type 0
-HoldsMore size is_lawful disk s before sources replied store =
-    IsHeldWith size is_lawful disk s (before ++ answered sources replied) (under_way sources replied) store
+abbrev pub HoldsMore : {D : Type 0} → DeviceFacts D → RawSettings → List (List ℕ) → List (List ℕ) → List Reply → Seen D → Type 0
+HoldsMore facts s before sources replied store =
+    IsHeldWith facts s (before ++ answered sources replied) (under_way sources replied) store
 
 -- these sources, with or without the one that was under way
 abbrev pub AreDecided : List (List ℕ) → Option (List ℕ) → List (List ℕ) → Type 0
@@ -72,12 +76,12 @@ AreDecided sources None found = found ≡ sources
 AreDecided sources (Some source) found = (found ≡ sources) ⊎ (found ≡ sources ++ source ∷ [])
 
 -- opening decided whether the source that was under way counts
-pub record IsDecided {D : Type 0} (size : D → ℕ) (is_lawful : D → Type 0) (disk : D → Disk) (s : RawSettings) (sources : List (List ℕ)) (more : Option (List ℕ)) (store : Seen D) : Type 0 where
+pub record IsDecided {D : Type 0} (facts : DeviceFacts D) (s : RawSettings) (sources : List (List ℕ)) (more : Option (List ℕ)) (store : Seen D) : Type 0 where
   pub found : List (List ℕ)
   pub are : AreDecided sources more found
-  pub holding : IsHolding size is_lawful disk s found store
+  pub holding : IsHolding facts s found store
 
 -- it did not, and the device holds what it held
-pub record IsUndecided {D : Type 0} (size : D → ℕ) (disk : D → Disk) (s : RawSettings) (sources : List (List ℕ)) (more : Option (List ℕ)) (device : D) (why : Refusal) : Type 0 where
+pub record IsUndecided {D : Type 0} (facts : DeviceFacts D) (s : RawSettings) (sources : List (List ℕ)) (more : Option (List ℕ)) (device : D) (why : Refusal) : Type 0 where
   pub cause : (why ≡ refusals.Disk) ⊎ (why ≡ refusals.Memory)
-  pub holds : Holds (size device) (disk device) s sources more
+  pub holds : Holds (facts.size device) (facts.disk device) s sources more

@@ -3,3 +3,5 @@ pub mod Seen
 pub mod Opened
 pub mod Runs
 pub mod Holding
+pub mod Lives
+pub mod Calls

@@ -1,11 +1,11 @@
 -- Submissions one after another.
 use Rattle.std.specs.Prelude.{◌≡◌, ℕ, Bool, true, false, List, [], ◌∷◌, map}
 use Rattle.std.specs.Borrow.{Bor}
-use Rattle.sector_disk.specs.Disk.{Disk}
+use Rattle.sector_disk.specs.Facts.{DeviceFacts}
 use Rattle.hill_store.specs.declared.reply.Reply.{Reply}
 use Rattle.hill_store.specs.declared.reply.Reply.TheVariants as replies
 use Rattle.hill_store.specs.Seen.{Seen, Submits}
-use Rattle.hill_images.specs.Opening.{IsKept}
+use Rattle.sector_disk.specs.Served.{IsKept}
 
 abbrev pub is_disk : Reply → Bool
 is_disk replies.Disk = true
@@ -21,20 +21,20 @@ abbrev pub texts : List (Bor (List ℕ)) → List (List ℕ)
 texts sources = map (λ source. source.now) sources
 
 -- a submission, and what holds of each run of calls of a device
-pub record IsSubmitted {D : Type 0} (size : D → ℕ) (is_lawful : D → Type 0) (disk : D → Disk) (failures : D → ℕ) (old : Seen D) (source : List ℕ) (reply : Reply) (new : Seen D) : Type 0 where
-  pub kept : IsKept size is_lawful failures old.device new.device
-  pub submits : Submits size is_lawful disk failures old source reply new
+pub record IsSubmitted {D : Type 0} (facts : DeviceFacts D) (old : Seen D) (source : List ℕ) (reply : Reply) (new : Seen D) : Type 0 where
+  pub kept : IsKept facts old.device new.device
+  pub submits : Submits facts old source reply new
 
 -- The replies are those of these sources, each submitted to the store that the one before it left, up to and with the first `Disk`.
 -- No source is left out but those behind a `Disk`: `stopped` says that one came just before.
-abbrev pub RunsOn : {D : Type 0} → (D → ℕ) → (D → Type 0) → (D → Disk) → (D → ℕ) → Bool → Seen D → List (List ℕ) → List Reply → Seen D → Type 0
-RunsOn size is_lawful disk failures true old sources [] new = new ≡ old
-RunsOn size is_lawful disk failures true old sources (reply ∷ rest) new = ⊥
-RunsOn size is_lawful disk failures false old [] [] new = new ≡ old
-RunsOn size is_lawful disk failures false old [] (reply ∷ rest) new = ⊥
-RunsOn size is_lawful disk failures false old (source ∷ sources) [] new = ⊥
-RunsOn {D} size is_lawful disk failures false old (source ∷ sources) (reply ∷ rest) new =
-    (mid : Seen D) × IsSubmitted size is_lawful disk failures old source reply mid × RunsOn size is_lawful disk failures (is_disk reply) mid sources rest new
+abbrev pub RunsOn : {D : Type 0} → DeviceFacts D → Bool → Seen D → List (List ℕ) → List Reply → Seen D → Type 0
+RunsOn facts true old sources [] new = new ≡ old
+RunsOn facts true old sources (reply ∷ rest) new = ⊥
+RunsOn facts false old [] [] new = new ≡ old
+RunsOn facts false old [] (reply ∷ rest) new = ⊥
+RunsOn facts false old (source ∷ sources) [] new = ⊥
+RunsOn {D} facts false old (source ∷ sources) (reply ∷ rest) new =
+    (mid : Seen D) × IsSubmitted facts old source reply mid × RunsOn facts (is_disk reply) mid sources rest new
 
-abbrev pub Runs : {D : Type 0} → (D → ℕ) → (D → Type 0) → (D → Disk) → (D → ℕ) → Seen D → List (List ℕ) → List Reply → Seen D → Type 0
-Runs size is_lawful disk failures old sources replied new = RunsOn size is_lawful disk failures false old sources replied new
+abbrev pub Runs : {D : Type 0} → DeviceFacts D → Seen D → List (List ℕ) → List Reply → Seen D → Type 0
+Runs facts old sources replied new = RunsOn facts false old sources replied new

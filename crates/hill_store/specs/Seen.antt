@@ -1,8 +1,9 @@
 -- A store as its caller sees it, and what a submission makes of it.
-use Rattle.std.specs.Prelude.{◌≡◌, ◌≢◌, ◌⊎◌, ℕ, ◌-◌, ◌^◌, ◌<◌, Bool, true, false, List, Ok}
+use Rattle.std.specs.Prelude.{◌≡◌, ◌≢◌, ◌⊎◌, ℕ, ◌+◌, ◌-◌, ◌^◌, Bool, true, false, List, Ok}
 use Rattle.war_types.specs.Warrior.{WarriorParts}
-use Rattle.sector_disk.specs.Disk.{Disk}
+use Rattle.sector_disk.specs.Facts.{DeviceFacts}
 use Rattle.sector_disk.specs.Image.{Images}
+use Rattle.sector_disk.specs.Served.{Failed}
 use Rattle.koth_hill.specs.Hill.{Hill}
 use Rattle.redcode_asm.specs.Assembly.{assembly}
 use Rattle.hill_store.specs.declared.reply.Reply.{Reply}
@@ -23,20 +24,28 @@ pub record Seen (D : Type 0) : Type 0 where
 abbrev pub seen : {D : Type 0} → D → Hill → ℕ → Bool → Seen D
 seen device hill generation reopen = record { device = device; hill = hill; generation = generation; reopen = reopen }
 
--- a submission that moved the hill and is durable
-pub record IsAnswered {D : Type 0} (size : D → ℕ) (is_lawful : D → Type 0) (disk : D → Disk) (old : Seen D) (next : Hill) (new : Seen D) : Type 0 where
+-- a store that may take submissions: every image stands for its hill
+pub record IsStanding {D : Type 0} (facts : DeviceFacts D) (store : Seen D) : Type 0 where
+  pub is_open : store.reopen ≡ false
+  pub stands : Images (facts.disk store.device) (λ image. Stands (facts.size store.device) image store.hill)
+
+-- a submission that moved the hill and is durable: one more header was written, and no call of the device failed
+pub record IsAnswered {D : Type 0} (facts : DeviceFacts D) (old : Seen D) (next : Hill) (new : Seen D) : Type 0 where
   pub was_open : old.reopen ≡ false
   pub hill : new.hill ≡ next
+  pub generation : new.generation ≡ old.generation + 1
+  pub faultless : facts.faults new.device ≡ facts.faults old.device
   pub open_still : new.reopen ≡ false
-  pub stands : is_lawful old.device → Images (disk new.device) (λ image. Stands (size new.device) image next)
+  pub stands : facts.lawful old.device → Images (facts.disk new.device) (λ image. Stands (facts.size new.device) image next)
 
 -- a submission in which the device failed
-pub record IsCut {D : Type 0} (size : D → ℕ) (is_lawful : D → Type 0) (disk : D → Disk) (failures : D → ℕ) (old : Seen D) (next : Hill) (new : Seen D) : Type 0 where
+pub record IsCut {D : Type 0} (facts : DeviceFacts D) (old : Seen D) (next : Hill) (new : Seen D) : Type 0 where
   pub was_open : old.reopen ≡ false
-  pub cause : (failures old.device < failures new.device) ⊎ (failures old.device ≡ 2 ^ 64 - 1)
+  pub cause : Failed facts old.device new.device
   pub hill : new.hill ≡ old.hill
+  pub generation : new.generation ≡ old.generation
   pub broken : new.reopen ≡ true
-  pub stands : is_lawful old.device → Images (disk new.device) (λ image. Stands (size new.device) image old.hill ⊎ Stands (size new.device) image next)
+  pub stands : facts.lawful old.device → Images (facts.disk new.device) (λ image. Stands (facts.size new.device) image old.hill ⊎ Stands (facts.size new.device) image next)
 
 -- nothing was submitted
 pub record IsLeft {D : Type 0} (old new : Seen D) : Type 0 where
@@ -48,29 +57,29 @@ abbrev pub Assembled : {D : Type 0} → Seen D → List ℕ → Type 0
 Assembled old source = (w : WarriorParts) × (assembly old.hill.settings source ≡ Ok w)
 
 -- what a submission made of a store, by its reply
-abbrev pub Submits : {D : Type 0} → (D → ℕ) → (D → Type 0) → (D → Disk) → (D → ℕ) → Seen D → List ℕ → Reply → Seen D → Type 0
-Submits size is_lawful disk failures old source (replies.Placed entry rank score) new =
-    (replies.Placed entry rank score ≡ reply_of old.hill source) × IsAnswered size is_lawful disk old (step_source old.hill source) new
-Submits size is_lawful disk failures old source (replies.Fell entry score) new =
-    (replies.Fell entry score ≡ reply_of old.hill source) × IsAnswered size is_lawful disk old (step_source old.hill source) new
-Submits size is_lawful disk failures old source (replies.Refused fault) new =
+abbrev pub Submits : {D : Type 0} → DeviceFacts D → Seen D → List ℕ → Reply → Seen D → Type 0
+Submits facts old source (replies.Placed entry rank score) new =
+    (replies.Placed entry rank score ≡ reply_of old.hill source) × IsAnswered facts old (step_source old.hill source) new
+Submits facts old source (replies.Fell entry score) new =
+    (replies.Fell entry score ≡ reply_of old.hill source) × IsAnswered facts old (step_source old.hill source) new
+Submits facts old source (replies.Refused fault) new =
     (replies.Refused fault ≡ reply_of old.hill source) × (step_source old.hill source ≡ old.hill) × IsLeft old new
-Submits size is_lawful disk failures old source replies.Memory new = IsLeft old new
-Submits size is_lawful disk failures old source replies.Worn new = (old.generation ≡ 2 ^ 64 - 1) × Assembled old source × IsLeft old new
-Submits size is_lawful disk failures old source replies.Disk new = IsCut size is_lawful disk failures old (step_source old.hill source) new
-Submits size is_lawful disk failures old source replies.Reopen new = (old.reopen ≡ true) × (new ≡ old)
+Submits facts old source replies.Memory new = IsLeft old new
+Submits facts old source replies.Worn new = (old.generation ≡ 2 ^ 64 - 1) × Assembled old source × IsLeft old new
+Submits facts old source replies.Disk new = Assembled old source × IsCut facts old (step_source old.hill source) new
+Submits facts old source replies.Reopen new = (old.reopen ≡ true) × (new ≡ old)
 
 -- what a warrior that was assembled made of a store, by its reply
-abbrev pub Challenges : {D : Type 0} → (D → ℕ) → (D → Type 0) → (D → Disk) → (D → ℕ) → Seen D → WarriorParts → Reply → Seen D → Type 0
-Challenges size is_lawful disk failures old w (replies.Placed entry rank score) new =
-    (replies.Placed entry rank score ≡ reply_judged (verdict old.hill w)) × IsAnswered size is_lawful disk old (step old.hill w) new
-Challenges size is_lawful disk failures old w (replies.Fell entry score) new =
-    (replies.Fell entry score ≡ reply_judged (verdict old.hill w)) × IsAnswered size is_lawful disk old (step old.hill w) new
-Challenges size is_lawful disk failures old w (replies.Refused fault) new = ⊥
-Challenges size is_lawful disk failures old w replies.Memory new = ⊥
-Challenges size is_lawful disk failures old w replies.Worn new = (old.generation ≡ 2 ^ 64 - 1) × IsLeft old new
-Challenges size is_lawful disk failures old w replies.Disk new = IsCut size is_lawful disk failures old (step old.hill w) new
-Challenges size is_lawful disk failures old w replies.Reopen new = ⊥
+abbrev pub Challenges : {D : Type 0} → DeviceFacts D → Seen D → WarriorParts → Reply → Seen D → Type 0
+Challenges facts old w (replies.Placed entry rank score) new =
+    (replies.Placed entry rank score ≡ reply_judged (verdict old.hill w)) × IsAnswered facts old (step old.hill w) new
+Challenges facts old w (replies.Fell entry score) new =
+    (replies.Fell entry score ≡ reply_judged (verdict old.hill w)) × IsAnswered facts old (step old.hill w) new
+Challenges facts old w (replies.Refused fault) new = ⊥
+Challenges facts old w replies.Memory new = ⊥
+Challenges facts old w replies.Worn new = (old.generation ≡ 2 ^ 64 - 1) × IsLeft old new
+Challenges facts old w replies.Disk new = IsCut facts old (step old.hill w) new
+Challenges facts old w replies.Reopen new = ⊥
 
 -- a fault of the assembler as a reply: a refusal, but for want of memory
 abbrev pub IsRefusal : AsmFault → Reply → Type 0

@@ -9,10 +9,12 @@
 //! or without the source that was under way.
 #![tactic(auto)]
 
+mod laws;
 mod reply;
 mod store;
 
 pub use hill_bytes::{Header, HeaderEntry, decode_header, encode_header};
 pub use hill_images::{Refusal, laws_of_storage, sectors_for};
+pub use laws::{calls_in_lives, laws_of_lives};
 pub use reply::Reply;
 pub use store::Store;

@@ -1,17 +1,19 @@
 //! The store.
 
-ghost use Rattle.std.specs.Prelude.{◌≡◌, ◌⊎◌, ◌↔◌, ℕ, ◌+◌, ◌-◌, ◌^◌, ◌<◌, ◌≤◌, true, false, List, [], ◌∷◌, Option, IfOk, IfErr, OnErr, MatchResult};
+ghost use Rattle.std.specs.Prelude.{◌≡◌, ◌⊎◌, ◌↔◌, ℕ, ◌+◌, ◌-◌, ◌^◌, ◌<◌, ◌≤◌, true, false, List, [], ◌∷◌, Option, Err, IfOk, IfErr, OnErr, MatchResult};
 ghost use Rattle.war_types.specs.Warrior.{WarriorParts, Fits};
 ghost use Rattle.koth_hill.specs.Step.{verdict, stays, step, after_stay, after_fall};
 ghost use Rattle.koth_hill.specs.Table.{table};
 ghost use Rattle.koth_hill.specs.Rows.{rows_parts};
 ghost use Rattle.hill_store.specs.Runs.{Runs, texts};
-ghost use Rattle.hill_images.specs.Opening.{IsKept, IsNotOpened};
+ghost use Rattle.sector_disk.specs.Served.{IsKept};
+ghost use Rattle.hill_images.specs.Opening.{IsNotOpened};
 ghost use Rattle.hill_store.specs.Opened.{IsCreated, IsNotCreated, IsOpened};
 ghost use Rattle.war_types.specs.declared.settings.RawSettings.{RawSettings};
 ghost use Rattle.hill_store.specs.Earned.{reply_judged};
 ghost use Rattle.hill_store.specs.Holding.{Holds};
 ghost use Rattle.hill_store.specs.Holding.{IsHolding, HoldsMore, IsDecided, IsUndecided};
+ghost use Rattle.hill_bytes.specs.Layout.{sectors_for};
 ghost use Rattle.hill_store.specs.Seen.{Seen, IsAnswered, IsCut, IsLeft, Submits, Challenges, IsRefusal};
 
 use crate::reply::Reply;
@@ -47,7 +49,7 @@ impl<D: Device, A: Allocator> Model for Store<D, A> {
 
     ghost view = { λ s. seen s.device s.hill s.header.generation s.reopen };
 
-    ghost invariant = { λ s. IsSound D.size D.lawful D.disk s.device s.header s.hill s.arena.settings s.reopen };
+    ghost invariant = { λ s. IsSound D.facts s.device s.header s.hill s.arena.settings s.reopen };
 }
 
 impl<D: Device, A: Allocator + Copy> Store<D, A> {
@@ -57,10 +59,11 @@ impl<D: Device, A: Allocator + Copy> Store<D, A> {
     /// is taken here), `Disk`, `Occupied` where a sector holds a valid header, and `Disk` while the first header is written.
     /// The device comes back with each.
     pub fn create(alloc: A, mut device: D, settings: Settings) -> Result<Store<D, A>, (D, Refusal)>
-        ensures kept { MatchResult result (λ store. IsKept D.size D.lawful D.failures device store.device) (λ refused. IsKept D.size D.lawful D.failures device refused.0) }
-        ensures created { IfOk result (IsCreated D.size D.lawful D.disk device settings) }
-        ensures holds { IfOk result (λ store. D.lawful device → IsHolding D.size D.lawful D.disk settings [] store) }
-        ensures refused { IfErr result (λ refused. IsNotCreated D.size D.lawful D.disk D.failures device settings refused.0 refused.1) }
+        ensures kept { MatchResult result (λ store. IsKept D.facts device store.device) (λ refused. IsKept D.facts device refused.0) }
+        ensures small { D.facts.size device < sectors_for settings.capacity → result ≡ Err (device, Refusal.TooSmall) }
+        ensures created { IfOk result (IsCreated D.facts device settings) }
+        ensures holds { IfOk result (λ store. D.facts.lawful device → IsHolding D.facts settings [] store) }
+        ensures refused { IfErr result (λ refused. IsNotCreated D.facts device settings refused.0 refused.1) }
     {
         if device.sectors() < sectors_for(settings.capacity()) {
             return Err((device, Refusal::TooSmall));
@@ -92,11 +95,12 @@ impl<D: Device, A: Allocator + Copy> Store<D, A> {
     /// for the capacity that the header names, and while the slots are read `Disk`, or `Damaged` where the bytes are no
     /// slot's. `Memory` stands wherever a growth was refused. The device comes back with each.
     pub fn open(alloc: A, mut device: D) -> Result<Store<D, A>, (D, Refusal)>
-        ensures kept { MatchResult result (λ store. IsKept D.size D.lawful D.failures device store.device) (λ refused. IsKept D.size D.lawful D.failures device refused.0) }
-        ensures opened { IfOk result (IsOpened D.size D.lawful D.disk device) }
-        ensures refused { IfErr result (λ refused. IsNotOpened D.size D.lawful D.disk D.failures device refused.0 refused.1) }
-        ensures holds { (s : RawSettings) (sources : List (List ℕ)) (more : Option (List ℕ)) → D.lawful device → Holds (D.size device) (D.disk device) s sources more
-            → MatchResult result (IsDecided D.size D.lawful D.disk s sources more) (λ refused. IsUndecided D.size D.disk s sources more refused.0 refused.1) }
+        ensures kept { MatchResult result (λ store. IsKept D.facts device store.device) (λ refused. IsKept D.facts device refused.0) }
+        ensures small { D.facts.size device < 2 → result ≡ Err (device, Refusal.TooSmall) }
+        ensures opened { IfOk result (IsOpened D.facts device) }
+        ensures refused { IfErr result (λ refused. IsNotOpened D.facts device refused.0 refused.1) }
+        ensures holds { (s : RawSettings) (sources : List (List ℕ)) (more : Option (List ℕ)) → D.facts.lawful device → Holds (D.facts.size device) (D.facts.disk device) s sources more
+            → MatchResult result (IsDecided D.facts s sources more) (λ refused. IsUndecided D.facts s sources more refused.0 refused.1) }
     {
         match recover(alloc, &mut device) {
             Ok(found) => Ok(Store {
@@ -113,12 +117,10 @@ impl<D: Device, A: Allocator + Copy> Store<D, A> {
 
     /// Submits a source. The reply to a warrior that is placed or falls comes once that is durable.
     pub fn submit(&mut self, source: &[u8]) -> Reply
-        ensures submits { Submits D.size D.lawful D.disk D.failures self.old source.now result self.new }
-        ensures holds { (s : RawSettings) (before : List (List ℕ)) → IsHolding D.size D.lawful D.disk s before self.old
-            → HoldsMore D.size D.lawful D.disk s before (source.now ∷ []) (result ∷ []) self.new }
-        ensures lawful { D.lawful self.new.device ↔ D.lawful self.old.device }
-        ensures size { D.size self.new.device ≡ D.size self.old.device }
-        ensures later { D.failures self.old.device ≤ D.failures self.new.device }
+        ensures submits { Submits D.facts self.old source.now result self.new }
+        ensures holds { (s : RawSettings) (before : List (List ℕ)) → IsHolding D.facts s before self.old
+            → HoldsMore D.facts s before (source.now ∷ []) (result ∷ []) self.new }
+        ensures kept { IsKept D.facts self.old.device self.new.device }
         ensures worn { self.old.generation ≡ 2 ^ 64 - 1 → self.new ≡ self.old }
     {
         self.reply_to(source)
@@ -127,13 +129,11 @@ impl<D: Device, A: Allocator + Copy> Store<D, A> {
     /// Submits these sources one after another, up to the first that is answered `Disk`, and answers the replies in their
     /// order. `Err` means that nothing was submitted.
     pub fn submit_all(&mut self, sources: &[&[u8]]) -> Result<Vec<Reply, A>, AllocError>
-        ensures runs { IfOk result (λ replies. Runs D.size D.lawful D.disk D.failures self.old (texts sources.now) replies.items self.new) }
-        ensures holds { (s : RawSettings) (before : List (List ℕ)) → IsHolding D.size D.lawful D.disk s before self.old
-            → IfOk result (λ replies. HoldsMore D.size D.lawful D.disk s before (texts sources.now) replies.items self.new) }
+        ensures runs { IfOk result (λ replies. Runs D.facts self.old (texts sources.now) replies.items self.new) }
+        ensures holds { (s : RawSettings) (before : List (List ℕ)) → IsHolding D.facts s before self.old
+            → IfOk result (λ replies. HoldsMore D.facts s before (texts sources.now) replies.items self.new) }
         ensures memory { OnErr result (self.new ≡ self.old) }
-        ensures lawful { D.lawful self.new.device ↔ D.lawful self.old.device }
-        ensures size { D.size self.new.device ≡ D.size self.old.device }
-        ensures later { D.failures self.old.device ≤ D.failures self.new.device }
+        ensures kept { IsKept D.facts self.old.device self.new.device }
         ensures worn { self.old.generation ≡ 2 ^ 64 - 1 → self.new ≡ self.old }
     {
         let mut replies = Vec::with_capacity(self.alloc, sources.len())?;
@@ -149,10 +149,8 @@ impl<D: Device, A: Allocator + Copy> Store<D, A> {
 
     /// Assembles a source, and has its warrior judged.
     fn reply_to(&mut self, source: &[u8]) -> Reply
-        ensures submits { Submits D.size D.lawful D.disk D.failures self.old source.now result self.new }
-        ensures lawful { D.lawful self.new.device ↔ D.lawful self.old.device }
-        ensures size { D.size self.new.device ≡ D.size self.old.device }
-        ensures later { D.failures self.old.device ≤ D.failures self.new.device }
+        ensures submits { Submits D.facts self.old source.now result self.new }
+        ensures kept { IsKept D.facts self.old.device self.new.device }
         ensures worn { self.old.generation ≡ 2 ^ 64 - 1 → self.new ≡ self.old }
     {
         if self.reopen {
@@ -168,10 +166,8 @@ impl<D: Device, A: Allocator + Copy> Store<D, A> {
     fn challenge(&mut self, warrior: Warrior<A>) -> Reply
         requires is_open { self.old.reopen ≡ false }
         requires fits { Fits self.old.hill.settings warrior }
-        ensures challenges { Challenges D.size D.lawful D.disk D.failures self.old warrior result self.new }
-        ensures lawful { D.lawful self.new.device ↔ D.lawful self.old.device }
-        ensures size { D.size self.new.device ≡ D.size self.old.device }
-        ensures later { D.failures self.old.device ≤ D.failures self.new.device }
+        ensures challenges { Challenges D.facts self.old warrior result self.new }
+        ensures kept { IsKept D.facts self.old.device self.new.device }
         ensures worn { self.old.generation ≡ 2 ^ 64 - 1 → self.new ≡ self.old }
     {
         if self.header.generation() == u64::MAX {
@@ -192,10 +188,8 @@ impl<D: Device, A: Allocator + Copy> Store<D, A> {
         requires more { self.old.generation < 2 ^ 64 - 1 }
         requires verdict { judged.now ≡ verdict self.old.hill warrior }
         requires stays { judged.now.stays ≡ true }
-        ensures challenges { Challenges D.size D.lawful D.disk D.failures self.old warrior result self.new }
-        ensures lawful { D.lawful self.new.device ↔ D.lawful self.old.device }
-        ensures size { D.size self.new.device ≡ D.size self.old.device }
-        ensures later { D.failures self.old.device ≤ D.failures self.new.device }
+        ensures challenges { Challenges D.facts self.old warrior result self.new }
+        ensures kept { IsKept D.facts self.old.device self.new.device }
     {
         let slot = free_slot(self.header.entries());
         let header = header_placed(&self.header, judged.falls, slot);
@@ -215,10 +209,8 @@ impl<D: Device, A: Allocator + Copy> Store<D, A> {
         requires more { self.old.generation < 2 ^ 64 - 1 }
         requires entry { judged.now.entry ≡ self.old.hill.counter + 1 }
         requires falls { judged.now.stays ≡ false }
-        ensures challenges { (w : WarriorParts) → judged.now ≡ verdict self.old.hill w → Challenges D.size D.lawful D.disk D.failures self.old w result self.new }
-        ensures lawful { D.lawful self.new.device ↔ D.lawful self.old.device }
-        ensures size { D.size self.new.device ≡ D.size self.old.device }
-        ensures later { D.failures self.old.device ≤ D.failures self.new.device }
+        ensures challenges { (w : WarriorParts) → judged.now ≡ verdict self.old.hill w → Challenges D.facts self.old w result self.new }
+        ensures kept { IsKept D.facts self.old.device self.new.device }
     {
         let header = header_passed(&self.header);
         match commit(&mut self.device, &header) {

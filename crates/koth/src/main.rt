@@ -5,20 +5,35 @@ use koth_server::{Failure, run};
 use std::env::Env;
 use std::io::ErrorKind;
 use std::process::ExitCode;
-use std::{env, io};
+use std::rt::Files;
+use std::{env, fs, io};
 
 fn main(rt: HostRuntime) -> ExitCode {
-    let words = match words_given(&rt) {
+    let held = held_places(&rt);
+    let status = status_of(&rt);
+    drop(held);
+    status
+}
+
+/// Holds the places of standard input, output and errors that are closed, so that no file that is opened later gets one of them: a hill that
+/// is opened in the place of the output would be written over by an answer. What is held is the root folder, from which nothing can be read
+/// and to which nothing can be written, so a stream that is closed is one that fails.
+fn held_places<R: Files>(rt: &R) -> [io::Result<R::File>; 3] {
+    [fs::open(rt, "/"), fs::open(rt, "/"), fs::open(rt, "/")]
+}
+
+fn status_of(rt: &HostRuntime) -> ExitCode {
+    let words = match words_given(rt) {
         Ok(words) => words,
         Err(failure) => return ExitCode::from(failure.tell(&mut rt.stderr()).code()),
     };
     ExitCode::from(run(
-        &rt,
+        rt,
         rt.alloc(),
         rt.alloc(),
         words.as_slice(),
         &mut rt.reader(),
-        &mut io::writer(&rt),
+        &mut io::writer(rt),
         &mut rt.stderr(),
     ))
 }

@@ -1,5 +1,5 @@
 -- What the command `fight` writes, and how it ends.
-use Rattle.std.specs.Prelude.{◌≡◌, ⊤, ℕ, List, ◌++◌, Result, Ok, Err, codes, decimal}
+use Rattle.std.specs.Prelude.{◌≡◌, ◌⊎◌, ⊤, ℕ, Option, List, ◌++◌, Result, Ok, Err, codes, decimal}
 use Rattle.std.specs.Io.KnownBytes.{Appends, Keeps}
 use Rattle.war_types.specs.Warrior.{WarriorParts, Fits}
 use Rattle.war_types.specs.declared.fault.AsmFault.{AsmFault}
@@ -9,6 +9,7 @@ use Rattle.redcode_asm.specs.Assembly.{assembly}
 use Rattle.koth_match.specs.Match.{match_of}
 use Rattle.koth_match.specs.declared.bout.Bout.{Bout}
 use Rattle.koth_protocol.specs.Refusal.{refusal_line}
+use Rattle.koth_protocol.specs.Written.{WritesPart}
 use Rattle.koth_commands.specs.Answer.{KeepsAll, RefusesSettings, Tells}
 use Rattle.koth_commands.specs.Streams.{Streams}
 use Rattle.koth_commands.specs.declared.failure.Failure.{Failure}
@@ -62,12 +63,24 @@ pub record AnswersWhole (s : RawSettings) (status : Status) (before after : Stre
   pub written : Appends before.output after.output text
   pub silent : Keeps before.errors after.errors
 
+-- a part of such an answer was written
+pub record AnswersPartly (s : RawSettings) (old new : Option (List ℕ)) : Type 0 where
+  pub status : Status
+  pub text : List ℕ
+  pub answer : AnswersFight s status text
+  pub written : WritesPart old new text
+
+-- where a file or a stream failed, nothing was written, or such a part
+abbrev pub AnswersNoMore : RawSettings → Option (List ℕ) → Option (List ℕ) → Type 0
+AnswersNoMore s old new = Keeps old new ⊎ AnswersPartly s old new
+
 -- how `fight` ends under settings: with an answer, with a file or a stream that failed, or for want of memory
 abbrev pub EndsFightUnder : RawSettings → Status → Streams → Streams → Type 0
 EndsFightUnder s statuses.Done before after = AnswersWhole s statuses.Done before after
 EndsFightUnder s statuses.Refused before after = AnswersWhole s statuses.Refused before after
 EndsFightUnder s statuses.WordFault before after = ⊥
-EndsFightUnder s statuses.StreamFault before after = Tells failures.Stream before after
+EndsFightUnder s statuses.StreamFault before after =
+    AnswersNoMore s before.output after.output × Tells failures.Stream before after
 EndsFightUnder s statuses.NoMemory before after = Keeps before.output after.output × Tells failures.Memory before after
 
 -- how `fight` ends: as under the settings that are given, with their refusal, or for want of memory
@@ -82,5 +95,5 @@ EndsFight (Err fault) statuses.NoMemory before after = KeepsAll before after × 
 -- the same before a failure is told
 abbrev pub AttemptsFight : RawSettings → Result Status Failure → Streams → Streams → Type 0
 AttemptsFight s (Ok status) before after = AnswersWhole s status before after
-AttemptsFight s (Err failures.Stream) before after = ⊤
+AttemptsFight s (Err failures.Stream) before after = AnswersNoMore s before.output after.output
 AttemptsFight s (Err failures.Memory) before after = Keeps before.output after.output

@@ -4,6 +4,7 @@ ghost use Rattle.std.specs.Prelude.{◌≡◌, ◌<◌, ◌≤◌, ℕ, List, le
 ghost use Rattle.std.specs.Io.KnownBytes.{Appends, Consumes, IsAtEnd};
 ghost use Rattle.koth_protocol.specs.Written.{WritesPart};
 
+use koth_protocol::{read_uninterrupted, write_uninterrupted};
 use std::io::{Read, Write};
 
 /// A stream failed: a read or a write gave an error, or a write took no byte.
@@ -22,7 +23,7 @@ pub(crate) fn fill<I: Read>(input: &mut I, buffer: &mut [u8]) -> Result<usize, S
 {
     let mut filled = 0;
     while filled < buffer.len() {
-        match input.read(&mut buffer[filled..]) {
+        match read_uninterrupted(input, &mut buffer[filled..]) {
             Ok(0) => return Ok(filled),
             Ok(count) => filled += count,
             Err(_) => return Err(StreamFault),
@@ -38,7 +39,7 @@ pub fn write_whole<W: Write>(output: &mut W, text: &[u8]) -> Result<(), StreamFa
 {
     let mut rest = text;
     while !rest.is_empty() {
-        match output.write(rest) {
+        match write_uninterrupted(output, rest) {
             Ok(count) if count > 0 => rest = &rest[count..],
             _ => return Err(StreamFault),
         }

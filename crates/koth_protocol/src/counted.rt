@@ -1,10 +1,11 @@
 //! A stream whose faults are counted.
 
-ghost use Rattle.std.specs.Prelude.{◌≡◌, ◌≢◌, ◌<◌, ◌≤◌, [], length, IfOk, OnOk, OnErr};
+ghost use Rattle.std.specs.Prelude.{◌≡◌, ◌≢◌, ◌+◌, ◌-◌, ◌^◌, ◌<◌, ◌≤◌, min, [], length, IfOk, OnOk, OnErr};
 ghost use Rattle.std.specs.Io.KnownBytes.{Appends, ReadConsumes, WriteAppends};
 ghost use Rattle.koth_protocol.specs.Counted.{raised, Rose};
 ghost use Rattle.koth_protocol.specs.Written.{WritesPart};
 
+use crate::uninterrupted::{read_uninterrupted, write_uninterrupted};
 use std::io::{Read, Write};
 use thiserror::Error;
 
@@ -18,11 +19,12 @@ pub struct ReadFault;
 #[error("a write failed")]
 pub struct WriteFault;
 
-/// A stream with the number of its faults. It takes no memory.
+/// A stream with the number of its faults, and of the bytes that were read from it. It takes no memory.
 #[derive(Debug, Drop)]
 pub struct Counted<S> {
     stream: S,
     faults: u64,
+    taken: u64,
 }
 
 impl<S> Counted<S> {
@@ -30,8 +32,13 @@ impl<S> Counted<S> {
     pub fn new(stream: S) -> Counted<S>
         ensures stream { result.stream ≡ stream }
         ensures faults { result.faults ≡ 0 }
+        ensures taken { result.taken ≡ 0 }
     {
-        Counted { stream, faults: 0 }
+        Counted {
+            stream,
+            faults: 0,
+            taken: 0,
+        }
     }
 
     /// How many calls were answered by a fault, up to the greatest `u64`.
@@ -39,6 +46,13 @@ impl<S> Counted<S> {
         ensures { result ≡ self.now.faults }
     {
         self.faults
+    }
+
+    /// How many bytes were read, up to the greatest `u64`, also of a stream that doesn't tell what it holds.
+    pub fn taken(&self) -> u64
+        ensures { result ≡ self.now.taken }
+    {
+        self.taken
     }
 
     /// The stream.
@@ -51,7 +65,7 @@ impl<S> Counted<S> {
 
 impl<S: Read> Counted<S> {
     /// Reads at least one byte, and says how many; 0 says that the input is at its end. `ReadFault` comes where the stream
-    /// gives an error.
+    /// gives an error, and not where a signal interrupts the read: that is made again.
     pub fn read(&mut self, to: &mut [u8]) -> Result<usize, ReadFault>
         requires { length to.old ≢ 0 }
         ensures size { length to.new ≡ length to.old }
@@ -60,9 +74,14 @@ impl<S: Read> Counted<S> {
         ensures ok { OnOk result (self.new.faults ≡ self.old.faults) }
         ensures err { OnErr result (self.new.faults ≡ raised self.old.faults) }
         ensures rose { OnErr result (Rose self.old.faults self.new.faults) }
+        ensures counted { IfOk result (λ count. self.new.taken ≡ min (self.old.taken + count) (2 ^ 64 - 1)) }
+        ensures uncounted { OnErr result (self.new.taken ≡ self.old.taken) }
     {
-        match self.stream.read(to) {
-            Ok(count) => Ok(count),
+        match read_uninterrupted(&mut self.stream, to) {
+            Ok(count) => {
+                self.taken = self.taken.saturating_add(count as u64);
+                Ok(count)
+            }
             Err(_) => {
                 self.faults = self.faults.saturating_add(1);
                 Err(ReadFault)
@@ -72,7 +91,8 @@ impl<S: Read> Counted<S> {
 }
 
 impl<S: Write> Counted<S> {
-    /// Writes at least one byte, and says how many. `WriteFault` comes where the stream gives an error or takes no byte.
+    /// Writes at least one byte, and says how many. `WriteFault` comes where the stream gives an error or takes no byte, and
+    /// not where a signal interrupts the write: that is made again.
     pub fn write(&mut self, from: &[u8]) -> Result<usize, WriteFault>
         requires { length from.now ≢ 0 }
         ensures some { IfOk result (λ count. 0 < count) }
@@ -81,8 +101,9 @@ impl<S: Write> Counted<S> {
         ensures ok { OnOk result (self.new.faults ≡ self.old.faults) }
         ensures err { OnErr result (self.new.faults ≡ raised self.old.faults) }
         ensures rose { OnErr result (Rose self.old.faults self.new.faults) }
+        ensures taken { self.new.taken ≡ self.old.taken }
     {
-        match self.stream.write(from) {
+        match write_uninterrupted(&mut self.stream, from) {
             Ok(count) if count > 0 => Ok(count),
             _ => {
                 self.faults = self.faults.saturating_add(1);

@@ -3,6 +3,7 @@
 //! It knows two streams and the rows of a hill, and no device, words, files or sockets. The modules, in the order in which
 //! the data pass:
 //!
+//! - `uninterrupted`: a read or a write that is made again where a signal interrupts it;
 //! - `counted`: a stream that counts its faults, and a text that is written whole over it;
 //! - `kept` and `script`: what is kept of a line and of a source, and which command each byte brings to its end;
 //! - `line`: a line that is built in place;
@@ -21,9 +22,11 @@ mod line;
 mod refusal;
 mod script;
 mod table;
+mod uninterrupted;
 
 pub use counted::{Counted, ReadFault, WriteFault, send};
 pub use line::Line;
 pub use refusal::refusal_line;
 pub use script::{Met, Script};
 pub use table::show_text;
+pub use uninterrupted::{read_uninterrupted, write_uninterrupted};

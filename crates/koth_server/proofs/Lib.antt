@@ -1,4 +1,5 @@
 mod Carried
 mod Listening
+mod Said
 mod StillOpen
 mod Statuses

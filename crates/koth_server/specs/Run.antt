@@ -1,6 +1,7 @@
 -- How a run ends.
-use Rattle.std.specs.Prelude.{◌≡◌, ◌≢◌, ℕ, None}
+use Rattle.std.specs.Prelude.{◌≡◌, ◌≢◌, ◌⊎◌, ℕ, true, List, None, codes}
 use Rattle.std.specs.Io.KnownBytes.{Keeps}
+use Rattle.clap.specs.Words.{takes}
 use Rattle.war_types.specs.Settings.{settings_of}
 use Rattle.koth_commands.specs.Answer.{Tells}
 use Rattle.koth_commands.specs.Asm.{EndsAsm}
@@ -11,6 +12,7 @@ use Rattle.koth_commands.specs.Streams.{Streams, streams}
 use Rattle.koth_commands.specs.declared.failure.Failure.TheVariants as failures
 use Rattle.koth_commands.specs.declared.status.Status.{Status}
 use Rattle.koth_commands.specs.declared.status.Status.TheVariants as statuses
+use Rattle.koth_words.specs.Words.{koth_app, settings_named, AreWrong, AsksFor}
 use Rattle.koth_words.specs.declared.words.NoRequest.{NoRequest}
 use Rattle.koth_words.specs.declared.words.NoRequest.TheVariants as reasons
 use Rattle.koth_words.specs.declared.words.Request.{Request}
@@ -43,3 +45,16 @@ EndsWithout (reasons.Help text) status before after = status ≢ statuses.WordFa
 EndsWithout (reasons.WordFault text) status before after = (status ≡ statuses.WordFault) × Keeps before.output after.output
 EndsWithout reasons.Memory status before after =
     (status ≡ statuses.NoMemory) × Keeps before.output after.output × Tells failures.Memory before after
+
+-- How a run with these words ends: as the command that they name does, under the settings that they give; only words that are wrong end as a
+-- fault of the words, and then nothing is read, and nothing written on the output.
+pub record EndsRun (given : List (List ℕ)) (status : Status) (before after : Streams) : Type 0 where
+  pub asm : AsksFor (codes "asm") given → EndsAsm (settings_of (settings_named given)) status before after
+  pub fight : AsksFor (codes "fight") given → EndsFight (settings_of (settings_named given)) status (unread before) (unread after)
+  pub create : AsksFor (codes "create") given → EndsCreate (settings_of (settings_named given)) status (unread before) (unread after)
+  pub submit : AsksFor (codes "submit") given → EndsHill SaysReply status (unread before) (unread after)
+  pub show : AsksFor (codes "show") given → EndsHill SaysTable status (unread before) (unread after)
+  pub serve : AsksFor (codes "serve") given → EndsServe status (unread before) (unread after)
+  pub words : takes koth_app given ≡ true → status ≢ statuses.WordFault
+  pub wrong : AreWrong given → (status ≡ statuses.WordFault) ⊎ (status ≡ statuses.NoMemory)
+  pub word_fault : status ≡ statuses.WordFault → Keeps before.input after.input × Keeps before.output after.output

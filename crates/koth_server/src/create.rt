@@ -64,7 +64,7 @@ fn create_file<R: Files, A: Allocator + Copy, O: Write>(
 ) -> Result<Status, HillFault>
     ensures { Tries SaysCreated result (O.contents output.old) (O.contents output.new) }
 {
-    let device = match FileDevice::make(rt, path, sectors_for(settings.capacity())) {
+    let device = match FileDevice::make(rt, alloc, path, sectors_for(settings.capacity())) {
         Ok(device) => device,
         Err(fault) => return Err(fault_of_file(fault)),
     };
@@ -80,7 +80,7 @@ fn create_on<D: Device + Drop, A: Allocator + Copy>(
     settings: Settings,
     device: D,
 ) -> Result<(), HillFault>
-    ensures { OnOk result (CreatesOn D.size D.lawful D.disk device settings) }
+    ensures { OnOk result (CreatesOn D.facts device settings) }
 {
     match Store::create(alloc, device, settings) {
         Ok(_) => Ok(()),

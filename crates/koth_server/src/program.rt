@@ -1,15 +1,8 @@
 //! A run of the program, from its words to its status.
 
-ghost use Rattle.std.specs.Prelude.{◌≡◌, ◌≢◌, ◌⊎◌, None, true, codes, map, string_bytes};
-ghost use Rattle.std.specs.Io.KnownBytes.{Keeps};
-ghost use Rattle.clap.specs.Words.{takes};
-ghost use Rattle.war_types.specs.Settings.{settings_of};
-ghost use Rattle.koth_commands.specs.Asm.{EndsAsm};
-ghost use Rattle.koth_commands.specs.Fight.{EndsFight};
-ghost use Rattle.koth_server.specs.Hills.{EndsCreate, EndsHill, EndsServe, SaysReply, SaysTable};
-ghost use Rattle.koth_server.specs.Run.{EndsRequest, EndsWithout, Leaves};
+ghost use Rattle.std.specs.Prelude.{None, map, string_bytes};
+ghost use Rattle.koth_server.specs.Run.{EndsRequest, EndsRun, EndsWithout, Leaves};
 ghost use Rattle.koth_commands.specs.Streams.{streams};
-ghost use Rattle.koth_words.specs.Words.{koth_app, settings_named, AreWrong, AsksFor};
 
 use crate::create::create;
 use crate::serve::serve;
@@ -36,37 +29,9 @@ pub fn run<R: Files + Net, A: Allocator + Copy, I: Read, O: Write, E: Write>(
     output: &mut O,
     errors: &mut E,
 ) -> u8
-    ensures asm { AsksFor (codes "asm") (map (λ w. string_bytes w) words.now)
-        → Leaves result (λ status. EndsAsm (settings_of (settings_named (map (λ w. string_bytes w) words.now))) status
+    ensures ends { Leaves result (λ status. EndsRun (map (λ w. string_bytes w) words.now) status
         (streams (I.remaining input.old) (O.contents output.old) (E.contents errors.old))
         (streams (I.remaining input.new) (O.contents output.new) (E.contents errors.new))) }
-    ensures fight { AsksFor (codes "fight") (map (λ w. string_bytes w) words.now)
-        → Leaves result (λ status. EndsFight (settings_of (settings_named (map (λ w. string_bytes w) words.now))) status
-        (streams None (O.contents output.old) (E.contents errors.old))
-        (streams None (O.contents output.new) (E.contents errors.new))) }
-    ensures create { AsksFor (codes "create") (map (λ w. string_bytes w) words.now)
-        → Leaves result (λ status. EndsCreate (settings_of (settings_named (map (λ w. string_bytes w) words.now))) status
-        (streams None (O.contents output.old) (E.contents errors.old))
-        (streams None (O.contents output.new) (E.contents errors.new))) }
-    ensures submit { AsksFor (codes "submit") (map (λ w. string_bytes w) words.now)
-        → Leaves result (λ status. EndsHill SaysReply status
-        (streams None (O.contents output.old) (E.contents errors.old))
-        (streams None (O.contents output.new) (E.contents errors.new))) }
-    ensures show { AsksFor (codes "show") (map (λ w. string_bytes w) words.now)
-        → Leaves result (λ status. EndsHill SaysTable status
-        (streams None (O.contents output.old) (E.contents errors.old))
-        (streams None (O.contents output.new) (E.contents errors.new))) }
-    ensures serve { AsksFor (codes "serve") (map (λ w. string_bytes w) words.now)
-        → Leaves result (λ status. EndsServe status
-        (streams None (O.contents output.old) (E.contents errors.old))
-        (streams None (O.contents output.new) (E.contents errors.new))) }
-    ensures words { takes koth_app (map (λ w. string_bytes w) words.now) ≡ true
-        → Leaves result (λ status. status ≢ Status.WordFault) }
-    ensures wrong { AreWrong (map (λ w. string_bytes w) words.now)
-        → Leaves result (λ status. (status ≡ Status.WordFault) ⊎ (status ≡ Status.NoMemory)) }
-    ensures word_fault { Leaves result (λ status. status ≡ Status.WordFault
-        → Keeps (I.remaining input.old) (I.remaining input.new)
-        × Keeps (O.contents output.old) (O.contents output.new)) }
 {
     carry_out(rt, heap, alloc, words, input, output, errors).code()
 }
@@ -80,37 +45,9 @@ fn carry_out<R: Files + Net, A: Allocator + Copy, I: Read, O: Write, E: Write>(
     output: &mut O,
     errors: &mut E,
 ) -> Status
-    ensures asm { AsksFor (codes "asm") (map (λ w. string_bytes w) words.now)
-        → EndsAsm (settings_of (settings_named (map (λ w. string_bytes w) words.now))) result
+    ensures ends { EndsRun (map (λ w. string_bytes w) words.now) result
         (streams (I.remaining input.old) (O.contents output.old) (E.contents errors.old))
         (streams (I.remaining input.new) (O.contents output.new) (E.contents errors.new)) }
-    ensures fight { AsksFor (codes "fight") (map (λ w. string_bytes w) words.now)
-        → EndsFight (settings_of (settings_named (map (λ w. string_bytes w) words.now))) result
-        (streams None (O.contents output.old) (E.contents errors.old))
-        (streams None (O.contents output.new) (E.contents errors.new)) }
-    ensures create { AsksFor (codes "create") (map (λ w. string_bytes w) words.now)
-        → EndsCreate (settings_of (settings_named (map (λ w. string_bytes w) words.now))) result
-        (streams None (O.contents output.old) (E.contents errors.old))
-        (streams None (O.contents output.new) (E.contents errors.new)) }
-    ensures submit { AsksFor (codes "submit") (map (λ w. string_bytes w) words.now)
-        → EndsHill SaysReply result
-        (streams None (O.contents output.old) (E.contents errors.old))
-        (streams None (O.contents output.new) (E.contents errors.new)) }
-    ensures show { AsksFor (codes "show") (map (λ w. string_bytes w) words.now)
-        → EndsHill SaysTable result
-        (streams None (O.contents output.old) (E.contents errors.old))
-        (streams None (O.contents output.new) (E.contents errors.new)) }
-    ensures serve { AsksFor (codes "serve") (map (λ w. string_bytes w) words.now)
-        → EndsServe result
-        (streams None (O.contents output.old) (E.contents errors.old))
-        (streams None (O.contents output.new) (E.contents errors.new)) }
-    ensures words { takes koth_app (map (λ w. string_bytes w) words.now) ≡ true
-        → result ≢ Status.WordFault }
-    ensures wrong { AreWrong (map (λ w. string_bytes w) words.now)
-        → (result ≡ Status.WordFault) ⊎ (result ≡ Status.NoMemory) }
-    ensures word_fault { result ≡ Status.WordFault
-        → Keeps (I.remaining input.old) (I.remaining input.new)
-        × Keeps (O.contents output.old) (O.contents output.new) }
 {
     match parse(heap, words) {
         Ok(request) => fulfil(rt, alloc, request, input, output, errors),

@@ -1,6 +1,6 @@
 //! The command `submit`: one submission to the hill in a file.
 
-ghost use Rattle.std.specs.Prelude.{◌≢◌, None};
+ghost use Rattle.std.specs.Prelude.{◌≡◌, ◌≢◌, false, None};
 ghost use Rattle.koth_server.specs.Hills.{EndsHill, SaysReply, SubmitsTo, Tries};
 ghost use Rattle.koth_commands.specs.Streams.{streams};
 
@@ -59,6 +59,7 @@ fn submit_read<R: Files, D: Device, A: Allocator + Copy, O: Write>(
     store: &mut Store<D, A>,
     output: &mut O,
 ) -> Result<Status, HillFault>
+    requires { store.old.reopen ≡ false }
     ensures { Tries SaysReply result (O.contents output.old) (O.contents output.new) }
 {
     let Ok(mut buffer) = source_buffer(alloc) else {
@@ -77,7 +78,7 @@ fn submit_source<D: Device, A: Allocator + Copy, O: Write>(
     source: &[u8],
     output: &mut O,
 ) -> Result<Status, HillFault>
-    ensures { SubmitsTo D.size D.lawful D.disk D.failures store.old source.now result store.new
+    ensures { SubmitsTo D.facts store.old source.now result store.new
         (O.contents output.old) (O.contents output.new) }
 {
     let reply = store.submit(source);

@@ -1,16 +1,19 @@
 -- How a session ends, from how its bytes went.
-use Rattle.std.proofs.Common.{◌≡◌, inr, ℕ, ◌+◌, ◌≤◌, List, [], ◌∷◌, ◌++◌, length, take, drop, Option, None, Some, sym, ap, subst, ◌∙◌, append-nil, take-append-drop, arith}
+use Rattle.std.proofs.Common.{◌≡◌, inr, ℕ, ◌+◌, ◌<◌, ◌≤◌, List, [], ◌∷◌, ◌++◌, length, take, drop, Option, None, Some, sym, ap, subst, ◌∙◌, append-nil, take-append-drop, arith}
 use Rattle.std.proofs.KnownBytes.{Consumes-trans}
 use Rattle.std.proofs.lemmas.List.{length-append, length-take-le, take_all}
 use Rattle.std.specs.Io.KnownBytes.{Consumes}
-use Rattle.sector_disk.specs.Disk.{Disk}
-use Rattle.koth_protocol.specs.Commands.{commands_of}
-use Rattle.koth_session.specs.Sessions.{AnswersAll, AnswersFirst, EndsSo, Goes, Scene, Stopped, WentOn}
+use Rattle.sector_disk.specs.Facts.{DeviceFacts}
+use Rattle.sector_disk.specs.Served.{IsKept}
+use Rattle.hill_store.specs.Seen.{Seen}
+use Rattle.koth_protocol.specs.Commands.{Command, commands_of}
+use Rattle.koth_session.specs.Sessions.{AnswersCommand, AnswersAll, AnswersFirst, EndsSo, Goes, Scene, Stopped, WentOn}
 use Rattle.koth_session.specs.Transcript.{commands_in}
 use Rattle.koth_protocol.specs.declared.script.Script.{Script}
 use Rattle.koth_session.specs.declared.sessions.SessionEnd.{SessionEnd}
 use Rattle.koth_session.specs.declared.sessions.SessionEnd.TheVariants as ends
 use Rattle.koth_session.proofs.Holding.{holds_at, keeps_list}
+use Rattle.sector_disk.proofs.Kept.{kept_on, kept_same}
 use Rattle.koth_session.proofs.Serving.{goes_on, stops_early}
 
 -- a read gave no byte
@@ -24,41 +27,61 @@ count_taken bytes chunk n taken is within =
     let front = length-take-le n chunk within in
     omega (arith, both, front, is)
 
-module _ {D : Type 0} (size : D → ℕ) (is_lawful : D → Type 0) (disk : D → Disk) (failures : D → ℕ) where
-  pub answers_all : {A : Type 0} (taken : List ℕ) (script : Script A) (a c : Scene D) → WentOn size is_lawful disk failures [] None taken script a c
-      → AnswersAll size is_lawful disk failures taken a c
+module _ {D : Type 0} (facts : DeviceFacts D) where
+  pub answers_all : {A : Type 0} (taken : List ℕ) (script : Script A) (a c : Scene D) → WentOn facts [] None taken script a c
+      → AnswersAll facts taken a c
   answers_all taken script a c w = record {
     es = w.es;
     commands = ap (λ l. commands_of l) (sym (append-nil taken)) ∙ w.commands [] ∙ append-nil (commands_in w.es);
     answered = w.answered;
-    holds = keeps_list size is_lawful disk failures a.store c.store w.es w.answered.served;
+    holds = keeps_list facts a.store c.store w.es w.answered.served;
   }
 
-  answers_first : (taken : List ℕ) (end : SessionEnd) (a c : Scene D) → Stopped size is_lawful disk failures [] None taken end a c
-      → AnswersFirst size is_lawful disk failures taken end a c
-  answers_first taken end a c v = record {
+  answers_first : (taken : List ℕ) (end : SessionEnd) (a c : Scene D) → (v : Stopped facts [] None taken end a c)
+      → length v.rest < 4096 → AnswersFirst facts taken end a c
+  answers_first taken end a c v few = record {
     es = v.es;
     last = v.last;
     answered = v.answered;
     command = v.command;
     behind = v.behind [];
     commands = ap (λ l. commands_of l) (sym (append-nil taken)) ∙ v.commands [];
+    upto = v.upto;
+    rest = v.rest;
+    split = v.split;
+    few = few;
+    last_of_them = v.last_of_them;
     ended = v.ended;
-    holds = holds_at size is_lawful disk failures end v.command a v.last c v.es v.answered v.ended;
+    holds = holds_at facts end v.command a v.last c v.es v.answered v.ended;
   }
 
   -- a command ended the session
-  pub ends_by : (taken : List ℕ) (end : SessionEnd) (left : Option (List ℕ)) (a c : Scene D) → Stopped size is_lawful disk failures [] None taken end a c
-      → EndsSo size is_lawful disk failures end taken left a c
-  ends_by taken ends.Quit left a c v = answers_first taken ends.Quit a c v
-  ends_by taken ends.EndOfInput left a c v = absurd v.ended
-  ends_by taken ends.ReadFault left a c v = absurd v.ended
-  ends_by taken ends.WriteFault left a c v = answers_first taken ends.WriteFault a c v
-  ends_by taken ends.Limit left a c v = absurd v.ended
-  ends_by taken ends.StoreFailed left a c v = answers_first taken ends.StoreFailed a c v
-  ends_by taken ends.Memory left a c v = inr (answers_first taken ends.Memory a c v)
+  pub ends_by : (taken : List ℕ) (end : SessionEnd) (left : Option (List ℕ)) (a c : Scene D) → (v : Stopped facts [] None taken end a c)
+      → length v.rest < 4096 → EndsSo facts end taken left a c
+  ends_by taken ends.Quit left a c v few = answers_first taken ends.Quit a c v few
+  ends_by taken ends.EndOfInput left a c v few = absurd v.ended
+  ends_by taken ends.ReadFault left a c v few = absurd v.ended
+  ends_by taken ends.WriteFault left a c v few = answers_first taken ends.WriteFault a c v few
+  ends_by taken ends.Limit left a c v few = absurd v.ended
+  ends_by taken ends.StoreFailed left a c v few = answers_first taken ends.StoreFailed a c v few
+  ends_by taken ends.Memory left a c v few = inr (answers_first taken ends.Memory a c v few)
 
-  pub never_read : (end : SessionEnd) (line : List ℕ) (source : Option (List ℕ)) (bytes : List ℕ) (a c : Scene D) → Stopped size is_lawful disk failures line source bytes end a c
+  -- the device is handed on by a command that ended the session
+  kept_by : (end : SessionEnd) (command : Command) (a c : Scene D) → AnswersCommand facts command (Some end) a c → IsKept facts a.store.device c.store.device
+  kept_by ends.Quit command a c is = subst (λ (s : Seen D). IsKept facts a.store.device s.device) (sym is.1) (kept_same facts a.store.device)
+  kept_by ends.Memory command a c is = subst (λ (s : Seen D). IsKept facts a.store.device s.device) (sym is.1) (kept_same facts a.store.device)
+  kept_by ends.WriteFault command a c is = is.2.kept
+  kept_by ends.StoreFailed command a c is = is.2.kept
+  kept_by ends.EndOfInput command a c is = absurd is
+  kept_by ends.ReadFault command a c is = absurd is
+  kept_by ends.Limit command a c is = absurd is
+
+  pub kept_at : (line : List ℕ) (source : Option (List ℕ)) (bytes : List ℕ) (end : SessionEnd) (a c : Scene D) → Stopped facts line source bytes end a c
+      → IsKept facts a.store.device c.store.device
+  kept_at line source bytes end a c v =
+      kept_on facts a.store.device v.last.store.device c.store.device v.answered.served.kept (kept_by end v.command v.last c v.ended)
+
+  pub never_read : (end : SessionEnd) (line : List ℕ) (source : Option (List ℕ)) (bytes : List ℕ) (a c : Scene D) → Stopped facts line source bytes end a c
       → end ≡ ends.ReadFault → ⊥
   never_read ends.ReadFault line source bytes a c v is = v.ended
   never_read ends.Quit line source bytes a c v is = absurd (cc)
@@ -72,22 +95,22 @@ module _ {D : Type 0} (size : D → ℕ) (is_lawful : D → Type 0) (disk : D �
 
   module _ {A : Type 0} where
     pub all_bytes : (line : List ℕ) (source : Option (List ℕ)) (bytes : List ℕ) (i : ℕ) (script : Script A) (x y : Scene D) → length bytes ≤ i
-        → WentOn size is_lawful disk failures line source (take i bytes) script x y → WentOn size is_lawful disk failures line source bytes script x y
-    all_bytes line source bytes i script x y is w = subst (λ l. WentOn size is_lawful disk failures line source l script x y) (take_all i bytes is) w
+        → WentOn facts line source (take i bytes) script x y → WentOn facts line source bytes script x y
+    all_bytes line source bytes i script x y is w = subst (λ l. WentOn facts line source l script x y) (take_all i bytes is) w
 
     pub one_byte : (line : List ℕ) (source : Option (List ℕ)) (bytes : List ℕ) (i b : ℕ) (mid script : Script A) (r : Option SessionEnd) (x y z : Scene D)
         → take (i + 1) bytes ≡ take i bytes ++ b ∷ []
-        → (w : WentOn size is_lawful disk failures line source (take i bytes) mid x y)
-        → Goes size is_lawful disk failures w.new_line w.new_source (b ∷ []) r script y z
-        → Goes size is_lawful disk failures line source (take (i + 1) bytes) r script x z
+        → (w : WentOn facts line source (take i bytes) mid x y)
+        → Goes facts w.new_line w.new_source (b ∷ []) r script y z
+        → Goes facts line source (take (i + 1) bytes) r script x z
     one_byte line source bytes i b mid script r x y z is w v =
-        subst (λ l. Goes size is_lawful disk failures line source l r script x z) (sym is) (goes_on size is_lawful disk failures line source (take i bytes) (b ∷ []) mid script r x y z w v)
+        subst (λ l. Goes facts line source l r script x z) (sym is) (goes_on facts line source (take i bytes) (b ∷ []) mid script r x y z w v)
 
     pub last_byte : (line : List ℕ) (source : Option (List ℕ)) (bytes : List ℕ) (i b : ℕ) (mid script : Script A) (end : SessionEnd) (x y z : Scene D)
         → take (i + 1) bytes ≡ take i bytes ++ b ∷ []
-        → (w : WentOn size is_lawful disk failures line source (take i bytes) mid x y)
-        → Goes size is_lawful disk failures w.new_line w.new_source (b ∷ []) (Some end) script y z
-        → Stopped size is_lawful disk failures line source bytes end x z
+        → (w : WentOn facts line source (take i bytes) mid x y)
+        → Goes facts w.new_line w.new_source (b ∷ []) (Some end) script y z
+        → Stopped facts line source bytes end x z
     last_byte line source bytes i b mid script end x y z is w v =
-        subst (λ l. Stopped size is_lawful disk failures line source l end x z) (take-append-drop (i + 1) bytes)
-        (stops_early size is_lawful disk failures line source (take (i + 1) bytes) (drop (i + 1) bytes) end x z (one_byte line source bytes i b mid script (Some end) x y z is w v))
+        subst (λ l. Stopped facts line source l end x z) (take-append-drop (i + 1) bytes)
+        (stops_early facts line source (take (i + 1) bytes) (drop (i + 1) bytes) end x z (one_byte line source bytes i b mid script (Some end) x y z is w v))

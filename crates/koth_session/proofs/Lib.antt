@@ -1,5 +1,6 @@
 mod Endings
 mod Holding
+mod Living
 mod Serving
 mod SessionRows
 mod Submissions

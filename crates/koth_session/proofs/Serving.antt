@@ -1,16 +1,18 @@
 -- Commands that are served one after another.
-use Rattle.std.proofs.Common.{◌≡◌, ◌⊎◌, inl, inr, ℕ, ◌-◌, ◌^◌, List, [], ◌∷◌, ◌++◌, Option, None, Some, refl, sym, ap, subst, ◌∙◌, le_refl, le_trans, append_assoc, append-nil}
+use Rattle.std.proofs.Common.{◌≡◌, ◌⊎◌, inl, inr, ℕ, ◌+◌, ◌-◌, ◌^◌, ◌<◌, false, length, arith, List, [], ◌∷◌, ◌++◌, Option, None, Some, refl, sym, ap, subst, ◌∙◌, append_assoc, append-nil}
+use Rattle.std.proofs.lemmas.List.{length-append}
 use Rattle.std.specs.Io.KnownBytes.{Appends}
 use Rattle.std.proofs.KnownBytes.{Appends-nil, Appends-trans, Keeps-refl}
-use Rattle.sector_disk.specs.Disk.{Disk}
+use Rattle.sector_disk.specs.Facts.{DeviceFacts}
 use Rattle.koth_hill.specs.Hill.{Hill}
 use Rattle.hill_store.specs.Seen.{Seen}
 use Rattle.koth_protocol.specs.Commands.{Command, commands_from}
 use Rattle.koth_protocol.specs.Lines.{lines_from}
 use Rattle.koth_protocol.specs.Reading.{IsReading, Reads, commands_met}
-use Rattle.koth_session.specs.Sessions.{Answers, Goes, HasWorn, IsAnsweredTo, IsServed, Scene, Stopped, WentOn}
+use Rattle.koth_session.specs.Sessions.{AnswersCommand, Goes, HasSubmission, HasWorn, IsAnsweredTo, AreServed, Scene, Stopped, WentOn}
 use Rattle.koth_session.specs.Transcript.{Exchange, Mark, answer, command_in, commands_in, hill_after, hill_next, transcript}
 use Rattle.koth_protocol.specs.declared.script.Met.{Met}
+use Rattle.sector_disk.proofs.Kept.{kept_on, kept_same}
 use Rattle.koth_protocol.specs.declared.script.Met.TheVariants as met
 use Rattle.koth_protocol.specs.declared.script.Script.{Script}
 use Rattle.koth_session.specs.declared.sessions.SessionEnd.{SessionEnd}
@@ -38,36 +40,47 @@ worn_in (Exchange.Submission source Mark.Taken ∷ es) fs worn = worn_in es fs w
 worn_in (Exchange.Table ∷ es) fs worn = worn_in es fs worn
 worn_in (Exchange.BadLine ∷ es) fs worn = worn_in es fs worn
 
-module _ {D : Type 0} (size : D → ℕ) (is_lawful : D → Type 0) (disk : D → Disk) (failures : D → ℕ) where
+submission_in : (es fs : List Exchange) → HasSubmission (es ++ fs) → HasSubmission es ⊎ HasSubmission fs
+submission_in [] fs has = inr has
+submission_in (Exchange.Submission source mark ∷ es) fs has = inl tt
+submission_in (Exchange.Table ∷ es) fs has = submission_in es fs has
+submission_in (Exchange.BadLine ∷ es) fs has = submission_in es fs has
+
+module _ {D : Type 0} (facts : DeviceFacts D) where
   pub served_same : (s : Seen D) (es : List Exchange) → hill_after s.hill es ≡ s.hill → (HasWorn es → s.generation ≡ 2 ^ 64 - 1)
-      → IsServed size is_lawful disk failures s s es
-  served_same s es same worn = record {
+      → (HasSubmission es → s.reopen ≡ false) → AreServed facts s s es
+  served_same s es same worn open_at = record {
     hill = sym same;
+    generation = refl;
     still = refl;
-    later = le_refl (failures s.device);
-    lawful = λ is. is;
+    open_at = open_at;
+    kept = kept_same facts s.device;
     worn = worn;
     full = λ is. is;
     stands = λ is open_still stands. stands;
   }
 
-  pub served_on : (a b c : Seen D) (es fs : List Exchange) → IsServed size is_lawful disk failures a b es → IsServed size is_lawful disk failures b c fs
-      → IsServed size is_lawful disk failures a c (es ++ fs)
+  pub served_on : (a b c : Seen D) (es fs : List Exchange) → AreServed facts a b es → AreServed facts b c fs
+      → AreServed facts a c (es ++ fs)
   served_on a b c es fs p q = record {
     hill = q.hill ∙ ap (λ h. hill_after h fs) p.hill ∙ sym (hill_append a.hill es fs);
+    generation =
+        let first : b.generation + a.hill.counter ≡ a.generation + b.hill.counter = p.generation in
+        let second : c.generation + b.hill.counter ≡ b.generation + c.hill.counter = q.generation in
+        omega (arith, first, second);
     still = q.still ∙ p.still;
-    later = le_trans p.later q.later;
-    lawful = λ is. q.lawful (p.lawful is);
+    open_at = λ has. elim (submission_in es fs has) [ inl first ↦ p.open_at first | inr second ↦ sym p.still ∙ q.open_at second ];
+    kept = kept_on facts a.device b.device c.device p.kept q.kept;
     worn = λ worn. elim (worn_in es fs worn) [ inl first ↦ q.full (p.worn first) | inr second ↦ q.worn second ];
     full = λ is. q.full (p.full is);
-    stands = λ is open_still stands. q.stands (p.lawful is) (p.still ∙ open_still) (p.stands is open_still stands);
+    stands = λ is open_still stands. q.stands (p.kept.same_laws.1 is) (p.still ∙ open_still) (p.stands is open_still stands);
   }
 
-  pub answered_none : (s : Scene D) → IsAnsweredTo size is_lawful disk failures s s []
-  answered_none s = record { served = served_same s.store [] refl (λ worn. absurd worn); written = Appends-nil s.output }
+  pub answered_none : (s : Scene D) → IsAnsweredTo facts s s []
+  answered_none s = record { served = served_same s.store [] refl (λ worn. absurd worn) (λ has. absurd has); written = Appends-nil s.output }
 
-  pub answered_on : (a b c : Scene D) (es fs : List Exchange) → IsAnsweredTo size is_lawful disk failures a b es → IsAnsweredTo size is_lawful disk failures b c fs
-      → IsAnsweredTo size is_lawful disk failures a c (es ++ fs)
+  pub answered_on : (a b c : Scene D) (es fs : List Exchange) → IsAnsweredTo facts a b es → IsAnsweredTo facts b c fs
+      → IsAnsweredTo facts a c (es ++ fs)
   answered_on a b c es fs p q = record {
     served = served_on a.store b.store c.store es fs p.served q.served;
     written =
@@ -77,7 +90,7 @@ module _ {D : Type 0} (size : D → ℕ) (is_lawful : D → Type 0) (disk : D �
 
   -- more bytes behind those that ended the session
   pub stops_early : (line : List ℕ) (source : Option (List ℕ)) (bs cs : List ℕ) (end : SessionEnd) (a c : Scene D)
-      → Stopped size is_lawful disk failures line source bs end a c → Stopped size is_lawful disk failures line source (bs ++ cs) end a c
+      → Stopped facts line source bs end a c → Stopped facts line source (bs ++ cs) end a c
   stops_early line source bs cs end a c v = record {
     es = v.es;
     last = v.last;
@@ -85,15 +98,24 @@ module _ {D : Type 0} (size : D → ℕ) (is_lawful : D → Type 0) (disk : D �
     command = v.command;
     behind = λ more. v.behind (cs ++ more);
     commands = λ more. ap (λ l. commands_from source (lines_from line l)) (append_assoc bs cs more) ∙ v.commands (cs ++ more);
+    upto = v.upto;
+    rest = v.rest ++ cs;
+    split = ap (λ l. l ++ cs) v.split ∙ append_assoc v.upto v.rest cs;
+    few =
+        let less : length v.rest < length bs = v.few in
+        let first = length-append v.rest cs in
+        let second = length-append bs cs in
+        omega (arith, less, first, second);
+    last_of_them = v.last_of_them;
     ended = v.ended;
   }
 
   module _ {A : Type 0} where
     -- what comes behind bytes that went on
     pub goes_on : (line : List ℕ) (source : Option (List ℕ)) (bs cs : List ℕ) (mid script : Script A) (r : Option SessionEnd) (a b c : Scene D)
-        → (w : WentOn size is_lawful disk failures line source bs mid a b)
-        → Goes size is_lawful disk failures w.new_line w.new_source cs r script b c
-        → Goes size is_lawful disk failures line source (bs ++ cs) r script a c
+        → (w : WentOn facts line source bs mid a b)
+        → Goes facts w.new_line w.new_source cs r script b c
+        → Goes facts line source (bs ++ cs) r script a c
     goes_on line source bs cs mid script None a b c w v = record {
       es = w.es ++ v.es;
       answered = answered_on a b c w.es v.es w.answered v.answered;
@@ -117,11 +139,30 @@ module _ {D : Type 0} (size : D → ℕ) (is_lawful : D → Type 0) (disk : D �
           ap (λ l. commands_from source (lines_from line l)) (append_assoc bs cs more) ∙ w.commands (cs ++ more)
           ∙ ap (λ l. commands_in w.es ++ l) (v.commands more) ∙ sym (append_assoc (commands_in w.es) (commands_in v.es) behind)
           ∙ ap (λ l. l ++ behind) (sym (commands_append w.es v.es));
+      upto = bs ++ v.upto;
+      rest = v.rest;
+      split = ap (λ l. bs ++ l) v.split ∙ sym (append_assoc bs v.upto v.rest);
+      few =
+          let less : length v.rest < length cs = v.few in
+          let both = length-append bs cs in
+          omega (arith, less, both);
+      last_of_them =
+          let behind = v.command ∷ [] in
+          w.commands v.upto ∙ ap (λ l. commands_in w.es ++ l) v.last_of_them ∙ sym (append_assoc (commands_in w.es) (commands_in v.es) behind)
+          ∙ ap (λ l. l ++ behind) (sym (commands_append w.es v.es));
       ended = v.ended;
     }
 
+    -- what is left of the bytes is what the last of them left
+    pub rest_on : (line : List ℕ) (source : Option (List ℕ)) (bs cs : List ℕ) (mid script : Script A) (end : SessionEnd) (a b c : Scene D)
+        → (w : WentOn facts line source bs mid a b)
+        → (v : Stopped facts w.new_line w.new_source cs end b c)
+        → (goes_on line source bs cs mid script (Some end) a b c w v).rest ≡ v.rest
+    unfolding goes_on
+    rest_on line source bs cs mid script end a b c w v = refl
+
     pub went_nowhere : (line : List ℕ) (source : Option (List ℕ)) (script : Script A) (s : Scene D) → IsReading script line source
-        → WentOn size is_lawful disk failures line source [] script s s
+        → WentOn facts line source [] script s s
     went_nowhere line source script s reading = record {
       es = [];
       answered = answered_none s;
@@ -134,7 +175,7 @@ module _ {D : Type 0} (size : D → ℕ) (is_lawful : D → Type 0) (disk : D �
     -- ---- one byte
 
     pub nothing_met : (line : List ℕ) (source : Option (List ℕ)) (byte : ℕ) (script : Script A) (s : Scene D)
-        → Reads line source byte met.Nothing script → Goes size is_lawful disk failures line source (byte ∷ []) None script s s
+        → Reads line source byte met.Nothing script → Goes facts line source (byte ∷ []) None script s s
     nothing_met line source byte script s reads = record {
       es = [];
       answered = answered_none s;
@@ -145,7 +186,7 @@ module _ {D : Type 0} (size : D → ℕ) (is_lawful : D → Type 0) (disk : D �
     }
 
     pub quit_met : (line : List ℕ) (source : Option (List ℕ)) (byte : ℕ) (script : Script A) (s : Scene D)
-        → Reads line source byte met.Quit script → Goes size is_lawful disk failures line source (byte ∷ []) (Some ends.Quit) script s s
+        → Reads line source byte met.Quit script → Goes facts line source (byte ∷ []) (Some ends.Quit) script s s
     quit_met line source byte script s reads = record {
       es = [];
       last = s;
@@ -153,12 +194,17 @@ module _ {D : Type 0} (size : D → ℕ) (is_lawful : D → Type 0) (disk : D �
       command = Command.Quit;
       behind = λ more. [];
       commands = reads.commands;
+      upto = byte ∷ [];
+      rest = [];
+      split = refl;
+      few = omega arith;
+      last_of_them = reads.commands [];
       ended = (refl, refl, Keeps-refl s.output);
     }
 
     pub command_met : (line : List ℕ) (source : Option (List ℕ)) (byte : ℕ) (m : Met) (script : Script A) (command : Command) (r : Option SessionEnd) (a c : Scene D)
         → ((others : List Command) → commands_met m script.source others ≡ command ∷ others) → Reads line source byte m script
-        → Answers size is_lawful disk failures command r a c → Goes size is_lawful disk failures line source (byte ∷ []) r script a c
+        → AnswersCommand facts command r a c → Goes facts line source (byte ∷ []) r script a c
     command_met line source byte m script command None a c is reads answers = record {
       es = answers.0 ∷ [];
       answered = record { served = answers.2; written = subst (Appends a.output c.output) (sym (append-nil (answer a.store.hill answers.0))) answers.3 };
@@ -174,5 +220,10 @@ module _ {D : Type 0} (size : D → ℕ) (is_lawful : D → Type 0) (disk : D �
       command = command;
       behind = λ more. commands_from reads.new_source (lines_from reads.new_line more);
       commands = λ more. reads.commands more ∙ is _;
+      upto = byte ∷ [];
+      rest = [];
+      split = refl;
+      few = omega arith;
+      last_of_them = reads.commands [] ∙ is _;
       ended = answers;
     }

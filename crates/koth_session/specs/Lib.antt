@@ -4,3 +4,5 @@ pub mod Reply
 pub mod Transcript
 -- How a session goes and ends, and what the device holds then: what `session` promises.
 pub mod Sessions
+-- What a session is in the life of its device.
+pub mod Lives

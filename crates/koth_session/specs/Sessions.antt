@@ -1,9 +1,10 @@
 -- How a session goes, and how it ends.
-use Rattle.std.specs.Prelude.{◌≡◌, ◌⊎◌, ⊤, ℕ, ◌-◌, ◌^◌, ◌≤◌, Bool, true, false, List, [], ◌∷◌, ◌++◌, length, Option, None, Some, Result, Ok, Err}
+use Rattle.std.specs.Prelude.{◌≡◌, ◌⊎◌, ⊤, ℕ, ◌+◌, ◌-◌, ◌^◌, ◌<◌, ◌≤◌, Bool, true, false, List, [], ◌∷◌, ◌++◌, length, Option, None, Some, Result, Ok, Err}
 use Rattle.std.specs.Io.KnownBytes.{Appends, Consumes, IsAtEnd, Keeps}
 use Rattle.war_types.specs.declared.settings.RawSettings.{RawSettings}
-use Rattle.sector_disk.specs.Disk.{Disk}
+use Rattle.sector_disk.specs.Facts.{DeviceFacts}
 use Rattle.sector_disk.specs.Image.{Images}
+use Rattle.sector_disk.specs.Served.{IsKept}
 use Rattle.hill_store.specs.Earned.{earned, step_source}
 use Rattle.hill_store.specs.Seen.{Seen}
 use Rattle.hill_store.specs.declared.reply.Reply.{Reply}
@@ -29,8 +30,8 @@ abbrev pub scene : {D : Type 0} → Option (List ℕ) → Seen D → Scene D
 scene output store = record { output = output; store = store }
 
 -- what every image stands for
-abbrev pub StandsNow : {D : Type 0} → (D → ℕ) → (D → Disk) → Seen D → Type 0
-StandsNow size disk s = Images (disk s.device) (λ image. Stands (size s.device) image s.hill)
+abbrev pub StandsNow : {D : Type 0} → DeviceFacts D → Seen D → Type 0
+StandsNow facts s = Images (facts.disk s.device) (λ image. Stands (facts.size s.device) image s.hill)
 
 -- one is marked so
 abbrev pub HasWorn : List Exchange → Type 0
@@ -41,71 +42,86 @@ HasWorn (Exchange.Submission source Mark.Taken ∷ es) = HasWorn es
 HasWorn (Exchange.Table ∷ es) = HasWorn es
 HasWorn (Exchange.BadLine ∷ es) = HasWorn es
 
--- these were answered, as far as the store goes
-pub record IsServed {D : Type 0} (size : D → ℕ) (is_lawful : D → Type 0) (disk : D → Disk) (failures : D → ℕ) (old new : Seen D) (es : List Exchange) : Type 0 where
+-- one is a submission
+abbrev pub HasSubmission : List Exchange → Type 0
+HasSubmission [] = ⊥
+HasSubmission (Exchange.Submission source mark ∷ es) = ⊤
+HasSubmission (Exchange.Table ∷ es) = HasSubmission es
+HasSubmission (Exchange.BadLine ∷ es) = HasSubmission es
+
+-- These were answered, as far as the store goes. Its generation rose as often as its hill counted a warrior.
+pub record AreServed {D : Type 0} (facts : DeviceFacts D) (old new : Seen D) (es : List Exchange) : Type 0 where
   pub hill : new.hill ≡ hill_after old.hill es
+  pub generation : new.generation + old.hill.counter ≡ old.generation + new.hill.counter
   pub still : new.reopen ≡ old.reopen
-  pub later : failures old.device ≤ failures new.device
-  pub lawful : is_lawful old.device → is_lawful new.device
+  pub open_at : HasSubmission es → old.reopen ≡ false
+  pub kept : IsKept facts old.device new.device
   pub worn : HasWorn es → new.generation ≡ 2 ^ 64 - 1
   pub full : old.generation ≡ 2 ^ 64 - 1 → new.generation ≡ 2 ^ 64 - 1
-  pub stands : is_lawful old.device → old.reopen ≡ false → StandsNow size disk old → StandsNow size disk new
+  pub stands : facts.lawful old.device → old.reopen ≡ false → StandsNow facts old → StandsNow facts new
 
 -- this source was submitted, and the device failed then or before
-pub record IsCutOff {D : Type 0} (size : D → ℕ) (is_lawful : D → Type 0) (disk : D → Disk) (failures : D → ℕ) (old new : Seen D) (source : List ℕ) : Type 0 where
+pub record IsLeftOff {D : Type 0} (facts : DeviceFacts D) (old new : Seen D) (source : List ℕ) : Type 0 where
   pub hill : new.hill ≡ old.hill
+  pub generation : new.generation ≡ old.generation
   pub broken : new.reopen ≡ true
-  pub cause : (old.reopen ≡ true) ⊎ Rose (failures old.device) (failures new.device)
+  pub kept : IsKept facts old.device new.device
+  pub cause : (old.reopen ≡ true) ⊎ Rose (facts.faults old.device) (facts.faults new.device)
   pub full : old.generation ≡ 2 ^ 64 - 1 → new.generation ≡ 2 ^ 64 - 1
-  pub stands : is_lawful old.device → old.reopen ≡ false
-      → Images (disk new.device) (λ image. Stands (size new.device) image old.hill ⊎ Stands (size new.device) image (step_source old.hill source))
+  pub stands : facts.lawful old.device → old.reopen ≡ false
+      → Images (facts.disk new.device) (λ image. Stands (facts.size new.device) image old.hill ⊎ Stands (facts.size new.device) image (step_source old.hill source))
 
 -- what a command brought about: it was answered, or the session ends
-abbrev pub Answers : {D : Type 0} → (D → ℕ) → (D → Type 0) → (D → Disk) → (D → ℕ) → Command → Option SessionEnd → Scene D → Scene D → Type 0
-Answers size is_lawful disk failures command None old new =
-    (e : Exchange) × (command ≡ command_in e) × IsServed size is_lawful disk failures old.store new.store (e ∷ [])
+abbrev pub AnswersCommand : {D : Type 0} → DeviceFacts D → Command → Option SessionEnd → Scene D → Scene D → Type 0
+AnswersCommand facts command None old new =
+    (e : Exchange) × (command ≡ command_in e) × AreServed facts old.store new.store (e ∷ [])
     × Appends old.output new.output (answer old.store.hill e)
-Answers size is_lawful disk failures command (Some ends.WriteFault) old new =
-    (e : Exchange) × (command ≡ command_in e) × IsServed size is_lawful disk failures old.store new.store (e ∷ [])
+AnswersCommand facts command (Some ends.WriteFault) old new =
+    (e : Exchange) × (command ≡ command_in e) × AreServed facts old.store new.store (e ∷ [])
     × WritesPart old.output new.output (answer old.store.hill e)
-Answers size is_lawful disk failures command (Some ends.StoreFailed) old new =
-    (source : List ℕ) × (command ≡ Command.Submit source) × IsCutOff size is_lawful disk failures old.store new.store source × Keeps old.output new.output
-Answers size is_lawful disk failures command (Some ends.Memory) old new =
+AnswersCommand facts command (Some ends.StoreFailed) old new =
+    (source : List ℕ) × (command ≡ Command.Submit source) × IsLeftOff facts old.store new.store source × Keeps old.output new.output
+AnswersCommand facts command (Some ends.Memory) old new =
     (command ≡ Command.Show) × (new.store ≡ old.store) × Keeps old.output new.output
-Answers size is_lawful disk failures command (Some ends.Quit) old new =
+AnswersCommand facts command (Some ends.Quit) old new =
     (command ≡ Command.Quit) × (new.store ≡ old.store) × Keeps old.output new.output
-Answers size is_lawful disk failures command (Some ends.EndOfInput) old new = ⊥
-Answers size is_lawful disk failures command (Some ends.ReadFault) old new = ⊥
-Answers size is_lawful disk failures command (Some ends.Limit) old new = ⊥
+AnswersCommand facts command (Some ends.EndOfInput) old new = ⊥
+AnswersCommand facts command (Some ends.ReadFault) old new = ⊥
+AnswersCommand facts command (Some ends.Limit) old new = ⊥
 
 -- these were answered whole
-pub record IsAnsweredTo {D : Type 0} (size : D → ℕ) (is_lawful : D → Type 0) (disk : D → Disk) (failures : D → ℕ) (old new : Scene D) (es : List Exchange) : Type 0 where
-  pub served : IsServed size is_lawful disk failures old.store new.store es
+pub record IsAnsweredTo {D : Type 0} (facts : DeviceFacts D) (old new : Scene D) (es : List Exchange) : Type 0 where
+  pub served : AreServed facts old.store new.store es
   pub written : Appends old.output new.output (transcript old.store.hill es)
 
 -- The bytes from here on went on: these commands of theirs were answered, and the reading stands there now.
-pub record WentOn {D A : Type 0} (size : D → ℕ) (is_lawful : D → Type 0) (disk : D → Disk) (failures : D → ℕ) (line : List ℕ) (source : Option (List ℕ)) (bytes : List ℕ) (script : Script A) (old new : Scene D) : Type 0 where
+pub record WentOn {D A : Type 0} (facts : DeviceFacts D) (line : List ℕ) (source : Option (List ℕ)) (bytes : List ℕ) (script : Script A) (old new : Scene D) : Type 0 where
   pub es : List Exchange
-  pub answered : IsAnsweredTo size is_lawful disk failures old new es
+  pub answered : IsAnsweredTo facts old new es
   pub new_line : List ℕ
   pub new_source : Option (List ℕ)
   pub reading : IsReading script new_line new_source
   pub commands : (more : List ℕ) → commands_from source (lines_from line (bytes ++ more))
       ≡ commands_in es ++ commands_from new_source (lines_from new_line more)
 
--- A command in the bytes from here on ended the session.
-pub record Stopped {D : Type 0} (size : D → ℕ) (is_lawful : D → Type 0) (disk : D → Disk) (failures : D → ℕ) (line : List ℕ) (source : Option (List ℕ)) (bytes : List ℕ) (end : SessionEnd) (old new : Scene D) : Type 0 where
+-- A command in the bytes from here on ended the session: those up to it are split off.
+pub record Stopped {D : Type 0} (facts : DeviceFacts D) (line : List ℕ) (source : Option (List ℕ)) (bytes : List ℕ) (end : SessionEnd) (old new : Scene D) : Type 0 where
   pub es : List Exchange
   pub last : Scene D
-  pub answered : IsAnsweredTo size is_lawful disk failures old last es
+  pub answered : IsAnsweredTo facts old last es
   pub command : Command
   pub behind : List ℕ → List Command
   pub commands : (more : List ℕ) → commands_from source (lines_from line (bytes ++ more)) ≡ commands_in es ++ (command ∷ behind more)
-  pub ended : Answers size is_lawful disk failures command (Some end) last new
+  pub upto : List ℕ
+  pub rest : List ℕ
+  pub split : bytes ≡ upto ++ rest
+  pub few : length rest < length bytes
+  pub last_of_them : commands_from source (lines_from line upto) ≡ commands_in es ++ (command ∷ [])
+  pub ended : AnswersCommand facts command (Some end) last new
 
-abbrev pub Goes : {D A : Type 0} → (D → ℕ) → (D → Type 0) → (D → Disk) → (D → ℕ) → List ℕ → Option (List ℕ) → List ℕ → Option SessionEnd → Script A → Scene D → Scene D → Type 0
-Goes size is_lawful disk failures line source bytes None script old new = WentOn size is_lawful disk failures line source bytes script old new
-Goes size is_lawful disk failures line source bytes (Some end) script old new = Stopped size is_lawful disk failures line source bytes end old new
+abbrev pub Goes : {D A : Type 0} → DeviceFacts D → List ℕ → Option (List ℕ) → List ℕ → Option SessionEnd → Script A → Scene D → Scene D → Type 0
+Goes facts line source bytes None script old new = WentOn facts line source bytes script old new
+Goes facts line source bytes (Some end) script old new = Stopped facts line source bytes end old new
 
 -- the device failed, in this submission or before
 abbrev pub has_failed : Reply → Bool
@@ -123,58 +139,64 @@ said (Ok done) = None
 said (Err fault) = Some ends.WriteFault
 
 -- Where every image stood for the hill that these sources earn, every image stands for what they and the submissions answered earn.
-abbrev pub KeepsList : {D : Type 0} → (D → ℕ) → (D → Type 0) → (D → Disk) → Seen D → Seen D → List Exchange → Type 0
-KeepsList size is_lawful disk old new es = (s : RawSettings) (sources : List (List ℕ)) → is_lawful old.device → old.reopen ≡ false → old.hill ≡ earned s sources
-    → Holds (size old.device) (disk old.device) s sources None
-    → (new.hill ≡ earned s (sources ++ submitted es)) × Holds (size new.device) (disk new.device) s (sources ++ submitted es) None
+abbrev pub KeepsList : {D : Type 0} → DeviceFacts D → Seen D → Seen D → List Exchange → Type 0
+KeepsList facts old new es = (s : RawSettings) (sources : List (List ℕ)) → facts.lawful old.device → old.reopen ≡ false → old.hill ≡ earned s sources
+    → Holds (facts.size old.device) (facts.disk old.device) s sources None
+    → (new.hill ≡ earned s (sources ++ submitted es)) × Holds (facts.size new.device) (facts.disk new.device) s (sources ++ submitted es) None
 
 -- The same with one source more, which was under way: each image has it or does not.
-abbrev pub KeepsCut : {D : Type 0} → (D → ℕ) → (D → Type 0) → (D → Disk) → Seen D → Seen D → List Exchange → List ℕ → Type 0
-KeepsCut size is_lawful disk old new es source = (s : RawSettings) (sources : List (List ℕ)) → is_lawful old.device → old.reopen ≡ false → old.hill ≡ earned s sources
-    → Holds (size old.device) (disk old.device) s sources None
-    → Holds (size new.device) (disk new.device) s (sources ++ submitted es) (Some source)
+abbrev pub KeepsCut : {D : Type 0} → DeviceFacts D → Seen D → Seen D → List Exchange → List ℕ → Type 0
+KeepsCut facts old new es source = (s : RawSettings) (sources : List (List ℕ)) → facts.lawful old.device → old.reopen ≡ false → old.hill ≡ earned s sources
+    → Holds (facts.size old.device) (facts.disk old.device) s sources None
+    → Holds (facts.size new.device) (facts.disk new.device) s (sources ++ submitted es) (Some source)
 
 -- what the device holds where a command ended the session
-abbrev pub HoldsAt : {D : Type 0} → (D → ℕ) → (D → Type 0) → (D → Disk) → SessionEnd → Command → Seen D → Seen D → List Exchange → Type 0
-HoldsAt size is_lawful disk ends.Quit command old new es = KeepsList size is_lawful disk old new es
-HoldsAt size is_lawful disk ends.Memory command old new es = KeepsList size is_lawful disk old new es
-HoldsAt size is_lawful disk ends.WriteFault command old new es =
-    (e : Exchange) × (command ≡ command_in e) × KeepsList size is_lawful disk old new (es ++ e ∷ [])
-HoldsAt size is_lawful disk ends.StoreFailed command old new es =
-    (source : List ℕ) × (command ≡ Command.Submit source) × KeepsCut size is_lawful disk old new es source
-HoldsAt size is_lawful disk ends.EndOfInput command old new es = ⊥
-HoldsAt size is_lawful disk ends.ReadFault command old new es = ⊥
-HoldsAt size is_lawful disk ends.Limit command old new es = ⊥
+abbrev pub HoldsAt : {D : Type 0} → DeviceFacts D → SessionEnd → Command → Seen D → Seen D → List Exchange → Type 0
+HoldsAt facts ends.Quit command old new es = KeepsList facts old new es
+HoldsAt facts ends.Memory command old new es = KeepsList facts old new es
+HoldsAt facts ends.WriteFault command old new es =
+    (e : Exchange) × (command ≡ command_in e) × KeepsList facts old new (es ++ e ∷ [])
+HoldsAt facts ends.StoreFailed command old new es =
+    (source : List ℕ) × (command ≡ Command.Submit source) × KeepsCut facts old new es source
+HoldsAt facts ends.EndOfInput command old new es = ⊥
+HoldsAt facts ends.ReadFault command old new es = ⊥
+HoldsAt facts ends.Limit command old new es = ⊥
 
 -- All commands of the bytes that were taken were answered, and none of them is `QUIT`.
-pub record AnswersAll {D : Type 0} (size : D → ℕ) (is_lawful : D → Type 0) (disk : D → Disk) (failures : D → ℕ) (taken : List ℕ) (old new : Scene D) : Type 0 where
+pub record AnswersAll {D : Type 0} (facts : DeviceFacts D) (taken : List ℕ) (old new : Scene D) : Type 0 where
   pub es : List Exchange
   pub commands : commands_of taken ≡ commands_in es
-  pub answered : IsAnsweredTo size is_lawful disk failures old new es
-  pub holds : KeepsList size is_lawful disk old.store new.store es
+  pub answered : IsAnsweredTo facts old new es
+  pub holds : KeepsList facts old.store new.store es
 
--- Those before one of the commands of the bytes that were taken were answered, and it ended the session so.
-pub record AnswersFirst {D : Type 0} (size : D → ℕ) (is_lawful : D → Type 0) (disk : D → Disk) (failures : D → ℕ) (taken : List ℕ) (end : SessionEnd) (old new : Scene D) : Type 0 where
+-- Those before one of the commands of the bytes that were taken were answered, and it ended the session so. Of these bytes fewer than one
+-- read takes lie behind that command: no answer is held back while others are read.
+pub record AnswersFirst {D : Type 0} (facts : DeviceFacts D) (taken : List ℕ) (end : SessionEnd) (old new : Scene D) : Type 0 where
   pub es : List Exchange
   pub last : Scene D
-  pub answered : IsAnsweredTo size is_lawful disk failures old last es
+  pub answered : IsAnsweredTo facts old last es
   pub command : Command
   pub behind : List Command
   pub commands : commands_of taken ≡ commands_in es ++ (command ∷ behind)
-  pub ended : Answers size is_lawful disk failures command (Some end) last new
-  pub holds : HoldsAt size is_lawful disk end command old.store new.store es
+  pub upto : List ℕ
+  pub rest : List ℕ
+  pub split : taken ≡ upto ++ rest
+  pub few : length rest < 4096
+  pub last_of_them : commands_of upto ≡ commands_in es ++ (command ∷ [])
+  pub ended : AnswersCommand facts command (Some end) last new
+  pub holds : HoldsAt facts end command old.store new.store es
 
-abbrev pub EndsSo : {D : Type 0} → (D → ℕ) → (D → Type 0) → (D → Disk) → (D → ℕ) → SessionEnd → List ℕ → Option (List ℕ) → Scene D → Scene D → Type 0
-EndsSo size is_lawful disk failures ends.Quit taken left old new = AnswersFirst size is_lawful disk failures taken ends.Quit old new
-EndsSo size is_lawful disk failures ends.EndOfInput taken left old new = IsAtEnd left × AnswersAll size is_lawful disk failures taken old new
-EndsSo size is_lawful disk failures ends.ReadFault taken left old new = AnswersAll size is_lawful disk failures taken old new
-EndsSo size is_lawful disk failures ends.WriteFault taken left old new = AnswersFirst size is_lawful disk failures taken ends.WriteFault old new
-EndsSo size is_lawful disk failures ends.Limit taken left old new = (length taken ≡ 16777216) × AnswersAll size is_lawful disk failures taken old new
-EndsSo size is_lawful disk failures ends.StoreFailed taken left old new = AnswersFirst size is_lawful disk failures taken ends.StoreFailed old new
-EndsSo size is_lawful disk failures ends.Memory taken left old new =
-    ((taken ≡ []) × (new.store ≡ old.store) × Keeps old.output new.output) ⊎ AnswersFirst size is_lawful disk failures taken ends.Memory old new
+abbrev pub EndsSo : {D : Type 0} → DeviceFacts D → SessionEnd → List ℕ → Option (List ℕ) → Scene D → Scene D → Type 0
+EndsSo facts ends.Quit taken left old new = AnswersFirst facts taken ends.Quit old new
+EndsSo facts ends.EndOfInput taken left old new = IsAtEnd left × AnswersAll facts taken old new
+EndsSo facts ends.ReadFault taken left old new = AnswersAll facts taken old new
+EndsSo facts ends.WriteFault taken left old new = AnswersFirst facts taken ends.WriteFault old new
+EndsSo facts ends.Limit taken left old new = (length taken ≡ 16777216) × AnswersAll facts taken old new
+EndsSo facts ends.StoreFailed taken left old new = AnswersFirst facts taken ends.StoreFailed old new
+EndsSo facts ends.Memory taken left old new =
+    ((taken ≡ []) × (new.store ≡ old.store) × Keeps old.output new.output) ⊎ AnswersFirst facts taken ends.Memory old new
 
--- Bytes were taken, 16,777,216 at most, and the session ended so.
-abbrev pub EndsSession : {D : Type 0} → (D → ℕ) → (D → Type 0) → (D → Disk) → (D → ℕ) → SessionEnd → Option (List ℕ) → Option (List ℕ) → Scene D → Scene D → Type 0
-EndsSession size is_lawful disk failures end had left old new =
-    (taken : List ℕ) × Consumes had left taken × (length taken ≤ 16777216) × EndsSo size is_lawful disk failures end taken left old new
+-- Bytes were taken, 16,777,216 at most, the device was handed on, and the session ended so.
+abbrev pub EndsSession : {D : Type 0} → DeviceFacts D → SessionEnd → Option (List ℕ) → Option (List ℕ) → Scene D → Scene D → Type 0
+EndsSession facts end had left old new =
+    (taken : List ℕ) × Consumes had left taken × (length taken ≤ 16777216) × IsKept facts old.store.device new.store.device × EndsSo facts end taken left old new

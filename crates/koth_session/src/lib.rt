@@ -4,7 +4,8 @@
 //! `koth_protocol`'s, and this crate passes it on. The modules, in the order in which the data pass:
 //!
 //! - `sessions`: commands that are taken, carried out on the store and answered, one after the other, and how that ends;
-//! - `reply`: the lines of the replies.
+//! - `reply`: the lines of the replies;
+//! - `laws`: what a session is in the life of its device.
 //!
 //! `session` writes the transcript of the commands in the bytes that it took, and nothing else, and leaves the hill of the
 //! submissions that it answered: no stop of the device loses one of these (`ends`). It takes 16,777,216 bytes at most, and
@@ -15,9 +16,11 @@
 //! Only the buffers of a session and the text of a table take memory.
 #![tactic(auto)]
 
+mod laws;
 mod reply;
 mod sessions;
 
 pub use koth_protocol::{Counted, Line, ReadFault, WriteFault};
+pub use laws::sessions_in_lives;
 pub use reply::{line_of, write_reply};
 pub use sessions::{SessionEnd, session, table_of};

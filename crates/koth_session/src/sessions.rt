@@ -1,13 +1,13 @@
 //! A session: commands in, answers out.
 
-ghost use Rattle.std.specs.Prelude.{◌≡◌, ◌≢◌, ◌<◌, ◌≤◌, ℕ, [], ◌∷◌, List, None, Option, Some, length, take, IfOk, OnOk, OnErr};
+ghost use Rattle.std.specs.Prelude.{◌≡◌, ◌≢◌, ◌+◌, ◌<◌, ◌≤◌, ℕ, [], ◌∷◌, List, None, Option, Some, length, take, IfOk, OnOk, OnErr};
 ghost use Rattle.std.specs.Io.KnownBytes.{Consumes, IsAtEnd, Keeps};
 ghost use Rattle.koth_hill.specs.Table.{table};
 ghost use Rattle.koth_protocol.specs.Commands.{Command};
 ghost use Rattle.koth_protocol.specs.Counted.{Rose};
 ghost use Rattle.koth_protocol.specs.Reading.{IsReading};
 ghost use Rattle.koth_protocol.specs.Table.{show_text};
-ghost use Rattle.koth_session.specs.Sessions.{has_failed, said, scene, Answers, EndsSession, Goes};
+ghost use Rattle.koth_session.specs.Sessions.{has_failed, said, scene, AnswersCommand, EndsSession, Goes};
 
 use crate::reply::write_reply;
 use hill_store::{Reply, Store};
@@ -54,8 +54,9 @@ pub fn session<R: Read, W: Write, D: Device, A: Allocator + Copy>(
     output: &mut Counted<W>,
     store: &mut Store<D, A>,
 ) -> SessionEnd
-    ensures ends { EndsSession D.size D.lawful D.disk D.failures result (R.remaining input.old.stream) (R.remaining input.new.stream)
+    ensures ends { EndsSession D.facts result (R.remaining input.old.stream) (R.remaining input.new.stream)
         (scene (W.contents output.old.stream) store.old) (scene (W.contents output.new.stream) store.new) }
+    ensures limit { input.new.taken ≤ input.old.taken + 16777216 }
     ensures read_fault { result ≡ SessionEnd.ReadFault → Rose input.old.faults input.new.faults }
     ensures write_fault { result ≡ SessionEnd.WriteFault → Rose output.old.faults output.new.faults }
 {
@@ -73,8 +74,9 @@ fn serve<R: Read, W: Write, D: Device, A: Allocator + Copy>(
     store: &mut Store<D, A>,
 ) -> SessionEnd
     requires { IsReading script.old [] None }
-    ensures ends { EndsSession D.size D.lawful D.disk D.failures result (R.remaining input.old.stream) (R.remaining input.new.stream)
+    ensures ends { EndsSession D.facts result (R.remaining input.old.stream) (R.remaining input.new.stream)
         (scene (W.contents output.old.stream) store.old) (scene (W.contents output.new.stream) store.new) }
+    ensures limit { input.new.taken ≤ input.old.taken + 16777216 }
     ensures read_fault { result ≡ SessionEnd.ReadFault → Rose input.old.faults input.new.faults }
     ensures write_fault { result ≡ SessionEnd.WriteFault → Rose output.old.faults output.new.faults }
 {
@@ -106,6 +108,8 @@ fn read_chunk<R: Read>(
     ensures within { IfOk result (λ count. (count ≤ most) × (count ≤ length chunk.new)) }
     ensures taken { IfOk result (λ count. Consumes (R.remaining input.old.stream) (R.remaining input.new.stream) (take count chunk.new)) }
     ensures end { IfOk result (λ count. count ≡ 0 → IsAtEnd (R.remaining input.new.stream)) }
+    ensures counted { IfOk result (λ count. input.new.taken ≤ input.old.taken + count) }
+    ensures uncounted { OnErr result (input.new.taken ≡ input.old.taken) }
     ensures kept { OnErr result (Keeps (R.remaining input.old.stream) (R.remaining input.new.stream)) }
     ensures ok { OnOk result (input.new.faults ≡ input.old.faults) }
     ensures rose { OnErr result (Rose input.old.faults input.new.faults) }
@@ -126,7 +130,7 @@ fn serve_bytes<W: Write, D: Device, A: Allocator + Copy>(
     store: &mut Store<D, A>,
 ) -> Option<SessionEnd>
     ensures goes { (line : List ℕ) → (source : Option (List ℕ)) → IsReading script.old line source
-        → Goes D.size D.lawful D.disk D.failures line source bytes.now result script.new
+        → Goes D.facts line source bytes.now result script.new
         (scene (W.contents output.old.stream) store.old) (scene (W.contents output.new.stream) store.new) }
     ensures ok { result ≡ None → output.new.faults ≡ output.old.faults }
     ensures rose { result ≡ Some SessionEnd.WriteFault → Rose output.old.faults output.new.faults }
@@ -147,7 +151,7 @@ fn serve_byte<W: Write, D: Device, A: Allocator + Copy>(
     store: &mut Store<D, A>,
 ) -> Option<SessionEnd>
     ensures goes { (line : List ℕ) → (source : Option (List ℕ)) → IsReading script.old line source
-        → Goes D.size D.lawful D.disk D.failures line source (byte ∷ []) result script.new
+        → Goes D.facts line source (byte ∷ []) result script.new
         (scene (W.contents output.old.stream) store.old) (scene (W.contents output.new.stream) store.new) }
     ensures ok { result ≡ None → output.new.faults ≡ output.old.faults }
     ensures rose { result ≡ Some SessionEnd.WriteFault → Rose output.old.faults output.new.faults }
@@ -167,7 +171,7 @@ fn submit<W: Write, D: Device, A: Allocator + Copy>(
     output: &mut Counted<W>,
     store: &mut Store<D, A>,
 ) -> Option<SessionEnd>
-    ensures answers { Answers D.size D.lawful D.disk D.failures (Command.Submit source.now) result
+    ensures answers { AnswersCommand D.facts (Command.Submit source.now) result
         (scene (W.contents output.old.stream) store.old) (scene (W.contents output.new.stream) store.new) }
     ensures ok { result ≡ None → output.new.faults ≡ output.old.faults }
     ensures rose { result ≡ Some SessionEnd.WriteFault → Rose output.old.faults output.new.faults }
@@ -185,7 +189,7 @@ fn show<W: Write, D: Device, A: Allocator + Copy>(
     output: &mut Counted<W>,
     store: &Store<D, A>,
 ) -> Option<SessionEnd>
-    ensures answers { Answers D.size D.lawful D.disk D.failures Command.Show result
+    ensures answers { AnswersCommand D.facts Command.Show result
         (scene (W.contents output.old.stream) store.now) (scene (W.contents output.new.stream) store.now) }
     ensures ok { result ≡ None → output.new.faults ≡ output.old.faults }
     ensures rose { result ≡ Some SessionEnd.WriteFault → Rose output.old.faults output.new.faults }

@@ -8,6 +8,7 @@ use Rattle.sector_disk.specs.declared.fuse.Fuse.{Fuse}
 use Rattle.sector_disk.specs.declared.fuse_device.FuseDevice.{FuseDevice}
 use Rattle.sector_disk.specs.Disk.{Disk, current}
 use Rattle.sector_disk.specs.Changes.{Changes}
+use Rattle.sector_disk.specs.Facts.{DeviceFacts}
 use Rattle.sector_disk.specs.Served.{IsServed}
 
 -- the call at which a fuse burns
@@ -37,24 +38,25 @@ fate_of fuse = fate_at fuse.kind fuse.left
 abbrev pub fuse_after : Fuse → Fuse
 fuse_after fuse = record { kind = fuse.kind; left = left_after fuse.kind fuse.left }
 
--- its failures are those of the device within and the fuse's own
-abbrev pub fuse_failures : {D : Type 0} → (D → ℕ) → FuseDevice D → ℕ
-fuse_failures failures device = min (failures device.inner + device.failed) (2 ^ 64 - 1)
-
--- what holds of each call of a device with a fuse
-abbrev pub IsFuseServed : {D T E : Type 0} → (D → ℕ) → (D → Type 0) → (D → ℕ) → FuseDevice D → FuseDevice D → Result T E → Type 0
-IsFuseServed size is_lawful failures old new result = IsServed (λ device. size device.inner) (λ device. is_lawful device.inner) (fuse_failures failures) old new result
+-- its faults are those of the device within and the fuse's own; all else is as within
+abbrev pub fuse_facts : {D : Type 0} → DeviceFacts D → DeviceFacts (FuseDevice D)
+fuse_facts facts = record {
+  size = λ device. facts.size device.inner;
+  lawful = λ device. facts.lawful device.inner;
+  disk = λ device. facts.disk device.inner;
+  faults = λ device. min (facts.faults device.inner + device.failed) (2 ^ 64 - 1);
+}
 
 -- what a write or a sync, or a run of them, made of a device
-pub record IsChanged {D T E : Type 0} (size : D → ℕ) (is_lawful : D → Type 0) (failures : D → ℕ) (disk : D → Disk) (changes : List (Disk → Disk)) (old new : D) (result : Result T E) : Type 0 where
-  pub served : IsServed size is_lawful failures old new result
-  pub changes_made : is_lawful old → Changes changes (disk old) (disk new) result
+pub record IsChanged {D T E : Type 0} (facts : DeviceFacts D) (changes : List (Disk → Disk)) (old new : D) (result : Result T E) : Type 0 where
+  pub served : IsServed facts old new result
+  pub changes_made : facts.lawful old → Changes changes (facts.disk old) (facts.disk new) result
 
 -- what a read of a sector made of a device, and what it gave
-pub record IsRead {D T E : Type 0} (size : D → ℕ) (is_lawful : D → Type 0) (failures : D → ℕ) (disk : D → Disk) (n : ℕ) (content : List ℕ) (old new : D) (result : Result T E) : Type 0 where
-  pub served : IsServed size is_lawful failures old new result
-  pub kept : is_lawful old → disk new ≡ disk old
-  pub given : is_lawful old → OnOk result (content ≡ current (disk old) n)
+pub record IsRead {D T E : Type 0} (facts : DeviceFacts D) (n : ℕ) (content : List ℕ) (old new : D) (result : Result T E) : Type 0 where
+  pub served : IsServed facts old new result
+  pub kept : facts.lawful old → facts.disk new ≡ facts.disk old
+  pub given : facts.lawful old → OnOk result (content ≡ current (facts.disk old) n)
 
 -- What a call made of the device within: where it passes, what such a call makes of it at this answer; where it is lost, nothing;
 -- where it is kept, what such a call makes of it at an answer of its own, in whose place stands an Err.

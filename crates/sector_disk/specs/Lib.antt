@@ -1,6 +1,7 @@
 pub mod Disk
 pub mod Image
 pub mod Changes
+pub mod Facts
 pub mod Served
 pub mod Memory
 pub mod Fuse

@@ -1,5 +1,6 @@
 -- The device in memory.
 use Rattle.std.specs.Prelude.{◌≡◌, ℕ, ◌≤◌, List, [], length, take, replicate, slice_index, slice_index_or, slice_set, Result}
+use Rattle.sector_disk.specs.Facts.{DeviceFacts}
 use Rattle.sector_disk.specs.Served.{IsServed}
 use Rattle.sector_disk.specs.Disk.{Disk, last_of}
 use Rattle.sector_disk.specs.Image.{IsImage, started}
@@ -29,12 +30,13 @@ memory_disk memory = disk_of memory.sectors
 abbrev pub memory_size : MemoryState → ℕ
 memory_size memory = length memory.sectors
 
-abbrev pub memory_faults : MemoryState → ℕ
-memory_faults memory = memory.faults
+-- it is always lawful
+abbrev pub memory_facts : DeviceFacts MemoryState
+memory_facts = record { size = memory_size; lawful = λ _. Unit {0}; disk = memory_disk; faults = λ memory. memory.faults }
 
--- what holds of each call of a device in memory, which is always lawful
+-- what holds of each call of a device in memory
 abbrev pub IsMemoryServed : {T E : Type 0} → MemoryState → MemoryState → Result T E → Type 0
-IsMemoryServed old new result = IsServed memory_size (λ _. Unit {0}) memory_faults old new result
+IsMemoryServed old new result = IsServed memory_facts old new result
 
 abbrev pub zeros : List ℕ
 zeros = replicate 512 0

@@ -1,11 +1,22 @@
 -- What holds of each call of a device, lawful or not, and of any run of such calls.
-use Rattle.std.specs.Prelude.{◌≡◌, ◌⊎◌, ℕ, ◌-◌, ◌^◌, ◌<◌, ◌≤◌, ◌↔◌, Result, IsOk, IsErr}
+use Rattle.std.specs.Prelude.{◌≡◌, ◌⊎◌, ◌-◌, ◌^◌, ◌<◌, ◌≤◌, ◌↔◌, Result, IsOk, IsErr}
+use Rattle.sector_disk.specs.Facts.{DeviceFacts}
 
--- Its sectors stay as many. It is as lawful as it was. Its failures are counted where an Err is answered, and nowhere else;
+-- it failed in this call, or in one of these calls
+abbrev pub Failed : {D : Type 0} → DeviceFacts D → D → D → Type 0
+Failed facts old new = (facts.faults old < facts.faults new) ⊎ (facts.faults old ≡ 2 ^ 64 - 1)
+
+-- What holds of each run of calls: its sectors stay as many, it is as lawful as it was, and its count of faults doesn't fall.
+pub record IsKept {D : Type 0} (facts : DeviceFacts D) (old new : D) : Type 0 where
+  pub same_size : facts.size new ≡ facts.size old
+  pub same_laws : facts.lawful new ↔ facts.lawful old
+  pub later : facts.faults old ≤ facts.faults new
+
+-- Its sectors stay as many. It is as lawful as it was. Its faults are counted where an Err is answered, and nowhere else;
 -- at the greatest u64 the count stands still.
-pub record IsServed {D T E : Type 0} (size : D → ℕ) (is_lawful : D → Type 0) (failures : D → ℕ) (old new : D) (result : Result T E) : Type 0 where
-  pub same_size : size new ≡ size old
-  pub same_laws : is_lawful new ↔ is_lawful old
-  pub later : failures old ≤ failures new
-  pub ok : IsOk result → failures new ≡ failures old
-  pub err : IsErr result → (failures old < failures new) ⊎ (failures old ≡ 2 ^ 64 - 1)
+pub record IsServed {D T E : Type 0} (facts : DeviceFacts D) (old new : D) (result : Result T E) : Type 0 where
+  pub same_size : facts.size new ≡ facts.size old
+  pub same_laws : facts.lawful new ↔ facts.lawful old
+  pub later : facts.faults old ≤ facts.faults new
+  pub ok : IsOk result → facts.faults new ≡ facts.faults old
+  pub err : IsErr result → Failed facts old new

@@ -1,7 +1,8 @@
 //! The trait of a sector device.
 
-ghost use Rattle.std.specs.Prelude.{◌≡◌, ℕ, ◌<◌, [], ◌∷◌, OnOk};
-ghost use Rattle.sector_disk.specs.Disk.{Disk, current, wrote, synced};
+ghost use Rattle.std.specs.Prelude.{◌≡◌, ◌<◌, [], ◌∷◌, OnOk};
+ghost use Rattle.sector_disk.specs.Disk.{current, wrote, synced};
+ghost use Rattle.sector_disk.specs.Facts.{DeviceFacts};
 ghost use Rattle.sector_disk.specs.Changes.{Changes};
 ghost use Rattle.sector_disk.specs.Served.{IsServed};
 
@@ -17,42 +18,33 @@ pub struct Fault;
 /// Of each sector it has a stable content and the contents written since the last sync. A stop leaves of each sector, by
 /// itself, the stable content or any one of those. All that is said of contents is said of a lawful device.
 pub trait Device {
-    /// The contents of its sectors.
-    ghost disk: { Self → Disk };
-
-    /// How many sectors it has.
-    ghost size: { Self → ℕ };
-
-    /// Whether it keeps the laws of contents.
-    ghost lawful: { Self → Type 0 };
-
-    /// How often it has failed, up to the greatest `u64`.
-    ghost failures: { Self → ℕ };
+    /// How many sectors it has, whether it keeps the laws of contents, what its sectors hold, and how many faults it has counted.
+    ghost facts: { DeviceFacts Self };
 
     /// How many sectors the device has. No call changes this.
     fn sectors(&self) -> u32
-        ensures { result ≡ size self.now };
+        ensures { result ≡ facts.size self.now };
 
     /// How many calls have answered a fault, up to the greatest `u64`.
     fn faults(&self) -> u64
-        ensures { result ≡ failures self.now };
+        ensures { result ≡ facts.faults self.now };
 
     /// Reads a sector: the last content written, else the stable one. After a `Fault` the device is as it was, and `to` holds
     /// any bytes.
     fn read(&mut self, n: u32, to: &mut [u8; 512]) -> Result<(), Fault>
-        requires { n < size self.old }
-        ensures served { IsServed size lawful failures self.old self.new result }
-        ensures kept { lawful self.old → disk self.new ≡ disk self.old }
-        ensures given { lawful self.old → OnOk result (to.new ≡ current (disk self.old) n) };
+        requires { n < facts.size self.old }
+        ensures served { IsServed facts self.old self.new result }
+        ensures kept { facts.lawful self.old → facts.disk self.new ≡ facts.disk self.old }
+        ensures given { facts.lawful self.old → OnOk result (to.new ≡ current (facts.disk self.old) n) };
 
     /// Writes a sector. Until the next sync a stop may lose it or keep it. After a `Fault` it was written in full or not at all.
     fn write(&mut self, n: u32, from: &[u8; 512]) -> Result<(), Fault>
-        requires { n < size self.old }
-        ensures served { IsServed size lawful failures self.old self.new result }
-        ensures changes { lawful self.old → Changes (wrote n from.now ∷ []) (disk self.old) (disk self.new) result };
+        requires { n < facts.size self.old }
+        ensures served { IsServed facts self.old self.new result }
+        ensures changes { facts.lawful self.old → Changes (wrote n from.now ∷ []) (facts.disk self.old) (facts.disk self.new) result };
 
     /// Makes the last content of each sector its stable one. After a `Fault` it did so for all of them or for none.
     fn sync(&mut self) -> Result<(), Fault>
-        ensures served { IsServed size lawful failures self.old self.new result }
-        ensures changes { lawful self.old → Changes (synced ∷ []) (disk self.old) (disk self.new) result };
+        ensures served { IsServed facts self.old self.new result }
+        ensures changes { facts.lawful self.old → Changes (synced ∷ []) (facts.disk self.old) (facts.disk self.new) result };
 }

@@ -1,9 +1,10 @@
 //! The device over a file.
 
-ghost use Rattle.std.specs.Prelude.{◌≡◌, ◌<◌, ◌≤◌, IfOk};
+ghost use Rattle.std.specs.Prelude.{◌≡◌, ◌≤◌, IfOk};
 ghost use Rattle.sector_disk.specs.File.{IsFileServed};
 
 use crate::device::{Device, Fault};
+use std::alloc::Allocator;
 use std::fs::{File, Files, OpenFile};
 use std::io::{ErrorKind, Read, Seek, SeekFrom, Write};
 use std::marker::Model;
@@ -20,7 +21,7 @@ pub enum FileFault {
     /// The system had no memory for the file.
     #[error("no memory for the file")]
     Memory,
-    /// The file can't be opened, measured or extended, or it has no whole sector.
+    /// The file can't be opened, measured or extended.
     #[error("the file failed")]
     Failed,
 }
@@ -59,13 +60,12 @@ impl<F> Model for FileDevice<F> {
 }
 
 impl<F: Read + Write + Seek + OpenFile + Drop> FileDevice<F> {
-    /// A device over the file at this path, as many sectors as the file has whole ones, and at most 2³² - 1. It has counted no
-    /// fault. `Failed` where the file is missing, can't be read and written, as a folder, or has no whole sector.
+    /// A device over the file at this path, as many sectors as the file has whole ones, none maybe, and at most 2³² - 1. It has counted
+    /// no fault. `Failed` where the file is missing or can't be read and written, as a folder.
     pub fn open<R: Files<File = F>, P: AsPath>(
         files: &R,
         path: P,
     ) -> Result<FileDevice<F>, FileFault>
-        ensures some { IfOk result (λ device. 0 < device.sectors) }
         ensures faults { IfOk result (λ device. device.faults ≡ 0) }
     {
         let mut options = File::options();
@@ -74,15 +74,16 @@ impl<F: Read + Write + Seek + OpenFile + Drop> FileDevice<F> {
     }
 
     /// A device of at least this many sectors over the file at this path. Where there is no file it is created, and where the
-    /// file has fewer whole sectors it is extended with zeros; then its length and its name have reached the disk. It is never
+    /// file has fewer whole sectors it is extended with zeros; its length and its name have reached the disk, also where an earlier call
+    /// that made it was cut short. A path that is a link leads to the file, and it is the file's own folder that is synced. It is never
     /// shortened. It has counted no fault. `Failed` as `open` says, and where the file can't be created or extended.
-    pub fn make<R: Files<File = F>, P: AsPath>(
+    pub fn make<R: Files<File = F>, A: Allocator, P: AsPath>(
         files: &R,
+        alloc: A,
         path: P,
         sectors: u32,
     ) -> Result<FileDevice<F>, FileFault>
         ensures enough { IfOk result (λ device. sectors ≤ device.sectors) }
-        ensures some { IfOk result (λ device. 0 < device.sectors) }
         ensures faults { IfOk result (λ device. device.faults ≡ 0) }
     {
         let mut options = File::options();
@@ -91,9 +92,10 @@ impl<F: Read + Write + Seek + OpenFile + Drop> FileDevice<F> {
         let file = options.open(files, path)?;
         if whole_sectors(&file)? < sectors {
             file.set_len(u64::from(sectors) * SECTOR_BYTES)?;
-            file.sync_all()?;
-            sync_folder(files, path)?;
         }
+        file.sync_all()?;
+        let own = files.canonicalize(alloc, path)?;
+        sync_folder(files, own.as_path())?;
         let device = FileDevice::over(file)?;
         if device.sectors < sectors {
             return Err(FileFault::Failed);
@@ -102,13 +104,9 @@ impl<F: Read + Write + Seek + OpenFile + Drop> FileDevice<F> {
     }
 
     fn over(file: F) -> Result<FileDevice<F>, FileFault>
-        ensures some { IfOk result (λ device. 0 < device.sectors) }
         ensures faults { IfOk result (λ device. device.faults ≡ 0) }
     {
         let sectors = whole_sectors(&file)?;
-        if sectors == 0 {
-            return Err(FileFault::Failed);
-        }
         Ok(FileDevice {
             file,
             sectors,
@@ -133,15 +131,9 @@ impl<F> FileDevice<F> {
 }
 
 impl<F: Read + Write + Seek + OpenFile> Device for FileDevice<F> {
-    ghost use Rattle.sector_disk.specs.File.{untold, file_size, file_faults};
+    ghost use Rattle.sector_disk.specs.File.{file_facts};
 
-    ghost disk = { λ _. untold };
-
-    ghost size = { file_size };
-
-    ghost lawful = { λ _. ⊥ };
-
-    ghost failures = { file_faults };
+    ghost facts = { file_facts };
 
     fn sectors(&self) -> u32 {
         self.sectors
@@ -185,8 +177,8 @@ fn write_sector<F: Write + Seek>(file: &mut F, n: u32, from: &[u8; 512]) -> io::
 }
 
 /// Makes the names in the folder of this path reach the disk: a file that was just created has one there.
-fn sync_folder<R: Files>(files: &R, path: &str) -> io::Result<()> {
-    let folder = match Path::new(path).parent() {
+fn sync_folder<R: Files>(files: &R, path: Path<'_>) -> io::Result<()> {
+    let folder = match path.parent() {
         Some(folder) if !folder.as_os_str().is_empty() => folder,
         _ => Path::new("."),
     };

@@ -3,7 +3,8 @@
 ghost use Rattle.std.specs.Prelude.{◌≡◌, ◌+◌, ◌-◌, ◌^◌, ◌<◌, min, [], ◌∷◌, OnOk, Some};
 ghost use Rattle.sector_disk.specs.Disk.{current, wrote, synced};
 ghost use Rattle.sector_disk.specs.Changes.{Changes};
-ghost use Rattle.sector_disk.specs.Fuse.{fate_of, fuse_after, IsChanged, IsRead, IsFused, IsFuseServed};
+ghost use Rattle.sector_disk.specs.Served.{IsServed};
+ghost use Rattle.sector_disk.specs.Fuse.{fate_of, fuse_after, fuse_facts, IsChanged, IsRead, IsFused};
 
 use crate::device::{Device, Fault};
 use crate::fuse::{Fate, Fuse, FuseKind};
@@ -36,7 +37,7 @@ impl<D> FuseDevice<D> {
         self.inner
     }
 
-    /// Counts a failure of the fuse's own.
+    /// Counts a fault of the fuse's own.
     fn fail(&mut self) -> Fault
         ensures inner { self.new.inner ≡ self.old.inner }
         ensures fuse { self.new.fuse ≡ self.old.fuse }
@@ -48,15 +49,7 @@ impl<D> FuseDevice<D> {
 }
 
 impl<D: Device> Device for FuseDevice<D> {
-    ghost use Rattle.sector_disk.specs.Fuse.{fuse_failures};
-
-    ghost disk = { λ f. D.disk f.inner };
-
-    ghost size = { λ f. D.size f.inner };
-
-    ghost lawful = { λ f. D.lawful f.inner };
-
-    ghost failures = { fuse_failures D.failures };
+    ghost facts = { fuse_facts D.facts };
 
     fn sectors(&self) -> u32 {
         self.inner.sectors()
@@ -67,12 +60,12 @@ impl<D: Device> Device for FuseDevice<D> {
     }
 
     fn read(&mut self, n: u32, to: &mut [u8; 512]) -> Result<(), Fault>
-        requires { n < D.size self.old.inner }
-        ensures served { IsFuseServed D.size D.lawful D.failures self.old self.new result }
-        ensures kept { D.lawful self.old.inner → D.disk self.new.inner ≡ D.disk self.old.inner }
-        ensures given { D.lawful self.old.inner → OnOk result (to.new ≡ current (D.disk self.old.inner) n) }
+        requires { n < D.facts.size self.old.inner }
+        ensures served { IsServed (fuse_facts D.facts) self.old self.new result }
+        ensures kept { D.facts.lawful self.old.inner → D.facts.disk self.new.inner ≡ D.facts.disk self.old.inner }
+        ensures given { D.facts.lawful self.old.inner → OnOk result (to.new ≡ current (D.facts.disk self.old.inner) n) }
         ensures fuse { self.new.fuse ≡ fuse_after self.old.fuse }
-        ensures fused { IsFused (fate_of self.old.fuse) (IsRead D.size D.lawful D.failures D.disk n to.new self.old.inner self.new.inner) self.old.inner self.new.inner result }
+        ensures fused { IsFused (fate_of self.old.fuse) (IsRead D.facts n to.new self.old.inner self.new.inner) self.old.inner self.new.inner result }
     {
         match self.fuse.next() {
             Fate::Passes => self.inner.read(n, to),
@@ -85,11 +78,11 @@ impl<D: Device> Device for FuseDevice<D> {
     }
 
     fn write(&mut self, n: u32, from: &[u8; 512]) -> Result<(), Fault>
-        requires { n < D.size self.old.inner }
-        ensures served { IsFuseServed D.size D.lawful D.failures self.old self.new result }
-        ensures changes { D.lawful self.old.inner → Changes (wrote n from.now ∷ []) (D.disk self.old.inner) (D.disk self.new.inner) result }
+        requires { n < D.facts.size self.old.inner }
+        ensures served { IsServed (fuse_facts D.facts) self.old self.new result }
+        ensures changes { D.facts.lawful self.old.inner → Changes (wrote n from.now ∷ []) (D.facts.disk self.old.inner) (D.facts.disk self.new.inner) result }
         ensures fuse { self.new.fuse ≡ fuse_after self.old.fuse }
-        ensures fused { IsFused (fate_of self.old.fuse) (IsChanged D.size D.lawful D.failures D.disk (wrote n from.now ∷ []) self.old.inner self.new.inner) self.old.inner self.new.inner result }
+        ensures fused { IsFused (fate_of self.old.fuse) (IsChanged D.facts (wrote n from.now ∷ []) self.old.inner self.new.inner) self.old.inner self.new.inner result }
     {
         match self.fuse.next() {
             Fate::Passes => self.inner.write(n, from),
@@ -102,10 +95,10 @@ impl<D: Device> Device for FuseDevice<D> {
     }
 
     fn sync(&mut self) -> Result<(), Fault>
-        ensures served { IsFuseServed D.size D.lawful D.failures self.old self.new result }
-        ensures changes { D.lawful self.old.inner → Changes (synced ∷ []) (D.disk self.old.inner) (D.disk self.new.inner) result }
+        ensures served { IsServed (fuse_facts D.facts) self.old self.new result }
+        ensures changes { D.facts.lawful self.old.inner → Changes (synced ∷ []) (D.facts.disk self.old.inner) (D.facts.disk self.new.inner) result }
         ensures fuse { self.new.fuse ≡ fuse_after self.old.fuse }
-        ensures fused { IsFused (fate_of self.old.fuse) (IsChanged D.size D.lawful D.failures D.disk (synced ∷ []) self.old.inner self.new.inner) self.old.inner self.new.inner result }
+        ensures fused { IsFused (fate_of self.old.fuse) (IsChanged D.facts (synced ∷ []) self.old.inner self.new.inner) self.old.inner self.new.inner result }
     {
         match self.fuse.next() {
             Fate::Passes => self.inner.sync(),

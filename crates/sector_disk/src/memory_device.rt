@@ -79,15 +79,9 @@ impl<A: Allocator> MemoryDevice<A> {
 }
 
 impl<A: Allocator> Device for MemoryDevice<A> {
-    ghost use Rattle.sector_disk.specs.Memory.{memory_disk, memory_size, memory_faults};
+    ghost use Rattle.sector_disk.specs.Memory.{memory_facts};
 
-    ghost disk = { memory_disk };
-
-    ghost size = { memory_size };
-
-    ghost lawful = { λ _. Unit {0} };
-
-    ghost failures = { memory_faults };
+    ghost facts = { memory_facts };
 
     fn sectors(&self) -> u32 {
         self.sectors.len() as u32

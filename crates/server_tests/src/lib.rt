@@ -7,6 +7,7 @@
 //! - `words`: which words are faults, ask for help, or give settings;
 //! - `assembling`, `fights` and `hills`: what the commands write, how they end, and what they do to files;
 //! - `sessions` and `session_faults`: what a session answers, and how it ends where a stream or the device fails;
+//! - `peers`: peers that wait for an answer, and streams that signals interrupt;
 //! - `service`: sessions over sockets, one after the other.
 //!
 //! What a contract says is proved there and not tried here.
@@ -18,6 +19,8 @@ mod assembling;
 mod fights;
 #[cfg(test)]
 mod hills;
+#[cfg(test)]
+mod peers;
 #[cfg(test)]
 mod program;
 #[cfg(test)]

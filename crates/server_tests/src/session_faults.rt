@@ -75,8 +75,23 @@ fn a_device_that_fails(rt: HostRuntime) -> Result<(), Fail> {
     assert_eq!(rt; ended, SessionEnd::StoreFailed);
     assert_eq!(rt; output.into_inner().len(), 0);
     assert_eq!(rt; store.rows()?.len(), 0);
+    // The store stays so: a table is answered on it, and no submission.
+    for (lines, answers, end) in ON_A_FAILED_STORE {
+        let mut output = Counted::new(Vec::new(rt.alloc()));
+        let mut input = Counted::new(lines.as_bytes());
+        let ended = session(rt.alloc(), &mut input, &mut output, &mut store);
+        assert_eq!(rt; ended, end, "at {lines}");
+        assert_eq!(rt; output.into_inner().as_slice(), answers.as_bytes());
+    }
     Ok(())
 }
+
+/// Lines of a session on a store whose device failed before, its answers and its end.
+const ON_A_FAILED_STORE: [(&str, &str, SessionEnd); 3] = [
+    ("SHOW\nQUIT\n", ".\n", SessionEnd::Quit),
+    ("SUBMIT\n.\nSHOW\n", "", SessionEnd::StoreFailed),
+    ("SHOW\nSUBMIT\nMOV 0,1\n.\n", ".\n", SessionEnd::StoreFailed),
+];
 
 #[test]
 fn a_line_without_end(rt: HostRuntime) -> Result<(), Fail> {

@@ -1,7 +1,7 @@
 //! The device over a file.
 
 ghost use Rattle.std.specs.Prelude.{◌≡◌, ◌<◌};
-ghost use Rattle.sector_disk.specs.File.{file_size};
+ghost use Rattle.sector_disk.specs.File.{file_facts};
 
 use sector_disk::{Device, Fault, FileDevice, FileFault};
 use std::fs::File;
@@ -12,7 +12,7 @@ use std::test::Fail;
 use std::{env, fs, io};
 
 /// A place for a file of this name, which no other test and no other run uses.
-fn place(rt: &HostRuntime, name: &str) -> io::Result<PathBuf> {
+pub(crate) fn place(rt: &HostRuntime, name: &str) -> io::Result<PathBuf> {
     let process = id(rt.process());
     let name = format!(in rt.alloc(); "koth-sector-disk-{process}-{name}")?;
     Ok(env::temp_dir(rt)?.join(rt.alloc(), name.as_str())?)
@@ -39,8 +39,8 @@ fn expect_read(
     n: u32,
     byte: u8,
 ) -> Result<(), Fault>
-    requires { n < file_size device.old }
-    ensures { file_size device.new ≡ file_size device.old }
+    requires { n < file_facts.size device.old }
+    ensures { file_facts.size device.new ≡ file_facts.size device.old }
 {
     let mut content = [9; 512];
     device.read(n, &mut content)?;
@@ -51,7 +51,7 @@ fn expect_read(
 #[test]
 fn a_file_is_made_written_closed_opened_and_read(rt: HostRuntime) -> Result<(), Fail> {
     let path = place(&rt, "life")?;
-    let mut device = FileDevice::make(&rt, path.as_path(), 3)?;
+    let mut device = FileDevice::make(&rt, rt.alloc(), path.as_path(), 3)?;
     assert_eq!(rt; device.sectors(), 3);
     device.write(1, &[7; 512])?;
     device.write(2, &[8; 512])?;
@@ -85,7 +85,7 @@ fn a_file_is_extended(rt: HostRuntime) -> Result<(), Fail> {
 
 /// The sectors of a device that is made with so many.
 fn sectors_made(rt: &HostRuntime, path: Path<'_>, asked: u32) -> Result<u32, FileFault> {
-    let device = FileDevice::make(rt, path, asked)?;
+    let device = FileDevice::make(rt, rt.alloc(), path, asked)?;
     Ok(device.sectors())
 }
 
@@ -98,16 +98,14 @@ fn write_sixes(rt: &HostRuntime, path: Path<'_>, count: usize) -> Result<(), Fai
 #[test]
 fn whole_sectors_count(rt: HostRuntime) -> Result<(), Fail> {
     let path = place(&rt, "parts")?;
-    for (count, whole) in [(512, 1), (1023, 1), (1024, 2)].as_slice() {
+    for (count, whole) in [(0, 0), (1, 0), (511, 0), (512, 1), (1023, 1), (1024, 2)].as_slice() {
         write_sixes(&rt, path.as_path(), *count)?;
         let found = sectors_found(&rt, path.as_path());
         assert_eq!(rt; found, Ok(*whole), "of {count} bytes");
     }
-    for count in [0, 1, 511].as_slice() {
-        write_sixes(&rt, path.as_path(), *count)?;
-        let found = sectors_found(&rt, path.as_path());
-        assert_eq!(rt; found, Err(FileFault::Failed), "of {count} bytes");
-    }
+    // A device of no sectors can be made too.
+    write_sixes(&rt, path.as_path(), 511)?;
+    assert_eq!(rt; sectors_made(&rt, path.as_path(), 0), Ok(0));
     // The bytes of a part of a sector stay, and zeros follow them.
     let mut expected = [6; 512];
     expected[511] = 0;
@@ -125,7 +123,7 @@ fn sectors_found(rt: &HostRuntime, path: Path<'_>) -> Result<u32, FileFault> {
 /// What the first sector holds of a device that is made with one.
 fn first_sector_made(rt: &HostRuntime, path: Path<'_>) -> Result<[u8; 512], Fail> {
     let mut content = [0; 512];
-    let mut device = FileDevice::make(rt, path, 1)?;
+    let mut device = FileDevice::make(rt, rt.alloc(), path, 1)?;
     device.read(0, &mut content)?;
     Ok(content)
 }
@@ -144,15 +142,10 @@ fn no_device_over_it(rt: HostRuntime) -> Result<(), Fail> {
         Some(FileFault::Failed)
     );
     assert_eq!(rt;
-        FileDevice::make(&rt, folder.as_path(), 3).err(),
+        FileDevice::make(&rt, rt.alloc(), folder.as_path(), 3).err(),
         Some(FileFault::Failed)
     );
     fs::remove_dir(&rt, folder.as_path())?;
-    assert_eq!(rt;
-        FileDevice::make(&rt, missing.as_path(), 0).err(),
-        Some(FileFault::Failed)
-    );
-    fs::remove_file(&rt, missing.as_path())?;
     let text = format!(in rt.alloc(); "{}, {}", FileFault::Memory, FileFault::Failed)?;
     assert_eq!(rt; text.as_str(), "no memory for the file, the file failed");
     Ok(())
@@ -163,7 +156,7 @@ fn no_device_over_it(rt: HostRuntime) -> Result<(), Fail> {
 fn a_read_that_fails(rt: HostRuntime) -> Result<(), Fail> {
     let path = place(&rt, "shortened")?;
     let mut content = [0; 512];
-    let mut device = FileDevice::make(&rt, path.as_path(), 2)?;
+    let mut device = FileDevice::make(&rt, rt.alloc(), path.as_path(), 2)?;
     File::options()
         .write(true)
         .open(&rt, path.as_path())?

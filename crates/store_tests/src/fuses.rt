@@ -13,8 +13,8 @@ const CALLS: u64 = 8;
 
 /// One call of the script.
 fn call<D: Device>(device: &mut D, step: u64) -> Result<(), Fault>
-    requires { 2 ≤ D.size device.old }
-    ensures { D.size device.new ≡ D.size device.old }
+    requires { 2 ≤ D.facts.size device.old }
+    ensures { D.facts.size device.new ≡ D.facts.size device.old }
 {
     let mut content = [0; 512];
     match step {

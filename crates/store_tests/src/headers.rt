@@ -1,22 +1,12 @@
 //! The bytes of a header, and what is no header.
 
+use crate::stores::SMALL;
 use hill_store::{Header, HeaderEntry, decode_header, encode_header};
 use std::test::Fail;
-use war_types::{RawSettings, Settings};
-
-const SMALL: RawSettings = RawSettings {
-    core: 64,
-    cycles: 100,
-    processes: 8,
-    length: 10,
-    distance: 10,
-    rounds: 2,
-    seed: 1,
-    capacity: 2,
-};
+use war_types::Settings;
 
 /// How the header of two warriors begins: all that is not zero, and the places between.
-const BEGINS: [u8; 84] = [
+pub(crate) const BEGINS: [u8; 84] = [
     0x4B, 0x4F, 0x54, 0x48, 0x48, 0x49, 0x4C, 0x30, 0, 0, 0, 0, 0, 0, 0, 2, 0, 0x40, 0, 0, 0, 0x64,
     0, 8, 0, 10, 0, 10, 0, 2, 0, 0, 0, 1, 0, 2, 0, 0, 0, 0, 0, 0, 0, 0, 0, 0, 0, 2, 0, 2, 0, 0, 0,
     0, 0, 0, 0, 1, 0, 0, 0, 0, 0, 0, 0, 0, 1, 0, 0, 0, 0, 0, 0, 0, 2, 1, 0, 0, 0, 0, 0, 0, 0, 0,

@@ -1,19 +1,9 @@
 //! The two sectors of a slot, and what is no slot's.
 
+use crate::stores::SMALL;
 use hill_bytes::Slot;
 use std::test::Fail;
-use war_types::{Instr, Mode, Modifier, Op, RawSettings, Settings};
-
-const SMALL: RawSettings = RawSettings {
-    core: 64,
-    cycles: 100,
-    processes: 8,
-    length: 10,
-    distance: 10,
-    rounds: 2,
-    seed: 1,
-    capacity: 2,
-};
+use war_types::{Instr, Mode, Modifier, Op, Settings};
 
 /// `MOV.I $0, $1` as it is stored, and `DAT.F #0, #63`.
 const STORED: [u8; 16] = [1, 6, 1, 1, 0, 0, 0, 1, 0, 4, 0, 0, 0, 0, 0, 63];

@@ -9,7 +9,7 @@ use std::process::Abort;
 use std::test::Fail;
 use war_types::{AsmFault, AsmKind, RawSettings, Settings};
 
-const SMALL: RawSettings = RawSettings {
+pub(crate) const SMALL: RawSettings = RawSettings {
     core: 64,
     cycles: 100,
     processes: 8,
@@ -21,7 +21,7 @@ const SMALL: RawSettings = RawSettings {
 };
 
 /// A hill of two without warriors, on a device that was blank.
-fn created<D: Device + Drop, A: Allocator + Copy>(
+pub(crate) fn created<D: Device + Drop, A: Allocator + Copy>(
     alloc: A,
     device: D,
 ) -> Result<Store<D, A>, Fail> {
@@ -31,7 +31,7 @@ fn created<D: Device + Drop, A: Allocator + Copy>(
     }
 }
 
-fn opened<D: Device + Drop>(alloc: Global, device: D) -> Result<Store<D, Global>, Fail> {
+pub(crate) fn opened<D: Device + Drop>(alloc: Global, device: D) -> Result<Store<D, Global>, Fail> {
     match Store::open(alloc, device) {
         Ok(store) => Ok(store),
         Err(_) => Err("it opens".into()),
@@ -46,13 +46,7 @@ struct Counting<D> {
 }
 
 impl<D: Device> Device for Counting<D> {
-    ghost disk = { λ c. D.disk c.inner };
-
-    ghost size = { λ c. D.size c.inner };
-
-    ghost lawful = { λ c. D.lawful c.inner };
-
-    ghost failures = { λ c. D.failures c.inner };
+    ghost facts = { record { size = λ c. D.facts.size c.inner; lawful = λ c. D.facts.lawful c.inner; disk = λ c. D.facts.disk c.inner; faults = λ c. D.facts.faults c.inner } };
 
     fn sectors(&self) -> u32 {
         self.inner.sectors()
@@ -82,11 +76,11 @@ fn counted(inner: MemoryDevice<Global>) -> Counting<MemoryDevice<Global>> {
     Counting { inner, calls: 0 }
 }
 
-fn placed(entry: u64, rank: u32, score: u32) -> Reply {
+pub(crate) fn placed(entry: u64, rank: u32, score: u32) -> Reply {
     Reply::Placed { entry, rank, score }
 }
 
-fn fell(entry: u64, score: u32) -> Reply {
+pub(crate) fn fell(entry: u64, score: u32) -> Reply {
     Reply::Fell { entry, score }
 }
 
@@ -95,7 +89,7 @@ fn refused(line: u32, kind: AsmKind) -> Reply {
 }
 
 /// A row as three numbers: entry, score and age.
-fn numbers(row: Option<&Row<'_>>) -> Option<(u64, u32, u64)> {
+pub(crate) fn numbers(row: Option<&Row<'_>>) -> Option<(u64, u32, u64)> {
     match row {
         Some(row) => Some((row.entry, row.score, row.age)),
         None => None,
@@ -212,6 +206,23 @@ fn devices_that_are_refused(rt: HostRuntime) -> Result<(), Fail> {
     assert_eq!(rt; tiny, (Some(Refusal::TooSmall), Some(Refusal::TooSmall)));
     let occupied = refusal_of_a_hill(rt.alloc())?;
     assert_eq!(rt; occupied, Some(Refusal::Occupied));
+    Ok(())
+}
+
+#[test]
+fn a_refusal_tells_its_name(rt: HostRuntime) -> Result<(), Fail> {
+    let names = [
+        (Refusal::Disk, "Disk"),
+        (Refusal::TooSmall, "TooSmall"),
+        (Refusal::Occupied, "Occupied"),
+        (Refusal::Memory, "Memory"),
+        (Refusal::NotAHill, "NotAHill"),
+        (Refusal::Damaged, "Damaged"),
+    ];
+    for (refusal, name) in names {
+        let text = format!(in rt.alloc(); "{refusal}")?;
+        assert_eq!(rt; text.as_str(), name);
+    }
     Ok(())
 }
 

@@ -3,7 +3,7 @@
 //! matches at the same positions.
 #![tactic(auto)]
 
-use hill_store::Store;
+use hill_store::{Store, sectors_for};
 use koth_server::{Counted, SessionEnd, run, session};
 use sector_disk::MemoryDevice;
 use std::{fs, io};
@@ -33,9 +33,6 @@ const SETTINGS: RawSettings = RawSettings {
     seed: 1,
     capacity: 20,
 };
-
-/// A header's two sectors, and two for each warrior on the hill and one more.
-const SECTORS: u32 = 44;
 
 fn main(rt: HostRuntime) -> io::Result<()> {
     let mut commands = Vec::new(rt.alloc());
@@ -75,7 +72,7 @@ fn serve(rt: &HostRuntime, commands: &[u8]) -> io::Result<()> {
     let Ok(settings) = Settings::new(SETTINGS) else {
         return Err(refused());
     };
-    let device = MemoryDevice::new(rt.alloc(), SECTORS)?;
+    let device = MemoryDevice::new(rt.alloc(), sectors_for(SETTINGS.capacity))?;
     let Ok(mut store) = Store::create(rt.alloc(), device, settings) else {
         return Err(refused());
     };

@@ -5,5 +5,5 @@ use Rattle.hill_images.proofs.found.newest_header.Goals as goal
 
 pub returns-clause-found : goal.returns-clause-found
 returns-clause-found g c = λ lawful.
-    c.newer.ensures (current (g.D.Device.disk c.args.device.now)) (c.in_ok-even.ensures.found lawful)
+    c.newer.ensures (current (g.D.Device.facts.disk c.args.device.now)) (c.in_ok-even.ensures.found lawful)
     (subst (λ disk. IsFoundIn 1 (current disk 1) c.in_ok-odd.odd) (c.in_ok-even.ensures.kept lawful) (c.in_ok-odd.ensures.found (search rules)))

@@ -1,4 +1,6 @@
-use Rattle.std.proofs.Common.{refl, rules}
+use Rattle.std.proofs.Common.{refl, rules, subst, sym}
+use Rattle.hill_images.specs.Reading.{HillRefused}
+use Rattle.hill_images.proofs.Openings.{not_read}
 use Rattle.hill_images.proofs.opening.recover_hill.Goals as goal
 
 pub returns-in-Ok-read_hill-clause-found : goal.returns-in-Ok-read_hill-clause-found
@@ -9,3 +11,8 @@ returns-in-Ok-read_hill-clause-found g c = record {
   room = search rules;
   read = c.in-Ok-read_hill.ensures.read;
 }
+
+pub returns-in-Err-read_hill-clause-refused : goal.returns-in-Err-read_hill-clause-refused
+returns-in-Err-read_hill-clause-refused g c =
+    subst (HillRefused g.D.Device.facts c.args.device.now c.read_hill.new.device c.args.header) (sym c.refusal_of.ensures)
+    (not_read g.D.Device.facts c.args.device.now c.read_hill.new.device c.args.header c.in-Err-read_hill.unread (search rules) c.in-Err-read_hill.ensures.unread)

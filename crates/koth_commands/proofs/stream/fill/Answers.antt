@@ -9,5 +9,5 @@ pub loop-filled-preserved : goal.loop-filled-preserved
 loop-filled-preserved g c =
     let from = c.loop-filled.filled in
     let room = length c.loop-filled.buffer - from in
-    let more = take-put_mid_more from room c.in-Ok.count c.loop-filled.buffer c.read.new.buf c.loop-filled.invariant.0 c.in-Ok.ensures.bound.0 in
+    let more = take-put_mid_more from room c.in-Ok.count c.loop-filled.buffer c.read_uninterrupted.new.to c.loop-filled.invariant.0 c.in-Ok.ensures.within in
     (search rules, subst (Consumes _ _) (sym more) (Consumes-trans _ _ _ _ _ c.loop-filled.invariant.1 c.in-Ok.ensures.bytes.0))

@@ -5,4 +5,4 @@ use Rattle.koth_server.proofs.serve.serve_session.Goals as goal
 
 pub returns-in_default : goal.returns-in_default
 returns-in_default g c =
-    session_still g.D.Device.size g.D.Device.lawful g.D.Device.disk g.D.Device.failures c.session.result _ _ _ _ c.session.ensures.ends c.in_default.not-StoreFailed ∙ c.requires
+    session_still g.D.Device.facts c.session.result _ _ _ _ c.session.ensures.ends c.in_default.not-StoreFailed ∙ c.requires

@@ -1,5 +1,5 @@
 -- All bytes that were taken went on.
-use Rattle.std.proofs.Common.{◌≡◌, ◌≤◌, ◌-◌, ℕ, List, [], None, length}
+use Rattle.std.proofs.Common.{◌≡◌, ◌≤◌, ◌+◌, ◌-◌, ℕ, List, [], None, length}
 use Rattle.std.specs.Io.KnownBytes.{Consumes}
 use Rattle.koth_session.specs.Sessions.{WentOn, scene}
 use Rattle.koth_session.proofs.sessions.serve.Given as goal
@@ -10,7 +10,8 @@ invariant-loop-taken g l = record {
   took : Consumes (g.R.Read.remaining l.fn.input.stream) (g.R.Read.remaining l.input.stream) bytes;
   count : length bytes ≡ l.taken;
   most : l.taken ≤ 16777216;
-  went : WentOn g.D.Device.size g.D.Device.lawful g.D.Device.disk g.D.Device.failures [] None bytes l.script
+  all_taken : l.input.taken ≤ l.fn.input.taken + l.taken;
+  went : WentOn g.D.Device.facts [] None bytes l.script
       (scene (g.W.Write.contents l.fn.output.stream) l.fn.store) (scene (g.W.Write.contents l.output.stream) l.store);
   read_faults : l.input.faults ≡ l.fn.input.faults;
   write_faults : l.output.faults ≡ l.fn.output.faults;

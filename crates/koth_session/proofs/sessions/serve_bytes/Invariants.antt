@@ -7,7 +7,7 @@ use Rattle.koth_session.proofs.sessions.serve_bytes.Given as goal
 abbrev pub invariant-loop-byte : goal.invariant-loop-byte
 invariant-loop-byte g l = record {
   went : (line : List ℕ) (source : Option (List ℕ)) → IsReading l.fn.script line source
-      → WentOn g.D.Device.size g.D.Device.lawful g.D.Device.disk g.D.Device.failures line source (take l.byte-index l.bytes) l.script
+      → WentOn g.D.Device.facts line source (take l.byte-index l.bytes) l.script
       (scene (g.W.Write.contents l.fn.output.stream) l.fn.store) (scene (g.W.Write.contents l.output.stream) l.store);
   faults : l.output.faults ≡ l.fn.output.faults;
 }

@@ -1,15 +1,14 @@
-use Rattle.std.proofs.Common.{◌≡◌, ◌-◌, ◌^◌, ◌≤◌, ◌↔◌, length, take, vec_capacity}
+use Rattle.std.proofs.Common.{◌≡◌, ◌-◌, ◌^◌, ◌≤◌, length, take, vec_capacity}
+use Rattle.sector_disk.specs.Served.{IsKept}
 use Rattle.hill_store.specs.Runs.{texts}
 use Rattle.hill_store.proofs.Lists.{RunsOpen}
 use Rattle.hill_store.proofs.store.Store.submit_all.Given as goal
 
 abbrev pub invariant-loop-source : goal.invariant-loop-source
 invariant-loop-source g l = record {
-  runs : RunsOpen g.D.Device.size g.D.Device.lawful g.D.Device.disk g.D.Device.failures l.fn.self (take l.source-index (texts l.sources)) l.replies.items l.self;
+  runs : RunsOpen g.D.Device.facts l.fn.self (take l.source-index (texts l.sources)) l.replies.items l.self;
   room : length l.sources ≤ vec_capacity l.replies;
   count : length l.replies.items ≡ l.source-index;
-  laws : g.D.Device.lawful l.self.device ↔ g.D.Device.lawful l.fn.self.device;
-  size : g.D.Device.size l.self.device ≡ g.D.Device.size l.fn.self.device;
-  later : g.D.Device.failures l.fn.self.device ≤ g.D.Device.failures l.self.device;
+  kept : IsKept g.D.Device.facts l.fn.self.device l.self.device;
   worn : l.fn.self.generation ≡ 2 ^ 64 - 1 → l.self ≡ l.fn.self;
 }

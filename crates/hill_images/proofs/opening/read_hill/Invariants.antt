@@ -1,5 +1,0 @@
-use Rattle.hill_images.proofs.WarriorsRead.{IsReadTo}
-use Rattle.hill_images.proofs.opening.read_hill.Given as goal
-
-abbrev pub invariant-loop-e : goal.invariant-loop-e
-invariant-loop-e g l = IsReadTo g.D.Device.size g.D.Device.lawful g.D.Device.disk g.D.Device.failures l.fn.device l.device l.fn.header l.e-index l.hill

@@ -1,0 +1,68 @@
+-- How the warriors of a hill are read from their slots, behind its header.
+use Rattle.std.specs.Prelude.{◌≡◌, ℕ, ◌<◌, ◌≤◌, List, Option, Some, None, Result, Ok, Err}
+use Rattle.war_types.specs.declared.settings.RawSettings.{RawSettings}
+use Rattle.war_types.specs.Warrior.{WarriorParts}
+use Rattle.sector_disk.specs.Facts.{DeviceFacts}
+use Rattle.sector_disk.specs.Disk.{current}
+use Rattle.sector_disk.specs.Served.{Failed}
+use Rattle.koth_hill.specs.Hill.{Member, Hill, IsHill}
+use Rattle.hill_bytes.specs.Layout.{HeaderParts, IsHeaderParts, IsSlot, front_sector, back_sector, sectors_for}
+use Rattle.hill_images.specs.Stands.{AllHeld}
+use Rattle.hill_images.specs.Named.{IsNamed}
+use Rattle.hill_images.specs.declared.reading.Unread.{Unread}
+use Rattle.hill_images.specs.declared.reading.Unread.TheVariants as unread
+use Rattle.hill_images.specs.declared.refusal.Refusal.{Refusal}
+use Rattle.hill_images.specs.declared.refusal.Refusal.TheVariants as refusals
+
+-- what is answered where it was not read
+abbrev pub refusal_of : Unread → Refusal
+refusal_of unread.Disk = refusals.Disk
+refusal_of unread.Memory = refusals.Memory
+refusal_of unread.Damaged = refusals.Damaged
+
+-- the slot holds this warrior
+abbrev pub SlotHolds : RawSettings → (ℕ → List ℕ) → ℕ → WarriorParts → Type 0
+SlotHolds s image slot w = IsSlot s (image (front_sector slot)) (image (back_sector slot)) w
+
+abbrev pub WarriorRead : {D : Type 0} → DeviceFacts D → D → RawSettings → ℕ → WarriorParts → Type 0
+WarriorRead facts old s slot w = facts.lawful old → SlotHolds s (current (facts.disk old)) slot w
+
+abbrev pub WarriorNotRead : {D : Type 0} → DeviceFacts D → D → D → RawSettings → ℕ → Unread → Type 0
+WarriorNotRead facts old new s slot unread.Disk = Failed facts old new
+WarriorNotRead facts old new s slot unread.Memory = Unit {0}
+WarriorNotRead facts old new s slot unread.Damaged = facts.lawful old → (w : WarriorParts) → SlotHolds s (current (facts.disk old)) slot w → ⊥
+
+-- the hill that a header gives was read
+pub record HillRead {D : Type 0} (facts : DeviceFacts D) (old : D) (h : HeaderParts) (hill : Hill) : Type 0 where
+  pub is_hill : IsHill hill
+  pub named : IsNamed h hill
+  pub held : facts.lawful old → AllHeld hill.settings (current (facts.disk old)) h.entries hill.members
+
+abbrev pub HillNotRead : {D : Type 0} → DeviceFacts D → D → D → HeaderParts → Unread → Type 0
+HillNotRead facts old new h unread.Disk = Failed facts old new
+HillNotRead facts old new h unread.Memory = Unit {0}
+HillNotRead facts old new h unread.Damaged = facts.lawful old → (ms : List Member) → AllHeld h.settings (current (facts.disk old)) h.entries ms → ⊥
+
+-- what was decoded, as an answer
+abbrev pub IsDecodedAs : {W E : Type 0} → Result (Option W) E → Result W Unread → Type 0
+IsDecodedAs (Ok (Some w)) result = result ≡ Ok w
+IsDecodedAs (Ok None) result = result ≡ Err unread.Damaged
+IsDecodedAs (Err error) result = result ≡ Err unread.Memory
+
+-- why the hill of a header was not recovered
+abbrev pub HillRefused : {D : Type 0} → DeviceFacts D → D → D → HeaderParts → Refusal → Type 0
+HillRefused facts old new h refusals.TooSmall = facts.size old < sectors_for h.settings.capacity
+HillRefused facts old new h refusals.Disk = Failed facts old new
+HillRefused facts old new h refusals.Memory = Unit {0}
+HillRefused facts old new h refusals.Damaged =
+    (sectors_for h.settings.capacity ≤ facts.size old) × (facts.lawful old → (ms : List Member) → AllHeld h.settings (current (facts.disk old)) h.entries ms → ⊥)
+HillRefused facts old new h refusals.Occupied = ⊥
+HillRefused facts old new h refusals.NotAHill = ⊥
+
+-- the hill of a header was recovered
+pub record IsHillFound {D : Type 0} (facts : DeviceFacts D) (old : D) (given : HeaderParts) (h : HeaderParts) (hill : Hill) (arena : RawSettings) : Type 0 where
+  pub same : h ≡ given
+  pub header : IsHeaderParts h
+  pub arena_of : arena ≡ h.settings
+  pub room : sectors_for h.settings.capacity ≤ facts.size old
+  pub read : HillRead facts old h hill

@@ -1,0 +1,45 @@
+-- What the calls of a store are in the life of its device.
+use Rattle.std.specs.Prelude.{ℕ, true, false, List, [], ◌∷◌, ◌++◌, None}
+use Rattle.war_types.specs.declared.settings.RawSettings.{RawSettings}
+use Rattle.sector_disk.specs.Facts.{DeviceFacts}
+use Rattle.hill_images.specs.declared.refusal.Refusal.{Refusal}
+use Rattle.hill_images.specs.Opening.{IsNotOpened}
+use Rattle.hill_store.specs.declared.reply.Reply.{Reply}
+use Rattle.hill_store.specs.declared.reply.Reply.TheVariants as replies
+use Rattle.hill_store.specs.Seen.{Seen, IsStanding}
+use Rattle.hill_store.specs.Opened.{IsCreated, IsOpened}
+use Rattle.hill_store.specs.Runs.{IsSubmitted, Runs}
+use Rattle.hill_store.specs.Holding.{Holds}
+use Rattle.hill_store.specs.Lives.{Event, Lives}
+
+-- a submission by its reply: one that changed nothing is no event
+abbrev pub events_of : List ℕ → Reply → List Event
+events_of source (replies.Placed entry rank score) = Event.Answered (source ∷ []) ∷ []
+events_of source (replies.Fell entry score) = Event.Answered (source ∷ []) ∷ []
+events_of source (replies.Refused fault) = Event.Answered (source ∷ []) ∷ []
+events_of source replies.Memory = []
+events_of source replies.Worn = []
+events_of source replies.Disk = Event.Unanswered source ∷ []
+events_of source replies.Reopen = []
+
+-- submissions by their replies
+abbrev pub events_in : List (List ℕ) → List Reply → List Event
+events_in [] replied = []
+events_in (source ∷ sources) [] = []
+events_in (source ∷ sources) (reply ∷ rest) = events_of source reply ++ events_in sources rest
+
+-- on a lawful device
+pub record CallsAreEvents {D : Type 0} (facts : DeviceFacts D) : Type 0 where
+  -- a life begins with a creation
+  pub created : (old : D) (s : RawSettings) (store : Seen D) → facts.lawful old → IsCreated facts old s store
+      → Holds (facts.size store.device) (facts.disk store.device) s [] None
+  -- an opening is one event, refused or not
+  pub opened : (old : D) (store : Seen D) → facts.lawful old → IsOpened facts old store
+      → Lives (facts.size old) false (facts.disk old) (Event.Opened store.hill ∷ []) (facts.disk store.device)
+  pub not_opened : (old new : D) (why : Refusal) → facts.lawful old → IsNotOpened facts old new why
+      → Lives (facts.size old) false (facts.disk old) (Event.NotOpened ∷ []) (facts.disk new)
+  -- a submission is one event, or none; a list of them is the events of each
+  pub submitted : (old new : Seen D) (source : List ℕ) (reply : Reply) → facts.lawful old.device → IsStanding facts old → IsSubmitted facts old source reply new
+      → Lives (facts.size old.device) true (facts.disk old.device) (events_of source reply) (facts.disk new.device)
+  pub ran : (old new : Seen D) (sources : List (List ℕ)) (replied : List Reply) → facts.lawful old.device → IsStanding facts old → Runs facts old sources replied new
+      → Lives (facts.size old.device) true (facts.disk old.device) (events_in sources replied) (facts.disk new.device)

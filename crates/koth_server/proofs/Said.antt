@@ -1,0 +1,43 @@
+-- What was written of a command's answer.
+use Rattle.std.proofs.Common.{◌≡◌, ◌≢◌, ◌∙◌, ℕ, List, Option, Result, Ok, Err, false, true≢false, inl, inr, refl, sym, subst}
+use Rattle.std.proofs.KnownBytes.{Keeps-refl}
+use Rattle.sector_disk.specs.Facts.{DeviceFacts}
+use Rattle.hill_store.specs.Seen.{Seen, Submits}
+use Rattle.hill_store.specs.declared.reply.Reply.{Reply}
+use Rattle.hill_store.specs.declared.reply.Reply.TheVariants as replies
+use Rattle.koth_session.specs.Reply.{reply_line}
+use Rattle.koth_server.specs.Hills.{Said, SaysPart, SaysReply, SubmitsTo, Tries, WritesAt}
+use Rattle.koth_server.specs.ReplyStatus.{reply_status}
+use Rattle.koth_commands.specs.declared.failure.Failure.TheVariants as kinds
+use Rattle.koth_commands.specs.declared.status.Status.{Status}
+use Rattle.koth_server.specs.declared.hill_fault.HillFault.{HillFault}
+use Rattle.koth_server.specs.declared.hill_fault.HillFault.TheVariants as faults
+
+-- nothing was
+pub nothing : (said : Said) (fault : HillFault) (o : Option (List ℕ)) → WritesAt said fault o o
+nothing said (faults.Failed kinds.Stream) o = inl (Keeps-refl o)
+nothing said (faults.Failed kinds.Memory) o = Keeps-refl o
+nothing said faults.TooSmall o = Keeps-refl o
+nothing said faults.Occupied o = Keeps-refl o
+nothing said faults.NotAHill o = Keeps-refl o
+nothing said faults.Damaged o = Keeps-refl o
+
+-- a hill that was open answers no `REOPEN`
+module _ {D : Type 0} (facts : DeviceFacts D) (before after : Seen D) (source : List ℕ) (o p : Option (List ℕ)) where
+  never_reopen : (reply : Reply) → Submits facts before source reply after → before.reopen ≡ false → reply ≢ replies.Reopen
+  never_reopen reply submits is_open is =
+      let reopened : Submits facts before source replies.Reopen after = subst (λ r. Submits facts before source r after) is submits in
+      true≢false (sym reopened.0 ∙ is_open)
+
+  -- the line of its reply was written, or a part of it
+  pub says_reply : (r : Result Status HillFault) → before.reopen ≡ false → SubmitsTo facts before source r after o p → Tries SaysReply r o p
+  says_reply (Ok status) is_open (reply, submits, is, written) =
+      record { text = reply_line reply; answer = (reply, never_reopen reply submits is_open, is, refl); written = written }
+  says_reply (Err fault) is_open (reply, submits, is, written) =
+      let part : SaysPart SaysReply o p = record {
+        status = reply_status reply;
+        text = reply_line reply;
+        answer = (reply, never_reopen reply submits is_open, refl, refl);
+        written = written;
+      } in
+      subst (λ f. WritesAt SaysReply f o p) (sym is) (inr part)

@@ -1,0 +1,79 @@
+-- What a session is in the life of its device: for `sessions_in_lives`.
+use Rattle.std.proofs.Common.{◌≡◌, ◌⊎◌, ℕ, true, inl, inr, List, [], ◌∷◌, ◌++◌, Option, refl, sym, ap, subst, ◌∙◌}
+use Rattle.sector_disk.specs.Facts.{DeviceFacts}
+use Rattle.sector_disk.specs.Image.{Images}
+use Rattle.hill_images.specs.Stands.{Stands}
+use Rattle.hill_store.specs.Earned.{step_source}
+use Rattle.hill_store.specs.Lives.{Event, Lives, MovesOn}
+use Rattle.hill_store.specs.Seen.{IsStanding, Seen}
+use Rattle.hill_store.proofs.Eventful.{may_move_on, moves_on}
+use Rattle.koth_session.specs.Lives.{SessionsAreEvents, answers_to, events_of}
+use Rattle.koth_session.specs.Sessions.{EndsSo, IsLeftOff, AreServed, Scene}
+use Rattle.koth_session.specs.Transcript.{Exchange, submitted}
+use Rattle.koth_session.specs.declared.sessions.SessionEnd.{SessionEnd}
+use Rattle.koth_session.specs.declared.sessions.SessionEnd.TheVariants as ends
+use Rattle.koth_session.proofs.Holding.{hill_is}
+use Rattle.koth_session.proofs.Serving.{served_on}
+
+module _ {D : Type 0} (facts : DeviceFacts D) where
+  -- commands were answered
+  moves_by : (old new : Seen D) (es : List Exchange) → facts.lawful old.device → IsStanding facts old → AreServed facts old new es
+      → MovesOn (facts.size old.device) (submitted es) (facts.disk old.device) (facts.disk new.device)
+  moves_by old new es lawful standing is =
+      let now = is.stands lawful standing.is_open standing.stands in
+      let sized = subst (λ n. Images (facts.disk new.device) (λ image. Stands n image new.hill)) is.kept.same_size now in
+      let next = subst (λ h. Images (facts.disk new.device) (λ image. Stands (facts.size old.device) image h)) (is.hill ∙ hill_is old.hill es) sized in
+      moves_on (facts.size old.device) (facts.disk old.device) (facts.disk new.device) old.hill (submitted es) standing.stands next
+
+  served : (old new : Seen D) (es : List Exchange) → facts.lawful old.device → IsStanding facts old → AreServed facts old new es
+      → Lives (facts.size old.device) true (facts.disk old.device) (answers_to es ∷ []) (facts.disk new.device)
+  served old new es lawful standing is = (facts.disk new.device, refl, moves_by old new es lawful standing is, refl)
+
+  -- and nothing changed behind them
+  served_to : (old last new : Seen D) (es : List Exchange) → facts.lawful old.device → IsStanding facts old → AreServed facts old last es → new ≡ last
+      → Lives (facts.size old.device) true (facts.disk old.device) (answers_to es ∷ []) (facts.disk new.device)
+  served_to old last new es lawful standing is same =
+      subst (λ (s : Seen D). Lives (facts.size old.device) true (facts.disk old.device) (answers_to es ∷ []) (facts.disk s.device)) (sym same) (served old last es lawful standing is)
+
+  -- the store still stands behind them
+  standing_on : (old new : Seen D) (es : List Exchange) → facts.lawful old.device → IsStanding facts old → AreServed facts old new es → IsStanding facts new
+  standing_on old new es lawful standing is = record {
+    is_open = is.still ∙ standing.is_open;
+    stands = is.stands lawful standing.is_open standing.stands;
+  }
+
+  -- the device failed behind them
+  cut_behind : (old last new : Seen D) (es : List Exchange) (source : List ℕ) → facts.lawful old.device → IsStanding facts old
+      → AreServed facts old last es → IsLeftOff facts last new source
+      → Lives (facts.size old.device) true (facts.disk old.device) (answers_to es ∷ Event.Unanswered source ∷ []) (facts.disk new.device)
+  cut_behind old last new es source lawful standing is cut =
+      let on = standing_on old last es lawful standing is in
+      let either = cut.stands (is.kept.same_laws.1 lawful) on.is_open in
+      let size = facts.size old.device in
+      let sized : Images (facts.disk new.device) (λ image. Stands size image last.hill ⊎ Stands size image (step_source last.hill source)) =
+      subst (λ n. Images (facts.disk new.device) (λ image. Stands n image last.hill ⊎ Stands n image (step_source last.hill source))) (cut.kept.same_size ∙ is.kept.same_size) either in
+      let held : Images (facts.disk last.device) (λ image. Stands size image last.hill) =
+      subst (λ n. Images (facts.disk last.device) (λ image. Stands n image last.hill)) is.kept.same_size on.stands in (
+        facts.disk last.device,
+        refl,
+        moves_by old last es lawful standing is,
+        (facts.disk new.device, refl, may_move_on size (facts.disk last.device) (facts.disk new.device) last.hill source held sized, refl),
+      )
+
+  ended : (end : SessionEnd) (taken : List ℕ) (left : Option (List ℕ)) (old new : Scene D) → facts.lawful old.store.device → IsStanding facts old.store
+      → (is : EndsSo facts end taken left old new)
+      → Lives (facts.size old.store.device) true (facts.disk old.store.device) (events_of facts end taken left old new is) (facts.disk new.store.device)
+  ended ends.Quit taken left old new lawful standing is = served_to old.store is.last.store new.store is.es lawful standing is.answered.served is.ended.1
+  ended ends.EndOfInput taken left old new lawful standing is = served old.store new.store is.1.es lawful standing is.1.answered.served
+  ended ends.ReadFault taken left old new lawful standing is = served old.store new.store is.es lawful standing is.answered.served
+  ended ends.WriteFault taken left old new lawful standing is =
+      served old.store new.store (is.es ++ is.ended.0 ∷ []) lawful standing
+      (served_on facts old.store is.last.store new.store is.es (is.ended.0 ∷ []) is.answered.served is.ended.2)
+  ended ends.Limit taken left old new lawful standing is = served old.store new.store is.1.es lawful standing is.1.answered.served
+  ended ends.StoreFailed taken left old new lawful standing is =
+      cut_behind old.store is.last.store new.store is.es is.ended.0 lawful standing is.answered.served is.ended.2
+  ended ends.Memory taken left old new lawful standing (inl is) = ap (λ (s : Seen D). facts.disk s.device) is.1
+  ended ends.Memory taken left old new lawful standing (inr is) = served_to old.store is.last.store new.store is.es lawful standing is.answered.served is.ended.1
+
+  pub sessions : SessionsAreEvents facts
+  sessions = record { ended = ended }

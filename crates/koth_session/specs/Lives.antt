@@ -1,0 +1,32 @@
+-- What a session is in the life of its device.
+use Rattle.std.specs.Prelude.{ℕ, true, List, [], ◌∷◌, ◌++◌, Option}
+use mathlib.Core.Logic.{inl, inr}
+use Rattle.sector_disk.specs.Facts.{DeviceFacts}
+use Rattle.hill_store.specs.Seen.{IsStanding}
+use Rattle.hill_store.specs.Lives.{Event, Lives}
+use Rattle.koth_session.specs.Sessions.{EndsSo, Scene}
+use Rattle.koth_session.specs.Transcript.{Exchange, submitted}
+use Rattle.koth_session.specs.declared.sessions.SessionEnd.{SessionEnd}
+use Rattle.koth_session.specs.declared.sessions.SessionEnd.TheVariants as ends
+
+-- the submissions among these commands were answered
+abbrev pub answers_to : List Exchange → Event
+answers_to es = Event.Answered (submitted es)
+
+-- a session that ended so: the submissions among the commands that were answered, and the one in which the device failed
+abbrev pub events_of : {D : Type 0} (facts : DeviceFacts D) (end : SessionEnd) (taken : List ℕ) (left : Option (List ℕ)) (old new : Scene D)
+    → EndsSo facts end taken left old new → List Event
+events_of facts ends.Quit taken left old new is = answers_to is.es ∷ []
+events_of facts ends.EndOfInput taken left old new is = answers_to is.1.es ∷ []
+events_of facts ends.ReadFault taken left old new is = answers_to is.es ∷ []
+events_of facts ends.WriteFault taken left old new is = answers_to (is.es ++ is.ended.0 ∷ []) ∷ []
+events_of facts ends.Limit taken left old new is = answers_to is.1.es ∷ []
+events_of facts ends.StoreFailed taken left old new is = answers_to is.es ∷ Event.Unanswered is.ended.0 ∷ []
+events_of facts ends.Memory taken left old new (inl nothing) = []
+events_of facts ends.Memory taken left old new (inr is) = answers_to is.es ∷ []
+
+-- on a lawful device, where the session began with a store that takes submissions
+pub record SessionsAreEvents {D : Type 0} (facts : DeviceFacts D) : Type 0 where
+  pub ended : (end : SessionEnd) (taken : List ℕ) (left : Option (List ℕ)) (old new : Scene D) → facts.lawful old.store.device → IsStanding facts old.store
+      → (is : EndsSo facts end taken left old new)
+      → Lives (facts.size old.store.device) true (facts.disk old.store.device) (events_of facts end taken left old new is) (facts.disk new.store.device)

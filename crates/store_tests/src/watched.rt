@@ -1,0 +1,170 @@
+//! A file system that writes down which calls reach a file, in place of the real one, and hands them on to it.
+
+use std::alloc::Allocator;
+use std::cell::Cell;
+use std::fs::{Files, Metadata, OpenFile, OpenOptions};
+use std::io;
+use std::io::{ErrorKind, Read, Seek, SeekFrom, Write};
+use std::path::PathBuf;
+
+/// Calls that are written down at most.
+pub(crate) const MOST: usize = 16;
+
+/// The calls on files since the last time that they were read, each a letter: `o`pened, `m`easured, `l`engthened, `s`ought, `r`ead, `w`ritten
+/// whole, written in `p`art, s`y`nced. The call of this number fails, counted from 0.
+#[derive(Clone, Copy)]
+pub(crate) struct Calls {
+    pub letters: [u8; MOST],
+    pub count: usize,
+    pub fails_at: usize,
+}
+
+impl Calls {
+    fn none(fails_at: usize) -> Calls {
+        Calls {
+            letters: [b' '; MOST],
+            count: 0,
+            fails_at,
+        }
+    }
+}
+
+/// Files, watched.
+#[derive(Drop)]
+pub(crate) struct WatchedFiles<'c, R> {
+    pub files: &'c R,
+    pub calls: &'c Cell<Calls>,
+}
+
+/// A file, watched.
+#[derive(Drop)]
+pub(crate) struct WatchedFile<'c, F> {
+    file: F,
+    calls: &'c Cell<Calls>,
+}
+
+/// Forgets the calls so far. The call of this number from now on fails.
+pub(crate) fn forget(calls: &Cell<Calls>, fails_at: usize) {
+    calls.set(Calls::none(fails_at));
+}
+
+/// A place for calls, none of which fails.
+pub(crate) fn no_calls() -> Cell<Calls> {
+    Cell::new(Calls::none(usize::MAX))
+}
+
+/// Writes a call down, and fails where it is that one's turn.
+fn note(calls: &Cell<Calls>, letter: u8) -> io::Result<()> {
+    let mut so_far = calls.get();
+    let number = so_far.count;
+    if number < MOST {
+        so_far.letters[number] = letter;
+        so_far.count = number + 1;
+    }
+    calls.set(so_far);
+    if number == so_far.fails_at {
+        return Err(io::Error::from(ErrorKind::Other));
+    }
+    Ok(())
+}
+
+impl<'c, R: Files> Files for WatchedFiles<'c, R> {
+    type File = WatchedFile<'c, R::File>;
+
+    type Dir = R::Dir;
+
+    fn open_file(&self, how: &OpenOptions, path: &str) -> io::Result<WatchedFile<'c, R::File>> {
+        note(self.calls, b'o')?;
+        let file = self.files.open_file(how, path)?;
+        Ok(WatchedFile {
+            file,
+            calls: self.calls,
+        })
+    }
+
+    fn open_dir(&self, path: &str) -> io::Result<R::Dir> {
+        self.files.open_dir(path)
+    }
+
+    fn metadata(&self, path: &str) -> io::Result<Metadata> {
+        self.files.metadata(path)
+    }
+
+    fn symlink_metadata(&self, path: &str) -> io::Result<Metadata> {
+        self.files.symlink_metadata(path)
+    }
+
+    fn copy(&self, from: &str, to: &str) -> io::Result<u64> {
+        self.files.copy(from, to)
+    }
+
+    fn rename(&self, from: &str, to: &str) -> io::Result<()> {
+        self.files.rename(from, to)
+    }
+
+    fn remove_file(&self, path: &str) -> io::Result<()> {
+        self.files.remove_file(path)
+    }
+
+    fn create_dir(&self, path: &str) -> io::Result<()> {
+        self.files.create_dir(path)
+    }
+
+    fn remove_dir(&self, path: &str) -> io::Result<()> {
+        self.files.remove_dir(path)
+    }
+
+    fn remove_dir_all<B: Allocator>(&self, alloc: B, path: &str) -> io::Result<()> {
+        self.files.remove_dir_all(alloc, path)
+    }
+
+    fn canonicalize<B: Allocator>(&self, alloc: B, path: &str) -> io::Result<PathBuf<B>> {
+        self.files.canonicalize(alloc, path)
+    }
+}
+
+impl<F: OpenFile> OpenFile for WatchedFile<'_, F> {
+    fn metadata(&self) -> io::Result<Metadata> {
+        note(self.calls, b'm')?;
+        self.file.metadata()
+    }
+
+    fn set_len(&self, size: u64) -> io::Result<()> {
+        note(self.calls, b'l')?;
+        self.file.set_len(size)
+    }
+
+    fn sync_all(&self) -> io::Result<()> {
+        note(self.calls, b'y')?;
+        self.file.sync_all()
+    }
+
+    fn sync_data(&self) -> io::Result<()> {
+        self.file.sync_data()
+    }
+}
+
+impl<F: Read> Read for WatchedFile<'_, F> {
+    fn read(&mut self, buf: &mut [u8]) -> io::Result<usize> {
+        note(self.calls, b'r')?;
+        self.file.read(buf)
+    }
+}
+
+impl<F: Write> Write for WatchedFile<'_, F> {
+    fn write(&mut self, buf: &[u8]) -> io::Result<usize> {
+        note(self.calls, if buf.len() == 512 { b'w' } else { b'p' })?;
+        self.file.write(buf)
+    }
+
+    fn flush(&mut self) -> io::Result<()> {
+        self.file.flush()
+    }
+}
+
+impl<F: Seek> Seek for WatchedFile<'_, F> {
+    fn seek(&mut self, to: SeekFrom) -> io::Result<u64> {
+        note(self.calls, b's')?;
+        self.file.seek(to)
+    }
+}

@@ -1,0 +1,70 @@
+//! The bytes of a device on which a store wrote.
+
+use crate::headers::BEGINS;
+use crate::stores::{created, fell, placed};
+use sector_disk::{Device, Fault, MemoryDevice};
+use std::alloc::Global;
+use std::process::Abort;
+use std::test::Fail;
+
+/// A hill of two, on which a third warrior fell: headers of the generations 2 and 3, and two slots.
+fn written(rt: &impl Abort, alloc: Global) -> Result<MemoryDevice<Global>, Fail> {
+    let mut store = created(alloc, MemoryDevice::new(alloc, 8)?)?;
+    assert_eq!(rt; store.submit(b"MOV 0,1"), placed(1, 1, 0));
+    assert_eq!(rt; store.submit(b"JMP 0"), placed(2, 2, 2));
+    assert_eq!(rt; store.submit(b"DAT 0,0"), fell(3, 0));
+    Ok(store.close())
+}
+
+/// What a device reads at one of its sectors.
+fn sector(device: &mut MemoryDevice<Global>, n: u32) -> Result<[u8; 512], Fault> {
+    if n >= device.sectors() {
+        return Err(Fault);
+    }
+    let mut content = [9; 512];
+    device.read(n, &mut content)?;
+    Ok(content)
+}
+
+/// These bytes, and zeros behind them.
+fn with_zeros(begins: &[u8]) -> [u8; 512] {
+    let mut content = [0; 512];
+    for (place, byte) in content.iter_mut().zip(begins) {
+        *place = *byte;
+    }
+    content
+}
+
+/// The front of a slot holds the code, one instruction here.
+fn front(instruction: [u8; 8]) -> [u8; 512] {
+    with_zeros(instruction.as_slice())
+}
+
+/// The back of a slot: the length 1, the start 0, the name and the author.
+fn back() -> [u8; 512] {
+    let mut content = [0; 512];
+    content[289] = 1;
+    content[292..299].copy_from_slice(b"Unnamed");
+    content[340..349].copy_from_slice(b"Anonymous");
+    content
+}
+
+#[test]
+fn headers_and_slots(rt: HostRuntime) -> Result<(), Fail> {
+    let mut device = written(&rt, rt.alloc())?;
+    assert_eq!(rt; sector(&mut device, 0)?, with_zeros(BEGINS.as_slice()));
+    // The later header, of the other parity, has one more counted and nothing else changed.
+    let mut later = BEGINS;
+    later[15] = 3;
+    later[47] = 3;
+    assert_eq!(rt; sector(&mut device, 1)?, with_zeros(later.as_slice()));
+    // `MOV.I $0, $1`, and `JMP.B $0, $0`.
+    assert_eq!(rt; sector(&mut device, 2)?, front([1, 6, 1, 1, 0, 0, 0, 1]));
+    assert_eq!(rt; sector(&mut device, 3)?, back());
+    assert_eq!(rt; sector(&mut device, 4)?, front([7, 1, 1, 1, 0, 0, 0, 0]));
+    assert_eq!(rt; sector(&mut device, 5)?, back());
+    // The slot of the warrior that fell was never written.
+    assert_eq!(rt; sector(&mut device, 6)?, [0; 512]);
+    assert_eq!(rt; sector(&mut device, 7)?, [0; 512]);
+    Ok(())
+}
