@@ -1,6 +1,6 @@
 //! A store over a device in memory: what is answered, how many calls are made, and what opens again.
 
-use hill_store::{Header, Refusal, Reply, Store, encode_header};
+use hill_store::{Header, HeaderEntry, Refusal, Reply, Store, encode_header};
 use koth_hill::Row;
 use refusing::Refusing;
 use sector_disk::{Device, Fault, FuseDevice, FuseKind, MemoryDevice};
@@ -162,7 +162,7 @@ fn rows_found(
 }
 
 /// Why no hill is opened on a device, if none is.
-fn refusal_to_open<A: Allocator + Copy>(alloc: A, device: MemoryDevice<Global>) -> Option<Refusal> {
+fn refusal_to_open<D: Device + Drop, A: Allocator + Copy>(alloc: A, device: D) -> Option<Refusal> {
     match Store::open(alloc, device) {
         Ok(_) => None,
         Err((_, refusal)) => Some(refusal),
@@ -206,6 +206,36 @@ fn devices_that_are_refused(rt: HostRuntime) -> Result<(), Fail> {
     assert_eq!(rt; tiny, (Some(Refusal::TooSmall), Some(Refusal::TooSmall)));
     let occupied = refusal_of_a_hill(rt.alloc())?;
     assert_eq!(rt; occupied, Some(Refusal::Occupied));
+    Ok(())
+}
+
+/// A device whose header names two slots, in which there are no warriors.
+fn with_bad_slots(alloc: Global) -> Result<MemoryDevice<Global>, Fail> {
+    let first = HeaderEntry {
+        entry: 1,
+        slot: 0,
+        age: 0,
+    };
+    let second = HeaderEntry {
+        entry: 2,
+        slot: 1,
+        age: 0,
+    };
+    let settings = Settings::new(SMALL)?;
+    let header = Header::new(2, settings, 2, &[first, second]).ok_or("a header")?;
+    let mut device = MemoryDevice::new(alloc, 8)?;
+    device.set(0, &encode_header(&header));
+    Ok(device)
+}
+
+/// A sync, two headers and the two sectors of the first slot are five calls: where the sixth fails, the first slot is told of all the same.
+#[test]
+fn slots_are_refused_in_their_order(rt: HostRuntime) -> Result<(), Fail> {
+    for (calls, refusal) in [(4, Refusal::Disk), (5, Refusal::Damaged)] {
+        let device = FuseDevice::new(with_bad_slots(rt.alloc())?, calls, FuseKind::Stop);
+        let found = refusal_to_open(rt.alloc(), device);
+        assert_eq!(rt; found, Some(refusal), "behind {calls} calls");
+    }
     Ok(())
 }
 
