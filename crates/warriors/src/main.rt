@@ -72,7 +72,7 @@ fn serve(rt: &HostRuntime, commands: &[u8]) -> io::Result<()> {
     let Ok(settings) = Settings::new(SETTINGS) else {
         return Err(refused());
     };
-    let device = MemoryDevice::new(rt.alloc(), sectors_for(SETTINGS.capacity))?;
+    let device = MemoryDevice::new(rt.alloc(), sectors_for(settings.capacity()))?;
     let Ok(mut store) = Store::create(rt.alloc(), device, settings) else {
         return Err(refused());
     };
