@@ -1,6 +1,6 @@
 use Rattle.std.proofs.Common.{◌≡◌}
 use Rattle.sector_disk.specs.Memory.{memory_size}
-use Rattle.store_tests.proofs.fuses.run.Given as goal
+use Rattle.device_tests.proofs.fuses.images_after.Given as goal
 
 abbrev pub invariant-loop-step : goal.invariant-loop-step
-invariant-loop-step g l = (memory_size l.fused.inner ≡ 2) × (memory_size l.sound ≡ 2)
+invariant-loop-step l = memory_size l.device.inner ≡ 2

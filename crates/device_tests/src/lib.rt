@@ -1,0 +1,22 @@
+//! Tests of the public calls of `sector_disk`.
+//!
+//! No crate stands on this one, so `sector_disk` is proved once, without tests, and the tests are proved over it. `devices` tries the
+//! device in memory call by call, `images` has each image that a stop leaves of it, `fuses` the one that fails, `files` the one over a
+//! file, and `growths` refuses each growth in turn. `file_calls` counts, by the files in `watched`, the calls that reach a file. What
+//! they expect was counted by hand. A test here must not show what a contract could say instead.
+#![tactic(auto)]
+
+#[cfg(test)]
+mod devices;
+#[cfg(test)]
+mod file_calls;
+#[cfg(test)]
+mod files;
+#[cfg(test)]
+mod fuses;
+#[cfg(test)]
+mod growths;
+#[cfg(test)]
+mod images;
+#[cfg(test)]
+mod watched;
