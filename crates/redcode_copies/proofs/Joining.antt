@@ -1,9 +1,11 @@
 -- The steps of joining names to a counter's number.
-use Rattle.std.proofs.Common.{◌≡◌, ◌-◌, ◌≤◌, ◌<◌, Bool, true, false, List, [], ◌∷◌, ◌++◌, length, get_or, take, drop, Some, None, refl, sym, ap, ◌∙◌, append_assoc, append-nil, arith}
+use Rattle.std.proofs.Common.{◌≡◌, ◌-◌, ◌≤◌, ◌<◌, Bool, true, false, List, [], ◌∷◌, ◌++◌, length, get_or, take, drop, Some, None, refl, sym, ap, ◌∙◌, append_assoc, append-nil, codes, arith}
 use Rattle.std.proofs.lemmas.Bool.{true≢false}
+use Rattle.std.proofs.lemmas.List.{take_all}
 use Rattle.redcode_text.specs.Tokens.{Piece}
 use Rattle.redcode_lines.specs.declared.word.Word.{Word}
-use Rattle.redcode_lines.specs.Word.{is_front, taken_while, dropped_while}
+use Rattle.redcode_lines.specs.declared.word.Word.TheVariants as words
+use Rattle.redcode_lines.specs.Word.{has_text, is_front, taken_while, dropped_while}
 use Rattle.redcode_copies.specs.Counter.{Counter, joins, joined, joined_from, joined_name, kept, behind_word, rewritten_by, numbered, is_label}
 use Rattle.redcode_copies.proofs.Fronts.{behind, behind-first, front-taken}
 use Rattle.redcode_lines.proofs.Readings.{take-taken_while}
@@ -59,6 +61,30 @@ word-written c word tokens (x ∷ xs) d labels operands first out before with_wo
     rw (after-is, with-is, before-is, front, first-is, back, sym is)
     (append_assoc (out ++ labelled) (x ∷ []) (behind_word c word (joined c xs))
     ∙ append_assoc out labelled (x ∷ behind_word c word (joined c xs)))
+
+modifier-step : (c : Counter) (word : Word) (tokens : List (Bool × Piece)) (d e : Bool × Piece) → 2 ≤ length tokens → word ≡ words.Operation
+    → has_text (codes ".") (get_or tokens 0 d).1 ≡ true
+    → behind_word c word tokens ≡ (get_or tokens 0 d).1 ∷ (get_or tokens 1 e).1 ∷ numbered c (take (length tokens - 2) (drop 2 tokens))
+modifier-step c word [] d e some is dot = absurd (omega arith)
+modifier-step c word (x ∷ []) d e some is dot = absurd (omega arith)
+modifier-step c word (x ∷ y ∷ ts) d e some is dot =
+    let all : length (x ∷ y ∷ ts) - 2 ≡ length ts = omega arith in
+    rw (is, dot, all) (ap (λ (zs : List (Bool × Piece)). x.1 ∷ y.1 ∷ numbered c zs) (sym (take_all (length ts) ts (omega arith))))
+
+-- a dot and a modifier's name were written as they are
+pub modifier-written : (c : Counter) (word : Word) (tokens : List (Bool × Piece)) (dot name : Bool × Piece) (first second : Piece) (out with_dot with_name : List Piece)
+    → 2 ≤ length tokens → word ≡ words.Operation → dot ≡ get_or tokens 0 dot → name ≡ get_or tokens 1 name → has_text (codes ".") dot.1 ≡ true
+    → first ≡ dot.1 → second ≡ name.1 → with_dot ≡ out ++ first ∷ [] → with_name ≡ with_dot ++ second ∷ []
+    → with_name ++ numbered c (take (length tokens - 2) (drop 2 tokens)) ≡ out ++ behind_word c word tokens
+modifier-written c word tokens dot name first second out with_dot with_name some is dot-is name-is has_dot first-is second-is dot-written name-written =
+    let x : Piece = (get_or tokens 0 dot).1 in
+    let y : Piece = (get_or tokens 1 name).1 in
+    let front : first ≡ x = first-is ∙ ap (λ (t : Bool × Piece). t.1) dot-is in
+    let behind : second ≡ y = second-is ∙ ap (λ (t : Bool × Piece). t.1) name-is in
+    let others : List Piece = numbered c (take (length tokens - 2) (drop 2 tokens)) in
+    let step : behind_word c word tokens ≡ x ∷ y ∷ others =
+    modifier-step c word tokens dot name some is (ap (λ (t : Bool × Piece). has_text (codes ".") t.1) (sym dot-is) ∙ has_dot) in
+    rw (name-written, dot-written, front, behind, step) (append_assoc (out ++ x ∷ []) (y ∷ []) others ∙ append_assoc out (x ∷ []) (y ∷ others))
 
 -- a line without a word was written
 pub wordless-written : (c : Counter) (tokens : List Piece) (all back : List (Bool × Piece)) (out before after : List Piece) → all ≡ joined c tokens
