@@ -6,7 +6,7 @@ use Rattle.sector_disk.specs.Facts.{DeviceFacts}
 use Rattle.sector_disk.specs.Image.{Images}
 use Rattle.sector_disk.specs.Changes.{after, Begun}
 use Rattle.koth_hill.specs.declared.verdict.Verdict.{Verdict}
-use Rattle.koth_hill.specs.Hill.{Hill, IsHill}
+use Rattle.koth_hill.specs.Hill.{Hill, IsHill, fights}
 use Rattle.koth_hill.specs.Step.{falling, stays, verdict, step, after_stay, after_fall}
 use Rattle.koth_hill.proofs.Admitted.{IsHill-after_stay}
 use Rattle.hill_bytes.specs.Layout.{HeaderParts, IsHeaderParts, SlotIsFree, IsTitled, sectors_for}
@@ -46,7 +46,7 @@ pass_step hill w judged is falls_is = step_falls hill w (stays_so hill w judged 
 
 admit_hill : (hill : Hill) (w : WarriorParts) (judged : Verdict) → judged ≡ verdict hill w → judged.stays ≡ true → IsHill hill → Fits hill.settings w → IsHill (after_stay hill w judged.falls)
 admit_hill hill w judged is stays_is is_hill fits =
-    subst (λ fallen. IsHill (after_stay hill w fallen)) (falls_so hill w judged is) (IsHill-after_stay hill w is_hill fits (stays_so hill w judged true is stays_is))
+    subst (λ fallen. IsHill (after_stay hill w fallen)) (falls_so hill w judged is) (IsHill-after_stay (fights hill.settings) hill w is_hill fits (stays_so hill w judged true is stays_is))
 
 slot_within : {D : Type 0} (facts : DeviceFacts D) (device : D) (h : HeaderParts) (hill : Hill) (arena : RawSettings) (reopen : Bool) (w : WarriorParts) (judged : Verdict) (slot : ℕ) → MayAdmit facts device h hill arena reopen w judged slot → slot ≤ h.settings.capacity
 slot_within facts device h hill arena reopen w judged slot may =

@@ -8,9 +8,9 @@ use Rattle.sector_disk.specs.Disk.{Disk, current}
 use Rattle.sector_disk.specs.Image.{Images}
 use Rattle.sector_disk.specs.Changes.{after, Begun}
 use Rattle.sector_disk.proofs.Images.{images_settled}
-use Rattle.koth_hill.specs.declared.verdict.Verdict.{Verdict}
-use Rattle.koth_hill.specs.Hill.{Member, Hill, IsHill, MayStand, RiseFrom}
-use Rattle.koth_hill.specs.Step.{is_entry, without, one_older, challenger, falling, stays, verdict, step, after_stay, after_fall}
+use Rattle.koth_hill.specs.Hill.{Member, Hill, IsHill, MayStand, RiseFrom, fights}
+use Rattle.koth_hill.specs.Step.{is_entry, without, one_older, challenger, falling, stays, verdict, step, after_stay, after_fall, matches_with}
+use Rattle.koth_hill.proofs.Verdicts.{verdict-stays, verdict-falls, verdict-entry, step-stays, step-falls}
 use Rattle.hill_bytes.specs.declared.header.HeaderEntry.{HeaderEntry}
 use Rattle.hill_bytes.specs.Layout.{HeaderParts, IsHeaderParts, IsEntry, EntriesRise, SlotsDiffer, SlotIsFree, IsTitled, sectors_for}
 use Rattle.hill_images.specs.Stands.{Stands, IsReady}
@@ -20,21 +20,18 @@ use Rattle.hill_images.proofs.Stops.{Either, IsStep, IsPlacing, committed, commi
 use Rattle.hill_images.proofs.Nexts.{shows_placed, shows_passed}
 
 -- the verdict and the step are of one mind
-verdict_by : (b : Bool) (x y : Verdict) → x.entry ≡ y.entry → x.falls ≡ y.falls → x.stays ≡ true → y.stays ≡ false → ((if b then x else y).stays ≡ b) × ((if b then x else y).falls ≡ x.falls) × ((if b then x else y).entry ≡ x.entry)
-verdict_by true x y entry falls up down = (up, refl, refl)
-verdict_by false x y entry falls up down = (down, sym falls, sym entry)
-
 pub verdict_is : (h : Hill) (w : WarriorParts) → ((verdict h w).stays ≡ stays h w) × ((verdict h w).falls ≡ falling h w) × ((verdict h w).entry ≡ h.counter + 1)
-unfolding verdict
-verdict_is h w = verdict_by (stays h w) _ _ refl refl refl refl
+verdict_is h w = (
+  verdict-stays (fights h.settings) (matches_with h.settings h.members w) h w,
+  verdict-falls (fights h.settings) (matches_with h.settings h.members w) h w,
+  verdict-entry (fights h.settings) (matches_with h.settings h.members w) h w,
+)
 
 pub step_stays : (h : Hill) (w : WarriorParts) → stays h w ≡ true → step h w ≡ after_stay h w (falling h w)
-unfolding step
-step_stays h w is = ap (λ b. if b then after_stay h w (falling h w) else after_fall h) is
+step_stays h w is = step-stays (fights h.settings) h w is
 
 pub step_falls : (h : Hill) (w : WarriorParts) → stays h w ≡ false → step h w ≡ after_fall h
-unfolding step
-step_falls h w is = ap (λ b. if b then after_stay h w (falling h w) else after_fall h) is
+step_falls h w is = step-falls (fights h.settings) h w is
 
 -- entries that agree with members rise, are few, and are old, as those are
 pub agree_length : (es : List HeaderEntry) (ms : List Member) → Agree es ms → length es ≡ length ms

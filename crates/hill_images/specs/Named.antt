@@ -3,6 +3,7 @@ use Rattle.std.specs.Prelude.{◌≡◌, ◌≤◌, Bool, false, List, [], ◌�
 use Rattle.war_types.specs.declared.settings.RawSettings.{RawSettings}
 use Rattle.sector_disk.specs.Facts.{DeviceFacts}
 use Rattle.koth_hill.specs.Hill.{Member, Hill, IsHill}
+use Rattle.koth_hill.specs.Kept.{Kept, AreTrue, IsKept}
 use Rattle.hill_bytes.specs.declared.header.HeaderEntry.{HeaderEntry}
 use Rattle.hill_bytes.specs.Layout.{HeaderParts, IsHeaderParts, sectors_for}
 use Rattle.hill_images.specs.Stands.{IsReady}
@@ -28,3 +29,8 @@ pub record IsSound {D : Type 0} (facts : DeviceFacts D) (device : D) (h : Header
   pub is_hill : IsHill hill
   pub named : IsNamed h hill
   pub ready : facts.lawful device → reopen ≡ false → IsReady (facts.disk device) h hill
+
+-- the results that are kept of a hill are its matches
+pub record AreFought (hill : Kept) : Type 0 where
+  pub kept : IsKept hill
+  pub fought : AreTrue hill

@@ -5,11 +5,14 @@ ghost use Rattle.war_types.specs.Warrior.{Fits};
 ghost use Rattle.sector_disk.specs.Disk.{current};
 ghost use Rattle.sector_disk.specs.Served.{IsKept, IsServed};
 ghost use Rattle.hill_bytes.specs.Layout.{back_sector, front_sector, sectors_for};
+ghost use Rattle.koth_hill.specs.Kept.{hill_in};
+ghost use Rattle.hill_images.specs.Named.{AreFought};
 ghost use Rattle.hill_images.specs.Reading.{refusal_of, HillNotRead, HillRead, IsDecodedAs, WarriorNotRead, WarriorRead};
 
 use crate::refusal::Refusal;
 use hill_bytes::{Header, Slot};
 use koth_hill::Hill;
+use mars_core::Arena;
 use sector_disk::{Device, Fault};
 use std::alloc::{AllocError, Allocator};
 use war_types::{Settings, Warrior};
@@ -35,17 +38,21 @@ pub(crate) fn refusal_of(unread: Unread) -> Refusal
     }
 }
 
-/// Reads the hill of a header.
+/// Reads the hill of a header. The results of its warriors' matches are not on the device: they are fought in the arena.
 pub(crate) fn read_hill<D: Device, A: Allocator + Copy>(
     alloc: A,
     device: &mut D,
+    arena: &mut Arena<A>,
     header: &Header,
 ) -> Result<Hill<A>, Unread>
-    requires { sectors_for header.now.settings.capacity ≤ D.facts.size device.old }
+    requires room { sectors_for header.now.settings.capacity ≤ D.facts.size device.old }
+    requires arena { arena.old.settings ≡ header.now.settings }
     ensures kept { IsKept D.facts device.old device.new }
     ensures same { D.facts.lawful device.old → D.facts.disk device.new ≡ D.facts.disk device.old }
     ensures faultless { OnOk result (D.facts.faults device.new ≡ D.facts.faults device.old) }
-    ensures read { IfOk result (HillRead D.facts device.old header.now) }
+    ensures read { IfOk result (λ hill. HillRead D.facts device.old header.now (hill_in hill)) }
+    ensures fought { IfOk result AreFought }
+    ensures arena { arena.new.settings ≡ arena.old.settings }
     ensures unread { IfErr result (HillNotRead D.facts device.old device.new header.now) }
 {
     let settings = *header.settings();
@@ -58,7 +65,7 @@ pub(crate) fn read_hill<D: Device, A: Allocator + Copy>(
             Ok(warrior) => warrior,
             Err(unread) => return Err(unread),
         };
-        hill.put_back(e.entry, e.age, warrior);
+        hill.put_back_anew(arena, e.entry, e.age, warrior);
     }
     // Tells the proof that this is a hill.
     let _count = hill.len();

@@ -1,21 +1,17 @@
 -- How a submission moves the counter of a hill: for the sessions.
-use Rattle.std.proofs.Common.{◌≡◌, ℕ, ◌+◌, Bool, true, false, if◌then◌else◌, List, Result, Ok, Err, refl, sym, ap, ◌∙◌, true≢false}
+use Rattle.std.proofs.Common.{◌≡◌, ℕ, ◌+◌, Bool, true, false, List, Result, Ok, Err, sym, ap, ◌∙◌, true≢false}
 use Rattle.war_types.specs.Warrior.{WarriorParts}
 use Rattle.war_types.specs.declared.fault.AsmFault.{AsmFault}
 use Rattle.redcode_asm.specs.Assembly.{assembly}
-use Rattle.koth_hill.specs.Hill.{Hill}
-use Rattle.koth_hill.specs.Step.{after_fall, after_stay, falling, stays, step}
+use Rattle.koth_hill.specs.Hill.{Hill, fights}
+use Rattle.koth_hill.specs.Step.{step}
+use Rattle.koth_hill.proofs.Verdicts.{step-counter}
 use Rattle.hill_store.specs.declared.reply.Reply.{Reply}
 use Rattle.hill_store.specs.declared.reply.Reply.TheVariants as replies
 use Rattle.hill_store.specs.Earned.{reply_found, reply_of, step_found, step_source}
 
-counts_by : (h : Hill) (w : WarriorParts) (b : Bool) → (if b then after_stay h w (falling h w) else after_fall h).counter ≡ h.counter + 1
-counts_by h w true = refl
-counts_by h w false = refl
-
 step_counts : (h : Hill) (w : WarriorParts) → (step h w).counter ≡ h.counter + 1
-unfolding step
-step_counts h w = counts_by h w (stays h w)
+step_counts h w = step-counter (fights h.settings) h w
 
 -- the warrior of this reply was counted
 abbrev pub is_counted : Reply → Bool

@@ -5,3 +5,4 @@ pub mod Decided
 pub mod Living
 pub mod Eventful
 pub mod Counting
+pub mod Fought

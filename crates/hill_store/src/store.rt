@@ -43,13 +43,14 @@ pub struct Store<D: Device, A: Allocator> {
 
 impl<D: Device, A: Allocator> Model for Store<D, A> {
     ghost use Rattle.hill_store.specs.Seen.{Seen, seen};
-    ghost use Rattle.hill_images.specs.Named.{IsSound};
+    ghost use Rattle.hill_images.specs.Named.{AreFought, IsSound};
+    ghost use Rattle.koth_hill.specs.Kept.{hill_in};
 
     ghost Value = { Seen D };
 
-    ghost view = { λ s. seen s.device s.hill s.header.generation s.reopen };
+    ghost view = { λ s. seen s.device (hill_in s.hill) s.header.generation s.reopen };
 
-    ghost invariant = { λ s. IsSound D.facts s.device s.header s.hill s.arena.settings s.reopen };
+    ghost invariant = { λ s. IsSound D.facts s.device s.header (hill_in s.hill) s.arena.settings s.reopen × AreFought s.hill };
 }
 
 impl<D: Device, A: Allocator + Copy> Store<D, A> {

@@ -1,19 +1,18 @@
 -- The hill on which a challenger stays is a hill.
-use Rattle.std.proofs.Common.{◌≡◌, ℕ, ◌+◌, ◌<◌, ◌≤◌, ◌⊎◌, inl, inr, Bool, true, false, List, [], ◌∷◌, ◌++◌, length, refl, sym, ap, subst, ◌∙◌, arith, suc, Option, None, Some, All}
+use Rattle.std.proofs.Common.{◌≡◌, ℕ, ◌+◌, ◌<◌, ◌≤◌, ◌⊎◌, inl, inr, Bool, true, false, List, [], ◌∷◌, ◌++◌, length, map, refl, sym, ap, subst, ◌∙◌, arith, suc, Option, None, Some, All}
 use Rattle.std.specs.Prelude.{◌==◌, if◌then◌else◌, nat_lt}
-use Rattle.std.proofs.lemmas.Bool.{ltb-false, eqb-true, eq-eqb, cond-true, cond-false, cases_Bool}
+use Rattle.std.proofs.lemmas.Bool.{lt-ltb, le-ltb, eq-eqb, cond-true, cond-false, cases_lt, cases_Bool}
 use Rattle.std.proofs.lemmas.List.{length_push}
 use Rattle.std.proofs.lemmas.List.Elements.{All-head, All-tail, All-cons, All-nil, All-push}
 use Rattle.war_types.specs.declared.settings.RawSettings.{RawSettings}
 use Rattle.war_types.specs.Warrior.{WarriorParts, Fits}
-use Rattle.koth_hill.specs.declared.verdict.Verdict.{Verdict}
-use Rattle.koth_hill.specs.Hill.{Member, Hill, hill_of, member_of, last_entry, last_entry_from, RiseFrom, MayStand, IsHill}
-use Rattle.koth_hill.specs.Table.{rank, of_rank}
-use Rattle.koth_hill.specs.Step.{challenger, enlarged, last_of, falling, is_entry, without, one_older, stays, after_stay, step, verdict}
-use Rattle.koth_hill.proofs.Members.{older, RiseFrom-push}
-use Rattle.koth_hill.proofs.Verdicts.{verdict-stays, verdict-placed, step-stays}
+use Rattle.koth_hill.specs.declared.score.Score.{Score}
+use Rattle.koth_hill.specs.Hill.{Member, Hill, Results, last_entry, last_entry_from, RiseFrom, MayStand, IsHill}
+use Rattle.koth_hill.specs.Scores.{score_of, scores_of, rank_among, last_among}
+use Rattle.koth_hill.specs.Step.{challenger, enlarged, falling_by, is_entry, without, one_older, stays_by, after_stay}
 use Rattle.koth_hill.specs.Laws.{In}
-use Rattle.koth_hill.proofs.Counted.{one-of_rank}
+use Rattle.koth_hill.proofs.Members.{older, RiseFrom-push}
+use Rattle.koth_hill.proofs.Scored.{scores-rising, scores-length, IsScored, score-member, IsLastScore, last_among-score, last_among-none}
 
 -- ---- members of lists
 
@@ -104,38 +103,21 @@ one_older-all P Q (x ∷ ms) each all = All-cons Q (older x) (one_older ms) (eac
 -- ---- the one that falls
 
 -- the member of the last rank
-pub record IsLast (s : RawSettings) (all ms : List Member) (entry : ℕ) : Type 0 where
+pub record IsLast (f : Results) (all ms : List Member) (entry : ℕ) : Type 0 where
   pub member : Member
   pub here : In member ms
-  pub last : rank s all member ≡ length all
+  pub last : rank_among (scores_of f all) (score_of f all member) ≡ length all
   pub is : member.entry ≡ entry
 
-pub last_of-none : (s : RawSettings) (all ms : List Member) → last_of s all ms ≡ None → of_rank s all (length all) ms ≡ []
-last_of-none s all [] none = refl
-last_of-none s all (x ∷ ms) none = elim (cases_Bool (rank s all x == length all)) [
-  | inl holds ↦
-      let wrong : Some x.entry ≡ None = sym (cond-true (rank s all x == length all) (Some x.entry) (last_of s all ms) holds) ∙ none in cc
-  | inr fails ↦
-      cond-false (rank s all x == length all) (x ∷ of_rank s all (length all) ms) (of_rank s all (length all) ms) fails
-      ∙ last_of-none s all ms (sym (cond-false (rank s all x == length all) (Some x.entry) (last_of s all ms) fails) ∙ none)
-]
-
-some-same : (a b : ℕ) → Some a ≡ Some b → a ≡ b
-some-same a b e = cc
-
-pub last_of-some : (s : RawSettings) (all ms : List Member) (entry : ℕ) → last_of s all ms ≡ Some entry → IsLast s all ms entry
-last_of-some s all [] entry found = cc
-last_of-some s all (x ∷ ms) entry found = elim (cases_Bool (rank s all x == length all)) [
-  | inl holds ↦ record {
-    member = x;
-    here = inl refl;
-    last = eqb-true (rank s all x) (length all) holds;
-    is = some-same x.entry entry (sym (cond-true (rank s all x == length all) (Some x.entry) (last_of s all ms) holds) ∙ found);
-  }
-  | inr fails ↦
-      let later : IsLast s all ms entry = last_of-some s all ms entry (sym (cond-false (rank s all x == length all) (Some x.entry) (last_of s all ms) fails) ∙ found) in
-      record { member = later.member; here = inr later.here; last = later.last; is = later.is }
-]
+pub last_among-some : (f : Results) (all ms : List Member) (entry : ℕ) → last_among (scores_of f all) (map (score_of f all) ms) ≡ Some entry → IsLast f all ms entry
+last_among-some f all ms entry found =
+    let one : IsLastScore (scores_of f all) (map (score_of f all) ms) entry = last_among-score (scores_of f all) (map (score_of f all) ms) entry found in
+    let of : IsScored f all ms one.score = score-member f all ms one.score one.here in record {
+      member = of.member;
+      here = of.here;
+      last = ap (λ (x : Score). rank_among (scores_of f all) x) (sym of.is) ∙ one.last ∙ scores-length f all;
+      is = ap (λ (x : Score). x.entry) (sym of.is) ∙ one.is;
+    }
 
 pub entries-most : (h : Hill) → IsHill h → (m : Member) → In m h.members → m.entry ≤ h.counter
 entries-most h is m here = (All-In (MayStand h.settings h.counter) h.members m is.members here).entry
@@ -146,52 +128,57 @@ enlarged-rising h w is =
     RiseFrom-push 0 h.members (challenger h w) is.rising (omega (arith, most))
 
 -- where they are too many, one falls
-pub falling-one : (h : Hill) (w : WarriorParts) → IsHill h → last_of h.settings (enlarged h w) (enlarged h w) ≡ None → ⊥
-falling-one h w is none =
-    let count : length (enlarged h w) ≡ length h.members + 1 = length_push h.members (challenger h w) in
-    let one : length (of_rank h.settings (enlarged h w) (length (enlarged h w)) (enlarged h w)) ≡ 1 =
-    one-of_rank h.settings (enlarged h w) (length (enlarged h w)) (enlarged-rising h w is) (omega (arith, count)) (omega arith) in
-    let empty : length (of_rank h.settings (enlarged h w) (length (enlarged h w)) (enlarged h w)) ≡ 0 = ap length (last_of-none h.settings (enlarged h w) (enlarged h w) none) in
-    omega (arith, one, empty)
+pub falling-one : (f : Results) (h : Hill) (w : WarriorParts) → IsHill h → last_among (scores_of f (enlarged h w)) (scores_of f (enlarged h w)) ≡ None → ⊥
+falling-one f h w is none =
+    last_among-none (scores_of f (enlarged h w)) (scores-rising f (enlarged h w) (enlarged-rising h w is))
+    (omega (arith, scores-length f (enlarged h w), length_push h.members (challenger h w))) none
 
 -- a challenger that stays is not the one that falls
-stays-other : (h : Hill) (w : WarriorParts) (entry : ℕ) → stays h w ≡ true → falling h w ≡ Some entry → entry ≡ h.counter + 1 → ⊥
-stays-other h w entry stay falls same =
-    let own : is_entry (h.counter + 1) (falling h w) ≡ true = ap (is_entry (h.counter + 1)) falls ∙ eq-eqb (h.counter + 1) entry (sym same) in
-    let wrong : false ≡ true = sym (cond-true (is_entry (h.counter + 1) (falling h w)) false true own) ∙ stay in
+stays-other : (f : Results) (h : Hill) (w : WarriorParts) (entry : ℕ) → stays_by f h w ≡ true → falling_by f h w ≡ Some entry → entry ≡ h.counter + 1 → ⊥
+stays-other f h w entry stay falls same =
+    let own : is_entry (h.counter + 1) (falling_by f h w) ≡ true = ap (is_entry (h.counter + 1)) falls ∙ eq-eqb (h.counter + 1) entry (sym same) in
+    let wrong : false ≡ true = sym (cond-true (is_entry (h.counter + 1) (falling_by f h w)) false true own) ∙ stay in
     cc
 
-room-some : (h : Hill) (w : WarriorParts) (entry : ℕ) → IsHill h → stays h w ≡ true → falling h w ≡ Some entry → last_of h.settings (enlarged h w) (enlarged h w) ≡ Some entry →
-    length (without (falling h w) h.members) < length h.members
-room-some h w entry is stay falls found =
-    let last : IsLast h.settings (enlarged h w) (enlarged h w) entry = last_of-some h.settings (enlarged h w) (enlarged h w) entry found in
+room-some : (f : Results) (h : Hill) (w : WarriorParts) (entry : ℕ) → stays_by f h w ≡ true → falling_by f h w ≡ Some entry →
+    last_among (scores_of f (enlarged h w)) (scores_of f (enlarged h w)) ≡ Some entry → length (without (falling_by f h w) h.members) < length h.members
+room-some f h w entry stay falls found =
+    let last : IsLast f (enlarged h w) (enlarged h w) entry = last_among-some f (enlarged h w) (enlarged h w) entry found in
     elim (In-push h.members (challenger h w) last.member last.here) [
       | inl here ↦
           let less : length (without (Some entry) h.members) < length h.members = without-less entry h.members last.member here last.is in
           let P : Option ℕ → Type 0 = λ o. length (without o h.members) < length h.members in
           subst P (sym falls) less
-      | inr own ↦ absurd (stays-other h w entry stay falls (sym last.is ∙ ap (λ (y : Member). y.entry) own))
+      | inr own ↦ absurd (stays-other f h w entry stay falls (sym last.is ∙ ap (λ (y : Member). y.entry) own))
     ]
 
-room-full : (h : Hill) (w : WarriorParts) (found : Option ℕ) → IsHill h → stays h w ≡ true → falling h w ≡ found → last_of h.settings (enlarged h w) (enlarged h w) ≡ found →
-    length (without (falling h w) h.members) < length h.members
-room-full h w None is stay falls last = absurd (falling-one h w is last)
-room-full h w (Some entry) is stay falls last = room-some h w entry is stay falls last
+room-full : (f : Results) (h : Hill) (w : WarriorParts) (found : Option ℕ) → IsHill h → stays_by f h w ≡ true → falling_by f h w ≡ found →
+    last_among (scores_of f (enlarged h w)) (scores_of f (enlarged h w)) ≡ found → length (without (falling_by f h w) h.members) < length h.members
+room-full f h w None is stay falls last = absurd (falling-one f h w is last)
+room-full f h w (Some entry) is stay falls last = room-some f h w entry stay falls last
 
-pub room-left : (h : Hill) (w : WarriorParts) → IsHill h → stays h w ≡ true → length (without (falling h w) h.members) < h.settings.capacity
-room-left h w is stay =
-    let count : length (enlarged h w) ≡ length h.members + 1 = length_push h.members (challenger h w) in
-    elim (cases_Bool (nat_lt h.settings.capacity (length (enlarged h w)))) [
-      | inl over ↦
-          let falls : falling h w ≡ last_of h.settings (enlarged h w) (enlarged h w) =
-          cond-true (nat_lt h.settings.capacity (length (enlarged h w))) (last_of h.settings (enlarged h w) (enlarged h w)) None over in
-          let less : length (without (falling h w) h.members) < length h.members = room-full h w (last_of h.settings (enlarged h w) (enlarged h w)) is stay falls refl in
-          omega (arith, less, is.room)
-      | inr within ↦
-          let most : length (enlarged h w) ≤ h.settings.capacity = ltb-false h.settings.capacity (length (enlarged h w)) within in
-          let fewer : length (without (falling h w) h.members) ≤ length h.members = without-most (falling h w) h.members in
-          omega (arith, count, most, fewer)
-    ]
+-- where there is room nobody falls
+pub falling-room : (f : Results) (h : Hill) (w : WarriorParts) → length h.members < h.settings.capacity → falling_by f h w ≡ None
+falling-room f h w room =
+    cond-false (nat_lt h.settings.capacity (length (enlarged h w))) (last_among (scores_of f (enlarged h w)) (scores_of f (enlarged h w))) None
+    (le-ltb h.settings.capacity (length (enlarged h w)) (omega (arith, length_push h.members (challenger h w), room)))
+
+-- and else the last
+pub falling-last : (f : Results) (h : Hill) (w : WarriorParts) → h.settings.capacity ≤ length h.members → falling_by f h w ≡ last_among (scores_of f (enlarged h w)) (scores_of f (enlarged h w))
+falling-last f h w full =
+    cond-true (nat_lt h.settings.capacity (length (enlarged h w))) (last_among (scores_of f (enlarged h w)) (scores_of f (enlarged h w))) None
+    (lt-ltb h.settings.capacity (length (enlarged h w)) (omega (arith, length_push h.members (challenger h w), full)))
+
+pub room-left : (f : Results) (h : Hill) (w : WarriorParts) → IsHill h → stays_by f h w ≡ true → length (without (falling_by f h w) h.members) < h.settings.capacity
+room-left f h w is stay = elim (cases_lt (length h.members) h.settings.capacity) [
+  | inl room ↦
+      let fewer : length (without (falling_by f h w) h.members) ≤ length h.members = without-most (falling_by f h w) h.members in
+      omega (arith, fewer, room)
+  | inr full ↦
+      let less : length (without (falling_by f h w) h.members) < length h.members =
+      room-full f h w (last_among (scores_of f (enlarged h w)) (scores_of f (enlarged h w))) is stay (falling-last f h w full) refl in
+      omega (arith, less, is.room)
+]
 
 -- ---- the hill behind it
 
@@ -208,49 +195,25 @@ ages-fit h fallen limit is fits =
     let may : MayStand h.settings h.counter m = All-In (MayStand h.settings h.counter) h.members m is.members (without-In fallen h.members m here) in
     omega (arith, may.age, fits))
 
-pub IsHill-after_stay : (h : Hill) (w : WarriorParts) → IsHill h → Fits h.settings w → stays h w ≡ true → IsHill (after_stay h w (falling h w))
-IsHill-after_stay h w is fits stay = record {
+pub IsHill-after_stay : (f : Results) (h : Hill) (w : WarriorParts) → IsHill h → Fits h.settings w → stays_by f h w ≡ true → IsHill (after_stay h w (falling_by f h w))
+IsHill-after_stay f h w is fits stay = record {
   settings = is.settings;
-  room = omega (arith, length_push (one_older left) (challenger h w), one_older-length left, room-left h w is stay);
-  rising = RiseFrom-push 0 (one_older left) (challenger h w) (one_older-rising 0 left (without-rising (falling h w) 0 h.members is.rising)) (omega (arith, most));
+  room = omega (arith, length_push (one_older left) (challenger h w), one_older-length left, room-left f h w is stay);
+  rising = RiseFrom-push 0 (one_older left) (challenger h w) (one_older-rising 0 left (without-rising (falling_by f h w) 0 h.members is.rising)) (omega (arith, most));
   members = All-push (MayStand h.settings (h.counter + 1)) (one_older left) (challenger h w) stand own;
 }
   where
     left : List Member
-    left = without (falling h w) h.members
+    left = without (falling_by f h w) h.members
 
     entries : All (λ m. m.entry ≤ h.counter) (one_older left)
-    entries = one_older-all (MayStand h.settings h.counter) (λ m. m.entry ≤ h.counter) left (λ m may. may.entry) (without-stand h (falling h w) is)
+    entries = one_older-all (MayStand h.settings h.counter) (λ m. m.entry ≤ h.counter) left (λ m may. may.entry) (without-stand h (falling_by f h w) is)
 
     most : last_entry (one_older left) ≤ h.counter
     most = last_entry_from-most 0 h.counter (one_older left) (omega arith) (λ m here. All-In (λ y. y.entry ≤ h.counter) (one_older left) m entries here)
 
     stand : All (MayStand h.settings (h.counter + 1)) (one_older left)
-    stand = one_older-all (MayStand h.settings h.counter) (MayStand h.settings (h.counter + 1)) left (λ m may. stand-older h.settings h.counter m may) (without-stand h (falling h w) is)
+    stand = one_older-all (MayStand h.settings h.counter) (MayStand h.settings (h.counter + 1)) left (λ m may. stand-older h.settings h.counter m may) (without-stand h (falling_by f h w) is)
 
     own : MayStand h.settings (h.counter + 1) (challenger h w)
     own = record { entry = omega arith; age = omega arith; fits = fits }
-
--- what is due after a verdict that a challenger stays
-pub admitted-step : (h now : Hill) (w : WarriorParts) (judged : Verdict) (items : List Member) (m : Member) → h ≡ now → judged ≡ verdict now w → judged.stays ≡ true →
-    m ≡ member_of judged.entry 0 w → items ≡ one_older (without judged.falls h.members) ++ m ∷ [] → hill_of h.settings judged.entry items ≡ step now w
-admitted-step h now w judged items m same is stay made are =
-    ap (λ (xs : List Member). hill_of h.settings judged.entry xs) (are ∙ ap (λ (y : Member). one_older (without judged.falls h.members) ++ y ∷ []) made)
-    ∙ ap (λ (x : Hill). hill_of x.settings judged.entry (one_older (without judged.falls x.members) ++ member_of judged.entry 0 w ∷ [])) same
-    ∙ ap (λ (v : Verdict). hill_of now.settings v.entry (one_older (without v.falls now.members) ++ member_of v.entry 0 w ∷ [])) (is ∙ verdict-placed now w stays-now)
-    ∙ sym (step-stays now w stays-now)
-  where
-    stays-now : stays now w ≡ true
-    stays-now = sym (verdict-stays now w) ∙ ap (λ (v : Verdict). v.stays) (sym is) ∙ stay
-
-pub admitted-entry : (h now : Hill) (w : WarriorParts) (judged : Verdict) → h ≡ now → judged ≡ verdict now w → judged.stays ≡ true → judged.entry ≡ h.counter + 1
-admitted-entry h now w judged same is stay =
-    ap (λ (v : Verdict). v.entry) (is ∙ verdict-placed now w (sym (verdict-stays now w) ∙ ap (λ (v : Verdict). v.stays) (sym is) ∙ stay))
-    ∙ ap (λ (x : Hill). x.counter + 1) (sym same)
-
-pub admitted-hill : (h now : Hill) (w : WarriorParts) (judged : Verdict) (after : Hill) → h ≡ now → IsHill h → Fits now.settings w → judged ≡ verdict now w → judged.stays ≡ true →
-    after ≡ step now w → IsHill after
-admitted-hill h now w judged after same hill fits is stay due =
-    let stays-now : stays now w ≡ true = sym (verdict-stays now w) ∙ ap (λ (v : Verdict). v.stays) (sym is) ∙ stay in
-    let P : Hill → Type 0 = λ x. IsHill x in
-    subst P (sym (due ∙ step-stays now w stays-now)) (IsHill-after_stay now w (subst P same hill) fits stays-now)

@@ -1,58 +1,61 @@
--- Of each rank from 1 to the number of members there is exactly one.
-use Rattle.std.proofs.Common.{◌≡◌, ℕ, ◌+◌, ◌<◌, ◌≤◌, inl, inr, Bool, true, false, List, [], ◌∷◌, length, refl, sym, ap, ap₂, subst, ◌∙◌, arith, suc, zero, length-append}
+-- Of each rank from 1 to the number of scores there is exactly one.
+use Rattle.std.proofs.Common.{◌≡◌, ℕ, ◌+◌, ◌<◌, ◌≤◌, inl, inr, Bool, true, false, List, [], ◌∷◌, ◌++◌, length, refl, sym, ap, ap₂, subst, ◌∙◌, arith, suc, zero, length-append}
 use Rattle.std.specs.Prelude.{◌==◌, if◌then◌else◌, nat_lt, nat_le, ◌&&◌}
 use Rattle.std.proofs.lemmas.Bool.{lt-ltb, le-ltb, le-leb, lt-leb, eqb-true, eq-eqb, ne_eqb, and_from, and_left, and_right, cond-true, cond-false, cases_lt, cases_eq, cases_order, cases_Bool}
-use Rattle.war_types.specs.declared.settings.RawSettings.{RawSettings}
-use Rattle.koth_hill.specs.Hill.{Member, RiseFrom}
-use Rattle.koth_hill.specs.Table.{rank, of_rank, by_rank}
-use Rattle.koth_hill.specs.Laws.{In}
-use Rattle.koth_hill.proofs.Order.{In-above, rank-one, rank-most}
+use Rattle.koth_hill.specs.declared.score.Score.{Score}
+use Rattle.koth_hill.specs.Scores.{rank_among, of_rank}
+use Rattle.koth_hill.proofs.Order.{Rising, InScores, InScores-above, rank-one, rank-most}
 
 -- ---- those of one rank
 
--- what is of a rank is a member of that rank
-pub of_rank-In : (s : RawSettings) (all ms : List Member) (r : ℕ) (m : Member) → In m (of_rank s all r ms) → In m ms × (rank s all m ≡ r)
-of_rank-In s all [] r m here = absurd here
-of_rank-In s all (x ∷ ms) r m here = elim (cases_Bool (rank s all x == r)) [
+-- what is of a rank is a score of that rank
+pub of_rank-In : (all xs : List Score) (r : ℕ) (x : Score) → InScores x (of_rank all r xs) → InScores x xs × (rank_among all x ≡ r)
+of_rank-In all [] r x here = absurd here
+of_rank-In all (y ∷ xs) r x here = elim (cases_Bool (rank_among all y == r)) [
   | inl holds ↦
-      let P : List Member → Type 0 = λ xs. In m xs in
-      elim (subst P (cond-true (rank s all x == r) (x ∷ of_rank s all r ms) (of_rank s all r ms) holds) here) [
-        | inl same ↦ (inl same, ap (λ (y : Member). rank s all y) same ∙ eqb-true (rank s all x) r holds)
-        | inr later ↦ let found : In m ms × (rank s all m ≡ r) = of_rank-In s all ms r m later in (inr found.0, found.1)
+      let P : List Score → Type 0 = λ zs. InScores x zs in
+      elim (subst P (cond-true (rank_among all y == r) (y ∷ of_rank all r xs) (of_rank all r xs) holds) here) [
+        | inl same ↦ (inl same, ap (λ (z : Score). rank_among all z) same ∙ eqb-true (rank_among all y) r holds)
+        | inr later ↦ let found : InScores x xs × (rank_among all x ≡ r) = of_rank-In all xs r x later in (inr found.0, found.1)
       ]
   | inr fails ↦
-      let P : List Member → Type 0 = λ xs. In m xs in
-      let found : In m ms × (rank s all m ≡ r) = of_rank-In s all ms r m (subst P (cond-false (rank s all x == r) (x ∷ of_rank s all r ms) (of_rank s all r ms) fails) here) in
+      let P : List Score → Type 0 = λ zs. InScores x zs in
+      let found : InScores x xs × (rank_among all x ≡ r) = of_rank-In all xs r x (subst P (cond-false (rank_among all y == r) (y ∷ of_rank all r xs) (of_rank all r xs) fails) here) in
       (inr found.0, found.1)
 ]
 
 -- where none is of a rank, the list of that rank is empty
-of_rank-later : (s : RawSettings) (all ms : List Member) (r : ℕ) → (m : Member) → ((e : Member) → In e ms → rank s all e ≡ r → ⊥) → of_rank s all r ms ≡ []
-of_rank-later s all [] r m none = refl
-of_rank-later s all (x ∷ ms) r m none =
-    cond-false (rank s all x == r) (x ∷ of_rank s all r ms) (of_rank s all r ms) (ne_eqb (rank s all x) r (λ same. none x (inl refl) same))
-    ∙ of_rank-later s all ms r m (λ e here same. none e (inr here) same)
+of_rank-none : (all xs : List Score) (r : ℕ) → ((x : Score) → InScores x xs → rank_among all x ≡ r → ⊥) → of_rank all r xs ≡ []
+of_rank-none all [] r none = refl
+of_rank-none all (y ∷ xs) r none =
+    cond-false (rank_among all y == r) (y ∷ of_rank all r xs) (of_rank all r xs) (ne_eqb (rank_among all y) r (λ same. none y (inl refl) same))
+    ∙ of_rank-none all xs r (λ x here same. none x (inr here) same)
 
-of_rank-few : (s : RawSettings) (all ms : List Member) (before r : ℕ) → RiseFrom before ms → ((e : Member) → In e ms → In e all) → length (of_rank s all r ms) ≤ 1
-of_rank-few s all [] before r rising are = omega arith
-of_rank-few s all (x ∷ ms) before r rising are = elim (cases_Bool (rank s all x == r)) [
+of_rank-few : (all xs : List Score) (before r : ℕ) → Rising before xs → ((x : Score) → InScores x xs → InScores x all) → length (of_rank all r xs) ≤ 1
+of_rank-few all [] before r rising are = omega arith
+of_rank-few all (y ∷ xs) before r rising are = elim (cases_Bool (rank_among all y == r)) [
   | inl holds ↦
-      let rest : of_rank s all r ms ≡ [] = of_rank-later s all ms r x (λ e here same.
-      let one : x.entry ≡ e.entry = rank-one s all x e (are x (inl refl)) (are e (inr here)) (eqb-true (rank s all x) r holds ∙ sym same) in
-      let later : x.entry < e.entry = In-above x.entry ms e rising.1 here in
+      let rest : of_rank all r xs ≡ [] = of_rank-none all xs r (λ x here same.
+      let one : y.entry ≡ x.entry = rank-one all y x (are y (inl refl)) (are x (inr here)) (eqb-true (rank_among all y) r holds ∙ sym same) in
+      let later : y.entry < x.entry = InScores-above y.entry xs x rising.1 here in
       omega arith) in
-      let whole : length (of_rank s all r (x ∷ ms)) ≡ 1 = ap length (cond-true (rank s all x == r) (x ∷ of_rank s all r ms) (of_rank s all r ms) holds) ∙ ap (λ (xs : List Member). length (x ∷ xs)) rest in
+      let whole : length (of_rank all r (y ∷ xs)) ≡ 1 = ap length (cond-true (rank_among all y == r) (y ∷ of_rank all r xs) (of_rank all r xs) holds) ∙ ap (λ (zs : List Score). length (y ∷ zs)) rest in
       omega (arith, whole)
   | inr fails ↦
-      let whole : length (of_rank s all r (x ∷ ms)) ≡ length (of_rank s all r ms) = ap length (cond-false (rank s all x == r) (x ∷ of_rank s all r ms) (of_rank s all r ms) fails) in
-      let few : length (of_rank s all r ms) ≤ 1 = of_rank-few s all ms x.entry r rising.1 (λ e here. are e (inr here)) in
+      let whole : length (of_rank all r (y ∷ xs)) ≡ length (of_rank all r xs) = ap length (cond-false (rank_among all y == r) (y ∷ of_rank all r xs) (of_rank all r xs) fails) in
+      let few : length (of_rank all r xs) ≤ 1 = of_rank-few all xs y.entry r rising.1 (λ x here. are x (inr here)) in
       omega (arith, whole, few)
 ]
 
-pub of_rank-one : (s : RawSettings) (all : List Member) (r : ℕ) → RiseFrom 0 all → length (of_rank s all r all) ≤ 1
-of_rank-one s all r rising = of_rank-few s all all 0 r rising (λ e here. here)
+pub of_rank-one : (all : List Score) (r : ℕ) → Rising 0 all → length (of_rank all r all) ≤ 1
+of_rank-one all r rising = of_rank-few all all 0 r rising (λ x here. here)
 
 -- ---- those of so many ranks
+
+-- those of so many ranks from one on
+abbrev pub by_rank : List Score → ℕ → ℕ → List Score
+by_rank all r zero = []
+by_rank all r (suc n) = of_rank all r all ++ by_rank all (r + 1) n
 
 -- 1 where a rank is one of n from r on
 hit : ℕ → ℕ → ℕ → ℕ
@@ -94,77 +97,77 @@ hit-split r n k = elim (cases_order k r) [
 ]
 
 -- how many of these are of one of n ranks from r on
-hits : RawSettings → List Member → ℕ → ℕ → List Member → ℕ
-hits s all r n [] = 0
-hits s all r n (m ∷ ms) = hit r n (rank s all m) + hits s all r n ms
+hits : List Score → ℕ → ℕ → List Score → ℕ
+hits all r n [] = 0
+hits all r n (x ∷ xs) = hit r n (rank_among all x) + hits all r n xs
 
-hits-none : (s : RawSettings) (all : List Member) (r : ℕ) (ms : List Member) → hits s all r 0 ms ≡ 0
+hits-none : (all : List Score) (r : ℕ) (xs : List Score) → hits all r 0 xs ≡ 0
 unfolding hits
-hits-none s all r [] = refl
-hits-none s all r (m ∷ ms) = elim (cases_lt (rank s all m) r) [
-  | inl less ↦ ap₂ (λ (a b : ℕ). a + b) (hit-below r 0 (rank s all m) less) (hits-none s all r ms)
-  | inr more ↦ ap₂ (λ (a b : ℕ). a + b) (hit-past r 0 (rank s all m) (omega (arith, more))) (hits-none s all r ms)
+hits-none all r [] = refl
+hits-none all r (x ∷ xs) = elim (cases_lt (rank_among all x) r) [
+  | inl less ↦ ap₂ (λ (a b : ℕ). a + b) (hit-below r 0 (rank_among all x) less) (hits-none all r xs)
+  | inr more ↦ ap₂ (λ (a b : ℕ). a + b) (hit-past r 0 (rank_among all x) (omega (arith, more))) (hits-none all r xs)
 ]
 
-of_rank-length : (b : Bool) (m : Member) (ms : List Member) → length (if b then m ∷ ms else ms) ≡ one_if b + length ms
+of_rank-length : (b : Bool) (x : Score) (xs : List Score) → length (if b then x ∷ xs else xs) ≡ one_if b + length xs
 unfolding one_if
-of_rank-length true m ms = omega arith
-of_rank-length false m ms = omega arith
+of_rank-length true x xs = omega arith
+of_rank-length false x xs = omega arith
 
 four : (a b c d x y : ℕ) → x ≡ a + b → y ≡ c + d → x + y ≡ (a + c) + (b + d)
 four a b c d x y ex ey = omega (arith, ex, ey)
 
-hits-split : (s : RawSettings) (all : List Member) (r n : ℕ) (ms : List Member) → hits s all r (suc n) ms ≡ length (of_rank s all r ms) + hits s all (r + 1) n ms
+hits-split : (all : List Score) (r n : ℕ) (xs : List Score) → hits all r (suc n) xs ≡ length (of_rank all r xs) + hits all (r + 1) n xs
 unfolding hits
-hits-split s all r n [] = refl
-hits-split s all r n (m ∷ ms) =
-    four (one_if (rank s all m == r)) (hit (r + 1) n (rank s all m)) (length (of_rank s all r ms)) (hits s all (r + 1) n ms)
-    (hit r (suc n) (rank s all m)) (hits s all r (suc n) ms) (hit-split r n (rank s all m)) (hits-split s all r n ms)
-    ∙ ap (λ (k : ℕ). k + (hit (r + 1) n (rank s all m) + hits s all (r + 1) n ms)) (sym (of_rank-length (rank s all m == r) m (of_rank s all r ms)))
+hits-split all r n [] = refl
+hits-split all r n (x ∷ xs) =
+    four (one_if (rank_among all x == r)) (hit (r + 1) n (rank_among all x)) (length (of_rank all r xs)) (hits all (r + 1) n xs)
+    (hit r (suc n) (rank_among all x)) (hits all r (suc n) xs) (hit-split r n (rank_among all x)) (hits-split all r n xs)
+    ∙ ap (λ (k : ℕ). k + (hit (r + 1) n (rank_among all x) + hits all (r + 1) n xs)) (sym (of_rank-length (rank_among all x == r) x (of_rank all r xs)))
 
-by_rank-length : (s : RawSettings) (all : List Member) (r n : ℕ) → length (by_rank s all r n) ≡ hits s all r n all
-by_rank-length s all r zero = sym (hits-none s all r all)
-by_rank-length s all r (suc n) =
-    length-append (of_rank s all r all) (by_rank s all (r + 1) n)
-    ∙ ap (λ (k : ℕ). length (of_rank s all r all) + k) (by_rank-length s all (r + 1) n)
-    ∙ sym (hits-split s all r n all)
+by_rank-length : (all : List Score) (r n : ℕ) → length (by_rank all r n) ≡ hits all r n all
+by_rank-length all r zero = sym (hits-none all r all)
+by_rank-length all r (suc n) =
+    length-append (of_rank all r all) (by_rank all (r + 1) n)
+    ∙ ap (λ (k : ℕ). length (of_rank all r all) + k) (by_rank-length all (r + 1) n)
+    ∙ sym (hits-split all r n all)
 
 sum-suc : (n : ℕ) → 1 + n ≡ suc n
 sum-suc n = omega arith
 
-hits-all : (s : RawSettings) (all ms : List Member) → ((m : Member) → In m ms → rank s all m ≤ length all) → hits s all 1 (length all) ms ≡ length ms
+hits-all : (all xs : List Score) → ((x : Score) → InScores x xs → rank_among all x ≤ length all) → hits all 1 (length all) xs ≡ length xs
 unfolding hits
-hits-all s all [] most = refl
-hits-all s all (m ∷ ms) most =
-    let one : hit 1 (length all) (rank s all m) ≡ 1 = hit-in 1 (length all) (rank s all m) (omega arith) (omega (arith, most m (inl refl))) in
-    let rest : hits s all 1 (length all) ms ≡ length ms = hits-all s all ms (λ e here. most e (inr here)) in
-    ap₂ (λ (a b : ℕ). a + b) one rest ∙ sum-suc (length ms)
+hits-all all [] most = refl
+hits-all all (x ∷ xs) most =
+    let one : hit 1 (length all) (rank_among all x) ≡ 1 = hit-in 1 (length all) (rank_among all x) (omega arith) (omega (arith, most x (inl refl))) in
+    let rest : hits all 1 (length all) xs ≡ length xs = hits-all all xs (λ y here. most y (inr here)) in
+    ap₂ (λ (a b : ℕ). a + b) one rest ∙ sum-suc (length xs)
 
--- as many are of the ranks from 1 on as there are members
-pub by_rank-all : (s : RawSettings) (all : List Member) → length (by_rank s all 1 (length all)) ≡ length all
-by_rank-all s all = by_rank-length s all 1 (length all) ∙ hits-all s all all (λ m here. rank-most s all m here)
+-- as many are of the ranks from 1 on as there are scores
+pub by_rank-all : (all : List Score) → length (by_rank all 1 (length all)) ≡ length all
+by_rank-all all = by_rank-length all 1 (length all) ∙ hits-all all all (λ x here. rank-most all x here)
 
-by_rank-few : (s : RawSettings) (all : List Member) (r n : ℕ) → RiseFrom 0 all → length (by_rank s all r n) ≤ n
-by_rank-few s all r zero rising = omega arith
-by_rank-few s all r (suc n) rising =
-    let first : length (of_rank s all r all) ≤ 1 = of_rank-one s all r rising in
-    let rest : length (by_rank s all (r + 1) n) ≤ n = by_rank-few s all (r + 1) n rising in
-    let whole : length (by_rank s all r (suc n)) ≡ length (of_rank s all r all) + length (by_rank s all (r + 1) n) = length-append (of_rank s all r all) (by_rank s all (r + 1) n) in
+by_rank-few : (all : List Score) (r n : ℕ) → Rising 0 all → length (by_rank all r n) ≤ n
+by_rank-few all r zero rising = omega arith
+by_rank-few all r (suc n) rising =
+    let first : length (of_rank all r all) ≤ 1 = of_rank-one all r rising in
+    let rest : length (by_rank all (r + 1) n) ≤ n = by_rank-few all (r + 1) n rising in
+    let whole : length (by_rank all r (suc n)) ≡ length (of_rank all r all) + length (by_rank all (r + 1) n) = length-append (of_rank all r all) (by_rank all (r + 1) n) in
     omega (arith, first, rest, whole)
 
-by_rank-full : (s : RawSettings) (all : List Member) (from n r : ℕ) → RiseFrom 0 all → length (by_rank s all from n) ≡ n → from ≤ r → r < from + n → length (of_rank s all r all) ≡ 1
-by_rank-full s all from zero r rising full least most = absurd (omega (arith, least, most))
-by_rank-full s all from (suc n) r rising full least most =
-    let first : length (of_rank s all from all) ≤ 1 = of_rank-one s all from rising in
-    let rest : length (by_rank s all (from + 1) n) ≤ n = by_rank-few s all (from + 1) n rising in
-    let whole : length (by_rank s all from (suc n)) ≡ length (of_rank s all from all) + length (by_rank s all (from + 1) n) = length-append (of_rank s all from all) (by_rank s all (from + 1) n) in
-    let one : length (of_rank s all from all) ≡ 1 = omega (arith, first, rest, whole, full) in
-    let others : length (by_rank s all (from + 1) n) ≡ n = omega (arith, first, rest, whole, full) in
+by_rank-full : (all : List Score) (from n r : ℕ) → Rising 0 all → length (by_rank all from n) ≡ n → from ≤ r → r < from + n → length (of_rank all r all) ≡ 1
+by_rank-full all from zero r rising full least most = absurd (omega (arith, least, most))
+by_rank-full all from (suc n) r rising full least most =
+    let first : length (of_rank all from all) ≤ 1 = of_rank-one all from rising in
+    let rest : length (by_rank all (from + 1) n) ≤ n = by_rank-few all (from + 1) n rising in
+    let whole : length (by_rank all from (suc n)) ≡ length (of_rank all from all) + length (by_rank all (from + 1) n) = length-append (of_rank all from all) (by_rank all (from + 1) n) in
+    let one : length (of_rank all from all) ≡ 1 = omega (arith, first, rest, whole, full) in
+    let others : length (by_rank all (from + 1) n) ≡ n = omega (arith, first, rest, whole, full) in
     elim (cases_eq from r) [
-      | inl same ↦ ap (λ (k : ℕ). length (of_rank s all k all)) (sym same) ∙ one
-      | inr other ↦ by_rank-full s all (from + 1) n r rising others (omega (arith, least, other)) (omega (arith, most))
+      | inl same ↦ ap (λ (k : ℕ). length (of_rank all k all)) (sym same) ∙ one
+      | inr other ↦ by_rank-full all (from + 1) n r rising others (omega (arith, least, other)) (omega (arith, most))
     ]
 
 -- of each rank from 1 on there is one
-pub one-of_rank : (s : RawSettings) (all : List Member) (r : ℕ) → RiseFrom 0 all → 1 ≤ r → r ≤ length all → length (of_rank s all r all) ≡ 1
-one-of_rank s all r rising least most = by_rank-full s all 1 (length all) r rising (by_rank-all s all) least (omega (arith, most))
+pub one-of_rank : (xs : List Score) (r : ℕ) → Rising 0 xs → 1 ≤ r → r ≤ length xs → length (of_rank xs r xs) ≡ 1
+one-of_rank xs r rising least most = by_rank-full xs 1 (length xs) r rising (by_rank-all xs) least (omega (arith, most))

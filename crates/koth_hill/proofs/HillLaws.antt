@@ -1,124 +1,104 @@
 -- The laws of hills.
-use Rattle.std.proofs.Common.{◌≡◌, ℕ, ◌+◌, ◌<◌, ◌≤◌, ◌⊎◌, inl, inr, true, false, List, [], ◌∷◌, ◌++◌, length, map, refl, sym, ap, subst, ◌∙◌, arith, suc, zero, Option, None, Some}
-use Rattle.std.specs.Prelude.{if◌then◌else◌, nat_lt}
-use Rattle.std.proofs.lemmas.Bool.{lt-ltb, le-ltb, cond-true, cond-false, cases_Bool, ne_eqb}
-use Rattle.std.proofs.lemmas.List.{length-map, length_push}
-use Rattle.war_types.specs.declared.settings.RawSettings.{RawSettings}
+use Rattle.std.proofs.Common.{◌≡◌, ℕ, ◌+◌, ◌<◌, ◌≤◌, ◌⊎◌, inl, inr, true, false, List, [], ◌∷◌, length, refl, sym, ap, subst, ◌∙◌, arith, Option, None, Some}
+use Rattle.std.specs.Prelude.{if◌then◌else◌}
+use Rattle.std.proofs.lemmas.Bool.{cond-true, cond-false, cases_lt, cases_Bool, ne_eqb}
 use Rattle.war_types.specs.Warrior.{WarriorParts}
-use Rattle.koth_hill.specs.Hill.{Member, Hill, with_age, RiseFrom, IsHill, points}
-use Rattle.koth_hill.specs.Table.{rank, of_rank, by_rank, row_of, table, RowParts}
-use Rattle.koth_hill.specs.Step.{challenger, enlarged, last_of, falling, is_entry, without, one_older, stays, after_stay, step, verdict}
+use Rattle.koth_hill.specs.declared.score.Score.{Score}
 use Rattle.koth_hill.specs.declared.verdict.Verdict.{Verdict}
-use Rattle.koth_hill.specs.Laws.{In, IsBefore, AreAfter, AreSorted, IsRanking, IsLeast, WasAged, LeastFalls, OthersStay}
+use Rattle.koth_hill.specs.Hill.{Member, Hill, Results, with_age, fights, RiseFrom, IsHill, points}
+use Rattle.koth_hill.specs.Scores.{score_of, scores_of, rank_among}
+use Rattle.koth_hill.specs.Table.{RowParts, table}
+use Rattle.koth_hill.specs.Step.{challenger, enlarged, falling_by, falling, is_entry, without, one_older, stays, after_stay, step, verdict, matches_with}
+use Rattle.koth_hill.specs.Laws.{In, IsRanking, IsLeast, WasAged, LeastFalls, OthersStay}
 use Rattle.koth_hill.proofs.Members.{older}
 use Rattle.koth_hill.proofs.Verdicts.{step-stays, step-falls, judged-falls}
-use Rattle.koth_hill.proofs.Order.{above-cases, above-lower, rank-most, rank-one}
-use Rattle.koth_hill.proofs.Counted.{of_rank-In, of_rank-one, one-of_rank, by_rank-all}
-use Rattle.koth_hill.proofs.Admitted.{In-push, without-In, IsLast, last_of-some, enlarged-rising, falling-one}
+use Rattle.koth_hill.proofs.Order.{InScores, above-cases, above-lower, rank-most, rank-one}
+use Rattle.koth_hill.proofs.Counted.{one-of_rank}
+use Rattle.koth_hill.proofs.Scored.{scores-rising, scores-length, In-scores, table-length, table-sorted}
+use Rattle.koth_hill.proofs.Agrees.{In-left}
+use Rattle.koth_hill.proofs.Admitted.{In-push, without-In, IsLast, last_among-some, enlarged-rising, falling-one, falling-room, falling-last}
 
 -- ---- tables
 
-In-append : (xs ys : List Member) (m : Member) → In m (xs ++ ys) → In m xs ⊎ In m ys
-In-append [] ys m here = inr here
-In-append (x ∷ xs) ys m (inl same) = inl (inl same)
-In-append (x ∷ xs) ys m (inr later) = elim (In-append xs ys m later) [ inl here ↦ inl (inr here) | inr there ↦ inr there ]
-
--- one of the ranks from r on
-record IsFrom (s : RawSettings) (all : List Member) (r : ℕ) (m : Member) : Type 0 where
-  here : In m all
-  least : r ≤ rank s all m
-
-by_rank-In : (s : RawSettings) (all : List Member) (r n : ℕ) (m : Member) → In m (by_rank s all r n) → IsFrom s all r m
-by_rank-In s all r zero m here = absurd here
-by_rank-In s all r (suc n) m here = elim (In-append (of_rank s all r all) (by_rank s all (r + 1) n) m here) [
-  | inl first ↦ let found : In m all × (rank s all m ≡ r) = of_rank-In s all all r m first in record { here = found.0; least = omega (arith, found.1) }
-  | inr later ↦ let found : IsFrom s all (r + 1) m = by_rank-In s all (r + 1) n m later in record { here = found.here; least = omega (arith, found.least) }
-]
-
-are-after : (s : RawSettings) (all : List Member) (m : Member) (later : List Member) → ((e : Member) → In e later → IsBefore (row_of s all m) (row_of s all e)) →
-    AreAfter (row_of s all m) (map (row_of s all) later)
-are-after s all m [] each = tt
-are-after s all m (e ∷ later) each = (each e (inl refl), are-after s all m later (λ x here. each x (inr here)))
-
-block-sorted : (s : RawSettings) (all block later : List Member) → length block ≤ 1 → ((m e : Member) → In m block → In e later → IsBefore (row_of s all m) (row_of s all e)) →
-    AreSorted (map (row_of s all) later) → AreSorted (map (row_of s all) (block ++ later))
-block-sorted s all [] later few each sorted = sorted
-block-sorted s all (m ∷ []) later few each sorted = (are-after s all m later (λ e here. each m e (inl refl) here), sorted)
-block-sorted s all (m ∷ n ∷ block) later few each sorted = absurd (omega (arith, few))
-
-before-row : (s : RawSettings) (all : List Member) (m e : Member) → RiseFrom 0 all → In m all → In e all → rank s all m < rank s all e → IsBefore (row_of s all m) (row_of s all e)
-before-row s all m e rising here there less =
-    above-cases (points s all m) (points s all e) m.entry e.entry (above-lower s all m e rising here there less)
-
-by_rank-sorted : (s : RawSettings) (all : List Member) (r n : ℕ) → RiseFrom 0 all → AreSorted (map (row_of s all) (by_rank s all r n))
-by_rank-sorted s all r zero rising = tt
-by_rank-sorted s all r (suc n) rising =
-    block-sorted s all (of_rank s all r all) (by_rank s all (r + 1) n) (of_rank-one s all r rising)
-    (λ m e first later.
-    let one : In m all × (rank s all m ≡ r) = of_rank-In s all all r m first in
-    let other : IsFrom s all (r + 1) e = by_rank-In s all (r + 1) n e later in
-    before-row s all m e rising one.0 other.here (omega (arith, one.1, other.least)))
-    (by_rank-sorted s all (r + 1) n rising)
-
-table-rows : (h : Hill) → length (table h) ≡ length h.members
+table-ranking : (h : Hill) → IsHill h → IsRanking h (table h)
 unfolding table
-table-rows h = length-map (by_rank h.settings h.members 1 (length h.members)) (row_of h.settings h.members) ∙ by_rank-all h.settings h.members
-
-table-sorted : (h : Hill) → IsHill h → AreSorted (table h)
-unfolding table
-table-sorted h is = by_rank-sorted h.settings h.members 1 (length h.members) is.rising
+table-ranking h is = record {
+  each = table-length (fights h.settings) h.members;
+  sorted = table-sorted (fights h.settings) h.members is.rising;
+  ranks = λ r least most. one-of_rank (scores_of (fights h.settings) h.members) r (scores-rising (fights h.settings) h.members is.rising) least
+      (omega (arith, most, scores-length (fights h.settings) h.members));
+}
 
 pub ranking : (seen h : Hill) (rows : List RowParts) → seen ≡ h → IsHill seen → rows ≡ table h → IsRanking h rows
 ranking seen h rows view hill same =
     let Q : Hill → Type 0 = λ x. IsHill x in
-    let is : IsHill h = subst Q view hill in
     let P : List RowParts → Type 0 = IsRanking h in
-    let given : IsRanking h (table h) = record {
-      each = table-rows h;
-      sorted = table-sorted h is;
-      ranks = λ r least most. one-of_rank h.settings h.members r is.rising least most;
-    } in subst P (sym same) given
+    subst P (sym same) (table-ranking h (subst Q view hill))
 
--- ---- steps
+-- ---- the one that falls
 
-plus-none : (n : ℕ) → n ≡ n + 0
-plus-none n = omega arith
+pub falling-full : (f : Results) (h : Hill) (w : WarriorParts) → IsHill h → h.settings.capacity ≤ length h.members → falling_by f h w ≡ None → ⊥
+falling-full f h w is full none = falling-one f h w is (sym (falling-last f h w full) ∙ none)
 
-falling-room : (h : Hill) (w : WarriorParts) → length h.members < h.settings.capacity → falling h w ≡ None
-falling-room h w room =
-    cond-false (nat_lt h.settings.capacity (length (enlarged h w))) (last_of h.settings (enlarged h w) (enlarged h w)) None
-    (le-ltb h.settings.capacity (length (enlarged h w)) (omega (arith, length_push h.members (challenger h w), room)))
+-- one of another entry than the last has more points, or as many and an earlier entry
+over-last : (f : Results) (all : List Member) (entry : ℕ) (last : IsLast f all all entry) (x : Member) → RiseFrom 0 all → In x all → (x.entry ≡ entry → ⊥) →
+    (points f all last.member < points f all x) ⊎ ((points f all x ≡ points f all last.member) × (x.entry < last.member.entry))
+over-last f all entry last x rising here other =
+    above-cases (points f all x) (points f all last.member) x.entry last.member.entry
+    (above-lower (scores_of f all) own least (scores-rising f all rising) own-here least-here less)
+  where
+    own : Score
+    own = score_of f all x
 
-falling-last : (h : Hill) (w : WarriorParts) → h.settings.capacity ≤ length h.members → falling h w ≡ last_of h.settings (enlarged h w) (enlarged h w)
-falling-last h w full =
-    cond-true (nat_lt h.settings.capacity (length (enlarged h w))) (last_of h.settings (enlarged h w) (enlarged h w)) None
-    (lt-ltb h.settings.capacity (length (enlarged h w)) (omega (arith, length_push h.members (challenger h w), full)))
+    least : Score
+    least = score_of f all last.member
 
-falling-full : (h : Hill) (w : WarriorParts) → IsHill h → h.settings.capacity ≤ length h.members → falling h w ≡ None → ⊥
-falling-full h w is full none = falling-one h w is (sym (falling-last h w full) ∙ none)
+    own-here : InScores own (scores_of f all)
+    own-here = In-scores f all x here
 
-least-of : (h : Hill) (w : WarriorParts) (entry : ℕ) → IsHill h → IsLast h.settings (enlarged h w) (enlarged h w) entry → IsLeast h w entry
+    least-here : InScores least (scores_of f all)
+    least-here = In-scores f all last.member last.here
+
+    apart : rank_among (scores_of f all) own ≡ length all → ⊥
+    apart same = other (rank-one (scores_of f all) own least own-here least-here (same ∙ sym last.last) ∙ last.is)
+
+    most : rank_among (scores_of f all) own ≤ length all
+    most = omega (arith, rank-most (scores_of f all) own own-here, scores-length f all)
+
+    less : rank_among (scores_of f all) own < rank_among (scores_of f all) least
+    less = omega (arith, most, apart, last.last)
+
+least-of : (h : Hill) (w : WarriorParts) (entry : ℕ) → IsHill h → IsLast (fights h.settings) (enlarged h w) (enlarged h w) entry → IsLeast h w entry
 least-of h w entry is last = record {
   member = last.member;
   here = last.here;
   is = last.is;
-  others = λ x here other.
-      let rising : RiseFrom 0 (enlarged h w) = enlarged-rising h w is in
-      let most : rank h.settings (enlarged h w) x ≤ length (enlarged h w) = rank-most h.settings (enlarged h w) x here in
-      let apart : rank h.settings (enlarged h w) x ≡ length (enlarged h w) → ⊥ = λ same.
-      other (rank-one h.settings (enlarged h w) x last.member here last.here (same ∙ sym last.last) ∙ last.is) in
-      let less : rank h.settings (enlarged h w) x < rank h.settings (enlarged h w) last.member = omega (arith, most, apart, last.last) in
-      above-cases (points h.settings (enlarged h w) x) (points h.settings (enlarged h w) last.member) x.entry last.member.entry
-      (above-lower h.settings (enlarged h w) x last.member rising here last.here less);
+  others = λ x here other. over-last (fights h.settings) (enlarged h w) entry last x (enlarged-rising h w is) here other;
 }
 
 falling-least : (h : Hill) (w : WarriorParts) (entry : ℕ) → IsHill h → falling h w ≡ Some entry → IsLeast h w entry
-falling-least h w entry is falls = elim (cases_Bool (nat_lt h.settings.capacity (length (enlarged h w)))) [
-  | inl over ↦ least-of h w entry is (last_of-some h.settings (enlarged h w) (enlarged h w) entry
-      (sym (cond-true (nat_lt h.settings.capacity (length (enlarged h w))) (last_of h.settings (enlarged h w) (enlarged h w)) None over) ∙ falls))
-  | inr within ↦
-      let wrong : None ≡ Some entry = sym (cond-false (nat_lt h.settings.capacity (length (enlarged h w))) (last_of h.settings (enlarged h w) (enlarged h w)) None within) ∙ falls in cc
+falling-least h w entry is falls = elim (cases_lt (length h.members) h.settings.capacity) [
+  | inl room ↦ let wrong : None ≡ Some entry = sym (falling-room (fights h.settings) h w room) ∙ falls in cc
+  | inr full ↦
+      least-of h w entry is (last_among-some (fights h.settings) (enlarged h w) (enlarged h w) entry
+      (sym (falling-last (fights h.settings) h w full) ∙ falls))
 ]
+
+pub least-falls : (seen h : Hill) (w : WarriorParts) (judged : Verdict) → seen ≡ h → IsHill seen → judged ≡ verdict h w → LeastFalls h w judged.falls
+least-falls seen h w judged view hill same =
+    let Q : Hill → Type 0 = λ x. IsHill x in
+    let is : IsHill h = subst Q view hill in
+    let P : Option ℕ → Type 0 = LeastFalls h w in
+    let given : LeastFalls h w (falling h w) = record {
+      room = falling-room (fights h.settings) h w;
+      full = falling-full (fights h.settings) h w is;
+      least = λ entry. falling-least h w entry is;
+    } in subst P (sym (judged-falls (fights h.settings) (matches_with h.settings h.members w) h w judged same)) given
+
+-- ---- those that stay
+
+plus-none : (n : ℕ) → n ≡ n + 0
+plus-none n = omega arith
 
 -- one of those that are one older
 record WasOlder (ms : List Member) (m : Member) : Type 0 where
@@ -159,14 +139,9 @@ step-ages : (h : Hill) (w : WarriorParts) (m : Member) → In m (step h w).membe
 step-ages h w m here =
     let P : Hill → Type 0 = λ x. In m x.members in
     elim (cases_Bool (stays h w)) [
-      | inl stay ↦ aged-stay h w m stay (subst P (step-stays h w stay) here)
-      | inr falls ↦ inr (aged-fall h w m falls (subst P (step-falls h w falls) here))
+      | inl stay ↦ aged-stay h w m stay (subst P (step-stays (fights h.settings) h w stay) here)
+      | inr falls ↦ inr (aged-fall h w m falls (subst P (step-falls (fights h.settings) h w falls) here))
     ]
-
-In-left : (xs ys : List Member) (m : Member) → In m xs → In m (xs ++ ys)
-In-left [] ys m here = absurd here
-In-left (x ∷ xs) ys m (inl same) = inl same
-In-left (x ∷ xs) ys m (inr later) = inr (In-left xs ys m later)
 
 In-one_older : (ms : List Member) (m : Member) → In m ms → In (older m) (one_older ms)
 In-one_older [] m here = absurd here
@@ -204,23 +179,12 @@ step-keeps h w m here apart =
     let R : ℕ → Type 0 = λ n. In (with_age n m) h.members in
     elim (cases_Bool (stays h w)) [
       | inl stay ↦
-          subst P (sym (step-stays h w stay)) (subst Q (sym (cond-true (stays h w) 1 0 stay))
+          subst P (sym (step-stays (fights h.settings) h w stay)) (subst Q (sym (cond-true (stays h w) 1 0 stay))
           (In-left (one_older (without (falling h w) h.members)) (challenger h w ∷ []) (older m)
           (In-one_older (without (falling h w) h.members) m (In-without (falling h w) h.members m here (entry-apart m.entry (falling h w) apart)))))
       | inr falls ↦
-          subst P (sym (step-falls h w falls)) (subst R (plus-none m.age ∙ ap (λ (n : ℕ). m.age + n) (sym (cond-false (stays h w) 1 0 falls))) here)
+          subst P (sym (step-falls (fights h.settings) h w falls)) (subst R (plus-none m.age ∙ ap (λ (n : ℕ). m.age + n) (sym (cond-false (stays h w) 1 0 falls))) here)
     ]
-
-pub least-falls : (seen h : Hill) (w : WarriorParts) (judged : Verdict) → seen ≡ h → IsHill seen → judged ≡ verdict h w → LeastFalls h w judged.falls
-least-falls seen h w judged view hill same =
-    let Q : Hill → Type 0 = λ x. IsHill x in
-    let is : IsHill h = subst Q view hill in
-    let P : Option ℕ → Type 0 = LeastFalls h w in
-    let given : LeastFalls h w (falling h w) = record {
-      room = falling-room h w;
-      full = falling-full h w is;
-      least = λ entry. falling-least h w entry is;
-    } in subst P (sym (judged-falls h w judged same)) given
 
 pub others-stay : (h : Hill) (w : WarriorParts) (new : Hill) → new ≡ step h w → OthersStay h w new
 others-stay h w new same =

@@ -1,16 +1,14 @@
 -- The members of a hill: those that fall, those that stay, and their order.
-use Rattle.std.proofs.Common.{◌≡◌, ℕ, ◌+◌, ◌-◌, ◌<◌, ◌≤◌, Result, Ok, Err, Bool, true, false, cond, List, [], ◌∷◌, ◌++◌, length, take, drop, map, set, get_or, refl, sym, ap, subst, ◌∙◌, arith, Option, None, Some, suc, zero}
-use Rattle.std.specs.Prelude.{◌==◌, if◌then◌else◌, nat_lt}
-use Rattle.std.specs.Result.{is_ok}
+use Rattle.std.proofs.Common.{◌≡◌, ℕ, ◌+◌, ◌-◌, ◌<◌, ◌≤◌, Bool, true, false, cond, List, [], ◌∷◌, ◌++◌, length, map, get_or, refl, sym, ap, ◌∙◌, arith, Option, None, Some, suc, zero}
+use Rattle.std.specs.Prelude.{◌==◌, nat_lt}
 use Rattle.std.specs.List.{remove, position, position_or_len}
 use Rattle.std.proofs.lemmas.List.Sums.{fails_before_first}
 use Rattle.std.proofs.lemmas.Bool.{ltb-false, eqb-true, ne_eqb, cond-true, cond-false}
-use Rattle.std.proofs.lemmas.List.{length_push, take_all, drop_all, append-nil}
-use Rattle.std.proofs.lemmas.List.Edits.{map_over_more}
+use Rattle.std.proofs.lemmas.List.{length_push}
 use Rattle.std.proofs.lemmas.List.Elements.{All-push}
 use Rattle.std.proofs.lemmas.List.Quantifiers.{position-Some}
-use Rattle.war_types.specs.Warrior.{WarriorParts, Fits}
-use Rattle.koth_hill.specs.Hill.{Member, Hill, hill_of, member_of, with_age, last_entry, last_entry_from, RiseFrom, MayStand, IsHill}
+use Rattle.war_types.specs.Warrior.{Fits}
+use Rattle.koth_hill.specs.Hill.{Member, Hill, hill_of, with_age, last_entry, last_entry_from, RiseFrom, MayStand, IsHill}
 use Rattle.koth_hill.specs.Step.{is_entry, without, one_older}
 
 abbrev pub older : Member → Member
@@ -80,22 +78,7 @@ removed-first (Some entry) before ms i d rising found =
 pub removed-none : (fallen : Option ℕ) (ms : List Member) → position (λ m. is_entry m.entry fallen) ms ≡ None → ms ≡ without fallen ms
 removed-none fallen ms none = sym (no_entry fallen ms none)
 
--- ---- ages
-
-pub older_more : (ms now : List Member) (n : ℕ) (m grown : Member) → n < length ms → now ≡ map older (take n ms) ++ drop n ms → m ≡ get_or now n m → grown ≡ older (get_or now n m) →
-    set now n grown ≡ map older (take (n + 1) ms) ++ drop (n + 1) ms
-older_more ms now n m grown within are here is = rw (is ∙ ap older (sym here)) (map_over_more older ms now n m within are here)
-
-pub older_all : (ms now : List Member) (n : ℕ) → length ms ≤ n → now ≡ map older (take n ms) ++ drop n ms → now ≡ one_older ms
-older_all ms now n past are =
-    are ∙ ap (λ front. map older front ++ drop n ms) (take_all n ms past)
-    ∙ ap (λ back. map older ms ++ back) (drop_all n ms past) ∙ append-nil (map older ms) ∙ sym (one_older-map ms)
-
 -- ---- hills
-
-pub pushed : {T E : Type 0} (r : Result T E) (old new items : List Member) → is_ok r ≡ true → items ≡ (if is_ok r then new else old) → items ≡ new
-pushed (Ok x) old new items ok is = is
-pushed (Err e) old new items ok is = cc
 
 -- a member behind those on a hill
 pub IsHill-put_back : (h : Hill) (m : Member) → IsHill h → length h.members < h.settings.capacity → last_entry h.members < m.entry → m.entry ≤ h.counter → m.age ≤ h.counter - m.entry → Fits h.settings m.warrior →
@@ -106,16 +89,3 @@ IsHill-put_back h m is room above counted age fits = record {
   rising = RiseFrom-push 0 h.members m is.rising above;
   members = All-push (MayStand h.settings h.counter) h.members m is.members (record { entry = counted; age = age; fits = fits });
 }
-
-pub put_back-kept : (h now : Hill) (entry age : ℕ) (w : WarriorParts) (m : Member) (items : List Member) → h ≡ now → IsHill h →
-    length now.members < now.settings.capacity → last_entry now.members < entry → entry ≤ now.counter → age ≤ now.counter - entry → Fits now.settings w →
-    m ≡ member_of entry age w → items ≡ h.members ++ m ∷ [] → IsHill (hill_of h.settings h.counter items)
-put_back-kept h now entry age w m items same is room above counted old fits made pushed_are =
-    let Room : Hill → Type 0 = λ x. length x.members < x.settings.capacity in
-    let Above : Hill → Type 0 = λ x. last_entry x.members < entry in
-    let Counted : Hill → Type 0 = λ x. entry ≤ x.counter in
-    let Old : Hill → Type 0 = λ x. age ≤ x.counter - entry in
-    let CanFight : Hill → Type 0 = λ x. Fits x.settings w in
-    let Due : List Member → Type 0 = λ xs. IsHill (hill_of h.settings h.counter xs) in
-    subst Due (sym (pushed_are ∙ ap (λ (x : Member). h.members ++ x ∷ []) made))
-    (IsHill-put_back h (member_of entry age w) is (subst Room (sym same) room) (subst Above (sym same) above) (subst Counted (sym same) counted) (subst Old (sym same) old) (subst CanFight (sym same) fits))

@@ -1,11 +1,10 @@
--- The order of members by points and then by entry, and their ranks.
+-- The order of scores by points and then by entry, and their ranks.
 use Rattle.std.proofs.Common.{◌≡◌, ℕ, ◌+◌, ◌<◌, ◌≤◌, ◌⊎◌, inl, inr, Bool, true, false, List, [], ◌∷◌, length, refl, sym, ap, ◌∙◌, arith, suc}
-use Rattle.std.specs.Prelude.{◌==◌, if◌then◌else◌, nat_lt, ◌||◌, ◌&&◌}
+use Rattle.std.specs.Prelude.{◌==◌, if◌then◌else◌, nat_lt, ◌||◌, ◌&&◌, count_by}
 use Rattle.std.proofs.lemmas.Bool.{ltb-true, ltb-false, lt-ltb, le-ltb, eqb-true, eqb-false, eq-eqb, or_cases, or_left, or_right, or_from, or_parts, and_parts, and_from, and_right, and_cases, false_from_ne_true, cases_Bool}
-use Rattle.war_types.specs.declared.settings.RawSettings.{RawSettings}
-use Rattle.koth_hill.specs.Hill.{Member, points, RiseFrom}
-use Rattle.koth_hill.specs.Laws.{In}
-use Rattle.koth_hill.specs.Table.{is_above, count_above, rank}
+use Rattle.std.proofs.lemmas.List.Recursion.{is_count_by}
+use Rattle.koth_hill.specs.declared.score.Score.{Score}
+use Rattle.koth_hill.specs.Scores.{outranks, rank_among}
 
 -- ---- on numbers: points p at entry a are above points q at entry b
 
@@ -53,26 +52,46 @@ above-total p q a b fails lacks =
     let two : a ≤ b = below-entry q p b a most lacks least in
     omega arith
 
--- ---- members of a list
+-- ---- scores of a list
 
-pub In-above : (before : ℕ) (ms : List Member) (m : Member) → RiseFrom before ms → In m ms → before < m.entry
-In-above before [] m rising here = absurd here
-In-above before (x ∷ ms) m rising (inl same) = let e : m.entry ≡ x.entry = ap (λ (y : Member). y.entry) same in omega (arith, e, rising.0)
-In-above before (x ∷ ms) m rising (inr later) = omega (arith, rising.0, In-above x.entry ms m rising.1 later)
+-- entries rise from one score to the next, behind the entry of one before them
+abbrev pub Rising : ℕ → List Score → Type 0
+Rising before [] = Unit {0}
+Rising before (x ∷ xs) = (before < x.entry) × Rising x.entry xs
+
+-- one of these scores
+abbrev pub InScores : Score → List Score → Type 0
+InScores x [] = ⊥
+InScores x (y ∷ ys) = (x ≡ y) ⊎ InScores x ys
+
+pub InScores-above : (before : ℕ) (xs : List Score) (x : Score) → Rising before xs → InScores x xs → before < x.entry
+InScores-above before [] x rising here = absurd here
+InScores-above before (y ∷ xs) x rising (inl same) = let e : x.entry ≡ y.entry = ap (λ (z : Score). z.entry) same in omega (arith, e, rising.0)
+InScores-above before (y ∷ xs) x rising (inr later) = omega (arith, rising.0, InScores-above y.entry xs x rising.1 later)
 
 -- two of one entry are one
-pub In-distinct : (before : ℕ) (ms : List Member) (m e : Member) → RiseFrom before ms → In m ms → In e ms → m.entry ≡ e.entry → m ≡ e
-In-distinct before [] m e rising here there same = absurd here
-In-distinct before (x ∷ ms) m e rising (inl a) (inl b) same = a ∙ sym b
-In-distinct before (x ∷ ms) m e rising (inl a) (inr later) same =
-    let first : m.entry ≡ x.entry = ap (λ (y : Member). y.entry) a in
-    absurd (omega (arith, first, same, In-above x.entry ms e rising.1 later))
-In-distinct before (x ∷ ms) m e rising (inr later) (inl b) same =
-    let first : e.entry ≡ x.entry = ap (λ (y : Member). y.entry) b in
-    absurd (omega (arith, first, same, In-above x.entry ms m rising.1 later))
-In-distinct before (x ∷ ms) m e rising (inr here) (inr there) same = In-distinct x.entry ms m e rising.1 here there same
+pub InScores-distinct : (before : ℕ) (xs : List Score) (x y : Score) → Rising before xs → InScores x xs → InScores y xs → x.entry ≡ y.entry → x ≡ y
+InScores-distinct before [] x y rising here there same = absurd here
+InScores-distinct before (z ∷ xs) x y rising (inl a) (inl b) same = a ∙ sym b
+InScores-distinct before (z ∷ xs) x y rising (inl a) (inr later) same =
+    let first : x.entry ≡ z.entry = ap (λ (v : Score). v.entry) a in
+    absurd (omega (arith, first, same, InScores-above z.entry xs y rising.1 later))
+InScores-distinct before (z ∷ xs) x y rising (inr later) (inl b) same =
+    let first : y.entry ≡ z.entry = ap (λ (v : Score). v.entry) b in
+    absurd (omega (arith, first, same, InScores-above z.entry xs x rising.1 later))
+InScores-distinct before (z ∷ xs) x y rising (inr here) (inr there) same = InScores-distinct z.entry xs x y rising.1 here there same
 
--- ---- who is above more is of a lower rank
+-- ---- how many outrank a score
+
+abbrev pub outranking : Score → List Score → ℕ
+outranking x [] = 0
+outranking x (y ∷ ys) = if outranks y x then 1 + outranking x ys else outranking x ys
+
+pub outranking-count : (x : Score) (ys : List Score) → outranking x ys ≡ count_by (λ y. outranks y x) ys
+outranking-count x ys = is_count_by (outranking x) (λ y. outranks y x) refl (λ y zs. refl) ys
+
+pub rank-outranking : (xs : List Score) (x : Score) → rank_among xs x ≡ 1 + outranking x xs
+rank-outranking xs x = ap (λ (n : ℕ). 1 + n) (sym (outranking-count x xs))
 
 step_le : (b d : Bool) (p q : ℕ) → (b ≡ true → d ≡ true) → p ≤ q → (if b then 1 + p else p) ≤ (if d then 1 + q else q)
 step_le true true p q so le = omega arith
@@ -91,34 +110,41 @@ step_here true d p q fails holds le = cc
 step_here false true p q fails holds le = omega arith
 step_here false false p q fails holds le = cc
 
-is_above-trans : (s : RawSettings) (all : List Member) (x e m : Member) → is_above s all x e ≡ true → is_above s all e m ≡ true → is_above s all x m ≡ true
-is_above-trans s all x e m one two = above-trans (points s all x) (points s all e) (points s all m) x.entry e.entry m.entry one two
+outranks-self : (x y : Score) → x ≡ y → outranks y x ≡ false
+outranks-self x y same = ap (λ (z : Score). outranks z x) (sym same) ∙ above-self x.points x.entry
 
-count-mono : (s : RawSettings) (all ms : List Member) (e m : Member) → is_above s all e m ≡ true → count_above s all ms e ≤ count_above s all ms m
-count-mono s all [] e m over = omega arith
-count-mono s all (x ∷ ms) e m over =
-    step_le (is_above s all x e) (is_above s all x m) (count_above s all ms e) (count_above s all ms m) (λ h. is_above-trans s all x e m h over) (count-mono s all ms e m over)
+pub outranks-trans : (x y z : Score) → outranks x y ≡ true → outranks y z ≡ true → outranks x z ≡ true
+outranks-trans x y z one two = above-trans x.points y.points z.points x.entry y.entry z.entry one two
 
-count-less : (s : RawSettings) (all ms : List Member) (e m : Member) → In e ms → is_above s all e m ≡ true → count_above s all ms e < count_above s all ms m
-count-less s all [] e m here over = absurd here
-count-less s all (x ∷ ms) e m (inl same) over =
-    step_here (is_above s all x e) (is_above s all x m) (count_above s all ms e) (count_above s all ms m)
-    (ap (λ (y : Member). is_above s all y e) (sym same) ∙ above-self (points s all e) e.entry)
-    (ap (λ (y : Member). is_above s all y m) (sym same) ∙ over)
-    (count-mono s all ms e m over)
-count-less s all (x ∷ ms) e m (inr later) over =
-    step_lt (is_above s all x e) (is_above s all x m) (count_above s all ms e) (count_above s all ms m) (λ h. is_above-trans s all x e m h over) (count-less s all ms e m later over)
+-- neither outranks the other
+outranks-neither : (x y : Score) → outranks x y ≡ false → outranks y x ≡ false → x.entry ≡ y.entry
+outranks-neither x y fails lacks = above-total x.points y.points x.entry y.entry fails lacks
 
-pub rank-less : (s : RawSettings) (all : List Member) (e m : Member) → In e all → is_above s all e m ≡ true → rank s all e < rank s all m
-rank-less s all e m here over = let less : count_above s all all e < count_above s all all m = count-less s all all e m here over in omega (arith, less)
+-- ---- who outranks more is of a lower rank
+
+outranking-mono : (xs : List Score) (x y : Score) → outranks x y ≡ true → outranking x xs ≤ outranking y xs
+outranking-mono [] x y over = omega arith
+outranking-mono (z ∷ xs) x y over =
+    step_le (outranks z x) (outranks z y) (outranking x xs) (outranking y xs) (λ h. outranks-trans z x y h over) (outranking-mono xs x y over)
+
+outranking-less : (xs : List Score) (x y : Score) → InScores x xs → outranks x y ≡ true → outranking x xs < outranking y xs
+outranking-less [] x y here over = absurd here
+outranking-less (z ∷ xs) x y (inl same) over =
+    step_here (outranks z x) (outranks z y) (outranking x xs) (outranking y xs) (outranks-self x z same)
+    (ap (λ (v : Score). outranks v y) (sym same) ∙ over) (outranking-mono xs x y over)
+outranking-less (z ∷ xs) x y (inr later) over =
+    step_lt (outranks z x) (outranks z y) (outranking x xs) (outranking y xs) (λ h. outranks-trans z x y h over) (outranking-less xs x y later over)
+
+pub rank-less : (xs : List Score) (x y : Score) → InScores x xs → outranks x y ≡ true → rank_among xs x < rank_among xs y
+rank-less xs x y here over = omega (arith, rank-outranking xs x, rank-outranking xs y, outranking-less xs x y here over)
 
 step_most : (b : Bool) (p n : ℕ) → p ≤ n → (if b then 1 + p else p) ≤ suc n
 step_most true p n le = omega arith
 step_most false p n le = omega arith
 
-count-most : (s : RawSettings) (all ms : List Member) (e : Member) → count_above s all ms e ≤ length ms
-count-most s all [] e = omega arith
-count-most s all (x ∷ ms) e = step_most (is_above s all x e) (count_above s all ms e) (length ms) (count-most s all ms e)
+outranking-most : (xs : List Score) (x : Score) → outranking x xs ≤ length xs
+outranking-most [] x = omega arith
+outranking-most (z ∷ xs) x = step_most (outranks z x) (outranking x xs) (length xs) (outranking-most xs x)
 
 step_not : (b : Bool) (p n : ℕ) → b ≡ false → p ≤ n → (if b then 1 + p else p) < suc n
 step_not true p n fails le = cc
@@ -128,32 +154,30 @@ step_below : (b : Bool) (p n : ℕ) → p < n → (if b then 1 + p else p) < suc
 step_below true p n lt = omega arith
 step_below false p n lt = omega arith
 
-count-below : (s : RawSettings) (all ms : List Member) (e : Member) → In e ms → count_above s all ms e < length ms
-count-below s all [] e here = absurd here
-count-below s all (x ∷ ms) e (inl same) =
-    step_not (is_above s all x e) (count_above s all ms e) (length ms) (ap (λ (y : Member). is_above s all y e) (sym same) ∙ above-self (points s all e) e.entry) (count-most s all ms e)
-count-below s all (x ∷ ms) e (inr later) = step_below (is_above s all x e) (count_above s all ms e) (length ms) (count-below s all ms e later)
+outranking-below : (xs : List Score) (x : Score) → InScores x xs → outranking x xs < length xs
+outranking-below [] x here = absurd here
+outranking-below (z ∷ xs) x (inl same) = step_not (outranks z x) (outranking x xs) (length xs) (outranks-self x z same) (outranking-most xs x)
+outranking-below (z ∷ xs) x (inr later) = step_below (outranks z x) (outranking x xs) (length xs) (outranking-below xs x later)
 
-pub rank-most : (s : RawSettings) (all : List Member) (e : Member) → In e all → rank s all e ≤ length all
-rank-most s all e here = let less : count_above s all all e < length all = count-below s all all e here in omega (arith, less)
+pub rank-most : (xs : List Score) (x : Score) → InScores x xs → rank_among xs x ≤ length xs
+rank-most xs x here = omega (arith, rank-outranking xs x, outranking-below xs x here)
 
 -- of one rank is one entry
-pub rank-one : (s : RawSettings) (all : List Member) (e m : Member) → In e all → In m all → rank s all e ≡ rank s all m → e.entry ≡ m.entry
-rank-one s all e m here there same =
-    above-total (points s all e) (points s all m) e.entry m.entry
-    (false_from_ne_true (is_above s all e m) (λ over. let less : rank s all e < rank s all m = rank-less s all e m here over in omega (arith, less, same)))
-    (false_from_ne_true (is_above s all m e) (λ over. let less : rank s all m < rank s all e = rank-less s all m e there over in omega (arith, less, same)))
+pub rank-one : (xs : List Score) (x y : Score) → InScores x xs → InScores y xs → rank_among xs x ≡ rank_among xs y → x.entry ≡ y.entry
+rank-one xs x y here there same =
+    outranks-neither x y
+    (false_from_ne_true (outranks x y) (λ over. let less : rank_among xs x < rank_among xs y = rank-less xs x y here over in omega (arith, less, same)))
+    (false_from_ne_true (outranks y x) (λ over. let less : rank_among xs y < rank_among xs x = rank-less xs y x there over in omega (arith, less, same)))
 
 -- who has a lower rank is above
-pub above-lower : (s : RawSettings) (all : List Member) (m e : Member) → RiseFrom 0 all → In m all → In e all → rank s all m < rank s all e → is_above s all m e ≡ true
-above-lower s all m e rising here there less = elim (cases_Bool (is_above s all m e)) [
+pub above-lower : (xs : List Score) (x y : Score) → Rising 0 xs → InScores x xs → InScores y xs → rank_among xs x < rank_among xs y → outranks x y ≡ true
+above-lower xs x y rising here there less = elim (cases_Bool (outranks x y)) [
   | inl holds ↦ holds
-  | inr fails ↦ elim (cases_Bool (is_above s all e m)) [
-    | inl over ↦ let wrong : rank s all e < rank s all m = rank-less s all e m there over in absurd (omega (arith, wrong, less))
+  | inr fails ↦ elim (cases_Bool (outranks y x)) [
+    | inl over ↦ let wrong : rank_among xs y < rank_among xs x = rank-less xs y x there over in absurd (omega (arith, wrong, less))
     | inr lacks ↦
-        let entry : m.entry ≡ e.entry = above-total (points s all m) (points s all e) m.entry e.entry fails lacks in
-        let one : m ≡ e = In-distinct 0 all m e rising here there entry in
-        let same : rank s all m ≡ rank s all e = ap (λ (y : Member). rank s all y) one in
+        let one : x ≡ y = InScores-distinct 0 xs x y rising here there (outranks-neither x y fails lacks) in
+        let same : rank_among xs x ≡ rank_among xs y = ap (λ (z : Score). rank_among xs z) one in
         absurd (omega (arith, same, less))
   ]
 ]

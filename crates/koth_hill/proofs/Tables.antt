@@ -2,16 +2,16 @@
 use Rattle.std.proofs.Common.{◌≡◌, ℕ, ◌+◌, ◌-◌, ◌<◌, ◌≤◌, List, [], ◌∷◌, ◌++◌, length, map, drop, get_or, sym, ap, ap₂, ◌∙◌, arith, suc, None, append_assoc}
 use Rattle.std.specs.Prelude.{◌==◌, if◌then◌else◌}
 use Rattle.std.proofs.lemmas.Bool.{cond-true, cond-false, eq-eqb, ne_eqb}
-use Rattle.std.proofs.lemmas.List.{append-nil, map-append, length-map, drop_more, get_or_default}
-use Rattle.war_types.specs.declared.settings.RawSettings.{RawSettings}
+use Rattle.std.proofs.lemmas.List.{append-nil, length-map, drop_more, get_or_default, get_or-map}
+use Rattle.koth_match.specs.declared.bout.Bout.{Bout}
 use Rattle.koth_hill.specs.declared.score.Score.{Score}
-use Rattle.koth_hill.specs.Hill.{Member, Hill}
-use Rattle.koth_hill.specs.Table.{of_rank, by_rank, row_of, table, table_of, RowParts}
-use Rattle.koth_hill.specs.Rows.{row_with}
-use Rattle.koth_hill.specs.Step.{without}
-use Rattle.koth_hill.specs.Scores.{field, score_of, scores_of, rank_among, rows_of_rank}
-use Rattle.koth_hill.proofs.Members.{without-None}
-use Rattle.koth_hill.proofs.Ranks.{rows-of_rank}
+use Rattle.koth_hill.specs.declared.standings.Standing.{Standing}
+use Rattle.koth_hill.specs.Hill.{Member}
+use Rattle.koth_hill.specs.Scores.{rank_among, scores_of}
+use Rattle.koth_hill.specs.Table.{RowParts, row_with, rows_of_rank, rows_by_rank, table_by}
+use Rattle.koth_hill.specs.Kept.{Entrant, entries_of, members_of, rows_of, kept_results}
+use Rattle.koth_hill.specs.Standings.{StandingParts, standing_of, standing_parts, entries_in, kept_in, left, scores_among}
+use Rattle.koth_hill.proofs.ByEntry.{kept_among, scores-entries, left-None, entries-entrants, rows-entrants}
 
 -- the rows of a rank, from the i-th member on
 pub rows_of_rank-more : (all : List Score) (r : ℕ) (ms : List Member) (xs : List Score) (i : ℕ) (m : Member) (x : Score) → i < length ms → i < length xs → m ≡ get_or ms i m → x ≡ get_or xs i x →
@@ -63,39 +63,55 @@ row-passed all r ms xs i m d done due within beside here other before =
     rest : List RowParts
     rest = rows_of_rank all r (drop (i + 1) ms) (drop (i + 1) xs)
 
--- without a challenger, the scores are those of the members
-pub scores-members : (s : RawSettings) (ms : List Member) (scores : List Score) → scores ≡ scores_of s (field ms None None) → scores ≡ scores_of s ms
-scores-members s ms scores are = are ∙ ap (scores_of s) (append-nil (without None ms) ∙ without-None ms)
+-- ---- members that are shown
+
+-- the member at a place
+pub member-at : (es : List Entrant) (i : ℕ) (e : Entrant) → i < length es → e ≡ get_or es i e → e.member ≡ get_or (members_of es) i e.member
+member-at es i e within here = ap (λ (x : Entrant). x.member) here ∙ sym (get_or-map (λ (x : Entrant). x.member) es i e e.member within)
+
+-- ---- ranks
 
 -- one rank more
-pub rank-more : (s : RawSettings) (ms : List Member) (scores : List Score) (rows new due : List RowParts) (place n : ℕ) → place < n → scores ≡ scores_of s ms →
-    rows ++ map (row_of s ms) (by_rank s ms (place + 1) (n - place)) ≡ due → new ≡ rows ++ rows_of_rank scores (place + 1) ms scores →
-    new ++ map (row_of s ms) (by_rank s ms (place + 1 + 1) (n - (place + 1))) ≡ due
-rank-more s ms scores rows new due place n within are before pushed =
-    ap (λ (xs : List RowParts). xs ++ map (row_of s ms) later) (pushed ∙ ap (λ (xs : List Score). rows ++ rows_of_rank xs (place + 1) ms xs) are ∙ ap (λ (xs : List RowParts). rows ++ xs) (rows-of_rank s ms ms (place + 1)))
-    ∙ append_assoc rows (map (row_of s ms) here) (map (row_of s ms) later)
-    ∙ ap (λ (xs : List RowParts). rows ++ xs) (sym (map-append (row_of s ms) here later))
-    ∙ ap (λ (k : ℕ). rows ++ map (row_of s ms) (by_rank s ms (place + 1) k)) (sym split)
+pub rank-more : (ms : List Member) (scores : List Score) (rows new due : List RowParts) (place n : ℕ) → place < n →
+    rows ++ rows_by_rank scores ms (place + 1) (n - place) ≡ due → new ≡ rows ++ rows_of_rank scores (place + 1) ms scores →
+    new ++ rows_by_rank scores ms (place + 1 + 1) (n - (place + 1)) ≡ due
+rank-more ms scores rows new due place n within before pushed =
+    ap (λ (xs : List RowParts). xs ++ later) pushed
+    ∙ append_assoc rows (rows_of_rank scores (place + 1) ms scores) later
+    ∙ ap (λ (k : ℕ). rows ++ rows_by_rank scores ms (place + 1) k) (sym split)
     ∙ before
   where
-    here : List Member
-    here = of_rank s ms (place + 1) ms
-
-    later : List Member
-    later = by_rank s ms (place + 1 + 1) (n - (place + 1))
+    later : List RowParts
+    later = rows_by_rank scores ms (place + 1 + 1) (n - (place + 1))
 
     split : n - place ≡ suc (n - (place + 1))
     split = omega arith
 
-pub rank-last : (s : RawSettings) (ms : List Member) (rows due : List RowParts) (place n : ℕ) → n ≤ place →
-    rows ++ map (row_of s ms) (by_rank s ms (place + 1) (n - place)) ≡ due → rows ≡ due
-rank-last s ms rows due place n past before =
+pub rank-last : (ms : List Member) (scores : List Score) (rows due : List RowParts) (place n : ℕ) → n ≤ place →
+    rows ++ rows_by_rank scores ms (place + 1) (n - place) ≡ due → rows ≡ due
+rank-last ms scores rows due place n past before =
     let none : n - place ≡ 0 = omega arith in
-    sym (append-nil rows) ∙ ap (λ (k : ℕ). rows ++ map (row_of s ms) (by_rank s ms (place + 1) k)) (sym none) ∙ before
+    sym (append-nil rows) ∙ ap (λ (k : ℕ). rows ++ rows_by_rank scores ms (place + 1) k) (sym none) ∙ before
 
-pub scores-length : (s : RawSettings) (ms : List Member) (found scores : List Score) → found ≡ scores → scores ≡ scores_of s (field ms None None) → length found ≡ length ms
-scores-length s ms found scores same are = ap length (same ∙ scores-members s ms scores are) ∙ length-map ms (score_of s ms)
+-- ---- scores that are kept
 
-pub table-is : (h now : Hill) (ms : List Member) → h ≡ now → ms ≡ h.members → table_of h.settings ms ≡ table now
-unfolding table
-table-is h now ms same members = ap (table_of h.settings) members ∙ ap (λ (x : Hill). table_of x.settings x.members) same
+-- the scores that are found are those of the members by what is kept
+pub scores-kept : (es : List Entrant) (ss : List Standing) (scores : List Score) → map standing_parts ss ≡ map standing_of es →
+    scores ≡ scores_among (kept_in (map standing_parts ss)) (left None (entries_in (map standing_parts ss))) →
+    scores ≡ scores_of (kept_results (entries_of (members_of es)) (rows_of es)) (members_of es)
+scores-kept es ss scores same found =
+    found
+    ∙ ap (λ (xs : List StandingParts). scores_among (kept_in xs) (left None (entries_in xs))) same
+    ∙ ap₂ (λ (r : ℕ → ℕ → Bout) (xs : List ℕ). scores_among r xs)
+    (ap₂ (λ (xs : List ℕ) (rows : List (List Bout)). kept_among xs rows) (entries-entrants es) (rows-entrants es))
+    (left-None (entries_in (map standing_of es)) ∙ entries-entrants es)
+    ∙ sym (scores-entries (kept_among (entries_of (members_of es)) (rows_of es)) (members_of es))
+
+pub scores-beside : (es : List Entrant) (scores : List Score) → scores ≡ scores_of (kept_results (entries_of (members_of es)) (rows_of es)) (members_of es) → length scores ≡ length es
+scores-beside es scores are =
+    ap length are ∙ length-map (members_of es) _ ∙ length-map es (λ (e : Entrant). e.member)
+
+pub table-kept : (es : List Entrant) (scores : List Score) (due : List RowParts) → scores ≡ scores_of (kept_results (entries_of (members_of es)) (rows_of es)) (members_of es) →
+    due ≡ rows_by_rank scores (members_of es) 1 (length es) → due ≡ table_by (kept_results (entries_of (members_of es)) (rows_of es)) (members_of es)
+table-kept es scores due are is =
+    is ∙ ap₂ (λ (xs : List Score) (n : ℕ). rows_by_rank xs (members_of es) 1 n) are (sym (length-map es (λ (e : Entrant). e.member)))

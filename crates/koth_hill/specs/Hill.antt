@@ -34,16 +34,24 @@ older_points b = 3 * b.older_wins + b.ties
 abbrev pub younger_points : Bout → ℕ
 younger_points b = 3 * b.younger_wins + b.ties
 
+-- what the match of two came to: the entry and the warrior of the older, then those of the younger
+abbrev pub Results : Type 0
+Results = ℕ → WarriorParts → ℕ → WarriorParts → Bout
+
+-- every pair fought anew
+abbrev pub fights : RawSettings → Results
+fights s older_entry older younger_entry younger = match_of s older younger
+
 -- what one earns in its match against another: the earlier entry is the older warrior, and nobody fights itself
-abbrev pub points_against : RawSettings → Member → Member → ℕ
-points_against s e m =
-    if nat_lt e.entry m.entry then older_points (match_of s e.warrior m.warrior) else (
-    if nat_lt m.entry e.entry then younger_points (match_of s m.warrior e.warrior) else 0)
+abbrev pub points_against : Results → Member → Member → ℕ
+points_against f e m =
+    if nat_lt e.entry m.entry then older_points (f e.entry e.warrior m.entry m.warrior) else (
+    if nat_lt m.entry e.entry then younger_points (f m.entry m.warrior e.entry e.warrior) else 0)
 
 -- what one earns against all of these
-abbrev pub points : RawSettings → List Member → Member → ℕ
-points s [] e = 0
-points s (m ∷ ms) e = points_against s e m + points s ms e
+abbrev pub points : Results → List Member → Member → ℕ
+points f [] e = 0
+points f (m ∷ ms) e = points_against f e m + points f ms e
 
 abbrev pub AllFit : RawSettings → List Member → Type 0
 AllFit s ms = All (λ m. Fits s m.warrior) ms

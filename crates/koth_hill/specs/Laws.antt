@@ -1,8 +1,9 @@
 -- Laws of hills, for every hill and every warrior.
 use Rattle.std.specs.Prelude.{◌≡◌, ℕ, ◌+◌, ◌<◌, ◌≤◌, ◌⊎◌, if◌then◌else◌, List, [], ◌∷◌, length, Option, Some, None}
 use Rattle.war_types.specs.Warrior.{WarriorParts}
-use Rattle.koth_hill.specs.Hill.{Member, Hill, with_age, points}
-use Rattle.koth_hill.specs.Table.{of_rank, RowParts}
+use Rattle.koth_hill.specs.Hill.{Member, Hill, with_age, fights, points}
+use Rattle.koth_hill.specs.Scores.{scores_of, of_rank}
+use Rattle.koth_hill.specs.Table.{RowParts}
 use Rattle.koth_hill.specs.Step.{challenger, enlarged, falling, stays}
 
 -- one of these members
@@ -32,7 +33,7 @@ pub record IsRanking (h : Hill) (rows : List RowParts) : Type 0 where
   -- each before all that follow it
   pub sorted : AreSorted rows
   -- and of each rank from 1 to the number of members there is one member
-  pub ranks : (r : ℕ) → 1 ≤ r → r ≤ length h.members → length (of_rank h.settings h.members r h.members) ≡ 1
+  pub ranks : (r : ℕ) → 1 ≤ r → r ≤ length h.members → length (of_rank (scores_of (fights h.settings) h.members) r (scores_of (fights h.settings) h.members)) ≡ 1
 
 -- ---- steps
 
@@ -42,8 +43,8 @@ pub record IsLeast (h : Hill) (w : WarriorParts) (entry : ℕ) : Type 0 where
   pub here : In member (enlarged h w)
   pub is : member.entry ≡ entry
   pub others : (x : Member) → In x (enlarged h w) → (x.entry ≡ entry → ⊥) →
-      (points h.settings (enlarged h w) member < points h.settings (enlarged h w) x)
-      ⊎ ((points h.settings (enlarged h w) x ≡ points h.settings (enlarged h w) member) × (x.entry < member.entry))
+      (points (fights h.settings) (enlarged h w) member < points (fights h.settings) (enlarged h w) x)
+      ⊎ ((points (fights h.settings) (enlarged h w) x ≡ points (fights h.settings) (enlarged h w) member) × (x.entry < member.entry))
 
 -- a member as it was before, but for its age
 pub record WasAged (h : Hill) (w : WarriorParts) (m : Member) : Type 0 where

@@ -1,6 +1,8 @@
 pub mod Hill
+pub mod Scores
 pub mod Table
 pub mod Rows
 pub mod Step
-pub mod Scores
+pub mod Kept
+pub mod Standings
 pub mod Laws

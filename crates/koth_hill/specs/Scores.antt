@@ -1,17 +1,14 @@
 -- Points beside entries, and what their order is.
-use Rattle.std.specs.Prelude.{ℕ, ◌+◌, ◌==◌, Bool, ◌||◌, ◌&&◌, nat_lt, if◌then◌else◌, List, [], ◌∷◌, ◌++◌, length, map, count_by, Option, Some, None}
-use Rattle.war_types.specs.declared.settings.RawSettings.{RawSettings}
+use Rattle.std.specs.Prelude.{ℕ, ◌+◌, ◌==◌, Bool, ◌||◌, ◌&&◌, nat_lt, if◌then◌else◌, List, [], ◌∷◌, length, map, count_by, Option, Some, None}
 use Rattle.koth_hill.specs.declared.score.Score.{Score}
-use Rattle.koth_hill.specs.Hill.{Member, points}
-use Rattle.koth_hill.specs.Table.{RowParts}
-use Rattle.koth_hill.specs.Rows.{row_with}
-use Rattle.koth_hill.specs.Step.{without}
+use Rattle.koth_hill.specs.Hill.{Member, Results, points}
 
-abbrev pub score_of : RawSettings → List Member → Member → Score
-score_of s all m = record { entry = m.entry; points = points s all m }
+abbrev pub score_of : Results → List Member → Member → Score
+score_of f all m = record { entry = m.entry; points = points f all m }
 
-abbrev pub scores_of : RawSettings → List Member → List Score
-scores_of s all = map (score_of s all) all
+-- the scores of these, each among all of them
+abbrev pub scores_of : Results → List Member → List Score
+scores_of f all = map (score_of f all) all
 
 -- more points, or as many and an earlier entry
 abbrev pub outranks : Score → Score → Bool
@@ -26,16 +23,7 @@ abbrev pub last_among : List Score → List Score → Option ℕ
 last_among all [] = None
 last_among all (x ∷ xs) = if rank_among all x == length all then Some x.entry else last_among all xs
 
-abbrev pub behind : Option Member → List Member
-behind None = []
-behind (Some m) = m ∷ []
-
--- those on the hill without one entry, and a challenger behind them
-abbrev pub field : List Member → Option ℕ → Option Member → List Member
-field members out challenger = without out members ++ behind challenger
-
--- the rows of those of one rank, each member beside its score
-abbrev pub rows_of_rank : List Score → ℕ → List Member → List Score → List RowParts
-rows_of_rank all r [] xs = []
-rows_of_rank all r (m ∷ ms) [] = []
-rows_of_rank all r (m ∷ ms) (x ∷ xs) = if rank_among all x == r then row_with x.points m ∷ rows_of_rank all r ms xs else rows_of_rank all r ms xs
+-- those of one rank
+abbrev pub of_rank : List Score → ℕ → List Score → List Score
+of_rank all r [] = []
+of_rank all r (x ∷ xs) = if rank_among all x == r then x ∷ of_rank all r xs else of_rank all r xs

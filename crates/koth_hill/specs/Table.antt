@@ -1,21 +1,8 @@
--- The ranks of those on a hill, and its table.
-use Rattle.std.specs.Prelude.{ℕ, ◌+◌, ◌==◌, Bool, ◌||◌, ◌&&◌, nat_lt, if◌then◌else◌, zero, suc, List, [], ◌∷◌, ◌++◌, length, map}
-use Rattle.war_types.specs.declared.settings.RawSettings.{RawSettings}
-use Rattle.koth_hill.specs.Hill.{Member, Hill, points}
-
--- more points, or as many and an earlier entry
-abbrev pub is_above : RawSettings → List Member → Member → Member → Bool
-is_above s all m e =
-    nat_lt (points s all e) (points s all m) || ((points s all m == points s all e) && nat_lt m.entry e.entry)
-
--- how many of these are above
-abbrev pub count_above : RawSettings → List Member → List Member → Member → ℕ
-count_above s all [] e = 0
-count_above s all (m ∷ ms) e = if is_above s all m e then 1 + count_above s all ms e else count_above s all ms e
-
--- 1 and the number of those above
-abbrev pub rank : RawSettings → List Member → Member → ℕ
-rank s all e = 1 + count_above s all all e
+-- The table of a hill.
+use Rattle.std.specs.Prelude.{ℕ, ◌+◌, ◌==◌, if◌then◌else◌, zero, suc, List, [], ◌∷◌, ◌++◌, length}
+use Rattle.koth_hill.specs.declared.score.Score.{Score}
+use Rattle.koth_hill.specs.Hill.{Member, Hill, Results, fights}
+use Rattle.koth_hill.specs.Scores.{rank_among, scores_of}
 
 -- a line of the table
 pub record RowParts : Type 0 where
@@ -25,22 +12,25 @@ pub record RowParts : Type 0 where
   pub score : ℕ
   pub age : ℕ
 
-abbrev pub row_of : RawSettings → List Member → Member → RowParts
-row_of s all m = record { entry = m.entry; name = m.warrior.name; author = m.warrior.author; score = points s all m; age = m.age }
+-- the line of a member with this score
+abbrev pub row_with : ℕ → Member → RowParts
+row_with score m = record { entry = m.entry; name = m.warrior.name; author = m.warrior.author; score = score; age = m.age }
 
--- those of one rank
-abbrev pub of_rank : RawSettings → List Member → ℕ → List Member → List Member
-of_rank s all r [] = []
-of_rank s all r (m ∷ ms) = if rank s all m == r then m ∷ of_rank s all r ms else of_rank s all r ms
+-- the rows of those of one rank, each member beside its score
+abbrev pub rows_of_rank : List Score → ℕ → List Member → List Score → List RowParts
+rows_of_rank all r [] xs = []
+rows_of_rank all r (m ∷ ms) [] = []
+rows_of_rank all r (m ∷ ms) (x ∷ xs) = if rank_among all x == r then row_with x.points m ∷ rows_of_rank all r ms xs else rows_of_rank all r ms xs
 
--- those of so many ranks from one on
-abbrev pub by_rank : RawSettings → List Member → ℕ → ℕ → List Member
-by_rank s all r zero = []
-by_rank s all r (suc n) = of_rank s all r all ++ by_rank s all (r + 1) n
+-- the rows of so many ranks from one on
+abbrev pub rows_by_rank : List Score → List Member → ℕ → ℕ → List RowParts
+rows_by_rank all ms r zero = []
+rows_by_rank all ms r (suc n) = rows_of_rank all r ms all ++ rows_by_rank all ms (r + 1) n
 
-abbrev pub table_of : RawSettings → List Member → List RowParts
-table_of s all = map (row_of s all) (by_rank s all 1 (length all))
+-- the rows of these by rank
+abbrev pub table_by : Results → List Member → List RowParts
+table_by f ms = rows_by_rank (scores_of f ms) ms 1 (length ms)
 
--- the rows by rank
+-- the table of a hill: every pair fought anew
 unfoldable pub table : Hill → List RowParts
-table h = table_of h.settings h.members
+table h = table_by (fights h.settings) h.members

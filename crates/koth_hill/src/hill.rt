@@ -1,27 +1,34 @@
 //! The hill.
 
-ghost use Rattle.std.specs.Prelude.{◌≡◌, ◌+◌, ◌-◌, ◌<◌, ◌≤◌, ◌^◌, ◌++◌, ◌∷◌, [], Bool, true, false, List, Option, length, slice_get, IfOk};
+ghost use Rattle.std.specs.Prelude.{◌≡◌, ◌+◌, ◌-◌, ◌<◌, ◌≤◌, ◌^◌, ◌++◌, ◌∷◌, [], All, true, false, length, slice_get, IfOk};
 ghost use Rattle.war_types.specs.Warrior.{WarriorParts, Fits};
-ghost use Rattle.koth_hill.specs.Hill.{IsHill, last_entry, hill_of, member_of};
+ghost use Rattle.koth_match.specs.Match.{rounds_in};
+ghost use Rattle.koth_hill.specs.Hill.{last_entry, member_of};
 ghost use Rattle.koth_hill.specs.Table.{table};
 ghost use Rattle.koth_hill.specs.Rows.{rows_parts};
 ghost use Rattle.koth_hill.specs.Laws.{IsRanking, LeastFalls, OthersStay};
-ghost use Rattle.koth_hill.specs.Step.{falling, stays, verdict, step, after_fall, new_hill, challenger as challenger_of};
+ghost use Rattle.koth_hill.specs.Step.{verdict, step, matches_with};
+ghost use Rattle.koth_hill.specs.Kept.{AreTrue, IsKept, entries_of, hill_in, kept_fall, kept_of, new_kept, result_of, step_kept, table_kept, verdict_kept};
 
-use crate::falls::{grow_older, let_fall};
-use crate::fights::{is_entry, points, scores};
+use crate::bouts::Bouts;
+use crate::falls::{let_fall, place_of, stay_on};
+use crate::fights::{are_equal, matches_with};
+use crate::judging::judged;
 use crate::member::{Entrant, Member};
+use crate::points::result_of;
 use crate::row::Row;
-use crate::score::{Score, last_among, rank_among};
+use crate::standings::{Standing, Standings};
 use crate::table::rows_of;
 use crate::verdict::Verdict;
+use koth_match::Bout;
 use mars_core::Arena;
 use std::alloc::{AllocError, Allocator};
 use std::marker::Model;
 use war_types::{Settings, Warrior};
 
-/// A hill: its settings, how many warriors were ever judged, and the warriors on it, by their entries. Every score is fought
-/// anew when it is asked for. Only `new`, `with_counter` and `rows` take memory.
+/// A hill: its settings, how many warriors were ever judged, and the warriors on it, by their entries, each with the results of its
+/// matches with those that entered before it. A challenger fights its own matches and no others, and a table none. Only `new`,
+/// `with_counter` and `rows` take memory.
 #[derive(Debug, Drop)]
 pub struct Hill<A: Allocator> {
     settings: Settings,
@@ -31,26 +38,26 @@ pub struct Hill<A: Allocator> {
 
 impl<A: Allocator> Model for Hill<A> {
     ghost use Rattle.std.specs.Prelude.{◌+◌, ◌≤◌, vec_capacity};
-    ghost use Rattle.koth_hill.specs.Hill.{Hill as HillParts, IsHill, hill_of};
+    ghost use Rattle.koth_hill.specs.Kept.{Kept, IsKept, kept_of, members_of, rows_of};
 
-    ghost Value = { HillParts };
+    ghost Value = { Kept };
 
-    ghost view = { λ h. hill_of h.settings h.counter h.members.items };
+    ghost view = { λ h. kept_of h.settings h.counter (members_of h.members.items) (rows_of h.members.items) };
 
-    ghost invariant = { λ h. IsHill (hill_of h.settings h.counter h.members.items) × (h.settings.capacity + 1 ≤ vec_capacity h.members) };
+    ghost invariant = { λ h. IsKept (kept_of h.settings h.counter (members_of h.members.items) (rows_of h.members.items)) × (h.settings.capacity + 1 ≤ vec_capacity h.members) };
 }
 
 impl<A: Allocator> Hill<A> {
     /// A hill without warriors. It takes the memory for as many as the hill holds and one more.
     pub fn new(alloc: A, settings: Settings) -> Result<Hill<A>, AllocError>
-        ensures { IfOk result (λ hill. hill ≡ new_hill settings 0) }
+        ensures { IfOk result (λ hill. hill ≡ new_kept settings 0) }
     {
         Hill::with_counter(alloc, settings, 0)
     }
 
     /// A hill without warriors, on which so many were judged already, as `put_back` asks for.
     pub fn with_counter(alloc: A, settings: Settings, counter: u64) -> Result<Hill<A>, AllocError>
-        ensures { IfOk result (λ hill. hill ≡ new_hill settings counter) }
+        ensures { IfOk result (λ hill. hill ≡ new_kept settings counter) }
     {
         let members = Vec::with_capacity(alloc, usize::from(settings.capacity()) + 1)?;
         Ok(Hill {
@@ -63,7 +70,7 @@ impl<A: Allocator> Hill<A> {
     /// How many warriors were ever judged and then admitted or passed.
     pub fn counter(&self) -> u64
         ensures value { result ≡ self.now.counter }
-        ensures hill { IsHill self.now }
+        ensures hill { IsKept self.now }
     {
         self.counter
     }
@@ -71,7 +78,7 @@ impl<A: Allocator> Hill<A> {
     /// How many warriors are on the hill, at most its capacity.
     pub fn len(&self) -> usize
         ensures value { result ≡ length self.now.members }
-        ensures hill { IsHill self.now }
+        ensures hill { IsKept self.now }
     {
         self.members.len()
     }
@@ -79,7 +86,7 @@ impl<A: Allocator> Hill<A> {
     /// The hill's settings.
     pub fn settings(&self) -> &Settings
         ensures value { result.now ≡ self.now.settings }
-        ensures hill { IsHill self.now }
+        ensures hill { IsKept self.now }
     {
         &self.settings
     }
@@ -87,7 +94,7 @@ impl<A: Allocator> Hill<A> {
     /// The warrior at place `i` of those on the hill, by rising entry; `None` past them.
     pub fn member(&self, i: usize) -> Option<Member<'_, A>>
         ensures value { result ≡ slice_get self.now.members i }
-        ensures hill { IsHill self.now }
+        ensures hill { IsKept self.now }
     {
         match self.members.get(i) {
             Some(entrant) => Some(entrant.shown()),
@@ -95,7 +102,17 @@ impl<A: Allocator> Hill<A> {
         }
     }
 
-    /// What becomes of a challenger. The fights are fought in the arena, and nothing visible changes.
+    /// The result kept of two warriors on the hill, by their entries; `None` where they aren't both on it, the first entered before the
+    /// other.
+    pub fn bout(&self, older_entry: u64, younger_entry: u64) -> Option<Bout>
+        ensures { result ≡ result_of (entries_of self.now.members) self.now.results older_entry younger_entry }
+    {
+        let standings = Standings::of(self.members.as_slice());
+        result_of(standings.as_slice(), older_entry, younger_entry)
+    }
+
+    /// What becomes of a challenger. Its own matches are fought in the arena, of all others the results are there, and nothing visible
+    /// changes.
     pub fn judge<B: Allocator, C: Allocator>(
         &mut self,
         arena: &mut Arena<B>,
@@ -104,161 +121,120 @@ impl<A: Allocator> Hill<A> {
         requires arena { arena.old.settings ≡ self.old.settings }
         requires fits { Fits self.old.settings challenger.now }
         requires counter { self.old.counter < 2 ^ 64 - 1 }
-        ensures verdict { result ≡ verdict self.old challenger.now }
+        ensures kept { result ≡ verdict_kept self.old challenger.now }
+        ensures verdict { AreTrue self.old → result ≡ verdict (hill_in self.old) challenger.now }
+        ensures bouts { result.bouts ≡ matches_with self.old.settings self.old.members challenger.now }
         ensures entry { result.entry ≡ self.old.counter + 1 }
-        ensures lowest { LeastFalls self.old challenger.now result.falls }
+        ensures lowest { AreTrue self.old → LeastFalls (hill_in self.old) challenger.now result.falls }
         ensures unchanged { self.new ≡ self.old }
         ensures arena { arena.new.settings ≡ arena.old.settings }
     {
-        let challenger = Member {
+        let members = self.members.as_slice();
+        let bouts = matches_with(arena, &self.settings, members, challenger);
+        let own = Standing {
             entry: self.counter + 1,
-            age: 0,
-            warrior: challenger,
+            bouts: bouts.as_slice(),
         };
-        let falls = self.falling(arena, &challenger);
-        if is_entry(challenger.entry, falls) {
-            self.fallen(arena, &challenger)
-        } else {
-            self.placed(arena, &challenger, falls)
-        }
+        let standings = Standings::with(members, own);
+        judged(
+            standings.as_slice(),
+            usize::from(self.settings.capacity()),
+            own,
+        )
     }
 
     /// Takes in a challenger that stays, as it was judged: the one that falls goes, and the others grow one older.
     pub fn admit(&mut self, warrior: Warrior<A>, judged: &Verdict)
         requires fits { Fits self.old.settings warrior }
-        requires verdict { judged.now ≡ verdict self.old warrior }
+        requires verdict { judged.now ≡ verdict_kept self.old warrior }
         requires stays { judged.now.stays ≡ true }
-        ensures step { self.new ≡ step self.old warrior }
-        ensures others { OthersStay self.old warrior self.new }
+        ensures kept { self.new ≡ step_kept self.old warrior }
+        ensures step { AreTrue self.old → (hill_in self.new ≡ step (hill_in self.old) warrior) × AreTrue self.new }
+        ensures others { AreTrue self.old → OthersStay (hill_in self.old) warrior (hill_in self.new) }
         ensures settings { self.new.settings ≡ self.old.settings }
         ensures counter { self.new.counter ≡ self.old.counter + 1 }
     {
-        let Verdict { entry, falls, .. } = *judged;
+        let entry = judged.entry;
+        let place = place_of(self.members.as_slice(), judged.falls);
+        let mut bouts = Bouts::of(judged.bouts());
+        bouts.forget(place);
         self.counter = entry;
-        let_fall(&mut self.members, falls);
-        grow_older(self.members.as_mut_slice());
-        let _ = self.members.push(Entrant::new(entry, 0, warrior));
+        let_fall(&mut self.members, place);
+        stay_on(self.members.as_mut_slice(), place);
+        let _ = self.members.push(Entrant::new(entry, 0, warrior, bouts));
     }
 
     /// Counts a challenger that falls, as it was judged.
     pub fn pass(&mut self, judged: &Verdict)
         requires entry { judged.now.entry ≡ self.old.counter + 1 }
         requires falls { judged.now.stays ≡ false }
-        ensures after { self.new ≡ after_fall self.old }
-        ensures step { (w : WarriorParts) → judged.now ≡ verdict self.old w → self.new ≡ step self.old w }
+        ensures after { self.new ≡ kept_fall self.old }
+        ensures kept { (w : WarriorParts) → judged.now ≡ verdict_kept self.old w → self.new ≡ step_kept self.old w }
+        ensures step { (w : WarriorParts) → judged.now ≡ verdict_kept self.old w → AreTrue self.old → (hill_in self.new ≡ step (hill_in self.old) w) × AreTrue self.new }
     {
         self.counter = judged.entry;
     }
 
-    /// Puts a warrior behind those on the hill, with the entry and the age that it had.
-    pub fn put_back(&mut self, entry: u64, age: u64, warrior: Warrior<A>)
+    /// Puts a warrior behind those on the hill, with the entry and the age that it had, and the results of its matches with them, by
+    /// their rising entries.
+    pub fn put_back(&mut self, entry: u64, age: u64, warrior: Warrior<A>, bouts: &[Bout])
         requires room { length self.old.members < self.old.settings.capacity }
         requires entry { last_entry self.old.members < entry }
         requires counted { entry ≤ self.old.counter }
         requires age { age ≤ self.old.counter - entry }
         requires fits { Fits self.old.settings warrior }
-        ensures { self.new ≡ hill_of self.old.settings self.old.counter (self.old.members ++ member_of entry age warrior ∷ []) }
+        requires each { length bouts.now ≡ length self.old.members }
+        requires rounds { All (λ b. rounds_in b ≡ self.old.settings.rounds) bouts.now }
+        ensures { self.new ≡ kept_of self.old.settings self.old.counter (self.old.members ++ member_of entry age warrior ∷ []) (self.old.results ++ bouts.now ∷ []) }
     {
-        let _ = self.members.push(Entrant::new(entry, age, warrior));
+        let members = &mut self.members;
+        let _ = members.push(Entrant::new(entry, age, warrior, Bouts::of(bouts)));
     }
 
-    /// The table, highest score first, among equals the earlier entry first. It makes an arena of its own.
+    /// Puts a warrior behind those on the hill as `put_back` does, with its matches fought anew in the arena.
+    pub fn put_back_anew<B: Allocator>(
+        &mut self,
+        arena: &mut Arena<B>,
+        entry: u64,
+        age: u64,
+        warrior: Warrior<A>,
+    )
+        requires arena { arena.old.settings ≡ self.old.settings }
+        requires room { length self.old.members < self.old.settings.capacity }
+        requires entry { last_entry self.old.members < entry }
+        requires counted { entry ≤ self.old.counter }
+        requires age { age ≤ self.old.counter - entry }
+        requires fits { Fits self.old.settings warrior }
+        ensures kept { self.new ≡ kept_of self.old.settings self.old.counter (self.old.members ++ member_of entry age warrior ∷ []) (self.old.results ++ matches_with self.old.settings self.old.members warrior ∷ []) }
+        ensures still_true { AreTrue self.old → AreTrue self.new }
+        ensures arena { arena.new.settings ≡ arena.old.settings }
+    {
+        let bouts = matches_with(arena, &self.settings, self.members.as_slice(), &warrior);
+        let _ = self.members.push(Entrant::new(entry, age, warrior, bouts));
+    }
+
+    /// The table, highest score first, among equals the earlier entry first. No match is fought.
     pub fn rows<B: Allocator + Copy>(&self, alloc: B) -> Result<Vec<Row<'_>, B>, AllocError>
-        ensures table { IfOk result (λ rows. rows_parts rows.items ≡ table self.now) }
-        ensures ranking { IfOk result (λ rows. IsRanking self.now (rows_parts rows.items)) }
+        ensures kept { IfOk result (λ rows. rows_parts rows.items ≡ table_kept self.now) }
+        ensures table { AreTrue self.now → IfOk result (λ rows. rows_parts rows.items ≡ table (hill_in self.now)) }
+        ensures ranking { AreTrue self.now → IfOk result (λ rows. IsRanking (hill_in self.now) (rows_parts rows.items)) }
     {
-        let mut arena = Arena::new(alloc, &self.settings)?;
-        rows_of(alloc, &mut arena, &self.settings, self.members.as_slice())
+        rows_of(alloc, self.members.as_slice())
     }
 
-    /// The entry that falls, where there are more than the hill holds.
-    fn falling<B: Allocator, C: Allocator>(
-        &self,
-        arena: &mut Arena<B>,
-        challenger: &Member<'_, C>,
-    ) -> Option<u64>
-        requires arena { arena.old.settings ≡ self.now.settings }
-        requires challenger { challenger.now ≡ challenger_of self.now challenger.now.warrior }
-        requires fits { Fits self.now.settings challenger.now.warrior }
-        ensures value { result ≡ falling self.now challenger.now.warrior }
-        ensures arena { arena.new.settings ≡ arena.old.settings }
-    {
-        if self.members.len() < usize::from(self.settings.capacity()) {
-            return None;
-        }
-        let scores = scores(
-            arena,
-            &self.settings,
-            self.members.as_slice(),
-            None,
-            Some(challenger),
-        );
-        last_among(scores.as_slice())
-    }
-
-    /// The verdict on a challenger that falls.
-    fn fallen<B: Allocator, C: Allocator>(
-        &self,
-        arena: &mut Arena<B>,
-        challenger: &Member<'_, C>,
-    ) -> Verdict
-        requires arena { arena.old.settings ≡ self.now.settings }
-        requires challenger { challenger.now ≡ challenger_of self.now challenger.now.warrior }
-        requires fits { Fits self.now.settings challenger.now.warrior }
-        requires falls { falling self.now challenger.now.warrior ≡ Some challenger.now.entry }
-        ensures value { result ≡ verdict self.now challenger.now.warrior }
+    /// Whether each result is what the match comes to when it is fought anew in the arena.
+    pub fn audit<B: Allocator>(&self, arena: &mut Arena<B>) -> bool
+        requires { arena.old.settings ≡ self.now.settings }
+        ensures value { (result ≡ true → AreTrue self.now) × (AreTrue self.now → result ≡ true) }
         ensures arena { arena.new.settings ≡ arena.old.settings }
     {
         let members = self.members.as_slice();
-        let score = points(
-            arena,
-            &self.settings,
-            members,
-            None,
-            Some(challenger),
-            challenger,
-        );
-        Verdict {
-            entry: challenger.entry,
-            stays: false,
-            falls: Some(challenger.entry),
-            score,
-            rank: 0,
+        for (i, member) in members.iter().enumerate() {
+            let bouts = matches_with(arena, &self.settings, &members[..i], member.warrior());
+            if !are_equal(bouts.as_slice(), member.bouts().as_slice()) {
+                return false;
+            }
         }
-    }
-
-    /// The verdict on a challenger that stays.
-    fn placed<B: Allocator, C: Allocator>(
-        &self,
-        arena: &mut Arena<B>,
-        challenger: &Member<'_, C>,
-        falls: Option<u64>,
-    ) -> Verdict
-        requires arena { arena.old.settings ≡ self.now.settings }
-        requires challenger { challenger.now ≡ challenger_of self.now challenger.now.warrior }
-        requires fits { Fits self.now.settings challenger.now.warrior }
-        requires falls { falls ≡ falling self.now challenger.now.warrior }
-        requires stays { stays self.now challenger.now.warrior ≡ true }
-        ensures value { result ≡ verdict self.now challenger.now.warrior }
-        ensures arena { arena.new.settings ≡ arena.old.settings }
-    {
-        let members = self.members.as_slice();
-        let scores = scores(arena, &self.settings, members, falls, Some(challenger));
-        let entry = challenger.entry;
-        let points = points(
-            arena,
-            &self.settings,
-            members,
-            falls,
-            Some(challenger),
-            challenger,
-        );
-        Verdict {
-            entry,
-            stays: true,
-            falls,
-            score: points,
-            rank: rank_among(scores.as_slice(), Score { entry, points }),
-        }
+        true
     }
 }

@@ -1,12 +1,16 @@
 //! The hill: scores, ranks, falls and ages.
 #![tactic(auto)]
 
+mod bouts;
 mod falls;
 mod fights;
 mod hill;
+mod judging;
 mod member;
+mod points;
 mod row;
 mod score;
+mod standings;
 mod table;
 mod verdict;
 

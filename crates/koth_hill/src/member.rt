@@ -1,10 +1,15 @@
 //! Those who are on a hill.
 
-ghost use Rattle.std.specs.Prelude.{◌≡◌, ◌+◌, ◌<◌, ◌^◌};
-ghost use Rattle.koth_hill.specs.Hill.{member_of, with_age};
-ghost use Rattle.koth_hill.specs.Rows.{row_parts, row_with};
+ghost use Rattle.std.specs.Prelude.{◌≡◌, ◌+◌, ◌<◌, ◌^◌, Option};
+ghost use Rattle.koth_hill.specs.Hill.{member_of};
+ghost use Rattle.koth_hill.specs.Rows.{row_parts};
+ghost use Rattle.koth_hill.specs.Table.{row_with};
+ghost use Rattle.koth_hill.specs.Kept.{entrant_of, stayed};
+ghost use Rattle.koth_hill.specs.Standings.{standing_of, standing_parts};
 
+use crate::bouts::Bouts;
 use crate::row::Row;
+use crate::standings::Standing;
 use std::alloc::Allocator;
 use std::marker::Model;
 use war_types::Warrior;
@@ -27,35 +32,38 @@ impl<'h, A: Allocator> Model for Member<'h, A> {
     ghost view = { λ m. member_of m.entry m.age m.warrior.now };
 }
 
-/// A warrior on a hill, which the hill owns.
+/// A warrior on a hill, which the hill owns, with the results of its matches with those that entered before it.
 #[derive(Debug, Drop)]
 pub(crate) struct Entrant<A: Allocator> {
     entry: u64,
     age: u64,
     warrior: Warrior<A>,
+    bouts: Bouts,
 }
 
 impl<A: Allocator> Model for Entrant<A> {
-    ghost use Rattle.koth_hill.specs.Hill.{Member as MemberParts, member_of};
+    ghost use Rattle.koth_hill.specs.Hill.{member_of};
+    ghost use Rattle.koth_hill.specs.Kept.{Entrant as EntrantParts, entrant_of};
 
-    ghost Value = { MemberParts };
+    ghost Value = { EntrantParts };
 
-    ghost view = { λ e. member_of e.entry e.age e.warrior };
+    ghost view = { λ e. entrant_of (member_of e.entry e.age e.warrior) e.bouts };
 }
 
 impl<A: Allocator> Entrant<A> {
-    pub(crate) fn new(entry: u64, age: u64, warrior: Warrior<A>) -> Entrant<A>
-        ensures { result ≡ member_of entry age warrior }
+    pub(crate) fn new(entry: u64, age: u64, warrior: Warrior<A>, bouts: Bouts) -> Entrant<A>
+        ensures { result ≡ entrant_of (member_of entry age warrior) bouts }
     {
         Entrant {
             entry,
             age,
             warrior,
+            bouts,
         }
     }
 
     pub(crate) fn shown(&self) -> Member<'_, A>
-        ensures { result ≡ self.now }
+        ensures { result ≡ self.now.member }
     {
         Member {
             entry: self.entry,
@@ -65,13 +73,34 @@ impl<A: Allocator> Entrant<A> {
     }
 
     pub(crate) fn entry(&self) -> u64
-        ensures { result ≡ self.now.entry }
+        ensures { result ≡ self.now.member.entry }
     {
         self.entry
     }
 
+    pub(crate) fn warrior(&self) -> &Warrior<A>
+        ensures { result.now ≡ self.now.member.warrior }
+    {
+        &self.warrior
+    }
+
+    pub(crate) fn bouts(&self) -> &Bouts
+        ensures { result.now ≡ self.now.bouts }
+    {
+        &self.bouts
+    }
+
+    pub(crate) fn standing(&self) -> Standing<'_>
+        ensures { standing_parts result ≡ standing_of self.now }
+    {
+        Standing {
+            entry: self.entry,
+            bouts: self.bouts.as_slice(),
+        }
+    }
+
     pub(crate) fn row(&self, score: u32) -> Row<'_>
-        ensures { row_parts result ≡ row_with score self.entry.now }
+        ensures { row_parts result ≡ row_with score self.now.member }
     {
         Row {
             entry: self.entry,
@@ -82,11 +111,12 @@ impl<A: Allocator> Entrant<A> {
         }
     }
 
-    /// One more warrior has stayed.
-    pub(crate) fn grow_older(&mut self)
-        requires { self.old.age + 1 < 2 ^ 64 }
-        ensures { self.new ≡ with_age (self.old.age + 1) self.old }
+    /// One more warrior has stayed, and the one at this place, if any, has fallen.
+    pub(crate) fn stay(&mut self, fallen: Option<usize>)
+        requires { self.old.member.age + 1 < 2 ^ 64 }
+        ensures { self.new ≡ stayed fallen self.old }
     {
         self.age += 1;
+        self.bouts.forget(fallen);
     }
 }

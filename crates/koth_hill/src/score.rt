@@ -3,10 +3,8 @@
 ghost use Rattle.std.specs.Prelude.{◌≡◌, ◌+◌, ◌<◌, ◌≤◌, ◌++◌, ◌∷◌, [], length};
 ghost use Rattle.koth_hill.specs.Scores.{outranks, rank_among, last_among};
 
+use crate::standings::PLACES;
 use std::marker::Model;
-
-/// Those that a hill may have at once: its capacity at most, and a challenger.
-const PLACES: usize = 21;
 
 /// What one has earned.
 #[derive(Clone, Copy, Debug)]

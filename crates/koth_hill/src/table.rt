@@ -1,36 +1,32 @@
 //! The table of a hill.
 
-ghost use Rattle.std.specs.Prelude.{◌≡◌, ◌+◌, ◌<◌, ◌≤◌, ◌++◌, length, OnOk, IfOk};
-ghost use Rattle.koth_hill.specs.Hill.{AllFit};
+ghost use Rattle.std.specs.Prelude.{◌≡◌, ◌+◌, ◌<◌, ◌≤◌, ◌++◌, length, map, OnOk, IfOk};
 ghost use Rattle.koth_hill.specs.Rows.{rows_parts};
-ghost use Rattle.koth_hill.specs.Scores.{rows_of_rank};
-ghost use Rattle.koth_hill.specs.Table.{table_of};
+ghost use Rattle.koth_hill.specs.Table.{rows_of_rank, table_by};
+ghost use Rattle.koth_hill.specs.Kept.{members_of, rows_of as kept_rows, entries_of, kept_results};
+ghost use Rattle.koth_hill.specs.Standings.{HaveRounds, standing_of};
 
-use crate::fights::scores;
-use crate::member::{Entrant, Member};
+use crate::member::Entrant;
+use crate::points::scores;
 use crate::row::Row;
 use crate::score::{Score, rank_among};
-use mars_core::Arena;
+use crate::standings::Standings;
 use std::alloc::{AllocError, Allocator};
-use war_types::Settings;
 
 /// The rows of these members by rank. An error is want of memory.
-pub(crate) fn rows_of<'h, A: Allocator, B: Allocator, C: Allocator>(
+pub(crate) fn rows_of<'h, A: Allocator, B: Allocator>(
     alloc: A,
-    arena: &mut Arena<B>,
-    settings: &Settings,
-    members: &'h [Entrant<C>],
+    members: &'h [Entrant<B>],
 ) -> Result<Vec<Row<'h>, A>, AllocError>
-    requires settings { arena.old.settings ≡ settings.now }
-    requires members { AllFit settings.now members.now }
+    requires rounds { HaveRounds (map standing_of members.now) }
     requires few { length members.now ≤ 20 }
-    ensures { IfOk result (λ rows. rows_parts rows.items ≡ table_of settings.now members.entry.now) }
+    ensures { IfOk result (λ rows. rows_parts rows.items ≡ table_by (kept_results (entries_of (members_of members.now)) (kept_rows members.now)) (members_of members.now)) }
 {
-    let nobody: Option<&'h Member<'h, C>> = None;
-    let scores = scores(arena, settings, members, None, nobody);
+    let standings = Standings::of(members);
+    let all_scores = scores(standings.as_slice(), None);
     let mut rows = Vec::with_capacity(alloc, members.len())?;
     for place in 0..members.len() as u32 {
-        push_rank(&mut rows, members, scores.as_slice(), place + 1)?;
+        push_rank(&mut rows, members, all_scores.as_slice(), place + 1)?;
     }
     Ok(rows)
 }
@@ -44,7 +40,7 @@ fn push_rank<'h, A: Allocator, B: Allocator>(
 ) -> Result<(), AllocError>
     requires beside { length scores.now ≡ length members.now }
     requires few { length members.now ≤ 20 }
-    ensures { OnOk result (rows_parts rows.new.items ≡ rows_parts rows.old.items ++ rows_of_rank scores.now rank members.entry.now scores.now) }
+    ensures { OnOk result (rows_parts rows.new.items ≡ rows_parts rows.old.items ++ rows_of_rank scores.now rank (members_of members.now) scores.now) }
 {
     for (i, member) in members.iter().enumerate() {
         if rank_among(scores, scores[i]) == rank {

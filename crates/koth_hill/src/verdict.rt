@@ -1,7 +1,12 @@
 //! What becomes of a challenger.
 
+ghost use Rattle.std.specs.Prelude.{◌≡◌};
+
+use crate::bouts::Bouts;
+use koth_match::Bout;
+
 /// What becomes of a challenger, as `Hill::judge` finds it.
-#[derive(Clone, Copy, Debug, PartialEq, Eq)]
+#[derive(Debug, Drop)]
 pub struct Verdict {
     /// The number of its entry: 1 and the number of warriors ever judged.
     pub entry: u64,
@@ -13,4 +18,14 @@ pub struct Verdict {
     pub score: u32,
     /// Its rank on the hill as it is then, from 1 on, and 0 where it falls.
     pub rank: u32,
+    pub(crate) bouts: Bouts,
+}
+
+impl Verdict {
+    /// Its matches with those on the hill, who are older, by their rising entries.
+    pub fn bouts(&self) -> &[Bout]
+        ensures { result.now ≡ self.now.bouts }
+    {
+        self.bouts.as_slice()
+    }
 }

@@ -2,11 +2,12 @@
 use Rattle.std.proofs.Common.{◌≡◌, ◌≢◌, ◌∙◌, ℕ, List, Option, Result, Ok, Err, false, true≢false, inl, inr, refl, sym, subst}
 use Rattle.std.proofs.KnownBytes.{Keeps-refl}
 use Rattle.sector_disk.specs.Facts.{DeviceFacts}
+use Rattle.koth_hill.specs.Hill.{Hill}
 use Rattle.hill_store.specs.Seen.{Seen, Submits}
 use Rattle.hill_store.specs.declared.reply.Reply.{Reply}
 use Rattle.hill_store.specs.declared.reply.Reply.TheVariants as replies
 use Rattle.koth_session.specs.Reply.{reply_line}
-use Rattle.koth_server.specs.Hills.{Said, SaysPart, SaysReply, SubmitsTo, Tries, WritesAt}
+use Rattle.koth_server.specs.Hills.{Said, SaysPart, SaysReply, SaysTable, ShowsOf, SubmitsTo, Tries, WritesAt}
 use Rattle.koth_server.specs.ReplyStatus.{reply_status}
 use Rattle.koth_commands.specs.declared.failure.Failure.TheVariants as kinds
 use Rattle.koth_commands.specs.declared.status.Status.{Status}
@@ -41,3 +42,16 @@ module _ {D : Type 0} (facts : DeviceFacts D) (before after : Seen D) (source : 
         written = written;
       } in
       subst (λ f. WritesAt SaysReply f o p) (sym is) (inr part)
+
+-- the table of a hill is that of some hill
+pub shows_some : (hill : Hill) (r : Result Status HillFault) (o p : Option (List ℕ)) → Tries (ShowsOf hill) r o p → Tries SaysTable r o p
+shows_some hill (Ok status) o p said = record { text = said.text; answer = (hill, said.answer); written = said.written }
+shows_some hill (Err (faults.Failed kinds.Stream)) o p said = elim said [
+  | inl none ↦ inl none
+  | inr part ↦ inr record { status = part.status; text = part.text; answer = (hill, part.answer); written = part.written }
+]
+shows_some hill (Err (faults.Failed kinds.Memory)) o p said = said
+shows_some hill (Err faults.TooSmall) o p said = said
+shows_some hill (Err faults.Occupied) o p said = said
+shows_some hill (Err faults.NotAHill) o p said = said
+shows_some hill (Err faults.Damaged) o p said = said

@@ -1,8 +1,10 @@
-ghost use Rattle.std.specs.Prelude.{◌≡◌};
+ghost use Rattle.std.specs.Prelude.{◌≡◌, ◌+◌, IfOk};
+ghost use Rattle.koth_match.specs.Match.{rounds_in};
 ghost use Rattle.war_types.specs.Warrior.{Fits};
 
 use crate::warriors::{SMALL, die, imp, stay, warrior};
 use koth_hill::{Hill, Verdict};
+use koth_match::Bout;
 use mars_core::Arena;
 use std::alloc::Global;
 use std::process::Abort;
@@ -40,8 +42,28 @@ fn challenge(
     Ok(verdict)
 }
 
-fn stayed(entry: u64, falls: Option<u64>, score: u32, rank: u32) -> Verdict {
-    Verdict {
+/// What a challenger is told: its entry, whether it stays, who falls, its score and its rank.
+#[derive(Clone, Copy, Debug, PartialEq, Eq)]
+struct Told {
+    entry: u64,
+    stays: bool,
+    falls: Option<u64>,
+    score: u32,
+    rank: u32,
+}
+
+fn what_was_told(verdict: &Verdict) -> Told {
+    Told {
+        entry: verdict.entry,
+        stays: verdict.stays,
+        falls: verdict.falls,
+        score: verdict.score,
+        rank: verdict.rank,
+    }
+}
+
+fn stayed(entry: u64, falls: Option<u64>, score: u32, rank: u32) -> Told {
+    Told {
         entry,
         stays: true,
         falls,
@@ -50,13 +72,24 @@ fn stayed(entry: u64, falls: Option<u64>, score: u32, rank: u32) -> Verdict {
     }
 }
 
-fn fell(entry: u64, score: u32) -> Verdict {
-    Verdict {
+fn fell(entry: u64, score: u32) -> Told {
+    Told {
         entry,
         stays: false,
         falls: Some(entry),
         score,
         rank: 0,
+    }
+}
+
+/// So many rounds that the older won, that the younger won, and ties.
+fn bout(older_wins: u16, younger_wins: u16, ties: u16) -> Bout
+    ensures { rounds_in result ≡ older_wins + younger_wins + ties }
+{
+    Bout {
+        older_wins,
+        younger_wins,
+        ties,
     }
 }
 
@@ -74,14 +107,14 @@ fn check_verdicts(
     rt: &(impl Abort + AllocGlobal),
     hill: &mut Hill<Global>,
     arena: &mut Arena<Global>,
-    submitted: &[(Instr, Verdict)],
+    submitted: &[(Instr, Told)],
 ) -> Result<(), Fail>
     requires { arena.old.settings ≡ hill.old.settings }
 {
     for (instr, due) in submitted {
         let challenger = warrior(rt.alloc(), &[*instr], hill.settings())?;
         let found = challenge(hill, arena, challenger)?;
-        assert_eq!(rt; found, *due);
+        assert_eq!(rt; what_was_told(&found), *due);
     }
     Ok(())
 }
@@ -102,7 +135,7 @@ fn check_rows(
 fn check_hill(
     rt: &(impl Abort + AllocGlobal),
     capacity: u32,
-    submitted: &[(Instr, Verdict)],
+    submitted: &[(Instr, Told)],
     rows: &[(u64, u32, u64)],
 ) -> Result<(), Fail> {
     let settings = small(capacity)?;
@@ -142,17 +175,20 @@ fn a_hill_of_one(rt: HostRuntime) -> Result<(), Fail> {
     check_hill(&rt, 1, &submitted, &[(1, 0, 0)])
 }
 
-/// A hill of two with the entries 2 and 5, of five ever judged.
-fn hill_put_back(alloc: Global) -> Result<Hill<Global>, Fail> {
+/// A hill of two with the entries 2, which waits, and 5, which dies at once, of five ever judged, and this result of the two.
+fn hill_put_back(alloc: Global, kept: Bout) -> Result<Hill<Global>, Fail>
+    requires { rounds_in kept ≡ 2 }
+    ensures { IfOk result (λ hill. hill.settings.core ≡ 64) }
+{
     let settings = small(2)?;
-    if settings.capacity() != 2 {
+    if settings.capacity() != 2 || settings.rounds() != 2 || settings.core() != 64 {
         return Err("a hill of two".into());
     }
     let first = warrior(alloc, &[stay()], &settings)?;
     let second = warrior(alloc, &[die()], &settings)?;
     let mut hill = Hill::with_counter(alloc, settings, 5)?;
-    hill.put_back(2, 3, first);
-    hill.put_back(5, 0, second);
+    hill.put_back(2, 3, first, &[]);
+    hill.put_back(5, 0, second, &[kept]);
     Ok(hill)
 }
 
@@ -175,8 +211,59 @@ fn check_members(rt: &impl Abort, hill: &Hill<Global>) -> Result<(), Fail> {
 
 #[test]
 fn put_back_as_it_was(rt: HostRuntime) -> Result<(), Fail> {
-    let hill = hill_put_back(rt.alloc())?;
+    let hill = hill_put_back(rt.alloc(), bout(2, 0, 0))?;
     check_names(&rt, &hill)?;
     check_rows(&rt, &hill, &[(2, 6, 3), (5, 0, 0)])?;
     check_members(&rt, &hill)
+}
+
+/// A result is found by the two entries, the older first, and there is no other.
+#[test]
+fn results_of_pairs(rt: HostRuntime) -> Result<(), Fail> {
+    let hill = hill_put_back(rt.alloc(), bout(2, 0, 0))?;
+    assert_eq!(rt; hill.bout(2, 5), Some(bout(2, 0, 0)));
+    assert_eq!(rt; hill.bout(5, 2), None);
+    assert_eq!(rt; hill.bout(2, 2), None);
+    assert_eq!(rt; hill.bout(2, 4), None);
+    Ok(())
+}
+
+/// A table goes by what is kept, and an audit tells whether the fights say so too.
+fn check_audit(
+    rt: &(impl Abort + AllocGlobal),
+    kept: Bout,
+    rows: &[(u64, u32, u64)],
+    is_true: bool,
+) -> Result<(), Fail>
+    requires { rounds_in kept ≡ 2 }
+{
+    let hill = hill_put_back(rt.alloc(), kept)?;
+    check_rows(rt, &hill, rows)?;
+    let mut arena = Arena::new(rt.alloc(), hill.settings())?;
+    assert_eq!(rt; hill.audit(&mut arena), is_true);
+    Ok(())
+}
+
+#[test]
+fn results_that_no_fight_gives(rt: HostRuntime) -> Result<(), Fail> {
+    check_audit(&rt, bout(2, 0, 0), &[(2, 6, 3), (5, 0, 0)], true)?;
+    check_audit(&rt, bout(0, 2, 0), &[(5, 6, 0), (2, 0, 3)], false)?;
+    check_audit(&rt, bout(0, 0, 2), &[(2, 2, 3), (5, 2, 0)], false)?;
+    check_audit(&rt, bout(1, 1, 0), &[(2, 3, 3), (5, 3, 0)], false)
+}
+
+/// A challenger is judged by what is kept of the others: the one that waits is said to have lost, and falls.
+#[test]
+fn judged_by_what_is_kept(rt: HostRuntime) -> Result<(), Fail> {
+    let mut hill = hill_put_back(rt.alloc(), bout(0, 2, 0))?;
+    let mut arena = Arena::new(rt.alloc(), hill.settings())?;
+    let challenger = warrior(rt.alloc(), &[stay()], hill.settings())?;
+    let found = challenge(&mut hill, &mut arena, challenger)?;
+    assert_eq!(rt; what_was_told(&found), stayed(6, Some(2), 6, 1));
+    assert_eq!(rt; found.bouts(), [bout(0, 0, 2), bout(0, 2, 0)].as_slice());
+    assert_eq!(rt; hill.bout(5, 6), Some(bout(0, 2, 0)));
+    assert_eq!(rt; hill.bout(2, 6), None);
+    check_rows(&rt, &hill, &[(6, 6, 0), (5, 0, 1)])?;
+    assert!(rt; hill.audit(&mut arena));
+    Ok(())
 }

@@ -1,9 +1,10 @@
 -- The rows so far and those of the members that are left are all rows that are due.
 use Rattle.std.proofs.Common.{◌≡◌, ◌++◌, drop}
 use Rattle.koth_hill.specs.Rows.{rows_parts}
-use Rattle.koth_hill.specs.Scores.{rows_of_rank}
+use Rattle.koth_hill.specs.Table.{rows_of_rank}
+use Rattle.koth_hill.specs.Kept.{members_of}
 use Rattle.koth_hill.proofs.table.push_rank.Given as goal
 
 abbrev pub invariant-loop-i : goal.invariant-loop-i
 invariant-loop-i g l =
-    rows_parts l.rows.items ++ rows_of_rank l.scores l.rank (drop l.i l.members) (drop l.i l.scores) ≡ rows_parts l.fn.rows.items ++ rows_of_rank l.scores l.rank l.members l.scores
+    rows_parts l.rows.items ++ rows_of_rank l.scores l.rank (drop l.i (members_of l.members)) (drop l.i l.scores) ≡ rows_parts l.fn.rows.items ++ rows_of_rank l.scores l.rank (members_of l.members) l.scores

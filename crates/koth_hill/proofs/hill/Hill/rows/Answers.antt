@@ -1,31 +1,40 @@
-use Rattle.std.proofs.Common.{◌≡◌, List, Result, Ok, Err, subst, IfOk}
-use Rattle.koth_hill.specs.Hill.{hill_of}
+use Rattle.std.proofs.Common.{◌≡◌, ◌∙◌, List, Result, Ok, Err, ap, ap₂, refl, subst, IfOk}
+use Rattle.koth_match.specs.declared.bout.Bout.{Bout}
+use Rattle.koth_hill.specs.Hill.{Member}
+use Rattle.koth_hill.specs.Kept.{IsKept, kept_of, members_of, rows_of, entries_of, hill_in, kept_results, table_kept}
 use Rattle.koth_hill.specs.Laws.{IsRanking}
 use Rattle.koth_hill.specs.Rows.{rows_parts}
-use Rattle.koth_hill.specs.Table.{RowParts, table}
+use Rattle.koth_hill.specs.Table.{RowParts, table, table_by}
 use Rattle.koth_hill.proofs.HillLaws.{ranking}
-use Rattle.koth_hill.proofs.Tables.{table-is}
-use Rattle.koth_hill.proofs.Calls.{all-fit_here, few-here}
+use Rattle.koth_hill.proofs.Hills.{rounds-members}
+use Rattle.koth_hill.proofs.Truths.{true-table}
 use Rattle.koth_hill.proofs.hill.Hill.rows.Goals as goal
 
+pub rows_of-requires-clause-rounds : goal.rows_of-requires-clause-rounds
+rows_of-requires-clause-rounds g c =
+    let es = c.self.inside.members.items in
+    rounds-members (kept_of c.self.inside.settings c.self.inside.counter (members_of es) (rows_of es)) c.as_slice.result.now c.self.invariant.0 (ap rows_of c.as_slice.ensures.value)
+
+pub returns-clause-kept : goal.returns-clause-kept
+returns-clause-kept g c =
+    let P : List RowParts → Type 0 = λ due. IfOk c.rows_of.result (λ rows. rows_parts rows.items ≡ due) in
+    subst P
+    (ap₂ (λ (ms : List Member) (rows : List (List Bout)). table_by (kept_results (entries_of ms) rows) ms) (ap members_of c.as_slice.ensures.value) (ap rows_of c.as_slice.ensures.value)
+    ∙ ap table_kept c.self.view_is)
+    c.rows_of.ensures
+
 pub returns-clause-table : goal.returns-clause-table
-returns-clause-table g c =
-    let h = hill_of c.self.inside.settings c.self.inside.counter c.self.inside.members.items in
-    let P : List RowParts → Type 0 = λ table. IfOk c.rows_of.result (λ rows. rows_parts rows.items ≡ table) in
-    subst P (table-is h c.args.self.now c.as_slice.result.now c.self.view_is c.as_slice.ensures.value) c.rows_of.ensures
+returns-clause-table g c = λ holds.
+    let P : List RowParts → Type 0 = λ due. IfOk c.rows_of.result (λ rows. rows_parts rows.items ≡ due) in
+    let is : IsKept c.args.self.now = subst IsKept c.self.view_is c.self.invariant.0 in
+    subst P (true-table c.args.self.now is holds) (returns-clause-kept g c)
 
 if-ok : {T E : Type 0} (P Q : T → Type 0) (r : Result T E) → ((x : T) → P x → Q x) → IfOk r P → IfOk r Q
 if-ok P Q (Ok x) each p = each x p
 if-ok P Q (Err e) each p = p
 
 pub returns-clause-ranking : goal.returns-clause-ranking
-returns-clause-ranking g c =
-    let h = hill_of c.self.inside.settings c.self.inside.counter c.self.inside.members.items in
-    if-ok (λ rows. rows_parts rows.items ≡ table c.args.self.now) (λ rows. IsRanking c.args.self.now (rows_parts rows.items)) c.rows_of.result
-    (λ rows same. ranking h c.args.self.now (rows_parts rows.items) c.self.view_is c.self.invariant.0 same) (returns-clause-table g c)
-
-pub rows_of-requires-clause-members : goal.rows_of-requires-clause-members
-rows_of-requires-clause-members g c = all-fit_here (hill_of c.self.inside.settings c.self.inside.counter c.self.inside.members.items) c.as_slice.result.now c.as_slice.ensures.value c.self.invariant.0
-
-pub rows_of-requires-clause-few : goal.rows_of-requires-clause-few
-rows_of-requires-clause-few g c = few-here (hill_of c.self.inside.settings c.self.inside.counter c.self.inside.members.items) c.as_slice.result.now c.as_slice.ensures.value c.self.invariant.0
+returns-clause-ranking g c = λ holds.
+    let is : IsKept c.args.self.now = subst IsKept c.self.view_is c.self.invariant.0 in
+    if-ok (λ rows. rows_parts rows.items ≡ table (hill_in c.args.self.now)) (λ rows. IsRanking (hill_in c.args.self.now) (rows_parts rows.items)) c.rows_of.result
+    (λ rows same. ranking (hill_in c.args.self.now) (hill_in c.args.self.now) (rows_parts rows.items) refl is.hill same) (returns-clause-table g c holds)

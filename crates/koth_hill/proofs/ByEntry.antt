@@ -1,0 +1,68 @@
+-- Scores of members by what is kept are those of their entries.
+use Rattle.std.proofs.Common.{◌≡◌, ℕ, ◌+◌, Bool, true, false, List, [], ◌∷◌, ◌++◌, map, refl, sym, ap, ap₂, ◌∙◌, Option, None}
+use Rattle.std.specs.Prelude.{if◌then◌else◌}
+use Rattle.koth_match.specs.declared.bout.Bout.{Bout}
+use Rattle.koth_hill.specs.declared.score.Score.{Score}
+use Rattle.koth_hill.specs.Hill.{Member, Results, points}
+use Rattle.koth_hill.specs.Scores.{score_of, scores_of}
+use Rattle.koth_hill.specs.Step.{is_entry, without, one_older}
+use Rattle.koth_hill.specs.Kept.{Entrant, entries_of, members_of, rows_of, result_of, or_no_rounds}
+use Rattle.koth_hill.specs.Standings.{standing_of, entries_in, rows_in, points_between, points_among, left, score_among, scores_among}
+
+-- results that look at entries alone
+abbrev pub by_entry : (ℕ → ℕ → Bout) → Results
+by_entry r older_entry older younger_entry younger = r older_entry younger_entry
+
+-- what is kept of two entries
+abbrev pub kept_among : List ℕ → List (List Bout) → ℕ → ℕ → Bout
+kept_among entries rows older younger = or_no_rounds (result_of entries rows older younger)
+
+pub points-entries : (r : ℕ → ℕ → Bout) (ms : List Member) (m : Member) → points (by_entry r) ms m ≡ points_among r (entries_of ms) m.entry
+points-entries r [] m = refl
+points-entries r (x ∷ ms) m = ap (λ (n : ℕ). points_between r m.entry x.entry + n) (points-entries r ms m)
+
+pub score-entries : (r : ℕ → ℕ → Bout) (all ms : List Member) → map (score_of (by_entry r) all) ms ≡ map (score_among r (entries_of all)) (entries_of ms)
+score-entries r all [] = refl
+score-entries r all (m ∷ ms) =
+    ap₂ (λ (n : ℕ) (xs : List Score). record { entry = m.entry; points = n } ∷ xs) (points-entries r all m) (score-entries r all ms)
+
+pub scores-entries : (r : ℕ → ℕ → Bout) (ms : List Member) → scores_of (by_entry r) ms ≡ scores_among r (entries_of ms)
+scores-entries r ms = score-entries r ms ms
+
+-- ---- those that are left
+
+pub left-None : (es : List ℕ) → left None es ≡ es
+left-None [] = refl
+left-None (e ∷ es) = ap (λ (xs : List ℕ). e ∷ xs) (left-None es)
+
+either-entries : (b : Bool) (m : Member) (ms : List Member) → entries_of (if b then ms else m ∷ ms) ≡ (if b then entries_of ms else m.entry ∷ entries_of ms)
+either-entries true m ms = refl
+either-entries false m ms = refl
+
+pub left-entries : (out : Option ℕ) (ms : List Member) → left out (entries_of ms) ≡ entries_of (without out ms)
+left-entries out [] = refl
+left-entries out (m ∷ ms) =
+    ap (λ (xs : List ℕ). if is_entry m.entry out then xs else m.entry ∷ xs) (left-entries out ms) ∙ sym (either-entries (is_entry m.entry out) m (without out ms))
+
+either-append : (b : Bool) (e : ℕ) (xs ys : List ℕ) → (if b then xs ++ ys else e ∷ (xs ++ ys)) ≡ (if b then xs else e ∷ xs) ++ ys
+either-append true e xs ys = refl
+either-append false e xs ys = refl
+
+pub left-append : (out : Option ℕ) (xs ys : List ℕ) → left out (xs ++ ys) ≡ left out xs ++ left out ys
+left-append out [] ys = refl
+left-append out (e ∷ xs) ys =
+    ap (λ (zs : List ℕ). if is_entry e out then zs else e ∷ zs) (left-append out xs ys) ∙ either-append (is_entry e out) e (left out xs) (left out ys)
+
+pub entries-older : (ms : List Member) → entries_of (one_older ms) ≡ entries_of ms
+entries-older [] = refl
+entries-older (m ∷ ms) = ap (λ (xs : List ℕ). m.entry ∷ xs) (entries-older ms)
+
+-- ---- entrants
+
+pub entries-entrants : (es : List Entrant) → entries_in (map standing_of es) ≡ entries_of (members_of es)
+entries-entrants [] = refl
+entries-entrants (e ∷ es) = ap (λ (xs : List ℕ). e.member.entry ∷ xs) (entries-entrants es)
+
+pub rows-entrants : (es : List Entrant) → rows_in (map standing_of es) ≡ rows_of es
+rows-entrants [] = refl
+rows-entrants (e ∷ es) = ap (λ (xs : List (List Bout)). e.bouts ∷ xs) (rows-entrants es)

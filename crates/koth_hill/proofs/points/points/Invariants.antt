@@ -1,0 +1,11 @@
+-- The sum so far and what is earned against those that are left are what is earned against all.
+use Rattle.std.proofs.Common.{◌≡◌, ◌+◌, ◌*◌, ◌≤◌, drop, map}
+use Rattle.koth_hill.specs.Standings.{standing_parts, entries_in, kept_in, points_among, left}
+use Rattle.koth_hill.proofs.points.points.Given as goal
+
+abbrev pub invariant-loop-standing : goal.invariant-loop-standing
+invariant-loop-standing l = record {
+  value : l.sum + points_among (kept_in (map standing_parts l.standings)) (left l.out (entries_in (map standing_parts (drop l.standing-index l.standings)))) l.one
+      ≡ points_among (kept_in (map standing_parts l.standings)) (left l.out (entries_in (map standing_parts l.standings))) l.one;
+  small : l.sum ≤ 3000 * l.standing-index;
+}
