@@ -210,7 +210,7 @@ impl<A: Allocator> Hill<A> {
         ensures arena { arena.new.settings ≡ arena.old.settings }
     {
         let bouts = matches_with(arena, &self.settings, self.members.as_slice(), &warrior);
-        let _ = self.members.push(Entrant::new(entry, age, warrior, bouts));
+        self.put_back(entry, age, warrior, bouts.as_slice());
     }
 
     /// The table, highest score first, among equals the earlier entry first. No match is fought.
