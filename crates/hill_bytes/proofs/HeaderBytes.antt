@@ -48,8 +48,8 @@ place-at (suc n) (e ∷ es) (suc i) d rest inside few =
           ∙ (sym (drop-drop (17 * i) 17 ((entry_bytes e ++ entry_places n es) ++ rest)) ∙ further.1),
     )
 
--- one more entry was read
-pub set-step : (xs ys : List HeaderEntry) (i : ℕ) (e : HeaderEntry) → i < length xs → i < length ys → take i xs ≡ take i ys → e ≡ get_or ys i e → take (i + 1) (set xs i e) ≡ take (i + 1) ys
+-- one more of these was read
+pub set-step : {X : Type 0} (xs ys : List X) (i : ℕ) (e : X) → i < length xs → i < length ys → take i xs ≡ take i ys → e ≡ get_or ys i e → take (i + 1) (set xs i e) ≡ take (i + 1) ys
 set-step xs ys i e inside also same is =
     let room : i < length (set xs i e) = simp length-set inside in
     let written : take (i + 1) (set xs i e) ≡ take i xs ++ e ∷ [] =

@@ -13,7 +13,8 @@ use Rattle.war_types.specs.declared.settings.RawSettings.{RawSettings}
 use Rattle.war_types.specs.Settings.{AreSettings}
 use Rattle.war_types.specs.Title.{IsPrintable}
 use Rattle.war_types.specs.Warrior.{WarriorParts, HasNumbersBelow}
-use Rattle.hill_bytes.specs.Layout.{code_places, filled, IsSlot}
+use Rattle.hill_bytes.specs.declared.wins.Wins.{Wins}
+use Rattle.hill_bytes.specs.Layout.{code_places, filled, result_places, results_in, IsSlot}
 use Rattle.hill_bytes.proofs.OneHeader.{same-at}
 use Rattle.hill_bytes.proofs.SlotBytes.{back_rest, front-at, codes-at, len-at, start-at, name-at, author-at}
 
@@ -119,11 +120,12 @@ same_warrior s front back v w are is_v is_w =
     let few_w = is_w.fits.length in
     let first_v = is_v.fits.start in
     let first_w = is_w.fits.start in
-    let zeros : List ℕ = replicate 84 0 ++ replicate 40 0 in
-    let size : length v.code ≡ length w.code = same-at 2 (length v.code) (length w.code) (drop 288 back) (drop 2 (back_rest v)) (drop 2 (back_rest w)) (omega (arith, most, few_v)) (omega (arith, most, few_w)) (len-at back v is_v.back_is) (len-at back w is_w.back_is) in
-    let start : v.start ≡ w.start = same-at 2 v.start w.start (drop 290 back) (drop 4 (back_rest v)) (drop 4 (back_rest w)) (omega (arith, most, few_v, first_v)) (omega (arith, most, few_w, first_w)) (start-at back v is_v.back_is) (start-at back w is_w.back_is) in
-    let name : v.name ≡ w.name = title-same 48 v.name w.name (filled 48 v.author ++ zeros) (filled 48 w.author ++ zeros) is_v.titled.name.short is_w.titled.name.short is_v.titled.name.printable is_w.titled.name.printable (sym (name-at back v is_v.back_is) ∙ name-at back w is_w.back_is) in
-    let author : v.author ≡ w.author = title-same 48 v.author w.author zeros zeros is_v.titled.author.short is_w.titled.author.short is_v.titled.author.printable is_w.titled.author.printable (sym (author-at back v is_v.back_is) ∙ author-at back w is_w.back_is) in
+    let results : List Wins = results_in back in
+    let rest : List ℕ = result_places results ++ replicate 40 0 in
+    let size : length v.code ≡ length w.code = same-at 2 (length v.code) (length w.code) (drop 288 back) (drop 2 (back_rest v results)) (drop 2 (back_rest w results)) (omega (arith, most, few_v)) (omega (arith, most, few_w)) (len-at back v results is_v.back_is) (len-at back w results is_w.back_is) in
+    let start : v.start ≡ w.start = same-at 2 v.start w.start (drop 290 back) (drop 4 (back_rest v results)) (drop 4 (back_rest w results)) (omega (arith, most, few_v, first_v)) (omega (arith, most, few_w, first_w)) (start-at back v results is_v.back_is) (start-at back w results is_w.back_is) in
+    let name : v.name ≡ w.name = title-same 48 v.name w.name (filled 48 v.author ++ rest) (filled 48 w.author ++ rest) is_v.titled.name.short is_w.titled.name.short is_v.titled.name.printable is_w.titled.name.printable (sym (name-at back v results is_v.back_is) ∙ name-at back w results is_w.back_is) in
+    let author : v.author ≡ w.author = title-same 48 v.author w.author rest rest is_v.titled.author.short is_w.titled.author.short is_v.titled.author.printable is_w.titled.author.printable (sym (author-at back v results is_v.back_is) ∙ author-at back w results is_w.back_is) in
     let fronts : code_places 64 v.code ++ [] ≡ code_places 64 w.code ++ [] = ap (λ x. x ++ []) (sym (front-at front v is_v.front_is) ∙ front-at front w is_w.front_is) in
-    let code : v.code ≡ w.code = code-same 64 36 s.core v.code w.code [] [] (back_rest v) (back_rest w) core size (omega (arith, most, few_v)) is_v.fits.numbers is_w.fits.numbers fronts (sym (codes-at back v is_v.back_is) ∙ codes-at back w is_w.back_is) in
+    let code : v.code ≡ w.code = code-same 64 36 s.core v.code w.code [] [] (back_rest v results) (back_rest w results) core size (omega (arith, most, few_v)) is_v.fits.numbers is_w.fits.numbers fronts (sym (codes-at back v results is_v.back_is) ∙ codes-at back w results is_w.back_is) in
     λ k. record { code = code k; start = start k; name = name k; author = author k }

@@ -7,7 +7,8 @@ use Rattle.war_types.specs.declared.instr.Instr.{Instr}
 use Rattle.war_types.specs.declared.settings.RawSettings.{RawSettings}
 use Rattle.war_types.specs.Bytes.{instr_bytes}
 use Rattle.war_types.specs.Warrior.{WarriorParts, warrior_parts, Fits}
-use Rattle.hill_bytes.specs.Layout.{code_places, filled, front_bytes, back_bytes}
+use Rattle.hill_bytes.specs.declared.wins.Wins.{Wins}
+use Rattle.hill_bytes.specs.Layout.{code_places, filled, front_bytes, back_bytes, result_places}
 
 pub code-some : (n : ℕ) (is : List Instr) (i : ℕ) (d : Instr) → i < length is → i < n → code_places (n - i) (drop i is) ≡ instr_bytes (get_or is i d) ++ code_places (n - (i + 1)) (drop (i + 1) is)
 code-some n is i d inside few =
@@ -70,29 +71,34 @@ regrouped : (a b c d e f g : List ℕ) → ((((((a ++ b) ++ c) ++ d) ++ e) ++ f)
 regrouped a b c d e f g = simp append_assoc
 
 -- what stands behind the instructions of the second sector
-abbrev pub back_rest : WarriorParts → List ℕ
-back_rest w =
-    bytes_high_first 2 (length w.code) ++ (bytes_high_first 2 w.start ++ (filled 48 w.name ++ (filled 48 w.author ++ (replicate 84 0 ++ replicate 40 0))))
+abbrev pub back_rest : WarriorParts → List Wins → List ℕ
+back_rest w results =
+    bytes_high_first 2 (length w.code) ++ (bytes_high_first 2 w.start ++ (filled 48 w.name ++ (filled 48 w.author ++ (result_places results ++ replicate 40 0))))
 
-pub codes-at : (bytes : List ℕ) (w : WarriorParts) → bytes ≡ back_bytes w → bytes ≡ code_places 36 (drop 64 w.code) ++ back_rest w
+pub codes-at : (bytes : List ℕ) (w : WarriorParts) (results : List Wins) → bytes ≡ back_bytes w results → bytes ≡ code_places 36 (drop 64 w.code) ++ back_rest w results
 unfolding back_bytes
-codes-at bytes w e =
-    e ∙ regrouped (code_places 36 (drop 64 w.code)) (bytes_high_first 2 (length w.code)) (bytes_high_first 2 w.start) (filled 48 w.name) (filled 48 w.author) (replicate 84 0) (replicate 40 0)
+codes-at bytes w results e =
+    e ∙ regrouped (code_places 36 (drop 64 w.code)) (bytes_high_first 2 (length w.code)) (bytes_high_first 2 w.start) (filled 48 w.name) (filled 48 w.author) (result_places results) (replicate 40 0)
 
-pub len-at : (bytes : List ℕ) (w : WarriorParts) → bytes ≡ back_bytes w → drop 288 bytes ≡ back_rest w
-len-at bytes w e =
-    ap (drop 288) (codes-at bytes w e) ∙ drop_at (code_places 36 (drop 64 w.code)) (back_rest w) 288 (length-code_places 36 (drop 64 w.code))
+pub len-at : (bytes : List ℕ) (w : WarriorParts) (results : List Wins) → bytes ≡ back_bytes w results → drop 288 bytes ≡ back_rest w results
+len-at bytes w results e =
+    ap (drop 288) (codes-at bytes w results e) ∙ drop_at (code_places 36 (drop 64 w.code)) (back_rest w results) 288 (length-code_places 36 (drop 64 w.code))
 
-pub start-at : (bytes : List ℕ) (w : WarriorParts) → bytes ≡ back_bytes w → drop 290 bytes ≡ bytes_high_first 2 w.start ++ drop 4 (back_rest w)
-start-at bytes w e = sym (drop-drop 2 288 bytes) ∙ ap (drop 2) (len-at bytes w e)
+pub start-at : (bytes : List ℕ) (w : WarriorParts) (results : List Wins) → bytes ≡ back_bytes w results → drop 290 bytes ≡ bytes_high_first 2 w.start ++ drop 4 (back_rest w results)
+start-at bytes w results e = sym (drop-drop 2 288 bytes) ∙ ap (drop 2) (len-at bytes w results e)
 
-pub name-at : (bytes : List ℕ) (w : WarriorParts) → bytes ≡ back_bytes w → drop 292 bytes ≡ filled 48 w.name ++ (filled 48 w.author ++ (replicate 84 0 ++ replicate 40 0))
-name-at bytes w e = sym (drop-drop 4 288 bytes) ∙ ap (drop 4) (len-at bytes w e)
+pub name-at : (bytes : List ℕ) (w : WarriorParts) (results : List Wins) → bytes ≡ back_bytes w results → drop 292 bytes ≡ filled 48 w.name ++ (filled 48 w.author ++ (result_places results ++ replicate 40 0))
+name-at bytes w results e = sym (drop-drop 4 288 bytes) ∙ ap (drop 4) (len-at bytes w results e)
 
-pub author-at : (bytes : List ℕ) (w : WarriorParts) → bytes ≡ back_bytes w → drop 340 bytes ≡ filled 48 w.author ++ (replicate 84 0 ++ replicate 40 0)
-author-at bytes w e =
-    sym (drop-drop 48 292 bytes) ∙ ap (drop 48) (name-at bytes w e)
-    ∙ drop_at (filled 48 w.name) (filled 48 w.author ++ (replicate 84 0 ++ replicate 40 0)) 48 (length-filled 48 w.name)
+pub author-at : (bytes : List ℕ) (w : WarriorParts) (results : List Wins) → bytes ≡ back_bytes w results → drop 340 bytes ≡ filled 48 w.author ++ (result_places results ++ replicate 40 0)
+author-at bytes w results e =
+    sym (drop-drop 48 292 bytes) ∙ ap (drop 48) (name-at bytes w results e)
+    ∙ drop_at (filled 48 w.name) (filled 48 w.author ++ (result_places results ++ replicate 40 0)) 48 (length-filled 48 w.name)
+
+pub results-at : (bytes : List ℕ) (w : WarriorParts) (results : List Wins) → bytes ≡ back_bytes w results → drop 388 bytes ≡ result_places results ++ replicate 40 0
+results-at bytes w results e =
+    sym (drop-drop 48 340 bytes) ∙ ap (drop 48) (author-at bytes w results e)
+    ∙ drop_at (filled 48 w.author) (result_places results ++ replicate 40 0) 48 (length-filled 48 w.author)
 
 some-made : {X : Type 0} (r : Option X) (P : Type 0) (v : X) → SomeIff r P v → P → r ≡ Some v
 some-made None P v iff p = absurd (iff p)

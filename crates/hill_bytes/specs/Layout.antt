@@ -1,6 +1,7 @@
 -- What the sectors hold: two headers in turn, and two sectors for each slot. Numbers are big endian.
 use Rattle.std.specs.Prelude.{◌≡◌, ℕ, zero, suc, ◌+◌, ◌-◌, ◌*◌, ◌^◌, ◌<◌, ◌≤◌, ◌≢◌, List, [], ◌∷◌, ◌++◌, length, drop, replicate, All, Option, Some, None, codes}
 use Rattle.std.specs.Int.{bytes_high_first}
+use Rattle.byteorder.specs.Endian.{big_number}
 use Rattle.war_types.specs.declared.instr.Instr.{Instr}
 use Rattle.war_types.specs.declared.settings.RawSettings.{RawSettings}
 use Rattle.war_types.specs.Settings.{AreSettings}
@@ -8,6 +9,7 @@ use Rattle.war_types.specs.Bytes.{instr_bytes}
 use Rattle.war_types.specs.Title.{IsTitle}
 use Rattle.war_types.specs.Warrior.{WarriorParts, Fits}
 use Rattle.hill_bytes.specs.declared.header.HeaderEntry.{HeaderEntry}
+use Rattle.hill_bytes.specs.declared.wins.Wins.{Wins}
 
 -- a header: how many were written before it, and of a hill all but its warriors, with the slots that hold these
 pub record HeaderParts : Type 0 where
@@ -49,7 +51,7 @@ pub record IsHeaderParts (h : HeaderParts) : Type 0 where
 
 -- what a header's sector begins with
 unfoldable pub magic : List ℕ
-magic = codes "KOTHHIL0"
+magic = codes "KOTHHIL1"
 
 abbrev pub settings_bytes : RawSettings → List ℕ
 settings_bytes s =
@@ -92,15 +94,37 @@ filled (suc n) (b ∷ bs) = b ∷ filled n bs
 unfoldable pub front_bytes : WarriorParts → List ℕ
 front_bytes w = code_places 64 w.code
 
--- the second sector: instructions 64 to 99, the code's length, the start, the two names, and the places of results, which are zero
-unfoldable pub back_bytes : WarriorParts → List ℕ
-back_bytes w =
-    code_places 36 (drop 64 w.code) ++ bytes_high_first 2 (length w.code) ++ bytes_high_first 2 w.start
-    ++ filled 48 w.name ++ filled 48 w.author ++ replicate 84 0 ++ replicate 40 0
+-- the rounds that two warriors won, the older first
+abbrev pub wins_bytes : Wins → List ℕ
+wins_bytes w = bytes_high_first 2 w.older ++ bytes_high_first 2 w.younger
 
--- both sectors of a slot
-abbrev pub slot_bytes : WarriorParts → List ℕ
-slot_bytes w = front_bytes w ++ back_bytes w
+-- the places of these results, one behind the other
+abbrev pub result_places : List Wins → List ℕ
+result_places [] = []
+result_places (w ∷ ws) = wins_bytes w ++ result_places ws
+
+-- the second sector: instructions 64 to 99, the code's length, the start, the two names, and the results by the older warrior's slot
+unfoldable pub back_bytes : WarriorParts → List Wins → List ℕ
+back_bytes w results =
+    code_places 36 (drop 64 w.code) ++ bytes_high_first 2 (length w.code) ++ bytes_high_first 2 w.start
+    ++ filled 48 w.name ++ filled 48 w.author ++ result_places results ++ replicate 40 0
+
+-- what stands at the front of these bytes, read as a result
+abbrev pub wins_in : List ℕ → Wins
+wins_in bytes = record { older = big_number 2 bytes; younger = big_number 2 (drop 2 bytes) }
+
+-- so many results, one behind the other
+abbrev pub results_from : ℕ → List ℕ → List Wins
+results_from zero bytes = []
+results_from (suc n) bytes = wins_in bytes ∷ results_from n (drop 4 bytes)
+
+-- the 21 results in the second sector of a slot
+unfoldable pub results_in : List ℕ → List Wins
+results_in back = results_from 21 (drop 388 back)
+
+-- no more rounds were won than a match has
+abbrev pub FitRounds : ℕ → List Wins → Type 0
+FitRounds rounds results = All (λ w. w.older + w.younger ≤ rounds) results
 
 -- both names are titles
 pub record IsTitled (w : WarriorParts) : Type 0 where
@@ -111,8 +135,9 @@ pub record IsTitled (w : WarriorParts) : Type 0 where
 pub record IsSlot (s : RawSettings) (front back : List ℕ) (w : WarriorParts) : Type 0 where
   pub fits : Fits s w
   pub titled : IsTitled w
+  pub rounds : FitRounds s.rounds (results_in back)
   pub front_is : front ≡ front_bytes w
-  pub back_is : back ≡ back_bytes w
+  pub back_is : back ≡ back_bytes w (results_in back)
 
 -- where the two sectors of a slot lie
 abbrev pub front_sector : ℕ → ℕ

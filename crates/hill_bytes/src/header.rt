@@ -175,7 +175,7 @@ pub fn encode_header(header: &Header) -> [u8; 512]
     ensures { result ≡ header_bytes header.now }
 {
     let mut sector = SectorWriter::new();
-    sector.put(b"KOTHHIL0");
+    sector.put(b"KOTHHIL1");
     sector.put_u64(header.generation());
     put_settings(&mut sector, header.settings());
     sector.put_zeros(4);

@@ -1,14 +1,16 @@
 //! The slot: the two sectors that hold a warrior.
 
-ghost use Rattle.std.specs.Prelude.{◌≡◌, ◌+◌, ◌*◌, ◌<◌, ◌≤◌, ◌++◌, ℕ, List, All, length, drop, get_or, replicate, Some, IfOk, IfSome};
+ghost use Rattle.std.specs.Prelude.{◌≡◌, ◌↔◌, ◌+◌, ◌*◌, ◌<◌, ◌≤◌, ◌++◌, ℕ, List, All, IsTrue, length, drop, get_or, replicate, Some, IfOk, IfSome};
 ghost use Rattle.war_types.specs.declared.instr.Instr.{Instr};
 ghost use Rattle.war_types.specs.Bytes.{instr_bytes};
 ghost use Rattle.war_types.specs.Title.{IsTitle};
 ghost use Rattle.war_types.specs.Warrior.{WarriorParts, HasNumbersBelow, Fits};
-ghost use Rattle.hill_bytes.specs.Layout.{code_places, filled, front_bytes, back_bytes, IsTitled, IsSlot, IsSlotRead};
+ghost use Rattle.hill_bytes.specs.Layout.{code_places, filled, front_bytes, back_bytes, result_places, results_in, wins_in, FitRounds, IsTitled, IsSlot, IsSlotRead};
 
 use crate::header::reader::u16_at;
 use crate::header::writer::SectorWriter;
+use crate::wins::Wins;
+use byteorder::{BigEndian, ByteOrder};
 use std::alloc::{AllocError, Allocator};
 use war_types::{Instr, Settings, Title, Warrior};
 
@@ -18,12 +20,18 @@ const FRONT_PLACES: usize = 64;
 /// Instructions that stand in the second sector.
 const BACK_PLACES: usize = 36;
 
+/// Results that stand in the second sector: one for each slot that an older warrior may have.
+pub const RESULTS: usize = 21;
+
+/// Where they begin in it.
+const RESULTS_AT: usize = 388;
+
 /// The two sectors of a slot.
 #[derive(Debug, Drop)]
 pub struct Slot {
     /// Instructions 0 to 63.
     pub front: [u8; 512],
-    /// Instructions 64 to 99, their number, the start, the two names, and the places of results.
+    /// Instructions 64 to 99, their number, the start, the two names, and the results by the older warrior's slot.
     pub back: [u8; 512],
 }
 
@@ -39,10 +47,10 @@ impl Slot {
         }
     }
 
-    /// The sectors that hold a warrior. It takes no memory.
-    pub fn encode<A: Allocator>(warrior: &Warrior<A>) -> Slot
+    /// The sectors that hold a warrior and the results of its matches, by the older warrior's slot. It takes no memory.
+    pub fn encode<A: Allocator>(warrior: &Warrior<A>, results: &[Wins; RESULTS]) -> Slot
         ensures front { result.front ≡ front_bytes warrior.now }
-        ensures back { result.back ≡ back_bytes warrior.now }
+        ensures back { result.back ≡ back_bytes warrior.now results.now }
         ensures titled { IsTitled warrior.now }
     {
         let code = warrior.code();
@@ -58,7 +66,7 @@ impl Slot {
         back.put_u16(warrior.start());
         put_title(&mut back, warrior.name());
         put_title(&mut back, warrior.author());
-        back.put_zeros(84);
+        put_results(&mut back, results);
         back.put_zeros(40);
         Slot {
             front: front.into_sector(),
@@ -74,15 +82,31 @@ impl Slot {
     ) -> Result<Option<Warrior<A>>, AllocError>
         ensures { IfOk result (IsSlotRead settings.now self.now.front self.now.back) }
     {
+        let results = self.results();
+        if !fit_rounds(settings.rounds(), &results) {
+            return Ok(None);
+        }
         let Some(warrior) = self.read(alloc, settings)? else {
             return Ok(None);
         };
-        let again = Slot::encode(&warrior);
+        let again = Slot::encode(&warrior, &results);
         if again.front == self.front && again.back == self.back {
             Ok(Some(warrior))
         } else {
             Ok(None)
         }
+    }
+
+    /// The results that stand in the second sector, by the older warrior's slot. It takes no memory.
+    pub fn results(&self) -> [Wins; RESULTS]
+        ensures value { result ≡ results_in self.now.back }
+        ensures len { length result ≡ 21 }
+    {
+        let mut results = [Wins::NONE; RESULTS];
+        for place in 0..RESULTS {
+            results[place] = wins_at(&self.back, RESULTS_AT + 4 * place);
+        }
+        results
     }
 
     /// Reads the fields. Of sectors that hold no warrior it may give any that fits, or none.
@@ -145,6 +169,24 @@ impl Slot {
     }
 }
 
+/// The result at a place of a sector.
+fn wins_at(sector: &[u8; 512], at: usize) -> Wins
+    requires { at + 4 ≤ 512 }
+    ensures { result ≡ wins_in (drop at sector.now) }
+{
+    Wins {
+        older: BigEndian::read_u16(&sector[at..]),
+        younger: BigEndian::read_u16(&sector[at + 2..]),
+    }
+}
+
+/// Whether no more rounds were won than a match has.
+fn fit_rounds(rounds: u16, results: &[Wins]) -> bool
+    ensures { IsTrue result ↔ FitRounds rounds results.now }
+{
+    results.iter().all(|wins| u32::from(wins.older) + u32::from(wins.younger) <= u32::from(rounds))
+}
+
 fn read_instr(sector: &[u8; 512], at: usize, core: u16) -> Option<Instr>
     requires { at + 8 ≤ 512 }
     ensures { (i : Instr) (rest : List ℕ) → HasNumbersBelow core i → drop at sector.now ≡ instr_bytes i ++ rest → result ≡ Some i }
@@ -175,6 +217,18 @@ fn put_code(sector: &mut SectorWriter, code: &[Instr], places: usize)
             Some(instr) => sector.put(&instr.to_bytes()),
             None => sector.put_zeros(8),
         }
+    }
+}
+
+/// Writes results one behind the other.
+fn put_results(sector: &mut SectorWriter, results: &[Wins])
+    requires { length sector.old + 4 * length results.now ≤ 512 }
+    ensures value { sector.new ≡ sector.old ++ result_places results.now }
+    ensures len { length sector.new ≡ length sector.old + 4 * length results.now }
+{
+    for wins in results {
+        sector.put_u16(wins.older);
+        sector.put_u16(wins.younger);
     }
 }
 

@@ -6,7 +6,7 @@ use Rattle.sector_disk.specs.Facts.{DeviceFacts}
 use Rattle.sector_disk.specs.Disk.{current, synced}
 use Rattle.sector_disk.specs.Changes.{after, Begun, Changes}
 use Rattle.sector_disk.proofs.Images.{settled-synced}
-use Rattle.koth_hill.specs.Step.{new_hill}
+use Rattle.koth_hill.specs.Kept.{new_kept}
 use Rattle.hill_images.specs.declared.refusal.Refusal.{Refusal}
 use Rattle.hill_images.specs.declared.refusal.Refusal.TheVariants as refusals
 use Rattle.hill_bytes.specs.Layout.{HeaderParts, sectors_for}
@@ -43,7 +43,7 @@ first_or_not facts old mid new s (Ok h) are room front back settled none is_firs
     settings = are;
     first = is_first;
     was_none = none;
-    ready = λ lawful. subst (λ x. IsReady (facts.disk new) x (new_hill s 0)) (sym is_first)
+    ready = λ lawful. subst (λ x. IsReady (facts.disk new) x (new_kept s 0)) (sym is_first)
         (first_committed (synced (facts.disk old)) (facts.disk new) s are (none lawful) (changes (front.same_laws.1 lawful) ∙ ap (after (commits (first_header s))) (settled lawful)));
   },
   tt,

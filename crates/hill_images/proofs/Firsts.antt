@@ -10,6 +10,7 @@ use Rattle.sector_disk.specs.Changes.{after, Begun}
 use Rattle.sector_disk.proofs.Images.{put-same, put-other, current-wrote, image-current, images_read, images_write, images_settled, images_sync, settled-synced}
 use Rattle.koth_hill.specs.Hill.{IsHill, MayStand}
 use Rattle.koth_hill.specs.Step.{new_hill}
+use Rattle.koth_hill.specs.Kept.{new_kept}
 use Rattle.hill_bytes.specs.Layout.{HeaderParts, IsHeaderParts, IsHeader, IsEntry, header_bytes, sectors_for}
 use Rattle.hill_images.specs.Stands.{IsNewest, Shows, Stands, IsReady}
 use Rattle.hill_images.specs.Places.{commits}
@@ -47,13 +48,13 @@ first_newest s image are none = record {
   ];
 }
 
-first_shows : (s : RawSettings) (image : ℕ → List ℕ) → AreSettings s → HoldsNone image → Shows (first_written s image) (first_header s) (new_hill s 0)
-first_shows s image are none = record { newest = first_newest s image are none; settings = refl; counter = refl; members = tt }
+first_shows : (s : RawSettings) (image : ℕ → List ℕ) → AreSettings s → HoldsNone image → Shows (first_written s image) (first_header s) (new_kept s 0)
+first_shows s image are none = record { newest = first_newest s image are none; settings = refl; counter = refl; members = tt; results = refl }
 
-pub first_committed : (disk new : Disk) (s : RawSettings) → AreSettings s → HoldsNone (current disk) → new ≡ after (commits (first_header s)) disk → IsReady new (first_header s) (new_hill s 0)
-first_committed disk new s are none made = subst (λ d. IsReady d (first_header s) (new_hill s 0)) (sym made) (record {
+pub first_committed : (disk new : Disk) (s : RawSettings) → AreSettings s → HoldsNone (current disk) → new ≡ after (commits (first_header s)) disk → IsReady new (first_header s) (new_kept s 0)
+first_committed disk new s are none made = subst (λ d. IsReady d (first_header s) (new_kept s 0)) (sym made) (record {
   settled = settled-synced (wrote 0 (header_bytes (first_header s)) disk);
-  shows = subst (λ image. Shows image (first_header s) (new_hill s 0)) (sym (current-wrote disk 0 (header_bytes (first_header s)))) (first_shows s (current disk) are none);
+  shows = subst (λ image. Shows image (first_header s) (new_kept s 0)) (sym (current-wrote disk 0 (header_bytes (first_header s)))) (first_shows s (current disk) are none);
 })
 
 abbrev NoneOrFirst : ℕ → RawSettings → (ℕ → List ℕ) → Type 0

@@ -1,7 +1,9 @@
 pub mod Held
+pub mod Results
 pub mod Newest
 pub mod Stops
 pub mod Nexts
+pub mod Shown
 pub mod Finds
 pub mod Slots
 pub mod Submitted

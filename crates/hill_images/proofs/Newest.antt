@@ -5,11 +5,12 @@ use Rattle.std.proofs.Math.Nat.{mod-lt}
 use Rattle.sector_disk.specs.Image.{put}
 use Rattle.sector_disk.proofs.Images.{put-same, put-other}
 use Rattle.koth_hill.specs.Hill.{Member, Hill}
+use Rattle.koth_hill.specs.Kept.{Kept, hill_in, fought}
 use Rattle.war_types.specs.declared.settings.RawSettings.{RawSettings}
 use Rattle.war_types.specs.Settings.{AreSettings}
 use Rattle.hill_bytes.specs.declared.header.HeaderEntry.{HeaderEntry}
 use Rattle.hill_bytes.specs.Layout.{HeaderParts, IsHeaderParts, IsHeader, header_bytes, front_sector, back_sector}
-use Rattle.hill_images.specs.Stands.{IsNewest, IsHeld, AllHeld, Shows, Stands}
+use Rattle.hill_images.specs.Stands.{IsNewest, IsHeld, AllHeld, Shows, Reads, Stands, results_read}
 use Rattle.hill_bytes.proofs.Codes.{one_header, one_slot}
 
 -- the sector of a generation is one of the first two
@@ -67,16 +68,21 @@ one_list s image (e ∷ es) (m ∷ ms) [] are a b = absurd b
 one_list s image (e ∷ es) (m ∷ ms) (n ∷ ns) are a b = λ i. one_member s image e m n are a.0 b.0 i ∷ one_list s image es ms ns are a.1 b.1 i
 
 -- a newest header shows one hill
-pub one_shown : (image : ℕ → List ℕ) (h : HeaderParts) (x y : Hill) → Shows image h x → Shows image h y → x ≡ y
+pub one_shown : (image : ℕ → List ℕ) (h : HeaderParts) (x y : Kept) → Shows image h x → Shows image h y → x ≡ y
 one_shown image h x y is_x is_y =
     let settings : x.settings ≡ y.settings = sym is_x.settings ∙ is_y.settings in
     let are : AreSettings x.settings = subst AreSettings is_x.settings is_x.newest.here.header.settings in
     let members : x.members ≡ y.members = one_list x.settings image h.entries x.members y.members are is_x.members (subst (λ s. AllHeld s image h.entries y.members) (sym settings) is_y.members) in
-    λ i. record { settings = settings i; counter = (sym is_x.counter ∙ is_y.counter) i; members = members i }
+    let results : x.results ≡ y.results = is_x.results ∙ ap (λ (s : RawSettings). results_read s.rounds image h.entries) settings ∙ sym is_y.results in
+    λ i. record { settings = settings i; counter = (sym is_x.counter ∙ is_y.counter) i; members = members i; results = results i }
 
--- an image stands for one hill at most
-pub stands_once : (size : ℕ) (image : ℕ → List ℕ) (x y : Hill) → Stands size image x → Stands size image y → x ≡ y
-stands_once size image x y is_x is_y =
+-- an image reads as one hill at most
+pub reads_once : (size : ℕ) (image : ℕ → List ℕ) (x y : Kept) → Reads size image x → Reads size image y → x ≡ y
+reads_once size image x y is_x is_y =
     one_shown image is_y.header x y
     (subst (λ h. Shows image h x) (one_newest image is_x.header is_y.header is_x.shows.newest is_y.shows.newest) is_x.shows)
     is_y.shows
+
+-- and stands for one at most
+pub stands_once : (size : ℕ) (image : ℕ → List ℕ) (x y : Hill) → Stands size image x → Stands size image y → x ≡ y
+stands_once size image x y is_x is_y = ap hill_in (reads_once size image (fought x) (fought y) is_x is_y)

@@ -4,11 +4,11 @@ use Rattle.war_types.specs.declared.settings.RawSettings.{RawSettings}
 use Rattle.sector_disk.specs.Facts.{DeviceFacts}
 use Rattle.sector_disk.specs.Disk.{current, synced, IsSettled}
 use Rattle.sector_disk.proofs.Images.{settled-synced}
-use Rattle.koth_hill.specs.Hill.{Hill}
+use Rattle.koth_hill.specs.Kept.{Kept}
 use Rattle.hill_images.specs.declared.refusal.Refusal.{Refusal}
 use Rattle.hill_images.specs.declared.refusal.Refusal.TheVariants as refusals
 use Rattle.hill_bytes.specs.Layout.{HeaderParts, sectors_for}
-use Rattle.hill_images.specs.Stands.{IsNewest, AllHeld, Shows}
+use Rattle.hill_images.specs.Stands.{IsNewest, AllHeld, Shows, results_read}
 use Rattle.sector_disk.specs.Served.{IsKept}
 use Rattle.hill_images.specs.Opening.{IsRecovered, IsNotOpened, Refuses}
 use Rattle.hill_images.specs.Reading.{refusal_of, HillNotRead, HillRead, HillRefused, IsHillFound}
@@ -24,12 +24,13 @@ pub if_err_map : {T E : Type 0} (P Q : E → Type 0) (result : Result T E) → (
 if_err_map P Q (Ok x) map is = tt
 if_err_map P Q (Err e) map is = map e is
 
-shown : {D : Type 0} (facts : DeviceFacts D) (mid : D) (image : ℕ → List ℕ) (h : HeaderParts) (hill : Hill) → current (facts.disk mid) ≡ image → facts.lawful mid → IsNewest image h → HillRead facts mid h hill → Shows image h hill
+shown : {D : Type 0} (facts : DeviceFacts D) (mid : D) (image : ℕ → List ℕ) (h : HeaderParts) (hill : Kept) → current (facts.disk mid) ≡ image → facts.lawful mid → IsNewest image h → HillRead facts mid h hill → Shows image h hill
 shown facts mid image h hill same lawful newest read = record {
   newest = newest;
   settings = read.named.settings;
   counter = read.named.counter;
   members = subst (λ i. AllHeld hill.settings i h.entries hill.members) same (read.held lawful);
+  results = subst (λ i. hill.results ≡ results_read hill.settings.rounds i h.entries) same (read.results lawful);
 }
 
 -- its warriors were not read
@@ -39,13 +40,13 @@ not_read facts old new h unread.Memory room failed = tt
 not_read facts old new h unread.Damaged room failed = (room, failed)
 
 -- the hill of the newest header was recovered
-pub recovered : {D : Type 0} (facts : DeviceFacts D) (old mid new : D) (given h : HeaderParts) (hill : Hill) (arena : RawSettings) → IsKept facts old mid → IsKept facts mid new → (facts.lawful old → facts.disk mid ≡ synced (facts.disk old)) → (facts.lawful mid → facts.disk new ≡ facts.disk mid) → (facts.lawful old → IsNewest (current (facts.disk old)) given) → IsHillFound facts mid given h hill arena → IsRecovered facts old new h hill arena
+pub recovered : {D : Type 0} (facts : DeviceFacts D) (old mid new : D) (given h : HeaderParts) (hill : Kept) (arena : RawSettings) → IsKept facts old mid → IsKept facts mid new → (facts.lawful old → facts.disk mid ≡ synced (facts.disk old)) → (facts.lawful mid → facts.disk new ≡ facts.disk mid) → (facts.lawful old → IsNewest (current (facts.disk old)) given) → IsHillFound facts mid given h hill arena → IsRecovered facts old new h hill arena
 recovered facts old mid new given h hill arena front back settled same newest found = record {
   sound = record {
     room = subst (λ n. sectors_for hill.settings.capacity ≤ n) (sym back.same_size) room_mid;
     arena_of = found.arena_of ∙ found.read.named.settings;
     header = found.header;
-    is_hill = found.read.is_hill;
+    kept = found.read.kept;
     named = found.read.named;
     ready = λ lawful. λ is_open. record {
       settled = subst (λ d. IsSettled d) (sym (disk_new (old_lawful lawful))) (settled-synced (facts.disk old));

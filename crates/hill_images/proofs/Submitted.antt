@@ -1,5 +1,6 @@
 -- A submission that is placed or falls: its header, its hill, and what every image then stands for.
-use Rattle.std.proofs.Common.{◌≡◌, ◌≢◌, ◌⊎◌, inl, inr, ℕ, suc, ◌+◌, ◌-◌, ◌^◌, ◌<◌, ◌≤◌, Bool, true, false, if◌then◌else◌, List, [], ◌∷◌, ◌++◌, length, All, Option, refl, sym, ap, subst, arith}
+use Rattle.std.proofs.Common.{◌≡◌, ◌≢◌, ◌⊎◌, inl, inr, ℕ, ◌+◌, ◌-◌, ◌^◌, ◌<◌, ◌≤◌, Bool, true, false, if◌then◌else◌, List, [], ◌∷◌, ◌++◌, length, All, Option, refl, sym, ap, subst, arith}
+use Rattle.std.proofs.lemmas.Bool.{cond-true, cond-false}
 use Rattle.std.proofs.lemmas.List.Elements.{All-nil, All-cons, All-head, All-tail}
 use Rattle.war_types.specs.declared.settings.RawSettings.{RawSettings}
 use Rattle.war_types.specs.Settings.{AreSettings}
@@ -8,38 +9,40 @@ use Rattle.sector_disk.specs.Disk.{Disk, current}
 use Rattle.sector_disk.specs.Image.{Images}
 use Rattle.sector_disk.specs.Changes.{after, Begun}
 use Rattle.sector_disk.proofs.Images.{images_settled}
-use Rattle.koth_hill.specs.Hill.{Member, Hill, IsHill, MayStand, RiseFrom, fights}
-use Rattle.koth_hill.specs.Step.{is_entry, without, one_older, challenger, falling, stays, verdict, step, after_stay, after_fall, matches_with}
-use Rattle.koth_hill.proofs.Verdicts.{verdict-stays, verdict-falls, verdict-entry, step-stays, step-falls}
+use Rattle.koth_hill.specs.Hill.{Member, Hill, IsHill, MayStand, RiseFrom}
+use Rattle.koth_hill.specs.Step.{is_entry, without, one_older, challenger, falling_by, stays_by, after_stay, after_fall}
+use Rattle.koth_hill.specs.Kept.{Kept, hill_in, fresh, known, verdict_kept, kept_stay, kept_fall, step_kept, IsKept}
+use Rattle.koth_hill.proofs.RowsKept.{matches-rounds}
+use Rattle.koth_hill.proofs.Verdicts.{verdict-stays, verdict-falls, verdict-entry, verdict-bouts}
 use Rattle.hill_bytes.specs.declared.header.HeaderEntry.{HeaderEntry}
-use Rattle.hill_bytes.specs.Layout.{HeaderParts, IsHeaderParts, IsEntry, EntriesRise, SlotsDiffer, SlotIsFree, IsTitled, sectors_for}
-use Rattle.hill_images.specs.Stands.{Stands, IsReady}
+use Rattle.hill_bytes.specs.declared.wins.Wins.{Wins}
+use Rattle.hill_bytes.specs.Layout.{HeaderParts, IsHeaderParts, IsEntry, IsSlot, EntriesRise, SlotsDiffer, SlotIsFree, IsTitled, front_bytes, back_bytes, sectors_for}
+use Rattle.hill_bytes.proofs.Results.{slot-written}
+use Rattle.hill_images.specs.Stands.{Reads, IsReady}
 use Rattle.hill_images.specs.Named.{Agree, IsNamed}
-use Rattle.hill_images.specs.Places.{kept_entries, new_entry, header_placed, header_passed, commits, places}
+use Rattle.hill_images.specs.Places.{kept_entries, new_entry, header_placed, header_passed, results_by_slot, commits, places}
 use Rattle.hill_images.proofs.Stops.{Either, IsStep, IsPlacing, committed, commit_stopped, placed, place_stopped}
-use Rattle.hill_images.proofs.Nexts.{shows_placed, shows_passed}
+use Rattle.hill_images.proofs.Results.{length-by_slot, fits-by_slot}
+use Rattle.hill_images.proofs.Nexts.{agree_length, shows_placed, shows_passed}
 
 -- the verdict and the step are of one mind
-pub verdict_is : (h : Hill) (w : WarriorParts) → ((verdict h w).stays ≡ stays h w) × ((verdict h w).falls ≡ falling h w) × ((verdict h w).entry ≡ h.counter + 1)
-verdict_is h w = (
-  verdict-stays (fights h.settings) (matches_with h.settings h.members w) h w,
-  verdict-falls (fights h.settings) (matches_with h.settings h.members w) h w,
-  verdict-entry (fights h.settings) (matches_with h.settings h.members w) h w,
+pub verdict_is : (k : Kept) (w : WarriorParts) → ((verdict_kept k w).stays ≡ stays_by (known k w) (hill_in k) w) × ((verdict_kept k w).falls ≡ falling_by (known k w) (hill_in k) w) × ((verdict_kept k w).entry ≡ k.counter + 1)
+verdict_is k w = (
+  verdict-stays (known k w) (fresh k w) (hill_in k) w,
+  verdict-falls (known k w) (fresh k w) (hill_in k) w,
+  verdict-entry (known k w) (fresh k w) (hill_in k) w,
 )
 
-pub step_stays : (h : Hill) (w : WarriorParts) → stays h w ≡ true → step h w ≡ after_stay h w (falling h w)
-step_stays h w is = step-stays (fights h.settings) h w is
+pub verdict_bouts : (k : Kept) (w : WarriorParts) → (verdict_kept k w).bouts ≡ fresh k w
+verdict_bouts k w = verdict-bouts (known k w) (fresh k w) (hill_in k) w
 
-pub step_falls : (h : Hill) (w : WarriorParts) → stays h w ≡ false → step h w ≡ after_fall h
-step_falls h w is = step-falls (fights h.settings) h w is
+pub step_stays : (k : Kept) (w : WarriorParts) → stays_by (known k w) (hill_in k) w ≡ true → step_kept k w ≡ kept_stay k w (falling_by (known k w) (hill_in k) w)
+step_stays k w is = cond-true (stays_by (known k w) (hill_in k) w) (kept_stay k w (falling_by (known k w) (hill_in k) w)) (kept_fall k) is
 
--- entries that agree with members rise, are few, and are old, as those are
-pub agree_length : (es : List HeaderEntry) (ms : List Member) → Agree es ms → length es ≡ length ms
-agree_length [] [] agree = refl
-agree_length [] (m ∷ ms) agree = absurd agree
-agree_length (e ∷ es) [] agree = absurd agree
-agree_length (e ∷ es) (m ∷ ms) agree = ap suc (agree_length es ms agree.2)
+pub step_falls : (k : Kept) (w : WarriorParts) → stays_by (known k w) (hill_in k) w ≡ false → step_kept k w ≡ kept_fall k
+step_falls k w is = cond-false (stays_by (known k w) (hill_in k) w) (kept_stay k w (falling_by (known k w) (hill_in k) w)) (kept_fall k) is
 
+-- entries that agree with members rise, and are old, as those are
 pub agree_rising : (before : ℕ) (es : List HeaderEntry) (ms : List Member) → Agree es ms → RiseFrom before ms → EntriesRise before es
 agree_rising before [] [] agree rise = tt
 agree_rising before [] (m ∷ ms) agree rise = absurd agree
@@ -177,50 +180,62 @@ passed_fits h hill is named hill_fits more =
     header_fits (header_passed h) (after_fall hill) (hill_passed hill hill_fits) (named_passed h hill named) (omega (arith, more)) (let below : h.counter ≤ h.generation = is.counter in omega arith)
     (up_to_all h.settings.capacity h.counter h.entries is.entries) is.slots
 
--- a ready device stands for its hill
-pub ready_stands : (size : ℕ) (disk : Disk) (h : HeaderParts) (hill : Hill) → sectors_for hill.settings.capacity ≤ size → IsReady disk h hill → Images disk (λ image. Stands size image hill)
-ready_stands size disk h hill room ready = images_settled disk (λ image. Stands size image hill) ready.settled (record { header = h; shows = ready.shows; room = room })
+-- a ready device reads as its hill
+pub ready_reads : (size : ℕ) (disk : Disk) (h : HeaderParts) (hill : Kept) → sectors_for hill.settings.capacity ≤ size → IsReady disk h hill → Images disk (λ image. Reads size image hill)
+ready_reads size disk h hill room ready = images_settled disk (λ image. Reads size image hill) ready.settled (record { header = h; shows = ready.shows; room = room })
 
-either_stands : (size : ℕ) (disk : Disk) (h next : HeaderParts) (old new : Hill) → sectors_for old.settings.capacity ≤ size → sectors_for new.settings.capacity ≤ size → Images disk (Either h next old new) → Images disk (λ image. Stands size image old ⊎ Stands size image new)
-either_stands size disk h next old new old_room new_room each image is = elim (each image is) [
+either_reads : (size : ℕ) (disk : Disk) (h next : HeaderParts) (old new : Kept) → sectors_for old.settings.capacity ≤ size → sectors_for new.settings.capacity ≤ size → Images disk (Either h next old new) → Images disk (λ image. Reads size image old ⊎ Reads size image new)
+either_reads size disk h next old new old_room new_room each image is = elim (each image is) [
   | inl shows ↦ inl (record { header = h; shows = shows; room = old_room })
   | inr shows ↦ inr (record { header = next; shows = shows; room = new_room })
 ]
 
 -- what a warrior that stays needs of a ready device
-pub record MayPlace (disk : Disk) (h : HeaderParts) (hill : Hill) (w : WarriorParts) (fallen : Option ℕ) (slot : ℕ) : Type 0 where
+pub record MayPlace (disk : Disk) (h : HeaderParts) (hill : Kept) (w : WarriorParts) (fallen : Option ℕ) (slot : ℕ) : Type 0 where
   pub ready : IsReady disk h hill
   pub free : SlotIsFree slot h.entries
   pub fits : Fits hill.settings w
   pub titled : IsTitled w
+  pub kept : IsKept hill
+  pub before : IsHeaderParts h
   pub header : IsHeaderParts (header_placed h fallen slot)
 
-placing : (disk : Disk) (h : HeaderParts) (hill : Hill) (w : WarriorParts) (fallen : Option ℕ) (slot : ℕ) → MayPlace disk h hill w fallen slot → IsPlacing disk h (header_placed h fallen slot) slot w hill (after_stay hill w fallen)
+-- its results, by the slots of those on the hill
+abbrev pub results_of : HeaderParts → Kept → WarriorParts → List Wins
+results_of h hill w = results_by_slot h.entries (fresh hill w)
+
+-- the sectors that are written are a slot's
+written_slot : (disk : Disk) (h : HeaderParts) (hill : Kept) (w : WarriorParts) (fallen : Option ℕ) (slot : ℕ) → MayPlace disk h hill w fallen slot → IsSlot hill.settings (front_bytes w) (back_bytes w (results_of h hill w)) w
+written_slot disk h hill w fallen slot may =
+    slot-written hill.settings w (results_of h hill w) may.kept.hill.settings may.fits may.titled (length-by_slot h.entries (fresh hill w))
+    (fits-by_slot hill.settings.rounds h.entries (fresh hill w) (matches-rounds hill.settings hill.members w))
+
+placing : (disk : Disk) (h : HeaderParts) (hill : Kept) (w : WarriorParts) (fallen : Option ℕ) (slot : ℕ) → MayPlace disk h hill w fallen slot → IsPlacing disk h (header_placed h fallen slot) slot w (results_of h hill w) hill (kept_stay hill w fallen)
 placing disk h hill w fallen slot may = record {
   settled = may.ready.settled;
   before = may.ready.shows;
   free = may.free;
-  behind = shows_placed (current disk) h hill fallen slot w may.free (record { fits = may.fits; titled = may.titled; front_is = refl; back_is = refl }) may.header may.ready.shows;
+  behind = shows_placed (current disk) h hill fallen slot w may.free (written_slot disk h hill w fallen slot may) may.before may.header may.kept may.ready.shows;
 }
 
-pub ready_placed : (disk new : Disk) (h : HeaderParts) (hill : Hill) (w : WarriorParts) (fallen : Option ℕ) (slot : ℕ) → MayPlace disk h hill w fallen slot → new ≡ after (places (header_placed h fallen slot) slot w) disk → IsReady new (header_placed h fallen slot) (after_stay hill w fallen)
+pub ready_placed : (disk new : Disk) (h : HeaderParts) (hill : Kept) (w : WarriorParts) (fallen : Option ℕ) (slot : ℕ) → MayPlace disk h hill w fallen slot → new ≡ after (places (header_placed h fallen slot) slot w (results_of h hill w)) disk → IsReady new (header_placed h fallen slot) (kept_stay hill w fallen)
 ready_placed disk new h hill w fallen slot may made =
-    subst (λ d. IsReady d (header_placed h fallen slot) (after_stay hill w fallen)) (sym made)
-    (placed disk h (header_placed h fallen slot) slot w hill (after_stay hill w fallen) (placing disk h hill w fallen slot may))
+    subst (λ d. IsReady d (header_placed h fallen slot) (kept_stay hill w fallen)) (sym made)
+    (placed disk h (header_placed h fallen slot) slot w (results_of h hill w) hill (kept_stay hill w fallen) (placing disk h hill w fallen slot may))
 
-pub cut_placed : (size : ℕ) (disk new : Disk) (h : HeaderParts) (hill : Hill) (w : WarriorParts) (fallen : Option ℕ) (slot : ℕ) → sectors_for hill.settings.capacity ≤ size → MayPlace disk h hill w fallen slot → Begun (places (header_placed h fallen slot) slot w) disk new → Images new (λ image. Stands size image hill ⊎ Stands size image (after_stay hill w fallen))
+pub cut_placed : (size : ℕ) (disk new : Disk) (h : HeaderParts) (hill : Kept) (w : WarriorParts) (fallen : Option ℕ) (slot : ℕ) → sectors_for hill.settings.capacity ≤ size → MayPlace disk h hill w fallen slot → Begun (places (header_placed h fallen slot) slot w (results_of h hill w)) disk new → Images new (λ image. Reads size image hill ⊎ Reads size image (kept_stay hill w fallen))
 cut_placed size disk new h hill w fallen slot room may begun =
-    either_stands size new h (header_placed h fallen slot) hill (after_stay hill w fallen) room room
-    (place_stopped disk new h (header_placed h fallen slot) slot w hill (after_stay hill w fallen) (placing disk h hill w fallen slot may) begun)
+    either_reads size new h (header_placed h fallen slot) hill (kept_stay hill w fallen) room room
+    (place_stopped disk new h (header_placed h fallen slot) slot w (results_of h hill w) hill (kept_stay hill w fallen) (placing disk h hill w fallen slot may) begun)
 
-passing : (disk : Disk) (h : HeaderParts) (hill : Hill) → IsReady disk h hill → IsHeaderParts (header_passed h) → IsStep (current disk) h (header_passed h) hill (after_fall hill)
+passing : (disk : Disk) (h : HeaderParts) (hill : Kept) → IsReady disk h hill → IsHeaderParts (header_passed h) → IsStep (current disk) h (header_passed h) hill (kept_fall hill)
 passing disk h hill ready fits = record { before = ready.shows; behind = shows_passed (current disk) h hill fits ready.shows }
 
-pub ready_passed : (disk new : Disk) (h : HeaderParts) (hill : Hill) → IsReady disk h hill → IsHeaderParts (header_passed h) → new ≡ after (commits (header_passed h)) disk → IsReady new (header_passed h) (after_fall hill)
+pub ready_passed : (disk new : Disk) (h : HeaderParts) (hill : Kept) → IsReady disk h hill → IsHeaderParts (header_passed h) → new ≡ after (commits (header_passed h)) disk → IsReady new (header_passed h) (kept_fall hill)
 ready_passed disk new h hill ready fits made =
-    subst (λ d. IsReady d (header_passed h) (after_fall hill)) (sym made) (committed disk h (header_passed h) hill (after_fall hill) (passing disk h hill ready fits))
+    subst (λ d. IsReady d (header_passed h) (kept_fall hill)) (sym made) (committed disk h (header_passed h) hill (kept_fall hill) (passing disk h hill ready fits))
 
-pub cut_passed : (size : ℕ) (disk new : Disk) (h : HeaderParts) (hill : Hill) → sectors_for hill.settings.capacity ≤ size → IsReady disk h hill → IsHeaderParts (header_passed h) → Begun (commits (header_passed h)) disk new → Images new (λ image. Stands size image hill ⊎ Stands size image (after_fall hill))
+pub cut_passed : (size : ℕ) (disk new : Disk) (h : HeaderParts) (hill : Kept) → sectors_for hill.settings.capacity ≤ size → IsReady disk h hill → IsHeaderParts (header_passed h) → Begun (commits (header_passed h)) disk new → Images new (λ image. Reads size image hill ⊎ Reads size image (kept_fall hill))
 cut_passed size disk new h hill room ready fits begun =
-    either_stands size new h (header_passed h) hill (after_fall hill) room room
-    (commit_stopped disk new h (header_passed h) hill (after_fall hill) ready.settled (passing disk h hill ready fits) begun)
+    either_reads size new h (header_passed h) hill (kept_fall hill) room room
+    (commit_stopped disk new h (header_passed h) hill (kept_fall hill) ready.settled (passing disk h hill ready fits) begun)

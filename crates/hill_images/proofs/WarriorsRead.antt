@@ -1,26 +1,33 @@
 -- The warriors of a header, read one after another.
-use Rattle.std.proofs.Common.{◌≡◌, ℕ, zero, suc, ◌+◌, ◌-◌, ◌<◌, ◌≤◌, List, [], ◌∷◌, ◌++◌, length, take, get_or, refl, sym, subst, ◌∙◌, inl, inr, min, arith, length-take}
+use Rattle.std.proofs.Common.{◌≡◌, ℕ, zero, suc, ◌+◌, ◌-◌, ◌<◌, ◌≤◌, List, [], ◌∷◌, ◌++◌, length, map, All, take, get_or, refl, sym, ap, ap₂, subst, ◌∙◌, inl, inr, min, arith, length-take}
 use Rattle.std.proofs.lemmas.Bool.{cases_eq}
 use Rattle.std.proofs.lemmas.List.{take_more, take_all}
+use Rattle.std.proofs.lemmas.List.Elements.{All-nil, All-cons, All-head, All-tail, All-take, All-get_or}
 use Rattle.war_types.specs.declared.settings.RawSettings.{RawSettings}
 use Rattle.war_types.specs.Warrior.{WarriorParts}
 use Rattle.sector_disk.specs.Facts.{DeviceFacts}
 use Rattle.sector_disk.specs.Disk.{current}
-use Rattle.koth_hill.specs.Hill.{Member, Hill, IsHill, hill_of, member_of, last_entry, last_entry_from}
+use Rattle.koth_match.specs.declared.bout.Bout.{Bout}
+use Rattle.koth_match.specs.Match.{rounds_in}
+use Rattle.koth_hill.specs.Hill.{Member, member_of, last_entry, last_entry_from}
+use Rattle.koth_hill.specs.Kept.{Kept, IsKept as IsKeptHill, kept_of}
 use Rattle.hill_bytes.specs.declared.header.HeaderEntry.{HeaderEntry}
-use Rattle.hill_bytes.specs.Layout.{HeaderParts, IsHeaderParts, IsEntry, EntriesRise}
-use Rattle.hill_images.specs.Stands.{IsHeld, AllHeld}
+use Rattle.hill_bytes.specs.declared.wins.Wins.{Wins}
+use Rattle.hill_bytes.specs.Layout.{HeaderParts, IsHeaderParts, IsEntry, EntriesRise, FitRounds, results_in, back_sector}
+use Rattle.hill_images.specs.Stands.{IsHeld, AllHeld, no_wins, bout_of, slots_of, results_read}
 use Rattle.hill_images.specs.Named.{Agree}
 use Rattle.sector_disk.specs.Served.{IsKept, Failed}
 use Rattle.sector_disk.proofs.Kept.{kept_on}
-use Rattle.hill_images.specs.Reading.{SlotHolds, WarriorRead, WarriorNotRead, HillRead, HillNotRead}
+use Rattle.hill_images.specs.Reading.{ResultsRead, SlotHolds, WarriorRead, WarriorNotRead, HillRead, HillNotRead}
 use Rattle.hill_images.specs.declared.reading.Unread.{Unread}
 use Rattle.hill_images.specs.declared.reading.Unread.TheVariants as unread
 use Rattle.hill_images.proofs.Held.{held_more}
-use Rattle.hill_images.proofs.Submitted.{agree_length, agree_more}
+use Rattle.hill_images.proofs.Results.{results-push, row-slots}
+use Rattle.hill_images.proofs.Nexts.{agree_length, slots_low}
+use Rattle.hill_images.proofs.Submitted.{agree_more}
 
 -- so many entries were read
-pub record IsReadTo {D : Type 0} (facts : DeviceFacts D) (old now : D) (h : HeaderParts) (i : ℕ) (hill : Hill) : Type 0 where
+pub record IsReadTo {D : Type 0} (facts : DeviceFacts D) (old now : D) (h : HeaderParts) (i : ℕ) (hill : Kept) : Type 0 where
   pub kept : IsKept facts old now
   pub faultless : facts.faults now ≡ facts.faults old
   pub same : facts.lawful old → facts.disk now ≡ facts.disk old
@@ -28,6 +35,7 @@ pub record IsReadTo {D : Type 0} (facts : DeviceFacts D) (old now : D) (h : Head
   pub counter : hill.counter ≡ h.counter
   pub agree : Agree (take i h.entries) hill.members
   pub held : facts.lawful old → AllHeld h.settings (current (facts.disk old)) (take i h.entries) hill.members
+  pub results : facts.lawful old → hill.results ≡ results_read h.settings.rounds (current (facts.disk old)) (take i h.entries)
 
 -- the last that was read is before the next
 last_before : (before : ℕ) (es : List HeaderEntry) (ms : List Member) (i : ℕ) (d : HeaderEntry) → i < length es → Agree (take i es) ms → EntriesRise before es → last_entry_from before ms < (get_or es i d).entry
@@ -69,13 +77,13 @@ pub entry_of : (h : HeaderParts) (i : ℕ) (d : HeaderEntry) → IsHeaderParts h
 entry_of h i d is below = is.entries i d below
 
 -- what the next is put back with
-pub record IsNextRead (h : HeaderParts) (hill : Hill) (e : HeaderEntry) : Type 0 where
+pub record IsNextRead (h : HeaderParts) (hill : Kept) (e : HeaderEntry) : Type 0 where
   pub room : length hill.members < hill.settings.capacity
   pub entry : last_entry hill.members < e.entry
   pub counted : e.entry ≤ hill.counter
   pub age : e.age ≤ hill.counter - e.entry
 
-pub next_read : {D : Type 0} (facts : DeviceFacts D) (old now : D) (h : HeaderParts) (i : ℕ) (hill : Hill) (es : List HeaderEntry) (d : HeaderEntry) → es ≡ h.entries → IsHeaderParts h → i < length es → IsReadTo facts old now h i hill → IsNextRead h hill (get_or es i d)
+pub next_read : {D : Type 0} (facts : DeviceFacts D) (old now : D) (h : HeaderParts) (i : ℕ) (hill : Kept) (es : List HeaderEntry) (d : HeaderEntry) → es ≡ h.entries → IsHeaderParts h → i < length es → IsReadTo facts old now h i hill → IsNextRead h hill (get_or es i d)
 next_read facts old now h i hill es d same is below read =
     subst (λ xs. IsNextRead h hill (get_or xs i d)) (sym same) (record {
       room = subst (λ s. length hill.members < s.capacity) (sym read.settings)
@@ -94,31 +102,88 @@ next_read facts old now h i hill es d same is below read =
     this : IsEntry h.settings.capacity h.counter (get_or h.entries i d)
     this = entry_of h i d is here
 
+-- the results of the next, with those before it
+abbrev pub row_of : ℕ → List Wins → List HeaderEntry → List Bout
+row_of rounds results es = map (λ (e : HeaderEntry). bout_of rounds (get_or results e.slot no_wins)) es
+
+results_next : (rounds : ℕ) (image : ℕ → List ℕ) (es : List HeaderEntry) (i : ℕ) (d : HeaderEntry) (results : List Wins) (rows : List (List Bout)) → i < length es → results ≡ results_in (image (back_sector (get_or es i d).slot))
+    → rows ≡ results_read rounds image (take i es) → rows ++ row_of rounds results (take i es) ∷ [] ≡ results_read rounds image (take (i + 1) es)
+results_next rounds image es i d results rows below read before =
+    ap₂ (λ (xs : List (List Bout)) (x : List Bout). xs ++ x ∷ []) before
+    (row-slots rounds results (take i es) ∙ ap (λ (ws : List Wins). map (λ older. bout_of rounds (get_or ws older no_wins)) (slots_of (take i es))) read)
+    ∙ sym (results-push rounds image (take i es) (get_or es i d))
+    ∙ ap (results_read rounds image) (sym (take_more es i d below))
+
 -- one more was read
-pub read_more : {D : Type 0} (facts : DeviceFacts D) (old mid new : D) (h : HeaderParts) (i : ℕ) (hill next : Hill) (es : List HeaderEntry) (d : HeaderEntry) (w : WarriorParts) (s : RawSettings) → es ≡ h.entries → s ≡ h.settings → i < length es → IsReadTo facts old mid h i hill → IsKept facts mid new → facts.faults new ≡ facts.faults mid → (facts.lawful mid → facts.disk new ≡ facts.disk mid) → WarriorRead facts mid s (get_or es i d).slot w → next ≡ hill_of hill.settings hill.counter (hill.members ++ member_of (get_or es i d).entry (get_or es i d).age w ∷ []) → IsReadTo facts old new h (i + 1) next
-read_more facts old mid new h i hill next es d w s same same_s below read kept faultless same_disk warrior is =
-    subst (λ x. IsReadTo facts old new h (i + 1) x) (sym is)
-    (subst (λ xs. IsReadTo facts old new h (i + 1) (hill_of hill.settings hill.counter (hill.members ++ member_of (get_or xs i d).entry (get_or xs i d).age w ∷ []))) (sym same) (record {
+pub read_more : {D : Type 0} (facts : DeviceFacts D) (old mid new : D) (h : HeaderParts) (i : ℕ) (hill next : Kept) (d : HeaderEntry) (w : WarriorParts) (results : List Wins) → i < length h.entries → IsReadTo facts old mid h i hill → IsKept facts mid new → facts.faults new ≡ facts.faults mid → (facts.lawful mid → facts.disk new ≡ facts.disk mid)
+    → WarriorRead facts mid h.settings (get_or h.entries i d).slot w → ResultsRead facts mid (get_or h.entries i d).slot results
+    → next ≡ kept_of hill.settings hill.counter (hill.members ++ member_of (get_or h.entries i d).entry (get_or h.entries i d).age w ∷ []) (hill.results ++ row_of h.settings.rounds results (take i h.entries) ∷ [])
+    → IsReadTo facts old new h (i + 1) next
+read_more facts old mid new h i hill next d w results below read kept faultless same_disk warrior row is =
+    subst (λ x. IsReadTo facts old new h (i + 1) x) (sym is) (record {
       kept = kept_on facts old mid new read.kept kept;
       faultless = faultless ∙ read.faultless;
       same = λ lawful. same_disk (read.kept.same_laws.1 lawful) ∙ read.same lawful;
       settings = read.settings;
       counter = read.counter;
-      agree = agree_next h.entries hill.members i d (member_of (get_or h.entries i d).entry (get_or h.entries i d).age w) here read.agree refl refl;
-      held = λ lawful. held_next h.settings (current (facts.disk old)) h.entries hill.members i d (member_of (get_or h.entries i d).entry (get_or h.entries i d).age w) here (read.held lawful) (record {
+      agree = agree_next h.entries hill.members i d (member_of (get_or h.entries i d).entry (get_or h.entries i d).age w) below read.agree refl refl;
+      held = λ lawful. held_next h.settings (current (facts.disk old)) h.entries hill.members i d (member_of (get_or h.entries i d).entry (get_or h.entries i d).age w) below (read.held lawful) (record {
         entry = refl;
         age = refl;
-        slot = subst (λ x. SlotHolds h.settings (current x) (get_or h.entries i d).slot w) (read.same lawful)
-            (subst (λ x. SlotHolds x (current (facts.disk mid)) (get_or h.entries i d).slot w) same_s
-            (subst (λ xs. SlotHolds s (current (facts.disk mid)) (get_or xs i d).slot w) same (warrior (read.kept.same_laws.1 lawful))));
+        slot = subst (λ x. SlotHolds h.settings (current x) (get_or h.entries i d).slot w) (read.same lawful) (warrior (read.kept.same_laws.1 lawful));
       });
-    }))
-  where
-    here : i < length h.entries
-    here = subst (λ xs. i < length xs) same below
+      results = λ lawful. results_next h.settings.rounds (current (facts.disk old)) h.entries i d results hill.results below
+          (subst (λ x. results ≡ results_in (current x (back_sector (get_or h.entries i d).slot))) (read.same lawful) (row (read.kept.same_laws.1 lawful)))
+          (read.results lawful);
+    })
+
+-- the results that were read of one, as they are put back
+abbrev pub IsRowRead : List HeaderEntry → ℕ → ℕ → List Wins → List Bout → Type 0
+IsRowRead es i rounds results row = row ≡ row_of rounds results (take i es)
+
+-- with the entries and the settings as they were read
+pub read_next : {D : Type 0} (facts : DeviceFacts D) (old mid new : D) (h : HeaderParts) (i : ℕ) (hill next : Kept) (es : List HeaderEntry) (d : HeaderEntry) (w : WarriorParts) (results : List Wins) (row : List Bout) (s : RawSettings) (rounds : ℕ)
+    → es ≡ h.entries → s ≡ h.settings → rounds ≡ s.rounds → i < length es → IsReadTo facts old mid h i hill → IsKept facts mid new → facts.faults new ≡ facts.faults mid → (facts.lawful mid → facts.disk new ≡ facts.disk mid)
+    → WarriorRead facts mid s (get_or es i d).slot w → ResultsRead facts mid (get_or es i d).slot results → IsRowRead es i rounds results row
+    → next ≡ kept_of hill.settings hill.counter (hill.members ++ member_of (get_or es i d).entry (get_or es i d).age w ∷ []) (hill.results ++ row ∷ [])
+    → IsReadTo facts old new h (i + 1) next
+read_next facts old mid new h i hill next es d w results row s rounds same same_s same_rounds below read kept faultless same_disk warrior there is_row is =
+    read_more facts old mid new h i hill next d w results (subst (λ xs. i < length xs) same below) read kept faultless same_disk
+    (subst (λ x. WarriorRead facts mid x (get_or h.entries i d).slot w) same_s (subst (λ xs. WarriorRead facts mid s (get_or xs i d).slot w) same warrior))
+    (subst (λ xs. ResultsRead facts mid (get_or xs i d).slot results) same there)
+    (is ∙ ap (λ (xs : List HeaderEntry). kept_of hill.settings hill.counter (hill.members ++ member_of (get_or xs i d).entry (get_or xs i d).age w ∷ []) (hill.results ++ row ∷ [])) same
+    ∙ ap (λ (r : List Bout). kept_of hill.settings hill.counter (hill.members ++ member_of (get_or h.entries i d).entry (get_or h.entries i d).age w ∷ []) (hill.results ++ r ∷ []))
+    (is_row ∙ ap (λ n. row_of n results (take i es)) (same_rounds ∙ ap (λ (x : RawSettings). x.rounds) same_s) ∙ ap (λ (xs : List HeaderEntry). row_of h.settings.rounds results (take i xs)) same))
+
+-- each result that is put back has all rounds
+pub row_rounds : (rounds : ℕ) (results : List Wins) (es : List HeaderEntry) → FitRounds rounds results → All (λ e. e.slot < length results) es → All (λ b. rounds_in b ≡ rounds) (row_of rounds results es)
+row_rounds rounds results [] fits within = All-nil (λ b. rounds_in b ≡ rounds)
+row_rounds rounds results (e ∷ es) fits within =
+    let low : e.slot < length results = All-head (λ x. x.slot < length results) e es within in
+    let fit : (get_or results e.slot no_wins).older + (get_or results e.slot no_wins).younger ≤ rounds = All-get_or (λ w. w.older + w.younger ≤ rounds) results e.slot no_wins low fits in
+    All-cons (λ b. rounds_in b ≡ rounds) (bout_of rounds (get_or results e.slot no_wins)) (row_of rounds results es) (omega (arith, fit))
+    (row_rounds rounds results es fits (All-tail (λ x. x.slot < length results) e es within))
+
+-- the entries before one of a header's have slots that there are results for
+pub low_before : (h : HeaderParts) (es : List HeaderEntry) (i : ℕ) → es ≡ h.entries → IsHeaderParts h → All (λ e. e.slot ≤ 20) (take i es)
+low_before h es i same is = All-take (λ e. e.slot ≤ 20) i es (subst (All (λ e. e.slot ≤ 20)) (sym same) (slots_low h is))
+
+pub within_of : (n : ℕ) (es : List HeaderEntry) → n ≡ 21 → All (λ e. e.slot ≤ 20) es → All (λ e. e.slot < n) es
+within_of n [] long low = All-nil (λ e. e.slot < n)
+within_of n (e ∷ es) long low =
+    let this : e.slot ≤ 20 = All-head (λ x. x.slot ≤ 20) e es low in
+    All-cons (λ x. x.slot < n) e es (omega (arith, this, long)) (within_of n es long (All-tail (λ x. x.slot ≤ 20) e es low))
+
+-- so many were put back as were read
+pub members_read : {D : Type 0} (facts : DeviceFacts D) (old now : D) (h : HeaderParts) (i : ℕ) (hill : Kept) (es : List HeaderEntry) → es ≡ h.entries → i < length es → IsReadTo facts old now h i hill → length hill.members ≡ i
+members_read facts old now h i hill es same below read =
+    let count : length (take i h.entries) ≡ length hill.members = agree_length (take i h.entries) hill.members read.agree in
+    let here : i < length h.entries = subst (λ xs. i < length xs) same below in
+    let taken : length (take i h.entries) ≡ min i (length h.entries) = length-take i h.entries in
+    omega arith
 
 -- one was not read
-pub read_failed : {D : Type 0} (facts : DeviceFacts D) (old mid new : D) (h : HeaderParts) (i : ℕ) (hill : Hill) (es : List HeaderEntry) (d : HeaderEntry) (s : RawSettings) (why : Unread) → es ≡ h.entries → s ≡ h.settings → i < length es → IsReadTo facts old mid h i hill → IsKept facts mid new → WarriorNotRead facts mid new s (get_or es i d).slot why → HillNotRead facts old new h why
+pub read_failed : {D : Type 0} (facts : DeviceFacts D) (old mid new : D) (h : HeaderParts) (i : ℕ) (hill : Kept) (es : List HeaderEntry) (d : HeaderEntry) (s : RawSettings) (why : Unread) → es ≡ h.entries → s ≡ h.settings → i < length es → IsReadTo facts old mid h i hill → IsKept facts mid new → WarriorNotRead facts mid new s (get_or es i d).slot why → HillNotRead facts old new h why
 read_failed facts old mid new h i hill es d s unread.Disk same same_s below read kept failed = rose_more facts old mid new read.kept.later kept.later failed
 read_failed facts old mid new h i hill es d s unread.Memory same same_s below read kept failed = tt
 read_failed facts old mid new h i hill es d s unread.Damaged same same_s below read kept failed = λ lawful. λ ms. λ held.
@@ -129,12 +194,15 @@ read_failed facts old mid new h i hill es d s unread.Damaged same same_s below r
     (subst (λ xs. SlotHolds h.settings (current (facts.disk old)) (get_or xs i d).slot there.0) (sym same) there.1)))
 
 -- all were read
-pub read_all : {D : Type 0} (facts : DeviceFacts D) (old now : D) (h : HeaderParts) (i : ℕ) (hill : Hill) (es : List HeaderEntry) → es ≡ h.entries → length es ≤ i → IsHill hill → IsReadTo facts old now h i hill → HillRead facts old h hill
-read_all facts old now h i hill es same past is_hill read = record {
-  is_hill = is_hill;
+pub read_all : {D : Type 0} (facts : DeviceFacts D) (old now : D) (h : HeaderParts) (i : ℕ) (hill : Kept) → length h.entries ≤ i → IsKeptHill hill → IsReadTo facts old now h i hill → HillRead facts old h hill
+read_all facts old now h i hill past kept read = record {
+  kept = kept;
   named = record { settings = sym read.settings; counter = sym read.counter; entries = subst (λ xs. Agree xs hill.members) whole read.agree };
   held = λ lawful. subst (λ s. AllHeld s (current (facts.disk old)) h.entries hill.members) (sym read.settings) (subst (λ xs. AllHeld h.settings (current (facts.disk old)) xs hill.members) whole (read.held lawful));
+  results = λ lawful. read.results lawful
+      ∙ ap (results_read h.settings.rounds (current (facts.disk old))) whole
+      ∙ ap (λ (s : RawSettings). results_read s.rounds (current (facts.disk old)) h.entries) (sym read.settings);
 }
   where
     whole : take i h.entries ≡ h.entries
-    whole = take_all i h.entries (subst (λ xs. length xs ≤ i) same past)
+    whole = take_all i h.entries past

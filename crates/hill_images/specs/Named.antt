@@ -2,8 +2,8 @@
 use Rattle.std.specs.Prelude.{◌≡◌, ◌≤◌, Bool, false, List, [], ◌∷◌}
 use Rattle.war_types.specs.declared.settings.RawSettings.{RawSettings}
 use Rattle.sector_disk.specs.Facts.{DeviceFacts}
-use Rattle.koth_hill.specs.Hill.{Member, Hill, IsHill}
-use Rattle.koth_hill.specs.Kept.{Kept, AreTrue, IsKept}
+use Rattle.koth_hill.specs.Hill.{Member, Hill}
+use Rattle.koth_hill.specs.Kept.{Kept, hill_in, IsKept}
 use Rattle.hill_bytes.specs.declared.header.HeaderEntry.{HeaderEntry}
 use Rattle.hill_bytes.specs.Layout.{HeaderParts, IsHeaderParts, sectors_for}
 use Rattle.hill_images.specs.Stands.{IsReady}
@@ -22,15 +22,10 @@ pub record IsNamed (h : HeaderParts) (hill : Hill) : Type 0 where
   pub entries : Agree h.entries hill.members
 
 -- what every store keeps
-pub record IsSound {D : Type 0} (facts : DeviceFacts D) (device : D) (h : HeaderParts) (hill : Hill) (arena : RawSettings) (reopen : Bool) : Type 0 where
+pub record IsSound {D : Type 0} (facts : DeviceFacts D) (device : D) (h : HeaderParts) (hill : Kept) (arena : RawSettings) (reopen : Bool) : Type 0 where
   pub room : sectors_for hill.settings.capacity ≤ facts.size device
   pub arena_of : arena ≡ hill.settings
   pub header : IsHeaderParts h
-  pub is_hill : IsHill hill
-  pub named : IsNamed h hill
-  pub ready : facts.lawful device → reopen ≡ false → IsReady (facts.disk device) h hill
-
--- the results that are kept of a hill are its matches
-pub record AreFought (hill : Kept) : Type 0 where
   pub kept : IsKept hill
-  pub fought : AreTrue hill
+  pub named : IsNamed h (hill_in hill)
+  pub ready : facts.lawful device → reopen ≡ false → IsReady (facts.disk device) h hill

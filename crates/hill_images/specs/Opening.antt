@@ -7,8 +7,8 @@ use Rattle.sector_disk.specs.Disk.{Disk, current, synced}
 use Rattle.sector_disk.specs.Image.{IsImage, Images}
 use Rattle.sector_disk.specs.Changes.{Begun}
 use Rattle.sector_disk.specs.Served.{Failed}
-use Rattle.koth_hill.specs.Hill.{Hill}
 use Rattle.koth_hill.specs.Step.{new_hill}
+use Rattle.koth_hill.specs.Kept.{Kept, new_kept}
 use Rattle.hill_images.specs.declared.refusal.Refusal.{Refusal}
 use Rattle.hill_images.specs.declared.refusal.Refusal.TheVariants as refusals
 use Rattle.hill_bytes.specs.Layout.{HeaderParts, header_parts, IsHeader, sectors_for}
@@ -38,7 +38,7 @@ abbrev pub Refuses : ℕ → (ℕ → List ℕ) → Refusal → Type 0
 Refuses size image refusals.TooSmall = (size < 2) ⊎ ((h : HeaderParts) × IsNewest image h × (size < sectors_for h.settings.capacity))
 Refuses size image refusals.NotAHill = HoldsNone image
 Refuses size image refusals.Damaged =
-    (h : HeaderParts) × IsNewest image h × (sectors_for h.settings.capacity ≤ size) × ((hill : Hill) → Shows image h hill → ⊥)
+    (h : HeaderParts) × IsNewest image h × (sectors_for h.settings.capacity ≤ size) × ((hill : Kept) → Shows image h hill → ⊥)
 Refuses size image refusals.Disk = Unit {0}
 Refuses size image refusals.Memory = Unit {0}
 Refuses size image refusals.Occupied = ⊥
@@ -54,7 +54,7 @@ pub record IsFirst {D : Type 0} (facts : DeviceFacts D) (old : D) (s : RawSettin
   pub settings : AreSettings s
   pub first : h ≡ first_header s
   pub was_none : facts.lawful old → HoldsNone (current (facts.disk old))
-  pub ready : facts.lawful old → IsReady (facts.disk new) h (new_hill s 0)
+  pub ready : facts.lawful old → IsReady (facts.disk new) h (new_kept s 0)
 
 -- why it was not
 abbrev pub IsNotFirst : {D : Type 0} → DeviceFacts D → D → RawSettings → D → Refusal → Type 0
@@ -67,7 +67,7 @@ IsNotFirst facts old s new refusals.NotAHill = ⊥
 IsNotFirst facts old s new refusals.Damaged = ⊥
 
 -- a hill was recovered
-pub record IsRecovered {D : Type 0} (facts : DeviceFacts D) (old new : D) (h : HeaderParts) (hill : Hill) (arena : RawSettings) : Type 0 where
+pub record IsRecovered {D : Type 0} (facts : DeviceFacts D) (old new : D) (h : HeaderParts) (hill : Kept) (arena : RawSettings) : Type 0 where
   pub sound : IsSound facts new h hill arena false
   pub shows : facts.lawful old → Shows (current (facts.disk old)) h hill
   pub room : sectors_for hill.settings.capacity ≤ facts.size old

@@ -1,22 +1,39 @@
 -- What a submission writes, and the header that it writes.
-use Rattle.std.specs.Prelude.{ℕ, ◌+◌, ◌-◌, ◌^◌, ◌%◌, ◌<◌, ◌==◌, Bool, true, false, if◌then◌else◌, List, [], ◌∷◌, ◌++◌, All, Option}
+use Rattle.std.specs.Prelude.{ℕ, ◌+◌, ◌-◌, ◌^◌, ◌%◌, ◌<◌, ◌==◌, Bool, true, false, if◌then◌else◌, List, [], ◌∷◌, ◌++◌, All, Option, replicate, set}
 use Rattle.war_types.specs.Warrior.{WarriorParts}
 use Rattle.sector_disk.specs.Disk.{Disk, wrote, synced}
+use Rattle.koth_match.specs.declared.bout.Bout.{Bout}
 use Rattle.koth_hill.specs.Step.{is_entry}
 use Rattle.hill_bytes.specs.declared.header.HeaderEntry.{HeaderEntry}
+use Rattle.hill_bytes.specs.declared.wins.Wins.{Wins}
 use Rattle.hill_bytes.specs.Layout.{HeaderParts, header_parts, header_bytes, front_bytes, back_bytes, front_sector, back_sector}
+use Rattle.hill_images.specs.Stands.{no_wins}
+
+-- a result as it is stored
+abbrev pub wins_of : Bout → Wins
+wins_of b = record { older = b.older_wins; younger = b.younger_wins }
+
+-- these places, with the results of matches with the warriors of these entries, each in the place of its warrior's slot
+abbrev pub results_onto : List Wins → List HeaderEntry → List Bout → List Wins
+results_onto places [] bouts = places
+results_onto places (e ∷ es) [] = places
+results_onto places (e ∷ es) (b ∷ bouts) = results_onto (set places e.slot (wins_of b)) es bouts
+
+-- all places, of which those of slots without a warrior are zero
+abbrev pub results_by_slot : List HeaderEntry → List Bout → List Wins
+results_by_slot es bouts = results_onto (replicate 21 no_wins) es bouts
 
 -- both sectors of a slot
-abbrev pub slot_writes : ℕ → WarriorParts → List (Disk → Disk)
-slot_writes slot w = wrote (front_sector slot) (front_bytes w) ∷ wrote (back_sector slot) (back_bytes w) ∷ []
+abbrev pub slot_writes : ℕ → WarriorParts → List Wins → List (Disk → Disk)
+slot_writes slot w results = wrote (front_sector slot) (front_bytes w) ∷ wrote (back_sector slot) (back_bytes w results) ∷ []
 
 -- the header, in the sector of its generation's parity
 abbrev pub commits : HeaderParts → List (Disk → Disk)
 commits h = wrote (h.generation % 2) (header_bytes h) ∷ synced ∷ []
 
 -- the durable order of a warrior that stays: its slot, and only then the header that names it
-abbrev pub places : HeaderParts → ℕ → WarriorParts → List (Disk → Disk)
-places h slot w = slot_writes slot w ++ (synced ∷ commits h)
+abbrev pub places : HeaderParts → ℕ → WarriorParts → List Wins → List (Disk → Disk)
+places h slot w results = slot_writes slot w results ++ (synced ∷ commits h)
 
 -- the entries that stay, one older each
 abbrev pub kept_entries : Option ℕ → List HeaderEntry → List HeaderEntry

@@ -5,9 +5,11 @@ use Rattle.war_types.specs.Warrior.{WarriorParts}
 use Rattle.sector_disk.specs.Facts.{DeviceFacts}
 use Rattle.sector_disk.specs.Disk.{current}
 use Rattle.sector_disk.specs.Served.{Failed}
-use Rattle.koth_hill.specs.Hill.{Member, Hill, IsHill}
-use Rattle.hill_bytes.specs.Layout.{HeaderParts, IsHeaderParts, IsSlot, front_sector, back_sector, sectors_for}
-use Rattle.hill_images.specs.Stands.{AllHeld}
+use Rattle.koth_hill.specs.Hill.{Member}
+use Rattle.koth_hill.specs.Kept.{Kept, hill_in, IsKept}
+use Rattle.hill_bytes.specs.declared.wins.Wins.{Wins}
+use Rattle.hill_bytes.specs.Layout.{HeaderParts, IsHeaderParts, IsSlot, results_in, front_sector, back_sector, sectors_for}
+use Rattle.hill_images.specs.Stands.{AllHeld, results_read}
 use Rattle.hill_images.specs.Named.{IsNamed}
 use Rattle.hill_images.specs.declared.reading.Unread.{Unread}
 use Rattle.hill_images.specs.declared.reading.Unread.TheVariants as unread
@@ -27,16 +29,21 @@ SlotHolds s image slot w = IsSlot s (image (front_sector slot)) (image (back_sec
 abbrev pub WarriorRead : {D : Type 0} → DeviceFacts D → D → RawSettings → ℕ → WarriorParts → Type 0
 WarriorRead facts old s slot w = facts.lawful old → SlotHolds s (current (facts.disk old)) slot w
 
+-- and these results
+abbrev pub ResultsRead : {D : Type 0} → DeviceFacts D → D → ℕ → List Wins → Type 0
+ResultsRead facts old slot results = facts.lawful old → results ≡ results_in (current (facts.disk old) (back_sector slot))
+
 abbrev pub WarriorNotRead : {D : Type 0} → DeviceFacts D → D → D → RawSettings → ℕ → Unread → Type 0
 WarriorNotRead facts old new s slot unread.Disk = Failed facts old new
 WarriorNotRead facts old new s slot unread.Memory = Unit {0}
 WarriorNotRead facts old new s slot unread.Damaged = facts.lawful old → (w : WarriorParts) → SlotHolds s (current (facts.disk old)) slot w → ⊥
 
 -- the hill that a header gives was read
-pub record HillRead {D : Type 0} (facts : DeviceFacts D) (old : D) (h : HeaderParts) (hill : Hill) : Type 0 where
-  pub is_hill : IsHill hill
-  pub named : IsNamed h hill
+pub record HillRead {D : Type 0} (facts : DeviceFacts D) (old : D) (h : HeaderParts) (hill : Kept) : Type 0 where
+  pub kept : IsKept hill
+  pub named : IsNamed h (hill_in hill)
   pub held : facts.lawful old → AllHeld hill.settings (current (facts.disk old)) h.entries hill.members
+  pub results : facts.lawful old → hill.results ≡ results_read hill.settings.rounds (current (facts.disk old)) h.entries
 
 abbrev pub HillNotRead : {D : Type 0} → DeviceFacts D → D → D → HeaderParts → Unread → Type 0
 HillNotRead facts old new h unread.Disk = Failed facts old new
@@ -60,7 +67,7 @@ HillRefused facts old new h refusals.Occupied = ⊥
 HillRefused facts old new h refusals.NotAHill = ⊥
 
 -- the hill of a header was recovered
-pub record IsHillFound {D : Type 0} (facts : DeviceFacts D) (old : D) (given : HeaderParts) (h : HeaderParts) (hill : Hill) (arena : RawSettings) : Type 0 where
+pub record IsHillFound {D : Type 0} (facts : DeviceFacts D) (old : D) (given : HeaderParts) (h : HeaderParts) (hill : Kept) (arena : RawSettings) : Type 0 where
   pub same : h ≡ given
   pub header : IsHeaderParts h
   pub arena_of : arena ≡ h.settings

@@ -3,27 +3,29 @@
 ghost use Rattle.std.specs.Prelude.{◌≡◌, ◌<◌, ◌≤◌};
 ghost use Rattle.sector_disk.specs.Changes.{Changes};
 ghost use Rattle.sector_disk.specs.Served.{IsServed};
-ghost use Rattle.hill_bytes.specs.Layout.{front_bytes, back_bytes, back_sector, IsTitled};
+ghost use Rattle.hill_bytes.specs.Layout.{back_sector, IsTitled};
 ghost use Rattle.hill_images.specs.Places.{commits, places};
 
-use hill_bytes::{Header, Slot, encode_header};
+use hill_bytes::{Header, RESULTS, Slot, Wins, encode_header};
 use sector_disk::{Device, Fault};
 use std::alloc::Allocator;
 use war_types::Warrior;
 
-/// Places a warrior: both sectors of its slot, and only when these have reached the disk the header that names it.
+/// Places a warrior: both sectors of its slot, with the results of its matches by the older warriors' slots, and only when these have
+/// reached the disk the header that names it.
 pub fn place<D: Device, A: Allocator>(
     device: &mut D,
     header: &Header,
     slot: u8,
     warrior: &Warrior<A>,
+    results: &[Wins; RESULTS],
 ) -> Result<(), Fault>
     requires { back_sector slot < D.facts.size device.old }
     ensures served { IsServed D.facts device.old device.new result }
     ensures titled { IsTitled warrior.now }
-    ensures changes { D.facts.lawful device.old → Changes (places header.now slot warrior.now) (D.facts.disk device.old) (D.facts.disk device.new) result }
+    ensures changes { D.facts.lawful device.old → Changes (places header.now slot warrior.now results.now) (D.facts.disk device.old) (D.facts.disk device.new) result }
 {
-    let sectors = Slot::encode(warrior);
+    let sectors = Slot::encode(warrior, results);
     device.write(2 + 2 * u32::from(slot), &sectors.front)?;
     device.write(3 + 2 * u32::from(slot), &sectors.back)?;
     device.sync()?;

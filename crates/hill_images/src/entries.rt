@@ -1,11 +1,12 @@
-//! The entries of the next header.
+//! The entries of the next header, and the results of the warrior that it names last.
 
-ghost use Rattle.std.specs.Prelude.{◌≡◌, ℕ, ◌+◌, ◌-◌, ◌^◌, ◌≤◌, ◌<◌, ◌++◌, [], ◌∷◌, length, true};
+ghost use Rattle.std.specs.Prelude.{◌≡◌, ℕ, ◌+◌, ◌-◌, ◌^◌, ◌≤◌, ◌<◌, ◌++◌, [], ◌∷◌, All, length, true};
 ghost use Rattle.koth_hill.specs.Step.{is_entry};
 ghost use Rattle.hill_bytes.specs.Layout.{IsHeaderParts, SlotIsFree};
-ghost use Rattle.hill_images.specs.Places.{kept_entries, header_placed, header_passed, has_slot, CanGrow};
+ghost use Rattle.hill_images.specs.Places.{wins_of, results_by_slot, kept_entries, header_placed, header_passed, has_slot, CanGrow};
 
-use hill_bytes::{Header, HeaderEntry};
+use hill_bytes::{Header, HeaderEntry, RESULTS, Wins};
+use koth_match::Bout;
 use std::marker::Model;
 
 /// Entries that a header has room for.
@@ -150,4 +151,27 @@ fn has_slot(slot: u8, entries: &[HeaderEntry]) -> bool
         }
     }
     false
+}
+
+/// The results of a challenger's matches with the warriors of these entries, by their slots. The places of the other slots are zero.
+pub fn results_by_slot(entries: &[HeaderEntry], bouts: &[Bout]) -> [Wins; RESULTS]
+    requires slots { All (λ e. e.slot ≤ 20) entries.now }
+    requires each { length bouts.now ≡ length entries.now }
+    ensures value { result ≡ results_by_slot entries.now bouts.now }
+    ensures len { length result ≡ 21 }
+{
+    let mut results = [Wins::NONE; RESULTS];
+    for (i, e) in entries.iter().enumerate() {
+        results[usize::from(e.slot)] = wins_of(bouts[i]);
+    }
+    results
+}
+
+fn wins_of(bout: Bout) -> Wins
+    ensures { result ≡ wins_of bout }
+{
+    Wins {
+        older: bout.older_wins,
+        younger: bout.younger_wins,
+    }
 }

@@ -1,8 +1,8 @@
 //! The images of a hill's device: what is written of a hill, in which order, and what opening finds. It stands on the bytes of
 //! `hill_bytes`, and knows warriors, but not the language of their sources.
 //!
-//! Data passes through the modules in this order: `entries` is the next header, and the slot that is free for a warrior; `durable`
-//! writes a slot and then the header that names it; `found` is the newest header that a device holds, and `reading` are the warriors
+//! Data passes through the modules in this order: `entries` is the next header, the slot that is free for a warrior, and its results by
+//! the others' slots; `durable` writes a slot and then the header that names it; `found` is the newest header that a device holds, and `reading` are the warriors
 //! that it names; `opening` writes the first header of a hill, or reads one back, and `refusal` says why it doesn't; `laws` are laws of
 //! the definitions.
 //!
@@ -20,7 +20,7 @@ mod reading;
 mod refusal;
 
 pub use durable::{commit, place};
-pub use entries::{free_slot, header_passed, header_placed};
+pub use entries::{free_slot, header_passed, header_placed, results_by_slot};
 pub use laws::laws_of_storage;
 pub use opening::{Recovered, recover, sectors_for, write_first};
 pub use refusal::Refusal;

@@ -7,12 +7,10 @@ ghost use Rattle.sector_disk.specs.Disk.{current, synced};
 ghost use Rattle.sector_disk.specs.Image.{Images};
 ghost use Rattle.sector_disk.specs.Changes.{Changes, Begun};
 ghost use Rattle.sector_disk.specs.Served.{Failed, IsKept, IsServed};
-ghost use Rattle.koth_hill.specs.Hill.{Hill as HillParts, IsHill};
-ghost use Rattle.koth_hill.specs.Kept.{hill_in};
 ghost use Rattle.hill_bytes.specs.Layout.{IsHeaderParts, sectors_for, front_sector, back_sector};
 ghost use Rattle.hill_images.specs.Found.{IsNewestFound};
 ghost use Rattle.hill_images.specs.Places.{commits};
-ghost use Rattle.hill_images.specs.Named.{IsNamed, AreFought};
+ghost use Rattle.hill_images.specs.Named.{IsNamed};
 ghost use Rattle.hill_images.specs.Opening.{IsFirst, IsNotFirst, first_header, IsRecovered, IsNotOpened};
 ghost use Rattle.hill_images.specs.Reading.{HillRefused, IsHillFound};
 
@@ -95,8 +93,7 @@ pub fn recover<D: Device, A: Allocator + Copy>(
     ensures kept { IsKept D.facts device.old device.new }
     ensures faultless { OnOk result (D.facts.faults device.new ≡ D.facts.faults device.old) }
     ensures small { D.facts.size device.old < 2 → (result ≡ Err Refusal.TooSmall) × (device.new ≡ device.old) }
-    ensures found { IfOk result (λ r. IsRecovered D.facts device.old device.new r.header (hill_in r.hill) r.arena.settings) }
-    ensures fought { IfOk result (λ r. AreFought r.hill) }
+    ensures found { IfOk result (λ r. IsRecovered D.facts device.old device.new r.header r.hill r.arena.settings) }
     ensures refused { IfErr result (IsNotOpened D.facts device.old device.new) }
 {
     if device.sectors() < 2 {
@@ -118,18 +115,17 @@ fn recover_hill<D: Device, A: Allocator + Copy>(
     ensures kept { IsKept D.facts device.old device.new }
     ensures same { D.facts.lawful device.old → D.facts.disk device.new ≡ D.facts.disk device.old }
     ensures faultless { OnOk result (D.facts.faults device.new ≡ D.facts.faults device.old) }
-    ensures found { IfOk result (λ r. IsHillFound D.facts device.old header r.header (hill_in r.hill) r.arena.settings) }
-    ensures fought { IfOk result (λ r. AreFought r.hill) }
+    ensures found { IfOk result (λ r. IsHillFound D.facts device.old header r.header r.hill r.arena.settings) }
     ensures refused { IfErr result (HillRefused D.facts device.old device.new header) }
 {
     if device.sectors() < sectors_for(header.settings().capacity()) {
         return Err(Refusal::TooSmall);
     }
-    let mut arena = match Arena::new(alloc, header.settings()) {
+    let arena = match Arena::new(alloc, header.settings()) {
         Ok(arena) => arena,
         Err(AllocError) => return Err(Refusal::Memory),
     };
-    match read_hill(alloc, device, &mut arena, &header) {
+    match read_hill(alloc, device, &header) {
         Ok(hill) => Ok(Recovered {
             header,
             hill,

@@ -1,18 +1,17 @@
-//! How the warriors of a hill are read from their slots.
+//! How the warriors of a hill are read from their slots, with the results of their matches.
 
-ghost use Rattle.std.specs.Prelude.{◌≡◌, ◌<◌, ◌≤◌, IfErr, IfOk, OnOk};
+ghost use Rattle.std.specs.Prelude.{◌≡◌, ◌+◌, ◌<◌, ◌≤◌, All, IfErr, IfOk, OnOk, get_or, length, map, take};
 ghost use Rattle.war_types.specs.Warrior.{Fits};
 ghost use Rattle.sector_disk.specs.Disk.{current};
 ghost use Rattle.sector_disk.specs.Served.{IsKept, IsServed};
-ghost use Rattle.hill_bytes.specs.Layout.{back_sector, front_sector, sectors_for};
-ghost use Rattle.koth_hill.specs.Kept.{hill_in};
-ghost use Rattle.hill_images.specs.Named.{AreFought};
-ghost use Rattle.hill_images.specs.Reading.{refusal_of, HillNotRead, HillRead, IsDecodedAs, WarriorNotRead, WarriorRead};
+ghost use Rattle.hill_bytes.specs.Layout.{FitRounds, back_sector, front_sector, results_in, sectors_for};
+ghost use Rattle.hill_images.specs.Stands.{bout_of, no_wins};
+ghost use Rattle.hill_images.specs.Reading.{refusal_of, HillNotRead, HillRead, IsDecodedAs, ResultsRead, WarriorNotRead, WarriorRead};
 
 use crate::refusal::Refusal;
-use hill_bytes::{Header, Slot};
+use hill_bytes::{Header, HeaderEntry, RESULTS, Slot, Wins};
 use koth_hill::Hill;
-use mars_core::Arena;
+use koth_match::Bout;
 use sector_disk::{Device, Fault};
 use std::alloc::{AllocError, Allocator};
 use war_types::{Settings, Warrior};
@@ -38,58 +37,109 @@ pub(crate) fn refusal_of(unread: Unread) -> Refusal
     }
 }
 
-/// Reads the hill of a header. The results of its warriors' matches are not on the device: they are fought in the arena.
+/// Others that a warrior on a hill may be younger than, and one more.
+const OTHERS: usize = 20;
+
+const NO_ROUNDS: Bout = Bout {
+    older_wins: 0,
+    younger_wins: 0,
+    ties: 0,
+};
+
+/// Reads the hill of a header, with the results that stand in the slots.
 pub(crate) fn read_hill<D: Device, A: Allocator + Copy>(
     alloc: A,
     device: &mut D,
-    arena: &mut Arena<A>,
     header: &Header,
 ) -> Result<Hill<A>, Unread>
-    requires room { sectors_for header.now.settings.capacity ≤ D.facts.size device.old }
-    requires arena { arena.old.settings ≡ header.now.settings }
+    requires { sectors_for header.now.settings.capacity ≤ D.facts.size device.old }
     ensures kept { IsKept D.facts device.old device.new }
     ensures same { D.facts.lawful device.old → D.facts.disk device.new ≡ D.facts.disk device.old }
     ensures faultless { OnOk result (D.facts.faults device.new ≡ D.facts.faults device.old) }
-    ensures read { IfOk result (λ hill. HillRead D.facts device.old header.now (hill_in hill)) }
-    ensures fought { IfOk result AreFought }
-    ensures arena { arena.new.settings ≡ arena.old.settings }
+    ensures read { IfOk result (HillRead D.facts device.old header.now) }
     ensures unread { IfErr result (HillNotRead D.facts device.old device.new header.now) }
 {
     let settings = *header.settings();
+    let entries = header.entries();
     let mut hill = match Hill::with_counter(alloc, settings, header.counter()) {
         Ok(hill) => hill,
         Err(AllocError) => return Err(Unread::Memory),
     };
-    for e in header.entries() {
-        let warrior = match read_warrior(alloc, device, e.slot, &settings) {
-            Ok(warrior) => warrior,
+    for (i, e) in entries.iter().enumerate() {
+        let held = match read_warrior(alloc, device, e.slot, &settings) {
+            Ok(held) => held,
             Err(unread) => return Err(unread),
         };
-        hill.put_back_anew(arena, e.entry, e.age, warrior);
+        let bouts = bouts_with(&held.results, &entries[..i], settings.rounds());
+        hill.put_back(e.entry, e.age, held.warrior, &bouts[..i]);
     }
     // Tells the proof that this is a hill.
     let _count = hill.len();
     Ok(hill)
 }
 
-/// Reads the warrior of a slot.
+/// The results with the warriors of these entries, which stand by their slots: rounds that nobody won were ties.
+fn bouts_with(results: &[Wins; RESULTS], older: &[HeaderEntry], rounds: u16) -> [Bout; OTHERS]
+    requires few { length older.now ≤ 20 }
+    requires slots { All (λ e. e.slot ≤ 20) older.now }
+    requires rounds { FitRounds rounds results.now }
+    ensures value { take (length older.now) result ≡ map (λ e. bout_of rounds (get_or results.now e.slot no_wins)) older.now }
+    ensures len { length result ≡ 20 }
+{
+    let mut bouts = [NO_ROUNDS; OTHERS];
+    for (i, e) in older.iter().enumerate() {
+        bouts[i] = bout_of(results[usize::from(e.slot)], rounds);
+    }
+    bouts
+}
+
+fn bout_of(wins: Wins, rounds: u16) -> Bout
+    requires { wins.older + wins.younger ≤ rounds }
+    ensures { result ≡ bout_of rounds wins }
+{
+    Bout {
+        older_wins: wins.older,
+        younger_wins: wins.younger,
+        ties: rounds - (wins.older + wins.younger),
+    }
+}
+
+/// What a slot holds.
+#[derive(Drop)]
+struct Held<A: Allocator> {
+    warrior: Warrior<A>,
+    /// By the slots of older warriors.
+    results: [Wins; RESULTS],
+}
+
+/// Reads the warrior of a slot, and its results.
 fn read_warrior<D: Device, A: Allocator + Copy>(
     alloc: A,
     device: &mut D,
     slot: u8,
     settings: &Settings,
-) -> Result<Warrior<A>, Unread>
+) -> Result<Held<A>, Unread>
     requires { back_sector slot < D.facts.size device.old }
     ensures kept { IsKept D.facts device.old device.new }
     ensures same { D.facts.lawful device.old → D.facts.disk device.new ≡ D.facts.disk device.old }
     ensures faultless { OnOk result (D.facts.faults device.new ≡ D.facts.faults device.old) }
-    ensures fits { IfOk result (Fits settings.now) }
-    ensures read { IfOk result (WarriorRead D.facts device.old settings.now slot) }
+    ensures fits { IfOk result (λ held. Fits settings.now held.warrior) }
+    ensures rounds { IfOk result (λ held. FitRounds settings.now.rounds held.results) }
+    ensures len { IfOk result (λ held. length held.results ≡ 21) }
+    ensures read { IfOk result (λ held. WarriorRead D.facts device.old settings.now slot held.warrior) }
+    ensures results { IfOk result (λ held. ResultsRead D.facts device.old slot held.results) }
     ensures unread { IfErr result (WarriorNotRead D.facts device.old device.new settings.now slot) }
 {
-    match read_slot(device, slot) {
-        Ok(sectors) => decoded(sectors.decode(alloc, settings)),
-        Err(Fault) => Err(Unread::Disk),
+    let sectors = match read_slot(device, slot) {
+        Ok(sectors) => sectors,
+        Err(Fault) => return Err(Unread::Disk),
+    };
+    match decoded(sectors.decode(alloc, settings)) {
+        Ok(warrior) => Ok(Held {
+            warrior,
+            results: sectors.results(),
+        }),
+        Err(unread) => Err(unread),
     }
 }
 

@@ -6,18 +6,18 @@ use Rattle.sector_disk.specs.Disk.{current, synced}
 use Rattle.sector_disk.specs.Image.{Images}
 use Rattle.sector_disk.specs.Changes.{Begun}
 use Rattle.sector_disk.proofs.Images.{images_read, images_sync}
-use Rattle.koth_hill.specs.Hill.{Hill}
+use Rattle.koth_hill.specs.Kept.{Kept, fought}
 use Rattle.hill_images.specs.declared.refusal.Refusal.{Refusal}
 use Rattle.hill_images.specs.declared.refusal.Refusal.TheVariants as refusals
 use Rattle.hill_bytes.specs.Layout.{HeaderParts, sectors_for}
 use Rattle.hill_store.specs.Earned.{earned}
-use Rattle.hill_images.specs.Stands.{Shows, Stands}
+use Rattle.hill_images.specs.Stands.{Shows, Reads, Stands}
 use Rattle.hill_store.specs.Seen.{Seen}
 use Rattle.sector_disk.specs.Served.{IsKept}
 use Rattle.hill_images.specs.Opening.{IsNotOpened, Refuses}
 use Rattle.hill_store.specs.Opened.{IsCreated, IsOpened}
 use Rattle.hill_store.specs.Holding.{StandsFor, Holds, IsHolding, IsDecided, IsUndecided}
-use Rattle.hill_images.proofs.Newest.{one_newest, stands_once}
+use Rattle.hill_images.proofs.Newest.{one_newest, reads_once}
 
 -- a hill that was created holds no sources
 pub created_holds : {D : Type 0} (facts : DeviceFacts D) (old : D) (s : RawSettings) (store : Seen D) → IsKept facts old store.device → IsCreated facts old s store → facts.lawful old → IsHolding facts s [] store
@@ -33,11 +33,11 @@ opened_holding facts old s found store kept opened lawful stands = record {
   lawful = kept.same_laws.1 lawful;
   open_now = opened.open_now;
   hill = same;
-  holds = subst (λ h. Images (facts.disk store.device) (λ image. Stands (facts.size store.device) image h)) same (opened.stands lawful);
+  holds = subst (λ k. Images (facts.disk store.device) (λ image. Reads (facts.size store.device) image k)) same (opened.reads lawful);
 }
   where
-    same : store.hill ≡ earned s found
-    same = stands_once (facts.size old) (current (facts.disk old)) store.hill (earned s found) (opened.reads_as lawful) stands
+    same : store.hill ≡ fought (earned s found)
+    same = reads_once (facts.size old) (current (facts.disk old)) store.hill (fought (earned s found)) (opened.reads_as lawful) stands
 
 -- the hill that was opened
 pub decided : {D : Type 0} (facts : DeviceFacts D) (old : D) (s : RawSettings) (before : List (List ℕ)) (more : Option (List ℕ)) (store : Seen D) → IsKept facts old store.device → IsOpened facts old store → facts.lawful old → Holds (facts.size old) (facts.disk old) s before more → IsDecided facts s before more store
@@ -53,7 +53,7 @@ decided facts old s before (Some source) store kept opened lawful holds = elim (
 ]
 
 -- a device that reads as a hill is refused for want of memory or for a failure alone
-reason_of : (size : ℕ) (image : ℕ → List ℕ) (hill : Hill) (why : Refusal) → Stands size image hill → Refuses size image why → (why ≡ refusals.Disk) ⊎ (why ≡ refusals.Memory)
+reason_of : (size : ℕ) (image : ℕ → List ℕ) (hill : Kept) (why : Refusal) → Reads size image hill → Refuses size image why → (why ≡ refusals.Disk) ⊎ (why ≡ refusals.Memory)
 reason_of size image hill refusals.Disk stands reason = inl refl
 reason_of size image hill refusals.Memory stands reason = inr refl
 reason_of size image hill refusals.Occupied stands reason = absurd reason
@@ -68,9 +68,9 @@ reason_of size image hill refusals.TooSmall stands (inr few) =
     absurd (omega (arith, short, room))
 
 any_reason : (size : ℕ) (image : ℕ → List ℕ) (s : RawSettings) (before : List (List ℕ)) (more : Option (List ℕ)) (why : Refusal) → StandsFor size s before more image → Refuses size image why → (why ≡ refusals.Disk) ⊎ (why ≡ refusals.Memory)
-any_reason size image s before None why stands reason = reason_of size image (earned s before) why stands reason
-any_reason size image s before (Some source) why (inl stands) reason = reason_of size image (earned s before) why stands reason
-any_reason size image s before (Some source) why (inr stands) reason = reason_of size image (earned s (before ++ source ∷ [])) why stands reason
+any_reason size image s before None why stands reason = reason_of size image (fought (earned s before)) why stands reason
+any_reason size image s before (Some source) why (inl stands) reason = reason_of size image (fought (earned s before)) why stands reason
+any_reason size image s before (Some source) why (inr stands) reason = reason_of size image (fought (earned s (before ++ source ∷ []))) why stands reason
 
 -- no hill was opened
 pub undecided : {D : Type 0} (facts : DeviceFacts D) (old : D) (s : RawSettings) (before : List (List ℕ)) (more : Option (List ℕ)) (new : D) (why : Refusal) → IsKept facts old new → IsNotOpened facts old new why → facts.lawful old → Holds (facts.size old) (facts.disk old) s before more → IsUndecided facts s before more new why

@@ -5,12 +5,15 @@ use Rattle.sector_disk.specs.Disk.{Disk, current}
 use Rattle.sector_disk.specs.Image.{Images}
 use Rattle.sector_disk.specs.Served.{IsKept}
 use Rattle.sector_disk.proofs.Images.{images_read}
-use Rattle.koth_hill.specs.Hill.{Hill}
-use Rattle.hill_images.specs.Stands.{Stands}
-use Rattle.hill_images.proofs.Newest.{stands_once}
+use Rattle.koth_hill.specs.Hill.{Hill, IsHill}
+use Rattle.koth_hill.specs.Kept.{Kept, fought}
+use Rattle.hill_images.specs.Stands.{Reads, Stands}
+use Rattle.hill_images.proofs.Newest.{reads_once}
+use Rattle.hill_images.proofs.Shown.{reads_hill}
 use Rattle.hill_store.specs.declared.reply.Reply.{Reply}
 use Rattle.hill_store.specs.declared.reply.Reply.TheVariants as replies
-use Rattle.hill_store.specs.Earned.{step_source, steps}
+use Rattle.hill_store.specs.Earned.{step_source, steps, kept_next}
+use Rattle.hill_store.proofs.Fought.{fought_next}
 use Rattle.hill_store.specs.Seen.{Seen, IsAnswered, IsCut, IsLeft, IsStanding}
 use Rattle.hill_store.specs.Runs.{IsSubmitted, RunsOn}
 use Rattle.hill_store.specs.Lives.{Event, Lives, MovesOn, MayMoveOn}
@@ -19,40 +22,51 @@ use Rattle.hill_store.specs.Calls.{events_of, events_in, CallsAreEvents}
 true_false : true ≡ false → ⊥
 true_false same = cc
 
--- the images of a device stand for one hill at most
-one_hill_of : (size : ℕ) (disk : Disk) (x y : Hill) → Images disk (λ image. Stands size image x) → Images disk (λ image. Stands size image y) → x ≡ y
-one_hill_of size disk x y is_x is_y =
-    stands_once size (current disk) x y (images_read disk (λ image. Stands size image x) is_x) (images_read disk (λ image. Stands size image y) is_y)
+-- every image of a device reads as this hill, and stands for that one, which is then the same
+same_hill : (size : ℕ) (disk : Disk) (k : Kept) (other : Hill) → Images disk (λ image. Reads size image k) → Images disk (λ image. Stands size image other) → k ≡ fought other
+same_hill size disk k other reads stands =
+    reads_once size (current disk) k (fought other) (images_read disk (λ image. Reads size image k) reads) (images_read disk (λ image. Stands size image other) stands)
 
-pub moves_on : (size : ℕ) (old new : Disk) (hill : Hill) (sources : List (List ℕ)) → Images old (λ image. Stands size image hill) → Images new (λ image. Stands size image (steps hill sources)) → MovesOn size sources old new
-moves_on size old new hill sources held next = λ other. λ is_other.
-    subst (λ h. Images new (λ image. Stands size image (steps h sources))) (one_hill_of size old hill other held is_other) next
+stood_for : (size : ℕ) (disk : Disk) (other : Hill) → Images disk (λ image. Stands size image other) → IsHill other
+stood_for size disk other stands = reads_hill size (current disk) (fought other) (images_read disk (λ image. Stands size image other) stands)
 
-pub may_move_on : (size : ℕ) (old new : Disk) (hill : Hill) (source : List ℕ) → Images old (λ image. Stands size image hill) → Images new (λ image. Stands size image hill ⊎ Stands size image (step_source hill source)) → MayMoveOn size source old new
-may_move_on size old new hill source held next = λ other. λ is_other.
-    subst (λ h. Images new (λ image. Stands size image h ⊎ Stands size image (step_source h source))) (one_hill_of size old hill other held is_other) next
+pub moves_on : (size : ℕ) (old new : Disk) (k next : Kept) (sources : List (List ℕ)) → Images old (λ image. Reads size image k) → Images new (λ image. Reads size image next)
+    → ((h : Hill) → IsHill h → k ≡ fought h → next ≡ fought (steps h sources)) → MovesOn size sources old new
+moves_on size old new k next sources held now earns = λ other. λ is_other.
+    subst (λ x. Images new (λ image. Reads size image x)) (earns other (stood_for size old other is_other) (same_hill size old k other held is_other)) now
+
+pub may_move_on : (size : ℕ) (old new : Disk) (k next : Kept) (source : List ℕ) → Images old (λ image. Reads size image k) → Images new (λ image. Reads size image k ⊎ Reads size image next)
+    → ((h : Hill) → IsHill h → k ≡ fought h → next ≡ fought (step_source h source)) → MayMoveOn size source old new
+may_move_on size old new k next source held now earns = λ other. λ is_other.
+    let same : k ≡ fought other = same_hill size old k other held is_other in
+    subst (λ x. Images new (λ image. Stands size image other ⊎ Reads size image x)) (earns other (stood_for size old other is_other) same)
+    (subst (λ x. Images new (λ image. Reads size image x ⊎ Reads size image next)) same now)
+
+-- what one source earns on true results
+pub next_by : (k : Kept) (source : List ℕ) → (h : Hill) → IsHill h → k ≡ fought h → kept_next k source ≡ fought (step_source h source)
+next_by k source h is same = ap (λ x. kept_next x source) same ∙ fought_next h source is
 
 -- a submission that was answered, and those behind it
-answered_on : {D : Type 0} (facts : DeviceFacts D) (old mid : Seen D) (source : List ℕ) (events : List Event) (new : Disk) → IsStanding facts old → facts.size mid.device ≡ facts.size old.device → Images (facts.disk mid.device) (λ image. Stands (facts.size mid.device) image (step_source old.hill source)) → Lives (facts.size old.device) true (facts.disk mid.device) events new → Lives (facts.size old.device) true (facts.disk old.device) (Event.Answered (source ∷ []) ∷ events) new
+answered_on : {D : Type 0} (facts : DeviceFacts D) (old mid : Seen D) (source : List ℕ) (events : List Event) (new : Disk) → IsStanding facts old → facts.size mid.device ≡ facts.size old.device → Images (facts.disk mid.device) (λ image. Reads (facts.size mid.device) image (kept_next old.hill source)) → Lives (facts.size old.device) true (facts.disk mid.device) events new → Lives (facts.size old.device) true (facts.disk old.device) (Event.Answered (source ∷ []) ∷ events) new
 answered_on facts old mid source events new is same next lives = (
   facts.disk mid.device,
   refl,
-  moves_on (facts.size old.device) (facts.disk old.device) (facts.disk mid.device) old.hill (source ∷ []) is.stands
-      (subst (λ n. Images (facts.disk mid.device) (λ image. Stands n image (step_source old.hill source))) same next),
+  moves_on (facts.size old.device) (facts.disk old.device) (facts.disk mid.device) old.hill (kept_next old.hill source) (source ∷ []) is.reads
+      (subst (λ n. Images (facts.disk mid.device) (λ image. Reads n image (kept_next old.hill source))) same next) (next_by old.hill source),
   lives,
 )
 
-standing_next : {D : Type 0} (facts : DeviceFacts D) (old mid : Seen D) (source : List ℕ) → facts.lawful old.device → IsAnswered facts old (step_source old.hill source) mid → IsStanding facts mid
+standing_next : {D : Type 0} (facts : DeviceFacts D) (old mid : Seen D) (source : List ℕ) → facts.lawful old.device → IsAnswered facts old (kept_next old.hill source) mid → IsStanding facts mid
 standing_next facts old mid source lawful is = record {
   is_open = is.open_still;
-  stands = subst (λ h. Images (facts.disk mid.device) (λ image. Stands (facts.size mid.device) image h)) (sym is.hill) (is.stands lawful);
+  reads = subst (λ h. Images (facts.disk mid.device) (λ image. Reads (facts.size mid.device) image h)) (sym is.hill) (is.reads lawful);
 }
 
 -- what a source that was refused leaves
-refused_next : {D : Type 0} (facts : DeviceFacts D) (old mid : Seen D) (source : List ℕ) → IsStanding facts old → step_source old.hill source ≡ old.hill → mid ≡ old → Images (facts.disk mid.device) (λ image. Stands (facts.size mid.device) image (step_source old.hill source))
+refused_next : {D : Type 0} (facts : DeviceFacts D) (old mid : Seen D) (source : List ℕ) → IsStanding facts old → kept_next old.hill source ≡ old.hill → mid ≡ old → Images (facts.disk mid.device) (λ image. Reads (facts.size mid.device) image (kept_next old.hill source))
 refused_next facts old mid source is stays same =
-    subst (λ (s : Seen _). Images (facts.disk s.device) (λ image. Stands (facts.size s.device) image (step_source old.hill source))) (sym same)
-    (subst (λ h. Images (facts.disk old.device) (λ image. Stands (facts.size old.device) image h)) (sym stays) is.stands)
+    subst (λ (s : Seen _). Images (facts.disk s.device) (λ image. Reads (facts.size s.device) image (kept_next old.hill source))) (sym same)
+    (subst (λ h. Images (facts.disk old.device) (λ image. Reads (facts.size old.device) image h)) (sym stays) is.reads)
 
 -- the events behind a submission, on a device of as many sectors
 resized : {D : Type 0} (facts : DeviceFacts D) (old mid : Seen D) (events : List Event) (new : Disk) → facts.size mid.device ≡ facts.size old.device → Lives (facts.size mid.device) true (facts.disk mid.device) events new → Lives (facts.size old.device) true (facts.disk mid.device) events new
@@ -72,11 +86,11 @@ ran facts old new [] (r ∷ rs) lawful is runs = absurd runs
 ran facts old new (x ∷ xs) [] lawful is runs = absurd runs
 ran facts old new (x ∷ xs) (replies.Placed entry rank score ∷ rs) lawful is runs =
     let kept : IsKept facts old.device runs.0.device = runs.1.kept in
-    answered_on facts old runs.0 x (events_in xs rs) (facts.disk new.device) is kept.same_size (runs.1.submits.1.stands lawful)
+    answered_on facts old runs.0 x (events_in xs rs) (facts.disk new.device) is kept.same_size (runs.1.submits.1.reads lawful)
     (resized facts old runs.0 (events_in xs rs) (facts.disk new.device) kept.same_size (ran facts runs.0 new xs rs (kept.same_laws.1 lawful) (standing_next facts old runs.0 x lawful runs.1.submits.1) runs.2))
 ran facts old new (x ∷ xs) (replies.Fell entry score ∷ rs) lawful is runs =
     let kept : IsKept facts old.device runs.0.device = runs.1.kept in
-    answered_on facts old runs.0 x (events_in xs rs) (facts.disk new.device) is kept.same_size (runs.1.submits.1.stands lawful)
+    answered_on facts old runs.0 x (events_in xs rs) (facts.disk new.device) is kept.same_size (runs.1.submits.1.reads lawful)
     (resized facts old runs.0 (events_in xs rs) (facts.disk new.device) kept.same_size (ran facts runs.0 new xs rs (kept.same_laws.1 lawful) (standing_next facts old runs.0 x lawful runs.1.submits.1) runs.2))
 ran facts old new (x ∷ xs) (replies.Refused fault ∷ rs) lawful is runs =
     let kept : IsKept facts old.device runs.0.device = runs.1.kept in
@@ -94,11 +108,11 @@ ran facts old new (x ∷ xs) (replies.Reopen ∷ rs) lawful is runs =
     absurd (true_false (sym runs.1.submits.0 ∙ is.is_open))
 ran {D} facts old new (x ∷ xs) (replies.Disk ∷ rs) lawful is runs =
     let kept : IsKept facts old.device runs.0.device = runs.1.kept in
-    let cut : IsCut facts old (step_source old.hill x) runs.0 = runs.1.submits.1 in (
+    let cut : IsCut facts old (kept_next old.hill x) runs.0 = runs.1.submits.1 in (
       facts.disk runs.0.device,
       refl,
-      may_move_on (facts.size old.device) (facts.disk old.device) (facts.disk runs.0.device) old.hill x is.stands
-          (subst (λ n. Images (facts.disk runs.0.device) (λ image. Stands n image old.hill ⊎ Stands n image (step_source old.hill x))) kept.same_size (cut.stands lawful)),
+      may_move_on (facts.size old.device) (facts.disk old.device) (facts.disk runs.0.device) old.hill (kept_next old.hill x) x is.reads
+          (subst (λ n. Images (facts.disk runs.0.device) (λ image. Reads n image old.hill ⊎ Reads n image (kept_next old.hill x))) kept.same_size (cut.reads lawful)) (next_by old.hill x),
       none_behind facts (facts.size old.device) runs.0 new xs rs runs.2,
     )
 
@@ -124,7 +138,7 @@ append_none source replies.Disk = refl
 pub calls : {D : Type 0} (facts : DeviceFacts D) → CallsAreEvents facts
 calls facts = record {
   created = λ old s store lawful is. is.stands lawful;
-  opened = λ old store lawful is. (is.reads_as lawful, is.synced_now lawful);
+  opened = λ old store hill lawful is same. (subst (λ k. Reads (facts.size old) (current (facts.disk old)) k) same (is.reads_as lawful), is.synced_now lawful);
   not_opened = λ old new why lawful is. (facts.disk new, is.kept lawful, refl);
   submitted = λ old new source reply lawful standing is.
       subst (λ events. Lives (facts.size old.device) true (facts.disk old.device) events (facts.disk new.device)) (append_none source reply)

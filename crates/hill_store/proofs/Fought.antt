@@ -1,23 +1,86 @@
--- The results that a store keeps stay those of its hill's matches.
-use Rattle.std.proofs.Common.{◌≡◌, ℕ, refl, sym}
-use Rattle.war_types.specs.declared.settings.RawSettings.{RawSettings}
+-- Where the results that a hill keeps are true, what is due by them is due with every pair fought anew: for `laws_of_kept` and for what a store holds.
+use Rattle.std.proofs.Common.{◌≡◌, ℕ, true, false, List, Result, Ok, Err, refl, sym, ap, subst, ◌∙◌, true≢false}
 use Rattle.war_types.specs.Warrior.{WarriorParts}
-use Rattle.koth_hill.specs.Hill.{IsHill}
-use Rattle.koth_hill.specs.Step.{new_hill, verdict}
-use Rattle.koth_hill.specs.Kept.{Kept, hill_in, kept_fall, new_kept, step_kept, verdict_kept}
-use Rattle.koth_hill.proofs.RowsKept.{IsKept-fall, IsKept-step}
-use Rattle.koth_hill.proofs.Truths.{still-true, true-verdict}
-use Rattle.hill_images.specs.Named.{AreFought}
+use Rattle.war_types.specs.declared.fault.AsmFault.{AsmFault}
+use Rattle.redcode_asm.specs.Assembly.{assembly}
+use Rattle.koth_hill.specs.Hill.{Hill, IsHill}
+use Rattle.koth_hill.specs.Table.{table}
+use Rattle.koth_hill.specs.Kept.{Kept, IsKept, AreTrue, fought, hill_in, step_kept, table_kept}
+use Rattle.koth_hill.proofs.RowsKept.{IsKept-fought}
+use Rattle.koth_hill.proofs.Truths.{still-true, true-step, true-table, true-verdict}
+use Rattle.hill_store.specs.Earned.{reply_judged, reply_found, reply_of, step_found, step_source, kept_found, kept_next, kept_reply, kept_reply_found}
+use Rattle.sector_disk.specs.Facts.{DeviceFacts}
+use Rattle.hill_store.specs.declared.reply.Reply.{Reply}
+use Rattle.hill_store.specs.declared.reply.Reply.TheVariants as replies
+use Rattle.hill_store.specs.Seen.{Seen, IsCut, IsLeft, Submits}
+use Rattle.hill_store.specs.Holding.{is_answer}
+use Rattle.hill_store.specs.Kept.{IsAnew, LawsOfKept}
 
-pub fought_new : (s : RawSettings) (counter : ℕ) → IsHill (new_hill s counter) → AreFought (new_kept s counter)
-fought_new s counter is = record { kept = record { hill = is; each = refl; rows = tt }; fought = refl }
+-- true results are those of the hill
+pub fought_is : (k : Kept) → AreTrue k → k ≡ fought (hill_in k)
+fought_is k holds = λ i. record { settings = k.settings; counter = k.counter; members = k.members; results = holds i }
 
-pub fought_step : (k : Kept) (w : WarriorParts) → AreFought k → IsHill (hill_in (step_kept k w)) → AreFought (step_kept k w)
-fought_step k w are is = record { kept = IsKept-step k w are.kept is; fought = still-true k w are.kept are.fought }
+next_found : (h : Hill) (r : Result WarriorParts AsmFault) → IsHill h → kept_found (fought h) r ≡ fought (step_found h r)
+next_found h (Ok w) is =
+    fought_is (step_kept (fought h) w) (still-true (fought h) w (IsKept-fought h is) refl)
+    ∙ ap fought (true-step (fought h) w (IsKept-fought h is) refl)
+next_found h (Err fault) is = refl
 
-pub fought_fall : (k : Kept) → AreFought k → IsHill (hill_in (kept_fall k)) → AreFought (kept_fall k)
-fought_fall k are is = record { kept = IsKept-fall k are.kept is; fought = are.fought }
+-- the hill after a source
+pub fought_next : (h : Hill) (source : List ℕ) → IsHill h → kept_next (fought h) source ≡ fought (step_source h source)
+fought_next h source is = next_found h (assembly h.settings source) is
 
--- a verdict by what is kept
-pub fought_verdict : (k : Kept) (w : WarriorParts) → AreFought k → verdict (hill_in k) w ≡ verdict_kept k w
-fought_verdict k w are = sym (true-verdict k w are.kept are.fought)
+reply_found_is : (h : Hill) (r : Result WarriorParts AsmFault) → IsHill h → kept_reply_found (fought h) r ≡ reply_found h r
+reply_found_is h (Ok w) is = ap reply_judged (true-verdict (fought h) w (IsKept-fought h is) refl)
+reply_found_is h (Err fault) is = refl
+
+-- its reply
+pub fought_reply : (h : Hill) (source : List ℕ) → IsHill h → kept_reply (fought h) source ≡ reply_of h source
+fought_reply h source is = reply_found_is h (assembly h.settings source) is
+
+-- its table
+pub fought_rows : (h : Hill) → IsHill h → table_kept (fought h) ≡ table h
+fought_rows h is = true-table (fought h) (IsKept-fought h is) refl
+
+-- ---- submissions
+
+-- what a submission that moved the hill or not comes to
+anew_answered : (old : Kept) (source : List ℕ) (reply : Reply) (new : Kept) → is_answer reply ≡ true → IsHill (hill_in old) → AreTrue old → reply ≡ kept_reply old source → new ≡ kept_next old source → IsAnew old source reply new
+anew_answered old source reply new is_one hill holds due next =
+    let now : new ≡ fought (step_source (hill_in old) source) = next ∙ ap (λ k. kept_next k source) (fought_is old holds) ∙ fought_next (hill_in old) source hill in record {
+      due = λ is. due ∙ ap (λ k. kept_reply k source) (fought_is old holds) ∙ fought_reply (hill_in old) source hill;
+      hill = λ is. ap hill_in now;
+      same = λ is. absurd (true≢false (sym is_one ∙ is));
+      still_true = subst AreTrue (sym now) refl;
+    }
+
+anew_left : (old : Kept) (source : List ℕ) (reply : Reply) (new : Kept) → is_answer reply ≡ false → AreTrue old → new ≡ old → IsAnew old source reply new
+anew_left old source reply new is_none holds same = record {
+  due = λ is. absurd (true≢false (sym is ∙ is_none));
+  hill = λ is. absurd (true≢false (sym is ∙ is_none));
+  same = λ is. same;
+  still_true = subst AreTrue (sym same) holds;
+}
+
+pub anew : {D : Type 0} (facts : DeviceFacts D) (old new : Seen D) (source : List ℕ) (reply : Reply) → IsKept old.hill → Submits facts old source reply new → AreTrue old.hill → IsAnew old.hill source reply new.hill
+anew facts old new source (replies.Placed entry rank score) kept is holds =
+    anew_answered old.hill source (replies.Placed entry rank score) new.hill refl kept.hill holds is.0 is.1.hill
+anew facts old new source (replies.Fell entry score) kept is holds =
+    anew_answered old.hill source (replies.Fell entry score) new.hill refl kept.hill holds is.0 is.1.hill
+anew facts old new source (replies.Refused fault) kept is holds =
+    let left : IsLeft old new = is.2 in
+    anew_answered old.hill source (replies.Refused fault) new.hill refl kept.hill holds is.0 (ap (λ (s : Seen _). s.hill) left.same ∙ sym is.1)
+anew facts old new source replies.Memory kept is holds =
+    let left : IsLeft old new = is in anew_left old.hill source replies.Memory new.hill refl holds (ap (λ (s : Seen _). s.hill) left.same)
+anew facts old new source replies.Worn kept is holds =
+    let left : IsLeft old new = is.2 in anew_left old.hill source replies.Worn new.hill refl holds (ap (λ (s : Seen _). s.hill) left.same)
+anew facts old new source replies.Disk kept is holds =
+    let cut : IsCut facts old (kept_next old.hill source) new = is.1 in anew_left old.hill source replies.Disk new.hill refl holds cut.hill
+anew facts old new source replies.Reopen kept is holds = anew_left old.hill source replies.Reopen new.hill refl holds (ap (λ (s : Seen _). s.hill) is.1)
+
+pub laws_of_kept : LawsOfKept
+laws_of_kept = record {
+  reply = fought_reply;
+  next = fought_next;
+  rows = fought_rows;
+}

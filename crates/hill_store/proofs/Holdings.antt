@@ -3,14 +3,19 @@ use Rattle.std.proofs.Common.{◌≡◌, ◌⊎◌, ℕ, true, false, List, [], 
 use Rattle.war_types.specs.declared.settings.RawSettings.{RawSettings}
 use Rattle.sector_disk.specs.Facts.{DeviceFacts}
 use Rattle.sector_disk.specs.Image.{Images}
-use Rattle.koth_hill.specs.Hill.{Hill}
+use Rattle.koth_hill.specs.Hill.{Hill, IsHill}
+use Rattle.koth_hill.specs.Kept.{fought, hill_in}
 use Rattle.koth_hill.specs.Step.{new_hill}
 use Rattle.hill_store.specs.declared.reply.Reply.{Reply}
 use Rattle.hill_store.specs.declared.reply.Reply.TheVariants as replies
-use Rattle.hill_store.specs.Earned.{step_source, steps, earned}
-use Rattle.hill_images.specs.Stands.{Stands}
+use Rattle.hill_store.specs.Earned.{step_source, steps, earned, kept_next}
+use Rattle.sector_disk.specs.Disk.{current}
+use Rattle.sector_disk.proofs.Images.{images_read}
+use Rattle.hill_images.specs.Stands.{Reads, Stands}
+use Rattle.hill_images.proofs.Shown.{reads_hill}
 use Rattle.hill_store.specs.Seen.{Seen, IsAnswered, IsCut, IsLeft, Submits}
 use Rattle.hill_store.specs.Runs.{RunsOn}
+use Rattle.hill_store.proofs.Fought.{fought_next}
 use Rattle.hill_store.specs.Holding.{answered, under_way, IsHolding, IsCutOff, IsHeldWith, HoldsMore}
 
 steps_more : (h : Hill) (xs : List (List ℕ)) (x : List ℕ) → steps h (xs ++ x ∷ []) ≡ step_source (steps h xs) x
@@ -20,6 +25,17 @@ steps_more h (y ∷ xs) x = steps_more (step_source h y) xs x
 -- one more source is one more step
 pub earned_more : (s : RawSettings) (xs : List (List ℕ)) (x : List ℕ) → earned s (xs ++ x ∷ []) ≡ step_source (earned s xs) x
 earned_more s xs x = steps_more (new_hill s 0) xs x
+
+-- what a device stands for is a hill
+pub earned_hill : {D : Type 0} (facts : DeviceFacts D) (s : RawSettings) (before : List (List ℕ)) (store : Seen D) → IsHolding facts s before store → IsHill (earned s before)
+earned_hill facts s before store holding =
+    reads_hill (facts.size store.device) (current (facts.disk store.device)) (fought (earned s before))
+    (images_read (facts.disk store.device) (λ image. Stands (facts.size store.device) image (earned s before)) holding.holds)
+
+-- the hill of a store that holds what sources earn, after one more
+pub next_earned : {D : Type 0} (facts : DeviceFacts D) (s : RawSettings) (before : List (List ℕ)) (source : List ℕ) (store : Seen D) → IsHolding facts s before store → kept_next store.hill source ≡ fought (earned s (before ++ source ∷ []))
+next_earned facts s before source store holding =
+    ap (λ k. kept_next k source) holding.hill ∙ fought_next (earned s before) source (earned_hill facts s before store holding) ∙ ap fought (sym (earned_more s before source))
 
 true_false : true ≡ false → ⊥
 true_false same = cc
@@ -31,39 +47,39 @@ left_holds facts s before old new holding same =
     (subst (λ store. IsHolding facts s before store) (sym same) holding)
 
 -- the source was refused, and takes the hill no step
-refused_holds : {D : Type 0} (facts : DeviceFacts D) (s : RawSettings) (before : List (List ℕ)) (source : List ℕ) (old new : Seen D) → IsHolding facts s before old → step_source old.hill source ≡ old.hill → new ≡ old → IsHolding facts s (before ++ source ∷ []) new
+refused_holds : {D : Type 0} (facts : DeviceFacts D) (s : RawSettings) (before : List (List ℕ)) (source : List ℕ) (old new : Seen D) → IsHolding facts s before old → kept_next old.hill source ≡ old.hill → new ≡ old → IsHolding facts s (before ++ source ∷ []) new
 refused_holds {D} facts s before source old new holding stays same =
     subst (λ store. IsHolding facts s (before ++ source ∷ []) store) (sym same) (record {
       lawful = holding.lawful;
       open_now = holding.open_now;
-      hill = holding.hill ∙ sym next;
-      holds = subst (λ h. Images (facts.disk old.device) (λ image. Stands (facts.size old.device) image h)) (sym next) holding.holds;
+      hill = sym stays ∙ next;
+      holds = subst (λ h. Images (facts.disk old.device) (λ image. Stands (facts.size old.device) image h)) (ap hill_in (sym holding.hill ∙ sym stays ∙ next)) holding.holds;
     })
   where
-    next : earned s (before ++ source ∷ []) ≡ earned s before
-    next = earned_more s before source ∙ ap (λ h. step_source h source) (sym holding.hill) ∙ stays ∙ holding.hill
+    next : kept_next old.hill source ≡ fought (earned s (before ++ source ∷ []))
+    next = next_earned facts s before source old holding
 
 -- it was placed or fell
-answered_holds : {D : Type 0} (facts : DeviceFacts D) (s : RawSettings) (before : List (List ℕ)) (source : List ℕ) (old new : Seen D) → IsHolding facts s before old → facts.lawful new.device → IsAnswered facts old (step_source old.hill source) new → IsHolding facts s (before ++ source ∷ []) new
+answered_holds : {D : Type 0} (facts : DeviceFacts D) (s : RawSettings) (before : List (List ℕ)) (source : List ℕ) (old new : Seen D) → IsHolding facts s before old → facts.lawful new.device → IsAnswered facts old (kept_next old.hill source) new → IsHolding facts s (before ++ source ∷ []) new
 answered_holds facts s before source old new holding lawful is = record {
   lawful = lawful;
   open_now = is.open_still;
   hill = is.hill ∙ next;
-  holds = subst (λ h. Images (facts.disk new.device) (λ image. Stands (facts.size new.device) image h)) next (is.stands holding.lawful);
+  holds = subst (λ k. Images (facts.disk new.device) (λ image. Reads (facts.size new.device) image k)) next (is.reads holding.lawful);
 }
   where
-    next : step_source old.hill source ≡ earned s (before ++ source ∷ [])
-    next = ap (λ h. step_source h source) holding.hill ∙ sym (earned_more s before source)
+    next : kept_next old.hill source ≡ fought (earned s (before ++ source ∷ []))
+    next = next_earned facts s before source old holding
 
 -- the device failed
-cut_holds : {D : Type 0} (facts : DeviceFacts D) (s : RawSettings) (before : List (List ℕ)) (source : List ℕ) (old new : Seen D) → IsHolding facts s before old → facts.lawful new.device → IsCut facts old (step_source old.hill source) new → IsCutOff facts s (before ++ []) source new
+cut_holds : {D : Type 0} (facts : DeviceFacts D) (s : RawSettings) (before : List (List ℕ)) (source : List ℕ) (old new : Seen D) → IsHolding facts s before old → facts.lawful new.device → IsCut facts old (kept_next old.hill source) new → IsCutOff facts s (before ++ []) source new
 cut_holds facts s before source old new holding lawful is =
     subst (λ xs. IsCutOff facts s xs source new) (sym (append-nil before)) (record {
       lawful = lawful;
       broken = is.broken;
       hill = is.hill ∙ holding.hill;
-      holds = subst (λ h. Images (facts.disk new.device) (λ image. Stands (facts.size new.device) image (earned s before) ⊎ Stands (facts.size new.device) image h)) (sym (earned_more s before source))
-          (subst (λ h. Images (facts.disk new.device) (λ image. Stands (facts.size new.device) image h ⊎ Stands (facts.size new.device) image (step_source h source))) holding.hill (is.stands holding.lawful));
+      holds = subst (λ k. Images (facts.disk new.device) (λ image. Stands (facts.size new.device) image (earned s before) ⊎ Reads (facts.size new.device) image k)) (next_earned facts s before source old holding)
+          (subst (λ k. Images (facts.disk new.device) (λ image. Reads (facts.size new.device) image k ⊎ Reads (facts.size new.device) image (kept_next old.hill source))) holding.hill (is.reads holding.lawful));
     })
 
 -- after one submission

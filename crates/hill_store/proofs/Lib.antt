@@ -1,3 +1,4 @@
+pub mod Written
 pub mod Replies
 pub mod Lists
 pub mod Holdings

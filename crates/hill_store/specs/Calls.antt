@@ -1,7 +1,9 @@
 -- What the calls of a store are in the life of its device.
-use Rattle.std.specs.Prelude.{ℕ, true, false, List, [], ◌∷◌, ◌++◌, None}
+use Rattle.std.specs.Prelude.{◌≡◌, ℕ, true, false, List, [], ◌∷◌, ◌++◌, None}
 use Rattle.war_types.specs.declared.settings.RawSettings.{RawSettings}
 use Rattle.sector_disk.specs.Facts.{DeviceFacts}
+use Rattle.koth_hill.specs.Hill.{Hill}
+use Rattle.koth_hill.specs.Kept.{fought}
 use Rattle.hill_images.specs.declared.refusal.Refusal.{Refusal}
 use Rattle.hill_images.specs.Opening.{IsNotOpened}
 use Rattle.hill_store.specs.declared.reply.Reply.{Reply}
@@ -33,9 +35,9 @@ pub record CallsAreEvents {D : Type 0} (facts : DeviceFacts D) : Type 0 where
   -- a life begins with a creation
   pub created : (old : D) (s : RawSettings) (store : Seen D) → facts.lawful old → IsCreated facts old s store
       → Holds (facts.size store.device) (facts.disk store.device) s [] None
-  -- an opening is one event, refused or not
-  pub opened : (old : D) (store : Seen D) → facts.lawful old → IsOpened facts old store
-      → Lives (facts.size old) false (facts.disk old) (Event.Opened store.hill ∷ []) (facts.disk store.device)
+  -- an opening is one event, refused or not; what is opened of a life's device keeps true results
+  pub opened : (old : D) (store : Seen D) (hill : Hill) → facts.lawful old → IsOpened facts old store → store.hill ≡ fought hill
+      → Lives (facts.size old) false (facts.disk old) (Event.Opened hill ∷ []) (facts.disk store.device)
   pub not_opened : (old new : D) (why : Refusal) → facts.lawful old → IsNotOpened facts old new why
       → Lives (facts.size old) false (facts.disk old) (Event.NotOpened ∷ []) (facts.disk new)
   -- a submission is one event, or none; a list of them is the events of each

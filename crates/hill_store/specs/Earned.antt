@@ -7,6 +7,7 @@ use Rattle.redcode_asm.specs.Assembly.{assembly}
 use Rattle.koth_hill.specs.declared.verdict.Verdict.{Verdict}
 use Rattle.koth_hill.specs.Hill.{Hill}
 use Rattle.koth_hill.specs.Step.{step, verdict, new_hill}
+use Rattle.koth_hill.specs.Kept.{Kept, step_kept, verdict_kept}
 use Rattle.hill_store.specs.declared.reply.Reply.{Reply}
 use Rattle.hill_store.specs.declared.reply.Reply.TheVariants as replies
 
@@ -37,3 +38,21 @@ steps h (source ∷ sources) = steps (step_source h source) sources
 -- what a list of sources earns from the beginning, with every pair fought anew at each step
 abbrev pub earned : RawSettings → List (List ℕ) → Hill
 earned s sources = steps (new_hill s 0) sources
+
+-- ---- by what is kept, true or not
+
+abbrev pub kept_found : Kept → Result WarriorParts AsmFault → Kept
+kept_found k (Ok w) = step_kept k w
+kept_found k (Err fault) = k
+
+-- the hill after a source, by the results that it keeps
+abbrev pub kept_next : Kept → List ℕ → Kept
+kept_next k source = kept_found k (assembly k.settings source)
+
+abbrev pub kept_reply_found : Kept → Result WarriorParts AsmFault → Reply
+kept_reply_found k (Ok w) = reply_judged (verdict_kept k w)
+kept_reply_found k (Err fault) = replies.Refused fault
+
+-- the reply that is due to a source, by the results that the hill keeps
+abbrev pub kept_reply : Kept → List ℕ → Reply
+kept_reply k source = kept_reply_found k (assembly k.settings source)

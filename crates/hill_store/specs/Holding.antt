@@ -8,6 +8,7 @@ use Rattle.hill_store.specs.declared.reply.Reply.{Reply}
 use Rattle.hill_store.specs.declared.reply.Reply.TheVariants as replies
 use Rattle.hill_images.specs.declared.refusal.Refusal.{Refusal}
 use Rattle.hill_images.specs.declared.refusal.Refusal.TheVariants as refusals
+use Rattle.koth_hill.specs.Kept.{fought}
 use Rattle.hill_store.specs.Earned.{earned}
 use Rattle.hill_images.specs.Stands.{Stands}
 use Rattle.hill_store.specs.Seen.{Seen}
@@ -46,18 +47,18 @@ under_way [] replied = None
 under_way (source ∷ sources) [] = None
 under_way (source ∷ sources) (reply ∷ rest) = if is_disk reply then Some source else under_way sources rest
 
--- an open store on a lawful device: its hill is what these sources earn, and that is the hill of every image
+-- an open store on a lawful device: its hill is what these sources earn, each result that it keeps is its pair's match, and so it is with every image
 pub record IsHolding {D : Type 0} (facts : DeviceFacts D) (s : RawSettings) (sources : List (List ℕ)) (store : Seen D) : Type 0 where
   pub lawful : facts.lawful store.device
   pub open_now : store.reopen ≡ false
-  pub hill : store.hill ≡ earned s sources
+  pub hill : store.hill ≡ fought (earned s sources)
   pub holds : Holds (facts.size store.device) (facts.disk store.device) s sources None
 
 -- a store whose device failed while one more source was under way
 pub record IsCutOff {D : Type 0} (facts : DeviceFacts D) (s : RawSettings) (sources : List (List ℕ)) (source : List ℕ) (store : Seen D) : Type 0 where
   pub lawful : facts.lawful store.device
   pub broken : store.reopen ≡ true
-  pub hill : store.hill ≡ earned s sources
+  pub hill : store.hill ≡ fought (earned s sources)
   pub holds : Holds (facts.size store.device) (facts.disk store.device) s sources (Some source)
 
 -- the one or the other

@@ -15,6 +15,7 @@ mod store;
 
 pub use hill_bytes::{Header, HeaderEntry, decode_header, encode_header};
 pub use hill_images::{Refusal, laws_of_storage, sectors_for};
-pub use laws::{calls_in_lives, laws_of_lives};
+pub use koth_hill::Untrue;
+pub use laws::{calls_in_lives, laws_of_kept, laws_of_lives};
 pub use reply::Reply;
 pub use store::Store;

@@ -1,9 +1,10 @@
 //! The store.
 
-ghost use Rattle.std.specs.Prelude.{◌≡◌, ◌⊎◌, ◌↔◌, ℕ, ◌+◌, ◌-◌, ◌^◌, ◌<◌, ◌≤◌, true, false, List, [], ◌∷◌, Option, Err, IfOk, IfErr, OnErr, MatchResult};
+ghost use Rattle.std.specs.Prelude.{◌≡◌, ◌⊎◌, ◌↔◌, ℕ, ◌+◌, ◌-◌, ◌^◌, ◌<◌, ◌≤◌, true, false, List, [], ◌∷◌, Option, Err, None, IfOk, IfErr, IfSome, OnErr, MatchResult};
 ghost use Rattle.war_types.specs.Warrior.{WarriorParts, Fits};
-ghost use Rattle.koth_hill.specs.Step.{verdict, stays, step, after_stay, after_fall};
 ghost use Rattle.koth_hill.specs.Table.{table};
+ghost use Rattle.koth_hill.specs.Kept.{AreTrue, AreTrueBefore, IsKept as IsKeptHill, IsUntrue, hill_in, table_kept, verdict_kept};
+ghost use Rattle.hill_store.specs.Kept.{IsAnew};
 ghost use Rattle.koth_hill.specs.Rows.{rows_parts};
 ghost use Rattle.hill_store.specs.Runs.{Runs, texts};
 ghost use Rattle.sector_disk.specs.Served.{IsKept};
@@ -19,10 +20,10 @@ ghost use Rattle.hill_store.specs.Seen.{Seen, IsAnswered, IsCut, IsLeft, Submits
 use crate::reply::Reply;
 use hill_bytes::Header;
 use hill_images::{
-    Refusal, commit, free_slot, header_passed, header_placed, place, recover, sectors_for,
-    write_first,
+    Refusal, commit, free_slot, header_passed, header_placed, place, recover, results_by_slot,
+    sectors_for, write_first,
 };
-use koth_hill::{Hill, Row, Verdict};
+use koth_hill::{Hill, Row, Untrue, Verdict};
 use mars_core::Arena;
 use redcode_asm::assemble;
 use sector_disk::{Device, Fault};
@@ -43,14 +44,13 @@ pub struct Store<D: Device, A: Allocator> {
 
 impl<D: Device, A: Allocator> Model for Store<D, A> {
     ghost use Rattle.hill_store.specs.Seen.{Seen, seen};
-    ghost use Rattle.hill_images.specs.Named.{AreFought, IsSound};
-    ghost use Rattle.koth_hill.specs.Kept.{hill_in};
+    ghost use Rattle.hill_images.specs.Named.{IsSound};
 
     ghost Value = { Seen D };
 
-    ghost view = { λ s. seen s.device (hill_in s.hill) s.header.generation s.reopen };
+    ghost view = { λ s. seen s.device s.hill s.header.generation s.reopen };
 
-    ghost invariant = { λ s. IsSound D.facts s.device s.header (hill_in s.hill) s.arena.settings s.reopen × AreFought s.hill };
+    ghost invariant = { λ s. IsSound D.facts s.device s.header s.hill s.arena.settings s.reopen };
 }
 
 impl<D: Device, A: Allocator + Copy> Store<D, A> {
@@ -119,6 +119,7 @@ impl<D: Device, A: Allocator + Copy> Store<D, A> {
     /// Submits a source. The reply to a warrior that is placed or falls comes once that is durable.
     pub fn submit(&mut self, source: &[u8]) -> Reply
         ensures submits { Submits D.facts self.old source.now result self.new }
+        ensures anew { AreTrue self.old.hill → IsAnew self.old.hill source.now result self.new.hill }
         ensures holds { (s : RawSettings) (before : List (List ℕ)) → IsHolding D.facts s before self.old
             → HoldsMore D.facts s before (source.now ∷ []) (result ∷ []) self.new }
         ensures kept { IsKept D.facts self.old.device self.new.device }
@@ -151,6 +152,7 @@ impl<D: Device, A: Allocator + Copy> Store<D, A> {
     /// Assembles a source, and has its warrior judged.
     fn reply_to(&mut self, source: &[u8]) -> Reply
         ensures submits { Submits D.facts self.old source.now result self.new }
+        ensures hill { IsKeptHill self.old.hill }
         ensures kept { IsKept D.facts self.old.device self.new.device }
         ensures worn { self.old.generation ≡ 2 ^ 64 - 1 → self.new ≡ self.old }
     {
@@ -187,14 +189,15 @@ impl<D: Device, A: Allocator + Copy> Store<D, A> {
         requires is_open { self.old.reopen ≡ false }
         requires fits { Fits self.old.hill.settings warrior }
         requires more { self.old.generation < 2 ^ 64 - 1 }
-        requires verdict { judged.now ≡ verdict self.old.hill warrior }
+        requires verdict { judged.now ≡ verdict_kept self.old.hill warrior }
         requires stays { judged.now.stays ≡ true }
         ensures challenges { Challenges D.facts self.old warrior result self.new }
         ensures kept { IsKept D.facts self.old.device self.new.device }
     {
         let slot = free_slot(self.header.entries());
         let header = header_placed(&self.header, judged.falls, slot);
-        match place(&mut self.device, &header, slot, &warrior) {
+        let results = results_by_slot(self.header.entries(), judged.bouts());
+        match place(&mut self.device, &header, slot, &warrior, &results) {
             Ok(()) => {
                 self.hill.admit(warrior, judged);
                 self.header = header;
@@ -210,7 +213,7 @@ impl<D: Device, A: Allocator + Copy> Store<D, A> {
         requires more { self.old.generation < 2 ^ 64 - 1 }
         requires entry { judged.now.entry ≡ self.old.hill.counter + 1 }
         requires falls { judged.now.stays ≡ false }
-        ensures challenges { (w : WarriorParts) → judged.now ≡ verdict self.old.hill w → Challenges D.facts self.old w result self.new }
+        ensures challenges { (w : WarriorParts) → judged.now ≡ verdict_kept self.old.hill w → Challenges D.facts self.old w result self.new }
         ensures kept { IsKept D.facts self.old.device self.new.device }
     {
         let header = header_passed(&self.header);
@@ -224,12 +227,39 @@ impl<D: Device, A: Allocator + Copy> Store<D, A> {
         }
     }
 
-    /// The table, highest score first, among equals the earlier entry first. After `Disk` it is that of the hill as it was
-    /// before that submission.
+    /// The table, highest score first, among equals the earlier entry first, by the results that are kept: no match is fought. After
+    /// `Disk` it is that of the hill as it was before that submission.
     pub fn rows(&self) -> Result<Vec<Row<'_>, A>, AllocError>
-        ensures { IfOk result (λ rows. rows_parts rows.items ≡ table self.now.hill) }
+        ensures kept { IfOk result (λ rows. rows_parts rows.items ≡ table_kept self.now.hill) }
+        ensures table { AreTrue self.now.hill → IfOk result (λ rows. rows_parts rows.items ≡ table (hill_in self.now.hill)) }
     {
         self.hill.rows(self.alloc)
+    }
+
+    /// The hill, with the results that it keeps.
+    pub fn hill(&self) -> &Hill<A>
+        ensures { result.now ≡ self.now.hill }
+    {
+        &self.hill
+    }
+
+    /// Whether each result that is kept is what the match comes to when it is fought anew. It takes no memory.
+    pub fn audit(&mut self) -> bool
+        ensures value { (result ≡ true → AreTrue self.old.hill) × (AreTrue self.old.hill → result ≡ true) }
+        ensures unchanged { self.new ≡ self.old }
+    {
+        self.hill.audit(&mut self.arena)
+    }
+
+    /// The first result, by the younger warrior's entry and then the older's, that is kept and is not what the match comes to when it is
+    /// fought anew; `None` where each is. It takes no memory.
+    pub fn first_untrue(&mut self) -> Option<Untrue>
+        ensures none { result ≡ None → AreTrue self.old.hill }
+        ensures some { IfSome result (λ u. IsUntrue self.old.hill u.older u.younger u.kept u.fought) }
+        ensures first { IfSome result (λ u. AreTrueBefore self.old.hill u.older u.younger) }
+        ensures unchanged { self.new ≡ self.old }
+    {
+        self.hill.first_untrue(&mut self.arena)
     }
 }
 

@@ -1,5 +1,5 @@
 -- Each row, beside its member's matches with those before it.
-use Rattle.std.proofs.Common.{◌≡◌, ℕ, ◌+◌, ◌<◌, ◌≤◌, Bool, true, false, List, [], ◌∷◌, ◌++◌, length, take, get_or, refl, sym, ap, ap₂, subst, ◌∙◌, arith, suc, zero, append_assoc, append-nil}
+use Rattle.std.proofs.Common.{◌≡◌, ℕ, ◌+◌, ◌<◌, ◌≤◌, List, [], ◌∷◌, ◌++◌, length, take, get_or, sym, ap, ap₂, subst, ◌∙◌, arith, suc, zero, append_assoc, append-nil}
 use Rattle.std.proofs.lemmas.List.{get_or-map, length-map, take-map, take_all, take_more_same}
 use Rattle.std.proofs.lemmas.List.Elements.{All-take}
 use Rattle.war_types.specs.declared.settings.RawSettings.{RawSettings}
@@ -63,16 +63,6 @@ true-more s t es n e w bouts row settings within here same fought kept equal bef
     before
     (kept-at es n e row row within here kept ∙ sym equal ∙ sym (fought-at s t es n e w bouts row settings within here same fought))
 
--- where all rows are true, so is this one
-pub true-row : (s : RawSettings) (k : Kept) (es xs : List Entrant) (n : ℕ) (e : Entrant) (w : WarriorParts) (bouts row : List Bout) →
-    s ≡ k.settings → members_of es ≡ k.members → rows_of es ≡ k.results → xs ≡ es →
-    n < length xs → e ≡ get_or xs n e → w ≡ e.member.warrior → bouts ≡ matches_with s (members_of (take n xs)) w → row ≡ e.bouts →
-    AreTrue k → bouts ≡ row
-true-row s k es xs n e w bouts row settings members rows is within here same fought kept holds =
-    sym (fought-at s k.settings xs n e w bouts row settings within here same fought)
-    ∙ ap (λ (all : List (List Bout)). get_or all n row) (ap (λ (ms : List Member). fought_from k.settings [] ms) (ap members_of is ∙ members) ∙ sym holds ∙ sym (ap rows_of is ∙ rows))
-    ∙ kept-at xs n e row row within here kept
-
 -- behind the last row, all are true
 pub true-all : (k : Kept) (es xs : List Entrant) (n : ℕ) → members_of es ≡ k.members → rows_of es ≡ k.results → xs ≡ es → length xs ≤ n →
     take n (rows_of xs) ≡ take n (fought_from k.settings [] (members_of xs)) → AreTrue k
@@ -83,13 +73,3 @@ true-all k es xs n members rows is past before =
     ∙ before
     ∙ take_all n (fought_from k.settings [] (members_of xs)) (omega (arith, past, many, length-fought k.settings [] (members_of xs)))
     ∙ ap (λ (ms : List Member). fought_from k.settings [] ms) (ap members_of is ∙ members)
-
--- ---- the answers
-
--- at a row that is not what was fought, not all rows are true
-pub answer-false : (k : Kept) (bouts row : List Bout) (equal : Bool) → (bouts ≡ row → equal ≡ true) → equal ≡ false → (AreTrue k → bouts ≡ row) →
-    (false ≡ true → AreTrue k) × (AreTrue k → false ≡ true)
-answer-false k bouts row equal found not holding = ((λ no. cc), (λ holds. sym not ∙ found (holding holds)))
-
-pub answer-true : (k : Kept) → AreTrue k → (true ≡ true → AreTrue k) × (AreTrue k → true ≡ true)
-answer-true k holds = ((λ yes. holds), (λ yes. refl))

@@ -13,13 +13,12 @@ use Rattle.koth_hill.specs.declared.standings.Standing.{Standing}
 use Rattle.koth_hill.specs.declared.verdict.Verdict.{Verdict}
 use Rattle.koth_hill.specs.Hill.{Member, Hill, AllFit, MayStand, IsHill, member_of, last_entry}
 use Rattle.koth_hill.specs.Step.{challenger, enlarged, falling_by, matches_with, stays_by}
-use Rattle.koth_hill.specs.Kept.{Kept, Entrant, AreRows, AreTrue, IsKept, entrant_of, entries_of, hill_in, kept_of, members_of, rows_of, fresh, known, kept_fall, kept_stay, result_of, step_kept, verdict_kept}
+use Rattle.koth_hill.specs.Kept.{Kept, Entrant, AreRows, IsKept, entrant_of, entries_of, hill_in, kept_of, members_of, rows_of, fresh, known, kept_fall, kept_stay, result_of, step_kept, verdict_kept}
 use Rattle.koth_hill.specs.Standings.{StandingParts, HaveRounds, judged_among, kept_in, entries_in, rows_in, result_in_standings, standing_of, standing_parts}
 use Rattle.koth_hill.proofs.Members.{IsHill-put_back}
 use Rattle.koth_hill.proofs.ByEntry.{kept_among, entries-entrants, rows-entrants}
 use Rattle.koth_hill.proofs.Judged.{judged_in, judged-found}
 use Rattle.koth_hill.proofs.RowsKept.{AreRows-push, matches-rounds}
-use Rattle.koth_hill.proofs.Truths.{fought-push}
 use Rattle.koth_hill.proofs.Verdicts.{verdict-stays}
 
 -- ---- those on a hill fit, are few, and have the rounds of the settings
@@ -143,12 +142,6 @@ put_back-is seen now es items e entry age w bouts same members rows made pushed 
 pub fresh-found : (seen : Kept) (es : List Entrant) (s : RawSettings) (w : WarriorParts) (bouts : List Bout) → s ≡ seen.settings → members_of es ≡ seen.members →
     bouts ≡ matches_with s (members_of es) w → bouts ≡ fresh seen w
 fresh-found seen es s w bouts same members found = found ∙ ap₂ (λ (x : RawSettings) (ms : List Member). matches_with x ms w) same members
-
--- the same with its matches fought: what was true stays so
-pub anew-true : (now new : Kept) (entry age : ℕ) (w : WarriorParts) → new ≡ kept_of now.settings now.counter (now.members ++ member_of entry age w ∷ []) (now.results ++ matches_with now.settings now.members w ∷ []) →
-    AreTrue now → AreTrue new
-anew-true now new entry age w is holds =
-    subst AreTrue (sym is) (ap (λ (rows : List (List Bout)). rows ++ matches_with now.settings now.members w ∷ []) holds ∙ sym (fought-push now.settings now.members (member_of entry age w)))
 
 -- ---- a challenger that falls
 

@@ -11,7 +11,6 @@ pub mod Looked
 pub mod Truths
 pub mod RowsKept
 pub mod Places
-pub mod Equal
 pub mod Matches
 pub mod Staying
 pub mod ByEntry
@@ -19,4 +18,5 @@ pub mod Judged
 pub mod Tables
 pub mod Hills
 pub mod Audits
+pub mod Untruths
 pub mod Admitting

@@ -1,8 +1,11 @@
 -- The results of matches that were fought for each member, looked up by the entries of two.
-use Rattle.std.proofs.Common.{◌≡◌, ℕ, ◌+◌, ◌<◌, inl, inr, Bool, true, false, cond, not, List, [], ◌∷◌, ◌++◌, length, take, map, refl, sym, ap, ap₂, ◌∙◌, arith, suc, zero, Option, None, Some, append_assoc, append-nil, slice_get, position}
+use Rattle.std.proofs.Common.{◌≡◌, ℕ, ◌+◌, ◌<◌, inl, inr, Bool, true, false, cond, not, List, [], ◌∷◌, ◌++◌, length, take, map, refl, sym, ap, ap₂, ◌∙◌, arith, suc, zero, Option, None, Some, append_assoc, append-nil, get_or, slice_get, position}
 use Rattle.std.specs.Prelude.{◌==◌, nat_lt}
 use Rattle.std.specs.List.{position_or_len}
-use Rattle.std.proofs.lemmas.Bool.{lt-ltb, eq-eqb, ne_eqb, cond-true}
+use Rattle.std.proofs.lemmas.Bool.{lt-ltb, eq-eqb, eqb-true, ne_eqb, cond-true}
+use Rattle.std.proofs.lemmas.List.{get_or-map}
+use Rattle.std.proofs.lemmas.List.Quantifiers.{position-Some}
+use Rattle.std.proofs.lemmas.Option.{slice_get-get_or, slice_get_within}
 use Rattle.war_types.specs.declared.settings.RawSettings.{RawSettings}
 use Rattle.koth_match.specs.declared.bout.Bout.{Bout}
 use Rattle.koth_match.specs.Match.{match_of}
@@ -68,6 +71,29 @@ slice_get-In [] i m is = cc
 slice_get-In (x ∷ ms) zero m is = inl (sym (same_some x m is))
 slice_get-In (x ∷ ms) (suc i) m is = inr (slice_get-In ms i m is)
 
+-- the place of the entry of the one at a place is that place
+first-at : (before : ℕ) (ms : List Member) (n : ℕ) (m : Member) → RiseFrom before ms → slice_get ms n ≡ Some m → position_or_len (λ e. e == m.entry) (entries_of ms) ≡ n
+first-at before [] n m rising is = cc
+first-at before (x ∷ ms) zero m rising is =
+    passes-first (λ e. e == m.entry) x.entry (entries_of ms) (eq-eqb x.entry m.entry (ap (λ (y : Member). y.entry) (same_some x m is)))
+first-at before (x ∷ ms) (suc n) m rising is =
+    let above : x.entry < m.entry = In-behind x.entry ms m rising.1 (slice_get-In ms n m is) in
+    fails-first (λ e. e == m.entry) x.entry (entries_of ms) (ne_eqb x.entry m.entry (λ same. omega (arith, above, same)))
+    ∙ omega (arith, first-at x.entry ms n m rising.1 is)
+
+pub place_of-at : (ms : List Member) (n : ℕ) (m : Member) → RiseFrom 0 ms → slice_get ms n ≡ Some m → place_of (entries_of ms) m.entry ≡ Some n
+place_of-at ms n m rising is =
+    position-first (λ e. e == m.entry) (entries_of ms) n (first-at 0 ms n m rising is) (omega (arith, slice_get_within ms n m is, length-entries ms))
+
+-- and the one at the place of an entry has that entry
+pub placed : (ms : List Member) (entry n : ℕ) (d : Member) → place_of (entries_of ms) entry ≡ Some n → (slice_get ms n ≡ Some (get_or ms n d)) × ((get_or ms n d).entry ≡ entry)
+placed ms entry n d found =
+    let there = position-Some (λ e. e == entry) (entries_of ms) n d.entry found in
+    let within : n < length ms = omega (arith, there.0, length-entries ms) in (
+      slice_get-get_or ms n d within,
+      sym (get_or-map (λ (m : Member). m.entry) ms n d d.entry within) ∙ eqb-true (get_or (entries_of ms) n d.entry) entry there.1,
+    )
+
 -- who has the lower entry has the lower place
 pub places-rise : (before : ℕ) (ms : List Member) (i j : ℕ) (o y : Member) → RiseFrom before ms → slice_get ms i ≡ Some o → slice_get ms j ≡ Some y → o.entry < y.entry → i < j
 places-rise before [] i j o y rising older younger less = cc
@@ -86,7 +112,7 @@ slice_get-map f [] i x is = cc
 slice_get-map f (y ∷ xs) zero x is = let same : y ≡ x = cc in ap (λ z. Some (f z)) same
 slice_get-map f (y ∷ xs) (suc i) x is = slice_get-map f xs i x is
 
-slice_get-take : {X : Type 0} (xs : List X) (i j : ℕ) → i < j → slice_get (take j xs) i ≡ slice_get xs i
+pub slice_get-take : {X : Type 0} (xs : List X) (i j : ℕ) → i < j → slice_get (take j xs) i ≡ slice_get xs i
 slice_get-take [] i zero less = refl
 slice_get-take [] i (suc j) less = refl
 slice_get-take (x ∷ xs) i zero less = absurd (omega (arith, less))
@@ -94,7 +120,7 @@ slice_get-take (x ∷ xs) zero (suc j) less = refl
 slice_get-take (x ∷ xs) (suc i) (suc j) less = slice_get-take xs i j (omega (arith, less))
 
 -- the row of a member has its matches with those before it
-fought_from-row : (s : RawSettings) (before ms : List Member) (j : ℕ) (y : Member) → slice_get ms j ≡ Some y →
+pub fought_from-row : (s : RawSettings) (before ms : List Member) (j : ℕ) (y : Member) → slice_get ms j ≡ Some y →
     slice_get (fought_from s before ms) j ≡ Some (matches_with s (before ++ take j ms) y.warrior)
 fought_from-row s before [] j y is = cc
 fought_from-row s before (m ∷ ms) zero y is =

@@ -1,7 +1,8 @@
 -- What is kept is true, and stays true: each row has its member's matches with those before it.
-use Rattle.std.proofs.Common.{◌≡◌, ℕ, ◌+◌, ◌<◌, ◌≤◌, Bool, true, false, List, [], ◌∷◌, ◌++◌, length, take, drop, map, remove, refl, sym, ap, ap₂, subst, ◌∙◌, arith, suc, zero, Option, None, Some, append_assoc, append-nil}
+use Rattle.std.proofs.Common.{◌≡◌, ℕ, ◌+◌, ◌<◌, ◌≤◌, Bool, true, false, List, [], ◌∷◌, ◌++◌, length, take, drop, map, remove, refl, sym, ap, ap₂, subst, ◌∙◌, arith, suc, zero, All, Option, None, Some, append_assoc, append-nil}
 use Rattle.std.specs.Prelude.{if◌then◌else◌}
 use Rattle.std.proofs.lemmas.List.{map-append, map-id, take-map, drop-map, take_all, drop_all, length-map, length_push}
+use Rattle.std.proofs.lemmas.List.Elements.{All-head, All-tail}
 use Rattle.std.proofs.lemmas.List.Quantifiers.{position-Some}
 use Rattle.war_types.specs.declared.settings.RawSettings.{RawSettings}
 use Rattle.war_types.specs.Warrior.{WarriorParts}
@@ -10,27 +11,62 @@ use Rattle.koth_match.specs.Match.{match_of}
 use Rattle.koth_hill.specs.Hill.{Member, RiseFrom, fights}
 use Rattle.koth_hill.specs.Table.{table}
 use Rattle.koth_hill.specs.Step.{challenger, enlarged, falling_by, is_entry, without, one_older, stays_by, step_by, step, matches_with, verdict}
-use Rattle.koth_hill.specs.Kept.{Kept, hill_in, fought_from, AreTrue, kept_results, entries_of, table_kept, fresh, known, verdict_kept, fallen_place, without_place, rows_left, kept_stay, kept_fall, step_kept, IsKept}
+use Rattle.koth_hill.specs.Kept.{Kept, hill_in, rows_with, fought_from, AreTrue, kept_results, entries_of, table_kept, fresh, known, verdict_kept, fallen_place, without_place, rows_left, kept_stay, kept_fall, step_kept, IsKept}
 use Rattle.koth_hill.proofs.Members.{older, removed-first, removed-none}
 use Rattle.koth_hill.proofs.Admitted.{enlarged-rising}
 use Rattle.koth_hill.proofs.Agrees.{Agree, table_by-agree, verdict_by-agree, step_by-agree}
 use Rattle.koth_hill.proofs.Looked.{fought-looked}
 
+-- ---- rows
+
+-- rows are the same where each comes to the same with all others
+pub rows_with-same : {X Y : Type 0} (f g : X → X → Y) (before xs : List X) → All (λ younger. (older : X) → f older younger ≡ g older younger) xs → rows_with f before xs ≡ rows_with g before xs
+rows_with-same f g before [] same = refl
+rows_with-same {X} f g before (x ∷ xs) same =
+    let here : (older : X) → f older x ≡ g older x = All-head (λ younger. (older : X) → f older younger ≡ g older younger) x xs same in
+    ap₂ (λ row rows. row ∷ rows) (each before here)
+    (rows_with-same f g (before ++ x ∷ []) xs (All-tail (λ younger. (older : X) → f older younger ≡ g older younger) x xs same))
+  where
+    each : (ys : List X) → ((older : X) → f older x ≡ g older x) → map (λ older. f older x) ys ≡ map (λ older. g older x) ys
+    each [] here = refl
+    each (y ∷ ys) here = ap₂ (λ z zs. z ∷ zs) (here y) (each ys here)
+
+-- rows of what is shown of each are rows of each
+rows_with-shown : {X Z Y : Type 0} (f : Z → Z → Y) (g : X → Z) (before xs : List X) → rows_with f (map g before) (map g xs) ≡ rows_with (λ a b. f (g a) (g b)) before xs
+rows_with-shown f g before [] = refl
+rows_with-shown {X} f g before (x ∷ xs) =
+    ap₂ (λ row rows. row ∷ rows) (each before)
+    (ap (λ zs. rows_with f zs (map g xs)) (sym (map-append g before (x ∷ []))) ∙ rows_with-shown f g (before ++ x ∷ []) xs)
+  where
+    each : (ys : List X) → map (λ older. f older (g x)) (map g ys) ≡ map (λ older. f (g older) (g x)) ys
+    each [] = refl
+    each (y ∷ ys) = ap (λ row. f (g y) (g x) ∷ row) (each ys)
+
+pub rows_with-map : {X Z Y : Type 0} (f : Z → Z → Y) (g : X → Z) (xs : List X) → rows_with f [] (map g xs) ≡ rows_with (λ a b. f (g a) (g b)) [] xs
+rows_with-map f g xs = rows_with-shown f g [] xs
+
+-- a row for each
+pub length-rows_with : {X Y : Type 0} (f : X → X → Y) (before xs : List X) → length (rows_with f before xs) ≡ length xs
+length-rows_with f before [] = refl
+length-rows_with f before (x ∷ xs) = ap suc (length-rows_with f (before ++ x ∷ []) xs)
+
 -- ---- one more
 
-fought_from-push : (s : RawSettings) (before ms : List Member) (c : Member) →
-    fought_from s before (ms ++ c ∷ []) ≡ fought_from s before ms ++ matches_with s (before ++ ms) c.warrior ∷ []
-fought_from-push s before [] c = ap (λ (xs : List Member). matches_with s xs c.warrior ∷ []) (sym (append-nil before))
-fought_from-push s before (m ∷ ms) c =
-    ap (λ (rows : List (List Bout)). matches_with s before m.warrior ∷ rows) (fought_from-push s (before ++ m ∷ []) ms c
-    ∙ ap (λ (xs : List Member). fought_from s (before ++ m ∷ []) ms ++ matches_with s xs c.warrior ∷ []) (append_assoc before (m ∷ []) ms))
+rows_with-behind : {X Y : Type 0} (f : X → X → Y) (before xs : List X) (c : X) →
+    rows_with f before (xs ++ c ∷ []) ≡ rows_with f before xs ++ map (λ older. f older c) (before ++ xs) ∷ []
+rows_with-behind f before [] c = ap (λ ys. map (λ older. f older c) ys ∷ []) (sym (append-nil before))
+rows_with-behind f before (x ∷ xs) c =
+    ap (λ rows. map (λ older. f older x) before ∷ rows) (rows_with-behind f (before ++ x ∷ []) xs c
+    ∙ ap (λ ys. rows_with f (before ++ x ∷ []) xs ++ map (λ older. f older c) ys ∷ []) (append_assoc before (x ∷ []) xs))
+
+pub rows_with-push : {X Y : Type 0} (f : X → X → Y) (xs : List X) (c : X) → rows_with f [] (xs ++ c ∷ []) ≡ rows_with f [] xs ++ map (λ older. f older c) xs ∷ []
+rows_with-push f xs c = rows_with-behind f [] xs c
 
 pub fought-push : (s : RawSettings) (ms : List Member) (c : Member) → fought_from s [] (ms ++ c ∷ []) ≡ fought_from s [] ms ++ matches_with s ms c.warrior ∷ []
-fought-push s ms c = fought_from-push s [] ms c
+fought-push s ms c = rows_with-push (λ (older younger : Member). match_of s older.warrior younger.warrior) ms c
 
 pub length-fought : (s : RawSettings) (before ms : List Member) → length (fought_from s before ms) ≡ length ms
-length-fought s before [] = refl
-length-fought s before (m ∷ ms) = ap suc (length-fought s (before ++ m ∷ []) ms)
+length-fought s before ms = length-rows_with (λ (older younger : Member). match_of s older.warrior younger.warrior) before ms
 
 -- ---- ages
 
@@ -68,37 +104,42 @@ remove-middle [] ys x = refl
 remove-middle (y ∷ xs) ys x = ap (λ zs. y ∷ zs) (remove-middle xs ys x)
 
 -- behind the one that goes, each row is without it
-fought_from-without : (s : RawSettings) (before : List Member) (m : Member) (between ms : List Member) →
-    map (λ row. remove row (length before)) (fought_from s (before ++ m ∷ between) ms) ≡ fought_from s (before ++ between) ms
-fought_from-without s before m between [] = refl
-fought_from-without s before m between (y ∷ ms) =
-    ap₂ (λ (row : List Bout) (rows : List (List Bout)). row ∷ rows)
-    (sym (matches-left s (before ++ m ∷ between) (length before) y.warrior) ∙ ap (λ (xs : List Member). matches_with s xs y.warrior) (remove-middle before between m))
-    (ap (λ (xs : List Member). map (λ row. remove row (length before)) (fought_from s xs ms)) (append_assoc before (m ∷ between) (y ∷ []))
-    ∙ fought_from-without s before m (between ++ y ∷ []) ms
-    ∙ ap (λ (xs : List Member). fought_from s xs ms) (sym (append_assoc before between (y ∷ []))))
+rows_with-without : {X Y : Type 0} (f : X → X → Y) (before : List X) (m : X) (between xs : List X) →
+    map (λ row. remove row (length before)) (rows_with f (before ++ m ∷ between) xs) ≡ rows_with f (before ++ between) xs
+rows_with-without f before m between [] = refl
+rows_with-without f before m between (y ∷ xs) =
+    ap₂ (λ row rows. row ∷ rows)
+    (sym (map-remove (λ older. f older y) (before ++ m ∷ between) (length before)) ∙ ap (λ ys. map (λ older. f older y) ys) (remove-middle before between m))
+    (ap (λ ys. map (λ row. remove row (length before)) (rows_with f ys xs)) (append_assoc before (m ∷ between) (y ∷ []))
+    ∙ rows_with-without f before m (between ++ y ∷ []) xs
+    ∙ ap (λ ys. rows_with f ys xs) (sym (append_assoc before between (y ∷ []))))
 
-fought_from-left : (s : RawSettings) (before ms : List Member) (i : ℕ) → i < length ms →
-    map (λ row. remove row (length before + i)) (remove (fought_from s before ms) i) ≡ fought_from s before (remove ms i)
-fought_from-left s before [] i within = absurd (omega (arith, within))
-fought_from-left s before (m ∷ ms) zero within =
+rows_with-less : {X Y : Type 0} (f : X → X → Y) (before xs : List X) (i : ℕ) → i < length xs →
+    map (λ row. remove row (length before + i)) (remove (rows_with f before xs) i) ≡ rows_with f before (remove xs i)
+rows_with-less f before [] i within = absurd (omega (arith, within))
+rows_with-less f before (m ∷ xs) zero within =
     let none : length before + 0 ≡ length before = omega arith in
-    ap (λ (n : ℕ). map (λ row. remove row n) (fought_from s (before ++ m ∷ []) ms)) none
-    ∙ fought_from-without s before m [] ms
-    ∙ ap (λ (xs : List Member). fought_from s xs ms) (append-nil before)
-fought_from-left s before (m ∷ ms) (suc i) within =
-    let long : length (matches_with s before m.warrior) ≡ length before = length-map before (λ (x : Member). match_of s x.warrior m.warrior) in
+    ap (λ (n : ℕ). map (λ row. remove row n) (rows_with f (before ++ m ∷ []) xs)) none
+    ∙ rows_with-without f before m [] xs
+    ∙ ap (λ ys. rows_with f ys xs) (append-nil before)
+rows_with-less f before (m ∷ xs) (suc i) within =
+    let long : length (map (λ older. f older m) before) ≡ length before = length-map before (λ older. f older m) in
     let place : length before + suc i ≡ length (before ++ m ∷ []) + i = omega (arith, length_push before m) in
-    ap₂ (λ (row : List Bout) (rows : List (List Bout)). row ∷ rows)
-    (remove-past (matches_with s before m.warrior) (length before + suc i) (omega (arith, long)))
-    (ap (λ (n : ℕ). map (λ row. remove row n) (remove (fought_from s (before ++ m ∷ []) ms) i)) place
-    ∙ fought_from-left s (before ++ m ∷ []) ms i (omega (arith, within)))
+    ap₂ (λ row rows. row ∷ rows)
+    (remove-past (map (λ older. f older m) before) (length before + suc i) (omega (arith, long)))
+    (ap (λ (n : ℕ). map (λ row. remove row n) (remove (rows_with f (before ++ m ∷ []) xs) i)) place
+    ∙ rows_with-less f (before ++ m ∷ []) xs i (omega (arith, within)))
+
+-- without the one at a place, the rows are those that are left, each without what it comes to with that one
+pub rows_with-left : {X Y : Type 0} (f : X → X → Y) (xs : List X) (i : ℕ) → i < length xs →
+    rows_with f [] (remove xs i) ≡ map (λ row. remove row i) (remove (rows_with f [] xs) i)
+rows_with-left f xs i within =
+    let place : 0 + i ≡ i = omega arith in
+    sym (rows_with-less f [] xs i within) ∙ ap (λ (n : ℕ). map (λ row. remove row n) (remove (rows_with f [] xs) i)) place
 
 -- without the member at a place, the rows are those that are left
 pub fought-left : (s : RawSettings) (ms : List Member) (i : ℕ) → i < length ms → fought_from s [] (remove ms i) ≡ rows_left (Some i) (fought_from s [] ms)
-fought-left s ms i within =
-    let place : 0 + i ≡ i = omega arith in
-    sym (fought_from-left s [] ms i within) ∙ ap (λ (n : ℕ). map (λ row. remove row n) (remove (fought_from s [] ms) i)) place
+fought-left s ms i within = rows_with-left (λ (older younger : Member). match_of s older.warrior younger.warrior) ms i within
 
 -- ---- looked up
 

@@ -1,9 +1,9 @@
 -- A hill with a result kept of each pair, beside the younger of the two.
-use Rattle.std.specs.Prelude.{◌≡◌, ℕ, ◌+◌, ◌==◌, if◌then◌else◌, List, [], ◌∷◌, ◌++◌, length, map, remove, position, slice_get, All, Option, None, Some}
+use Rattle.std.specs.Prelude.{◌≡◌, ℕ, ◌+◌, ◌<◌, ◌==◌, if◌then◌else◌, List, [], ◌∷◌, ◌++◌, length, map, take, remove, position, slice_get, All, Option, None, Some}
 use Rattle.war_types.specs.declared.settings.RawSettings.{RawSettings}
 use Rattle.war_types.specs.Warrior.{WarriorParts}
 use Rattle.koth_match.specs.declared.bout.Bout.{Bout}
-use Rattle.koth_match.specs.Match.{no_rounds, rounds_in}
+use Rattle.koth_match.specs.Match.{match_of, no_rounds, rounds_in}
 use Rattle.koth_hill.specs.declared.verdict.Verdict.{Verdict}
 use Rattle.koth_hill.specs.Hill.{Member, Hill, hill_of, with_age, Results, IsHill}
 use Rattle.koth_hill.specs.Table.{RowParts, table_by}
@@ -39,10 +39,14 @@ rows_of es = map (λ e. e.bouts) es
 
 -- ---- what is true
 
+-- what each of these comes to with all before it: a row for each
+abbrev pub rows_with : {X Y : Type 0} → (X → X → Y) → List X → List X → List (List Y)
+rows_with f before [] = []
+rows_with f before (x ∷ xs) = map (λ older. f older x) before ∷ rows_with f (before ++ x ∷ []) xs
+
 -- the matches of each with those before it
 abbrev pub fought_from : RawSettings → List Member → List Member → List (List Bout)
-fought_from s before [] = []
-fought_from s before (m ∷ ms) = matches_with s before m.warrior ∷ fought_from s (before ++ m ∷ []) ms
+fought_from s before ms = rows_with (λ older younger. match_of s older.warrior younger.warrior) before ms
 
 -- a hill with every pair fought anew
 abbrev pub fought : Hill → Kept
@@ -87,6 +91,28 @@ entries_of ms = map (λ m. m.entry) ms
 -- the table by what is kept
 abbrev pub table_kept : Kept → List RowParts
 table_kept k = table_by (kept_results (entries_of k.members) k.results) k.members
+
+-- ---- what is not true
+
+-- what is kept of two entries is what their match comes to, or there is none of either
+abbrev pub IsTrueOf : Kept → ℕ → ℕ → Type 0
+IsTrueOf k older younger = result_of (entries_of k.members) k.results older younger ≡ result_of (entries_of k.members) (fought_from k.settings [] k.members) older younger
+
+-- the kept result of two entries is not their match
+pub record IsUntrue (k : Kept) (older younger : ℕ) (kept fought : Bout) : Type 0 where
+  pub kept_is : result_of (entries_of k.members) k.results older younger ≡ Some kept
+  pub fought_is : result_of (entries_of k.members) (fought_from k.settings [] k.members) older younger ≡ Some fought
+  pub differ : kept ≡ fought → ⊥
+
+-- what is kept before that of these two is true: of each younger that entered before this one, and of this one with each older before that one
+pub record AreTrueBefore (k : Kept) (older younger : ℕ) : Type 0 where
+  pub youngers : (o y : ℕ) → y < younger → IsTrueOf k o y
+  pub olders : (o : ℕ) → o < older → IsTrueOf k o younger
+
+-- up to this place these are the same, and here they aren't
+pub record IsFirstDifference (some others : List Bout) (place : ℕ) : Type 0 where
+  pub before : take place some ≡ take place others
+  pub differ : slice_get some place ≡ slice_get others place → ⊥
 
 -- ---- a step by what is kept
 

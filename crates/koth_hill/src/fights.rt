@@ -1,11 +1,11 @@
 //! The matches of one warrior.
 
-ghost use Rattle.std.specs.Prelude.{◌≡◌, ◌≤◌, All, length, true};
+ghost use Rattle.std.specs.Prelude.{◌≡◌, ◌<◌, ◌≤◌, All, length, None, IfSome};
 ghost use Rattle.war_types.specs.Warrior.{Fits};
 ghost use Rattle.koth_match.specs.Match.{rounds_in};
 ghost use Rattle.koth_hill.specs.Hill.{AllFit};
 ghost use Rattle.koth_hill.specs.Step.{matches_with};
-ghost use Rattle.koth_hill.specs.Kept.{members_of};
+ghost use Rattle.koth_hill.specs.Kept.{IsFirstDifference, members_of};
 
 use crate::bouts::Bouts;
 use crate::member::Entrant;
@@ -36,9 +36,18 @@ pub(crate) fn matches_with<A: Allocator, B: Allocator, C: Allocator>(
     bouts
 }
 
-/// Whether these are the same results.
-pub(crate) fn are_equal(some: &[Bout], others: &[Bout]) -> bool
-    ensures { (result ≡ true → some.now ≡ others.now) × (some.now ≡ others.now → result ≡ true) }
+/// The first place at which these results differ.
+pub(crate) fn first_difference(some: &[Bout], others: &[Bout]) -> Option<usize>
+    requires { length some.now ≡ length others.now }
+    ensures none { result ≡ None → some.now ≡ others.now }
+    ensures first { IfSome result (λ i. IsFirstDifference some.now others.now i) }
+    ensures within { IfSome result (λ i. i < length some.now) }
+    ensures beside { IfSome result (λ i. i < length others.now) }
 {
-    some == others
+    for i in 0..some.len() {
+        if some[i] != others[i] {
+            return Some(i);
+        }
+    }
+    None
 }

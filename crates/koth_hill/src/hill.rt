@@ -1,6 +1,6 @@
 //! The hill.
 
-ghost use Rattle.std.specs.Prelude.{◌≡◌, ◌+◌, ◌-◌, ◌<◌, ◌≤◌, ◌^◌, ◌++◌, ◌∷◌, [], All, true, false, length, slice_get, IfOk};
+ghost use Rattle.std.specs.Prelude.{◌≡◌, ◌+◌, ◌-◌, ◌<◌, ◌≤◌, ◌^◌, ◌++◌, ◌∷◌, [], All, true, false, length, slice_get, None, IfOk, IfSome};
 ghost use Rattle.war_types.specs.Warrior.{WarriorParts, Fits};
 ghost use Rattle.koth_match.specs.Match.{rounds_in};
 ghost use Rattle.koth_hill.specs.Hill.{last_entry, member_of};
@@ -8,17 +8,18 @@ ghost use Rattle.koth_hill.specs.Table.{table};
 ghost use Rattle.koth_hill.specs.Rows.{rows_parts};
 ghost use Rattle.koth_hill.specs.Laws.{IsRanking, LeastFalls, OthersStay};
 ghost use Rattle.koth_hill.specs.Step.{verdict, step, matches_with};
-ghost use Rattle.koth_hill.specs.Kept.{AreTrue, IsKept, entries_of, hill_in, kept_fall, kept_of, new_kept, result_of, step_kept, table_kept, verdict_kept};
+ghost use Rattle.koth_hill.specs.Kept.{AreTrue, AreTrueBefore, IsKept, IsUntrue, entries_of, hill_in, kept_fall, kept_of, new_kept, result_of, step_kept, table_kept, verdict_kept};
 
 use crate::bouts::Bouts;
 use crate::falls::{let_fall, place_of, stay_on};
-use crate::fights::{are_equal, matches_with};
+use crate::fights::{first_difference, matches_with};
 use crate::judging::judged;
 use crate::member::{Entrant, Member};
 use crate::points::result_of;
 use crate::row::Row;
 use crate::standings::{Standing, Standings};
 use crate::table::rows_of;
+use crate::untrue::Untrue;
 use crate::verdict::Verdict;
 use koth_match::Bout;
 use mars_core::Arena;
@@ -191,28 +192,6 @@ impl<A: Allocator> Hill<A> {
         let _ = members.push(Entrant::new(entry, age, warrior, Bouts::of(bouts)));
     }
 
-    /// Puts a warrior behind those on the hill as `put_back` does, with its matches fought anew in the arena.
-    pub fn put_back_anew<B: Allocator>(
-        &mut self,
-        arena: &mut Arena<B>,
-        entry: u64,
-        age: u64,
-        warrior: Warrior<A>,
-    )
-        requires arena { arena.old.settings ≡ self.old.settings }
-        requires room { length self.old.members < self.old.settings.capacity }
-        requires entry { last_entry self.old.members < entry }
-        requires counted { entry ≤ self.old.counter }
-        requires age { age ≤ self.old.counter - entry }
-        requires fits { Fits self.old.settings warrior }
-        ensures kept { self.new ≡ kept_of self.old.settings self.old.counter (self.old.members ++ member_of entry age warrior ∷ []) (self.old.results ++ matches_with self.old.settings self.old.members warrior ∷ []) }
-        ensures still_true { AreTrue self.old → AreTrue self.new }
-        ensures arena { arena.new.settings ≡ arena.old.settings }
-    {
-        let bouts = matches_with(arena, &self.settings, self.members.as_slice(), &warrior);
-        self.put_back(entry, age, warrior, bouts.as_slice());
-    }
-
     /// The table, highest score first, among equals the earlier entry first. No match is fought.
     pub fn rows<B: Allocator + Copy>(&self, alloc: B) -> Result<Vec<Row<'_>, B>, AllocError>
         ensures kept { IfOk result (λ rows. rows_parts rows.items ≡ table_kept self.now) }
@@ -222,19 +201,38 @@ impl<A: Allocator> Hill<A> {
         rows_of(alloc, self.members.as_slice())
     }
 
+    /// The first result that is not what the match comes to when it is fought anew in the arena, by the younger's entry and then the
+    /// older's. No memory is taken.
+    pub fn first_untrue<B: Allocator>(&self, arena: &mut Arena<B>) -> Option<Untrue>
+        requires { arena.old.settings ≡ self.now.settings }
+        ensures none { result ≡ None → AreTrue self.now }
+        ensures some { IfSome result (λ u. IsUntrue self.now u.older u.younger u.kept u.fought) }
+        ensures first { IfSome result (λ u. AreTrueBefore self.now u.older u.younger) }
+        ensures arena { arena.new.settings ≡ arena.old.settings }
+    {
+        let members = self.members.as_slice();
+        for (i, member) in members.iter().enumerate() {
+            let bouts = matches_with(arena, &self.settings, &members[..i], member.warrior());
+            let kept = member.bouts().as_slice();
+            let fought = bouts.as_slice();
+            if let Some(place) = first_difference(kept, fought) {
+                return Some(Untrue {
+                    older: members[place].entry(),
+                    younger: member.entry(),
+                    kept: kept[place],
+                    fought: fought[place],
+                });
+            }
+        }
+        None
+    }
+
     /// Whether each result is what the match comes to when it is fought anew in the arena.
     pub fn audit<B: Allocator>(&self, arena: &mut Arena<B>) -> bool
         requires { arena.old.settings ≡ self.now.settings }
         ensures value { (result ≡ true → AreTrue self.now) × (AreTrue self.now → result ≡ true) }
         ensures arena { arena.new.settings ≡ arena.old.settings }
     {
-        let members = self.members.as_slice();
-        for (i, member) in members.iter().enumerate() {
-            let bouts = matches_with(arena, &self.settings, &members[..i], member.warrior());
-            if !are_equal(bouts.as_slice(), member.bouts().as_slice()) {
-                return false;
-            }
-        }
-        true
+        self.first_untrue(arena).is_none()
     }
 }

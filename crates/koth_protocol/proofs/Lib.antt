@@ -1,5 +1,6 @@
 mod Cuts
 mod KindNames
+mod MatchLines
 pub mod Parts
 mod ProtocolRows
 mod Readings

@@ -1,9 +1,14 @@
--- Rows of refusals, tables and commands, computed.
-use Rattle.std.proofs.Common.{◌≡◌, [], ◌∷◌, codes, refl}
+-- Rows of refusals, tables, matches and commands, computed.
+use Rattle.std.proofs.Common.{◌≡◌, ℕ, [], ◌∷◌, codes, refl}
 use Rattle.std.specs.Fmt.{digits}
 use Rattle.war_types.specs.declared.fault.AsmKind.TheVariants as kinds
 use Rattle.war_types.specs.declared.fault.ExprFault.TheVariants as expressions
+use Rattle.war_types.specs.declared.settings.RawSettings.{RawSettings}
+use Rattle.war_types.specs.Warrior.{warrior_parts}
+use Rattle.koth_hill.specs.Hill.{Member, member_of}
+use Rattle.koth_hill.specs.Kept.{Kept, kept_of}
 use Rattle.koth_protocol.specs.Commands.{Command, commands_of}
+use Rattle.koth_protocol.specs.Matches.{matches_text}
 use Rattle.koth_protocol.specs.Refusal.{refusal_line}
 use Rattle.koth_protocol.specs.Table.{show_text}
 
@@ -19,6 +24,38 @@ table_of_two : show_text (record { entry = 1; name = codes "Imp"; author = codes
     ≡ codes "1 1 2 1 Imp by A. K. Dewdney\n2 2 2 0 Unnamed by Anonymous\n.\n"
 unfolding digits
 table_of_two = refl
+
+abbrev with_rounds : ℕ → RawSettings
+with_rounds rounds = record { core = 8000; cycles = 80000; processes = 8000; length = 100; distance = 100; rounds = rounds; seed = 1; capacity = 20 }
+
+abbrev entered : ℕ → Member
+entered entry = member_of entry 0 (warrior_parts [] 0 [] [])
+
+-- two on a hill, with what is kept of them
+abbrev two_with : ℕ → ℕ → ℕ → ℕ → Kept
+two_with rounds older younger ties =
+    kept_of (with_rounds rounds) 2 (entered 1 ∷ entered 2 ∷ []) ([] ∷ (record { older_wins = older; younger_wins = younger; ties = ties } ∷ []) ∷ [])
+
+matches_of_two : matches_text (two_with 10 7 2 1) ≡ codes "    1  2\n 1  -  7\n 2  2  -\n"
+unfolding digits
+matches_of_two = refl
+
+-- the younger is the first, and the cells have as many places as the number of rounds
+younger_first : matches_text (two_with 1000 250 650 100) ≡ codes "      1    2\n 1    -  650\n 2  250    -\n"
+unfolding digits
+younger_first = refl
+
+-- the first, the second and the third by rank entered as 3, 1 and 2
+matches_of_three : matches_text
+    (kept_of (with_rounds 10) 3 (entered 1 ∷ entered 2 ∷ entered 3 ∷ [])
+    ([] ∷ (record { older_wins = 6; younger_wins = 3; ties = 1 } ∷ []) ∷ (record { older_wins = 1; younger_wins = 9; ties = 0 } ∷ record { older_wins = 2; younger_wins = 7; ties = 1 } ∷ []) ∷ []))
+    ≡ codes "    1  2  3\n 1  -  9  7\n 2  1  -  6\n 3  2  3  -\n"
+unfolding digits
+matches_of_three = refl
+
+matches_of_none : matches_text (kept_of (with_rounds 10) 0 [] []) ≡ codes "  \n"
+unfolding digits
+matches_of_none = refl
 
 -- a submission and a line that is none; the same cut before its last line; a carriage return, two of them, and a blank at the end; an
 -- empty source; a line of two dots; a line without its line feed; nothing behind the first `QUIT`

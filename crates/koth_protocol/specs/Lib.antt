@@ -10,3 +10,5 @@ pub mod Reading
 -- The lines of the answers that need no store.
 pub mod Refusal
 pub mod Table
+-- The lines that tell of the matches of a hill.
+pub mod Matches

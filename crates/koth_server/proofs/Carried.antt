@@ -12,11 +12,12 @@ use Rattle.koth_commands.specs.Asm.{EndsAsm}
 use Rattle.koth_commands.specs.Failure.{failure_line}
 use Rattle.koth_commands.specs.Fight.{EndsFight}
 use Rattle.koth_server.specs.Hills.{EndsCreate, EndsHill, EndsServe, Said, SaysReply, SaysTable, listening_line}
+use Rattle.koth_server.specs.Audit.{EndsAudit}
 use Rattle.koth_words.specs.Options.{settings_in}
 use Rattle.koth_server.specs.Run.{EndsRequest, EndsWithout, unread}
 use Rattle.koth_protocol.specs.Written.{WritesPart}
 use Rattle.koth_commands.specs.Streams.{Streams, streams}
-use Rattle.koth_words.specs.Words.{AsksBy, IsRefusal, given_in}
+use Rattle.koth_words.specs.Words.{AsksBy, IsRefusal, given_in, matches_in}
 use Rattle.koth_commands.specs.declared.failure.Failure.TheVariants as failures
 use Rattle.koth_server.specs.declared.hill_fault.HillFault.TheVariants.{Failed}
 use Rattle.koth_commands.specs.declared.status.Status.{Status}
@@ -24,7 +25,7 @@ use Rattle.koth_commands.specs.declared.status.Status.TheVariants.{NoMemory, Wor
 use Rattle.koth_words.specs.declared.words.NoRequest.{NoRequest}
 use Rattle.koth_words.specs.declared.words.NoRequest.TheVariants as reasons
 use Rattle.koth_words.specs.declared.words.Request.{Request}
-use Rattle.koth_words.specs.declared.words.Request.TheVariants.{Asm, Fight, Create, Submit, Show, Serve}
+use Rattle.koth_words.specs.declared.words.Request.TheVariants.{Asm, Fight, Create, Submit, Show, Serve, Audit}
 
 -- one name isn't another
 other_verb : (a b name : Text) → bytes_eq a b ≡ false → bytes_eq b b ≡ true → name ≡ a → Some name ≡ Some b → ⊥
@@ -40,8 +41,9 @@ asm_carried (Some e) (Asm given) status before after asks ends names = subst (λ
 asm_carried (Some e) (Fight given files) status before after asks ends names = absurd (other_verb (codes "fight") (codes "asm") e.0 refl refl asks.0 names)
 asm_carried (Some e) (Create given file) status before after asks ends names = absurd (other_verb (codes "create") (codes "asm") e.0 refl refl asks.0 names)
 asm_carried (Some e) (Submit files) status before after asks ends names = absurd (other_verb (codes "submit") (codes "asm") e.0 refl refl asks.0 names)
-asm_carried (Some e) (Show file) status before after asks ends names = absurd (other_verb (codes "show") (codes "asm") e.0 refl refl asks.0 names)
+asm_carried (Some e) (Show shown) status before after asks ends names = absurd (other_verb (codes "show") (codes "asm") e.0 refl refl asks.0 names)
 asm_carried (Some e) (Serve service) status before after asks ends names = absurd (other_verb (codes "serve") (codes "asm") e.0 refl refl asks.0 names)
+asm_carried (Some e) (Audit file) status before after asks ends names = absurd (other_verb (codes "audit") (codes "asm") e.0 refl refl asks.0 names)
 
 pub fight_carried : (entered : Option (Text × List Row)) (request : Request) (status : Status) (before after : Streams) → AsksBy entered request
     → EndsRequest request status before after → option_map (λ e. e.0) entered ≡ Some (codes "fight") → EndsFight (settings_of (settings_in (given_in entered))) status (unread before) (unread after)
@@ -50,8 +52,9 @@ fight_carried (Some e) (Asm given) status before after asks ends names = absurd 
 fight_carried (Some e) (Fight given files) status before after asks ends names = subst (λ s. EndsFight (settings_of s) status (unread before) (unread after)) asks.1 ends.0
 fight_carried (Some e) (Create given file) status before after asks ends names = absurd (other_verb (codes "create") (codes "fight") e.0 refl refl asks.0 names)
 fight_carried (Some e) (Submit files) status before after asks ends names = absurd (other_verb (codes "submit") (codes "fight") e.0 refl refl asks.0 names)
-fight_carried (Some e) (Show file) status before after asks ends names = absurd (other_verb (codes "show") (codes "fight") e.0 refl refl asks.0 names)
+fight_carried (Some e) (Show shown) status before after asks ends names = absurd (other_verb (codes "show") (codes "fight") e.0 refl refl asks.0 names)
 fight_carried (Some e) (Serve service) status before after asks ends names = absurd (other_verb (codes "serve") (codes "fight") e.0 refl refl asks.0 names)
+fight_carried (Some e) (Audit file) status before after asks ends names = absurd (other_verb (codes "audit") (codes "fight") e.0 refl refl asks.0 names)
 
 pub create_carried : (entered : Option (Text × List Row)) (request : Request) (status : Status) (before after : Streams) → AsksBy entered request
     → EndsRequest request status before after → option_map (λ e. e.0) entered ≡ Some (codes "create") → EndsCreate (settings_of (settings_in (given_in entered))) status (unread before) (unread after)
@@ -60,8 +63,9 @@ create_carried (Some e) (Asm given) status before after asks ends names = absurd
 create_carried (Some e) (Fight given files) status before after asks ends names = absurd (other_verb (codes "fight") (codes "create") e.0 refl refl asks.0 names)
 create_carried (Some e) (Create given file) status before after asks ends names = subst (λ s. EndsCreate (settings_of s) status (unread before) (unread after)) asks.1 ends.0
 create_carried (Some e) (Submit files) status before after asks ends names = absurd (other_verb (codes "submit") (codes "create") e.0 refl refl asks.0 names)
-create_carried (Some e) (Show file) status before after asks ends names = absurd (other_verb (codes "show") (codes "create") e.0 refl refl asks.0 names)
+create_carried (Some e) (Show shown) status before after asks ends names = absurd (other_verb (codes "show") (codes "create") e.0 refl refl asks.0 names)
 create_carried (Some e) (Serve service) status before after asks ends names = absurd (other_verb (codes "serve") (codes "create") e.0 refl refl asks.0 names)
+create_carried (Some e) (Audit file) status before after asks ends names = absurd (other_verb (codes "audit") (codes "create") e.0 refl refl asks.0 names)
 
 pub submit_carried : (entered : Option (Text × List Row)) (request : Request) (status : Status) (before after : Streams) → AsksBy entered request
     → EndsRequest request status before after → option_map (λ e. e.0) entered ≡ Some (codes "submit") → EndsHill SaysReply status (unread before) (unread after)
@@ -70,18 +74,20 @@ submit_carried (Some e) (Asm given) status before after asks ends names = absurd
 submit_carried (Some e) (Fight given files) status before after asks ends names = absurd (other_verb (codes "fight") (codes "submit") e.0 refl refl asks.0 names)
 submit_carried (Some e) (Create given file) status before after asks ends names = absurd (other_verb (codes "create") (codes "submit") e.0 refl refl asks.0 names)
 submit_carried (Some e) (Submit files) status before after asks ends names = ends.0
-submit_carried (Some e) (Show file) status before after asks ends names = absurd (other_verb (codes "show") (codes "submit") e.0 refl refl asks.0 names)
+submit_carried (Some e) (Show shown) status before after asks ends names = absurd (other_verb (codes "show") (codes "submit") e.0 refl refl asks.0 names)
 submit_carried (Some e) (Serve service) status before after asks ends names = absurd (other_verb (codes "serve") (codes "submit") e.0 refl refl asks.0 names)
+submit_carried (Some e) (Audit file) status before after asks ends names = absurd (other_verb (codes "audit") (codes "submit") e.0 refl refl asks.0 names)
 
 pub show_carried : (entered : Option (Text × List Row)) (request : Request) (status : Status) (before after : Streams) → AsksBy entered request
-    → EndsRequest request status before after → option_map (λ e. e.0) entered ≡ Some (codes "show") → EndsHill SaysTable status (unread before) (unread after)
+    → EndsRequest request status before after → option_map (λ e. e.0) entered ≡ Some (codes "show") → EndsHill (SaysTable (matches_in (given_in entered))) status (unread before) (unread after)
 show_carried None request status before after asks ends names = absurd asks
 show_carried (Some e) (Asm given) status before after asks ends names = absurd (other_verb (codes "asm") (codes "show") e.0 refl refl asks.0 names)
 show_carried (Some e) (Fight given files) status before after asks ends names = absurd (other_verb (codes "fight") (codes "show") e.0 refl refl asks.0 names)
 show_carried (Some e) (Create given file) status before after asks ends names = absurd (other_verb (codes "create") (codes "show") e.0 refl refl asks.0 names)
 show_carried (Some e) (Submit files) status before after asks ends names = absurd (other_verb (codes "submit") (codes "show") e.0 refl refl asks.0 names)
-show_carried (Some e) (Show file) status before after asks ends names = ends.0
+show_carried (Some e) (Show shown) status before after asks ends names = subst (λ m. EndsHill (SaysTable m) status (unread before) (unread after)) asks.2 ends.0
 show_carried (Some e) (Serve service) status before after asks ends names = absurd (other_verb (codes "serve") (codes "show") e.0 refl refl asks.0 names)
+show_carried (Some e) (Audit file) status before after asks ends names = absurd (other_verb (codes "audit") (codes "show") e.0 refl refl asks.0 names)
 
 pub serve_carried : (entered : Option (Text × List Row)) (request : Request) (status : Status) (before after : Streams) → AsksBy entered request
     → EndsRequest request status before after → option_map (λ e. e.0) entered ≡ Some (codes "serve") → EndsServe status (unread before) (unread after)
@@ -90,8 +96,20 @@ serve_carried (Some e) (Asm given) status before after asks ends names = absurd 
 serve_carried (Some e) (Fight given files) status before after asks ends names = absurd (other_verb (codes "fight") (codes "serve") e.0 refl refl asks.0 names)
 serve_carried (Some e) (Create given file) status before after asks ends names = absurd (other_verb (codes "create") (codes "serve") e.0 refl refl asks.0 names)
 serve_carried (Some e) (Submit files) status before after asks ends names = absurd (other_verb (codes "submit") (codes "serve") e.0 refl refl asks.0 names)
-serve_carried (Some e) (Show file) status before after asks ends names = absurd (other_verb (codes "show") (codes "serve") e.0 refl refl asks.0 names)
+serve_carried (Some e) (Show shown) status before after asks ends names = absurd (other_verb (codes "show") (codes "serve") e.0 refl refl asks.0 names)
 serve_carried (Some e) (Serve service) status before after asks ends names = ends.0
+serve_carried (Some e) (Audit file) status before after asks ends names = absurd (other_verb (codes "audit") (codes "serve") e.0 refl refl asks.0 names)
+
+pub audit_carried : (entered : Option (Text × List Row)) (request : Request) (status : Status) (before after : Streams) → AsksBy entered request
+    → EndsRequest request status before after → option_map (λ e. e.0) entered ≡ Some (codes "audit") → EndsAudit status (unread before) (unread after)
+audit_carried None request status before after asks ends names = absurd asks
+audit_carried (Some e) (Asm given) status before after asks ends names = absurd (other_verb (codes "asm") (codes "audit") e.0 refl refl asks.0 names)
+audit_carried (Some e) (Fight given files) status before after asks ends names = absurd (other_verb (codes "fight") (codes "audit") e.0 refl refl asks.0 names)
+audit_carried (Some e) (Create given file) status before after asks ends names = absurd (other_verb (codes "create") (codes "audit") e.0 refl refl asks.0 names)
+audit_carried (Some e) (Submit files) status before after asks ends names = absurd (other_verb (codes "submit") (codes "audit") e.0 refl refl asks.0 names)
+audit_carried (Some e) (Show shown) status before after asks ends names = absurd (other_verb (codes "show") (codes "audit") e.0 refl refl asks.0 names)
+audit_carried (Some e) (Serve service) status before after asks ends names = absurd (other_verb (codes "serve") (codes "audit") e.0 refl refl asks.0 names)
+audit_carried (Some e) (Audit file) status before after asks ends names = ends.0
 
 -- known bytes that stay grow by nothing
 Keeps-appends : (o p : Option (List ℕ)) → Keeps o p → Appends o p []
@@ -110,6 +128,12 @@ module _ (i o p e f : Option (List ℕ)) (status : Status) where
   hill_without said reasons.Memory is ends = inr (record { fault = Failed failures.Memory; ends = ends.0; output = ends.1; told = ends.2 })
   hill_without said (reasons.Help text) is ends = absurd (cc)
   hill_without said (reasons.WordFault text) is ends = absurd (cc)
+
+  pub audit_without : (none : NoRequest) → none ≡ reasons.Memory → EndsWithout none status (streams None o e) (streams None p f)
+      → EndsAudit status (streams None o e) (streams None p f)
+  audit_without reasons.Memory is ends = inr (record { fault = Failed failures.Memory; ends = ends.0; output = ends.1; told = ends.2 })
+  audit_without (reasons.Help text) is ends = absurd (cc)
+  audit_without (reasons.WordFault text) is ends = absurd (cc)
 
   pub serve_without : (none : NoRequest) → none ≡ reasons.Memory → EndsWithout none status (streams None o e) (streams None p f)
       → EndsServe status (streams None o e) (streams None p f)

@@ -1,5 +1,8 @@
+mod Audited
 mod Carried
 mod Listening
+mod Parts
 mod Said
+mod Shown
 mod StillOpen
 mod Statuses

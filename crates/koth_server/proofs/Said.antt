@@ -1,8 +1,8 @@
 -- What was written of a command's answer.
-use Rattle.std.proofs.Common.{◌≡◌, ◌≢◌, ◌∙◌, ℕ, List, Option, Result, Ok, Err, false, true≢false, inl, inr, refl, sym, subst}
+use Rattle.std.proofs.Common.{◌≡◌, ◌≢◌, ◌∙◌, ℕ, List, Option, Result, Ok, Err, Bool, false, true≢false, inl, inr, refl, sym, subst}
 use Rattle.std.proofs.KnownBytes.{Keeps-refl}
 use Rattle.sector_disk.specs.Facts.{DeviceFacts}
-use Rattle.koth_hill.specs.Hill.{Hill}
+use Rattle.koth_hill.specs.Kept.{Kept}
 use Rattle.hill_store.specs.Seen.{Seen, Submits}
 use Rattle.hill_store.specs.declared.reply.Reply.{Reply}
 use Rattle.hill_store.specs.declared.reply.Reply.TheVariants as replies
@@ -44,14 +44,14 @@ module _ {D : Type 0} (facts : DeviceFacts D) (before after : Seen D) (source : 
       subst (λ f. WritesAt SaysReply f o p) (sym is) (inr part)
 
 -- the table of a hill is that of some hill
-pub shows_some : (hill : Hill) (r : Result Status HillFault) (o p : Option (List ℕ)) → Tries (ShowsOf hill) r o p → Tries SaysTable r o p
-shows_some hill (Ok status) o p said = record { text = said.text; answer = (hill, said.answer); written = said.written }
-shows_some hill (Err (faults.Failed kinds.Stream)) o p said = elim said [
+pub shows_some : (matches : Bool) (hill : Kept) (r : Result Status HillFault) (o p : Option (List ℕ)) → Tries (ShowsOf matches hill) r o p → Tries (SaysTable matches) r o p
+shows_some matches hill (Ok status) o p said = record { text = said.text; answer = (hill, said.answer); written = said.written }
+shows_some matches hill (Err (faults.Failed kinds.Stream)) o p said = elim said [
   | inl none ↦ inl none
   | inr part ↦ inr record { status = part.status; text = part.text; answer = (hill, part.answer); written = part.written }
 ]
-shows_some hill (Err (faults.Failed kinds.Memory)) o p said = said
-shows_some hill (Err faults.TooSmall) o p said = said
-shows_some hill (Err faults.Occupied) o p said = said
-shows_some hill (Err faults.NotAHill) o p said = said
-shows_some hill (Err faults.Damaged) o p said = said
+shows_some matches hill (Err (faults.Failed kinds.Memory)) o p said = said
+shows_some matches hill (Err faults.TooSmall) o p said = said
+shows_some matches hill (Err faults.Occupied) o p said = said
+shows_some matches hill (Err faults.NotAHill) o p said = said
+shows_some matches hill (Err faults.Damaged) o p said = said

@@ -1,15 +1,15 @@
 -- What the commands on a hill in a file write, and how they end.
-use Rattle.std.specs.Prelude.{◌≡◌, ◌≢◌, ◌⊎◌, ℕ, List, Option, ◌++◌, Result, Ok, Err, codes, decimal}
+use Rattle.std.specs.Prelude.{◌≡◌, ◌≢◌, ◌⊎◌, ℕ, Bool, if◌then◌else◌, List, Option, ◌++◌, Result, Ok, Err, codes, decimal}
 use Rattle.std.specs.Io.KnownBytes.{Appends, Keeps}
 use Rattle.war_types.specs.declared.settings.RawSettings.{RawSettings}
 use Rattle.war_types.specs.declared.settings.SettingsFault.{SettingsFault}
 use Rattle.sector_disk.specs.Facts.{DeviceFacts}
-use Rattle.koth_hill.specs.Hill.{Hill}
-use Rattle.koth_hill.specs.Table.{table}
+use Rattle.koth_hill.specs.Kept.{Kept, table_kept}
 use Rattle.hill_store.specs.Opened.{IsCreated}
 use Rattle.hill_store.specs.Seen.{Seen, Submits}
 use Rattle.hill_store.specs.declared.reply.Reply.{Reply}
 use Rattle.hill_store.specs.declared.reply.Reply.TheVariants as replies
+use Rattle.koth_protocol.specs.Matches.{matches_text}
 use Rattle.koth_protocol.specs.Table.{show_text}
 use Rattle.koth_session.specs.Reply.{reply_line}
 use Rattle.koth_protocol.specs.Written.{WritesPart}
@@ -39,12 +39,16 @@ SaysCreated status text = (status ≡ statuses.Done) × (text ≡ codes "CREATED
 abbrev pub SaysReply : Said
 SaysReply status text = (reply : Reply) × (reply ≢ replies.Reopen) × (status ≡ reply_status reply) × (text ≡ reply_line reply)
 
--- the table of this hill, and of some hill
-abbrev pub ShowsOf : Hill → Said
-ShowsOf hill status text = (status ≡ statuses.Done) × (text ≡ show_text (table hill))
+-- the table of this hill, by the results that it keeps, and behind it the matrix of these, where it is asked for
+abbrev pub shown_text : Bool → Kept → List ℕ
+shown_text matches hill = if matches then show_text (table_kept hill) ++ matches_text hill else show_text (table_kept hill)
 
-abbrev pub SaysTable : Said
-SaysTable status text = (hill : Hill) × ShowsOf hill status text
+abbrev pub ShowsOf : Bool → Kept → Said
+ShowsOf matches hill status text = (status ≡ statuses.Done) × (text ≡ shown_text matches hill)
+
+-- the same of some hill
+abbrev pub SaysTable : Bool → Said
+SaysTable matches status text = (hill : Kept) × ShowsOf matches hill status text
 
 -- a port
 abbrev pub SaysPort : Said

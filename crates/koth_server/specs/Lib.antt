@@ -3,5 +3,6 @@ pub mod HillFault
 pub mod ReplyStatus
 -- What each command on a hill writes and how it ends.
 pub mod Hills
+pub mod Audit
 -- The number that a run leaves with.
 pub mod Run

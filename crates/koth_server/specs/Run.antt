@@ -7,16 +7,17 @@ use Rattle.koth_commands.specs.Answer.{Tells}
 use Rattle.koth_commands.specs.Asm.{EndsAsm}
 use Rattle.koth_commands.specs.Fight.{EndsFight}
 use Rattle.koth_server.specs.Hills.{EndsCreate, EndsHill, EndsServe, SaysReply, SaysTable}
+use Rattle.koth_server.specs.Audit.{EndsAudit}
 use Rattle.koth_commands.specs.Status.{status_code}
 use Rattle.koth_commands.specs.Streams.{Streams, streams}
 use Rattle.koth_commands.specs.declared.failure.Failure.TheVariants as failures
 use Rattle.koth_commands.specs.declared.status.Status.{Status}
 use Rattle.koth_commands.specs.declared.status.Status.TheVariants as statuses
-use Rattle.koth_words.specs.Words.{koth_app, settings_named, AreWrong, AsksFor}
+use Rattle.koth_words.specs.Words.{koth_app, matches_named, settings_named, AreWrong, AsksFor}
 use Rattle.koth_words.specs.declared.words.NoRequest.{NoRequest}
 use Rattle.koth_words.specs.declared.words.NoRequest.TheVariants as reasons
 use Rattle.koth_words.specs.declared.words.Request.{Request}
-use Rattle.koth_words.specs.declared.words.Request.TheVariants.{Asm, Fight, Create, Submit, Show, Serve}
+use Rattle.koth_words.specs.declared.words.Request.TheVariants.{Asm, Fight, Create, Submit, Show, Serve, Audit}
 
 -- the code is that of a status of which this holds
 abbrev pub Leaves : ℕ → (Status → Type 0) → Type 0
@@ -32,7 +33,8 @@ CommandEnds (Asm given) status before after = EndsAsm (settings_of given) status
 CommandEnds (Fight given files) status before after = EndsFight (settings_of given) status (unread before) (unread after)
 CommandEnds (Create given file) status before after = EndsCreate (settings_of given) status (unread before) (unread after)
 CommandEnds (Submit files) status before after = EndsHill SaysReply status (unread before) (unread after)
-CommandEnds (Show file) status before after = EndsHill SaysTable status (unread before) (unread after)
+CommandEnds (Show shown) status before after = EndsHill (SaysTable shown.matches) status (unread before) (unread after)
+CommandEnds (Audit file) status before after = EndsAudit status (unread before) (unread after)
 CommandEnds (Serve service) status before after = EndsServe status (unread before) (unread after)
 
 -- how a run ends that carried a request out: as its command does, and never as at a fault of the words
@@ -53,7 +55,8 @@ pub record EndsRun (given : List (List ℕ)) (status : Status) (before after : S
   pub fight : AsksFor (codes "fight") given → EndsFight (settings_of (settings_named given)) status (unread before) (unread after)
   pub create : AsksFor (codes "create") given → EndsCreate (settings_of (settings_named given)) status (unread before) (unread after)
   pub submit : AsksFor (codes "submit") given → EndsHill SaysReply status (unread before) (unread after)
-  pub show : AsksFor (codes "show") given → EndsHill SaysTable status (unread before) (unread after)
+  pub show : AsksFor (codes "show") given → EndsHill (SaysTable (matches_named given)) status (unread before) (unread after)
+  pub audit : AsksFor (codes "audit") given → EndsAudit status (unread before) (unread after)
   pub serve : AsksFor (codes "serve") given → EndsServe status (unread before) (unread after)
   pub words : takes koth_app given ≡ true → status ≢ statuses.WordFault
   pub wrong : AreWrong given → (status ≡ statuses.WordFault) ⊎ (status ≡ statuses.NoMemory)

@@ -4,19 +4,20 @@
 //! which the data pass:
 //!
 //! - `program`: `run`, which carries out what the words of the command line ask for, by `koth_words`, and ends with a status;
-//! - `create`, `submit`, `show`, `serve`: a command on a hill each;
+//! - `create`, `submit`, `show`, `audit`, `serve`: a command on a hill each;
 //! - `files`: the hill in a file, opened;
 //! - `hill_fault`, `reply_status`: what is told of a hill that can't be worked on, and how the program ends then, and with a
 //!   reply.
 //!
 //! `run` says what is written and how it ends as a function of the words and of what was read (`asm`, `fight`, `create`,
-//! `submit`, `show`, `serve`); at words with a fault nothing is read, and nothing is written on the output (`word_fault`).
+//! `submit`, `show`, `audit`, `serve`); at words with a fault nothing is read, and nothing is written on the output (`word_fault`).
 //! `serve_connections` goes on with no store whose device failed, and opens the hill again first.
 //!
 //! Settings must be checked before anything is read, and a hill opened before a source is. `asm`, `fight` and the statuses
 //! are `koth_commands`', a session and its lines `koth_session`'s, and this crate passes on what is public of them.
 #![tactic(auto)]
 
+mod audit;
 mod create;
 mod files;
 mod hill_fault;

@@ -4,6 +4,7 @@ ghost use Rattle.std.specs.Prelude.{None, map, string_bytes};
 ghost use Rattle.koth_server.specs.Run.{EndsRequest, EndsRun, EndsWithout, Leaves};
 ghost use Rattle.koth_commands.specs.Streams.{streams};
 
+use crate::audit::audit;
 use crate::create::create;
 use crate::serve::serve;
 use crate::show::show;
@@ -73,7 +74,8 @@ fn fulfil<R: Files + Net, A: Allocator + Copy, I: Read, O: Write, E: Write>(
         Request::Fight(given, files) => fight(rt, alloc, given, files, output, errors),
         Request::Create(given, file) => create(rt, alloc, given, file, output, errors),
         Request::Submit(files) => submit(rt, alloc, files, output, errors),
-        Request::Show(file) => show(rt, alloc, file, output, errors),
+        Request::Show(shown) => show(rt, alloc, shown, output, errors),
+        Request::Audit(file) => audit(rt, alloc, file, output, errors),
         Request::Serve(service) => serve(rt, alloc, service, output, errors),
     }
 }

@@ -2,11 +2,12 @@
 use Rattle.std.proofs.Common.{◌≡◌, ◌⊎◌, ℕ, true, inl, inr, List, [], ◌∷◌, ◌++◌, Option, refl, sym, ap, subst, ◌∙◌}
 use Rattle.sector_disk.specs.Facts.{DeviceFacts}
 use Rattle.sector_disk.specs.Image.{Images}
-use Rattle.hill_images.specs.Stands.{Stands}
-use Rattle.hill_store.specs.Earned.{step_source}
+use Rattle.hill_images.specs.Stands.{Reads}
+use Rattle.koth_hill.specs.Kept.{fought}
+use Rattle.hill_store.specs.Earned.{kept_next}
 use Rattle.hill_store.specs.Lives.{Event, Lives, MovesOn}
 use Rattle.hill_store.specs.Seen.{IsStanding, Seen}
-use Rattle.hill_store.proofs.Eventful.{may_move_on, moves_on}
+use Rattle.hill_store.proofs.Eventful.{may_move_on, moves_on, next_by}
 use Rattle.koth_session.specs.Lives.{SessionsAreEvents, answers_to, events_of}
 use Rattle.koth_session.specs.Sessions.{EndsSo, IsLeftOff, AreServed, Scene}
 use Rattle.koth_session.specs.Transcript.{Exchange, submitted}
@@ -20,10 +21,10 @@ module _ {D : Type 0} (facts : DeviceFacts D) where
   moves_by : (old new : Seen D) (es : List Exchange) → facts.lawful old.device → IsStanding facts old → AreServed facts old new es
       → MovesOn (facts.size old.device) (submitted es) (facts.disk old.device) (facts.disk new.device)
   moves_by old new es lawful standing is =
-      let now = is.stands lawful standing.is_open standing.stands in
-      let sized = subst (λ n. Images (facts.disk new.device) (λ image. Stands n image new.hill)) is.kept.same_size now in
-      let next = subst (λ h. Images (facts.disk new.device) (λ image. Stands (facts.size old.device) image h)) (is.hill ∙ hill_is old.hill es) sized in
-      moves_on (facts.size old.device) (facts.disk old.device) (facts.disk new.device) old.hill (submitted es) standing.stands next
+      let now = is.reads lawful standing.is_open standing.reads in
+      let sized = subst (λ n. Images (facts.disk new.device) (λ image. Reads n image new.hill)) is.kept.same_size now in
+      moves_on (facts.size old.device) (facts.disk old.device) (facts.disk new.device) old.hill new.hill (submitted es) standing.reads sized
+      (λ hill is_hill same. let after = is.anew hill is_hill same in after.fought_is ∙ ap fought (hill_is hill es))
 
   served : (old new : Seen D) (es : List Exchange) → facts.lawful old.device → IsStanding facts old → AreServed facts old new es
       → Lives (facts.size old.device) true (facts.disk old.device) (answers_to es ∷ []) (facts.disk new.device)
@@ -39,7 +40,7 @@ module _ {D : Type 0} (facts : DeviceFacts D) where
   standing_on : (old new : Seen D) (es : List Exchange) → facts.lawful old.device → IsStanding facts old → AreServed facts old new es → IsStanding facts new
   standing_on old new es lawful standing is = record {
     is_open = is.still ∙ standing.is_open;
-    stands = is.stands lawful standing.is_open standing.stands;
+    reads = is.reads lawful standing.is_open standing.reads;
   }
 
   -- the device failed behind them
@@ -48,16 +49,16 @@ module _ {D : Type 0} (facts : DeviceFacts D) where
       → Lives (facts.size old.device) true (facts.disk old.device) (answers_to es ∷ Event.Unanswered source ∷ []) (facts.disk new.device)
   cut_behind old last new es source lawful standing is cut =
       let on = standing_on old last es lawful standing is in
-      let either = cut.stands (is.kept.same_laws.1 lawful) on.is_open in
+      let either = cut.reads (is.kept.same_laws.1 lawful) on.is_open in
       let size = facts.size old.device in
-      let sized : Images (facts.disk new.device) (λ image. Stands size image last.hill ⊎ Stands size image (step_source last.hill source)) =
-      subst (λ n. Images (facts.disk new.device) (λ image. Stands n image last.hill ⊎ Stands n image (step_source last.hill source))) (cut.kept.same_size ∙ is.kept.same_size) either in
-      let held : Images (facts.disk last.device) (λ image. Stands size image last.hill) =
-      subst (λ n. Images (facts.disk last.device) (λ image. Stands n image last.hill)) is.kept.same_size on.stands in (
+      let sized : Images (facts.disk new.device) (λ image. Reads size image last.hill ⊎ Reads size image (kept_next last.hill source)) =
+      subst (λ n. Images (facts.disk new.device) (λ image. Reads n image last.hill ⊎ Reads n image (kept_next last.hill source))) (cut.kept.same_size ∙ is.kept.same_size) either in
+      let held : Images (facts.disk last.device) (λ image. Reads size image last.hill) =
+      subst (λ n. Images (facts.disk last.device) (λ image. Reads n image last.hill)) is.kept.same_size on.reads in (
         facts.disk last.device,
         refl,
         moves_by old last es lawful standing is,
-        (facts.disk new.device, refl, may_move_on size (facts.disk last.device) (facts.disk new.device) last.hill source held sized, refl),
+        (facts.disk new.device, refl, may_move_on size (facts.disk last.device) (facts.disk new.device) last.hill (kept_next last.hill source) source held sized (next_by last.hill source), refl),
       )
 
   ended : (end : SessionEnd) (taken : List ℕ) (left : Option (List ℕ)) (old new : Scene D) → facts.lawful old.store.device → IsStanding facts old.store

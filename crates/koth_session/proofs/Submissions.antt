@@ -6,9 +6,9 @@ use Rattle.sector_disk.specs.Facts.{DeviceFacts}
 use Rattle.sector_disk.specs.Served.{IsKept}
 use Rattle.sector_disk.specs.Image.{Images}
 use Rattle.hill_store.specs.Seen.{IsAnswered, Seen, Submits}
-use Rattle.hill_images.specs.Stands.{Stands}
-use Rattle.koth_hill.specs.Hill.{Hill}
-use Rattle.hill_store.specs.Earned.{step_source}
+use Rattle.hill_images.specs.Stands.{Reads}
+use Rattle.koth_hill.specs.Kept.{Kept}
+use Rattle.hill_store.specs.Earned.{kept_next}
 use Rattle.hill_store.proofs.Counting.{source_counts}
 use Rattle.hill_store.specs.declared.reply.Reply.{Reply}
 use Rattle.hill_store.specs.declared.reply.Reply.TheVariants as replies
@@ -18,7 +18,7 @@ use Rattle.koth_session.specs.Sessions.{AnswersCommand, HasWorn, AreServed, Scen
 use Rattle.koth_protocol.specs.Written.{WritesPart}
 use Rattle.koth_session.specs.Transcript.{Exchange, Mark, answer, command_in, hill_after}
 use Rattle.koth_session.specs.declared.sessions.SessionEnd.TheVariants as ends
-use Rattle.koth_session.proofs.Serving.{served_same}
+use Rattle.koth_session.proofs.Serving.{after_one, served_same}
 
 module _ {D : Type 0} (facts : DeviceFacts D) where
   -- an exchange was answered by this text, whole or in part
@@ -31,23 +31,24 @@ module _ {D : Type 0} (facts : DeviceFacts D) where
 
   left : (old new : Seen D) (e : Exchange) → new ≡ old → hill_after old.hill (e ∷ []) ≡ old.hill → (HasWorn (e ∷ []) → old.generation ≡ 2 ^ 64 - 1)
       → old.reopen ≡ false → AreServed facts old new (e ∷ [])
-  left old new e same hill worn is_open = subst (λ s. AreServed facts old s (e ∷ [])) (sym same) (served_same facts old (e ∷ []) hill worn (λ has. is_open))
+  left old new e same hill worn is_open = subst (λ s. AreServed facts old s (e ∷ [])) (sym same) (served_same facts old e hill worn (λ has. is_open))
 
-  moved : (old new : Seen D) (source : List ℕ) → IsAnswered facts old (step_source old.hill source) new
-      → (step_source old.hill source).counter ≡ old.hill.counter + 1 → IsKept facts old.device new.device → (old.generation ≡ 2 ^ 64 - 1 → new ≡ old)
+  moved : (old new : Seen D) (source : List ℕ) → IsAnswered facts old (kept_next old.hill source) new
+      → (kept_next old.hill source).counter ≡ old.hill.counter + 1 → IsKept facts old.device new.device → (old.generation ≡ 2 ^ 64 - 1 → new ≡ old)
       → AreServed facts old new (Exchange.Submission source Mark.Taken ∷ [])
   moved old new source is counted kept full = record {
     hill = is.hill;
     generation =
         let written : new.generation ≡ old.generation + 1 = is.generation in
-        let one_more : new.hill.counter ≡ old.hill.counter + 1 = ap (λ (h : Hill). h.counter) is.hill ∙ counted in
+        let one_more : new.hill.counter ≡ old.hill.counter + 1 = ap (λ (k : Kept). k.counter) is.hill ∙ counted in
         omega (arith, written, one_more);
     still = is.open_still ∙ sym is.was_open;
     open_at = λ has. is.was_open;
     kept = kept;
     worn = λ worn. absurd worn;
     full = λ most. ap (λ (s : Seen D). s.generation) (full most) ∙ most;
-    stands = λ lawful open_still stands. subst (λ h. Images (facts.disk new.device) (λ image. Stands (facts.size new.device) image h)) (sym is.hill) (is.stands lawful);
+    reads = λ lawful open_still reads. subst (λ k. Images (facts.disk new.device) (λ image. Reads (facts.size new.device) image k)) (sym is.hill) (is.reads lawful);
+    anew = after_one old.hill new.hill (Exchange.Submission source Mark.Taken) is.hill (λ was. is.kept.hill);
   }
 
   -- the exchange that a submission is, where the device did not fail
@@ -91,7 +92,7 @@ module _ {D : Type 0} (facts : DeviceFacts D) where
       kept = kept;
       cause = inr s.1.cause;
       full = λ most. ap (λ (x : Seen D). x.generation) (full most) ∙ most;
-      stands = λ lawful open_still. s.1.stands lawful;
+      reads = λ lawful open_still. s.1.reads lawful;
     },
     Keeps-refl output,
   )
@@ -105,7 +106,7 @@ module _ {D : Type 0} (facts : DeviceFacts D) where
       broken = ap (λ (x : Seen D). x.reopen) s.1 ∙ s.0;
       cause = inl s.0;
       full = λ most. ap (λ (x : Seen D). x.generation) (full most) ∙ most;
-      stands = λ lawful open_still. absurd (true≢false (sym s.0 ∙ open_still));
+      reads = λ lawful open_still. absurd (true≢false (sym s.0 ∙ open_still));
     },
     Keeps-refl output,
   )

@@ -5,18 +5,20 @@ use Rattle.war_types.specs.declared.settings.RawSettings.{RawSettings}
 use Rattle.sector_disk.specs.Facts.{DeviceFacts}
 use Rattle.sector_disk.specs.Image.{Images}
 use Rattle.sector_disk.specs.Served.{IsKept}
-use Rattle.hill_store.specs.Earned.{earned, step_source}
+use Rattle.koth_hill.specs.Hill.{Hill, IsHill}
+use Rattle.koth_hill.specs.Kept.{Kept, fought}
+use Rattle.hill_store.specs.Earned.{earned, kept_next}
 use Rattle.hill_store.specs.Seen.{Seen}
 use Rattle.hill_store.specs.declared.reply.Reply.{Reply}
 use Rattle.hill_store.specs.declared.reply.Reply.TheVariants as replies
 use Rattle.hill_store.specs.Holding.{Holds}
-use Rattle.hill_images.specs.Stands.{Stands}
+use Rattle.hill_images.specs.Stands.{Reads}
 use Rattle.koth_protocol.specs.Commands.{Command, commands_from, commands_of}
 use Rattle.koth_protocol.specs.Counted.{Rose}
 use Rattle.koth_protocol.specs.Lines.{lines_from}
 use Rattle.koth_protocol.specs.Reading.{IsReading}
 use Rattle.koth_protocol.specs.Written.{WritesPart}
-use Rattle.koth_session.specs.Transcript.{Exchange, Mark, answer, command_in, commands_in, hill_after, submitted, transcript}
+use Rattle.koth_session.specs.Transcript.{Exchange, Mark, answer, command_in, commands_in, hill_after, after_anew, submitted, transcript, transcript_anew}
 use Rattle.koth_protocol.specs.declared.script.Script.{Script}
 use Rattle.koth_session.specs.declared.sessions.SessionEnd.{SessionEnd}
 use Rattle.koth_session.specs.declared.sessions.SessionEnd.TheVariants as ends
@@ -29,9 +31,9 @@ pub record Scene (D : Type 0) : Type 0 where
 abbrev pub scene : {D : Type 0} → Option (List ℕ) → Seen D → Scene D
 scene output store = record { output = output; store = store }
 
--- what every image stands for
-abbrev pub StandsNow : {D : Type 0} → DeviceFacts D → Seen D → Type 0
-StandsNow facts s = Images (facts.disk s.device) (λ image. Stands (facts.size s.device) image s.hill)
+-- what every image reads as
+abbrev pub ReadsNow : {D : Type 0} → DeviceFacts D → Seen D → Type 0
+ReadsNow facts s = Images (facts.disk s.device) (λ image. Reads (facts.size s.device) image s.hill)
 
 -- one is marked so
 abbrev pub HasWorn : List Exchange → Type 0
@@ -49,6 +51,12 @@ HasSubmission (Exchange.Submission source mark ∷ es) = ⊤
 HasSubmission (Exchange.Table ∷ es) = HasSubmission es
 HasSubmission (Exchange.BadLine ∷ es) = HasSubmission es
 
+-- what is kept after these, of a hill with every pair fought anew
+pub record IsAfter (hill : Hill) (es : List Exchange) (new : Kept) : Type 0 where
+  pub is_hill : IsHill (after_anew hill es)
+  pub fought_is : new ≡ fought (after_anew hill es)
+  pub transcript_is : transcript (fought hill) es ≡ transcript_anew hill es
+
 -- These were answered, as far as the store goes. Its generation rose as often as its hill counted a warrior.
 pub record AreServed {D : Type 0} (facts : DeviceFacts D) (old new : Seen D) (es : List Exchange) : Type 0 where
   pub hill : new.hill ≡ hill_after old.hill es
@@ -58,7 +66,9 @@ pub record AreServed {D : Type 0} (facts : DeviceFacts D) (old new : Seen D) (es
   pub kept : IsKept facts old.device new.device
   pub worn : HasWorn es → new.generation ≡ 2 ^ 64 - 1
   pub full : old.generation ≡ 2 ^ 64 - 1 → new.generation ≡ 2 ^ 64 - 1
-  pub stands : facts.lawful old.device → old.reopen ≡ false → StandsNow facts old → StandsNow facts new
+  pub reads : facts.lawful old.device → old.reopen ≡ false → ReadsNow facts old → ReadsNow facts new
+  -- where the results that the hill keeps are true, every pair is fought anew, and they are true again
+  pub anew : (hill : Hill) → IsHill hill → old.hill ≡ fought hill → IsAfter hill es new.hill
 
 -- this source was submitted, and the device failed then or before
 pub record IsLeftOff {D : Type 0} (facts : DeviceFacts D) (old new : Seen D) (source : List ℕ) : Type 0 where
@@ -68,8 +78,8 @@ pub record IsLeftOff {D : Type 0} (facts : DeviceFacts D) (old new : Seen D) (so
   pub kept : IsKept facts old.device new.device
   pub cause : (old.reopen ≡ true) ⊎ Rose (facts.faults old.device) (facts.faults new.device)
   pub full : old.generation ≡ 2 ^ 64 - 1 → new.generation ≡ 2 ^ 64 - 1
-  pub stands : facts.lawful old.device → old.reopen ≡ false
-      → Images (facts.disk new.device) (λ image. Stands (facts.size new.device) image old.hill ⊎ Stands (facts.size new.device) image (step_source old.hill source))
+  pub reads : facts.lawful old.device → old.reopen ≡ false
+      → Images (facts.disk new.device) (λ image. Reads (facts.size new.device) image old.hill ⊎ Reads (facts.size new.device) image (kept_next old.hill source))
 
 -- what a command brought about: it was answered, or the session ends
 abbrev pub AnswersCommand : {D : Type 0} → DeviceFacts D → Command → Option SessionEnd → Scene D → Scene D → Type 0
@@ -140,13 +150,13 @@ said (Err fault) = Some ends.WriteFault
 
 -- Where every image stood for the hill that these sources earn, every image stands for what they and the submissions answered earn.
 abbrev pub KeepsList : {D : Type 0} → DeviceFacts D → Seen D → Seen D → List Exchange → Type 0
-KeepsList facts old new es = (s : RawSettings) (sources : List (List ℕ)) → facts.lawful old.device → old.reopen ≡ false → old.hill ≡ earned s sources
+KeepsList facts old new es = (s : RawSettings) (sources : List (List ℕ)) → facts.lawful old.device → old.reopen ≡ false → old.hill ≡ fought (earned s sources)
     → Holds (facts.size old.device) (facts.disk old.device) s sources None
-    → (new.hill ≡ earned s (sources ++ submitted es)) × Holds (facts.size new.device) (facts.disk new.device) s (sources ++ submitted es) None
+    → (new.hill ≡ fought (earned s (sources ++ submitted es))) × Holds (facts.size new.device) (facts.disk new.device) s (sources ++ submitted es) None
 
 -- The same with one source more, which was under way: each image has it or does not.
 abbrev pub KeepsCut : {D : Type 0} → DeviceFacts D → Seen D → Seen D → List Exchange → List ℕ → Type 0
-KeepsCut facts old new es source = (s : RawSettings) (sources : List (List ℕ)) → facts.lawful old.device → old.reopen ≡ false → old.hill ≡ earned s sources
+KeepsCut facts old new es source = (s : RawSettings) (sources : List (List ℕ)) → facts.lawful old.device → old.reopen ≡ false → old.hill ≡ fought (earned s sources)
     → Holds (facts.size old.device) (facts.disk old.device) s sources None
     → Holds (facts.size new.device) (facts.disk new.device) s (sources ++ submitted es) (Some source)
 

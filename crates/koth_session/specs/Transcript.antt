@@ -2,7 +2,8 @@
 use Rattle.std.specs.Prelude.{ℕ, List, [], ◌∷◌, ◌++◌, codes}
 use Rattle.koth_hill.specs.Hill.{Hill}
 use Rattle.koth_hill.specs.Table.{table}
-use Rattle.hill_store.specs.Earned.{reply_of, step_source}
+use Rattle.koth_hill.specs.Kept.{Kept, table_kept}
+use Rattle.hill_store.specs.Earned.{reply_of, step_source, kept_reply, kept_next}
 use Rattle.koth_protocol.specs.Commands.{Command}
 use Rattle.koth_protocol.specs.Table.{show_text}
 use Rattle.koth_session.specs.Reply.{reply_line}
@@ -29,30 +30,56 @@ abbrev pub commands_in : List Exchange → List Command
 commands_in [] = []
 commands_in (e ∷ es) = command_in e ∷ commands_in es
 
--- the answer on this hill
-abbrev pub answer : Hill → Exchange → List ℕ
-answer hill (Exchange.Submission source Mark.Taken) = reply_line (reply_of hill source)
+-- the answer on this hill, by the results that it keeps
+abbrev pub answer : Kept → Exchange → List ℕ
+answer hill (Exchange.Submission source Mark.Taken) = reply_line (kept_reply hill source)
 answer hill (Exchange.Submission source Mark.NoMemory) = codes "MEMORY\n"
 answer hill (Exchange.Submission source Mark.Worn) = codes "WORN\n"
-answer hill Exchange.Table = show_text (table hill)
+answer hill Exchange.Table = show_text (table_kept hill)
 answer hill Exchange.BadLine = codes "BAD\n"
 
 -- the hill behind it
-abbrev pub hill_next : Hill → Exchange → Hill
-hill_next hill (Exchange.Submission source Mark.Taken) = step_source hill source
+abbrev pub hill_next : Kept → Exchange → Kept
+hill_next hill (Exchange.Submission source Mark.Taken) = kept_next hill source
 hill_next hill (Exchange.Submission source Mark.NoMemory) = hill
 hill_next hill (Exchange.Submission source Mark.Worn) = hill
 hill_next hill Exchange.Table = hill
 hill_next hill Exchange.BadLine = hill
 
 -- all answers, each on the hill that those before it left
-abbrev pub transcript : Hill → List Exchange → List ℕ
+abbrev pub transcript : Kept → List Exchange → List ℕ
 transcript hill [] = []
 transcript hill (e ∷ es) = answer hill e ++ transcript (hill_next hill e) es
 
-abbrev pub hill_after : Hill → List Exchange → Hill
+abbrev pub hill_after : Kept → List Exchange → Kept
 hill_after hill [] = hill
 hill_after hill (e ∷ es) = hill_after (hill_next hill e) es
+
+-- ---- every pair fought anew
+
+-- the answer on this hill
+abbrev pub answer_anew : Hill → Exchange → List ℕ
+answer_anew hill (Exchange.Submission source Mark.Taken) = reply_line (reply_of hill source)
+answer_anew hill (Exchange.Submission source Mark.NoMemory) = codes "MEMORY\n"
+answer_anew hill (Exchange.Submission source Mark.Worn) = codes "WORN\n"
+answer_anew hill Exchange.Table = show_text (table hill)
+answer_anew hill Exchange.BadLine = codes "BAD\n"
+
+-- the hill behind it
+abbrev pub next_anew : Hill → Exchange → Hill
+next_anew hill (Exchange.Submission source Mark.Taken) = step_source hill source
+next_anew hill (Exchange.Submission source Mark.NoMemory) = hill
+next_anew hill (Exchange.Submission source Mark.Worn) = hill
+next_anew hill Exchange.Table = hill
+next_anew hill Exchange.BadLine = hill
+
+abbrev pub transcript_anew : Hill → List Exchange → List ℕ
+transcript_anew hill [] = []
+transcript_anew hill (e ∷ es) = answer_anew hill e ++ transcript_anew (next_anew hill e) es
+
+abbrev pub after_anew : Hill → List Exchange → Hill
+after_anew hill [] = hill
+after_anew hill (e ∷ es) = after_anew (next_anew hill e) es
 
 -- the submissions that are of the list
 abbrev pub taken_of : Exchange → List (List ℕ) → List (List ℕ)

@@ -2,7 +2,7 @@
 
 ghost use Rattle.std.specs.Prelude.{◌≡◌, ◌≢◌, ◌+◌, ◌<◌, ◌≤◌, ℕ, [], ◌∷◌, List, None, Option, Some, length, take, IfOk, OnOk, OnErr};
 ghost use Rattle.std.specs.Io.KnownBytes.{Consumes, IsAtEnd, Keeps};
-ghost use Rattle.koth_hill.specs.Table.{table};
+ghost use Rattle.koth_hill.specs.Kept.{table_kept};
 ghost use Rattle.koth_protocol.specs.Commands.{Command};
 ghost use Rattle.koth_protocol.specs.Counted.{Rose};
 ghost use Rattle.koth_protocol.specs.Reading.{IsReading};
@@ -205,7 +205,7 @@ pub fn table_of<D: Device, A: Allocator + Copy>(
     alloc: A,
     store: &Store<D, A>,
 ) -> Result<Vec<u8, A>, AllocError>
-    ensures { IfOk result (λ text. text.items ≡ show_text (table store.now.hill)) }
+    ensures { IfOk result (λ text. text.items ≡ show_text (table_kept store.now.hill)) }
 {
     let rows = store.rows()?;
     show_text(alloc, rows.as_slice())

@@ -1,5 +1,6 @@
 mod Commands
 mod Entered
+mod Flags
 mod Named
 mod Numbers
 mod Rows

@@ -1,11 +1,11 @@
 -- Rows of the definitions, computed.
-use Rattle.std.proofs.Common.{◌≡◌, false, [], ◌∷◌, Ok, codes, refl}
+use Rattle.std.proofs.Common.{◌≡◌, true, false, [], ◌∷◌, Ok, codes, refl}
 use Rattle.war_types.specs.Settings.{settings_of}
 use Rattle.clap.specs.Words.{fault_of, takes}
 use Rattle.clap.specs.declared.error.kind.ErrorKind.TheVariants as errors
 use Rattle.clap.proofs.OnLiterals.{clap_on_literals}
 use Rattle.koth_words.specs.Options.{default_settings}
-use Rattle.koth_words.specs.Words.{AsksFor, koth_app, settings_named}
+use Rattle.koth_words.specs.Words.{AsksFor, koth_app, matches_named, settings_named}
 
 -- the premise of `asm` is met by these words
 asm_asks : AsksFor (codes "asm") (codes "koth" ∷ codes "asm" ∷ [])
@@ -20,8 +20,25 @@ hills_ask : AsksFor (codes "create") (codes "koth" ∷ codes "create" ∷ codes 
     × AsksFor (codes "submit") (codes "koth" ∷ codes "submit" ∷ codes "a.hill" ∷ codes "a.red" ∷ [])
     × AsksFor (codes "show") (codes "koth" ∷ codes "show" ∷ codes "a.hill" ∷ [])
     × AsksFor (codes "serve") (codes "koth" ∷ codes "serve" ∷ codes "a.hill" ∷ codes "--port=0" ∷ codes "--connections" ∷ codes "4294967295" ∷ [])
+    × AsksFor (codes "show") (codes "koth" ∷ codes "show" ∷ codes "h.hill" ∷ codes "--matches" ∷ [])
+    × AsksFor (codes "audit") (codes "koth" ∷ codes "audit" ∷ codes "h.hill" ∷ [])
 unfolding clap_on_literals koth_app
-hills_ask = ((refl, refl), (refl, refl), (refl, refl), (refl, refl))
+hills_ask = ((refl, refl), (refl, refl), (refl, refl), (refl, refl), (refl, refl), (refl, refl))
+
+-- the flag is given where the words have it, behind the file or before it, and else not
+matches_given : (matches_named (codes "koth" ∷ codes "show" ∷ codes "h.hill" ∷ codes "--matches" ∷ []) ≡ true)
+    × (matches_named (codes "koth" ∷ codes "show" ∷ codes "--matches" ∷ codes "h.hill" ∷ []) ≡ true)
+    × (matches_named (codes "koth" ∷ codes "show" ∷ codes "h.hill" ∷ []) ≡ false)
+unfolding clap_on_literals koth_app
+matches_given = (refl, refl, refl)
+
+-- a flag with a value, a flag that is given twice, a flag of another command and an audit without a file are not taken
+flags_not_taken : (takes koth_app (codes "koth" ∷ codes "show" ∷ codes "h.hill" ∷ codes "--matches=true" ∷ []) ≡ false)
+    × (takes koth_app (codes "koth" ∷ codes "show" ∷ codes "h.hill" ∷ codes "--matches" ∷ codes "--matches" ∷ []) ≡ false)
+    × (takes koth_app (codes "koth" ∷ codes "audit" ∷ codes "h.hill" ∷ codes "--matches" ∷ []) ≡ false)
+    × (takes koth_app (codes "koth" ∷ codes "audit" ∷ []) ≡ false)
+unfolding clap_on_literals koth_app
+flags_not_taken = (refl, refl, refl, refl)
 
 -- a source, a port or a number of connections too few, and a port past 16 bits are not taken
 hills_not_taken : (takes koth_app (codes "koth" ∷ codes "submit" ∷ codes "a.hill" ∷ []) ≡ false)

@@ -4,11 +4,11 @@ ghost use Rattle.std.specs.Prelude.{◌≡◌, ◌≢◌, true, false, codes, ma
 ghost use Rattle.clap.specs.Words.{app_of, first_of, found_of, kind_of, new_app, new_rule, one_of, rows_of, rule_of, subcommand_name_of, subcommand_of, subcommand_rows_of, takes, with_rule};
 ghost use Rattle.clap.specs.declared.builder.command.Command.TheViews.{out-Command};
 ghost use Rattle.koth_words.specs.Options.{number_below, number_or, required_rule, with_settings};
-ghost use Rattle.koth_words.specs.Words.{asm_app, create_app, fight_app, file_rule, koth_app, serve_app, show_app, submit_app, text_or_none, wants_subcommand, AreWrong, AsksBy, HasCommand, IsRefusal, NamesCommand};
+ghost use Rattle.koth_words.specs.Words.{asm_app, audit_app, create_app, fight_app, file_rule, flag_rule, is_true, koth_app, matches_in, serve_app, show_app, submit_app, text_or_none, wants_subcommand, AreWrong, AsksBy, HasCommand, IsRefusal, NamesCommand};
 
 use crate::options::{number_given, settings_given, with_settings};
 use clap::error::ErrorKind;
-use clap::{Arg, ArgMatches, Command, Error, value_parser};
+use clap::{Arg, ArgAction, ArgMatches, Command, Error, value_parser};
 use std::alloc::{AllocError, Global};
 use war_types::RawSettings;
 
@@ -23,10 +23,12 @@ pub enum Request<'w> {
     Create(RawSettings, &'w str),
     /// `submit`: submit a source to a hill, and write its reply.
     Submit(Submission<'w>),
-    /// `show`: write the table of the hill in this file.
-    Show(&'w str),
+    /// `show`: write the table of a hill.
+    Show(Shown<'w>),
     /// `serve`: serve sessions on a hill.
     Serve(Service<'w>),
+    /// `audit`: fight every pair of the hill in this file anew, and write whether each kept result is the fight's.
+    Audit(&'w str),
 }
 
 /// The files of two warriors.
@@ -41,6 +43,14 @@ pub struct Fighters<'w> {
 pub struct Submission<'w> {
     pub hill: &'w str,
     pub source: &'w str,
+}
+
+/// The file of a hill, and what is written of it.
+#[derive(Clone, Copy, Debug, PartialEq, Eq)]
+pub struct Shown<'w> {
+    pub hill: &'w str,
+    /// Whether the rounds that each won against each are written too.
+    pub matches: bool,
 }
 
 /// The file of a hill, and how it is served.
@@ -93,7 +103,8 @@ fn koth_command<'a>(heap: Global) -> Result<Command<'a>, AllocError>
     let command = with_command(command, create_command(heap))?;
     let command = with_command(command, submit_command(heap))?;
     let command = with_command(command, show_command(heap))?;
-    with_command(command, serve_command(heap))
+    let command = with_command(command, serve_command(heap))?;
+    with_command(command, audit_command(heap))
 }
 
 fn program<'a>(heap: Global) -> Command<'a>
@@ -168,7 +179,11 @@ fn show_command<'a>(heap: Global) -> Result<Command<'a>, AllocError>
         "show",
         "Writes a hill's table: rank, entry, score, age, name and author of each warrior",
     );
-    with_file(heap, command, "FILE", "File of the hill")
+    with_file(heap, command, "FILE", "File of the hill")?.arg(flag(
+        heap,
+        "matches",
+        "Write after the table who won how many rounds against whom",
+    ))
 }
 
 fn serve_command<'a>(heap: Global) -> Result<Command<'a>, AllocError>
@@ -183,6 +198,18 @@ fn serve_command<'a>(heap: Global) -> Result<Command<'a>, AllocError>
     with_file(heap, command, "FILE", "File of the hill")?
         .arg(port(heap))?
         .arg(connections(heap))
+}
+
+fn audit_command<'a>(heap: Global) -> Result<Command<'a>, AllocError>
+    ensures app { IfOk result (λ c. app_of c ≡ audit_app) }
+    ensures globals { IfOk result (λ c. (out-Command c).has_globals ≡ false) }
+{
+    let command = described(
+        heap,
+        "audit",
+        "Fights every pair on a hill anew, and writes whether each kept result is what its match comes to",
+    );
+    with_file(heap, command, "FILE", "File of the hill")
 }
 
 /// The command with this one among its own, if that was made.
@@ -248,6 +275,16 @@ fn file<'a>(heap: Global, name: &'a str, help: &'a str) -> Arg<'a>
     Arg::new(heap, name).required(true).help(help)
 }
 
+fn flag<'a>(heap: Global, name: &'a str, help: &'a str) -> Arg<'a>
+    ensures rule { rule_of result ≡ flag_rule name.entry.now }
+    ensures global { result.global ≡ false }
+{
+    Arg::new(heap, name)
+        .long(name)
+        .action(ArgAction::SetTrue)
+        .help(help)
+}
+
 fn request_of<'w>(matches: &ArgMatches<'w>) -> Request<'w>
     requires { NamesCommand (subcommand_name_of matches.now) }
     ensures { AsksBy (subcommand_rows_of matches.now) result }
@@ -260,8 +297,9 @@ fn request_of<'w>(matches: &ArgMatches<'w>) -> Request<'w>
             file_named(given, "FILE"),
         ),
         Some(("submit", given)) => Request::Submit(submission_named(given)),
-        Some(("show", given)) => Request::Show(file_named(given, "FILE")),
+        Some(("show", given)) => Request::Show(shown_named(given)),
         Some(("serve", given)) => Request::Serve(service_named(given)),
+        Some(("audit", given)) => Request::Audit(file_named(given, "FILE")),
         _ => unreachable!(),
     }
 }
@@ -283,6 +321,16 @@ fn submission_named<'w>(matches: &ArgMatches<'w>) -> Submission<'w>
     Submission {
         hill: file_named(matches, "FILE"),
         source: file_named(matches, "SOURCE"),
+    }
+}
+
+fn shown_named<'w>(matches: &ArgMatches<'w>) -> Shown<'w>
+    ensures hill { result.hill.now ≡ text_or_none (first_of (codes "FILE") (rows_of (found_of matches.now))) }
+    ensures matches { result.matches ≡ matches_in (rows_of (found_of matches.now)) }
+{
+    Shown {
+        hill: file_named(matches, "FILE"),
+        matches: flag_given(matches, "matches"),
     }
 }
 
@@ -310,6 +358,13 @@ fn port_given(matches: &ArgMatches<'_>) -> u16
     ensures { result ≡ number_below 65536 0 (one_of (codes "port") (rows_of (found_of matches.now))) }
 {
     matches.get_one("port").unwrap_or(0)
+}
+
+/// Whether the flag is given. `clap` has the text `true` for a flag that is, and `false` for one that isn't.
+fn flag_given(matches: &ArgMatches<'_>, name: &str) -> bool
+    ensures { result ≡ is_true (one_of name.now (rows_of (found_of matches.now))) }
+{
+    matches.get_one(name).unwrap_or(false)
 }
 
 fn no_request(heap: Global, error: &Error) -> NoRequest

@@ -12,6 +12,7 @@ use std::test::Fail;
 use war_types::{Instr, Settings, Warrior};
 
 mod full_hill;
+mod untrue;
 
 fn small(capacity: u32) -> Result<Settings, Fail> {
     let mut raw = SMALL;

@@ -92,6 +92,8 @@ fn check_no_hill(
     check(rt, show.as_str(), "", errors, status)?;
     let submit = format!(in rt.alloc(); "koth submit {file} no_such_file")?;
     check(rt, submit.as_str(), "", errors, status)?;
+    let audit = format!(in rt.alloc(); "koth audit {file}")?;
+    check(rt, audit.as_str(), "", errors, status)?;
     let serve = format!(in rt.alloc(); "koth serve {file} --port=0 --connections=0")?;
     check(rt, serve.as_str(), "", errors, status)
 }

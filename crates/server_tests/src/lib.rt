@@ -6,6 +6,7 @@
 //!
 //! - `words`: which words are faults, ask for help, or give settings;
 //! - `assembling`, `fights` and `hills`: what the commands write, how they end, and what they do to files;
+//! - `audits`: the results that a hill keeps, shown, audited, and changed in its file;
 //! - `sessions` and `session_faults`: what a session answers, and how it ends where a stream or the device fails;
 //! - `peers`: peers that wait for an answer, and streams that signals interrupt;
 //! - `service`: sessions over sockets, one after the other.
@@ -15,6 +16,8 @@
 
 #[cfg(test)]
 mod assembling;
+#[cfg(test)]
+mod audits;
 #[cfg(test)]
 mod fights;
 #[cfg(test)]

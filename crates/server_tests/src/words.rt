@@ -23,7 +23,7 @@ fn check_fault(
 }
 
 /// Words with a fault, and a part of what is told of it.
-const FAULTS: [(&str, &str); 20] = [
+const FAULTS: [(&str, &str); 22] = [
     ("koth", "requires a subcommand"),
     ("koth fly", "unrecognized subcommand 'fly'"),
     ("koth ASM", "unrecognized subcommand 'ASM'"),
@@ -46,13 +46,18 @@ const FAULTS: [(&str, &str); 20] = [
     ("koth create", "<FILE>"),
     ("koth submit f", "<SOURCE>"),
     ("koth show f g", "unexpected argument 'g'"),
+    (
+        "koth show f --matches=true",
+        "unexpected value 'true' for '--matches'",
+    ),
+    ("koth audit", "<FILE>"),
     ("koth serve f --port 0", "--connections <N>"),
     ("koth serve f --connections 0", "--port <P>"),
     (
         "koth serve f --port=65536 --connections=0",
         "invalid value '65536'",
     ),
-    ("koth audit f", "unrecognized subcommand 'audit'"),
+    ("koth audit f --matches", "unexpected argument '--matches'"),
 ];
 
 #[test]
@@ -78,7 +83,7 @@ fn check_help(
 }
 
 /// Words that ask for help, and a part of it.
-const HELPS: [(&str, &str); 11] = [
+const HELPS: [(&str, &str); 13] = [
     ("koth --help", "Usage: koth <COMMAND>"),
     ("koth -h", "Usage: koth <COMMAND>"),
     ("koth help", "Usage: koth <COMMAND>"),
@@ -88,7 +93,9 @@ const HELPS: [(&str, &str); 11] = [
     ("koth fight --help", "1 to 1000000 [default: 80000]"),
     ("koth create --help", "FILE"),
     ("koth submit --help", "<FILE> <SOURCE>"),
-    ("koth help show", "Usage: koth show <FILE>"),
+    ("koth help show", "Usage: koth show [OPTIONS] <FILE>"),
+    ("koth show -h", "--matches"),
+    ("koth audit --help", "Usage: koth audit <FILE>"),
     ("koth serve --help", "0 to 65535"),
 ];
 

@@ -1,7 +1,7 @@
 //! The two sectors of a slot, and what is no slot's.
 
 use crate::stores::SMALL;
-use hill_bytes::Slot;
+use hill_bytes::{Slot, Wins};
 use std::test::Fail;
 use war_types::{Instr, Mode, Modifier, Op, Settings};
 
@@ -26,7 +26,8 @@ const DAT: Instr = Instr {
     b: 63,
 };
 
-/// The slot of a warrior of two instructions that starts at the second, `Imp` of `Ann`.
+/// The slot of a warrior of two instructions that starts at the second, `Imp` of `Ann`. It lost both rounds to the warrior in slot 2, and
+/// won one of two against that in slot 20.
 fn stored() -> Slot {
     let mut front = [0; 512];
     front[..16].copy_from_slice(STORED.as_slice());
@@ -39,6 +40,8 @@ fn stored() -> Slot {
     back[340] = b'A';
     back[341] = b'n';
     back[342] = b'n';
+    back[397] = 2;
+    back[471] = 1;
     Slot { front, back }
 }
 
@@ -51,7 +54,17 @@ fn a_slot_is_read_and_written(rt: HostRuntime) -> Result<(), Fail> {
     assert_eq!(rt; warrior.start(), 1);
     assert_eq!(rt; warrior.name().bytes(), b"Imp".as_slice());
     assert_eq!(rt; warrior.author().bytes(), b"Ann".as_slice());
-    let again = Slot::encode(&warrior);
+    let mut results = [Wins::NONE; 21];
+    results[2] = Wins {
+        older: 2,
+        younger: 0,
+    };
+    results[20] = Wins {
+        older: 0,
+        younger: 1,
+    };
+    assert_eq!(rt; slot.results(), results);
+    let again = Slot::encode(&warrior, &results);
     assert!(rt; again.front == slot.front);
     assert!(rt; again.back == slot.back);
     Ok(())
@@ -70,6 +83,14 @@ fn sectors_that_hold_no_warrior(rt: HostRuntime) -> Result<(), Fail> {
     assert!(rt; slot.decode(rt.alloc(), &settings)?.is_none());
     slot.front[16] = 0;
     slot.front[15] = 64;
+    assert!(rt; slot.decode(rt.alloc(), &settings)?.is_none());
+    slot.front[15] = 63;
+    assert!(rt; slot.decode(rt.alloc(), &settings)?.is_some());
+    // A byte behind the results, and one round more than a match has.
+    slot.back[472] = 1;
+    assert!(rt; slot.decode(rt.alloc(), &settings)?.is_none());
+    slot.back[472] = 0;
+    slot.back[399] = 1;
     assert!(rt; slot.decode(rt.alloc(), &settings)?.is_none());
     Ok(())
 }

@@ -17,7 +17,7 @@ fn written(rt: &impl Abort, alloc: Global) -> Result<MemoryDevice<Global>, Fail>
 }
 
 /// What a device reads at one of its sectors.
-fn sector(device: &mut MemoryDevice<Global>, n: u32) -> Result<[u8; 512], Fault> {
+pub(crate) fn sector(device: &mut MemoryDevice<Global>, n: u32) -> Result<[u8; 512], Fault> {
     if n >= device.sectors() {
         return Err(Fault);
     }
@@ -40,7 +40,7 @@ fn front(instruction: [u8; 8]) -> [u8; 512] {
     with_zeros(instruction.as_slice())
 }
 
-/// The back of a slot: the length 1, the start 0, the name and the author.
+/// The back of a slot: the length 1, the start 0, the name and the author, and no round that anybody won.
 fn back() -> [u8; 512] {
     let mut content = [0; 512];
     content[289] = 1;
@@ -66,5 +66,25 @@ fn headers_and_slots(rt: HostRuntime) -> Result<(), Fail> {
     // The slot of the warrior that fell was never written.
     assert_eq!(rt; sector(&mut device, 6)?, [0; 512]);
     assert_eq!(rt; sector(&mut device, 7)?, [0; 512]);
+    Ok(())
+}
+
+/// Two warriors that lose at once win a round each, and one that stays where it is wins both of each of them.
+#[test]
+fn results_stand_with_the_younger(rt: HostRuntime) -> Result<(), Fail> {
+    let mut store = created(rt.alloc(), MemoryDevice::new(rt.alloc(), 8)?)?;
+    assert_eq!(rt; store.submit(b"DAT 0,0"), placed(1, 1, 0));
+    assert_eq!(rt; store.submit(b"DAT 0,0"), placed(2, 2, 3));
+    assert_eq!(rt; store.submit(b"JMP 0"), placed(3, 1, 6));
+    let mut device = store.close();
+    let mut second = back();
+    second[389] = 1;
+    second[391] = 1;
+    assert_eq!(rt; sector(&mut device, 5)?, second);
+    // The second warrior fell to this one, and its place holds their result all the same.
+    let mut third = back();
+    third[391] = 2;
+    third[395] = 2;
+    assert_eq!(rt; sector(&mut device, 7)?, third);
     Ok(())
 }

@@ -1,7 +1,7 @@
 use Rattle.hill_bytes.proofs.OneHeader.{same_header}
 use Rattle.hill_bytes.proofs.OneSlot.{same_warrior}
-use Rattle.hill_images.proofs.Newest.{stands_once}
+use Rattle.hill_images.proofs.Newest.{reads_once, stands_once}
 use Rattle.hill_images.proofs.laws.laws_of_storage.Goals as goal
 
 pub returns : goal.returns
-returns c = record { one_header = same_header; one_warrior = same_warrior; one_hill = stands_once }
+returns c = record { one_header = same_header; one_warrior = same_warrior; one_reading = reads_once; one_hill = stands_once }

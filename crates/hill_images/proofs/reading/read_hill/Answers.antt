@@ -1,32 +1,72 @@
-use Rattle.std.proofs.Common.{◌∙◌, ap}
-use Rattle.koth_hill.specs.Kept.{hill_in}
+use Rattle.std.proofs.Common.{◌≡◌, ◌<◌, ◌≤◌, List, length, min, take, All, arith, sym, ap, subst, ◌∙◌, length-take}
+use Rattle.war_types.specs.declared.settings.RawSettings.{RawSettings}
+use Rattle.koth_match.specs.Match.{rounds_in}
+use Rattle.hill_bytes.specs.declared.header.HeaderEntry.{HeaderEntry}
+use Rattle.hill_bytes.specs.Layout.{FitRounds}
 use Rattle.hill_images.specs.Places.{new_entry}
-use Rattle.hill_images.proofs.WarriorsRead.{next_read, read_more, read_failed, read_all}
+use Rattle.hill_images.proofs.WarriorsRead.{next_read, read_next, read_failed, read_all, IsRowRead, row_rounds, low_before, within_of, members_read}
+use Rattle.hill_images.proofs.reading.read_hill.Given.{Over}
 use Rattle.hill_images.proofs.reading.read_hill.Goals as goal
 
 pub returns-in-Err-read_warrior-clause-unread : goal.returns-in-Err-read_warrior-clause-unread
 returns-in-Err-read_warrior-clause-unread g c =
-    read_failed g.D.Device.facts c.args.device.now c.loop-e.device c.read_warrior.new.device c.args.header.now c.loop-e.e-index (hill_in c.loop-e.hill) c.entries-e-items.result.now (new_entry 0 0) c.settings.result.now c.in-Err-read_warrior.unread c.entries-e-items.ensures.value c.settings.ensures.value c.loop-e-test.true c.loop-e.invariant.read c.in-Err-read_warrior.ensures.kept c.in-Err-read_warrior.ensures.unread
+    read_failed g.D.Device.facts c.args.device.now c.loop-i.device c.read_warrior.new.device c.args.header.now c.loop-i.i c.loop-i.hill c.entries-entries.result.now (new_entry 0 0) c.settings.result.now c.in-Err-read_warrior.unread c.entries-entries.ensures.value c.settings.ensures.value c.loop-i-test.true c.loop-i.invariant c.in-Err-read_warrior.ensures.kept c.in-Err-read_warrior.ensures.unread
 
-pub put_back_anew-requires-clause-room : goal.put_back_anew-requires-clause-room
-put_back_anew-requires-clause-room g c = let next = (next_read g.D.Device.facts c.args.device.now c.loop-e.device c.args.header.now c.loop-e.e-index (hill_in c.loop-e.hill) c.entries-e-items.result.now (new_entry 0 0) c.entries-e-items.ensures.value c.settings.ensures.header c.loop-e-test.true c.loop-e.invariant.read) in next.room
+pub bouts_with-bouts-requires-clause-slots : goal.bouts_with-bouts-requires-clause-slots
+bouts_with-bouts-requires-clause-slots g c = low_before c.args.header.now c.entries-entries.result.now c.loop-i.i c.entries-entries.ensures.value c.settings.ensures.header
 
-pub put_back_anew-requires-clause-entry : goal.put_back_anew-requires-clause-entry
-put_back_anew-requires-clause-entry g c = let next = (next_read g.D.Device.facts c.args.device.now c.loop-e.device c.args.header.now c.loop-e.e-index (hill_in c.loop-e.hill) c.entries-e-items.result.now (new_entry 0 0) c.entries-e-items.ensures.value c.settings.ensures.header c.loop-e-test.true c.loop-e.invariant.read) in next.entry
+pub put_back-requires-clause-room : goal.put_back-requires-clause-room
+put_back-requires-clause-room g c = let next = next_read g.D.Device.facts c.args.device.now c.loop-i.device c.args.header.now c.loop-i.i c.loop-i.hill c.entries-entries.result.now (new_entry 0 0) c.entries-entries.ensures.value c.settings.ensures.header c.loop-i-test.true c.loop-i.invariant in next.room
 
-pub put_back_anew-requires-clause-counted : goal.put_back_anew-requires-clause-counted
-put_back_anew-requires-clause-counted g c = let next = (next_read g.D.Device.facts c.args.device.now c.loop-e.device c.args.header.now c.loop-e.e-index (hill_in c.loop-e.hill) c.entries-e-items.result.now (new_entry 0 0) c.entries-e-items.ensures.value c.settings.ensures.header c.loop-e-test.true c.loop-e.invariant.read) in next.counted
+pub put_back-requires-clause-entry : goal.put_back-requires-clause-entry
+put_back-requires-clause-entry g c = let next = next_read g.D.Device.facts c.args.device.now c.loop-i.device c.args.header.now c.loop-i.i c.loop-i.hill c.entries-entries.result.now (new_entry 0 0) c.entries-entries.ensures.value c.settings.ensures.header c.loop-i-test.true c.loop-i.invariant in next.entry
 
-pub put_back_anew-requires-clause-age : goal.put_back_anew-requires-clause-age
-put_back_anew-requires-clause-age g c = let next = (next_read g.D.Device.facts c.args.device.now c.loop-e.device c.args.header.now c.loop-e.e-index (hill_in c.loop-e.hill) c.entries-e-items.result.now (new_entry 0 0) c.entries-e-items.ensures.value c.settings.ensures.header c.loop-e-test.true c.loop-e.invariant.read) in next.age
+pub put_back-requires-clause-counted : goal.put_back-requires-clause-counted
+put_back-requires-clause-counted g c = let next = next_read g.D.Device.facts c.args.device.now c.loop-i.device c.args.header.now c.loop-i.i c.loop-i.hill c.entries-entries.result.now (new_entry 0 0) c.entries-entries.ensures.value c.settings.ensures.header c.loop-i-test.true c.loop-i.invariant in next.counted
 
-pub loop-e-preserved : goal.loop-e-preserved
-loop-e-preserved g c = record {
-  read = read_more g.D.Device.facts c.args.device.now c.loop-e.device c.read_warrior.new.device c.args.header.now c.loop-e.e-index (hill_in c.loop-e.hill) (hill_in c.put_back_anew.new.self) c.entries-e-items.result.now (new_entry 0 0) c.in-Ok-read_warrior.warrior c.settings.result.now c.entries-e-items.ensures.value c.settings.ensures.value c.loop-e-test.true c.loop-e.invariant.read c.in-Ok-read_warrior.ensures.kept c.in-Ok-read_warrior.ensures.faultless c.in-Ok-read_warrior.ensures.same c.in-Ok-read_warrior.ensures.read (ap hill_in c.put_back_anew.ensures.kept);
-  fought = c.put_back_anew.ensures.still_true c.loop-e.invariant.fought;
-  arena = c.put_back_anew.ensures.arena ∙ c.loop-e.invariant.arena;
-}
+pub put_back-requires-clause-age : goal.put_back-requires-clause-age
+put_back-requires-clause-age g c = let next = next_read g.D.Device.facts c.args.device.now c.loop-i.device c.args.header.now c.loop-i.i c.loop-i.hill c.entries-entries.result.now (new_entry 0 0) c.entries-entries.ensures.value c.settings.ensures.header c.loop-i-test.true c.loop-i.invariant in next.age
+
+pub put_back-requires-clause-each : goal.put_back-requires-clause-each
+put_back-requires-clause-each g c =
+    let count : length c.loop-i.hill.members ≡ c.loop-i.i = members_read g.D.Device.facts c.args.device.now c.loop-i.device c.args.header.now c.loop-i.i c.loop-i.hill c.entries-entries.result.now c.entries-entries.ensures.value c.loop-i-test.true c.loop-i.invariant in
+    let next = next_read g.D.Device.facts c.args.device.now c.loop-i.device c.args.header.now c.loop-i.i c.loop-i.hill c.entries-entries.result.now (new_entry 0 0) c.entries-entries.ensures.value c.settings.ensures.header c.loop-i-test.true c.loop-i.invariant in
+    let most : c.loop-i.hill.settings.capacity ≤ 20 = subst (λ (s : RawSettings). s.capacity ≤ 20) (sym c.loop-i.invariant.settings) c.settings.ensures.header.settings.capacity_most in
+    let long : length c.bouts_with-bouts.result ≡ 20 = c.bouts_with-bouts.ensures.len in
+    let taken : length (take c.loop-i.i c.bouts_with-bouts.result) ≡ min c.loop-i.i (length c.bouts_with-bouts.result) = length-take c.loop-i.i c.bouts_with-bouts.result in
+    let room : length c.loop-i.hill.members < c.loop-i.hill.settings.capacity = next.room in
+    omega (arith, count, most, long, taken, room)
+
+-- the results that are put back are those that stand in the slot
+row_is : (g : Over) (c : goal.After-bouts-1 g) → IsRowRead c.entries-entries.result.now c.loop-i.i c.rounds.result c.in-Ok-read_warrior.held.results (take c.loop-i.i c.bouts_with-bouts.result)
+row_is g c =
+    let taken : length (take c.loop-i.i c.entries-entries.result.now) ≡ min c.loop-i.i (length c.entries-entries.result.now) = length-take c.loop-i.i c.entries-entries.result.now in
+    let all : c.loop-i.i ≡ length (take c.loop-i.i c.entries-entries.result.now) = omega (arith, taken, c.loop-i-test.true) in
+    ap (λ n. take n c.bouts_with-bouts.result) all ∙ c.bouts_with-bouts.ensures.value
+
+pub put_back-requires-clause-rounds : goal.put_back-requires-clause-rounds
+put_back-requires-clause-rounds g c =
+    let rounds : c.rounds.result ≡ c.loop-i.hill.settings.rounds =
+    c.rounds.ensures.value ∙ ap (λ (s : RawSettings). s.rounds) (c.settings.ensures.value ∙ sym c.loop-i.invariant.settings) in
+    let fits : FitRounds c.rounds.result c.in-Ok-read_warrior.held.results = subst (λ n. FitRounds n c.in-Ok-read_warrior.held.results) (sym c.rounds.ensures.value) c.in-Ok-read_warrior.ensures.rounds in
+    let low = low_before c.args.header.now c.entries-entries.result.now c.loop-i.i c.entries-entries.ensures.value c.settings.ensures.header in
+    let within = within_of (length c.in-Ok-read_warrior.held.results) (take c.loop-i.i c.entries-entries.result.now) c.in-Ok-read_warrior.ensures.len low in
+    subst (λ n. All (λ b. rounds_in b ≡ n) (take c.loop-i.i c.bouts_with-bouts.result)) rounds
+    (subst (All (λ b. rounds_in b ≡ c.rounds.result)) (sym (row_is g c)) (row_rounds c.rounds.result c.in-Ok-read_warrior.held.results (take c.loop-i.i c.entries-entries.result.now) fits within))
+
+pub loop-i-preserved : goal.loop-i-preserved
+loop-i-preserved g c =
+    let taken : length (take c.loop-i.i c.entries-entries.result.now) ≡ min c.loop-i.i (length c.entries-entries.result.now) = length-take c.loop-i.i c.entries-entries.result.now in
+    let all : c.loop-i.i ≡ length (take c.loop-i.i c.entries-entries.result.now) = omega (arith, taken, c.loop-i-test.true) in
+    let row : IsRowRead c.entries-entries.result.now c.loop-i.i c.rounds.result c.in-Ok-read_warrior.held.results (take c.loop-i.i c.bouts_with-bouts.result) =
+    ap (λ n. take n c.bouts_with-bouts.result) all ∙ c.bouts_with-bouts.ensures.value in
+    read_next g.D.Device.facts c.args.device.now c.loop-i.device c.read_warrior.new.device c.args.header.now c.loop-i.i c.loop-i.hill c.put_back.new.self c.entries-entries.result.now (new_entry 0 0)
+    c.in-Ok-read_warrior.held.warrior c.in-Ok-read_warrior.held.results (take c.loop-i.i c.bouts_with-bouts.result) c.settings.result.now c.rounds.result
+    c.entries-entries.ensures.value c.settings.ensures.value c.rounds.ensures.value c.loop-i-test.true c.loop-i.invariant
+    c.in-Ok-read_warrior.ensures.kept c.in-Ok-read_warrior.ensures.faultless c.in-Ok-read_warrior.ensures.same c.in-Ok-read_warrior.ensures.read c.in-Ok-read_warrior.ensures.results
+    row c.put_back.ensures
 
 pub returns-clause-read : goal.returns-clause-read
 returns-clause-read g c =
-    read_all g.D.Device.facts c.args.device.now c.loop-e.device c.args.header.now c.loop-e.e-index (hill_in c.loop-e.hill) c.entries-e-items.result.now c.entries-e-items.ensures.value c.loop-e-test.false c.len-count.ensures.hill.hill c.loop-e.invariant.read
+    let past : length c.args.header.now.entries ≤ c.loop-i.i = subst (λ (xs : List HeaderEntry). length xs ≤ c.loop-i.i) c.entries-entries.ensures.value c.loop-i-test.false in
+    read_all g.D.Device.facts c.args.device.now c.loop-i.device c.args.header.now c.loop-i.i c.loop-i.hill past c.len-count.ensures.hill c.loop-i.invariant

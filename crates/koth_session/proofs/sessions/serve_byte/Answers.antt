@@ -1,5 +1,5 @@
 -- What a byte brings to its end is answered.
-use Rattle.std.proofs.Common.{[], ◌∷◌, refl, subst}
+use Rattle.std.proofs.Common.{refl, subst}
 use Rattle.koth_protocol.specs.Commands.{Command, kept_source}
 use Rattle.koth_protocol.specs.Reading.{Reads}
 use Rattle.koth_session.specs.Sessions.{AnswersCommand, said, scene}
@@ -40,5 +40,5 @@ returns-in-Bad-clause-goes g c = λ line source reading.
     Command.Bad (said c.send.result) _ _ (λ others. refl)
     (subst (λ m. Reads line source c.args.byte m c.take.new.self) c.in-Bad.is (c.take.ensures line source reading))
     (answers_said g.D.Device.facts Exchange.BadLine _ c.send.result _ _ refl
-    (served_same g.D.Device.facts c.args.store.now (Exchange.BadLine ∷ []) refl (λ worn. absurd worn) (λ has. absurd has))
+    (served_same g.D.Device.facts c.args.store.now Exchange.BadLine refl (λ worn. absurd worn) (λ has. absurd has))
     c.send.ensures.whole c.send.ensures.part))

@@ -1,7 +1,7 @@
 use Rattle.std.proofs.Common.{refl, ap, rules}
 use Rattle.hill_bytes.specs.Layout.{HeaderParts}
-use Rattle.koth_hill.specs.Step.{new_hill}
-use Rattle.hill_images.proofs.Submitted.{ready_stands}
+use Rattle.koth_hill.specs.Kept.{new_kept}
+use Rattle.hill_images.proofs.Submitted.{ready_reads}
 use Rattle.hill_store.proofs.Decided.{created_holds}
 use Rattle.hill_store.proofs.store.Store.create.Goals as goal
 
@@ -12,7 +12,7 @@ returns-in-Ok-write_first-clause-created g c = record {
   faultless = c.in-Ok-write_first.ensures.faultless;
   open_now = refl;
   was_none = c.in-Ok-write_first.ensures.first.was_none;
-  stands = λ lawful. ready_stands (g.D.Device.facts.size c.write_first.new.device) (g.D.Device.facts.disk c.write_first.new.device) c.in-Ok-write_first.header (new_hill c.args.settings 0)
+  stands = λ lawful. ready_reads (g.D.Device.facts.size c.write_first.new.device) (g.D.Device.facts.disk c.write_first.new.device) c.in-Ok-write_first.header (new_kept c.args.settings 0)
       (search rules) (c.in-Ok-write_first.ensures.first.ready lawful);
 }
 

@@ -1,6 +1,5 @@
 use Rattle.std.proofs.Common.{refl}
-use Rattle.koth_hill.specs.Kept.{hill_in}
-use Rattle.hill_images.proofs.Exits.{sound_stands}
+use Rattle.hill_images.proofs.Exits.{sound_reads}
 use Rattle.hill_store.proofs.Decided.{decided, undecided}
 use Rattle.hill_store.proofs.store.Store.open.Goals as goal
 
@@ -15,7 +14,7 @@ returns-in-Ok-clause-opened g c = record {
     shows = c.in-Ok.ensures.found.shows lawful;
     room = c.in-Ok.ensures.found.room;
   };
-  stands = λ lawful. sound_stands g.D.Device.facts c.recover.new.device c.in-Ok.found.header (hill_in c.in-Ok.found.hill) c.in-Ok.found.arena.settings _ c.in-Ok.ensures.found.sound refl (c.in-Ok.ensures.kept.same_laws.1 lawful);
+  reads = λ lawful. sound_reads g.D.Device.facts c.recover.new.device c.in-Ok.found.header c.in-Ok.found.hill c.in-Ok.found.arena.settings _ c.in-Ok.ensures.found.sound refl (c.in-Ok.ensures.kept.same_laws.1 lawful);
 }
 
 pub returns-in-Ok-clause-holds : goal.returns-in-Ok-clause-holds

@@ -1,57 +1,54 @@
 use Rattle.std.proofs.Common.{◌≡◌, ◌<◌, ◌⊎◌, ◌+◌, ◌-◌, ◌^◌, refl, sym, ap, ◌∙◌, subst}
-use Rattle.koth_hill.specs.Hill.{IsHill}
-use Rattle.koth_hill.specs.Kept.{hill_in, kept_fall}
-use Rattle.hill_store.proofs.Fought.{fought_fall}
+use Rattle.koth_hill.specs.Kept.{IsKept as IsKeptHill, hill_in, kept_fall, step_kept}
+use Rattle.koth_hill.proofs.RowsKept.{IsKept-fall}
+use Rattle.hill_images.proofs.Submitted.{hill_passed}
 use Rattle.sector_disk.specs.Changes.{after, Begun}
 use Rattle.sector_disk.specs.Image.{Images}
-use Rattle.koth_hill.specs.Step.{step, after_fall}
-use Rattle.hill_images.specs.Stands.{Stands}
+use Rattle.hill_images.specs.Stands.{Reads}
 use Rattle.hill_bytes.specs.Layout.{HeaderParts}
 use Rattle.sector_disk.specs.Served.{IsKept}
 use Rattle.sector_disk.proofs.Kept.{kept_where_served}
 use Rattle.hill_store.specs.Seen.{Seen, seen, Challenges}
-use Rattle.hill_images.specs.Named.{AreFought, IsSound}
+use Rattle.hill_images.specs.Named.{IsSound}
 use Rattle.hill_images.specs.Places.{header_passed, commits}
-use Rattle.hill_images.proofs.Exits.{pass_header, pass_sound, pass_stands, pass_step, pass_cut}
+use Rattle.hill_images.proofs.Exits.{pass_header, pass_sound, pass_reads, pass_step, pass_cut}
 use Rattle.hill_store.proofs.Replies.{answers}
 use Rattle.hill_store.proofs.store.Store.pass.Goals as goal
 
 pub header_passed-header-requires : goal.header_passed-header-requires
 header_passed-header-requires g c =
-    pass_header g.D.Device.facts c.self.inside.device c.self.inside.header (hill_in c.self.inside.hill) c.self.inside.arena.settings c.self.inside.reopen (record {
-      sound = c.self.invariant.0;
+    pass_header g.D.Device.facts c.self.inside.device c.self.inside.header c.self.inside.hill c.self.inside.arena.settings c.self.inside.reopen (record {
+      sound = c.self.invariant;
       is_open = ap (λ (s : Seen _). s.reopen) c.self.view_is ∙ c.requires.is_open;
       more = subst (λ (s : Seen _). s.generation < 2 ^ 64 - 1) (sym c.self.view_is) c.requires.more;
     })
 
 pub invariant_of-self : goal.invariant_of-self
 invariant_of-self g c =
-    let sound : IsSound g.D.Device.facts c.commit.new.device c.header_passed-header.result (hill_in c.pass.new.self) c.self.inside.arena.settings c.self.inside.reopen =
-    subst (λ h. IsSound g.D.Device.facts c.commit.new.device h (hill_in c.pass.new.self) c.self.inside.arena.settings c.self.inside.reopen) (sym c.header_passed-header.ensures)
-    (subst (λ hill. IsSound g.D.Device.facts c.commit.new.device (header_passed c.self.inside.header) hill c.self.inside.arena.settings c.self.inside.reopen) (sym (ap hill_in c.pass.ensures.after))
-    (pass_sound g.D.Device.facts c.self.inside.device c.commit.new.device c.self.inside.header (hill_in c.self.inside.hill) c.self.inside.arena.settings c.self.inside.reopen (record {
-      sound = c.self.invariant.0;
+    subst (λ h. IsSound g.D.Device.facts c.commit.new.device h c.pass.new.self c.self.inside.arena.settings c.self.inside.reopen) (sym c.header_passed-header.ensures)
+    (subst (λ hill. IsSound g.D.Device.facts c.commit.new.device (header_passed c.self.inside.header) hill c.self.inside.arena.settings c.self.inside.reopen) (sym c.pass.ensures.after)
+    (pass_sound g.D.Device.facts c.self.inside.device c.commit.new.device c.self.inside.header c.self.inside.hill c.self.inside.arena.settings c.self.inside.reopen (record {
+      sound = c.self.invariant;
       is_open = ap (λ (s : Seen _). s.reopen) c.self.view_is ∙ c.requires.is_open;
       more = subst (λ (s : Seen _). s.generation < 2 ^ 64 - 1) (sym c.self.view_is) c.requires.more;
     }) c.in-Ok.ensures.served.same_size c.in-Ok.ensures.served.same_laws.0
-    (λ is_lawful. subst (λ h. g.D.Device.facts.disk c.commit.new.device ≡ after (commits h) (g.D.Device.facts.disk c.self.inside.device)) c.header_passed-header.ensures (c.in-Ok.ensures.changes is_lawful)))) in
-    let is : IsHill (hill_in (kept_fall c.self.inside.hill)) = subst (λ k. IsHill (hill_in k)) c.pass.ensures.after sound.is_hill in
-    (sound, subst AreFought (sym c.pass.ensures.after) (fought_fall c.self.inside.hill c.self.invariant.1 is))
+    (λ is_lawful. subst (λ h. g.D.Device.facts.disk c.commit.new.device ≡ after (commits h) (g.D.Device.facts.disk c.self.inside.device)) c.header_passed-header.ensures (c.in-Ok.ensures.changes is_lawful))))
 
 pub returns-in-Ok-clause-challenges : goal.returns-in-Ok-clause-challenges
 returns-in-Ok-clause-challenges g c = λ w. λ judged_is.
-    let next : step c.args.self.now.hill w ≡ after_fall c.args.self.now.hill = pass_step c.args.self.now.hill w c.args.judged.now judged_is c.requires.falls in
-    answers g.D.Device.facts c.args.self.now (seen c.commit.new.device (hill_in c.pass.new.self) c.header_passed-header.result.generation c.self.inside.reopen) w c.args.judged.now c.answer.result c.answer.ensures judged_is (record {
+    let next : step_kept c.args.self.now.hill w ≡ kept_fall c.args.self.now.hill = pass_step c.args.self.now.hill w c.args.judged.now judged_is c.requires.falls in
+    answers g.D.Device.facts c.args.self.now (seen c.commit.new.device c.pass.new.self c.header_passed-header.result.generation c.self.inside.reopen) w c.args.judged.now c.answer.result c.answer.ensures judged_is (record {
       was_open = c.requires.is_open;
-      hill = (ap hill_in c.pass.ensures.after) ∙ ap (λ (s : Seen _). after_fall s.hill) c.self.view_is ∙ sym next;
+      kept = subst IsKeptHill (sym c.pass.ensures.after) (IsKept-fall c.self.inside.hill c.self.invariant.kept (hill_passed (hill_in c.self.inside.hill) c.self.invariant.kept.hill));
+      hill = c.pass.ensures.after ∙ ap (λ (s : Seen _). kept_fall s.hill) c.self.view_is ∙ sym next;
       generation = ap (λ (h : HeaderParts). h.generation) c.header_passed-header.ensures ∙ ap (λ (s : Seen _). s.generation + 1) c.self.view_is;
       faultless = c.in-Ok.ensures.served.ok refl ∙ ap (λ (s : Seen _). g.D.Device.facts.faults s.device) c.self.view_is;
       open_still = ap (λ (s : Seen _). s.reopen) c.self.view_is ∙ c.requires.is_open;
-      stands = λ lawful.
-          subst (λ hill. Images (g.D.Device.facts.disk c.commit.new.device) (λ image. Stands (g.D.Device.facts.size c.commit.new.device) image hill)) (sym next)
-          (subst (λ (s : Seen _). Images (g.D.Device.facts.disk c.commit.new.device) (λ image. Stands (g.D.Device.facts.size c.commit.new.device) image (after_fall s.hill))) c.self.view_is
-          (pass_stands g.D.Device.facts c.self.inside.device c.commit.new.device c.self.inside.header (hill_in c.self.inside.hill) c.self.inside.arena.settings c.self.inside.reopen (record {
-            sound = c.self.invariant.0;
+      reads = λ lawful.
+          subst (λ hill. Images (g.D.Device.facts.disk c.commit.new.device) (λ image. Reads (g.D.Device.facts.size c.commit.new.device) image hill)) (sym next)
+          (subst (λ (s : Seen _). Images (g.D.Device.facts.disk c.commit.new.device) (λ image. Reads (g.D.Device.facts.size c.commit.new.device) image (kept_fall s.hill))) c.self.view_is
+          (pass_reads g.D.Device.facts c.self.inside.device c.commit.new.device c.self.inside.header c.self.inside.hill c.self.inside.arena.settings c.self.inside.reopen (record {
+            sound = c.self.invariant;
             is_open = ap (λ (s : Seen _). s.reopen) c.self.view_is ∙ c.requires.is_open;
             more = subst (λ (s : Seen _). s.generation < 2 ^ 64 - 1) (sym c.self.view_is) c.requires.more;
           })
@@ -62,18 +59,18 @@ returns-in-Ok-clause-challenges g c = λ w. λ judged_is.
 
 pub returns-in-Err-clause-challenges : goal.returns-in-Err-clause-challenges
 returns-in-Err-clause-challenges g c = λ w. λ judged_is.
-    let next : step c.args.self.now.hill w ≡ after_fall c.args.self.now.hill = pass_step c.args.self.now.hill w c.args.judged.now judged_is c.requires.falls in
-    subst (λ r. Challenges g.D.Device.facts c.args.self.now w r (seen c.commit.new.device (hill_in c.self.inside.hill) c.self.inside.header.generation c.fail.new.reopen)) (sym c.fail.ensures.reply) (record {
+    let next : step_kept c.args.self.now.hill w ≡ kept_fall c.args.self.now.hill = pass_step c.args.self.now.hill w c.args.judged.now judged_is c.requires.falls in
+    subst (λ r. Challenges g.D.Device.facts c.args.self.now w r (seen c.commit.new.device c.self.inside.hill c.self.inside.header.generation c.fail.new.reopen)) (sym c.fail.ensures.reply) (record {
       was_open = c.requires.is_open;
       cause = subst (λ (s : Seen _). (g.D.Device.facts.faults s.device < g.D.Device.facts.faults c.commit.new.device) ⊎ (g.D.Device.facts.faults s.device ≡ 2 ^ 64 - 1)) c.self.view_is (c.in-Err.ensures.served.err refl);
       hill = ap (λ (s : Seen _). s.hill) c.self.view_is;
       generation = ap (λ (s : Seen _). s.generation) c.self.view_is;
       broken = c.fail.ensures.broken;
-      stands = λ lawful.
-          subst (λ hill. Images (g.D.Device.facts.disk c.commit.new.device) (λ image. Stands (g.D.Device.facts.size c.commit.new.device) image c.args.self.now.hill ⊎ Stands (g.D.Device.facts.size c.commit.new.device) image hill)) (sym next)
-          (subst (λ (s : Seen _). Images (g.D.Device.facts.disk c.commit.new.device) (λ image. Stands (g.D.Device.facts.size c.commit.new.device) image s.hill ⊎ Stands (g.D.Device.facts.size c.commit.new.device) image (after_fall s.hill))) c.self.view_is
-          (pass_cut g.D.Device.facts c.self.inside.device c.commit.new.device c.self.inside.header (hill_in c.self.inside.hill) c.self.inside.arena.settings c.self.inside.reopen (record {
-            sound = c.self.invariant.0;
+      reads = λ lawful.
+          subst (λ hill. Images (g.D.Device.facts.disk c.commit.new.device) (λ image. Reads (g.D.Device.facts.size c.commit.new.device) image c.args.self.now.hill ⊎ Reads (g.D.Device.facts.size c.commit.new.device) image hill)) (sym next)
+          (subst (λ (s : Seen _). Images (g.D.Device.facts.disk c.commit.new.device) (λ image. Reads (g.D.Device.facts.size c.commit.new.device) image s.hill ⊎ Reads (g.D.Device.facts.size c.commit.new.device) image (kept_fall s.hill))) c.self.view_is
+          (pass_cut g.D.Device.facts c.self.inside.device c.commit.new.device c.self.inside.header c.self.inside.hill c.self.inside.arena.settings c.self.inside.reopen (record {
+            sound = c.self.invariant;
             is_open = ap (λ (s : Seen _). s.reopen) c.self.view_is ∙ c.requires.is_open;
             more = subst (λ (s : Seen _). s.generation < 2 ^ 64 - 1) (sym c.self.view_is) c.requires.more;
           })

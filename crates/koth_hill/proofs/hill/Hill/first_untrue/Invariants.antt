@@ -1,7 +1,7 @@
 -- The rows before this one are true.
 use Rattle.std.proofs.Common.{◌≡◌, [], take}
 use Rattle.koth_hill.specs.Kept.{fought_from, members_of, rows_of}
-use Rattle.koth_hill.proofs.hill.Hill.audit.Given as goal
+use Rattle.koth_hill.proofs.hill.Hill.first_untrue.Given as goal
 
 abbrev pub invariant-loop-i : goal.invariant-loop-i
 invariant-loop-i g l = record {

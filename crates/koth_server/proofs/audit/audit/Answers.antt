@@ -1,0 +1,9 @@
+-- Where no hill opens, nothing is written.
+use Rattle.std.proofs.Common.{inr}
+use Rattle.koth_server.specs.Audit.{SaysAudit}
+use Rattle.koth_server.proofs.Said.{nothing}
+use Rattle.koth_server.proofs.audit.audit.Goals as goal
+
+pub returns-in-Err-clause-ends : goal.returns-in-Err-clause-ends
+returns-in-Err-clause-ends g c =
+    inr record { fault = c.in-Err.fault; ends = c.tell.ensures.status; output = nothing SaysAudit c.in-Err.fault _; told = c.tell.ensures.told }

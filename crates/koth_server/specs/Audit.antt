@@ -1,0 +1,56 @@
+-- What an audit of the hill in a file writes, and how it ends.
+use Rattle.std.specs.Prelude.{◌≡◌, ◌⊎◌, ℕ, List, Option, None, Some, ◌++◌, [], codes, decimal}
+use Rattle.std.specs.Io.KnownBytes.{Appends}
+use Rattle.koth_match.specs.declared.bout.Bout.{Bout}
+use Rattle.koth_hill.specs.Kept.{Kept, AreTrue, IsUntrue}
+use Rattle.koth_hill.specs.declared.untrue.Untrue.{Untrue}
+use Rattle.koth_commands.specs.Streams.{Streams}
+use Rattle.koth_commands.specs.declared.status.Status.{Status}
+use Rattle.koth_commands.specs.declared.status.Status.TheVariants as statuses
+use Rattle.koth_protocol.specs.Written.{WritesPart}
+use Rattle.koth_server.specs.Hills.{Said, TellsFault}
+
+-- three counts of a match behind a word
+abbrev pub counts_line : List ℕ → Bout → List ℕ
+counts_line word b = word ++ decimal b.older_wins ++ codes " " ++ decimal b.younger_wins ++ codes " " ++ decimal b.ties ++ codes "\n"
+
+-- the pair, by its entries, what is kept of it and what its match comes to
+abbrev pub pair_line : ℕ → ℕ → List ℕ
+pair_line older younger = codes "PAIR " ++ decimal older ++ codes " " ++ decimal younger ++ codes "\n"
+
+abbrev pub untrue_text : Untrue → List ℕ
+untrue_text u = pair_line u.older u.younger ++ (counts_line (codes "KEPT ") u.kept ++ counts_line (codes "FOUGHT ") u.fought)
+
+-- what an audit of a hill finds: nothing only where each result that it keeps is its match's, else one that isn't
+abbrev pub IsAudited : Kept → Option Untrue → Type 0
+IsAudited hill None = AreTrue hill
+IsAudited hill (Some u) = IsUntrue hill u.older u.younger u.kept u.fought
+
+abbrev pub audit_status : Option Untrue → Status
+audit_status None = statuses.Done
+audit_status (Some u) = statuses.Refused
+
+abbrev pub audit_answer : Option Untrue → List ℕ
+audit_answer None = codes "true\n"
+audit_answer (Some u) = codes "false\n"
+
+-- what is told of it on the errors
+abbrev pub told_of : Option Untrue → List ℕ
+told_of None = []
+told_of (Some u) = untrue_text u
+
+-- the answer to an audit of some hill
+abbrev pub SaysAudit : Said
+SaysAudit status text = (hill : Kept) × (found : Option Untrue) × IsAudited hill found × (status ≡ audit_status found) × (text ≡ audit_answer found)
+
+-- the answer to an audit of this hill was written, and what is told of an untrue result, or a part of that
+pub record Audits (hill : Kept) (status : Status) (before after : Streams) : Type 0 where
+  pub found : Option Untrue
+  pub audited : IsAudited hill found
+  pub ends : status ≡ audit_status found
+  pub written : Appends before.output after.output (audit_answer found)
+  pub told : WritesPart before.errors after.errors (told_of found)
+
+-- how `audit` ends: with its answer, or with a fault
+abbrev pub EndsAudit : Status → Streams → Streams → Type 0
+EndsAudit status before after = ((hill : Kept) × Audits hill status before after) ⊎ TellsFault SaysAudit status before after

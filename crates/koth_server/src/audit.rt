@@ -1,0 +1,120 @@
+//! The command `audit`: whether the results that the hill in a file keeps are those of its matches.
+
+ghost use Rattle.std.specs.Prelude.{◌≡◌, ◌≢◌, ◌≤◌, ◌++◌, None, OnErr, OnOk, codes, decimal, length};
+ghost use Rattle.std.specs.Io.KnownBytes.{Appends};
+ghost use Rattle.koth_commands.specs.Streams.{streams};
+ghost use Rattle.koth_protocol.specs.Written.{WritesPart};
+ghost use Rattle.koth_server.specs.Audit.{EndsAudit, audit_answer, audit_status, counts_line, pair_line, told_of, untrue_text};
+
+use crate::files::open_hill;
+use crate::hill_fault::HillFault;
+use hill_store::{Store, Untrue};
+use koth_commands::{Failure, Status, StreamFault, write_whole};
+use koth_match::Bout;
+use koth_protocol::Line;
+use sector_disk::Device;
+use std::alloc::Allocator;
+use std::io::Write;
+use std::rt::Files;
+
+/// Fights every pair of the hill in a file anew, and writes `true` where each result that is kept is what its match comes to, else `false`.
+/// Then it tells on the errors the first pair of which it isn't, by the younger warrior's entry and then the older's: their entries, what is
+/// kept of them, and what their match comes to, each as the rounds that the older won, that the younger won, and ties.
+pub(crate) fn audit<R: Files, A: Allocator + Copy, O: Write, E: Write>(
+    rt: &R,
+    alloc: A,
+    path: &str,
+    output: &mut O,
+    errors: &mut E,
+) -> Status
+    ensures ends { EndsAudit result
+        (streams None (O.contents output.old) (E.contents errors.old))
+        (streams None (O.contents output.new) (E.contents errors.new)) }
+    ensures words { result ≢ Status.WordFault }
+{
+    match open_hill(rt, alloc, path) {
+        Ok(mut store) => audit_store(&mut store, output, errors),
+        Err(fault) => fault.tell(errors),
+    }
+}
+
+/// Audits a store's hill.
+fn audit_store<D: Device, A: Allocator + Copy, O: Write, E: Write>(
+    store: &mut Store<D, A>,
+    output: &mut O,
+    errors: &mut E,
+) -> Status
+    ensures ends { EndsAudit result
+        (streams None (O.contents output.old) (E.contents errors.old))
+        (streams None (O.contents output.new) (E.contents errors.new)) }
+    ensures words { result ≢ Status.WordFault }
+{
+    let found = store.first_untrue();
+    match write_whole(output, answer(found)) {
+        Ok(()) => finish(found, errors),
+        Err(StreamFault) => HillFault::Failed(Failure::Stream).tell(errors),
+    }
+}
+
+fn answer(found: Option<Untrue>) -> &'static [u8]
+    ensures { result.now ≡ audit_answer found }
+{
+    match found {
+        None => b"true\n",
+        Some(_) => b"false\n",
+    }
+}
+
+/// Tells of an untrue result, and says how the program ends. Where it can't be told, the answer and the status tell.
+fn finish<E: Write>(found: Option<Untrue>, errors: &mut E) -> Status
+    ensures status { result ≡ audit_status found }
+    ensures told { WritesPart (E.contents errors.old) (E.contents errors.new) (told_of found) }
+{
+    match found {
+        None => Status::Done,
+        Some(untrue) => {
+            let _ = write_untrue(&untrue, errors);
+            Status::Refused
+        }
+    }
+}
+
+/// Writes the pair of an untrue result, what is kept of it, and what its match comes to.
+fn write_untrue<E: Write>(untrue: &Untrue, errors: &mut E) -> Result<(), StreamFault>
+    ensures whole { OnOk result (Appends (E.contents errors.old) (E.contents errors.new) (untrue_text untrue.now)) }
+    ensures part { OnErr result (WritesPart (E.contents errors.old) (E.contents errors.new) (untrue_text untrue.now)) }
+{
+    let pair = pair_line(untrue.older, untrue.younger);
+    let kept = counts_line(b"KEPT ", untrue.kept);
+    let fought = counts_line(b"FOUGHT ", untrue.fought);
+    write_whole(errors, pair.as_slice())?;
+    write_whole(errors, kept.as_slice())?;
+    write_whole(errors, fought.as_slice())
+}
+
+fn pair_line(older: u64, younger: u64) -> Line
+    ensures { result ≡ pair_line older younger }
+{
+    let mut line = Line::new();
+    line.put(b"PAIR ");
+    line.put_number(older);
+    line.put(b" ");
+    line.put_number(younger);
+    line.put(b"\n");
+    line
+}
+
+fn counts_line(word: &[u8], bout: Bout) -> Line
+    requires { length word.now ≤ 7 }
+    ensures { result ≡ counts_line word.now bout }
+{
+    let mut line = Line::new();
+    line.put(word);
+    line.put_number(u64::from(bout.older_wins));
+    line.put(b" ");
+    line.put_number(u64::from(bout.younger_wins));
+    line.put(b" ");
+    line.put_number(u64::from(bout.ties));
+    line.put(b"\n");
+    line
+}

@@ -1,0 +1,137 @@
+//! Results that a device keeps, true and untrue.
+
+use crate::stores::{created, numbers, opened, placed};
+use crate::written::sector;
+use hill_store::{Refusal, Store};
+use sector_disk::{Device, Fault, MemoryDevice};
+use std::alloc::Global;
+use std::process::Abort;
+use std::test::Fail;
+
+/// A device that holds two warriors, each of which loses at once: of their two rounds each won one.
+fn device_of_two(rt: &impl Abort, alloc: Global) -> Result<MemoryDevice<Global>, Fail> {
+    let mut store = created(alloc, MemoryDevice::new(alloc, 8)?)?;
+    assert_eq!(rt; store.submit(b"DAT 0,0"), placed(1, 1, 0));
+    assert_eq!(rt; store.submit(b"DAT 0,0"), placed(2, 2, 3));
+    assert!(rt; store.audit());
+    Ok(store.close())
+}
+
+/// Puts a content into one of a device's sectors.
+fn put(device: &mut MemoryDevice<Global>, n: u32, content: &[u8; 512]) -> Result<(), Fault> {
+    if n >= device.sectors() {
+        return Err(Fault);
+    }
+    device.set(n, content);
+    Ok(())
+}
+
+/// The same with another result: so many rounds that the older won, and the younger.
+fn device_with(
+    rt: &impl Abort,
+    alloc: Global,
+    older: u8,
+    younger: u8,
+) -> Result<MemoryDevice<Global>, Fail> {
+    let mut device = device_of_two(rt, alloc)?;
+    let mut content = sector(&mut device, 5)?;
+    content[389] = older;
+    content[391] = younger;
+    put(&mut device, 5, &content)?;
+    Ok(device)
+}
+
+#[test]
+fn true_results_open_true(rt: HostRuntime) -> Result<(), Fail> {
+    let mut store = opened(rt.alloc(), device_with(&rt, rt.alloc(), 1, 1)?)?;
+    assert!(rt; store.audit());
+    assert!(rt; store.first_untrue().is_none());
+    Ok(())
+}
+
+/// The table and the replies go by what is kept, and an audit tells that it isn't the fights'.
+#[test]
+fn untrue_results_open_and_are_told(rt: HostRuntime) -> Result<(), Fail> {
+    for (older, younger, points) in [
+        (2, 0, (6, 0)),
+        (0, 2, (0, 6)),
+        (1, 0, (4, 1)),
+        (0, 0, (2, 2)),
+    ] {
+        let mut store = opened(rt.alloc(), device_with(&rt, rt.alloc(), older, younger)?)?;
+        assert!(rt; !store.audit(), "{older} and {younger}");
+        let untrue = store.first_untrue().ok_or("the pair")?;
+        assert_eq!(rt; (untrue.older, untrue.younger), (1, 2));
+        assert_eq!(rt; untrue.kept.older_wins, u16::from(older));
+        assert_eq!(rt; untrue.kept.younger_wins, u16::from(younger));
+        assert_eq!(rt;
+            (
+                untrue.fought.older_wins,
+                untrue.fought.younger_wins,
+                untrue.fought.ties
+            ),
+            (1, 1, 0)
+        );
+        expect_points(&rt, &store, points)?;
+    }
+    Ok(())
+}
+
+/// The points of the two entries.
+fn expect_points(
+    rt: &impl Abort,
+    store: &Store<MemoryDevice<Global>, Global>,
+    points: (u32, u32),
+) -> Result<(), Fail> {
+    let rows = store.rows()?;
+    for row in rows.as_slice() {
+        let expected = if row.entry == 1 { points.0 } else { points.1 };
+        assert_eq!(rt; row.score, expected);
+    }
+    assert_eq!(rt; rows.len(), 2);
+    Ok(())
+}
+
+/// A third warrior is judged by the result that is kept of the two: the one that it takes the points from falls.
+#[test]
+fn a_challenger_is_judged_by_what_is_kept(rt: HostRuntime) -> Result<(), Fail> {
+    let mut store = opened(rt.alloc(), device_with(&rt, rt.alloc(), 0, 2)?)?;
+    assert_eq!(rt; store.submit(b"JMP 0"), placed(3, 1, 6));
+    let rows = store.rows()?;
+    assert_eq!(rt; numbers(rows.first()), Some((3, 6, 0)));
+    assert_eq!(rt; numbers(rows.get(1)), Some((2, 0, 1)));
+    Ok(())
+}
+
+/// A result of more rounds than a match has is no slot's.
+#[test]
+fn more_rounds_than_a_match_has(rt: HostRuntime) -> Result<(), Fail> {
+    match Store::open(rt.alloc(), device_with(&rt, rt.alloc(), 2, 1)?) {
+        Ok(_) => Err("it is refused".into()),
+        Err((_, refusal)) => {
+            assert_eq!(rt; refusal, Refusal::Damaged);
+            Ok(())
+        }
+    }
+}
+
+/// A device that an earlier version wrote, which kept no results, holds no hill, and one is created over it.
+#[test]
+fn an_earlier_hill_is_none(rt: HostRuntime) -> Result<(), Fail> {
+    let mut device = device_of_two(&rt, rt.alloc())?;
+    for n in 0..2 {
+        let mut content = sector(&mut device, n)?;
+        content[7] = b'0';
+        put(&mut device, n, &content)?;
+    }
+    let device = match Store::open(rt.alloc(), device) {
+        Ok(_) => return Err("it holds no hill".into()),
+        Err((device, refusal)) => {
+            assert_eq!(rt; refusal, Refusal::NotAHill);
+            device
+        }
+    };
+    let store = created(rt.alloc(), device)?;
+    assert_eq!(rt; store.rows()?.len(), 0);
+    Ok(())
+}
