@@ -41,6 +41,10 @@ fn instructions_and_their_bytes(rt: HostRuntime) {
     for (instr, bytes) in rows {
         assert_eq!(rt; instr.to_bytes(), bytes);
         assert_eq!(rt; Instr::from_bytes(&bytes, 8000), Some(instr));
+        assert_eq!(rt; instr.op.code(), bytes[0]);
+        assert_eq!(rt; instr.modifier.code(), bytes[1]);
+        assert_eq!(rt; instr.a_mode.code(), bytes[2]);
+        assert_eq!(rt; instr.b_mode.code(), bytes[3]);
     }
 }
 

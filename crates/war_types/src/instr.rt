@@ -29,7 +29,7 @@ impl Op {
     ghost use Rattle.war_types.specs.Bytes.{op_code};
 
     /// The operation's number, from 0 on in the order of the type.
-    fn code(self) -> u8
+    pub fn code(self) -> u8
         ensures { result ≡ op_code self }
     {
         match self {
@@ -95,7 +95,7 @@ impl Modifier {
     ghost use Rattle.war_types.specs.Bytes.{modifier_code};
 
     /// The modifier's number, from 0 on in the order of the type.
-    fn code(self) -> u8
+    pub fn code(self) -> u8
         ensures { result ≡ modifier_code self }
     {
         match self {
@@ -152,7 +152,7 @@ impl Mode {
     ghost use Rattle.war_types.specs.Bytes.{mode_code};
 
     /// The mode's number, from 0 on in the order of the type.
-    fn code(self) -> u8
+    pub fn code(self) -> u8
         ensures { result ≡ mode_code self }
     {
         match self {
