@@ -1,6 +1,8 @@
 -- Turns keep the settings, and matches count their rounds.
-use Rattle.std.proofs.Common.{◌≡◌, ◌∙◌, ℕ, zero, suc, Bool, true, false, refl, ap, ap₂, arith}
+use Rattle.std.proofs.Common.{◌≡◌, ◌∙◌, ℕ, ◌+◌, zero, suc, Bool, true, false, List, map, cond, refl, sym, ap, ap₂, arith, add-one}
 use Rattle.std.specs.Prelude.{if◌then◌else◌}
+use Rattle.std.specs.List.{range_with_len}
+use Rattle.std.proofs.lemmas.List.FromFn.{sum_by-map-range_with_len_more}
 use Rattle.war_types.specs.declared.settings.RawSettings.{RawSettings}
 use Rattle.war_types.specs.Warrior.{WarriorParts}
 use Rattle.mars_core.specs.declared.round.Side.{Side}
@@ -9,7 +11,7 @@ use Rattle.mars_core.specs.declared.round.Outcome.{Outcome}
 use Rattle.mars_core.specs.declared.round.Outcome.TheVariants as outcomes
 use Rattle.mars_core.specs.Round.{Round, is_over, turn_of, after_side, after_turn, after_turns}
 use Rattle.koth_match.specs.declared.bout.Bout.{Bout}
-use Rattle.koth_match.specs.Match.{bout_before, counted, first_in, outcome_at, round_outcome, rounds_in}
+use Rattle.koth_match.specs.Match.{bout_before, match_of, counted, first_in, outcome_at, round_outcome, round_outcomes, rounds_in, is_outcome, times, AreCounts}
 use Rattle.koth_match.specs.Seeds.{place, seed_of_round}
 
 after_side-settings : (m : Side) (r : Round) → (after_side m (turn_of r).core (turn_of r).queue r).settings ≡ r.settings
@@ -40,6 +42,38 @@ pub bout_before-rounds : (s : RawSettings) (older younger : WarriorParts) (n : �
 bout_before-rounds s older younger zero = refl
 bout_before-rounds s older younger (suc n) =
     counted-rounds (round_outcome s older younger n) (bout_before s older younger n) ∙ ap suc (bout_before-rounds s older younger n)
+
+-- with one round more that ends so
+AreCounts-more : (ends more : List Outcome) (o : Outcome) (b : Bout) → AreCounts ends b → ((x : Outcome) → times x more ≡ times x ends + cond (is_outcome x o) 1 0) →
+    AreCounts more (counted o b)
+AreCounts-more ends more outcomes.First b are e = record {
+  older_wins = omega (arith, are.older_wins, e outcomes.First);
+  younger_wins = omega (arith, are.younger_wins, e outcomes.Second);
+  ties = omega (arith, are.ties, e outcomes.Tie);
+}
+AreCounts-more ends more outcomes.Second b are e = record {
+  older_wins = omega (arith, are.older_wins, e outcomes.First);
+  younger_wins = omega (arith, are.younger_wins, e outcomes.Second);
+  ties = omega (arith, are.ties, e outcomes.Tie);
+}
+AreCounts-more ends more outcomes.Tie b are e = record {
+  older_wins = omega (arith, are.older_wins, e outcomes.First);
+  younger_wins = omega (arith, are.younger_wins, e outcomes.Second);
+  ties = omega (arith, are.ties, e outcomes.Tie);
+}
+
+-- round after round, how many of them end so
+bout_before-counts : (s : RawSettings) (older younger : WarriorParts) (n : ℕ) → AreCounts (map (round_outcome s older younger) (range_with_len 0 n)) (bout_before s older younger n)
+bout_before-counts s older younger zero = record { older_wins = refl; younger_wins = refl; ties = refl }
+bout_before-counts s older younger (suc n) =
+    let f = round_outcome s older younger in
+    let ends : ℕ → List Outcome = λ k. map f (range_with_len 0 k) in
+    AreCounts-more (ends n) (ends (suc n)) (f n) (bout_before s older younger n) (bout_before-counts s older younger n)
+    (λ x. ap (λ k. times x (ends k)) (sym (add-one n)) ∙ sum_by-map-range_with_len_more (λ o. cond (is_outcome x o) 1 0) f 0 n n (omega arith))
+
+pub match_of-counts : (s : RawSettings) (older younger : WarriorParts) → AreCounts (round_outcomes s older younger) (match_of s older younger)
+unfolding match_of
+match_of-counts s older younger = bout_before-counts s older younger s.rounds
 
 -- counts that are those of so many rounds
 module _ (s : RawSettings) (older younger : WarriorParts) (b : Bout) (n : ℕ) (counts : b ≡ bout_before s older younger n) where

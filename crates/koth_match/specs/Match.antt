@@ -1,5 +1,7 @@
--- A match of two warriors: so many rounds, of which each side may win some and the others are ties (scores are counted as pMARS does; who moves first is this project's own).
-use Rattle.std.specs.Prelude.{ℕ, zero, suc, ◌+◌, ◌*◌, ◌%◌, ◌==◌, if◌then◌else◌}
+-- A match of two warriors: so many rounds, of which each side may win some and the others are ties (scores are counted as
+-- pMARS does; who moves first is this project's own).
+use Rattle.std.specs.Prelude.{ℕ, zero, suc, ◌+◌, ◌*◌, ◌%◌, ◌≡◌, ◌==◌, Bool, true, false, if◌then◌else◌, List, map, count_by}
+use Rattle.std.specs.List.{range_with_len}
 use Rattle.war_types.specs.declared.settings.RawSettings.{RawSettings}
 use Rattle.war_types.specs.Warrior.{WarriorParts}
 use Rattle.mars_core.specs.declared.round.Side.{Side}
@@ -43,3 +45,23 @@ bout_before s older younger (suc n) = counted (round_outcome s older younger n) 
 -- the counts over all rounds of the settings
 unfoldable pub match_of : RawSettings → WarriorParts → WarriorParts → Bout
 match_of s older younger = bout_before s older younger s.rounds
+
+-- how each round ends, in their order
+abbrev pub round_outcomes : RawSettings → WarriorParts → WarriorParts → List Outcome
+round_outcomes s older younger = map (round_outcome s older younger) (range_with_len 0 s.rounds)
+
+abbrev pub is_outcome : Outcome → Outcome → Bool
+is_outcome outcomes.First outcomes.First = true
+is_outcome outcomes.Second outcomes.Second = true
+is_outcome outcomes.Tie outcomes.Tie = true
+is_outcome o other = false
+
+-- how many rounds end so
+abbrev pub times : Outcome → List Outcome → ℕ
+times o ends = count_by (is_outcome o) ends
+
+-- the counts are how many of these rounds the older warrior wins, the younger wins, and neither wins
+pub record AreCounts (ends : List Outcome) (b : Bout) : Type 0 where
+  pub older_wins : b.older_wins ≡ times outcomes.First ends
+  pub younger_wins : b.younger_wins ≡ times outcomes.Second ends
+  pub ties : b.ties ≡ times outcomes.Tie ends

@@ -3,7 +3,7 @@
 ghost use Rattle.std.specs.Prelude.{◌≡◌};
 ghost use Rattle.war_types.specs.Warrior.{Fits};
 ghost use Rattle.mars_core.specs.Round.{CanBegin, opening, outcome, after_turns};
-ghost use Rattle.koth_match.specs.Match.{first_in, match_of, outcome_at, rounds_in};
+ghost use Rattle.koth_match.specs.Match.{first_in, match_of, outcome_at, round_outcomes, rounds_in, AreCounts};
 
 use crate::bout::Bout;
 use crate::seeds::{next_seed, position};
@@ -12,7 +12,8 @@ use std::alloc::Allocator;
 use war_types::{Settings, Warrior};
 
 /// Plays all rounds of a match, as many as the settings have, and counts how they end. The older warrior is
-/// loaded at address 0 in each of them. No memory is taken.
+/// loaded at address 0 in each of them. No memory is taken. (Never inlined: `bench/matches` counts its calls in the program.)
+#[inline(never)]
 pub fn fight<A: Allocator, B: Allocator, C: Allocator>(
     arena: &mut Arena<A>,
     older: &Warrior<B>,
@@ -23,6 +24,7 @@ pub fn fight<A: Allocator, B: Allocator, C: Allocator>(
     requires older { Fits settings.now older.now }
     requires younger { Fits settings.now younger.now }
     ensures bout { result ≡ match_of settings.now older.now younger.now }
+    ensures counts { AreCounts (round_outcomes settings.now older.now younger.now) result }
     ensures rounds { rounds_in result ≡ settings.now.rounds }
     ensures settings { arena.new.settings ≡ arena.old.settings }
 {

@@ -1,6 +1,5 @@
 pub mod Rows
-pub mod Variants
-pub mod Windows
 pub mod Turns
+pub mod Marks
 pub mod Loads
-pub mod Writes
+pub mod Words

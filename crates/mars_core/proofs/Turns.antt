@@ -1,5 +1,5 @@
--- What turns keep and make, whatever the arena.
-use Rattle.std.proofs.Common.{◌≡◌, ℕ, ◌+◌, ◌-◌, ◌*◌, ◌<◌, ◌≤◌, suc, zero, Bool, true, false, ◌||◌, leb, List, [], ◌∷◌, ◌++◌, length, take, All, refl, sym, ap, ◌∙◌, subst, arith}
+-- What turns make of a round and of its sides' queues, for `turns` and the arena.
+use Rattle.std.proofs.Common.{◌≡◌, ℕ, ◌+◌, ◌-◌, ◌*◌, ◌<◌, ◌≤◌, suc, zero, Bool, true, false, ◌||◌, leb, List, [], ◌∷◌, ◌++◌, length, take, All, Some, refl, sym, ap, ap₂, ◌∙◌, subst, arith, append-nil, take_all}
 use Rattle.std.proofs.lemmas.List.{length-take}
 use Rattle.std.proofs.lemmas.List.Elements.{All-take, All-append, All-tail}
 use Rattle.std.proofs.lemmas.Bool.Decides.{nat_tests}
@@ -7,31 +7,121 @@ use Rattle.war_types.specs.declared.instr.Instr.{Instr}
 use Rattle.war_types.specs.declared.settings.RawSettings.{RawSettings}
 use Rattle.mars_core.specs.declared.round.Side.{Side}
 use Rattle.mars_core.specs.declared.round.Side.TheVariants as sides
-use Rattle.mars_core.specs.declared.round.Turned.{Turned}
 use Rattle.mars_core.specs.declared.round.Turned.TheVariants as turneds
-use Rattle.mars_core.specs.Queue.{Processes, processes, queued, behind_front, is_empty}
-use Rattle.mars_core.specs.Round.{Round, SideTurn, is_over, turn_of, after_side, side_turn, side_turned, after_turn, turned, after_turns, IsQueue}
+use Rattle.mars_core.specs.Effect.{Effect, queues}
+use Rattle.mars_core.specs.Queue.{Processes, processes, queued, front, behind_front}
+use Rattle.mars_core.specs.Round.{Round, SideTurn, executed, is_empty, is_over, turn_of, turned_by, after_side, side_turn, side_turned, after_turn, turned, after_turns, IsQueue}
 use Rattle.mars_core.specs.Arena.{round_in}
+use Rattle.mars_core.specs.Code.{other}
+
+-- of two queues the one of a side
+abbrev pub queue_at : Side → Processes → Processes → Processes
+queue_at sides.First first second = first
+queue_at sides.Second first second = second
+
+abbrev pub without_front : Processes → Processes
+without_front q = processes q.limit (behind_front q.addresses)
+
+-- a side's turn leaves of its own queue the processes behind the front one and what is queued behind them, and of the other's all
+pub record AreQueuesAfter (m : Side) (more : List ℕ) (first second first' second' : Processes) : Type 0 where
+  pub own : queue_at m first' second' ≡ queued (without_front (queue_at m first second)) more
+  pub others : queue_at (other m) first' second' ≡ queue_at (other m) first second
+
+-- that, with whether its own queue is empty then
+abbrev pub Moved : Side → List ℕ → Processes → Processes → Processes → Processes → Bool → Type 0
+Moved m more first second first' second' empty = AreQueuesAfter m more first second first' second' × (is_empty (queue_at m first' second').addresses ≡ empty)
+
+pub first_moves : (m : Side) (more : List ℕ) (first second first' second' : Processes) (empty : Bool) → m ≡ sides.First → first' ≡ queued (without_front first) more → second' ≡ second → is_empty first'.addresses ≡ empty →
+    Moved m more first second first' second' empty
+first_moves m more first second first' second' empty is own others e = subst (λ (m : Side). Moved m more first second first' second' empty) (sym is) (record { own = own; others = others }, e)
+
+pub second_moves : (m : Side) (more : List ℕ) (first second first' second' : Processes) (empty : Bool) → m ≡ sides.Second → second' ≡ queued (without_front second) more → first' ≡ first → is_empty second'.addresses ≡ empty →
+    Moved m more first second first' second' empty
+second_moves m more first second first' second' empty is own others e = subst (λ (m : Side). Moved m more first second first' second' empty) (sym is) (record { own = own; others = others }, e)
+
+-- the front process of the side to move
+pub first_front : (m : Side) (first second : Processes) (pc n : ℕ) → m ≡ sides.First → front first.addresses ≡ Some n → pc ≡ n → front (queue_at m first second).addresses ≡ Some pc
+first_front m first second pc n is f e = ap (λ (m : Side). front (queue_at m first second).addresses) is ∙ (f ∙ ap Some (sym e))
+
+pub second_front : (m : Side) (first second : Processes) (pc n : ℕ) → m ≡ sides.Second → front second.addresses ≡ Some n → pc ≡ n → front (queue_at m first second).addresses ≡ Some pc
+second_front m first second pc n is f e = ap (λ (m : Side). front (queue_at m first second).addresses) is ∙ (f ∙ ap Some (sym e))
+
+behind_front-short : (xs : List ℕ) (limit : ℕ) → length xs ≤ limit → length (behind_front xs) ≤ limit
+behind_front-short [] limit h = h
+behind_front-short (x ∷ xs) limit h = omega arith
+
+-- where nothing is queued, the processes behind the front one are left
+pub queued_nothing : (q p : Processes) → length q.addresses ≤ q.limit → p ≡ without_front q → p ≡ queued (without_front q) []
+queued_nothing q p room e =
+    let rest = behind_front q.addresses in
+    let short : length (rest ++ []) ≤ q.limit = rw append-nil (behind_front-short q.addresses q.limit room) in
+    e ∙ ap (processes q.limit) (sym (take_all q.limit (rest ++ []) short ∙ append-nil rest))
 
 IsQueue-behind : (size limit : ℕ) (queue : List ℕ) → IsQueue size limit queue → IsQueue size limit (behind_front queue)
 IsQueue-behind size limit [] h = h
 IsQueue-behind size limit (x ∷ xs) h = record { room = omega (arith, h.room); addresses = All-tail (λ a. a < size) x xs h.addresses }
 
--- a queue without its front is one
-pub IsQueue-popped : (size : ℕ) (q p : Processes) → IsQueue size q.limit q.addresses → p ≡ processes q.limit (behind_front q.addresses) → IsQueue size p.limit p.addresses
-IsQueue-popped size q p h e =
-    let P : Processes → Type 0 = λ p. IsQueue size p.limit p.addresses in
-    subst P (sym e) (IsQueue-behind size q.limit q.addresses h)
-
--- and with more behind it, as far as there is room
-pub IsQueue-queued : (size : ℕ) (q p : Processes) (more : List ℕ) → IsQueue size q.limit q.addresses → All (λ a. a < size) more → p ≡ queued q more → IsQueue size p.limit p.addresses
+IsQueue-queued : (size : ℕ) (q p : Processes) (more : List ℕ) → IsQueue size q.limit q.addresses → All (λ a. a < size) more → p ≡ queued (without_front q) more → IsQueue size p.limit p.addresses
 IsQueue-queued size q p more h m e =
+    let rest = behind_front q.addresses in
     let P : Processes → Type 0 = λ p. IsQueue size p.limit p.addresses in
-    let short : length (take q.limit (q.addresses ++ more)) ≤ q.limit = omega (arith, length-take q.limit (q.addresses ++ more)) in
+    let short : length (take q.limit (rest ++ more)) ≤ q.limit = omega (arith, length-take q.limit (rest ++ more)) in
     subst P (sym e) (record {
       room = short;
-      addresses = All-take (λ a. a < size) q.limit (q.addresses ++ more) (All-append (λ a. a < size) q.addresses more h.addresses m);
+      addresses = All-take (λ a. a < size) q.limit (rest ++ more) (All-append (λ a. a < size) rest more (IsQueue-behind size q.limit q.addresses h).addresses m);
     })
+
+-- what a side's turn keeps of both queues
+pub queues_kept : (size : ℕ) (m : Side) (more : List ℕ) (first second first' second' : Processes) → IsQueue size first.limit first.addresses → IsQueue size second.limit second.addresses → All (λ a. a < size) more →
+    AreQueuesAfter m more first second first' second' → IsQueue size first'.limit first'.addresses × IsQueue size second'.limit second'.addresses
+queues_kept size sides.First more first second first' second' f g m h =
+    (IsQueue-queued size first first' more f m h.own, subst (λ (p : Processes). IsQueue size p.limit p.addresses) (sym h.others) g)
+queues_kept size sides.Second more first second first' second' f g m h =
+    (subst (λ (p : Processes). IsQueue size p.limit p.addresses) (sym h.others) f, IsQueue-queued size second second' more g m h.own)
+
+pub limits_kept : (m : Side) (more : List ℕ) (first second first' second' : Processes) → AreQueuesAfter m more first second first' second' → (first'.limit ≡ first.limit) × (second'.limit ≡ second.limit)
+limits_kept sides.First more first second first' second' h = (ap (λ (p : Processes). p.limit) h.own, ap (λ (p : Processes). p.limit) h.others)
+limits_kept sides.Second more first second first' second' h = (ap (λ (p : Processes). p.limit) h.others, ap (λ (p : Processes). p.limit) h.own)
+
+-- where the side's own queue has a process left, both still have one
+pub both_live : (m : Side) (more : List ℕ) (first second first' second' : Processes) → is_empty first.addresses ≡ false → is_empty second.addresses ≡ false → AreQueuesAfter m more first second first' second' →
+    is_empty (queue_at m first' second').addresses ≡ false → (is_empty first'.addresses ≡ false) × (is_empty second'.addresses ≡ false)
+both_live sides.First more first second first' second' f g h own = (own, ap (λ (p : Processes). is_empty p.addresses) h.others ∙ g)
+both_live sides.Second more first second first' second' f g h own = (ap (λ (p : Processes). is_empty p.addresses) h.others ∙ f, own)
+
+-- what `is_over` says, by its parts
+is_over-no : (a b : Bool) (m n : ℕ) → a ≡ false → b ≡ false → n < m → (a || b || leb m n) ≡ false
+is_over-no true b m n ea eb h = cc
+is_over-no false true m n ea eb h = cc
+is_over-no false false m n ea eb h = grind (arith, nat_tests)
+
+is_over-parts : (a b : Bool) (m n : ℕ) → (a || b || leb m n) ≡ false → (a ≡ false) × (b ≡ false) × (n < m)
+is_over-parts true true m n h = cc
+is_over-parts true false m n h = cc
+is_over-parts false true m n h = cc
+is_over-parts false false m n h = (refl, refl, grind (arith, nat_tests))
+
+is_over-first : (a b c : Bool) → a ≡ true → (a || b || c) ≡ true
+is_over-first a b c e = rw e refl
+
+is_over-second : (a b c : Bool) → b ≡ true → (a || b || c) ≡ true
+is_over-second true b c e = refl
+is_over-second false b c e = rw e refl
+
+is_over-used : (a b : Bool) (m n : ℕ) → m ≤ n → (a || b || leb m n) ≡ true
+is_over-used true b m n h = refl
+is_over-used false true m n h = refl
+is_over-used false false m n h = grind (arith, nat_tests)
+
+-- a round that is not over: both sides have a process, and not all turns are used
+pub both_sides_live : (r : Round) → is_over r ≡ false → (is_empty r.first ≡ false) × (is_empty r.second ≡ false) × (r.used < 2 * r.settings.cycles)
+both_sides_live r o = is_over-parts (is_empty r.first) (is_empty r.second) (2 * r.settings.cycles) r.used o
+
+-- a round is over where the queue of a side is empty
+pub over-empty : (m : Side) (s : RawSettings) (core : List Instr) (first second : Processes) (next : Side) (used : ℕ) → is_empty (queue_at m first second).addresses ≡ true →
+    is_over (round_in s core first.addresses second.addresses next used) ≡ true
+over-empty sides.First s core first second next used e = is_over-first (is_empty first.addresses) (is_empty second.addresses) (leb (2 * s.cycles) used) e
+over-empty sides.Second s core first second next used e = is_over-second (is_empty first.addresses) (is_empty second.addresses) (leb (2 * s.cycles) used) e
 
 pub turned-over : (r : Round) (over : Bool) → over ≡ is_over r → over ≡ true → turneds.Over ≡ turned r
 unfolding turned
@@ -49,42 +139,72 @@ after_turn-on : (r : Round) (t : SideTurn) → is_over r ≡ false → turn_of r
 unfolding after_turn
 after_turn-on r t o e = rw o (sym (ap (λ x. after_side r.to_move x.core x.queue r) e))
 
--- a side's turn in an arena, seen by its parts
-module _ (s : RawSettings) (core : List Instr) (first second : Processes) (used size : ℕ) (r : Round) (over : Bool) (core' : List Instr) (queue : Processes) (t : Turned)
-    (o : over ≡ is_over r) (goes : over ≡ false) (z : size ≡ s.core) where
-  module _ (m : Side) (side : m ≡ sides.First) (view : round_in s core first second m used ≡ r) (limit : first.limit ≡ s.processes)
-      (turn : side_turn size first.limit core first.addresses ≡ side_turned core' queue.addresses t) where
-    at_first : round_in s core first second sides.First used ≡ r
-    at_first = ap (λ m. round_in s core first second m used) (sym side) ∙ view
+side_turn-front : (size limit pc : ℕ) (core core' : List Instr) (queue more : List ℕ) → front queue ≡ Some pc → executed size core pc ≡ queues core' more →
+    side_turn size limit core queue ≡ side_turned core' (take limit (behind_front queue ++ more)) (turned_by more)
+unfolding side_turn
+side_turn-front size limit pc core core' [] more f e = cc
+side_turn-front size limit pc core core' (x ∷ rest) more f e =
+    let same : x ≡ pc = cc in
+    ap (λ (done : Effect). side_turned done.core (take limit (rest ++ done.queued)) (turned_by done.queued)) (ap (executed size core) same ∙ e)
 
-    first-turn : turn_of (round_in s core first second sides.First used) ≡ side_turned core' queue.addresses t
-    first-turn = rw (z, limit) at turn
+-- the turn of the side to move, by the front of its queue
+turn_of-front : (m : Side) (s : RawSettings) (size pc used : ℕ) (core core' : List Instr) (first second : Processes) (more : List ℕ) → s.core ≡ size → s.processes ≡ first.limit → s.processes ≡ second.limit →
+    front (queue_at m first second).addresses ≡ Some pc → executed size core pc ≡ queues core' more →
+    turn_of (round_in s core first.addresses second.addresses m used) ≡ side_turned core' (queued (without_front (queue_at m first second)) more).addresses (turned_by more)
+turn_of-front sides.First s size pc used core core' first second more z l1 l2 f e =
+    ap₂ (λ (a b : ℕ). side_turn a b core first.addresses) z l1 ∙ side_turn-front size first.limit pc core core' first.addresses more f e
+turn_of-front sides.Second s size pc used core core' first second more z l1 l2 f e =
+    ap₂ (λ (a b : ℕ). side_turn a b core second.addresses) z l2 ∙ side_turn-front size second.limit pc core core' second.addresses more f e
 
-    first-goes : is_over (round_in s core first second sides.First used) ≡ false
-    first-goes = ap is_over at_first ∙ (sym o ∙ goes)
+after_side-queues : (m : Side) (s : RawSettings) (used : ℕ) (core core' : List Instr) (more : List ℕ) (first second first' second' : Processes) → AreQueuesAfter m more first second first' second' →
+    after_side m core' (queued (without_front (queue_at m first second)) more).addresses (round_in s core first.addresses second.addresses m used) ≡ round_in s core' first'.addresses second'.addresses (other m) (used + 1)
+after_side-queues sides.First s used core core' more first second first' second' h =
+    ap₂ (λ (a b : Processes). round_in s core' a.addresses b.addresses sides.Second (used + 1)) (sym h.own) (sym h.others)
+after_side-queues sides.Second s used core core' more first second first' second' h =
+    ap₂ (λ (a b : Processes). round_in s core' a.addresses b.addresses sides.First (used + 1)) (sym h.others) (sym h.own)
 
-    pub turned-first : t ≡ turned r
-    turned-first = turned-on (round_in s core first second sides.First used) (side_turned core' queue.addresses t) first-goes first-turn ∙ ap turned at_first
+after_turns-suc : (m n : ℕ) (r : Round) → m ≡ suc n → after_turns n (after_turn r) ≡ after_turns m r
+unfolding after_turns
+after_turns-suc m n r e = rw e refl
 
-    pub after_turn-first : round_in s core' queue second sides.Second (used + 1) ≡ after_turn r
-    after_turn-first = after_turn-on (round_in s core first second sides.First used) (side_turned core' queue.addresses t) first-goes first-turn ∙ ap after_turn at_first
+-- one turn of two sides that have processes
+module _ (m : Side) (s : RawSettings) (size pc : ℕ) (core core' : List Instr) (first second first' second' : Processes) (more : List ℕ)
+    (z : s.core ≡ size) (l1 : s.processes ≡ first.limit) (l2 : s.processes ≡ second.limit) (lives1 : is_empty first.addresses ≡ false) (lives2 : is_empty second.addresses ≡ false)
+    (at_front : front (queue_at m first second).addresses ≡ Some pc) (done : executed size core pc ≡ queues core' more) (after : AreQueuesAfter m more first second first' second') where
+  goes-on : (used : ℕ) → used < 2 * s.cycles → is_over (round_in s core first.addresses second.addresses m used) ≡ false
+  goes-on used h = is_over-no (is_empty first.addresses) (is_empty second.addresses) (2 * s.cycles) used lives1 lives2 h
 
-  module _ (m : Side) (side : m ≡ sides.Second) (view : round_in s core first second m used ≡ r) (limit : second.limit ≡ s.processes)
-      (turn : side_turn size second.limit core second.addresses ≡ side_turned core' queue.addresses t) where
-    at_second : round_in s core first second sides.Second used ≡ r
-    at_second = ap (λ m. round_in s core first second m used) (sym side) ∙ view
+  pub turned-made : (used : ℕ) → used < 2 * s.cycles → turned_by more ≡ turned (round_in s core first.addresses second.addresses m used)
+  turned-made used h =
+      turned-on (round_in s core first.addresses second.addresses m used) (side_turned core' (queued (without_front (queue_at m first second)) more).addresses (turned_by more))
+      (goes-on used h) (turn_of-front m s size pc used core core' first second more z l1 l2 at_front done)
 
-    second-turn : turn_of (round_in s core first second sides.Second used) ≡ side_turned core' queue.addresses t
-    second-turn = rw (z, limit) at turn
+  after_turn-made : (used : ℕ) → used < 2 * s.cycles → after_turn (round_in s core first.addresses second.addresses m used) ≡ round_in s core' first'.addresses second'.addresses (other m) (used + 1)
+  after_turn-made used h =
+      sym (after_turn-on (round_in s core first.addresses second.addresses m used) (side_turned core' (queued (without_front (queue_at m first second)) more).addresses (turned_by more))
+      (goes-on used h) (turn_of-front m s size pc used core core' first second more z l1 l2 at_front done))
+      ∙ after_side-queues m s used core core' more first second first' second' after
 
-    second-goes : is_over (round_in s core first second sides.Second used) ≡ false
-    second-goes = ap is_over at_second ∙ (sym o ∙ goes)
+  -- it is the first of those that are left
+  pub after_turns-made : (used most left : ℕ) → used + most ≤ 2 * s.cycles → 0 < left → left ≤ most →
+      after_turns (left - 1) (round_in s core' first'.addresses second'.addresses (other m) (used + (most - (left - 1))))
+      ≡ after_turns left (round_in s core first.addresses second.addresses m (used + (most - left)))
+  after_turns-made used most left bound some within =
+      let count : used + (most - (left - 1)) ≡ used + (most - left) + 1 = omega arith in
+      let inside : used + (most - left) < 2 * s.cycles = omega arith in
+      let fewer : left ≡ suc (left - 1) = omega arith in
+      ap (λ (n : ℕ). after_turns (left - 1) (round_in s core' first'.addresses second'.addresses (other m) n)) count
+      ∙ (ap (after_turns (left - 1)) (sym (after_turn-made (used + (most - left)) inside))
+      ∙ after_turns-suc left (left - 1) (round_in s core first.addresses second.addresses m (used + (most - left))) fewer)
 
-    pub turned-second : t ≡ turned r
-    turned-second = turned-on (round_in s core first second sides.Second used) (side_turned core' queue.addresses t) second-goes second-turn ∙ ap turned at_second
+-- no turns are left
+pub after_turns-none : (left : ℕ) (round : ℕ → Round) → left ≡ 0 → after_turns left (round left) ≡ round 0
+unfolding after_turns
+after_turns-none left round e = ap (λ (n : ℕ). after_turns n (round n)) e
 
-    pub after_turn-second : round_in s core' first queue sides.First (used + 1) ≡ after_turn r
-    after_turn-second = after_turn-on (round_in s core first second sides.Second used) (side_turned core' queue.addresses t) second-goes second-turn ∙ ap after_turn at_second
+pub same_round : (s : RawSettings) (used : ℕ) (core core0 : List Instr) (first first0 second second0 : Processes) (m m0 : Side) → core ≡ core0 → first ≡ first0 → second ≡ second0 → m ≡ m0 →
+    round_in s core first.addresses second.addresses m used ≡ round_in s core0 first0.addresses second0.addresses m0 used
+same_round s used core core0 first first0 second second0 m m0 a b c d = rw (a, b, c, d) refl
 
 -- a round that is over stays as it is
 pub after_turns-over : (n : ℕ) (r : Round) → is_over r ≡ true → after_turns n r ≡ r
@@ -94,44 +214,34 @@ after_turns-over (suc n) r o =
     let same = after_turn-over r true (sym o) refl in
     ap (after_turns n) (sym same) ∙ after_turns-over n r o
 
-used-below : (a b : Bool) (m n : ℕ) → (a || b || leb m n) ≡ false → n < m
-used-below true true m n h = cc
-used-below true false m n h = cc
-used-below false true m n h = cc
-used-below false false m n h = grind (arith, nat_tests)
-
--- a turn of a round that is not over has not used them all
-pub is_over-left : (r : Round) → is_over r ≡ false → r.used < 2 * r.settings.cycles
-is_over-left r o = used-below (is_empty r.first) (is_empty r.second) (2 * r.settings.cycles) r.used o
+pub after_turns-one : (r : Round) → after_turns 1 r ≡ after_turn r
+unfolding after_turns
+after_turns-one r = refl
 
 after_side-kept : (m : Side) (core : List Instr) (queue : List ℕ) (r : Round) → ((after_side m core queue r).settings ≡ r.settings) × ((after_side m core queue r).used ≡ r.used + 1)
 after_side-kept sides.First core queue r = (refl, refl)
 after_side-kept sides.Second core queue r = (refl, refl)
 
--- it keeps the settings, and uses one turn
-pub after_turn-kept : (r : Round) → is_over r ≡ false → ((after_turn r).settings ≡ r.settings) × ((after_turn r).used ≡ r.used + 1)
+-- a turn keeps the settings, and uses one turn
+after_turn-kept : (r : Round) → is_over r ≡ false → ((after_turn r).settings ≡ r.settings) × ((after_turn r).used ≡ r.used + 1)
 unfolding after_turn
 after_turn-kept r o = rw o (after_side-kept r.to_move (turn_of r).core (turn_of r).queue r)
 
-after_turns-suc : (m n : ℕ) (r : Round) → m ≡ suc n → after_turns n (after_turn r) ≡ after_turns m r
+by_over : {X : Type 0} → (b : Bool) → (b ≡ true → X) → (b ≡ false → X) → X
+by_over true over goes = over refl
+by_over false over goes = goes refl
+
+-- after all turns that are left it is over
+pub after_turns-end : (n : ℕ) (r : Round) → 2 * r.settings.cycles - r.used ≤ n → is_over (after_turns n r) ≡ true
 unfolding after_turns
-after_turns-suc m n r e = rw e refl
-
--- the turns that are left, from a round and after its turn
-pub after_turns-next : (r next : Round) → is_over r ≡ false → next ≡ after_turn r → after_turns (2 * next.settings.cycles - next.used) next ≡ after_turns (2 * r.settings.cycles - r.used) r
-after_turns-next r next o e =
+after_turns-end zero r h = is_over-used (is_empty r.first) (is_empty r.second) (2 * r.settings.cycles) r.used (omega arith)
+after_turns-end (suc n) r h =
+    by_over (is_over r)
+    (λ (o : is_over r ≡ true). ap is_over (after_turns-over (suc n) r o) ∙ o)
+    (λ (o : is_over r ≡ false).
     let kept = after_turn-kept r o in
-    let left = is_over-left r o in
-    let count : 2 * r.settings.cycles - r.used ≡ suc (2 * next.settings.cycles - next.used) =
-    let s : next.settings.cycles ≡ r.settings.cycles = ap (λ x. x.settings.cycles) e ∙ ap (λ x. x.cycles) kept.0 in
-    let u : next.used ≡ r.used + 1 = ap (λ x. x.used) e ∙ kept.1 in
+    let left : 2 * (after_turn r).settings.cycles - (after_turn r).used ≤ n =
+    let cycles : (after_turn r).settings.cycles ≡ r.settings.cycles = ap (λ (x : RawSettings). x.cycles) kept.0 in
+    let used : (after_turn r).used ≡ r.used + 1 = kept.1 in
     omega arith in
-    ap (after_turns (2 * next.settings.cycles - next.used)) e ∙ after_turns-suc _ _ r count
-
-pub after_turns-fewer : (r next : Round) → is_over r ≡ false → next ≡ after_turn r → 2 * next.settings.cycles - next.used < 2 * r.settings.cycles - r.used
-after_turns-fewer r next o e =
-    let kept = after_turn-kept r o in
-    let left = is_over-left r o in
-    let s : next.settings.cycles ≡ r.settings.cycles = ap (λ x. x.settings.cycles) e ∙ ap (λ x. x.cycles) kept.0 in
-    let u : next.used ≡ r.used + 1 = ap (λ x. x.used) e ∙ kept.1 in
-    omega arith
+    after_turns-end n (after_turn r) left)

@@ -5,8 +5,6 @@ use Rattle.war_types.specs.declared.instr.Modifier.TheVariants as modifiers
 use Rattle.war_types.specs.declared.instr.Mode.TheVariants as modes
 use Rattle.war_types.specs.declared.instr.Instr.{Instr}
 use Rattle.war_types.specs.Warrior.{HasNumbersBelow}
-use Rattle.mars_core.specs.declared.field.Field.{Field}
-use Rattle.mars_core.specs.declared.field.Field.TheVariants as fields
 
 -- what a cell holds that nothing was loaded into: DAT.F $0,$0
 abbrev pub blank : Instr
@@ -22,14 +20,18 @@ minus size m n = (m + (size - n)) % size
 abbrev pub cell : List Instr → ℕ → Instr
 cell core at = slice_index_or core at blank
 
--- the A number or the B number of an instruction
+-- one of the two numbers of an instruction
+pub data Field : Type 0 where
+  A : Field
+  B : Field
+
 abbrev pub number : Field → Instr → ℕ
-number fields.A i = i.a
-number fields.B i = i.b
+number Field.A i = i.a
+number Field.B i = i.b
 
 abbrev pub with_number : Field → ℕ → Instr → Instr
-with_number fields.A n i = record { op = i.op; modifier = i.modifier; a_mode = i.a_mode; a = n; b_mode = i.b_mode; b = i.b }
-with_number fields.B n i = record { op = i.op; modifier = i.modifier; a_mode = i.a_mode; a = i.a; b_mode = i.b_mode; b = n }
+with_number Field.A n i = record { op = i.op; modifier = i.modifier; a_mode = i.a_mode; a = n; b_mode = i.b_mode; b = i.b }
+with_number Field.B n i = record { op = i.op; modifier = i.modifier; a_mode = i.a_mode; a = i.a; b_mode = i.b_mode; b = n }
 
 -- an instruction with one of its numbers raised, or lowered, by 1
 abbrev pub raised : ℕ → Field → Instr → Instr

@@ -6,18 +6,11 @@ use Rattle.war_types.specs.declared.instr.Op.{Op}
 use Rattle.war_types.specs.declared.instr.Op.TheVariants as ops
 use Rattle.war_types.specs.declared.instr.Modifier.{Modifier}
 use Rattle.war_types.specs.declared.instr.Modifier.TheVariants as modifiers
-use Rattle.war_types.specs.declared.instr.Mode.{Mode}
-use Rattle.war_types.specs.declared.instr.Mode.TheVariants as modes
 use Rattle.war_types.specs.declared.instr.Instr.{Instr}
-use Rattle.mars_core.specs.declared.field.Field.{Field}
-use Rattle.mars_core.specs.declared.field.Pair.{Pair}
-use Rattle.mars_core.specs.declared.arithmetic.Arithmetic.{Arithmetic}
-use Rattle.mars_core.specs.declared.arithmetic.Arithmetic.TheVariants as arithmetics
-use Rattle.mars_core.specs.declared.effect.Queued.{Queued}
-use Rattle.mars_core.specs.declared.effect.Queued.TheVariants as queueds
-use Rattle.mars_core.specs.declared.operand.Operand.{Operand}
-use Rattle.mars_core.specs.Cells.{cell, number, with_number, lowered, plus, minus}
-use Rattle.mars_core.specs.Pairs.{pairs}
+use Rattle.war_types.specs.Bytes.{op_code, modifier_code, mode_code}
+use Rattle.mars_core.specs.Cells.{Field, cell, number, with_number, lowered, plus, minus}
+use Rattle.mars_core.specs.Pairs.{Pair, pairs}
+use Rattle.mars_core.specs.Operand.{Operand}
 
 -- MOV: each target field is the A register's field of its pair
 abbrev pub moved : List Pair → Instr → Instr → Instr
@@ -29,13 +22,21 @@ abbrev pub copied : Modifier → Instr → Instr → Instr
 copied modifiers.I a target = a
 copied modifier a target = moved (pairs modifier) a target
 
+-- what an operation makes of two numbers
+pub data Arithmetic : Type 0 where
+  Sum : Arithmetic
+  Difference : Arithmetic
+  Product : Arithmetic
+  Quotient : Arithmetic
+  Remainder : Arithmetic
+
 -- y, of the B operand, with x, of the A operand; nothing where y is to be divided by 0
 abbrev pub combined : ℕ → Arithmetic → ℕ → ℕ → Option ℕ
-combined size arithmetics.Sum y x = Some (plus size y x)
-combined size arithmetics.Difference y x = Some (minus size y x)
-combined size arithmetics.Product y x = Some ((y * x) % size)
-combined size arithmetics.Quotient y x = if x == 0 then None else Some (y / x)
-combined size arithmetics.Remainder y x = if x == 0 then None else Some (y % x)
+combined size Arithmetic.Sum y x = Some (plus size y x)
+combined size Arithmetic.Difference y x = Some (minus size y x)
+combined size Arithmetic.Product y x = Some ((y * x) % size)
+combined size Arithmetic.Quotient y x = if x == 0 then None else Some (y / x)
+combined size Arithmetic.Remainder y x = if x == 0 then None else Some (y % x)
 
 -- the value of a pair, by the registers
 abbrev pub value : ℕ → Arithmetic → Instr → Instr → Pair → Option ℕ
@@ -69,51 +70,13 @@ fall_to_zero size modifier b = list_all (λ p. minus size (number p.target b) 1 
 abbrev pub numbers_equal : Modifier → Instr → Instr → Bool
 numbers_equal modifier a b = list_all (λ p. number p.source a == number p.target b) (pairs modifier)
 
--- a number of its own for each operation, each modifier and each mode
-abbrev pub op_number : Op → ℕ
-op_number ops.Dat = 0
-op_number ops.Mov = 1
-op_number ops.Add = 2
-op_number ops.Sub = 3
-op_number ops.Mul = 4
-op_number ops.Div = 5
-op_number ops.Mdl = 6
-op_number ops.Jmp = 7
-op_number ops.Jmz = 8
-op_number ops.Jmn = 9
-op_number ops.Djn = 10
-op_number ops.Seq = 11
-op_number ops.Sne = 12
-op_number ops.Slt = 13
-op_number ops.Spl = 14
-op_number ops.Nop = 15
-
-abbrev pub modifier_number : Modifier → ℕ
-modifier_number modifiers.A = 0
-modifier_number modifiers.B = 1
-modifier_number modifiers.AB = 2
-modifier_number modifiers.BA = 3
-modifier_number modifiers.F = 4
-modifier_number modifiers.X = 5
-modifier_number modifiers.I = 6
-
-abbrev pub mode_number : Mode → ℕ
-mode_number modes.Immediate = 0
-mode_number modes.Direct = 1
-mode_number modes.AIndirect = 2
-mode_number modes.BIndirect = 3
-mode_number modes.APre = 4
-mode_number modes.BPre = 5
-mode_number modes.APost = 6
-mode_number modes.BPost = 7
-
 -- the same operation, modifier and modes
 abbrev pub kinds_equal : Instr → Instr → Bool
 kinds_equal a b =
-    op_number a.op == op_number b.op
-    && modifier_number a.modifier == modifier_number b.modifier
-    && mode_number a.a_mode == mode_number b.a_mode
-    && mode_number a.b_mode == mode_number b.b_mode
+    op_code a.op == op_code b.op
+    && modifier_code a.modifier == modifier_code b.modifier
+    && mode_code a.a_mode == mode_code b.a_mode
+    && mode_code a.b_mode == mode_code b.b_mode
 
 -- SEQ: all pairs are equal; under .I all else too
 abbrev pub are_equal : Modifier → Instr → Instr → Bool
@@ -160,11 +123,11 @@ calculates size pc arithmetic m a b core =
 abbrev pub by_op : ℕ → ℕ → Op → Modifier → Operand → Operand → List Instr → Effect
 by_op size pc ops.Dat m a b core = queues core []
 by_op size pc ops.Mov m a b core = queues (put b (copied m a.register (target b core)) core) (next size pc)
-by_op size pc ops.Add m a b core = calculates size pc arithmetics.Sum m a b core
-by_op size pc ops.Sub m a b core = calculates size pc arithmetics.Difference m a b core
-by_op size pc ops.Mul m a b core = calculates size pc arithmetics.Product m a b core
-by_op size pc ops.Div m a b core = calculates size pc arithmetics.Quotient m a b core
-by_op size pc ops.Mdl m a b core = calculates size pc arithmetics.Remainder m a b core
+by_op size pc ops.Add m a b core = calculates size pc Arithmetic.Sum m a b core
+by_op size pc ops.Sub m a b core = calculates size pc Arithmetic.Difference m a b core
+by_op size pc ops.Mul m a b core = calculates size pc Arithmetic.Product m a b core
+by_op size pc ops.Div m a b core = calculates size pc Arithmetic.Quotient m a b core
+by_op size pc ops.Mdl m a b core = calculates size pc Arithmetic.Remainder m a b core
 by_op size pc ops.Jmp m a b core = queues core (a.pointer ∷ [])
 by_op size pc ops.Jmz m a b core = queues core (jump_where size pc a (are_zero m b.register))
 by_op size pc ops.Jmn m a b core = queues core (jump_where size pc a (not (are_zero m b.register)))
@@ -178,9 +141,3 @@ by_op size pc ops.Nop m a b core = queues core (next size pc)
 
 unfoldable pub effect : ℕ → ℕ → Op → Modifier → Operand → Operand → List Instr → Effect
 effect size pc op m a b core = by_op size pc op m a b core
-
--- the addresses that the code names one by one
-abbrev pub addresses : Queued → List ℕ
-addresses queueds.Nothing = []
-addresses (queueds.One a) = a ∷ []
-addresses (queueds.Two a b) = a ∷ b ∷ []

@@ -1,7 +1,12 @@
+-- Cells and their numbers, the pairs of a modifier, the evaluation of an operand, what each operation does.
 pub mod Cells
 pub mod Pairs
 pub mod Operand
 pub mod Effect
-pub mod Queue
+-- Turns and rounds, and the round in an arena.
 pub mod Round
 pub mod Arena
+-- Of the code alone, for private contracts: what its values mean, the words of its cells, and the queues that it keeps.
+pub mod Code
+pub mod Words
+pub mod Queue

@@ -4,12 +4,14 @@ use Rattle.std.specs.Prelude.{ℕ, List, slice_set}
 use Rattle.war_types.specs.declared.instr.Mode.{Mode}
 use Rattle.war_types.specs.declared.instr.Mode.TheVariants as modes
 use Rattle.war_types.specs.declared.instr.Instr.{Instr}
-use Rattle.mars_core.specs.declared.field.Field.{Field}
-use Rattle.mars_core.specs.declared.field.Field.TheVariants as fields
-use Rattle.mars_core.specs.declared.operand.Operand.{Operand}
-use Rattle.mars_core.specs.Cells.{cell, number, plus, raised, lowered}
+use Rattle.mars_core.specs.Cells.{Field, cell, number, plus, raised, lowered}
 
--- what an operand comes to, the address that it points to and the instruction copied from there, and the core afterwards
+-- what an operand comes to: the address that it points to, and the instruction copied from there
+pub record Operand : Type 0 where
+  pub pointer : ℕ
+  pub register : Instr
+
+-- that, and the core afterwards
 pub record Evaluated : Type 0 where
   pub operand : Operand
   pub core : List Instr
@@ -50,12 +52,12 @@ postincremented size core at field = evaluated (indirect size core at field) (ra
 abbrev pub by_mode : ℕ → List Instr → ℕ → Mode → ℕ → Evaluated
 by_mode size core pc modes.Immediate at = evaluated (found core pc) core
 by_mode size core pc modes.Direct at = evaluated (found core at) core
-by_mode size core pc modes.AIndirect at = evaluated (indirect size core at fields.A) core
-by_mode size core pc modes.BIndirect at = evaluated (indirect size core at fields.B) core
-by_mode size core pc modes.APre at = predecremented size core at fields.A
-by_mode size core pc modes.BPre at = predecremented size core at fields.B
-by_mode size core pc modes.APost at = postincremented size core at fields.A
-by_mode size core pc modes.BPost at = postincremented size core at fields.B
+by_mode size core pc modes.AIndirect at = evaluated (indirect size core at Field.A) core
+by_mode size core pc modes.BIndirect at = evaluated (indirect size core at Field.B) core
+by_mode size core pc modes.APre at = predecremented size core at Field.A
+by_mode size core pc modes.BPre at = predecremented size core at Field.B
+by_mode size core pc modes.APost at = postincremented size core at Field.A
+by_mode size core pc modes.BPost at = postincremented size core at Field.B
 
 unfoldable pub operand : ℕ → List Instr → ℕ → Mode → ℕ → Evaluated
 operand size core pc mode number = by_mode size core pc mode (plus size pc number)

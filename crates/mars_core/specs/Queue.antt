@@ -1,5 +1,7 @@
--- A queue of processes: what a buffer holds of it, and its steps on a list of addresses.
-use Rattle.std.specs.Prelude.{ℕ, ◌<◌, ◌≤◌, Bool, true, false, List, [], ◌∷◌, ◌++◌, take, drop, Some, None, Option}
+-- Of the code alone: the queue that it keeps for a side, its steps on a list of addresses, and the parts that hold it. No definition of
+-- turns and rounds names a word of this file.
+use Rattle.std.specs.Prelude.{◌≡◌, ℕ, ◌+◌, ◌<◌, ◌≤◌, Bool, true, false, List, [], ◌∷◌, ◌++◌, length, take, Some, None, Option}
+use Rattle.circular_buffer.specs.Buffer.{Buffer}
 
 -- a queue is its addresses, front first, and how many it may hold
 pub record Processes : Type 0 where
@@ -13,10 +15,6 @@ processes limit addresses = record { limit = limit; addresses = addresses }
 abbrev pub queued : Processes → List ℕ → Processes
 queued q more = processes q.limit (take q.limit (q.addresses ++ more))
 
-abbrev pub is_empty : List ℕ → Bool
-is_empty [] = true
-is_empty (x ∷ xs) = false
-
 abbrev pub front : List ℕ → Option ℕ
 front [] = None
 front (x ∷ xs) = Some x
@@ -25,12 +23,14 @@ abbrev pub behind_front : List ℕ → List ℕ
 behind_front [] = []
 behind_front (x ∷ xs) = xs
 
--- n places of a buffer from place k on, around its end
-abbrev pub window : ℕ → ℕ → List ℕ → List ℕ
-window k n places = take n (drop k places ++ take k places)
+-- the processes in a front place, where one is there, and in a ring of those behind it; the front is one more than the ring may hold
+abbrev pub processes_in : Bool → ℕ → Buffer ℕ → Processes
+processes_in false front rest = processes (rest.capacity + 1) []
+processes_in true front rest = processes (rest.capacity + 1) (front ∷ rest.items)
 
--- where a queue lies in so many places
-pub record IsRing (start n limit : ℕ) : Type 0 where
-  pub head : start < limit
-  pub len : n ≤ limit
-  pub small : limit ≤ 65535
+-- what holds of the parts of a queue: where no process is in front, none is behind it
+pub record AreQueueParts (has_front : Bool) (front : ℕ) (rest : Buffer ℕ) : Type 0 where
+  pub none : has_front ≡ false → rest.items ≡ []
+  pub address : front ≤ 65535
+  pub room : length rest.items ≤ rest.capacity
+  pub small : rest.capacity < 65535

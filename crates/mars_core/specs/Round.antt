@@ -11,7 +11,6 @@ use Rattle.mars_core.specs.declared.round.Turned.TheVariants as turneds
 use Rattle.mars_core.specs.declared.round.Outcome.{Outcome}
 use Rattle.mars_core.specs.declared.round.Outcome.TheVariants as outcomes
 use Rattle.mars_core.specs.Cells.{IsCore, blank, cell}
-use Rattle.mars_core.specs.Queue.{is_empty}
 use Rattle.mars_core.specs.Operand.{operand}
 use Rattle.mars_core.specs.Effect.{Effect, effect}
 
@@ -31,6 +30,10 @@ pub record Round : Type 0 where
   pub second : List ℕ
   pub to_move : Side
   pub used : ℕ
+
+abbrev pub is_empty : List ℕ → Bool
+is_empty [] = true
+is_empty (x ∷ xs) = false
 
 -- a queue is empty, or both sides have had their cycles
 abbrev pub is_over : Round → Bool

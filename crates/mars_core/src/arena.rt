@@ -1,14 +1,14 @@
 //! The arena in which rounds are played.
 
-ghost use Rattle.std.specs.Prelude.{◌≡◌, ◌-◌, ◌*◌, ◌≤◌, Bool, true, false, Option, length, slice_get, IfOk};
-ghost use Rattle.mars_core.specs.Queue.{is_empty};
-ghost use Rattle.mars_core.specs.Round.{is_over, queue_of, after_turn, turned, after_turns, outcome, fresh, opening, IsRound, CanBegin};
+ghost use Rattle.std.specs.Prelude.{◌≡◌, ◌+◌, ◌-◌, ◌*◌, ◌≤◌, Bool, true, false, Option, length, slice_get, IfOk};
+ghost use Rattle.mars_core.specs.Round.{is_empty, is_over, queue_of, after_turn, turned, after_turns, outcome, fresh, opening, IsRound, CanBegin};
 
+use crate::cells::Core;
 use crate::load::load;
-use crate::operand::BLANK;
 use crate::queue::Queue;
 use crate::round::{Outcome, Side, Turned};
-use crate::turn::turn_of;
+use crate::size::Size;
+use crate::turn::turns;
 use std::alloc::{AllocError, Allocator};
 use std::marker::Model;
 use war_types::{Instr, Settings, Warrior};
@@ -17,7 +17,7 @@ use war_types::{Instr, Settings, Warrior};
 #[derive(Debug, Drop)]
 pub struct Arena<A: Allocator> {
     settings: Settings,
-    core: Vec<Instr, A>,
+    core: Core<A>,
     first: Queue<A>,
     second: Queue<A>,
     to_move: Side,
@@ -32,9 +32,9 @@ impl<A: Allocator> Model for Arena<A> {
 
     ghost use Rattle.mars_core.specs.Arena.{round_in, IsArena};
 
-    ghost view = { λ a. round_in a.settings a.core.items a.first a.second a.to_move a.used };
+    ghost view = { λ a. round_in a.settings a.core a.first.addresses a.second.addresses a.to_move a.used };
 
-    ghost invariant = { λ a. IsArena a.settings a.core.items a.first a.second a.to_move a.used };
+    ghost invariant = { λ a. IsArena (round_in a.settings a.core a.first.addresses a.second.addresses a.to_move a.used) a.first.limit a.second.limit };
 }
 
 impl<A: Allocator + Copy> Arena<A> {
@@ -42,7 +42,7 @@ impl<A: Allocator + Copy> Arena<A> {
     pub fn new(alloc: A, settings: &Settings) -> Result<Arena<A>, AllocError>
         ensures { IfOk result (λ a. a ≡ fresh settings.now) }
     {
-        let core = Vec::from_elem(alloc, BLANK, usize::from(settings.core()))?;
+        let core = Core::new(alloc, settings.core())?;
         let first = Queue::new(alloc, settings.processes())?;
         let second = Queue::new(alloc, settings.processes())?;
         Ok(Arena {
@@ -70,7 +70,13 @@ impl<A: Allocator> Arena<A> {
         ensures opening { self.new ≡ opening self.old.settings w0.now w1.now position first }
         ensures round { IsRound self.new }
     {
-        load(self.core.as_mut_slice(), w0.code(), w1.code(), position);
+        load(
+            &mut self.core,
+            Size::of(self.settings.core()),
+            w0.code(),
+            w1.code(),
+            position,
+        );
         self.first.restart(w0.start());
         self.second.restart(position + w1.start());
         self.to_move = first;
@@ -86,18 +92,7 @@ impl<A: Allocator> Arena<A> {
         if self.is_over() {
             return Turned::Over;
         }
-        let size = self.settings.core();
-        self.used += 1;
-        match self.to_move {
-            Side::First => {
-                self.to_move = Side::Second;
-                turn_of(self.core.as_mut_slice(), size, &mut self.first)
-            }
-            Side::Second => {
-                self.to_move = Side::First;
-                turn_of(self.core.as_mut_slice(), size, &mut self.second)
-            }
-        }
+        self.turns(1)
     }
 
     /// Makes turns until the round is over, at most twice the cycles, and tells who won.
@@ -107,10 +102,33 @@ impl<A: Allocator> Arena<A> {
         ensures outcome { result ≡ outcome self.new }
         ensures round { IsRound self.new }
     {
-        while !self.is_over() {
-            self.turn();
+        if !self.is_over() {
+            let left = 2 * self.settings.cycles() - self.used;
+            self.turns(left);
         }
         self.outcome()
+    }
+
+    /// Makes so many turns, or fewer where the round is over before, and tells how the last one went.
+    fn turns(&mut self, most: u32) -> Turned
+        requires on { is_over self.old ≡ false }
+        requires most { self.old.used + most ≤ 2 * self.old.settings.cycles }
+        ensures after { self.new ≡ after_turns most self.old }
+        ensures last { most ≡ 1 → result ≡ turned self.old }
+        ensures round { IsRound self.new }
+    {
+        let size = Size::of(self.settings.core());
+        let played = turns(
+            &mut self.core,
+            size,
+            &mut self.first,
+            &mut self.second,
+            self.to_move,
+            most,
+        );
+        self.to_move = played.to_move;
+        self.used += most - played.left;
+        played.last
     }
 
     /// The instruction in a cell, or `None` at or past the core size.
@@ -118,7 +136,12 @@ impl<A: Allocator> Arena<A> {
         ensures value { result ≡ slice_get self.now.core at }
         ensures round { IsRound self.now }
     {
-        self.core.get(usize::from(at)).copied()
+        if at < self.settings.core() {
+            let size = Size::of(self.settings.core());
+            Some(self.core.cell(size, u32::from(at)).instr())
+        } else {
+            None
+        }
     }
 
     /// How many processes a side has, at most the settings' limit.

@@ -6,38 +6,49 @@ ghost use Rattle.mars_core.specs.Cells.{IsCore, cell};
 ghost use Rattle.mars_core.specs.Pairs.{pairs};
 ghost use Rattle.mars_core.specs.Effect.{copied, moved};
 
+use crate::cells::Core;
 use crate::field::{Paired, pairs};
-use crate::operand::{put, put_number};
-use war_types::{Instr, Modifier};
+use crate::size::Size;
+use crate::word::Word;
+use std::alloc::Allocator;
+use war_types::Modifier;
 
 /// Copies the A register to the cell at an address: under `.I` whole, else its fields by the pairs.
 #[inline(always)]
-pub(crate) fn copy_to(core: &mut [Instr], size: u16, modifier: Modifier, a: Instr, at: u16)
+pub(crate) fn copy_to<A: Allocator>(
+    core: &mut Core<A>,
+    size: Size,
+    modifier: Modifier,
+    a: Word,
+    at: u32,
+)
     requires core { IsCore size core.old }
-    requires a { HasNumbersBelow size a }
+    requires a { HasNumbersBelow size a.instr }
     requires address { at < size }
-    ensures value { core.new ≡ slice_set core.old at (copied modifier a (cell core.old at)) }
+    ensures value { core.new ≡ slice_set core.old at (copied modifier a.instr (cell core.old at)) }
     ensures core { IsCore size core.new }
 {
     match modifier {
-        Modifier::I => put(core, size, at, a),
+        Modifier::I => core.put(size, at, a),
         _ => move_to(core, size, modifier, a, at),
     }
 }
 
 #[inline(always)]
-fn move_to(core: &mut [Instr], size: u16, modifier: Modifier, a: Instr, at: u16)
+fn move_to<A: Allocator>(core: &mut Core<A>, size: Size, modifier: Modifier, a: Word, at: u32)
     requires core { IsCore size core.old }
-    requires a { HasNumbersBelow size a }
+    requires a { HasNumbersBelow size a.instr }
     requires address { at < size }
-    ensures value { core.new ≡ slice_set core.old at (moved (pairs modifier) a (cell core.old at)) }
+    ensures value { core.new ≡ slice_set core.old at (moved (pairs modifier) a.instr (cell core.old at)) }
     ensures core { IsCore size core.new }
 {
     match pairs(modifier) {
-        Paired::One(p) => put_number(core, size, at, p.target, p.source.of(a)),
+        Paired::One(p) => core.put_number(size, at, p.target, a.number(p.source)),
         Paired::Two(p, q) => {
-            put_number(core, size, at, p.target, p.source.of(a));
-            put_number(core, size, at, q.target, q.source.of(a));
+            let half = core
+                .cell(size, at)
+                .with_number(p.target, a.number(p.source));
+            core.put(size, at, half.with_number(q.target, a.number(q.source)));
         }
     }
 }

@@ -4,28 +4,34 @@ ghost use Rattle.std.specs.Prelude.{◌≡◌, ◌<◌, ◌≤◌, All};
 ghost use Rattle.war_types.specs.Warrior.{HasNumbersBelow};
 ghost use Rattle.mars_core.specs.Cells.{IsCore};
 ghost use Rattle.mars_core.specs.Round.{executed};
-ghost use Rattle.mars_core.specs.Effect.{Effect, addresses, queues, effect, skip_where, jump_where, calculates, put, target};
+ghost use Rattle.mars_core.specs.Effect.{queues, effect, skip_where, jump_where, calculates, put, target};
+ghost use Rattle.mars_core.specs.Code.{addresses, arithmetic_of, evaluated_both, operand_of, operands};
 
-use crate::arithmetic::{Arithmetic, plus};
+use crate::arithmetic::Arithmetic;
+use crate::cells::Core;
 use crate::copying::copy_to;
-use crate::operand::{Operand, cell, evaluate, put};
+use crate::field::Field;
+use crate::operand::{Operand, evaluate, plain};
 use crate::registers::{all_lowered, are_equal, are_less, are_zero, calculated, fall_to_zero};
-use war_types::{Instr, Modifier, Op};
+use crate::size::Size;
+use crate::word::Word;
+use std::alloc::Allocator;
+use war_types::{Modifier, Op};
 
 /// The addresses that an operation queues in place of the process that was executed.
 #[derive(Clone, Copy, Debug, PartialEq, Eq)]
 pub(crate) enum Queued {
     /// None: the process ends.
     Nothing,
-    One(u16),
+    One(u32),
     /// The front one first.
-    Two(u16, u16),
+    Two(u32, u32),
 }
 
 /// Executes the instruction at `pc` in a core of so many cells: A is evaluated wholly before B.
 #[inline(always)]
 #[tactic(auto, unfolding(crate::specs::Round::executed))]
-pub(crate) fn execute(core: &mut [Instr], size: u16, pc: u16) -> Queued
+pub(crate) fn execute<A: Allocator>(core: &mut Core<A>, size: Size, pc: u32) -> Queued
     requires wide { 2 ≤ size }
     requires core { IsCore size core.old }
     requires pc { pc < size }
@@ -33,51 +39,80 @@ pub(crate) fn execute(core: &mut [Instr], size: u16, pc: u16) -> Queued
     ensures core { IsCore size core.new }
     ensures addresses { All (λ a. a < size) (addresses result) }
 {
-    let i = cell(core, size, pc);
-    let a = evaluate(core, size, pc, i.a_mode, i.a);
-    let b = evaluate(core, size, pc, i.b_mode, i.b);
+    let i = core.cell(size, pc);
+    let (a, b) = operands(core, size, pc, i);
     effect(core, size, pc, i, a, b)
+}
+
+/// Evaluates the operands of an instruction that stands at `pc`.
+#[inline(always)]
+fn operands<A: Allocator>(core: &mut Core<A>, size: Size, pc: u32, i: Word) -> (Operand, Operand)
+    requires core { IsCore size core.old }
+    requires pc { pc < size }
+    requires numbers { HasNumbersBelow size i.instr }
+    ensures value { operands size core.old pc i.instr ≡ evaluated_both (operand_of result.0) (operand_of result.1) core.new }
+    ensures core { IsCore size core.new }
+    ensures a { result.0.pointer < size }
+    ensures a_numbers { HasNumbersBelow size result.0.register.instr }
+    ensures b { result.1.pointer < size }
+    ensures b_numbers { HasNumbersBelow size result.1.register.instr }
+{
+    if i.is_plain() {
+        let a = plain(core, size, pc, i.a_mode(), i.number(Field::A));
+        let b = plain(core, size, pc, i.b_mode(), i.number(Field::B));
+        (a, b)
+    } else {
+        let a = evaluate(core, size, pc, i.a_mode(), i.number(Field::A));
+        let b = evaluate(core, size, pc, i.b_mode(), i.number(Field::B));
+        (a, b)
+    }
 }
 
 /// Executes an instruction that stands at `pc`, once its operands are evaluated, in a core of so many cells.
 #[inline(always)]
 #[tactic(auto, unfolding(crate::specs::Effect::effect))]
-fn effect(core: &mut [Instr], size: u16, pc: u16, i: Instr, a: Operand, b: Operand) -> Queued
+fn effect<A: Allocator>(
+    core: &mut Core<A>,
+    size: Size,
+    pc: u32,
+    i: Word,
+    a: Operand,
+    b: Operand,
+) -> Queued
     requires wide { 2 ≤ size }
     requires core { IsCore size core.old }
     requires pc { pc < size }
     requires a { a.pointer < size }
-    requires a_numbers { HasNumbersBelow size a.register }
+    requires a_numbers { HasNumbersBelow size a.register.instr }
     requires b { b.pointer < size }
-    requires b_numbers { HasNumbersBelow size b.register }
-    ensures value { effect size pc i.op i.modifier a b core.old ≡ queues core.new (addresses result) }
+    requires b_numbers { HasNumbersBelow size b.register.instr }
+    ensures value { effect size pc i.instr.op i.instr.modifier (operand_of a) (operand_of b) core.old ≡ queues core.new (addresses result) }
     ensures core { IsCore size core.new }
     ensures addresses { All (λ a. a < size) (addresses result) }
 {
-    let modifier = i.modifier;
-    let next = plus(size, pc, 1);
-    match i.op {
+    let next = size.plus(pc, 1);
+    match i.op() {
         Op::Dat => Queued::Nothing,
         Op::Mov => {
-            copy_to(core, size, modifier, a.register, b.pointer);
+            copy_to(core, size, i.modifier(), a.register, b.pointer);
             Queued::One(next)
         }
-        Op::Add => calculates(core, size, pc, Arithmetic::Sum, modifier, a, b),
-        Op::Sub => calculates(core, size, pc, Arithmetic::Difference, modifier, a, b),
-        Op::Mul => calculates(core, size, pc, Arithmetic::Product, modifier, a, b),
-        Op::Div => calculates(core, size, pc, Arithmetic::Quotient, modifier, a, b),
-        Op::Mdl => calculates(core, size, pc, Arithmetic::Remainder, modifier, a, b),
+        Op::Add => calculates(core, size, pc, Arithmetic::Sum, i.modifier(), a, b),
+        Op::Sub => calculates(core, size, pc, Arithmetic::Difference, i.modifier(), a, b),
+        Op::Mul => calculates(core, size, pc, Arithmetic::Product, i.modifier(), a, b),
+        Op::Div => calculates(core, size, pc, Arithmetic::Quotient, i.modifier(), a, b),
+        Op::Mdl => calculates(core, size, pc, Arithmetic::Remainder, i.modifier(), a, b),
         Op::Jmp => Queued::One(a.pointer),
-        Op::Jmz => jump_where(size, pc, a, are_zero(modifier, b.register)),
-        Op::Jmn => jump_where(size, pc, a, !are_zero(modifier, b.register)),
+        Op::Jmz => jump_where(size, pc, a, are_zero(i.modifier(), b.register)),
+        Op::Jmn => jump_where(size, pc, a, !are_zero(i.modifier(), b.register)),
         Op::Djn => {
-            let target = cell(core, size, b.pointer);
-            put(core, size, b.pointer, all_lowered(size, modifier, target));
-            jump_where(size, pc, a, !fall_to_zero(size, modifier, b.register))
+            let target = core.cell(size, b.pointer);
+            core.put(size, b.pointer, all_lowered(size, i.modifier(), target));
+            jump_where(size, pc, a, !fall_to_zero(size, i.modifier(), b.register))
         }
-        Op::Seq => skip_where(size, pc, are_equal(modifier, a.register, b.register)),
-        Op::Sne => skip_where(size, pc, !are_equal(modifier, a.register, b.register)),
-        Op::Slt => skip_where(size, pc, are_less(modifier, a.register, b.register)),
+        Op::Seq => skip_where(size, pc, are_equal(i.modifier(), a.register, b.register)),
+        Op::Sne => skip_where(size, pc, !are_equal(i.modifier(), a.register, b.register)),
+        Op::Slt => skip_where(size, pc, are_less(i.modifier(), a.register, b.register)),
         Op::Spl => Queued::Two(next, a.pointer),
         Op::Nop => Queued::One(next),
     }
@@ -85,10 +120,10 @@ fn effect(core: &mut [Instr], size: u16, pc: u16, i: Instr, a: Operand, b: Opera
 
 /// An operation on numbers: each target field gets the value of its pair, where it has one.
 #[inline(always)]
-fn calculates(
-    core: &mut [Instr],
-    size: u16,
-    pc: u16,
+fn calculates<A: Allocator>(
+    core: &mut Core<A>,
+    size: Size,
+    pc: u32,
     arithmetic: Arithmetic,
     modifier: Modifier,
     a: Operand,
@@ -96,18 +131,18 @@ fn calculates(
 ) -> Queued
     requires core { IsCore size core.old }
     requires pc { pc < size }
-    requires a_numbers { HasNumbersBelow size a.register }
+    requires a_numbers { HasNumbersBelow size a.register.instr }
     requires b { b.pointer < size }
-    requires b_numbers { HasNumbersBelow size b.register }
-    ensures value { calculates size pc arithmetic modifier a b core.old ≡ queues core.new (addresses result) }
+    requires b_numbers { HasNumbersBelow size b.register.instr }
+    ensures value { calculates size pc (arithmetic_of arithmetic) modifier (operand_of a) (operand_of b) core.old ≡ queues core.new (addresses result) }
     ensures core { IsCore size core.new }
     ensures addresses { All (λ a. a < size) (addresses result) }
 {
-    let target = cell(core, size, b.pointer);
+    let target = core.cell(size, b.pointer);
     let (target, all) = calculated(size, arithmetic, modifier, a.register, b.register, target);
-    put(core, size, b.pointer, target);
+    core.put(size, b.pointer, target);
     if all {
-        Queued::One(plus(size, pc, 1))
+        Queued::One(size.plus(pc, 1))
     } else {
         Queued::Nothing
     }
@@ -115,26 +150,26 @@ fn calculates(
 
 /// Queues the A pointer where the test holds, and the next instruction elsewhere.
 #[inline(always)]
-fn jump_where(size: u16, pc: u16, a: Operand, test: bool) -> Queued
+fn jump_where(size: Size, pc: u32, a: Operand, test: bool) -> Queued
     requires pc { pc < size }
     requires a { a.pointer < size }
-    ensures value { addresses result ≡ jump_where size pc a test }
+    ensures value { addresses result ≡ jump_where size pc (operand_of a) test }
     ensures addresses { All (λ a. a < size) (addresses result) }
 {
     if test {
         Queued::One(a.pointer)
     } else {
-        Queued::One(plus(size, pc, 1))
+        Queued::One(size.plus(pc, 1))
     }
 }
 
 /// Queues the next instruction, or the one after it where the test holds.
 #[inline(always)]
-fn skip_where(size: u16, pc: u16, test: bool) -> Queued
+fn skip_where(size: Size, pc: u32, test: bool) -> Queued
     requires wide { 2 ≤ size }
     requires pc { pc < size }
     ensures value { addresses result ≡ skip_where size pc test }
     ensures addresses { All (λ a. a < size) (addresses result) }
 {
-    Queued::One(plus(size, pc, if test { 2 } else { 1 }))
+    Queued::One(size.plus(pc, if test { 2 } else { 1 }))
 }

@@ -1,43 +1,16 @@
 //! The two numbers of an instruction, and the pairs of them that a modifier names.
 
-ghost use Rattle.std.specs.Prelude.{◌≡◌, ℕ, ◌<◌};
-ghost use Rattle.war_types.specs.Warrior.{HasNumbersBelow};
-ghost use Rattle.mars_core.specs.Cells.{number, with_number};
-ghost use Rattle.mars_core.specs.Pairs.{pairs, listed};
+ghost use Rattle.std.specs.Prelude.{◌≡◌};
+ghost use Rattle.mars_core.specs.Pairs.{pairs};
+ghost use Rattle.mars_core.specs.Code.{listed};
 
-use war_types::{Instr, Modifier};
+use war_types::Modifier;
 
 /// One of the two numbers of an instruction.
 #[derive(Clone, Copy, Debug, PartialEq, Eq)]
 pub(crate) enum Field {
     A,
     B,
-}
-
-impl Field {
-    /// This number of an instruction.
-    #[inline(always)]
-    pub(crate) fn of(self, i: Instr) -> u16
-        ensures value { result ≡ number self i }
-        ensures below { (size : ℕ) → HasNumbersBelow size i → result < size }
-    {
-        match self {
-            Field::A => i.a,
-            Field::B => i.b,
-        }
-    }
-
-    /// The instruction with another such number.
-    #[inline(always)]
-    pub(crate) fn with(self, n: u16, i: Instr) -> Instr
-        ensures value { result ≡ with_number self n i }
-        ensures below { (size : ℕ) → HasNumbersBelow size i → n < size → HasNumbersBelow size result }
-    {
-        match self {
-            Field::A => Instr { a: n, ..i },
-            Field::B => Instr { b: n, ..i },
-        }
-    }
 }
 
 /// A number of the A operand's register, with a number of the B operand's register or target.

@@ -3,6 +3,7 @@
 
 mod arena;
 mod arithmetic;
+mod cells;
 mod copying;
 mod effect;
 mod field;
@@ -11,7 +12,9 @@ mod operand;
 mod queue;
 mod registers;
 mod round;
+mod size;
 mod turn;
+mod word;
 
 pub use arena::Arena;
 pub use round::{Outcome, Side, Turned};

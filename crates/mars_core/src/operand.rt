@@ -1,47 +1,48 @@
 //! The evaluation of operands.
 
-ghost use Rattle.std.specs.Prelude.{◌≡◌, ◌<◌, slice_set};
+ghost use Rattle.std.specs.Prelude.{◌≡◌, ◌<◌, true};
 ghost use Rattle.war_types.specs.Warrior.{HasNumbersBelow};
-ghost use Rattle.mars_core.specs.Cells.{IsCore, cell, with_number};
-ghost use Rattle.mars_core.specs.Operand.{evaluated, found, through, raised_at, lowered_at, indirect, predecremented, postincremented, operand};
+ghost use Rattle.mars_core.specs.Cells.{IsCore};
+ghost use Rattle.mars_core.specs.Operand.{evaluated, found, through, indirect, predecremented, postincremented, operand};
+ghost use Rattle.mars_core.specs.Code.{field_of, operand_of};
+ghost use Rattle.mars_core.specs.Words.{is_plain};
 
-use crate::arithmetic::{minus, plus};
+use crate::cells::Core;
 use crate::field::Field;
-use war_types::{Instr, Mode, Modifier, Op};
-
-/// What a cell holds that nothing was loaded into: `DAT.F $0,$0`.
-pub(crate) const BLANK: Instr = Instr {
-    op: Op::Dat,
-    modifier: Modifier::F,
-    a_mode: Mode::Direct,
-    a: 0,
-    b_mode: Mode::Direct,
-    b: 0,
-};
+use crate::size::Size;
+use crate::word::Word;
+use std::alloc::Allocator;
+use war_types::Mode;
 
 /// What an operand comes to.
-#[derive(Clone, Copy, Debug, PartialEq, Eq)]
+#[derive(Clone, Copy, Debug)]
 pub(crate) struct Operand {
     /// The address that it points to.
-    pub(crate) pointer: u16,
+    pub(crate) pointer: u32,
     /// A copy of the instruction there, as it was when the operand was evaluated.
-    pub(crate) register: Instr,
+    pub(crate) register: Word,
 }
 
 /// The operand of this mode and number in the instruction at `pc`, in a core of so many cells. An indirect mode
 /// may raise or lower a number of the cell that it goes through.
 #[inline(always)]
 #[tactic(auto, unfolding(crate::specs::Operand::operand))]
-pub(crate) fn evaluate(core: &mut [Instr], size: u16, pc: u16, mode: Mode, number: u16) -> Operand
+pub(crate) fn evaluate<A: Allocator>(
+    core: &mut Core<A>,
+    size: Size,
+    pc: u32,
+    mode: Mode,
+    number: u32,
+) -> Operand
     requires core { IsCore size core.old }
     requires pc { pc < size }
     requires number { number < size }
-    ensures value { operand size core.old pc mode number ≡ evaluated result core.new }
+    ensures value { operand size core.old pc mode number ≡ evaluated (operand_of result) core.new }
     ensures core { IsCore size core.new }
     ensures pointer { result.pointer < size }
-    ensures register { HasNumbersBelow size result.register }
+    ensures register { HasNumbersBelow size result.register.instr }
 {
-    let at = plus(size, pc, number);
+    let at = size.plus(pc, number);
     match mode {
         Mode::Immediate => found(core, size, pc),
         Mode::Direct => found(core, size, at),
@@ -54,96 +55,83 @@ pub(crate) fn evaluate(core: &mut [Instr], size: u16, pc: u16, mode: Mode, numbe
     }
 }
 
-/// The instruction at an address.
+/// The operand of a mode that is immediate or direct.
 #[inline(always)]
-pub(crate) fn cell(core: &[Instr], size: u16, at: u16) -> Instr
+#[tactic(auto, unfolding(crate::specs::Operand::operand))]
+pub(crate) fn plain<A: Allocator>(
+    core: &Core<A>,
+    size: Size,
+    pc: u32,
+    mode: Mode,
+    number: u32,
+) -> Operand
     requires core { IsCore size core.now }
-    requires address { at < size }
-    ensures value { result ≡ cell core.now at }
-    ensures numbers { HasNumbersBelow size result }
+    requires pc { pc < size }
+    requires number { number < size }
+    requires plain { is_plain mode ≡ true }
+    ensures value { operand size core.now pc mode number ≡ evaluated (operand_of result) core.now }
+    ensures pointer { result.pointer < size }
+    ensures register { HasNumbersBelow size result.register.instr }
 {
-    core[usize::from(at)]
+    let offset = match mode {
+        Mode::Immediate => 0,
+        _ => number,
+    };
+    found(core, size, size.plus(pc, offset))
 }
 
 #[inline(always)]
-fn found(core: &[Instr], size: u16, pointer: u16) -> Operand
+fn found<A: Allocator>(core: &Core<A>, size: Size, pointer: u32) -> Operand
     requires core { IsCore size core.now }
     requires pointer { pointer < size }
-    ensures value { result ≡ found core.now pointer }
+    ensures value { operand_of result ≡ found core.now pointer }
     ensures pointer { result.pointer < size }
-    ensures register { HasNumbersBelow size result.register }
+    ensures register { HasNumbersBelow size result.register.instr }
 {
     Operand {
         pointer,
-        register: cell(core, size, pointer),
+        register: core.cell(size, pointer),
     }
 }
 
 /// An operand that points on from the cell at an address, by one of that cell's numbers.
 #[inline(always)]
-fn indirect(core: &[Instr], size: u16, at: u16, field: Field) -> Operand
+fn indirect<A: Allocator>(core: &Core<A>, size: Size, at: u32, field: Field) -> Operand
     requires core { IsCore size core.now }
     requires address { at < size }
-    ensures value { result ≡ indirect size core.now at field }
+    ensures value { operand_of result ≡ indirect size core.now at (field_of field) }
     ensures pointer { result.pointer < size }
-    ensures register { HasNumbersBelow size result.register }
+    ensures register { HasNumbersBelow size result.register.instr }
 {
-    let through = cell(core, size, at);
-    found(core, size, plus(size, at, field.of(through)))
+    let through = core.cell(size, at);
+    found(core, size, size.plus(at, through.number(field)))
 }
 
 #[inline(always)]
-fn predecremented(core: &mut [Instr], size: u16, at: u16, field: Field) -> Operand
+fn predecremented<A: Allocator>(core: &mut Core<A>, size: Size, at: u32, field: Field) -> Operand
     requires core { IsCore size core.old }
     requires address { at < size }
-    ensures value { predecremented size core.old at field ≡ evaluated result core.new }
+    ensures value { predecremented size core.old at (field_of field) ≡ evaluated (operand_of result) core.new }
     ensures core { IsCore size core.new }
     ensures pointer { result.pointer < size }
-    ensures register { HasNumbersBelow size result.register }
+    ensures register { HasNumbersBelow size result.register.instr }
 {
-    let lowered = minus(size, field.of(cell(core, size, at)), 1);
-    put_number(core, size, at, field, lowered);
+    let lowered = size.minus(core.cell(size, at).number(field), 1);
+    core.put_number(size, at, field, lowered);
     indirect(core, size, at, field)
 }
 
 #[inline(always)]
-fn postincremented(core: &mut [Instr], size: u16, at: u16, field: Field) -> Operand
+fn postincremented<A: Allocator>(core: &mut Core<A>, size: Size, at: u32, field: Field) -> Operand
     requires core { IsCore size core.old }
     requires address { at < size }
-    ensures value { postincremented size core.old at field ≡ evaluated result core.new }
+    ensures value { postincremented size core.old at (field_of field) ≡ evaluated (operand_of result) core.new }
     ensures core { IsCore size core.new }
     ensures pointer { result.pointer < size }
-    ensures register { HasNumbersBelow size result.register }
+    ensures register { HasNumbersBelow size result.register.instr }
 {
     let operand = indirect(core, size, at, field);
-    let raised = plus(size, field.of(cell(core, size, at)), 1);
-    put_number(core, size, at, field, raised);
+    let raised = size.plus(core.cell(size, at).number(field), 1);
+    core.put_number(size, at, field, raised);
     operand
-}
-
-/// Puts an instruction into the cell at an address.
-#[inline(always)]
-pub(crate) fn put(core: &mut [Instr], size: u16, at: u16, i: Instr)
-    requires core { IsCore size core.old }
-    requires address { at < size }
-    requires numbers { HasNumbersBelow size i }
-    ensures value { core.new ≡ slice_set core.old at i }
-    ensures core { IsCore size core.new }
-{
-    core[usize::from(at)] = i;
-}
-
-/// Puts a number into the cell at an address, and leaves the rest of it.
-#[inline(always)]
-pub(crate) fn put_number(core: &mut [Instr], size: u16, at: u16, field: Field, n: u16)
-    requires core { IsCore size core.old }
-    requires address { at < size }
-    requires number { n < size }
-    ensures value { core.new ≡ slice_set core.old at (with_number field n (cell core.old at)) }
-    ensures core { IsCore size core.new }
-{
-    match field {
-        Field::A => core[usize::from(at)].a = n,
-        Field::B => core[usize::from(at)].b = n,
-    }
 }

@@ -1,29 +1,32 @@
 //! Queues of processes.
 
-ghost use Rattle.std.specs.Prelude.{◌≡◌, ℕ, ◌+◌, ◌%◌, ◌<◌, ◌≤◌, [], ◌∷◌, List, Option, length, slice_get, IfOk};
-ghost use Rattle.mars_core.specs.Queue.{processes, queued, front, behind_front, is_empty};
+ghost use Rattle.std.specs.Prelude.{◌≡◌, ℕ, ◌<◌, ◌≤◌, false, [], ◌∷◌, ◌++◌, List, Option, length, slice_get, IfOk};
+ghost use Rattle.mars_core.specs.Queue.{front, processes, queued, behind_front};
+ghost use Rattle.mars_core.specs.Round.{is_empty};
 
+use circular_buffer::HeapCircularBuffer;
 use std::alloc::{AllocError, Allocator};
 use std::marker::Model;
 
-/// The processes of a side, by their addresses: first in, first out, in places that are taken once.
+/// The processes of a side, by their addresses: first in, first out, in places that are taken once. The front
+/// process stands beside a ring of the others, whose places a single process never touches.
 #[derive(Debug, Drop)]
 pub(crate) struct Queue<A: Allocator> {
-    places: Vec<u16, A>,
-    /// The place of the front process.
-    head: usize,
-    len: usize,
+    /// The front process, where there is one.
+    front: u32,
+    has_front: bool,
+    /// The processes behind the front one: at most one fewer than the queue may hold.
+    rest: HeapCircularBuffer<u16, A>,
 }
 
 impl<A: Allocator> Model for Queue<A> {
-    ghost use Rattle.std.specs.Prelude.{◌<◌, ◌≤◌, ◌≡◌, length, vec_len};
-    ghost use Rattle.mars_core.specs.Queue.{Processes, processes, window, IsRing};
+    ghost use Rattle.mars_core.specs.Queue.{Processes, processes_in, AreQueueParts};
 
     ghost Value = { Processes };
 
-    ghost view = { λ q. processes (length q.places.items) (window q.head q.len q.places.items) };
+    ghost view = { λ q. processes_in q.has_front q.front q.rest };
 
-    ghost invariant = { λ q. IsRing q.head q.len (length q.places.items) };
+    ghost invariant = { λ q. AreQueueParts q.has_front q.front q.rest };
 }
 
 impl<A: Allocator> Queue<A> {
@@ -32,11 +35,11 @@ impl<A: Allocator> Queue<A> {
         requires { 1 ≤ limit }
         ensures { IfOk result (λ q. q ≡ processes limit []) }
     {
-        let places = Vec::from_elem(alloc, 0, usize::from(limit))?;
+        let rest = HeapCircularBuffer::with_capacity(alloc, usize::from(limit - 1))?;
         Ok(Queue {
-            places,
-            head: 0,
-            len: 0,
+            front: 0,
+            has_front: false,
+            rest,
         })
     }
 
@@ -45,69 +48,97 @@ impl<A: Allocator> Queue<A> {
         ensures value { result ≡ length self.now.addresses }
         ensures small { result ≤ 65535 }
     {
-        self.len
+        if self.has_front {
+            1 + self.rest.len()
+        } else {
+            0
+        }
     }
 
+    #[inline(always)]
     pub(crate) fn is_empty(&self) -> bool
         ensures { result ≡ is_empty self.now.addresses }
     {
-        self.len == 0
+        !self.has_front
     }
 
     /// The address of the process at place `i`, counted from the front.
     pub(crate) fn get(&self, i: usize) -> Option<u16>
         ensures { result ≡ slice_get self.now.addresses i }
     {
-        if i < self.len {
-            Some(self.places[wrapped(self.head + i, self.places.len())])
-        } else {
+        if !self.has_front {
             None
+        } else if i == 0 {
+            Some(self.front as u16)
+        } else {
+            self.rest.get(i - 1).copied()
         }
     }
 
-    /// Takes the front process.
+    /// The address of the front process.
     #[inline(always)]
-    pub(crate) fn pop(&mut self) -> Option<u16>
-        ensures front { result ≡ front self.old.addresses }
-        ensures rest { self.new ≡ processes self.old.limit (behind_front self.old.addresses) }
+    pub(crate) fn front(&self) -> u32
+        requires { is_empty self.now.addresses ≡ false }
+        ensures { front self.now.addresses ≡ Some result }
     {
-        if self.len == 0 {
-            return None;
-        }
-        let address = self.places[self.head];
-        self.head = wrapped(self.head + 1, self.places.len());
-        self.len -= 1;
-        Some(address)
+        self.front
     }
 
-    /// Queues a process behind the others, where there is room.
+    /// Takes the front process, and tells whether none is left.
     #[inline(always)]
-    pub(crate) fn push(&mut self, address: u16)
-        ensures { self.new ≡ queued self.old (address ∷ []) }
+    pub(crate) fn end(&mut self) -> bool
+        requires { is_empty self.old.addresses ≡ false }
+        ensures value { self.new ≡ processes self.old.limit (behind_front self.old.addresses) }
+        ensures empty { result ≡ is_empty self.new.addresses }
     {
-        let limit = self.places.len();
-        if self.len < limit {
-            self.places[wrapped(self.head + self.len, limit)] = address;
-            self.len += 1;
+        match self.rest.pop_front() {
+            None => {
+                self.has_front = false;
+                true
+            }
+            Some(front) => {
+                self.front = u32::from(front);
+                false
+            }
         }
+    }
+
+    /// Takes the front process, and queues another one behind the others: there is room then.
+    #[inline(always)]
+    pub(crate) fn follow(&mut self, address: u32)
+        requires some { is_empty self.old.addresses ≡ false }
+        requires small { address ≤ 65535 }
+        ensures value { self.new ≡ queued (processes self.old.limit (behind_front self.old.addresses)) (address ∷ []) }
+        ensures some { is_empty self.new.addresses ≡ false }
+    {
+        match self.rest.pop_front() {
+            None => self.front = address,
+            Some(front) => {
+                self.front = u32::from(front);
+                let _queued = self.rest.try_push_back(address as u16);
+            }
+        }
+    }
+
+    /// Takes the front process, and queues two behind the others: the second one only where there is room.
+    #[inline(always)]
+    pub(crate) fn split(&mut self, address: u32, behind: u32)
+        requires some { is_empty self.old.addresses ≡ false }
+        requires small { address ≤ 65535 }
+        requires small_behind { behind ≤ 65535 }
+        ensures value { self.new ≡ queued (processes self.old.limit (behind_front self.old.addresses)) (address ∷ behind ∷ []) }
+        ensures some { is_empty self.new.addresses ≡ false }
+    {
+        self.follow(address);
+        let _queued = self.rest.try_push_back(behind as u16);
     }
 
     /// Leaves one process.
     pub(crate) fn restart(&mut self, address: u16)
         ensures { self.new ≡ processes self.old.limit (address ∷ []) }
     {
-        self.places[0] = address;
-        self.head = 0;
-        self.len = 1;
+        self.rest.clear();
+        self.front = u32::from(address);
+        self.has_front = true;
     }
-}
-
-/// A place that is past the end once at most, counted from the beginning again.
-#[inline(always)]
-fn wrapped(place: usize, limit: usize) -> usize
-    requires { place < limit + limit }
-    ensures value { result ≡ place % limit }
-    ensures inside { result < limit }
-{
-    if place < limit { place } else { place - limit }
 }

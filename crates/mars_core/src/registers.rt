@@ -4,28 +4,31 @@ ghost use Rattle.std.specs.Prelude.{◌≡◌, ◌<◌, ◌≤◌, ◌==◌, nat
 ghost use Rattle.war_types.specs.Warrior.{HasNumbersBelow};
 ghost use Rattle.mars_core.specs.Cells.{number, lowered, minus};
 ghost use Rattle.mars_core.specs.Pairs.{pairs};
-ghost use Rattle.mars_core.specs.Effect.{value, with_value, calculated, have_values, all_lowered, are_zero, fall_to_zero, are_equal, kinds_equal, op_number, modifier_number, mode_number, numbers_equal, are_less};
+ghost use Rattle.mars_core.specs.Effect.{value, with_value, calculated, have_values, all_lowered, are_zero, fall_to_zero, are_equal, numbers_equal, are_less};
+ghost use Rattle.mars_core.specs.Code.{arithmetic_of, field_of, pair_of};
 
-use crate::arithmetic::{Arithmetic, combined, minus};
+use crate::arithmetic::Arithmetic;
 use crate::field::{Field, Pair, Paired, pairs};
-use war_types::{Instr, Mode, Modifier, Op};
+use crate::size::Size;
+use crate::word::Word;
+use war_types::Modifier;
 
 /// The target of an operation on numbers, and whether every pair had a value.
 #[inline(always)]
 pub(crate) fn calculated(
-    size: u16,
+    size: Size,
     arithmetic: Arithmetic,
     modifier: Modifier,
-    a: Instr,
-    b: Instr,
-    target: Instr,
-) -> (Instr, bool)
-    requires a { HasNumbersBelow size a }
-    requires b { HasNumbersBelow size b }
-    requires target { HasNumbersBelow size target }
-    ensures target { result.0 ≡ calculated size arithmetic a b (pairs modifier) target }
-    ensures all { result.1 ≡ have_values size arithmetic a b (pairs modifier) }
-    ensures numbers { HasNumbersBelow size result.0 }
+    a: Word,
+    b: Word,
+    target: Word,
+) -> (Word, bool)
+    requires a { HasNumbersBelow size a.instr }
+    requires b { HasNumbersBelow size b.instr }
+    requires target { HasNumbersBelow size target.instr }
+    ensures target { result.0.instr ≡ calculated size (arithmetic_of arithmetic) a.instr b.instr (pairs modifier) target.instr }
+    ensures all { result.1 ≡ have_values size (arithmetic_of arithmetic) a.instr b.instr (pairs modifier) }
+    ensures numbers { HasNumbersBelow size result.0.instr }
 {
     match pairs(modifier) {
         Paired::One(p) => {
@@ -46,36 +49,36 @@ pub(crate) fn calculated(
 
 /// The value of a pair, by the registers; nothing where it would be divided by 0.
 #[inline(always)]
-fn value(size: u16, arithmetic: Arithmetic, a: Instr, b: Instr, pair: Pair) -> Option<u16>
-    requires a { HasNumbersBelow size a }
-    requires b { HasNumbersBelow size b }
-    ensures value { result ≡ value size arithmetic a b pair }
+fn value(size: Size, arithmetic: Arithmetic, a: Word, b: Word, pair: Pair) -> Option<u32>
+    requires a { HasNumbersBelow size a.instr }
+    requires b { HasNumbersBelow size b.instr }
+    ensures value { result ≡ value size (arithmetic_of arithmetic) a.instr b.instr (pair_of pair) }
     ensures below { IfSome result (λ n. n < size) }
 {
-    combined(size, arithmetic, pair.target.of(b), pair.source.of(a))
+    size.combined(arithmetic, b.number(pair.target), a.number(pair.source))
 }
 
 /// The target with a value in one of its fields, where there is one.
 #[inline(always)]
-fn with_value(size: u16, field: Field, value: Option<u16>, target: Instr) -> Instr
+fn with_value(size: Size, field: Field, value: Option<u32>, target: Word) -> Word
     requires value { IfSome value (λ n. n < size) }
-    requires target { HasNumbersBelow size target }
-    ensures value { result ≡ with_value field value target }
-    ensures numbers { HasNumbersBelow size result }
+    requires target { HasNumbersBelow size target.instr }
+    ensures value { result.instr ≡ with_value (field_of field) value target.instr }
+    ensures numbers { HasNumbersBelow size result.instr }
 {
     match value {
-        Some(n) => field.with(n, target),
+        Some(n) => target.with_number(field, n),
         None => target,
     }
 }
 
 /// The target of a DJN: its fields lowered by 1.
 #[inline(always)]
-pub(crate) fn all_lowered(size: u16, modifier: Modifier, target: Instr) -> Instr
+pub(crate) fn all_lowered(size: Size, modifier: Modifier, target: Word) -> Word
     requires some { 1 ≤ size }
-    requires target { HasNumbersBelow size target }
-    ensures value { result ≡ all_lowered size (pairs modifier) target }
-    ensures numbers { HasNumbersBelow size result }
+    requires target { HasNumbersBelow size target.instr }
+    ensures value { result.instr ≡ all_lowered size (pairs modifier) target.instr }
+    ensures numbers { HasNumbersBelow size result.instr }
 {
     match pairs(modifier) {
         Paired::One(p) => lowered(size, p.target, target),
@@ -85,99 +88,68 @@ pub(crate) fn all_lowered(size: u16, modifier: Modifier, target: Instr) -> Instr
 
 /// The instruction with one of its numbers lowered by 1.
 #[inline(always)]
-fn lowered(size: u16, field: Field, i: Instr) -> Instr
+fn lowered(size: Size, field: Field, i: Word) -> Word
     requires some { 1 ≤ size }
-    requires numbers { HasNumbersBelow size i }
-    ensures value { result ≡ lowered size field i }
-    ensures numbers { HasNumbersBelow size result }
+    requires numbers { HasNumbersBelow size i.instr }
+    ensures value { result.instr ≡ lowered size (field_of field) i.instr }
+    ensures numbers { HasNumbersBelow size result.instr }
 {
-    field.with(minus(size, field.of(i), 1), i)
+    i.with_number(field, size.minus(i.number(field), 1))
 }
 
 /// Whether every B field of the pairs is 0.
 #[inline(always)]
-pub(crate) fn are_zero(modifier: Modifier, b: Instr) -> bool
-    ensures { result ≡ are_zero modifier b }
+pub(crate) fn are_zero(modifier: Modifier, b: Word) -> bool
+    ensures { result ≡ are_zero modifier b.instr }
 {
     match pairs(modifier) {
-        Paired::One(p) => p.target.of(b) == 0,
-        Paired::Two(p, q) => p.target.of(b) == 0 && q.target.of(b) == 0,
+        Paired::One(p) => b.number(p.target) == 0,
+        Paired::Two(p, q) => b.number(p.target) == 0 && b.number(q.target) == 0,
     }
 }
 
 /// Whether every B field of the pairs is 0 once it is lowered by 1.
 #[inline(always)]
-pub(crate) fn fall_to_zero(size: u16, modifier: Modifier, b: Instr) -> bool
+pub(crate) fn fall_to_zero(size: Size, modifier: Modifier, b: Word) -> bool
     requires some { 1 ≤ size }
-    requires b { HasNumbersBelow size b }
-    ensures { result ≡ fall_to_zero size modifier b }
+    requires b { HasNumbersBelow size b.instr }
+    ensures { result ≡ fall_to_zero size modifier b.instr }
 {
     match pairs(modifier) {
-        Paired::One(p) => minus(size, p.target.of(b), 1) == 0,
+        Paired::One(p) => size.minus(b.number(p.target), 1) == 0,
         Paired::Two(p, q) => {
-            minus(size, p.target.of(b), 1) == 0 && minus(size, q.target.of(b), 1) == 0
+            size.minus(b.number(p.target), 1) == 0 && size.minus(b.number(q.target), 1) == 0
         }
     }
 }
 
 /// Whether all pairs are equal, and under `.I` the operations, modifiers and modes too.
 #[inline(always)]
-pub(crate) fn are_equal(modifier: Modifier, a: Instr, b: Instr) -> bool
-    ensures { result ≡ are_equal modifier a b }
+pub(crate) fn are_equal(modifier: Modifier, a: Word, b: Word) -> bool
+    ensures { result ≡ are_equal modifier a.instr b.instr }
 {
     match modifier {
-        Modifier::I => kinds_equal(a, b) && numbers_equal(modifier, a, b),
+        Modifier::I => a.equals(b),
         _ => numbers_equal(modifier, a, b),
     }
 }
 
 #[inline(always)]
-fn kinds_equal(a: Instr, b: Instr) -> bool
-    ensures { result ≡ kinds_equal a b }
-{
-    ops_equal(a.op, b.op)
-        && modifiers_equal(a.modifier, b.modifier)
-        && modes_equal(a.a_mode, b.a_mode)
-        && modes_equal(a.b_mode, b.b_mode)
-}
-
-#[inline(always)]
-fn ops_equal(a: Op, b: Op) -> bool
-    ensures { result ≡ (op_number a == op_number b) }
-{
-    a == b
-}
-
-#[inline(always)]
-fn modifiers_equal(a: Modifier, b: Modifier) -> bool
-    ensures { result ≡ (modifier_number a == modifier_number b) }
-{
-    a == b
-}
-
-#[inline(always)]
-fn modes_equal(a: Mode, b: Mode) -> bool
-    ensures { result ≡ (mode_number a == mode_number b) }
-{
-    a == b
-}
-
-#[inline(always)]
-fn numbers_equal(modifier: Modifier, a: Instr, b: Instr) -> bool
-    ensures { result ≡ numbers_equal modifier a b }
+fn numbers_equal(modifier: Modifier, a: Word, b: Word) -> bool
+    ensures { result ≡ numbers_equal modifier a.instr b.instr }
 {
     match pairs(modifier) {
-        Paired::One(p) => p.source.of(a) == p.target.of(b),
+        Paired::One(p) => a.number(p.source) == b.number(p.target),
         Paired::Two(p, q) => {
-            p.source.of(a) == p.target.of(b) && q.source.of(a) == q.target.of(b)
+            a.number(p.source) == b.number(p.target) && a.number(q.source) == b.number(q.target)
         }
     }
 }
 
 /// Whether in every pair the A field is below the B field.
 #[inline(always)]
-pub(crate) fn are_less(modifier: Modifier, a: Instr, b: Instr) -> bool
-    ensures { result ≡ are_less modifier a b }
+pub(crate) fn are_less(modifier: Modifier, a: Word, b: Word) -> bool
+    ensures { result ≡ are_less modifier a.instr b.instr }
 {
     match pairs(modifier) {
         Paired::One(p) => is_less(p, a, b),
@@ -186,8 +158,8 @@ pub(crate) fn are_less(modifier: Modifier, a: Instr, b: Instr) -> bool
 }
 
 #[inline(always)]
-fn is_less(pair: Pair, a: Instr, b: Instr) -> bool
-    ensures { result ≡ nat_lt (number pair.source a) (number pair.target b) }
+fn is_less(pair: Pair, a: Word, b: Word) -> bool
+    ensures { result ≡ nat_lt (number (field_of pair.source) a.instr) (number (field_of pair.target) b.instr) }
 {
-    pair.source.of(a) < pair.target.of(b)
+    a.number(pair.source) < b.number(pair.target)
 }

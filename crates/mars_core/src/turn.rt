@@ -1,40 +1,116 @@
-//! The turn of a side.
+//! Turns.
 
-ghost use Rattle.std.specs.Prelude.{◌≡◌, ◌≤◌, false};
+ghost use Rattle.std.specs.Prelude.{◌≡◌, ℕ, ◌+◌, ◌-◌, ◌*◌, ◌≤◌, false};
+ghost use Rattle.war_types.specs.declared.settings.RawSettings.{RawSettings};
 ghost use Rattle.mars_core.specs.Cells.{IsCore};
-ghost use Rattle.mars_core.specs.Queue.{is_empty};
-ghost use Rattle.mars_core.specs.Round.{side_turn, side_turned, IsQueue};
+ghost use Rattle.mars_core.specs.Round.{after_turns, is_empty, turned, IsQueue};
+ghost use Rattle.mars_core.specs.Arena.{round_in};
+ghost use Rattle.mars_core.specs.Code.{other};
 
+use crate::cells::Core;
 use crate::effect::{Queued, execute};
 use crate::queue::Queue;
-use crate::round::Turned;
+use crate::round::{Side, Turned};
+use crate::size::Size;
 use std::alloc::Allocator;
-use war_types::Instr;
 
-/// Takes the front process of a queue, executes it, and queues what it queues as far as there is room.
-#[tactic(auto, unfolding(crate::specs::Round::side_turn))]
-pub(crate) fn turn_of<A: Allocator>(core: &mut [Instr], size: u16, queue: &mut Queue<A>) -> Turned
+/// Where turns led that were made in one go.
+#[derive(Clone, Copy, Debug)]
+pub(crate) struct Played {
+    /// How many of them were not made, since a side had no process left.
+    pub(crate) left: u32,
+    /// The side whose turn is next.
+    pub(crate) to_move: Side,
+    /// How the last one went.
+    pub(crate) last: Turned,
+}
+
+impl Side {
+    #[inline(always)]
+    pub(crate) fn other(self) -> Side
+        ensures { result ≡ other self }
+    {
+        match self {
+            Side::First => Side::Second,
+            Side::Second => Side::First,
+        }
+    }
+}
+
+/// Makes so many turns of two sides that have processes, in turn, or fewer where one of them has none left.
+pub(crate) fn turns<A: Allocator>(
+    core: &mut Core<A>,
+    size: Size,
+    first: &mut Queue<A>,
+    second: &mut Queue<A>,
+    to_move: Side,
+    most: u32,
+) -> Played
     requires wide { 2 ≤ size }
     requires core { IsCore size core.old }
-    requires queue { IsQueue size queue.old.limit queue.old.addresses }
-    ensures value { side_turn size queue.old.limit core.old queue.old.addresses ≡ side_turned core.new queue.new.addresses result }
+    requires first { IsQueue size first.old.limit first.old.addresses }
+    requires second { IsQueue size second.old.limit second.old.addresses }
+    requires first_lives { is_empty first.old.addresses ≡ false }
+    requires second_lives { is_empty second.old.addresses ≡ false }
     ensures core { IsCore size core.new }
-    ensures limit { queue.new.limit ≡ queue.old.limit }
-    ensures queue { IsQueue size queue.new.limit queue.new.addresses }
+    ensures first { IsQueue size first.new.limit first.new.addresses }
+    ensures second { IsQueue size second.new.limit second.new.addresses }
+    ensures first_limit { first.new.limit ≡ first.old.limit }
+    ensures second_limit { second.new.limit ≡ second.old.limit }
+    ensures left { result.left ≤ most }
+    ensures after { (s : RawSettings) (used : ℕ) → s.core ≡ size → s.processes ≡ first.old.limit → s.processes ≡ second.old.limit
+        → used + most ≤ 2 * s.cycles
+        → after_turns most (round_in s core.old first.old.addresses second.old.addresses to_move used)
+        ≡ round_in s core.new first.new.addresses second.new.addresses result.to_move (used + (most - result.left)) }
+    ensures last { (s : RawSettings) (used : ℕ) → s.core ≡ size → s.processes ≡ first.old.limit → s.processes ≡ second.old.limit
+        → used + most ≤ 2 * s.cycles → most ≡ 1
+        → result.last ≡ turned (round_in s core.old first.old.addresses second.old.addresses to_move used) }
 {
-    let Some(pc) = queue.pop() else {
-        return Turned::Over;
-    };
-    match execute(core, size, pc) {
-        Queued::Nothing => Turned::Died,
-        Queued::One(address) => {
-            queue.push(address);
-            Turned::Went
+    let mut to_move = to_move;
+    let mut last = Turned::Over;
+    let mut left = most;
+    while left > 0 {
+        left -= 1;
+        let pc = match to_move {
+            Side::First => first.front(),
+            Side::Second => second.front(),
+        };
+        let queued = execute(core, size, pc);
+        match queued {
+            Queued::Nothing => {
+                let is_empty = match to_move {
+                    Side::First => first.end(),
+                    Side::Second => second.end(),
+                };
+                last = Turned::Died;
+                if is_empty {
+                    return Played {
+                        left,
+                        to_move: to_move.other(),
+                        last,
+                    };
+                }
+            }
+            Queued::One(address) => {
+                match to_move {
+                    Side::First => first.follow(address),
+                    Side::Second => second.follow(address),
+                }
+                last = Turned::Went;
+            }
+            Queued::Two(address, behind) => {
+                match to_move {
+                    Side::First => first.split(address, behind),
+                    Side::Second => second.split(address, behind),
+                }
+                last = Turned::Went;
+            }
         }
-        Queued::Two(address, behind) => {
-            queue.push(address);
-            queue.push(behind);
-            Turned::Went
-        }
+        to_move = to_move.other();
+    }
+    Played {
+        left: 0,
+        to_move,
+        last,
     }
 }

@@ -1,7 +1,7 @@
 -- Each round adds its outcome to the counts.
-use Rattle.std.proofs.Common.{◌≡◌, ◌∙◌, add-one, arith}
-use Rattle.koth_match.specs.Match.{match_of, rounds_in}
-use Rattle.koth_match.proofs.Kept.{one_more, so_many}
+use Rattle.std.proofs.Common.{◌≡◌, ◌∙◌, add-one, arith, subst, sym}
+use Rattle.koth_match.specs.Match.{match_of, round_outcomes, rounds_in, AreCounts}
+use Rattle.koth_match.proofs.Kept.{match_of-counts, one_more, so_many}
 use Rattle.koth_match.proofs.Sequence.{seed_of_round-next}
 use Rattle.koth_match.proofs.rounds.fight.Goals as goal
 
@@ -24,6 +24,13 @@ unfolding match_of
 returns-clause-bout g c =
     let all : c.loop-round.round ≡ c.args.settings.now.rounds = omega arith in
     rw all at c.loop-round.invariant.counts
+
+pub returns-clause-counts : goal.returns-clause-counts
+unfolding match_of
+returns-clause-counts g c =
+    let all : c.loop-round.round ≡ c.args.settings.now.rounds = omega arith in
+    let bout : c.loop-round.bout ≡ match_of c.args.settings.now c.args.older.now c.args.younger.now = rw all at c.loop-round.invariant.counts in
+    subst (AreCounts (round_outcomes c.args.settings.now c.args.older.now c.args.younger.now)) (sym bout) (match_of-counts c.args.settings.now c.args.older.now c.args.younger.now)
 
 pub returns-clause-rounds : goal.returns-clause-rounds
 returns-clause-rounds g c =

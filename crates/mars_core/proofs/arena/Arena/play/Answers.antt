@@ -1,13 +1,25 @@
-use Rattle.std.proofs.Common.{◌∙◌, sym}
-use Rattle.mars_core.proofs.Turns.{after_turns-over, after_turns-next, after_turns-fewer}
+use Rattle.std.proofs.Common.{◌≡◌, ℕ, ◌-◌, ◌*◌, ◌≤◌, true, ap, sym, ◌∙◌, arith}
+use Rattle.mars_core.specs.Round.{Round, after_turns, is_over}
+use Rattle.mars_core.proofs.Turns.{after_turns-over, after_turns-end}
 use Rattle.mars_core.proofs.arena.Arena.play.Goals as goal
-
-pub loop-self-smaller : goal.loop-self-smaller
-loop-self-smaller g c = after_turns-fewer c.loop-self.self c.turn.new.self (sym c.loop-self-test.ensures.value) c.turn.ensures.after
-
-pub loop-self-preserved : goal.loop-self-preserved
-loop-self-preserved g c =
-    record { after = after_turns-next c.loop-self.self c.turn.new.self (sym c.loop-self-test.ensures.value) c.turn.ensures.after ∙ c.loop-self.invariant.after }
+use Rattle.mars_core.proofs.arena.Arena.play.Goals.{then-not-is_over, else-not-is_over}
 
 pub returns-clause-after : goal.returns-clause-after
-returns-clause-after g c = sym (after_turns-over _ c.loop-self.self (sym c.loop-self-test.ensures.value)) ∙ c.loop-self.invariant.after
+returns-clause-after g c =
+    let r : Round = c.args.self.now in
+    elim c.if-not-is_over.branch [
+      | then-not-is_over w ↦
+          (let count : 2 * w.cycles.result - c.self.inside.used ≡ 2 * r.settings.cycles - r.used =
+          ap (λ (cycles : ℕ). 2 * cycles - c.self.inside.used) w.cycles.ensures.value ∙ ap (λ (r : Round). 2 * r.settings.cycles - r.used) c.self.view_is in
+          w.self-is ∙ (w.turns.ensures.after ∙ ap (λ (n : ℕ). after_turns n r) count))
+      | else-not-is_over w ↦
+          (let over : is_over r ≡ true = sym c.is_over.ensures.value ∙ w.if-not-is_over.false in
+          w.self-is ∙ sym (after_turns-over (2 * r.settings.cycles - r.used) r over))
+    ]
+
+pub returns-clause-over : goal.returns-clause-over
+returns-clause-over g c =
+    let r : Round = c.args.self.now in
+    let left = 2 * r.settings.cycles - r.used in
+    let within : 2 * r.settings.cycles - r.used ≤ left = omega arith in
+    ap is_over (returns-clause-after g c) ∙ after_turns-end left r within

@@ -1,0 +1,10 @@
+use Rattle.std.proofs.Common.{ap, ◌∙◌}
+use Rattle.mars_core.specs.Words.{Word}
+use Rattle.mars_core.proofs.Marks.{inside-core_in, cell-core_in, HasNumbersBelow-cell}
+use Rattle.mars_core.proofs.cells.Core.cell.Goals as goal
+
+pub returns-clause-numbers : goal.returns-clause-numbers
+returns-clause-numbers g c =
+    let inside = inside-core_in c.args.size c.args.at c.self.inside.cells.items c.args.self.now c.requires.core c.requires.address c.self.view_is in
+    HasNumbersBelow-cell c.args.size c.args.at c.args.self.now c.in_bits.result.instr c.requires.core c.requires.address
+    (ap (λ (w : Word). w.instr) c.in_bits.ensures ∙ cell-core_in c.self.inside.cells.items c.args.at c.index.result.now c.args.self.now inside c.index.ensures c.self.view_is)

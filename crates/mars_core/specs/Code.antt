@@ -1,0 +1,67 @@
+-- Of the code alone: what its own values are in the words of the definitions. No definition names a word of this file.
+use Rattle.std.specs.Prelude.{ℕ, List, [], ◌∷◌}
+use Rattle.mars_core.specs.declared.field.Field as code_field
+use Rattle.mars_core.specs.declared.field.Field.TheVariants as fields
+use Rattle.mars_core.specs.declared.field.Pair as code_pair
+use Rattle.mars_core.specs.declared.field.Paired.{Paired}
+use Rattle.mars_core.specs.declared.field.Paired.TheVariants as paireds
+use Rattle.mars_core.specs.declared.arithmetic.Arithmetic as code_arithmetic
+use Rattle.mars_core.specs.declared.arithmetic.Arithmetic.TheVariants as arithmetics
+use Rattle.mars_core.specs.declared.operand.Operand as code_operand
+use Rattle.mars_core.specs.declared.effect.Queued.{Queued}
+use Rattle.mars_core.specs.declared.effect.Queued.TheVariants as queueds
+use Rattle.mars_core.specs.declared.round.Side.{Side}
+use Rattle.mars_core.specs.declared.round.Side.TheVariants as sides
+use Rattle.mars_core.specs.Cells.{Field}
+use Rattle.mars_core.specs.Pairs.{Pair}
+use Rattle.war_types.specs.declared.instr.Instr.{Instr}
+use Rattle.mars_core.specs.Operand.{Operand, operand}
+use Rattle.mars_core.specs.Effect.{Arithmetic}
+
+abbrev pub field_of : code_field.Field → Field
+field_of fields.A = Field.A
+field_of fields.B = Field.B
+
+abbrev pub pair_of : code_pair.Pair → Pair
+pair_of p = record { source = field_of p.source; target = field_of p.target }
+
+-- the pairs that it names one by one
+abbrev pub listed : Paired → List Pair
+listed (paireds.One p) = pair_of p ∷ []
+listed (paireds.Two p q) = pair_of p ∷ pair_of q ∷ []
+
+abbrev pub arithmetic_of : code_arithmetic.Arithmetic → Arithmetic
+arithmetic_of arithmetics.Sum = Arithmetic.Sum
+arithmetic_of arithmetics.Difference = Arithmetic.Difference
+arithmetic_of arithmetics.Product = Arithmetic.Product
+arithmetic_of arithmetics.Quotient = Arithmetic.Quotient
+arithmetic_of arithmetics.Remainder = Arithmetic.Remainder
+
+abbrev pub operand_of : code_operand.Operand → Operand
+operand_of o = record { pointer = o.pointer; register = o.register.instr }
+
+-- both operands of an instruction, and the core afterwards
+pub record Operands : Type 0 where
+  pub a : Operand
+  pub b : Operand
+  pub core : List Instr
+
+abbrev pub evaluated_both : Operand → Operand → List Instr → Operands
+evaluated_both a b core = record { a = a; b = b; core = core }
+
+-- A is evaluated, then B on the core that A left
+abbrev pub operands : ℕ → List Instr → ℕ → Instr → Operands
+operands size core pc i =
+    let a = operand size core pc i.a_mode i.a in
+    let b = operand size a.core pc i.b_mode i.b in
+    evaluated_both a.operand b.operand b.core
+
+-- the addresses that it names one by one
+abbrev pub addresses : Queued → List ℕ
+addresses queueds.Nothing = []
+addresses (queueds.One a) = a ∷ []
+addresses (queueds.Two a b) = a ∷ b ∷ []
+
+abbrev pub other : Side → Side
+other sides.First = sides.Second
+other sides.Second = sides.First

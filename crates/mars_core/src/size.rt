@@ -1,0 +1,82 @@
+//! The size of a core, and the numbers below it.
+
+ghost use Rattle.std.specs.Prelude.{◌≡◌, ◌<◌, ◌≤◌, IfSome};
+ghost use Rattle.mars_core.specs.Cells.{plus, minus};
+ghost use Rattle.mars_core.specs.Effect.{combined};
+ghost use Rattle.mars_core.specs.Code.{arithmetic_of};
+
+use crate::arithmetic::Arithmetic;
+use std::marker::Model;
+
+/// How many cells a core has, at most 65,535: in 32 bits, as its addresses are.
+#[derive(Clone, Copy, Debug)]
+pub(crate) struct Size {
+    cells: u32,
+}
+
+impl Model for Size {
+    ghost use Rattle.std.specs.Prelude.{ℕ, ◌≤◌};
+
+    ghost Value = { ℕ };
+
+    ghost view = { λ s. s.cells };
+
+    ghost invariant = { λ s. s.cells ≤ 65535 };
+
+    ghost inverse = { λ n. record { cells = n } };
+}
+
+impl Size {
+    #[inline(always)]
+    pub(crate) fn of(cells: u16) -> Size
+        ensures { result ≡ cells }
+    {
+        Size {
+            cells: u32::from(cells),
+        }
+    }
+
+    /// The sum of two numbers. It is past the core once at most, so nothing is divided.
+    #[inline(always)]
+    pub(crate) fn plus(self, m: u32, n: u32) -> u32
+        requires m { m < self }
+        requires n { n ≤ self }
+        ensures value { result ≡ plus self m n }
+        ensures below { result < self }
+    {
+        let sum = m + n;
+        if sum < self.cells {
+            sum
+        } else {
+            sum - self.cells
+        }
+    }
+
+    /// The difference of two numbers.
+    #[inline(always)]
+    pub(crate) fn minus(self, m: u32, n: u32) -> u32
+        requires m { m < self }
+        requires n { n ≤ self }
+        ensures value { result ≡ minus self m n }
+        ensures below { result < self }
+    {
+        if n <= m { m - n } else { m + (self.cells - n) }
+    }
+
+    /// A number of the B operand with one of the A operand; nothing where it would be divided by 0.
+    #[inline(always)]
+    pub(crate) fn combined(self, arithmetic: Arithmetic, y: u32, x: u32) -> Option<u32>
+        requires x { x < self }
+        requires y { y < self }
+        ensures value { result ≡ combined self (arithmetic_of arithmetic) y x }
+        ensures below { IfSome result (λ n. n < self) }
+    {
+        match arithmetic {
+            Arithmetic::Sum => Some(self.plus(y, x)),
+            Arithmetic::Difference => Some(self.minus(y, x)),
+            Arithmetic::Product => Some(y * x % self.cells),
+            Arithmetic::Quotient => y.checked_div(x),
+            Arithmetic::Remainder => y.checked_rem(x),
+        }
+    }
+}

@@ -1,0 +1,245 @@
+//! What a cell holds, in 64 bits.
+
+ghost use Rattle.std.specs.Prelude.{◌≡◌, ℕ, ◌<◌, ◌≤◌, ◌==◌, Bool, true, false, ◌&&◌};
+ghost use Rattle.war_types.specs.Warrior.{HasNumbersBelow};
+ghost use Rattle.mars_core.specs.Cells.{number, with_number};
+ghost use Rattle.mars_core.specs.Effect.{are_equal};
+ghost use Rattle.mars_core.specs.Code.{field_of};
+ghost use Rattle.mars_core.specs.Words.{Word, IsWord, word_in, op_at, modifier_at, mode_at, is_plain};
+
+use crate::field::Field;
+use std::marker::Model;
+use war_types::{Instr, Mode, Modifier, Op};
+
+const A: u32 = 16;
+
+const B_MODE: u32 = 32;
+
+const A_MODE: u32 = 35;
+
+const MODIFIER: u32 = 38;
+
+const OP: u32 = 41;
+
+const MARK: u32 = 63;
+
+/// An instruction, and the mark of a cell that was written since its core was cleared: the B number from bit 0 on, the A number from
+/// bit 16 on, then the B mode, the A mode, the modifier and the operation, and the mark as the highest bit.
+#[derive(Clone, Copy, Debug)]
+pub(crate) struct Word {
+    bits: u64,
+}
+
+impl Model for Word {
+    ghost use Rattle.std.specs.Prelude.{◌≡◌};
+    ghost use Rattle.mars_core.specs.Words.{Word, word_in, bits_of, IsWord};
+
+    ghost Value = { Word };
+
+    ghost view = { λ w. word_in w.bits };
+
+    ghost invariant = { λ w. IsWord w.bits };
+
+    ghost inverse = { λ w. record { bits = bits_of w } };
+}
+
+impl Word {
+    /// An instruction without a mark.
+    pub(crate) fn of(i: Instr) -> Word
+        ensures instr { result.instr ≡ i }
+        ensures unmarked { result.is_marked ≡ false }
+    {
+        Word {
+            bits: wide(i.b)
+                | wide(i.a) << A
+                | u64::from(i.b_mode.code()) << B_MODE
+                | u64::from(i.a_mode.code()) << A_MODE
+                | u64::from(i.modifier.code()) << MODIFIER
+                | u64::from(i.op.code()) << OP,
+        }
+    }
+
+    /// The word in these bits.
+    #[inline(always)]
+    pub(crate) fn in_bits(bits: u64) -> Word
+        requires { IsWord bits }
+        ensures { result ≡ word_in bits }
+    {
+        Word { bits }
+    }
+
+    /// The bits, as they stand in a cell.
+    #[inline(always)]
+    pub(crate) fn bits(self) -> u64
+        ensures value { word_in result ≡ self }
+        ensures word { IsWord result }
+    {
+        self.bits
+    }
+
+    /// The instruction.
+    pub(crate) fn instr(self) -> Instr
+        ensures { result ≡ self.instr }
+    {
+        Instr {
+            op: self.op(),
+            modifier: self.modifier(),
+            a_mode: self.a_mode(),
+            a: self.number(Field::A) as u16,
+            b_mode: self.b_mode(),
+            b: self.number(Field::B) as u16,
+        }
+    }
+
+    #[inline(always)]
+    pub(crate) fn op(self) -> Op
+        ensures { result ≡ self.instr.op }
+    {
+        op_at(self.bits >> OP & 15)
+    }
+
+    #[inline(always)]
+    pub(crate) fn modifier(self) -> Modifier
+        ensures { result ≡ self.instr.modifier }
+    {
+        modifier_at(self.bits >> MODIFIER & 7)
+    }
+
+    #[inline(always)]
+    pub(crate) fn a_mode(self) -> Mode
+        ensures { result ≡ self.instr.a_mode }
+    {
+        mode_at(self.bits >> A_MODE & 7)
+    }
+
+    #[inline(always)]
+    pub(crate) fn b_mode(self) -> Mode
+        ensures { result ≡ self.instr.b_mode }
+    {
+        mode_at(self.bits >> B_MODE & 7)
+    }
+
+    /// Whether both modes are immediate or direct.
+    #[inline(always)]
+    pub(crate) fn is_plain(self) -> bool
+        ensures { result ≡ (is_plain self.instr.a_mode && is_plain self.instr.b_mode) }
+    {
+        self.bits >> (A_MODE + 1) & 3 == 0 && self.bits >> (B_MODE + 1) & 3 == 0
+    }
+
+    /// Whether the instructions are the same, whatever the marks are.
+    #[inline(always)]
+    pub(crate) fn equals(self, other: Word) -> bool
+        ensures { result ≡ are_equal Modifier.I self.instr other.instr }
+    {
+        self.bits << 1 == other.bits << 1
+    }
+
+    /// One of the two numbers.
+    #[inline(always)]
+    pub(crate) fn number(self, field: Field) -> u32
+        ensures value { result ≡ number (field_of field) self.instr }
+        ensures below { (size : ℕ) → HasNumbersBelow size self.instr → result < size }
+        ensures small { result ≤ 65535 }
+    {
+        match field {
+            Field::A => (self.bits >> A & 0xffff) as u32,
+            Field::B => (self.bits & 0xffff) as u32,
+        }
+    }
+
+    /// The word with another such number.
+    #[inline(always)]
+    pub(crate) fn with_number(self, field: Field, n: u32) -> Word
+        requires { n ≤ 65535 }
+        ensures value { result.instr ≡ with_number (field_of field) n self.instr }
+        ensures below { (size : ℕ) → HasNumbersBelow size self.instr → n < size → HasNumbersBelow size result.instr }
+        ensures mark { result.is_marked ≡ self.is_marked }
+    {
+        match field {
+            Field::A => Word::in_bits(self.bits & !0xffff_0000 | u64::from(n) << A),
+            Field::B => Word::in_bits(self.bits & !0xffff | u64::from(n)),
+        }
+    }
+
+    #[inline(always)]
+    pub(crate) fn is_marked(self) -> bool
+        ensures { result ≡ self.is_marked }
+    {
+        self.bits >> MARK == 1
+    }
+
+    /// The same instruction with the mark.
+    #[inline(always)]
+    pub(crate) fn marked(self) -> Word
+        ensures instr { result.instr ≡ self.instr }
+        ensures mark { result.is_marked ≡ true }
+    {
+        Word {
+            bits: self.bits | 1 << MARK,
+        }
+    }
+}
+
+/// A number in 64 bits, of which it takes the lowest 16.
+fn wide(number: u16) -> u64
+    ensures value { result ≡ number }
+    ensures small { result ≤ 65535 }
+{
+    u64::from(number)
+}
+
+#[inline(always)]
+fn op_at(code: u64) -> Op
+    ensures { result ≡ op_at code }
+{
+    match code {
+        0 => Op::Dat,
+        1 => Op::Mov,
+        2 => Op::Add,
+        3 => Op::Sub,
+        4 => Op::Mul,
+        5 => Op::Div,
+        6 => Op::Mdl,
+        7 => Op::Jmp,
+        8 => Op::Jmz,
+        9 => Op::Jmn,
+        10 => Op::Djn,
+        11 => Op::Seq,
+        12 => Op::Sne,
+        13 => Op::Slt,
+        14 => Op::Spl,
+        _ => Op::Nop,
+    }
+}
+
+#[inline(always)]
+fn modifier_at(code: u64) -> Modifier
+    ensures { result ≡ modifier_at code }
+{
+    match code {
+        0 => Modifier::A,
+        1 => Modifier::B,
+        2 => Modifier::AB,
+        3 => Modifier::BA,
+        4 => Modifier::F,
+        5 => Modifier::X,
+        _ => Modifier::I,
+    }
+}
+
+#[inline(always)]
+fn mode_at(code: u64) -> Mode
+    ensures { result ≡ mode_at code }
+{
+    match code {
+        0 => Mode::Immediate,
+        1 => Mode::Direct,
+        2 => Mode::AIndirect,
+        3 => Mode::BIndirect,
+        4 => Mode::APre,
+        5 => Mode::BPre,
+        6 => Mode::APost,
+        _ => Mode::BPost,
+    }
+}
