@@ -1,5 +1,5 @@
 -- Bytes say which header they are of, and sectors which warrior they hold.
-use Rattle.std.proofs.Common.{◌≡◌, ℕ, ◌^◌, ◌<◌, List, [], ◌++◌, length, take, sym, ap, ◌∙◌}
+use Rattle.std.proofs.Common.{◌≡◌, ℕ, ◌^◌, ◌<◌, ◌≤◌, List, [], ◌++◌, length, take, sym, ap, ◌∙◌}
 use Rattle.std.proofs.Math.Seq.{take-append_seam}
 use Rattle.std.proofs.lemmas.List.{append_cancel_left}
 use Rattle.std.specs.Int.{bytes_high_first}
@@ -8,7 +8,7 @@ use Rattle.byteorder.specs.Numbers.{big_number-reads_back}
 use Rattle.war_types.specs.declared.settings.RawSettings.{RawSettings}
 use Rattle.war_types.specs.Settings.{AreSettings}
 use Rattle.war_types.specs.Warrior.{WarriorParts}
-use Rattle.hill_bytes.specs.Layout.{HeaderParts, IsHeader, IsSlot}
+use Rattle.hill_bytes.specs.Layout.{Layout, HeaderParts, IsHeader, IsSlot, code_room}
 use Rattle.hill_bytes.proofs.OneHeader.{same_header}
 use Rattle.hill_bytes.proofs.OneSlot.{same_warrior}
 
@@ -27,9 +27,9 @@ bytes_same k a b below_a below_b e =
     sym (big_number-reads_back k a [] below_a) ∙ ap (λ bytes. big_from 0 k (bytes ++ [])) e ∙ big_number-reads_back k b [] below_b
 
 -- one header at most has these bytes
-pub one_header : (bytes : List ℕ) (g h : HeaderParts) → IsHeader bytes g → IsHeader bytes h → g ≡ h
-one_header bytes g h is_g is_h = same_header bytes g h is_g is_h
+pub one_header : (layout : Layout) (bytes : List ℕ) (g h : HeaderParts) → IsHeader layout bytes g → IsHeader layout bytes h → g ≡ h
+one_header layout bytes g h is_g is_h = same_header layout bytes g h is_g is_h
 
 -- one warrior at most stands in these sectors
-pub one_slot : (s : RawSettings) (front back : List ℕ) (v w : WarriorParts) → AreSettings s → IsSlot s front back v → IsSlot s front back w → v ≡ w
-one_slot s front back v w are is_v is_w = same_warrior s front back v w are is_v is_w
+pub one_slot : (layout : Layout) (s : RawSettings) (sectors : List (List ℕ)) (v w : WarriorParts) → AreSettings s → s.length ≤ code_room layout → IsSlot layout s sectors v → IsSlot layout s sectors w → v ≡ w
+one_slot layout s sectors v w are room is_v is_w = same_warrior layout s sectors v w are room is_v is_w

@@ -1,6 +1,6 @@
 -- What stands at each place of a header's bytes.
 use Rattle.std.proofs.Common.{◌≡◌, Option, None, Some, true, false, nat_lt, All, subst, ℕ, zero, suc, ◌+◌, ◌-◌, ◌*◌, ◌^◌, ◌<◌, ◌≤◌, List, [], ◌∷◌, ◌++◌, length, get_or, set, take, drop, replicate, arith, refl, sym, ap, ◌∙◌}
-use Rattle.std.proofs.lemmas.List.{append_assoc, drop-drop, drop_more, drop_all, take_more, take-set-le, get_or-set_same, length-set}
+use Rattle.std.proofs.lemmas.List.{append_assoc, drop-drop, drop_at, drop_more, drop_all, take_more, take-set-le, get_or-set_same, length-set}
 use Rattle.std.proofs.lemmas.List.Elements.{All-weaker}
 use Rattle.std.proofs.lemmas.Bool.Decides.{nat_tests}
 use Rattle.std.specs.Option.{SomeIff}
@@ -9,31 +9,45 @@ use Rattle.war_types.specs.declared.settings.RawSettings.{RawSettings}
 use Rattle.byteorder.specs.Endian.{big_from}
 use Rattle.byteorder.specs.Numbers.{big_number-reads_back}
 use Rattle.hill_bytes.specs.declared.header.HeaderEntry.{HeaderEntry}
-use Rattle.hill_bytes.specs.Layout.{HeaderParts, IsHeaderParts, IsEntry, header_parts, magic, header_bytes, settings_bytes, entry_bytes, entry_places}
+use Rattle.hill_bytes.specs.Layout.{HeaderParts, IsHeaderParts, IsEntry, Layout, header_parts, header_bytes, settings_bytes, entry_bytes, entry_places}
 
 -- the number at a place is the one that was written there
 pub number-at : (k n : ℕ) (bytes rest : List ℕ) → n < 256 ^ k → bytes ≡ bytes_high_first k n ++ rest → big_from 0 k bytes ≡ n
 number-at k n bytes rest below e = ap (big_from 0 k) e ∙ big_number-reads_back k n rest below
 
-pub generation-at : (bytes : List ℕ) (h : HeaderParts) → bytes ≡ header_bytes h → drop 8 bytes ≡ bytes_high_first 8 h.generation ++ drop 16 (header_bytes h)
-unfolding header_bytes magic
-generation-at bytes h e = ap (drop 8) e
+-- the fields of a header, behind the eight bytes that it begins with
+abbrev pub header_fields : HeaderParts → List ℕ
+header_fields h =
+    bytes_high_first 8 h.generation ++ settings_bytes h.settings ++ replicate 4 0 ++ bytes_high_first 8 h.counter
+    ++ bytes_high_first 2 (length h.entries) ++ entry_places 20 h.entries ++ replicate 122 0
 
-pub settings-at : (bytes : List ℕ) (h : HeaderParts) → bytes ≡ header_bytes h → drop 16 bytes ≡ settings_bytes h.settings ++ drop 36 (header_bytes h)
-unfolding header_bytes magic
-settings-at bytes h e = ap (drop 16) e
+regrouped : (a b c d e f g h : List ℕ) → (((((((a ++ b) ++ c) ++ d) ++ e) ++ f) ++ g) ++ h) ≡ a ++ ((((((b ++ c) ++ d) ++ e) ++ f) ++ g) ++ h)
+regrouped a b c d e f g h = simp append_assoc
 
-pub counter-at : (bytes : List ℕ) (h : HeaderParts) → bytes ≡ header_bytes h → drop 40 bytes ≡ bytes_high_first 8 h.counter ++ drop 48 (header_bytes h)
-unfolding header_bytes magic
-counter-at bytes h e = ap (drop 40) e
+pub fields-behind : (layout : Layout) (h : HeaderParts) → drop 8 (header_bytes layout h) ≡ header_fields h
+unfolding header_bytes
+fields-behind layout h =
+    ap (drop 8) (regrouped layout.magic (bytes_high_first 8 h.generation) (settings_bytes h.settings) (replicate 4 0) (bytes_high_first 8 h.counter)
+    (bytes_high_first 2 (length h.entries)) (entry_places 20 h.entries) (replicate 122 0))
+    ∙ drop_at layout.magic (header_fields h) 8 layout.magic_long
 
-pub count-at : (bytes : List ℕ) (h : HeaderParts) → bytes ≡ header_bytes h → drop 48 bytes ≡ bytes_high_first 2 (length h.entries) ++ drop 50 (header_bytes h)
-unfolding header_bytes magic
-count-at bytes h e = ap (drop 48) e
+generation_behind : (layout : Layout) (bytes : List ℕ) (h : HeaderParts) → bytes ≡ header_bytes layout h → drop 8 bytes ≡ header_fields h
+generation_behind layout bytes h e = ap (drop 8) e ∙ fields-behind layout h
 
-pub entries-at : (bytes : List ℕ) (h : HeaderParts) → bytes ≡ header_bytes h → drop 50 bytes ≡ entry_places 20 h.entries ++ replicate 122 0
-unfolding header_bytes magic
-entries-at bytes h e = ap (drop 50) e
+pub generation-at : (layout : Layout) (bytes : List ℕ) (h : HeaderParts) → bytes ≡ header_bytes layout h → drop 8 bytes ≡ bytes_high_first 8 h.generation ++ drop 8 (header_fields h)
+generation-at layout bytes h e = generation_behind layout bytes h e
+
+pub settings-at : (layout : Layout) (bytes : List ℕ) (h : HeaderParts) → bytes ≡ header_bytes layout h → drop 16 bytes ≡ settings_bytes h.settings ++ drop 28 (header_fields h)
+settings-at layout bytes h e = sym (drop-drop 8 8 bytes) ∙ ap (drop 8) (generation_behind layout bytes h e)
+
+pub counter-at : (layout : Layout) (bytes : List ℕ) (h : HeaderParts) → bytes ≡ header_bytes layout h → drop 40 bytes ≡ bytes_high_first 8 h.counter ++ drop 40 (header_fields h)
+counter-at layout bytes h e = sym (drop-drop 32 8 bytes) ∙ ap (drop 32) (generation_behind layout bytes h e)
+
+pub count-at : (layout : Layout) (bytes : List ℕ) (h : HeaderParts) → bytes ≡ header_bytes layout h → drop 48 bytes ≡ bytes_high_first 2 (length h.entries) ++ drop 42 (header_fields h)
+count-at layout bytes h e = sym (drop-drop 40 8 bytes) ∙ ap (drop 40) (generation_behind layout bytes h e)
+
+pub entries-at : (layout : Layout) (bytes : List ℕ) (h : HeaderParts) → bytes ≡ header_bytes layout h → drop 50 bytes ≡ entry_places 20 h.entries ++ replicate 122 0
+entries-at layout bytes h e = sym (drop-drop 42 8 bytes) ∙ ap (drop 42) (generation_behind layout bytes h e)
 
 -- the i-th place holds the i-th entry
 pub place-at : (n : ℕ) (es : List HeaderEntry) (i : ℕ) (d : HeaderEntry) (rest : List ℕ) → i < length es → length es ≤ n → (behind : List ℕ) × (drop (17 * i) (entry_places n es ++ rest) ≡ entry_bytes (get_or es i d) ++ behind)

@@ -5,8 +5,8 @@ use Rattle.std.specs.Int.{bytes_high_first}
 use Rattle.war_types.specs.declared.settings.RawSettings.{RawSettings}
 use Rattle.war_types.specs.Settings.{AreSettings}
 use Rattle.hill_bytes.specs.declared.header.HeaderEntry.{HeaderEntry}
-use Rattle.hill_bytes.specs.Layout.{HeaderParts, IsHeader, IsHeaderParts, header_bytes, settings_bytes, entry_bytes, entry_places}
-use Rattle.hill_bytes.proofs.HeaderBytes.{number-at, generation-at, settings-at, counter-at, count-at, entries-at, entries-fit}
+use Rattle.hill_bytes.specs.Layout.{Layout, HeaderParts, IsHeader, IsHeaderParts, settings_bytes, entry_bytes, entry_places}
+use Rattle.hill_bytes.proofs.HeaderBytes.{header_fields, number-at, generation-at, settings-at, counter-at, count-at, entries-at, entries-fit}
 
 -- two numbers that stand at one place are one
 pub same-at : (k m n : ℕ) (bytes r s : List ℕ) → m < 256 ^ k → n < 256 ^ k → bytes ≡ bytes_high_first k m ++ r → bytes ≡ bytes_high_first k n ++ s → m ≡ n
@@ -54,20 +54,20 @@ counter-fits : (h : HeaderParts) → IsHeaderParts h → h.counter < 2 ^ 64
 counter-fits h is = omega (arith, is.counter, is.generation)
 
 -- one header at most has these bytes
-pub same_header : (bytes : List ℕ) (g h : HeaderParts) → IsHeader bytes g → IsHeader bytes h → g ≡ h
-same_header bytes g h is_g is_h =
-    let a : List ℕ = header_bytes g in
-    let b : List ℕ = header_bytes h in
+pub same_header : (layout : Layout) (bytes : List ℕ) (g h : HeaderParts) → IsHeader layout bytes g → IsHeader layout bytes h → g ≡ h
+same_header layout bytes g h is_g is_h =
+    let a : List ℕ = header_fields g in
+    let b : List ℕ = header_fields h in
     let top_g = is_g.header.generation in
     let top_h = is_h.header.generation in
     let few_g = few-entries g is_g.header in
     let few_h = few-entries h is_h.header in
-    let generation : g.generation ≡ h.generation = same-at 8 g.generation h.generation (drop 8 bytes) (drop 16 a) (drop 16 b) (omega (arith, top_g)) (omega (arith, top_h)) (generation-at bytes g is_g.bytes_are) (generation-at bytes h is_h.bytes_are) in
-    let settings : g.settings ≡ h.settings = settings-same g.settings h.settings (drop 16 bytes) (drop 36 a) (drop 36 b) is_g.header.settings is_h.header.settings (settings-at bytes g is_g.bytes_are) (settings-at bytes h is_h.bytes_are) in
-    let counter : g.counter ≡ h.counter = same-at 8 g.counter h.counter (drop 40 bytes) (drop 48 a) (drop 48 b) (counter-fits g is_g.header) (counter-fits h is_h.header) (counter-at bytes g is_g.bytes_are) (counter-at bytes h is_h.bytes_are) in
-    let size : length g.entries ≡ length h.entries = same-at 2 (length g.entries) (length h.entries) (drop 48 bytes) (drop 50 a) (drop 50 b) (omega (arith, few_g)) (omega (arith, few_h)) (count-at bytes g is_g.bytes_are) (count-at bytes h is_h.bytes_are) in
+    let generation : g.generation ≡ h.generation = same-at 8 g.generation h.generation (drop 8 bytes) (drop 8 a) (drop 8 b) (omega (arith, top_g)) (omega (arith, top_h)) (generation-at layout bytes g is_g.bytes_are) (generation-at layout bytes h is_h.bytes_are) in
+    let settings : g.settings ≡ h.settings = settings-same g.settings h.settings (drop 16 bytes) (drop 28 a) (drop 28 b) is_g.header.settings is_h.header.settings (settings-at layout bytes g is_g.bytes_are) (settings-at layout bytes h is_h.bytes_are) in
+    let counter : g.counter ≡ h.counter = same-at 8 g.counter h.counter (drop 40 bytes) (drop 40 a) (drop 40 b) (counter-fits g is_g.header) (counter-fits h is_h.header) (counter-at layout bytes g is_g.bytes_are) (counter-at layout bytes h is_h.bytes_are) in
+    let size : length g.entries ≡ length h.entries = same-at 2 (length g.entries) (length h.entries) (drop 48 bytes) (drop 42 a) (drop 42 b) (omega (arith, few_g)) (omega (arith, few_h)) (count-at layout bytes g is_g.bytes_are) (count-at layout bytes h is_h.bytes_are) in
     let entries : g.entries ≡ h.entries = entries-same 20 g.entries h.entries (replicate 122 0) (replicate 122 0) size few_g
     (entries-fit g.settings.capacity g.counter g.entries (counter-fits g is_g.header) is_g.header.entries)
     (entries-fit h.settings.capacity h.counter h.entries (counter-fits h is_h.header) is_h.header.entries)
-    (sym (entries-at bytes g is_g.bytes_are) ∙ entries-at bytes h is_h.bytes_are) in
+    (sym (entries-at layout bytes g is_g.bytes_are) ∙ entries-at layout bytes h is_h.bytes_are) in
     λ i. record { generation = generation i; settings = settings i; counter = counter i; entries = entries i }

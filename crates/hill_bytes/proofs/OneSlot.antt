@@ -1,6 +1,7 @@
 -- Sectors hold one warrior at most.
-use Rattle.std.proofs.Common.{◌≡◌, ℕ, zero, suc, ◌+◌, ◌≤◌, List, [], ◌∷◌, ◌++◌, length, get_or, drop, replicate, All, arith, refl, sym, ap, ◌∙◌}
-use Rattle.std.proofs.lemmas.List.Elements.{All-head, All-tail}
+use Rattle.std.proofs.Common.{◌≡◌, ℕ, zero, suc, ◌+◌, ◌-◌, ◌*◌, ◌≤◌, List, [], ◌∷◌, ◌++◌, length, get_or, take, drop, replicate, All, arith, refl, sym, ap, ap₂, ◌∙◌}
+use Rattle.std.proofs.lemmas.List.Elements.{All-drop, All-head, All-tail}
+use Rattle.std.proofs.lemmas.List.{length-drop, take_all, take-append-drop}
 use Rattle.war_types.specs.Bytes.{op_code, modifier_code, mode_code, instr_bytes}
 use Rattle.war_types.specs.declared.instr.Op.{Op}
 use Rattle.war_types.specs.declared.instr.Op.TheVariants as ops
@@ -14,9 +15,9 @@ use Rattle.war_types.specs.Settings.{AreSettings}
 use Rattle.war_types.specs.Title.{IsPrintable}
 use Rattle.war_types.specs.Warrior.{WarriorParts, HasNumbersBelow}
 use Rattle.hill_bytes.specs.declared.wins.Wins.{Wins}
-use Rattle.hill_bytes.specs.Layout.{code_places, filled, result_places, results_in, IsSlot}
+use Rattle.hill_bytes.specs.Layout.{Layout, code_places, code_room, code_sectors, fields_bytes, filled, last_sector, result_places, results_in, IsSlot}
 use Rattle.hill_bytes.proofs.OneHeader.{same-at}
-use Rattle.hill_bytes.proofs.SlotBytes.{back_rest, front-at, codes-at, len-at, start-at, name-at, author-at}
+use Rattle.hill_bytes.proofs.SlotBytes.{fields_rest, code-stands, drop-sectors, len-at, start-at, name-at, author-at}
 
 abbrev op_of : ℕ → Op
 op_of n =
@@ -81,20 +82,33 @@ instr-same core i j r q most below_i below_j same =
     let b : i.b ≡ j.b = same-at 2 i.b j.b (drop 6 x) r q (omega (arith, most, below_i.b)) (omega (arith, most, below_j.b)) refl (ap (drop 6) same) in
     λ k. record { op = op k; modifier = modifier k; a_mode = a_mode k; a = a k; b_mode = b_mode k; b = b k }
 
--- all instructions are the same where both parts of them stand in the same places
-code-same : (n m core : ℕ) (is js : List Instr) (r q s t : List ℕ) → core ≤ 65535 → length is ≡ length js → length is ≤ n + m → All (HasNumbersBelow core) is → All (HasNumbersBelow core) js → code_places n is ++ r ≡ code_places n js ++ q → code_places m (drop n is) ++ s ≡ code_places m (drop n js) ++ t → is ≡ js
-code-same n m core [] [] r q s t most size few below_i below_j front back = refl
-code-same n m core [] (j ∷ js) r q s t most size few below_i below_j front back = absurd (omega (arith, size))
-code-same n m core (i ∷ is) [] r q s t most size few below_i below_j front back = absurd (omega (arith, size))
-code-same zero zero core (i ∷ is) (j ∷ js) r q s t most size few below_i below_j front back = absurd (omega (arith, few))
-code-same zero (suc m) core (i ∷ is) (j ∷ js) r q s t most size few below_i below_j front back =
-    let head : i ≡ j = instr-same core i j (code_places m is ++ s) (code_places m js ++ t) most (All-head (HasNumbersBelow core) i is below_i) (All-head (HasNumbersBelow core) j js below_j) back in
-    let tail : is ≡ js = code-same zero m core is js r q s t most (omega (arith, size)) (omega (arith, few)) (All-tail (HasNumbersBelow core) i is below_i) (All-tail (HasNumbersBelow core) j js below_j) front (ap (drop 8) back) in
-    ap (λ x. x ∷ is) head ∙ ap (λ xs. j ∷ xs) tail
-code-same (suc n) m core (i ∷ is) (j ∷ js) r q s t most size few below_i below_j front back =
-    let head : i ≡ j = instr-same core i j (code_places n is ++ r) (code_places n js ++ q) most (All-head (HasNumbersBelow core) i is below_i) (All-head (HasNumbersBelow core) j js below_j) front in
-    let tail : is ≡ js = code-same n m core is js r q s t most (omega (arith, size)) (omega (arith, few)) (All-tail (HasNumbersBelow core) i is below_i) (All-tail (HasNumbersBelow core) j js below_j) (ap (drop 8) front) back in
-    ap (λ x. x ∷ is) head ∙ ap (λ xs. j ∷ xs) tail
+-- instructions that stand in the same places are the same
+places-same : (n core : ℕ) (is js : List Instr) (r q : List ℕ) → core ≤ 65535 → length is ≡ length js → All (HasNumbersBelow core) is → All (HasNumbersBelow core) js → code_places n is ++ r ≡ code_places n js ++ q → take n is ≡ take n js
+places-same n core [] [] r q most size below_i below_j same = refl
+places-same n core [] (j ∷ js) r q most size below_i below_j same = absurd (omega (arith, size))
+places-same n core (i ∷ is) [] r q most size below_i below_j same = absurd (omega (arith, size))
+places-same zero core (i ∷ is) (j ∷ js) r q most size below_i below_j same = refl
+places-same (suc n) core (i ∷ is) (j ∷ js) r q most size below_i below_j same =
+    let head : i ≡ j = instr-same core i j (code_places n is ++ r) (code_places n js ++ q) most (All-head (HasNumbersBelow core) i is below_i) (All-head (HasNumbersBelow core) j js below_j) same in
+    let tail : take n is ≡ take n js = places-same n core is js r q most (omega (arith, size)) (All-tail (HasNumbersBelow core) i is below_i) (All-tail (HasNumbersBelow core) j js below_j) (ap (drop 8) same) in
+    ap (λ x. x ∷ take n is) head ∙ ap (λ xs. j ∷ xs) tail
+
+-- all of them where they stand in the same sectors
+code-same : (n m core : ℕ) (is js : List Instr) (r q : List ℕ) → core ≤ 65535 → length is ≡ length js → length is ≤ 64 * n + m → All (HasNumbersBelow core) is → All (HasNumbersBelow core) js
+    → code_sectors n is ++ (code_places m (drop (64 * n) is) ++ r) ∷ [] ≡ code_sectors n js ++ (code_places m (drop (64 * n) js) ++ q) ∷ [] → is ≡ js
+code-same zero m core is js r q most size few below_i below_j same =
+    let all : take m is ≡ take m js = places-same m core is js r q most size below_i below_j (ap (λ xs. get_or xs 0 []) same) in
+    sym (take_all m is (omega (arith, few))) ∙ all ∙ take_all m js (omega (arith, few, size))
+code-same (suc n) m core is js r q most size few below_i below_j same =
+    let first : take 64 is ≡ take 64 js = places-same 64 core is js [] [] most size below_i below_j (ap (λ xs. get_or xs 0 [] ++ []) same) in
+    let left_i : length (drop 64 is) ≡ length is - 64 = length-drop 64 is in
+    let left_j : length (drop 64 js) ≡ length js - 64 = length-drop 64 js in
+    let others : code_sectors n (drop 64 is) ++ (code_places m (drop (64 * n) (drop 64 is)) ++ r) ∷ [] ≡ code_sectors n (drop 64 js) ++ (code_places m (drop (64 * n) (drop 64 js)) ++ q) ∷ [] =
+    ap (λ xs. code_sectors n (drop 64 is) ++ (code_places m xs ++ r) ∷ []) (sym (drop-sectors n is))
+    ∙ ap (drop 1) same
+    ∙ ap (λ xs. code_sectors n (drop 64 js) ++ (code_places m xs ++ q) ∷ []) (drop-sectors n js) in
+    let rest : drop 64 is ≡ drop 64 js = code-same n m core (drop 64 is) (drop 64 js) r q most (omega (arith, left_i, left_j, size)) (omega (arith, left_i, few)) (All-drop (HasNumbersBelow core) 64 is below_i) (All-drop (HasNumbersBelow core) 64 js below_j) others in
+    sym (take-append-drop 64 is) ∙ ap₂ (λ (xs ys : List Instr). xs ++ ys) first rest ∙ take-append-drop 64 js
 
 not-zero : (b : ℕ) → IsPrintable b → b ≡ 0 → ⊥
 not-zero b is e = let low = is.low in omega (arith, low, e)
@@ -112,20 +126,23 @@ title-same (suc n) (a ∷ x) (b ∷ y) r q few_x few_y is_x is_y same =
     ap (λ c. c ∷ x) head ∙ ap (λ cs. b ∷ cs) tail
 
 -- one warrior at most stands in these sectors
-pub same_warrior : (s : RawSettings) (front back : List ℕ) (v w : WarriorParts) → AreSettings s → IsSlot s front back v → IsSlot s front back w → v ≡ w
-same_warrior s front back v w are is_v is_w =
+pub same_warrior : (layout : Layout) (s : RawSettings) (sectors : List (List ℕ)) (v w : WarriorParts) → AreSettings s → s.length ≤ code_room layout → IsSlot layout s sectors v → IsSlot layout s sectors w → v ≡ w
+same_warrior layout s sectors v w are room is_v is_w =
     let most = are.length_most in
     let core : s.core ≤ 65535 = are.core_most in
     let few_v = is_v.fits.length in
     let few_w = is_w.fits.length in
     let first_v = is_v.fits.start in
     let first_w = is_w.fits.start in
-    let results : List Wins = results_in back in
+    let results : List Wins = results_in layout sectors in
     let rest : List ℕ = result_places results ++ replicate 40 0 in
-    let size : length v.code ≡ length w.code = same-at 2 (length v.code) (length w.code) (drop 288 back) (drop 2 (back_rest v results)) (drop 2 (back_rest w results)) (omega (arith, most, few_v)) (omega (arith, most, few_w)) (len-at back v results is_v.back_is) (len-at back w results is_w.back_is) in
-    let start : v.start ≡ w.start = same-at 2 v.start w.start (drop 290 back) (drop 4 (back_rest v results)) (drop 4 (back_rest w results)) (omega (arith, most, few_v, first_v)) (omega (arith, most, few_w, first_w)) (start-at back v results is_v.back_is) (start-at back w results is_w.back_is) in
-    let name : v.name ≡ w.name = title-same 48 v.name w.name (filled 48 v.author ++ rest) (filled 48 w.author ++ rest) is_v.titled.name.short is_w.titled.name.short is_v.titled.name.printable is_w.titled.name.printable (sym (name-at back v results is_v.back_is) ∙ name-at back w results is_w.back_is) in
-    let author : v.author ≡ w.author = title-same 48 v.author w.author rest rest is_v.titled.author.short is_w.titled.author.short is_v.titled.author.printable is_w.titled.author.printable (sym (author-at back v results is_v.back_is) ∙ author-at back w results is_w.back_is) in
-    let fronts : code_places 64 v.code ++ [] ≡ code_places 64 w.code ++ [] = ap (λ x. x ++ []) (sym (front-at front v is_v.front_is) ∙ front-at front w is_w.front_is) in
-    let code : v.code ≡ w.code = code-same 64 36 s.core v.code w.code [] [] (back_rest v results) (back_rest w results) core size (omega (arith, most, few_v)) is_v.fits.numbers is_w.fits.numbers fronts (sym (codes-at back v results is_v.back_is) ∙ codes-at back w results is_w.back_is) in
+    let last : List ℕ = last_sector layout sectors in
+    let at_v = is_v.sectors_are in
+    let at_w = is_w.sectors_are in
+    let size : length v.code ≡ length w.code = same-at 2 (length v.code) (length w.code) (drop 288 last) (drop 2 (fields_rest v results)) (drop 2 (fields_rest w results)) (omega (arith, most, few_v)) (omega (arith, most, few_w)) (len-at layout sectors v results at_v) (len-at layout sectors w results at_w) in
+    let start : v.start ≡ w.start = same-at 2 v.start w.start (drop 290 last) (drop 4 (fields_rest v results)) (drop 4 (fields_rest w results)) (omega (arith, most, few_v, first_v)) (omega (arith, most, few_w, first_w)) (start-at layout sectors v results at_v) (start-at layout sectors w results at_w) in
+    let name : v.name ≡ w.name = title-same 48 v.name w.name (filled 48 v.author ++ rest) (filled 48 w.author ++ rest) is_v.titled.name.short is_w.titled.name.short is_v.titled.name.printable is_w.titled.name.printable (sym (name-at layout sectors v results at_v) ∙ name-at layout sectors w results at_w) in
+    let author : v.author ≡ w.author = title-same 48 v.author w.author rest rest is_v.titled.author.short is_w.titled.author.short is_v.titled.author.printable is_w.titled.author.printable (sym (author-at layout sectors v results at_v) ∙ author-at layout sectors w results at_w) in
+    let zeros : List ℕ = replicate layout.zeros 0 in
+    let code : v.code ≡ w.code = code-same layout.full layout.last s.core v.code w.code (zeros ++ fields_bytes v results) (zeros ++ fields_bytes w results) core size (omega (arith, few_v, room)) is_v.fits.numbers is_w.fits.numbers (sym (code-stands layout sectors v results at_v) ∙ code-stands layout sectors w results at_w) in
     λ k. record { code = code k; start = start k; name = name k; author = author k }

@@ -9,7 +9,7 @@ use Rattle.war_types.specs.declared.settings.RawSettings.{RawSettings}
 use Rattle.war_types.specs.Settings.{AreSettings}
 use Rattle.war_types.specs.Warrior.{WarriorParts, Fits}
 use Rattle.hill_bytes.specs.declared.wins.Wins.{Wins}
-use Rattle.hill_bytes.specs.Layout.{FitRounds, IsSlot, IsTitled, back_bytes, front_bytes, result_places, results_from, results_in, wins_bytes, wins_in}
+use Rattle.hill_bytes.specs.Layout.{Layout, FitRounds, IsSlot, IsTitled, last_sector, result_places, results_from, results_in, slot_bytes, wins_bytes, wins_in}
 use Rattle.hill_bytes.proofs.SlotBytes.{results-at}
 
 -- a result is read back
@@ -31,10 +31,10 @@ from-back (w ∷ ws) rounds rest most fits =
     (ap wins_in (append_assoc (wins_bytes w) (result_places ws) rest) ∙ wins-back w rounds (result_places ws ++ rest) most (All-head (λ x. x.older + x.younger ≤ rounds) w ws fits))
     (from-back ws rounds rest most (All-tail (λ x. x.older + x.younger ≤ rounds) w ws fits))
 
-pub results-written : (w : WarriorParts) (results : List Wins) (rounds : ℕ) → rounds ≤ 1000 → length results ≡ 21 → FitRounds rounds results → results_in (back_bytes w results) ≡ results
+pub results-written : (layout : Layout) (w : WarriorParts) (results : List Wins) (rounds : ℕ) → rounds ≤ 1000 → length results ≡ 21 → FitRounds rounds results → results_in layout (slot_bytes layout w results) ≡ results
 unfolding results_in
-results-written w results rounds most long fits =
-    ap (results_from 21) (results-at (back_bytes w results) w results refl)
+results-written layout w results rounds most long fits =
+    ap (results_from 21) (results-at layout (slot_bytes layout w results) w results refl)
     ∙ ap (λ n. results_from n (result_places results ++ replicate 40 0)) (sym long)
     ∙ from-back results rounds (replicate 40 0) most fits
 
@@ -42,19 +42,18 @@ length-from : (n : ℕ) (bytes : List ℕ) → length (results_from n bytes) ≡
 length-from zero bytes = refl
 length-from (suc n) bytes = ap suc (length-from n (drop 4 bytes))
 
-pub length-results : (back : List ℕ) → length (results_in back) ≡ 21
+pub length-results : (layout : Layout) (sectors : List (List ℕ)) → length (results_in layout sectors) ≡ 21
 unfolding results_in
-length-results back = length-from 21 (drop 388 back)
+length-results layout sectors = length-from 21 (drop 388 (last_sector layout sectors))
 
 -- sectors that are written are a slot's
-pub slot-written : (s : RawSettings) (w : WarriorParts) (results : List Wins) → AreSettings s → Fits s w → IsTitled w → length results ≡ 21 → FitRounds s.rounds results → IsSlot s (front_bytes w) (back_bytes w results) w
-slot-written s w results are fits titled long rounds =
-    let same : results_in (back_bytes w results) ≡ results = results-written w results s.rounds are.rounds_most long rounds in record {
+pub slot-written : (layout : Layout) (s : RawSettings) (w : WarriorParts) (results : List Wins) → AreSettings s → Fits s w → IsTitled w → length results ≡ 21 → FitRounds s.rounds results → IsSlot layout s (slot_bytes layout w results) w
+slot-written layout s w results are fits titled long rounds =
+    let same : results_in layout (slot_bytes layout w results) ≡ results = results-written layout w results s.rounds are.rounds_most long rounds in record {
       fits = fits;
       titled = titled;
       rounds = subst (FitRounds s.rounds) (sym same) rounds;
-      front_is = refl;
-      back_is = ap (back_bytes w) (sym same);
+      sectors_are = ap (slot_bytes layout w) (sym same);
     }
 
 -- the result at a place
@@ -65,6 +64,7 @@ from-at (suc n) (suc i) bytes d below =
     let past : 4 + 4 * i ≡ 4 * suc i = omega arith in
     from-at n i (drop 4 bytes) d (omega (arith, below)) ∙ ap wins_in (drop-drop (4 * i) 4 bytes ∙ ap (λ k. drop k bytes) past)
 
-pub result-at : (back : List ℕ) (i : ℕ) (d : Wins) → i < 21 → get_or (results_in back) i d ≡ wins_in (drop (388 + 4 * i) back)
+pub result-at : (layout : Layout) (sectors : List (List ℕ)) (i : ℕ) (d : Wins) → i < 21 → get_or (results_in layout sectors) i d ≡ wins_in (drop (388 + 4 * i) (last_sector layout sectors))
 unfolding results_in
-result-at back i d below = from-at 21 i (drop 388 back) d below ∙ ap wins_in (drop-drop (4 * i) 388 back)
+result-at layout sectors i d below =
+    from-at 21 i (drop 388 (last_sector layout sectors)) d below ∙ ap wins_in (drop-drop (4 * i) 388 (last_sector layout sectors))

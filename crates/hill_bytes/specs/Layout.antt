@@ -1,5 +1,5 @@
--- What the sectors hold: two headers in turn, and two sectors for each slot. Numbers are big endian.
-use Rattle.std.specs.Prelude.{◌≡◌, ℕ, zero, suc, ◌+◌, ◌-◌, ◌*◌, ◌^◌, ◌<◌, ◌≤◌, ◌≢◌, List, [], ◌∷◌, ◌++◌, length, drop, replicate, All, Option, Some, None, codes}
+-- What the sectors hold: two headers in turn, and as many sectors for each slot as the layout says. Numbers are big endian.
+use Rattle.std.specs.Prelude.{◌≡◌, ℕ, zero, suc, ◌+◌, ◌-◌, ◌*◌, ◌^◌, ◌<◌, ◌≤◌, ◌≢◌, List, [], ◌∷◌, ◌++◌, length, get_or, drop, replicate, All, Option, Some, None, codes, refl}
 use Rattle.std.specs.Int.{bytes_high_first}
 use Rattle.byteorder.specs.Endian.{big_number}
 use Rattle.war_types.specs.declared.instr.Instr.{Instr}
@@ -10,6 +10,23 @@ use Rattle.war_types.specs.Title.{IsTitle}
 use Rattle.war_types.specs.Warrior.{WarriorParts, Fits}
 use Rattle.hill_bytes.specs.declared.header.HeaderEntry.{HeaderEntry}
 use Rattle.hill_bytes.specs.declared.wins.Wins.{Wins}
+
+-- How a device is laid out. A slot has some sectors full of code, 64 instructions each, and a last one: in it the rest of the code, zeros up
+-- to byte 288, and from there on the fields of the warrior and its results.
+pub record Layout : Type 0 where
+  -- what a header's sector begins with
+  pub magic : List ℕ
+  pub magic_long : length magic ≡ 8
+  -- the sectors of a slot that are full of code
+  pub full : ℕ
+  -- the instructions in its last sector, and the zeros behind them
+  pub last : ℕ
+  pub zeros : ℕ
+  pub fields_at : 8 * last + zeros ≡ 288
+
+-- the instructions that a slot has places for
+abbrev pub code_room : Layout → ℕ
+code_room layout = 64 * layout.full + layout.last
 
 -- a header: how many were written before it, and of a hill all but its warriors, with the slots that hold these
 pub record HeaderParts : Type 0 where
@@ -49,10 +66,6 @@ pub record IsHeaderParts (h : HeaderParts) : Type 0 where
   pub entries : All (IsEntry h.settings.capacity h.counter) h.entries
   pub slots : SlotsDiffer h.entries
 
--- what a header's sector begins with
-unfoldable pub magic : List ℕ
-magic = codes "KOTHHIL1"
-
 abbrev pub settings_bytes : RawSettings → List ℕ
 settings_bytes s =
     bytes_high_first 2 s.core ++ bytes_high_first 4 s.cycles ++ bytes_high_first 2 s.processes ++ bytes_high_first 2 s.length
@@ -68,15 +81,17 @@ entry_places (suc n) [] = replicate 17 0 ++ entry_places n []
 entry_places (suc n) (e ∷ es) = entry_bytes e ++ entry_places n es
 
 -- the 512 bytes of a header
-unfoldable pub header_bytes : HeaderParts → List ℕ
-header_bytes h =
-    magic ++ bytes_high_first 8 h.generation ++ settings_bytes h.settings ++ replicate 4 0 ++ bytes_high_first 8 h.counter
+unfoldable pub header_bytes : Layout → HeaderParts → List ℕ
+header_bytes layout h =
+    layout.magic ++ bytes_high_first 8 h.generation ++ settings_bytes h.settings ++ replicate 4 0 ++ bytes_high_first 8 h.counter
     ++ bytes_high_first 2 (length h.entries) ++ entry_places 20 h.entries ++ replicate 122 0
 
--- these bytes are this header's; a record of parts ranges over all numbers, so that it keeps its ranges is said here
-pub record IsHeader (bytes : List ℕ) (h : HeaderParts) : Type 0 where
+-- these bytes are this header's; a record of parts ranges over all numbers, so that it keeps its ranges is said here, and that the longest
+-- warrior of its settings has room in a slot
+pub record IsHeader (layout : Layout) (bytes : List ℕ) (h : HeaderParts) : Type 0 where
   pub header : IsHeaderParts h
-  pub bytes_are : bytes ≡ header_bytes h
+  pub room : h.settings.length ≤ code_room layout
+  pub bytes_are : bytes ≡ header_bytes layout h
 
 -- so many places of 8 bytes, in which these instructions stand; a place without one is zero
 abbrev pub code_places : ℕ → List Instr → List ℕ
@@ -90,9 +105,10 @@ filled zero bs = []
 filled (suc n) [] = 0 ∷ filled n []
 filled (suc n) (b ∷ bs) = b ∷ filled n bs
 
--- the first sector of a slot: instructions 0 to 63
-unfoldable pub front_bytes : WarriorParts → List ℕ
-front_bytes w = code_places 64 w.code
+-- so many sectors full of code, 64 instructions each
+abbrev pub code_sectors : ℕ → List Instr → List (List ℕ)
+code_sectors zero is = []
+code_sectors (suc n) is = code_places 64 is ∷ code_sectors n (drop 64 is)
 
 -- the rounds that two warriors won, the older first
 abbrev pub wins_bytes : Wins → List ℕ
@@ -103,11 +119,19 @@ abbrev pub result_places : List Wins → List ℕ
 result_places [] = []
 result_places (w ∷ ws) = wins_bytes w ++ result_places ws
 
--- the second sector: instructions 64 to 99, the code's length, the start, the two names, and the results by the older warrior's slot
-unfoldable pub back_bytes : WarriorParts → List Wins → List ℕ
-back_bytes w results =
-    code_places 36 (drop 64 w.code) ++ bytes_high_first 2 (length w.code) ++ bytes_high_first 2 w.start
-    ++ filled 48 w.name ++ filled 48 w.author ++ result_places results ++ replicate 40 0
+-- the sectors of a slot with this code, of which the last has these bytes behind its part of it
+abbrev pub with_code : Layout → List Instr → List ℕ → List (List ℕ)
+with_code layout is behind = code_sectors layout.full is ++ (code_places layout.last (drop (64 * layout.full) is) ++ behind) ∷ []
+
+-- the fields of a slot: the code's length, the start, the two names, and the results by the older warrior's slot
+unfoldable pub fields_bytes : WarriorParts → List Wins → List ℕ
+fields_bytes w results =
+    bytes_high_first 2 (length w.code) ++ bytes_high_first 2 w.start ++ filled 48 w.name ++ filled 48 w.author ++ result_places results
+    ++ replicate 40 0
+
+-- the sectors of a slot
+unfoldable pub slot_bytes : Layout → WarriorParts → List Wins → List (List ℕ)
+slot_bytes layout w results = with_code layout w.code (replicate layout.zeros 0 ++ fields_bytes w results)
 
 -- what stands at the front of these bytes, read as a result
 abbrev pub wins_in : List ℕ → Wins
@@ -118,9 +142,13 @@ abbrev pub results_from : ℕ → List ℕ → List Wins
 results_from zero bytes = []
 results_from (suc n) bytes = wins_in bytes ∷ results_from n (drop 4 bytes)
 
--- the 21 results in the second sector of a slot
-unfoldable pub results_in : List ℕ → List Wins
-results_in back = results_from 21 (drop 388 back)
+-- the last of a slot's sectors
+abbrev pub last_sector : Layout → List (List ℕ) → List ℕ
+last_sector layout sectors = get_or sectors layout.full []
+
+-- the 21 results in it
+unfoldable pub results_in : Layout → List (List ℕ) → List Wins
+results_in layout sectors = results_from 21 (drop 388 (last_sector layout sectors))
 
 -- no more rounds were won than a match has
 abbrev pub FitRounds : ℕ → List Wins → Type 0
@@ -131,34 +159,55 @@ pub record IsTitled (w : WarriorParts) : Type 0 where
   pub name : IsTitle w.name
   pub author : IsTitle w.author
 
--- these two sectors are a slot's that holds this warrior, which fits the settings
-pub record IsSlot (s : RawSettings) (front back : List ℕ) (w : WarriorParts) : Type 0 where
+-- these sectors are a slot's that holds this warrior, which fits the settings
+pub record IsSlot (layout : Layout) (s : RawSettings) (sectors : List (List ℕ)) (w : WarriorParts) : Type 0 where
   pub fits : Fits s w
   pub titled : IsTitled w
-  pub rounds : FitRounds s.rounds (results_in back)
-  pub front_is : front ≡ front_bytes w
-  pub back_is : back ≡ back_bytes w (results_in back)
+  pub rounds : FitRounds s.rounds (results_in layout sectors)
+  pub sectors_are : sectors ≡ slot_bytes layout w (results_in layout sectors)
 
--- where the two sectors of a slot lie
-abbrev pub front_sector : ℕ → ℕ
-front_sector slot = 2 + 2 * slot
+-- where the first sector of a slot lies; the others lie behind it
+abbrev pub slot_at : Layout → ℕ → ℕ
+slot_at layout slot = 2 + (layout.full + 1) * slot
 
-abbrev pub back_sector : ℕ → ℕ
-back_sector slot = 3 + 2 * slot
+-- so many sectors of an image, from one on
+abbrev pub sectors_from : ℕ → ℕ → (ℕ → List ℕ) → List (List ℕ)
+sectors_from zero at image = []
+sectors_from (suc n) at image = image at ∷ sectors_from n (at + 1) image
+
+-- the sectors of a slot in an image
+abbrev pub slot_in : Layout → (ℕ → List ℕ) → ℕ → List (List ℕ)
+slot_in layout image slot = sectors_from (layout.full + 1) (slot_at layout slot) image
 
 -- how many sectors a hill of this capacity needs: two for the headers, and one slot more than it holds warriors
-abbrev pub sectors_for : ℕ → ℕ
-sectors_for capacity = 2 + 2 * (capacity + 1)
+abbrev pub sectors_in : Layout → ℕ → ℕ
+sectors_in layout capacity = slot_at layout (capacity + 1)
 
 -- what decoding has to find in these bytes: the header whose bytes they are, and nothing only where there is none
-abbrev pub IsDecoded : List ℕ → Option HeaderParts → Type 0
-IsDecoded bytes None = (h : HeaderParts) → IsHeader bytes h → ⊥
-IsDecoded bytes (Some h) = IsHeader bytes h
+abbrev pub IsDecoded : Layout → List ℕ → Option HeaderParts → Type 0
+IsDecoded layout bytes None = (h : HeaderParts) → IsHeader layout bytes h → ⊥
+IsDecoded layout bytes (Some h) = IsHeader layout bytes h
 
--- what reading a slot has to find in these two sectors
-abbrev pub IsSlotRead : RawSettings → List ℕ → List ℕ → Option WarriorParts → Type 0
-IsSlotRead s front back None = (w : WarriorParts) → IsSlot s front back w → ⊥
-IsSlotRead s front back (Some w) = IsSlot s front back w
+-- what reading a slot has to find in these sectors
+abbrev pub IsSlotRead : Layout → RawSettings → List (List ℕ) → Option WarriorParts → Type 0
+IsSlotRead layout s sectors None = (w : WarriorParts) → IsSlot layout s sectors w → ⊥
+IsSlotRead layout s sectors (Some w) = IsSlot layout s sectors w
 
 abbrev pub header_parts : ℕ → RawSettings → ℕ → List HeaderEntry → HeaderParts
 header_parts generation settings counter entries = record { generation = generation; settings = settings; counter = counter; entries = entries }
+
+-- ---- the layout that devices have
+
+unfoldable pub first_magic : List ℕ
+first_magic = codes "KOTHHIL1"
+
+pub first_magic_long : length first_magic ≡ 8
+unfolding first_magic
+first_magic_long = refl
+
+-- a slot of two sectors, with room for 100 instructions
+abbrev pub first_layout : Layout
+first_layout = record { magic = first_magic; magic_long = first_magic_long; full = 1; last = 36; zeros = 0; fields_at = refl }
+
+abbrev pub sectors_for : ℕ → ℕ
+sectors_for capacity = sectors_in first_layout capacity

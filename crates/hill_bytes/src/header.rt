@@ -5,7 +5,7 @@ ghost use Rattle.std.specs.Option.{SomeIff};
 ghost use Rattle.war_types.specs.declared.settings.RawSettings.{RawSettings};
 ghost use Rattle.war_types.specs.Settings.{AreSettings};
 ghost use Rattle.hill_bytes.specs.declared.header.HeaderEntry.{HeaderEntry};
-ghost use Rattle.hill_bytes.specs.Layout.{HeaderParts, IsHeader, IsHeaderParts, IsEntry, EntriesRise, SlotIsFree, SlotsDiffer, header_parts, header_bytes, settings_bytes, entry_bytes, entry_places, IsDecoded};
+ghost use Rattle.hill_bytes.specs.Layout.{HeaderParts, IsHeader, IsHeaderParts, IsEntry, EntriesRise, SlotIsFree, SlotsDiffer, header_parts, first_layout, header_bytes, settings_bytes, entry_bytes, entry_places, IsDecoded};
 
 pub(crate) mod reader;
 pub(crate) mod writer;
@@ -53,7 +53,7 @@ impl Model for Header {
 impl Header {
     /// The header of these parts: of at most as many entries as the settings' capacity, which rise from at least 1 to at most
     /// the counter; their slots are distinct and at most the capacity, no age is above the counter less the entry, and the
-    /// counter is at most the generation. `None` for others. It takes no memory.
+    /// counter is at most the generation. `None` for others. It needs no memory: its answer stands whatever is refused.
     pub fn new(
         generation: u64,
         settings: Settings,
@@ -170,9 +170,9 @@ fn slot_is_free(slot: u8, entries: &[HeaderEntry]) -> bool
     true
 }
 
-/// The 512 bytes of a header. It takes no memory.
+/// The 512 bytes of a header. It needs no memory: its answer stands whatever is refused.
 pub fn encode_header(header: &Header) -> [u8; 512]
-    ensures { result ≡ header_bytes header.now }
+    ensures { result ≡ header_bytes first_layout header.now }
 {
     let mut sector = SectorWriter::new();
     sector.put(b"KOTHHIL1");
@@ -224,9 +224,9 @@ fn put_entries(sector: &mut SectorWriter, entries: &[HeaderEntry])
     }
 }
 
-/// The header whose bytes these are; `None` where they are no header's. It takes no memory.
+/// The header whose bytes these are; `None` where they are no header's. It needs no memory: its answer stands whatever is refused.
 pub fn decode_header(bytes: &[u8; 512]) -> Option<Header>
-    ensures { IsDecoded bytes.now result }
+    ensures { IsDecoded first_layout bytes.now result }
 {
     let header = read_header(bytes)?;
     if encode_header(&header) == *bytes {
@@ -238,7 +238,7 @@ pub fn decode_header(bytes: &[u8; 512]) -> Option<Header>
 
 /// Reads the fields. Of bytes that are no header's it may give any header, or none.
 fn read_header(bytes: &[u8; 512]) -> Option<Header>
-    ensures { (h : HeaderParts) → IsHeader bytes.now h → result ≡ Some h }
+    ensures { (h : HeaderParts) → IsHeader first_layout bytes.now h → result ≡ Some h }
 {
     let settings = read_settings(bytes)?;
     let count = usize::from(u16_at(bytes, 48));

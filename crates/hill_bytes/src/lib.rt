@@ -6,5 +6,5 @@ mod slot;
 mod wins;
 
 pub use header::{Header, HeaderEntry, decode_header, encode_header};
-pub use slot::{RESULTS, Slot};
+pub use slot::{RESULTS, SECTORS, Slot};
 pub use wins::Wins;

@@ -1,11 +1,11 @@
-//! The slot: the two sectors that hold a warrior.
+//! The slot: the sectors that hold a warrior.
 
-ghost use Rattle.std.specs.Prelude.{◌≡◌, ◌↔◌, ◌+◌, ◌*◌, ◌<◌, ◌≤◌, ◌++◌, ℕ, List, All, IsTrue, length, drop, get_or, replicate, Some, IfOk, IfSome};
+ghost use Rattle.std.specs.Prelude.{◌≡◌, ◌↔◌, ◌+◌, ◌*◌, ◌<◌, ◌≤◌, ◌++◌, ℕ, List, [], All, IsTrue, length, drop, get_or, replicate, Some, IfOk, IfSome};
 ghost use Rattle.war_types.specs.declared.instr.Instr.{Instr};
 ghost use Rattle.war_types.specs.Bytes.{instr_bytes};
 ghost use Rattle.war_types.specs.Title.{IsTitle};
 ghost use Rattle.war_types.specs.Warrior.{WarriorParts, HasNumbersBelow, Fits};
-ghost use Rattle.hill_bytes.specs.Layout.{code_places, filled, front_bytes, back_bytes, result_places, results_in, wins_in, FitRounds, IsTitled, IsSlot, IsSlotRead};
+ghost use Rattle.hill_bytes.specs.Layout.{first_layout, code_places, code_room, fields_bytes, filled, slot_bytes, result_places, results_in, wins_in, with_code, FitRounds, IsTitled, IsSlot, IsSlotRead};
 
 use crate::header::reader::u16_at;
 use crate::header::writer::SectorWriter;
@@ -14,64 +14,56 @@ use byteorder::{BigEndian, ByteOrder};
 use std::alloc::{AllocError, Allocator};
 use war_types::{Instr, Settings, Title, Warrior};
 
-/// Instructions that stand in the first sector.
-const FRONT_PLACES: usize = 64;
+/// Sectors of a slot.
+pub const SECTORS: usize = 2;
 
-/// Instructions that stand in the second sector.
-const BACK_PLACES: usize = 36;
+/// The last of them. Those before it are full of code.
+const LAST: usize = SECTORS - 1;
 
-/// Results that stand in the second sector: one for each slot that an older warrior may have.
+/// Instructions that stand in a sector full of code.
+const FULL_PLACES: usize = 64;
+
+/// Instructions that stand in the last sector.
+const LAST_PLACES: usize = 36;
+
+/// Where its fields begin.
+const FIELDS_AT: usize = 288;
+
+/// Results that stand in it: one for each slot that an older warrior may have.
 pub const RESULTS: usize = 21;
 
-/// Where they begin in it.
+/// Where they begin.
 const RESULTS_AT: usize = 388;
 
-/// The two sectors of a slot.
+/// The sectors of a slot: the first holds instructions 0 to 63, the last instructions 64 to 99, their number, the start, the two names, and
+/// the results by the older warrior's slot.
 #[derive(Debug, Drop)]
 pub struct Slot {
-    /// Instructions 0 to 63.
-    pub front: [u8; 512],
-    /// Instructions 64 to 99, their number, the start, the two names, and the results by the older warrior's slot.
-    pub back: [u8; 512],
+    /// In their order on the device.
+    pub sectors: [[u8; 512]; SECTORS],
 }
 
 impl Slot {
-    /// Two sectors of zeros. It takes no memory.
+    /// Sectors of zeros. It needs no memory.
     pub fn blank() -> Slot
-        ensures front { result.front ≡ replicate 512 0 }
-        ensures back { result.back ≡ replicate 512 0 }
+        ensures { result.sectors ≡ replicate (first_layout.full + 1) (replicate 512 0) }
     {
         Slot {
-            front: [0; 512],
-            back: [0; 512],
+            sectors: [[0; 512]; SECTORS],
         }
     }
 
-    /// The sectors that hold a warrior and the results of its matches, by the older warrior's slot. It takes no memory.
+    /// The sectors that hold a warrior and the results of its matches, by the older warrior's slot. It needs no memory.
     pub fn encode<A: Allocator>(warrior: &Warrior<A>, results: &[Wins; RESULTS]) -> Slot
-        ensures front { result.front ≡ front_bytes warrior.now }
-        ensures back { result.back ≡ back_bytes warrior.now results.now }
+        ensures value { result.sectors ≡ slot_bytes first_layout warrior.now results.now }
         ensures titled { IsTitled warrior.now }
     {
-        let code = warrior.code();
-        let mut front = SectorWriter::new();
-        put_code(&mut front, code, FRONT_PLACES);
-        let mut back = SectorWriter::new();
-        put_code(
-            &mut back,
-            &code[code.len().min(FRONT_PLACES)..],
-            BACK_PLACES,
-        );
-        back.put_u16(code.len() as u16);
-        back.put_u16(warrior.start());
-        put_title(&mut back, warrior.name());
-        put_title(&mut back, warrior.author());
-        put_results(&mut back, results);
-        back.put_zeros(40);
-        Slot {
-            front: front.into_sector(),
-            back: back.into_sector(),
+        let mut sectors = [[0; 512]; SECTORS];
+        for n in 0..LAST {
+            sectors[n] = full_sector(warrior.code(), n);
         }
+        sectors[LAST] = last_sector(warrior, results);
+        Slot { sectors }
     }
 
     /// The warrior that these sectors hold; `None` where they are no slot's that holds a warrior of these settings.
@@ -80,7 +72,7 @@ impl Slot {
         alloc: A,
         settings: &Settings,
     ) -> Result<Option<Warrior<A>>, AllocError>
-        ensures { IfOk result (IsSlotRead settings.now self.now.front self.now.back) }
+        ensures { IfOk result (IsSlotRead first_layout settings.now self.now.sectors) }
     {
         let results = self.results();
         if !fit_rounds(settings.rounds(), &results) {
@@ -90,21 +82,21 @@ impl Slot {
             return Ok(None);
         };
         let again = Slot::encode(&warrior, &results);
-        if again.front == self.front && again.back == self.back {
+        if again.sectors == self.sectors {
             Ok(Some(warrior))
         } else {
             Ok(None)
         }
     }
 
-    /// The results that stand in the second sector, by the older warrior's slot. It takes no memory.
+    /// The results that stand in the last sector, by the older warrior's slot. It needs no memory.
     pub fn results(&self) -> [Wins; RESULTS]
-        ensures value { result ≡ results_in self.now.back }
+        ensures value { result ≡ results_in first_layout self.now.sectors }
         ensures len { length result ≡ 21 }
     {
         let mut results = [Wins::NONE; RESULTS];
         for place in 0..RESULTS {
-            results[place] = wins_at(&self.back, RESULTS_AT + 4 * place);
+            results[place] = wins_at(&self.sectors[LAST], RESULTS_AT + 4 * place);
         }
         results
     }
@@ -116,21 +108,22 @@ impl Slot {
         settings: &Settings,
     ) -> Result<Option<Warrior<A>>, AllocError>
         ensures fits { IfOk result (λ read. IfSome read (Fits settings.now)) }
-        ensures every { IfOk result (λ read. (w : WarriorParts) → IsSlot settings.now self.now.front self.now.back w → read ≡ Some w) }
+        ensures every { IfOk result (λ read. (w : WarriorParts) → IsSlot first_layout settings.now self.now.sectors w → read ≡ Some w) }
     {
         let core = settings.core();
-        let Some(name) = title_at(&self.back, 292) else {
+        let last = &self.sectors[LAST];
+        let Some(name) = title_at(last, FIELDS_AT + 4) else {
             return Ok(None);
         };
-        let Some(author) = title_at(&self.back, 340) else {
+        let Some(author) = title_at(last, FIELDS_AT + 52) else {
             return Ok(None);
         };
-        let len = usize::from(u16_at(&self.back, 288));
-        if len > FRONT_PLACES + BACK_PLACES {
+        let len = usize::from(u16_at(last, FIELDS_AT));
+        if len > FULL_PLACES * LAST + LAST_PLACES {
             return Ok(None);
         }
         let code = self.read_code(alloc, len, core)?;
-        let start = u16_at(&self.back, 290);
+        let start = u16_at(last, FIELDS_AT + 2);
         Ok(Warrior::new(code, start, name, author, settings))
     }
 
@@ -141,9 +134,9 @@ impl Slot {
         len: usize,
         core: u16,
     ) -> Result<Vec<Instr, A>, AllocError>
-        requires { len ≤ 100 }
-        ensures { IfOk result (λ code. (is : List Instr) (rest : List ℕ) → length is ≡ len → All (HasNumbersBelow core) is
-            → self.now.front ≡ code_places 64 is → self.now.back ≡ code_places 36 (drop 64 is) ++ rest → code.items ≡ is) }
+        requires { len ≤ code_room first_layout }
+        ensures { IfOk result (λ code. (is : List Instr) (behind : List ℕ) → length is ≡ len → All (HasNumbersBelow core) is
+            → self.now.sectors ≡ with_code first_layout is behind → code.items ≡ is) }
     {
         let mut code = Vec::new(alloc);
         for place in 0..len {
@@ -155,18 +148,56 @@ impl Slot {
         Ok(code)
     }
 
-    /// The instruction of a place, counted from 0 through both sectors.
+    /// The instruction of a place, counted from 0 through all sectors.
     fn instr_at(&self, place: usize, core: u16) -> Option<Instr>
-        requires { place < 100 }
-        ensures { (is : List Instr) (rest : List ℕ) (other : Instr) → length is ≤ 100 → place < length is → HasNumbersBelow core (get_or is place other)
-            → self.now.front ≡ code_places 64 is → self.now.back ≡ code_places 36 (drop 64 is) ++ rest → result ≡ Some (get_or is place other) }
+        requires { place < code_room first_layout }
+        ensures { (is : List Instr) (behind : List ℕ) (other : Instr) → place < length is → HasNumbersBelow core (get_or is place other)
+            → self.now.sectors ≡ with_code first_layout is behind → result ≡ Some (get_or is place other) }
     {
-        if place < FRONT_PLACES {
-            read_instr(&self.front, 8 * place, core)
-        } else {
-            read_instr(&self.back, 8 * (place - FRONT_PLACES), core)
-        }
+        read_instr(
+            &self.sectors[place / FULL_PLACES],
+            8 * (place % FULL_PLACES),
+            core,
+        )
     }
+}
+
+/// The instructions from one on; none where there are no more.
+fn code_from(code: &[Instr], from: usize) -> &[Instr]
+    ensures { result.now ≡ drop from code.now }
+{
+    &code[code.len().min(from)..]
+}
+
+/// The n-th of the sectors that are full of code.
+fn full_sector(code: &[Instr], n: usize) -> [u8; 512]
+    requires { n < first_layout.full }
+    ensures { result ≡ code_places 64 (drop (64 * n) code.now) }
+{
+    let mut sector = SectorWriter::new();
+    put_code(&mut sector, code_from(code, FULL_PLACES * n), FULL_PLACES);
+    sector.into_sector()
+}
+
+/// The last sector of a slot.
+fn last_sector<A: Allocator>(warrior: &Warrior<A>, results: &[Wins; RESULTS]) -> [u8; 512]
+    ensures value { result ≡ code_places first_layout.last (drop (64 * first_layout.full) warrior.now.code) ++ fields_bytes warrior.now results.now }
+    ensures titled { IsTitled warrior.now }
+{
+    let mut sector = SectorWriter::new();
+    put_code(
+        &mut sector,
+        code_from(warrior.code(), FULL_PLACES * LAST),
+        LAST_PLACES,
+    );
+    sector.put_zeros(FIELDS_AT - 8 * LAST_PLACES);
+    sector.put_u16(warrior.code().len() as u16);
+    sector.put_u16(warrior.start());
+    put_title(&mut sector, warrior.name());
+    put_title(&mut sector, warrior.author());
+    put_results(&mut sector, results);
+    sector.put_zeros(40);
+    sector.into_sector()
 }
 
 /// The result at a place of a sector.

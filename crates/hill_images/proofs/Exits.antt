@@ -11,20 +11,20 @@ use Rattle.koth_hill.specs.Step.{falling_by, stays_by, after_stay}
 use Rattle.koth_hill.specs.Kept.{Kept, hill_in, known, verdict_kept, kept_stay, kept_fall, step_kept, IsKept}
 use Rattle.koth_hill.proofs.Admitted.{IsHill-after_stay}
 use Rattle.koth_hill.proofs.RowsKept.{IsKept-stay, IsKept-fall}
-use Rattle.hill_bytes.specs.Layout.{HeaderParts, IsHeaderParts, SlotIsFree, IsTitled, sectors_for}
-use Rattle.hill_images.specs.Stands.{Reads}
-use Rattle.hill_images.specs.Named.{IsSound}
+use Rattle.hill_bytes.specs.Layout.{HeaderParts, IsHeaderParts, SlotIsFree, IsTitled, Layout, sectors_in}
+use Rattle.hill_images.specs.Stands.{ReadsIn}
+use Rattle.hill_images.specs.Named.{IsSoundIn}
 use Rattle.hill_images.specs.Places.{header_placed, header_passed, commits, places}
 use Rattle.hill_images.proofs.Submitted.{verdict_is, step_stays, step_falls, named_placed, named_passed, placed_fits, passed_fits, hill_passed, results_of, ready_reads, MayPlace, ready_placed, cut_placed, ready_passed, cut_passed}
 
 -- a sound store that may take submissions reads as its hill
-pub sound_reads : {D : Type 0} (facts : DeviceFacts D) (device : D) (h : HeaderParts) (hill : Kept) (arena : RawSettings) (reopen : Bool) → IsSound facts device h hill arena reopen → reopen ≡ false → facts.lawful device → Images (facts.disk device) (λ image. Reads (facts.size device) image hill)
-sound_reads facts device h hill arena reopen sound is_open lawful =
+pub sound_reads : {D : Type 0} {layout : Layout} (facts : DeviceFacts D) (device : D) (h : HeaderParts) (hill : Kept) (arena : RawSettings) (reopen : Bool) → IsSoundIn layout facts device h hill arena reopen → reopen ≡ false → facts.lawful device → Images (facts.disk device) (λ image. ReadsIn layout (facts.size device) image hill)
+sound_reads {layout = layout} facts device h hill arena reopen sound is_open lawful =
     ready_reads (facts.size device) (facts.disk device) h hill sound.room (sound.ready lawful is_open)
 
 -- what is known of a warrior that stays, before the first call of the device
-pub record MayAdmit {D : Type 0} (facts : DeviceFacts D) (device : D) (h : HeaderParts) (hill : Kept) (arena : RawSettings) (reopen : Bool) (w : WarriorParts) (judged : Verdict) (slot : ℕ) : Type 0 where
-  pub sound : IsSound facts device h hill arena reopen
+pub record MayAdmit {D : Type 0} (layout : Layout) (facts : DeviceFacts D) (device : D) (h : HeaderParts) (hill : Kept) (arena : RawSettings) (reopen : Bool) (w : WarriorParts) (judged : Verdict) (slot : ℕ) : Type 0 where
+  pub sound : IsSoundIn layout facts device h hill arena reopen
   pub is_open : reopen ≡ false
   pub more : h.generation < 2 ^ 64 - 1
   pub fits : Fits hill.settings w
@@ -51,19 +51,19 @@ admit_kept hill w judged is stays_is kept fits =
     IsKept-stay hill w judged.falls kept
     (subst (λ fallen. IsHill (after_stay (hill_in hill) w fallen)) (falls_so hill w judged is) (IsHill-after_stay (known hill w) (hill_in hill) w kept.hill fits (stays_so hill w judged true is stays_is)))
 
-slot_within : {D : Type 0} (facts : DeviceFacts D) (device : D) (h : HeaderParts) (hill : Kept) (arena : RawSettings) (reopen : Bool) (w : WarriorParts) (judged : Verdict) (slot : ℕ) → MayAdmit facts device h hill arena reopen w judged slot → slot ≤ h.settings.capacity
-slot_within facts device h hill arena reopen w judged slot may =
+slot_within : {D : Type 0} {layout : Layout} (facts : DeviceFacts D) (device : D) (h : HeaderParts) (hill : Kept) (arena : RawSettings) (reopen : Bool) (w : WarriorParts) (judged : Verdict) (slot : ℕ) → MayAdmit layout facts device h hill arena reopen w judged slot → slot ≤ h.settings.capacity
+slot_within {layout = layout} facts device h hill arena reopen w judged slot may =
     let low : slot ≤ length h.entries = may.within in
     let few : length h.entries ≤ h.settings.capacity = may.sound.header.few in
     omega arith
 
-pub admit_header : {D : Type 0} (facts : DeviceFacts D) (device : D) (h : HeaderParts) (hill : Kept) (arena : RawSettings) (reopen : Bool) (w : WarriorParts) (judged : Verdict) (slot : ℕ) → MayAdmit facts device h hill arena reopen w judged slot → IsHeaderParts (header_placed h judged.falls slot)
-admit_header facts device h hill arena reopen w judged slot may =
+pub admit_header : {D : Type 0} {layout : Layout} (facts : DeviceFacts D) (device : D) (h : HeaderParts) (hill : Kept) (arena : RawSettings) (reopen : Bool) (w : WarriorParts) (judged : Verdict) (slot : ℕ) → MayAdmit layout facts device h hill arena reopen w judged slot → IsHeaderParts (header_placed h judged.falls slot)
+admit_header {layout = layout} facts device h hill arena reopen w judged slot may =
     placed_fits h (hill_in hill) w judged.falls slot may.sound.header may.sound.named (admit_kept hill w judged may.judged_is may.stays_is may.sound.kept may.fits).hill may.more may.free
     (slot_within facts device h hill arena reopen w judged slot may)
 
-may_place : {D : Type 0} (facts : DeviceFacts D) (device : D) (h : HeaderParts) (hill : Kept) (arena : RawSettings) (reopen : Bool) (w : WarriorParts) (judged : Verdict) (slot : ℕ) → MayAdmit facts device h hill arena reopen w judged slot → IsTitled w → facts.lawful device → MayPlace (facts.disk device) h hill w judged.falls slot
-may_place facts device h hill arena reopen w judged slot may titled lawful = record {
+may_place : {D : Type 0} {layout : Layout} (facts : DeviceFacts D) (device : D) (h : HeaderParts) (hill : Kept) (arena : RawSettings) (reopen : Bool) (w : WarriorParts) (judged : Verdict) (slot : ℕ) → MayAdmit layout facts device h hill arena reopen w judged slot → IsTitled w → facts.lawful device → MayPlace layout (facts.disk device) h hill w judged.falls slot
+may_place {layout = layout} facts device h hill arena reopen w judged slot may titled lawful = record {
   ready = may.sound.ready lawful may.is_open;
   free = may.free;
   fits = may.fits;
@@ -74,10 +74,10 @@ may_place facts device h hill arena reopen w judged slot may titled lawful = rec
 }
 
 -- the five calls were made
-pub admit_sound : {D : Type 0} (facts : DeviceFacts D) (device new : D) (h : HeaderParts) (hill : Kept) (arena : RawSettings) (reopen : Bool) (w : WarriorParts) (judged : Verdict) (slot : ℕ) → MayAdmit facts device h hill arena reopen w judged slot → IsTitled w → facts.size new ≡ facts.size device → (facts.lawful new → facts.lawful device) → (facts.lawful device → facts.disk new ≡ after (places (header_placed h judged.falls slot) slot w (results_of h hill w)) (facts.disk device)) → IsSound facts new (header_placed h judged.falls slot) (step_kept hill w) arena reopen
-admit_sound facts device new h hill arena reopen w judged slot may titled same_size same_laws made =
-    subst (λ next. IsSound facts new (header_placed h judged.falls slot) next arena reopen) (sym (admit_step hill w judged may.judged_is may.stays_is)) (record {
-      room = subst (λ n. sectors_for hill.settings.capacity ≤ n) (sym same_size) may.sound.room;
+pub admit_sound : {D : Type 0} {layout : Layout} (facts : DeviceFacts D) (device new : D) (h : HeaderParts) (hill : Kept) (arena : RawSettings) (reopen : Bool) (w : WarriorParts) (judged : Verdict) (slot : ℕ) → MayAdmit layout facts device h hill arena reopen w judged slot → IsTitled w → facts.size new ≡ facts.size device → (facts.lawful new → facts.lawful device) → (facts.lawful device → facts.disk new ≡ after (places layout (header_placed h judged.falls slot) slot w (results_of h hill w)) (facts.disk device)) → IsSoundIn layout facts new (header_placed h judged.falls slot) (step_kept hill w) arena reopen
+admit_sound {layout = layout} facts device new h hill arena reopen w judged slot may titled same_size same_laws made =
+    subst (λ next. IsSoundIn layout facts new (header_placed h judged.falls slot) next arena reopen) (sym (admit_step hill w judged may.judged_is may.stays_is)) (record {
+      room = subst (λ n. sectors_in layout hill.settings.capacity ≤ n) (sym same_size) may.sound.room;
       arena_of = may.sound.arena_of;
       header = admit_header facts device h hill arena reopen w judged slot may;
       kept = admit_kept hill w judged may.judged_is may.stays_is may.sound.kept may.fits;
@@ -86,24 +86,24 @@ admit_sound facts device new h hill arena reopen w judged slot may titled same_s
     })
 
 -- they were stopped
-pub admit_cut : {D : Type 0} (facts : DeviceFacts D) (device new : D) (h : HeaderParts) (hill : Kept) (arena : RawSettings) (reopen : Bool) (w : WarriorParts) (judged : Verdict) (slot : ℕ) → MayAdmit facts device h hill arena reopen w judged slot → IsTitled w → facts.size new ≡ facts.size device → (facts.lawful device → Begun (places (header_placed h judged.falls slot) slot w (results_of h hill w)) (facts.disk device) (facts.disk new)) → facts.lawful device → Images (facts.disk new) (λ image. Reads (facts.size new) image hill ⊎ Reads (facts.size new) image (step_kept hill w))
-admit_cut facts device new h hill arena reopen w judged slot may titled same_size begun lawful =
-    subst (λ next. Images (facts.disk new) (λ image. Reads (facts.size new) image hill ⊎ Reads (facts.size new) image next)) (sym (admit_step hill w judged may.judged_is may.stays_is))
-    (cut_placed (facts.size new) (facts.disk device) (facts.disk new) h hill w judged.falls slot (subst (λ n. sectors_for hill.settings.capacity ≤ n) (sym same_size) may.sound.room)
+pub admit_cut : {D : Type 0} {layout : Layout} (facts : DeviceFacts D) (device new : D) (h : HeaderParts) (hill : Kept) (arena : RawSettings) (reopen : Bool) (w : WarriorParts) (judged : Verdict) (slot : ℕ) → MayAdmit layout facts device h hill arena reopen w judged slot → IsTitled w → facts.size new ≡ facts.size device → (facts.lawful device → Begun (places layout (header_placed h judged.falls slot) slot w (results_of h hill w)) (facts.disk device) (facts.disk new)) → facts.lawful device → Images (facts.disk new) (λ image. ReadsIn layout (facts.size new) image hill ⊎ ReadsIn layout (facts.size new) image (step_kept hill w))
+admit_cut {layout = layout} facts device new h hill arena reopen w judged slot may titled same_size begun lawful =
+    subst (λ next. Images (facts.disk new) (λ image. ReadsIn layout (facts.size new) image hill ⊎ ReadsIn layout (facts.size new) image next)) (sym (admit_step hill w judged may.judged_is may.stays_is))
+    (cut_placed (facts.size new) (facts.disk device) (facts.disk new) h hill w judged.falls slot (subst (λ n. sectors_in layout hill.settings.capacity ≤ n) (sym same_size) may.sound.room)
     (may_place facts device h hill arena reopen w judged slot may titled lawful) (begun lawful))
 
 -- a warrior that falls
-pub record MayPass {D : Type 0} (facts : DeviceFacts D) (device : D) (h : HeaderParts) (hill : Kept) (arena : RawSettings) (reopen : Bool) : Type 0 where
-  pub sound : IsSound facts device h hill arena reopen
+pub record MayPass {D : Type 0} (layout : Layout) (facts : DeviceFacts D) (device : D) (h : HeaderParts) (hill : Kept) (arena : RawSettings) (reopen : Bool) : Type 0 where
+  pub sound : IsSoundIn layout facts device h hill arena reopen
   pub is_open : reopen ≡ false
   pub more : h.generation < 2 ^ 64 - 1
 
-pub pass_header : {D : Type 0} (facts : DeviceFacts D) (device : D) (h : HeaderParts) (hill : Kept) (arena : RawSettings) (reopen : Bool) → MayPass facts device h hill arena reopen → IsHeaderParts (header_passed h)
-pass_header facts device h hill arena reopen may = passed_fits h (hill_in hill) may.sound.header may.sound.named may.sound.kept.hill may.more
+pub pass_header : {D : Type 0} {layout : Layout} (facts : DeviceFacts D) (device : D) (h : HeaderParts) (hill : Kept) (arena : RawSettings) (reopen : Bool) → MayPass layout facts device h hill arena reopen → IsHeaderParts (header_passed h)
+pass_header {layout = layout} facts device h hill arena reopen may = passed_fits h (hill_in hill) may.sound.header may.sound.named may.sound.kept.hill may.more
 
-pub pass_sound : {D : Type 0} (facts : DeviceFacts D) (device new : D) (h : HeaderParts) (hill : Kept) (arena : RawSettings) (reopen : Bool) → MayPass facts device h hill arena reopen → facts.size new ≡ facts.size device → (facts.lawful new → facts.lawful device) → (facts.lawful device → facts.disk new ≡ after (commits (header_passed h)) (facts.disk device)) → IsSound facts new (header_passed h) (kept_fall hill) arena reopen
-pass_sound facts device new h hill arena reopen may same_size same_laws made = record {
-  room = subst (λ n. sectors_for hill.settings.capacity ≤ n) (sym same_size) may.sound.room;
+pub pass_sound : {D : Type 0} {layout : Layout} (facts : DeviceFacts D) (device new : D) (h : HeaderParts) (hill : Kept) (arena : RawSettings) (reopen : Bool) → MayPass layout facts device h hill arena reopen → facts.size new ≡ facts.size device → (facts.lawful new → facts.lawful device) → (facts.lawful device → facts.disk new ≡ after (commits layout (header_passed h)) (facts.disk device)) → IsSoundIn layout facts new (header_passed h) (kept_fall hill) arena reopen
+pass_sound {layout = layout} facts device new h hill arena reopen may same_size same_laws made = record {
+  room = subst (λ n. sectors_in layout hill.settings.capacity ≤ n) (sym same_size) may.sound.room;
   arena_of = may.sound.arena_of;
   header = pass_header facts device h hill arena reopen may;
   kept = IsKept-fall hill may.sound.kept (hill_passed (hill_in hill) may.sound.kept.hill);
@@ -111,17 +111,17 @@ pass_sound facts device new h hill arena reopen may same_size same_laws made = r
   ready = λ lawful. λ is_open. ready_passed (facts.disk device) (facts.disk new) h hill (may.sound.ready (same_laws lawful) is_open) (pass_header facts device h hill arena reopen may) (made (same_laws lawful));
 }
 
-pub pass_cut : {D : Type 0} (facts : DeviceFacts D) (device new : D) (h : HeaderParts) (hill : Kept) (arena : RawSettings) (reopen : Bool) → MayPass facts device h hill arena reopen → facts.size new ≡ facts.size device → (facts.lawful device → Begun (commits (header_passed h)) (facts.disk device) (facts.disk new)) → facts.lawful device → Images (facts.disk new) (λ image. Reads (facts.size new) image hill ⊎ Reads (facts.size new) image (kept_fall hill))
-pass_cut facts device new h hill arena reopen may same_size begun lawful =
-    cut_passed (facts.size new) (facts.disk device) (facts.disk new) h hill (subst (λ n. sectors_for hill.settings.capacity ≤ n) (sym same_size) may.sound.room)
+pub pass_cut : {D : Type 0} {layout : Layout} (facts : DeviceFacts D) (device new : D) (h : HeaderParts) (hill : Kept) (arena : RawSettings) (reopen : Bool) → MayPass layout facts device h hill arena reopen → facts.size new ≡ facts.size device → (facts.lawful device → Begun (commits layout (header_passed h)) (facts.disk device) (facts.disk new)) → facts.lawful device → Images (facts.disk new) (λ image. ReadsIn layout (facts.size new) image hill ⊎ ReadsIn layout (facts.size new) image (kept_fall hill))
+pass_cut {layout = layout} facts device new h hill arena reopen may same_size begun lawful =
+    cut_passed (facts.size new) (facts.disk device) (facts.disk new) h hill (subst (λ n. sectors_in layout hill.settings.capacity ≤ n) (sym same_size) may.sound.room)
     (may.sound.ready lawful may.is_open) (pass_header facts device h hill arena reopen may) (begun lawful)
 
-pub admit_reads : {D : Type 0} (facts : DeviceFacts D) (device new : D) (h : HeaderParts) (hill : Kept) (arena : RawSettings) (reopen : Bool) (w : WarriorParts) (judged : Verdict) (slot : ℕ) → MayAdmit facts device h hill arena reopen w judged slot → IsTitled w → facts.size new ≡ facts.size device → facts.lawful new ↔ facts.lawful device → (facts.lawful device → facts.disk new ≡ after (places (header_placed h judged.falls slot) slot w (results_of h hill w)) (facts.disk device)) → facts.lawful device → Images (facts.disk new) (λ image. Reads (facts.size new) image (step_kept hill w))
-admit_reads facts device new h hill arena reopen w judged slot may titled same_size same_laws made lawful =
+pub admit_reads : {D : Type 0} {layout : Layout} (facts : DeviceFacts D) (device new : D) (h : HeaderParts) (hill : Kept) (arena : RawSettings) (reopen : Bool) (w : WarriorParts) (judged : Verdict) (slot : ℕ) → MayAdmit layout facts device h hill arena reopen w judged slot → IsTitled w → facts.size new ≡ facts.size device → facts.lawful new ↔ facts.lawful device → (facts.lawful device → facts.disk new ≡ after (places layout (header_placed h judged.falls slot) slot w (results_of h hill w)) (facts.disk device)) → facts.lawful device → Images (facts.disk new) (λ image. ReadsIn layout (facts.size new) image (step_kept hill w))
+admit_reads {layout = layout} facts device new h hill arena reopen w judged slot may titled same_size same_laws made lawful =
     sound_reads facts new (header_placed h judged.falls slot) (step_kept hill w) arena reopen
     (admit_sound facts device new h hill arena reopen w judged slot may titled same_size same_laws.0 made) may.is_open (same_laws.1 lawful)
 
-pub pass_reads : {D : Type 0} (facts : DeviceFacts D) (device new : D) (h : HeaderParts) (hill : Kept) (arena : RawSettings) (reopen : Bool) → MayPass facts device h hill arena reopen → facts.size new ≡ facts.size device → facts.lawful new ↔ facts.lawful device → (facts.lawful device → facts.disk new ≡ after (commits (header_passed h)) (facts.disk device)) → facts.lawful device → Images (facts.disk new) (λ image. Reads (facts.size new) image (kept_fall hill))
-pass_reads facts device new h hill arena reopen may same_size same_laws made lawful =
+pub pass_reads : {D : Type 0} {layout : Layout} (facts : DeviceFacts D) (device new : D) (h : HeaderParts) (hill : Kept) (arena : RawSettings) (reopen : Bool) → MayPass layout facts device h hill arena reopen → facts.size new ≡ facts.size device → facts.lawful new ↔ facts.lawful device → (facts.lawful device → facts.disk new ≡ after (commits layout (header_passed h)) (facts.disk device)) → facts.lawful device → Images (facts.disk new) (λ image. ReadsIn layout (facts.size new) image (kept_fall hill))
+pass_reads {layout = layout} facts device new h hill arena reopen may same_size same_laws made lawful =
     sound_reads facts new (header_passed h) (kept_fall hill) arena reopen
     (pass_sound facts device new h hill arena reopen may same_size same_laws.0 made) may.is_open (same_laws.1 lawful)

@@ -1,61 +1,61 @@
 -- The newest of the headers found.
 use Rattle.std.proofs.Common.{◌≡◌, ◌≢◌, ℕ, inl, inr, ◌%◌, ◌<◌, ◌≤◌, List, Option, Some, None, sym, ap, subst, ◌∙◌, arith}
 use Rattle.std.proofs.lemmas.Bool.{cases_eq}
-use Rattle.hill_bytes.specs.Layout.{HeaderParts, IsHeader}
-use Rattle.hill_images.specs.Stands.{IsNewest}
+use Rattle.hill_bytes.specs.Layout.{Layout, HeaderParts, IsHeader}
+use Rattle.hill_images.specs.Stands.{IsNewestIn}
 use Rattle.hill_images.specs.Found.{IsFoundIn, IsNewestFound}
 use Rattle.hill_bytes.proofs.Codes.{one_header}
 use Rattle.hill_images.proofs.Newest.{parity_low}
 
 -- a header of the other parity is not the sector's, and no other is there
-pub other_parity : (n : ℕ) (bytes : List ℕ) (h : HeaderParts) → h.generation % 2 ≢ n → IsHeader bytes h → IsFoundIn n bytes None
-other_parity n bytes h other is g parity is_g = other (ap (λ (x : HeaderParts). x.generation % 2) (sym (one_header bytes g h is_g is)) ∙ parity)
+pub other_parity : (layout : Layout) (n : ℕ) (bytes : List ℕ) (h : HeaderParts) → h.generation % 2 ≢ n → IsHeader layout bytes h → IsFoundIn layout n bytes None
+other_parity layout n bytes h other is g parity is_g = other (ap (λ (x : HeaderParts). x.generation % 2) (sym (one_header layout bytes g h is_g is)) ∙ parity)
 
 -- each header is in the sector of its parity
-pub by_parity : (image : ℕ → List ℕ) (P : HeaderParts → Type 0) → ((g : HeaderParts) → g.generation % 2 ≡ 0 → IsHeader (image 0) g → P g) → ((g : HeaderParts) → g.generation % 2 ≡ 1 → IsHeader (image 1) g → P g) → (g : HeaderParts) → IsHeader (image (g.generation % 2)) g → P g
-by_parity image P at_even at_odd g is = elim (cases_eq (g.generation % 2) 0) [
-  | inl even ↦ at_even g even (subst (λ n. IsHeader (image n) g) even is)
+pub by_parity : (layout : Layout) (image : ℕ → List ℕ) (P : HeaderParts → Type 0) → ((g : HeaderParts) → g.generation % 2 ≡ 0 → IsHeader layout (image 0) g → P g) → ((g : HeaderParts) → g.generation % 2 ≡ 1 → IsHeader layout (image 1) g → P g) → (g : HeaderParts) → IsHeader layout (image (g.generation % 2)) g → P g
+by_parity layout image P at_even at_odd g is = elim (cases_eq (g.generation % 2) 0) [
+  | inl even ↦ at_even g even (subst (λ n. IsHeader layout (image n) g) even is)
   | inr not_even ↦
       let low : g.generation % 2 < 2 = parity_low g.generation in
       let odd : g.generation % 2 ≡ 1 = omega arith in
-      at_odd g odd (subst (λ n. IsHeader (image n) g) odd is)
+      at_odd g odd (subst (λ n. IsHeader layout (image n) g) odd is)
 ]
 
-found_at : (image : ℕ → List ℕ) (n : ℕ) (h : HeaderParts) → IsFoundIn n (image n) (Some h) → IsHeader (image (h.generation % 2)) h
-found_at image n h is = subst (λ k. IsHeader (image k) h) (sym is.0) is.1
+found_at : (layout : Layout) (image : ℕ → List ℕ) (n : ℕ) (h : HeaderParts) → IsFoundIn layout n (image n) (Some h) → IsHeader layout (image (h.generation % 2)) h
+found_at layout image n h is = subst (λ k. IsHeader layout (image k) h) (sym is.0) is.1
 
-same_generation : (bytes : List ℕ) (g h : HeaderParts) → IsHeader bytes g → IsHeader bytes h → g.generation ≡ h.generation
-same_generation bytes g h is_g is_h = ap (λ (x : HeaderParts). x.generation) (one_header bytes g h is_g is_h)
+same_generation : (layout : Layout) (bytes : List ℕ) (g h : HeaderParts) → IsHeader layout bytes g → IsHeader layout bytes h → g.generation ≡ h.generation
+same_generation layout bytes g h is_g is_h = ap (λ (x : HeaderParts). x.generation) (one_header layout bytes g h is_g is_h)
 
-pub newest_even : (image : ℕ → List ℕ) (even odd : HeaderParts) → IsFoundIn 0 (image 0) (Some even) → IsFoundIn 1 (image 1) (Some odd) → odd.generation ≤ even.generation → IsNewest image even
-newest_even image even odd is_even is_odd order = record {
-  here = found_at image 0 even is_even;
-  newest = by_parity image (λ g. g.generation ≤ even.generation)
-      (λ g. λ parity. λ is. let same : g.generation ≡ even.generation = same_generation (image 0) g even is is_even.1 in omega arith)
-      (λ g. λ parity. λ is. let same : g.generation ≡ odd.generation = same_generation (image 1) g odd is is_odd.1 in omega arith);
+pub newest_even : (layout : Layout) (image : ℕ → List ℕ) (even odd : HeaderParts) → IsFoundIn layout 0 (image 0) (Some even) → IsFoundIn layout 1 (image 1) (Some odd) → odd.generation ≤ even.generation → IsNewestIn layout image even
+newest_even layout image even odd is_even is_odd order = record {
+  here = found_at layout image 0 even is_even;
+  newest = by_parity layout image (λ g. g.generation ≤ even.generation)
+      (λ g. λ parity. λ is. let same : g.generation ≡ even.generation = same_generation layout (image 0) g even is is_even.1 in omega arith)
+      (λ g. λ parity. λ is. let same : g.generation ≡ odd.generation = same_generation layout (image 1) g odd is is_odd.1 in omega arith);
 }
 
-pub newest_odd : (image : ℕ → List ℕ) (even odd : HeaderParts) → IsFoundIn 0 (image 0) (Some even) → IsFoundIn 1 (image 1) (Some odd) → even.generation ≤ odd.generation → IsNewest image odd
-newest_odd image even odd is_even is_odd order = record {
-  here = found_at image 1 odd is_odd;
-  newest = by_parity image (λ g. g.generation ≤ odd.generation)
-      (λ g. λ parity. λ is. let same : g.generation ≡ even.generation = same_generation (image 0) g even is is_even.1 in omega arith)
-      (λ g. λ parity. λ is. let same : g.generation ≡ odd.generation = same_generation (image 1) g odd is is_odd.1 in omega arith);
+pub newest_odd : (layout : Layout) (image : ℕ → List ℕ) (even odd : HeaderParts) → IsFoundIn layout 0 (image 0) (Some even) → IsFoundIn layout 1 (image 1) (Some odd) → even.generation ≤ odd.generation → IsNewestIn layout image odd
+newest_odd layout image even odd is_even is_odd order = record {
+  here = found_at layout image 1 odd is_odd;
+  newest = by_parity layout image (λ g. g.generation ≤ odd.generation)
+      (λ g. λ parity. λ is. let same : g.generation ≡ even.generation = same_generation layout (image 0) g even is is_even.1 in omega arith)
+      (λ g. λ parity. λ is. let same : g.generation ≡ odd.generation = same_generation layout (image 1) g odd is is_odd.1 in omega arith);
 }
 
-pub newest_even_alone : (image : ℕ → List ℕ) (even : HeaderParts) → IsFoundIn 0 (image 0) (Some even) → IsFoundIn 1 (image 1) None → IsNewest image even
-newest_even_alone image even is_even none = record {
-  here = found_at image 0 even is_even;
-  newest = by_parity image (λ g. g.generation ≤ even.generation)
-      (λ g. λ parity. λ is. let same : g.generation ≡ even.generation = same_generation (image 0) g even is is_even.1 in omega arith)
+pub newest_even_alone : (layout : Layout) (image : ℕ → List ℕ) (even : HeaderParts) → IsFoundIn layout 0 (image 0) (Some even) → IsFoundIn layout 1 (image 1) None → IsNewestIn layout image even
+newest_even_alone layout image even is_even none = record {
+  here = found_at layout image 0 even is_even;
+  newest = by_parity layout image (λ g. g.generation ≤ even.generation)
+      (λ g. λ parity. λ is. let same : g.generation ≡ even.generation = same_generation layout (image 0) g even is is_even.1 in omega arith)
       (λ g. λ parity. λ is. absurd (none g parity is));
 }
 
-pub newest_odd_found : (image : ℕ → List ℕ) (odd : Option HeaderParts) → IsFoundIn 0 (image 0) None → IsFoundIn 1 (image 1) odd → IsNewestFound image odd
-newest_odd_found image None no_even no_odd = by_parity image (λ g. ⊥) no_even no_odd
-newest_odd_found image (Some odd) no_even is_odd = record {
-  here = found_at image 1 odd is_odd;
-  newest = by_parity image (λ g. g.generation ≤ odd.generation)
+pub newest_odd_found : (layout : Layout) (image : ℕ → List ℕ) (odd : Option HeaderParts) → IsFoundIn layout 0 (image 0) None → IsFoundIn layout 1 (image 1) odd → IsNewestFound layout image odd
+newest_odd_found layout image None no_even no_odd = by_parity layout image (λ g. ⊥) no_even no_odd
+newest_odd_found layout image (Some odd) no_even is_odd = record {
+  here = found_at layout image 1 odd is_odd;
+  newest = by_parity layout image (λ g. g.generation ≤ odd.generation)
       (λ g. λ parity. λ is. absurd (no_even g parity is))
-      (λ g. λ parity. λ is. let same : g.generation ≡ odd.generation = same_generation (image 1) g odd is is_odd.1 in omega arith);
+      (λ g. λ parity. λ is. let same : g.generation ≡ odd.generation = same_generation layout (image 1) g odd is is_odd.1 in omega arith);
 }

@@ -11,10 +11,10 @@ use Rattle.sector_disk.proofs.Images.{put-same, put-other, current-wrote, image-
 use Rattle.koth_hill.specs.Hill.{IsHill, MayStand}
 use Rattle.koth_hill.specs.Step.{new_hill}
 use Rattle.koth_hill.specs.Kept.{new_kept}
-use Rattle.hill_bytes.specs.Layout.{HeaderParts, IsHeaderParts, IsHeader, IsEntry, header_bytes, sectors_for}
-use Rattle.hill_images.specs.Stands.{IsNewest, Shows, Stands, IsReady}
+use Rattle.hill_bytes.specs.Layout.{Layout, HeaderParts, IsHeaderParts, IsHeader, IsEntry, code_room, header_bytes, sectors_in}
+use Rattle.hill_images.specs.Stands.{IsNewestIn, ShowsIn, StandsIn, IsReady}
 use Rattle.hill_images.specs.Places.{commits}
-use Rattle.hill_images.specs.Opening.{HoldsNone, first_header}
+use Rattle.hill_images.specs.Opening.{HoldsNoneIn, first_header}
 use Rattle.hill_bytes.proofs.Codes.{one_header}
 
 pub first_fits : (s : RawSettings) → AreSettings s → IsHeaderParts (first_header s)
@@ -31,53 +31,56 @@ first_fits s are = record {
 pub first_hill : (s : RawSettings) → AreSettings s → IsHill (new_hill s 0)
 first_hill s are = record { settings = are; room = omega arith; rising = tt; members = All-nil (MayStand s 0) }
 
-abbrev first_written : RawSettings → (ℕ → List ℕ) → ℕ → List ℕ
-first_written s image = put 0 (header_bytes (first_header s)) image
+abbrev first_written : Layout → RawSettings → (ℕ → List ℕ) → ℕ → List ℕ
+first_written layout s image = put 0 (header_bytes layout (first_header s)) image
 
 -- it is the only one
-first_newest : (s : RawSettings) (image : ℕ → List ℕ) → AreSettings s → HoldsNone image → IsNewest (first_written s image) (first_header s)
-first_newest s image are none = record {
-  here = record { header = first_fits s are; bytes_are = put-same image 0 (header_bytes (first_header s)) };
+first_newest : (layout : Layout) (s : RawSettings) (image : ℕ → List ℕ) → AreSettings s → s.length ≤ code_room layout → HoldsNoneIn layout image → IsNewestIn layout (first_written layout s image) (first_header s)
+first_newest layout s image are long none = record {
+  here = record { header = first_fits s are; room = long; bytes_are = put-same image 0 (header_bytes layout (first_header s)) };
   newest = λ g. λ here. elim (cases_eq (g.generation % 2) 0) [
     | inl same ↦
-        let bytes : first_written s image (g.generation % 2) ≡ header_bytes (first_header s) = ap (first_written s image) same ∙ put-same image 0 (header_bytes (first_header s)) in
-        let one : g ≡ first_header s = one_header (header_bytes (first_header s)) g (first_header s) (subst (λ x. IsHeader x g) bytes here) (record { header = first_fits s are; bytes_are = refl }) in
+        let bytes : first_written layout s image (g.generation % 2) ≡ header_bytes layout (first_header s) = ap (first_written layout s image) same ∙ put-same image 0 (header_bytes layout (first_header s)) in
+        let one : g ≡ first_header s = one_header layout (header_bytes layout (first_header s)) g (first_header s) (subst (λ x. IsHeader layout x g) bytes here) (record { header = first_fits s are; room = long; bytes_are = refl }) in
         let equal : g.generation ≡ 0 = ap (λ (x : HeaderParts). x.generation) one in
         omega arith
-    | inr other ↦ absurd (none g (subst (λ x. IsHeader x g) (put-other image 0 (g.generation % 2) (header_bytes (first_header s)) other) here))
+    | inr other ↦ absurd (none g (subst (λ x. IsHeader layout x g) (put-other image 0 (g.generation % 2) (header_bytes layout (first_header s)) other) here))
   ];
 }
 
-first_shows : (s : RawSettings) (image : ℕ → List ℕ) → AreSettings s → HoldsNone image → Shows (first_written s image) (first_header s) (new_kept s 0)
-first_shows s image are none = record { newest = first_newest s image are none; settings = refl; counter = refl; members = tt; results = refl }
+first_shows : (layout : Layout) (s : RawSettings) (image : ℕ → List ℕ) → AreSettings s → s.length ≤ code_room layout → HoldsNoneIn layout image → ShowsIn layout (first_written layout s image) (first_header s) (new_kept s 0)
+first_shows layout s image are long none = record { newest = first_newest layout s image are long none; settings = refl; counter = refl; members = tt; results = refl }
 
-pub first_committed : (disk new : Disk) (s : RawSettings) → AreSettings s → HoldsNone (current disk) → new ≡ after (commits (first_header s)) disk → IsReady new (first_header s) (new_kept s 0)
-first_committed disk new s are none made = subst (λ d. IsReady d (first_header s) (new_kept s 0)) (sym made) (record {
-  settled = settled-synced (wrote 0 (header_bytes (first_header s)) disk);
-  shows = subst (λ image. Shows image (first_header s) (new_kept s 0)) (sym (current-wrote disk 0 (header_bytes (first_header s)))) (first_shows s (current disk) are none);
+pub first_committed : (layout : Layout) (disk new : Disk) (s : RawSettings) → AreSettings s → s.length ≤ code_room layout → HoldsNoneIn layout (current disk) → new ≡ after (commits layout (first_header s)) disk → IsReady layout new (first_header s) (new_kept s 0)
+first_committed layout disk new s are long none made = subst (λ d. IsReady layout d (first_header s) (new_kept s 0)) (sym made) (record {
+  settled = settled-synced (wrote 0 (header_bytes layout (first_header s)) disk);
+  shows = subst (λ image. ShowsIn layout image (first_header s) (new_kept s 0)) (sym (current-wrote disk 0 (header_bytes layout (first_header s)))) (first_shows layout s (current disk) are long none);
 })
 
-abbrev NoneOrFirst : ℕ → RawSettings → (ℕ → List ℕ) → Type 0
-NoneOrFirst size s image = HoldsNone image ⊎ Stands size image (new_hill s 0)
+abbrev NoneOrFirst : Layout → ℕ → RawSettings → (ℕ → List ℕ) → Type 0
+NoneOrFirst layout size s image = HoldsNoneIn layout image ⊎ StandsIn layout size image (new_hill s 0)
 
-pub first_stopped : (size : ℕ) (disk new : Disk) (s : RawSettings) → AreSettings s → sectors_for s.capacity ≤ size → IsSettled disk → HoldsNone (current disk) → Begun (commits (first_header s)) disk new → Images new (NoneOrFirst size s)
-first_stopped size disk new s are room settled none begun = elim begun [
-  | inl before ↦ subst (λ d. Images d (NoneOrFirst size s)) (sym before) start
+pub first_stopped : (layout : Layout) (size : ℕ) (disk new : Disk) (s : RawSettings) → AreSettings s → s.length ≤ code_room layout → sectors_in layout s.capacity ≤ size → IsSettled disk → HoldsNoneIn layout (current disk) → Begun (commits layout (first_header s)) disk new → Images new (NoneOrFirst layout size s)
+first_stopped layout size disk new s are long room settled none begun = elim begun [
+  | inl before ↦ subst (λ d. Images d May) (sym before) start
   | inr written ↦ elim written [
-    | inl header ↦ subst (λ d. Images d (NoneOrFirst size s)) (sym header) between
-    | inr all ↦ subst (λ d. Images d (NoneOrFirst size s)) (sym all) (images_sync (wrote 0 bytes disk) (NoneOrFirst size s) (images_read (wrote 0 bytes disk) (NoneOrFirst size s) between))
+    | inl header ↦ subst (λ d. Images d May) (sym header) between
+    | inr all ↦ subst (λ d. Images d May) (sym all) (images_sync (wrote 0 bytes disk) May (images_read (wrote 0 bytes disk) May between))
   ]
 ]
   where
     bytes : List ℕ
-    bytes = header_bytes (first_header s)
+    bytes = header_bytes layout (first_header s)
 
-    start : Images disk (NoneOrFirst size s)
-    start = images_settled disk (NoneOrFirst size s) settled (inl none)
+    May : (ℕ → List ℕ) → Type 0
+    May image = NoneOrFirst layout size s image
 
-    between : Images (wrote 0 bytes disk) (NoneOrFirst size s)
-    between = images_write disk 0 bytes (NoneOrFirst size s) start (images_settled disk (λ image. NoneOrFirst size s (put 0 bytes image)) settled
-        (inr (record { header = first_header s; shows = first_shows s (current disk) are none; room = room })))
+    start : Images disk May
+    start = images_settled disk May settled (inl none)
+
+    between : Images (wrote 0 bytes disk) May
+    between = images_write disk 0 bytes May start (images_settled disk (λ image. May (put 0 bytes image)) settled
+        (inr (record { header = first_header s; shows = first_shows layout s (current disk) are long none; room = room })))
 
 -- a sync leaves an image that was there before
 pub images_begun_sync : (disk new : Disk) → Begun (synced ∷ []) disk new → Images new (IsImage disk)

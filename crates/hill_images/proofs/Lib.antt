@@ -1,3 +1,4 @@
+pub mod Sectors
 pub mod Held
 pub mod Results
 pub mod Newest
@@ -5,7 +6,7 @@ pub mod Stops
 pub mod Nexts
 pub mod Shown
 pub mod Finds
-pub mod Slots
+pub mod FreeSlots
 pub mod Submitted
 pub mod Exits
 pub mod Firsts

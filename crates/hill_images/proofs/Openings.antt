@@ -7,10 +7,10 @@ use Rattle.sector_disk.proofs.Images.{settled-synced}
 use Rattle.koth_hill.specs.Kept.{Kept}
 use Rattle.hill_images.specs.declared.refusal.Refusal.{Refusal}
 use Rattle.hill_images.specs.declared.refusal.Refusal.TheVariants as refusals
-use Rattle.hill_bytes.specs.Layout.{HeaderParts, sectors_for}
-use Rattle.hill_images.specs.Stands.{IsNewest, AllHeld, Shows, results_read}
+use Rattle.hill_bytes.specs.Layout.{Layout, HeaderParts, sectors_in}
+use Rattle.hill_images.specs.Stands.{IsNewestIn, AllHeld, ShowsIn, results_read}
 use Rattle.sector_disk.specs.Served.{IsKept}
-use Rattle.hill_images.specs.Opening.{IsRecovered, IsNotOpened, Refuses}
+use Rattle.hill_images.specs.Opening.{IsRecovered, IsNotOpenedIn, RefusesIn}
 use Rattle.hill_images.specs.Reading.{refusal_of, HillNotRead, HillRead, HillRefused, IsHillFound}
 use Rattle.hill_images.specs.declared.reading.Unread.{Unread}
 use Rattle.hill_images.specs.declared.reading.Unread.TheVariants as unread
@@ -24,42 +24,42 @@ pub if_err_map : {T E : Type 0} (P Q : E → Type 0) (result : Result T E) → (
 if_err_map P Q (Ok x) map is = tt
 if_err_map P Q (Err e) map is = map e is
 
-shown : {D : Type 0} (facts : DeviceFacts D) (mid : D) (image : ℕ → List ℕ) (h : HeaderParts) (hill : Kept) → current (facts.disk mid) ≡ image → facts.lawful mid → IsNewest image h → HillRead facts mid h hill → Shows image h hill
-shown facts mid image h hill same lawful newest read = record {
+shown : {D : Type 0} {layout : Layout} (facts : DeviceFacts D) (mid : D) (image : ℕ → List ℕ) (h : HeaderParts) (hill : Kept) → current (facts.disk mid) ≡ image → facts.lawful mid → IsNewestIn layout image h → HillRead layout facts mid h hill → ShowsIn layout image h hill
+shown {layout = layout} facts mid image h hill same lawful newest read = record {
   newest = newest;
   settings = read.named.settings;
   counter = read.named.counter;
-  members = subst (λ i. AllHeld hill.settings i h.entries hill.members) same (read.held lawful);
-  results = subst (λ i. hill.results ≡ results_read hill.settings.rounds i h.entries) same (read.results lawful);
+  members = subst (λ i. AllHeld layout hill.settings i h.entries hill.members) same (read.held lawful);
+  results = subst (λ i. hill.results ≡ results_read layout hill.settings.rounds i h.entries) same (read.results lawful);
 }
 
 -- its warriors were not read
-pub not_read : {D : Type 0} (facts : DeviceFacts D) (old new : D) (h : HeaderParts) (why : Unread) → sectors_for h.settings.capacity ≤ facts.size old → HillNotRead facts old new h why → HillRefused facts old new h (refusal_of why)
-not_read facts old new h unread.Disk room failed = failed
-not_read facts old new h unread.Memory room failed = tt
-not_read facts old new h unread.Damaged room failed = (room, failed)
+pub not_read : {D : Type 0} (layout : Layout) (facts : DeviceFacts D) (old new : D) (h : HeaderParts) (why : Unread) → sectors_in layout h.settings.capacity ≤ facts.size old → HillNotRead layout facts old new h why → HillRefused layout facts old new h (refusal_of why)
+not_read layout facts old new h unread.Disk room failed = failed
+not_read layout facts old new h unread.Memory room failed = tt
+not_read layout facts old new h unread.Damaged room failed = (room, failed)
 
 -- the hill of the newest header was recovered
-pub recovered : {D : Type 0} (facts : DeviceFacts D) (old mid new : D) (given h : HeaderParts) (hill : Kept) (arena : RawSettings) → IsKept facts old mid → IsKept facts mid new → (facts.lawful old → facts.disk mid ≡ synced (facts.disk old)) → (facts.lawful mid → facts.disk new ≡ facts.disk mid) → (facts.lawful old → IsNewest (current (facts.disk old)) given) → IsHillFound facts mid given h hill arena → IsRecovered facts old new h hill arena
-recovered facts old mid new given h hill arena front back settled same newest found = record {
+pub recovered : {D : Type 0} {layout : Layout} (facts : DeviceFacts D) (old mid new : D) (given h : HeaderParts) (hill : Kept) (arena : RawSettings) → IsKept facts old mid → IsKept facts mid new → (facts.lawful old → facts.disk mid ≡ synced (facts.disk old)) → (facts.lawful mid → facts.disk new ≡ facts.disk mid) → (facts.lawful old → IsNewestIn layout (current (facts.disk old)) given) → IsHillFound layout facts mid given h hill arena → IsRecovered layout facts old new h hill arena
+recovered {layout = layout} facts old mid new given h hill arena front back settled same newest found = record {
   sound = record {
-    room = subst (λ n. sectors_for hill.settings.capacity ≤ n) (sym back.same_size) room_mid;
+    room = subst (λ n. sectors_in layout hill.settings.capacity ≤ n) (sym back.same_size) room_mid;
     arena_of = found.arena_of ∙ found.read.named.settings;
     header = found.header;
     kept = found.read.kept;
     named = found.read.named;
     ready = λ lawful. λ is_open. record {
       settled = subst (λ d. IsSettled d) (sym (disk_new (old_lawful lawful))) (settled-synced (facts.disk old));
-      shows = subst (λ d. Shows (current d) h hill) (sym (disk_new (old_lawful lawful))) (shows_old (old_lawful lawful));
+      shows = subst (λ d. ShowsIn layout (current d) h hill) (sym (disk_new (old_lawful lawful))) (shows_old (old_lawful lawful));
     };
   };
   shows = shows_old;
-  room = subst (λ n. sectors_for hill.settings.capacity ≤ n) front.same_size room_mid;
+  room = subst (λ n. sectors_in layout hill.settings.capacity ≤ n) front.same_size room_mid;
   synced_now = disk_new;
 }
   where
-    room_mid : sectors_for hill.settings.capacity ≤ facts.size mid
-    room_mid = subst (λ s. sectors_for s.capacity ≤ facts.size mid) found.read.named.settings found.room
+    room_mid : sectors_in layout hill.settings.capacity ≤ facts.size mid
+    room_mid = subst (λ s. sectors_in layout s.capacity ≤ facts.size mid) found.read.named.settings found.room
 
     old_lawful : facts.lawful new → facts.lawful old
     old_lawful lawful = front.same_laws.0 (back.same_laws.0 lawful)
@@ -67,20 +67,20 @@ recovered facts old mid new given h hill arena front back settled same newest fo
     disk_new : facts.lawful old → facts.disk new ≡ synced (facts.disk old)
     disk_new lawful = same (front.same_laws.1 lawful) ∙ settled lawful
 
-    shows_old : facts.lawful old → Shows (current (facts.disk old)) h hill
+    shows_old : facts.lawful old → ShowsIn layout (current (facts.disk old)) h hill
     shows_old lawful = shown facts mid (current (facts.disk old)) h hill (ap current (settled lawful)) (front.same_laws.1 lawful)
-        (subst (λ x. IsNewest (current (facts.disk old)) x) (sym found.same) (newest lawful)) found.read
+        (subst (λ x. IsNewestIn layout (current (facts.disk old)) x) (sym found.same) (newest lawful)) found.read
 
 -- it was not
-pub not_recovered : {D : Type 0} (facts : DeviceFacts D) (old mid new : D) (h : HeaderParts) (why : Refusal) → IsKept facts old mid → IsKept facts mid new → (facts.lawful old → facts.disk mid ≡ synced (facts.disk old)) → (facts.lawful mid → facts.disk new ≡ facts.disk mid) → (facts.lawful old → IsNewest (current (facts.disk old)) h) → HillRefused facts mid new h why → IsNotOpened facts old new why
-not_recovered facts old mid new h why front back settled same newest refused = record {
-  cause = λ is. rose_more facts old mid new front.later back.later (subst (λ x. HillRefused facts mid new h x) is refused);
+pub not_recovered : {D : Type 0} {layout : Layout} (facts : DeviceFacts D) (old mid new : D) (h : HeaderParts) (why : Refusal) → IsKept facts old mid → IsKept facts mid new → (facts.lawful old → facts.disk mid ≡ synced (facts.disk old)) → (facts.lawful mid → facts.disk new ≡ facts.disk mid) → (facts.lawful old → IsNewestIn layout (current (facts.disk old)) h) → HillRefused layout facts mid new h why → IsNotOpenedIn layout facts old new why
+not_recovered {layout = layout} facts old mid new h why front back settled same newest refused = record {
+  cause = λ is. rose_more facts old mid new front.later back.later (subst (λ x. HillRefused layout facts mid new h x) is refused);
   reason = λ lawful. reason_of why refused lawful;
   kept = λ lawful. inr (same (front.same_laws.1 lawful) ∙ settled lawful);
 }
   where
-    reason_of : (x : Refusal) → HillRefused facts mid new h x → facts.lawful old → Refuses (facts.size old) (current (facts.disk old)) x
-    reason_of refusals.TooSmall few lawful = inr (h, newest lawful, subst (λ n. n < sectors_for h.settings.capacity) front.same_size few)
+    reason_of : (x : Refusal) → HillRefused layout facts mid new h x → facts.lawful old → RefusesIn layout (facts.size old) (current (facts.disk old)) x
+    reason_of refusals.TooSmall few lawful = inr (h, newest lawful, subst (λ n. n < sectors_in layout h.settings.capacity) front.same_size few)
     reason_of refusals.Disk rose lawful = tt
     reason_of refusals.Memory any lawful = tt
     reason_of refusals.Occupied never lawful = never
@@ -88,8 +88,8 @@ not_recovered facts old mid new h why front back settled same newest refused = r
     reason_of refusals.Damaged damaged lawful = (
       h,
       newest lawful,
-      subst (λ n. sectors_for h.settings.capacity ≤ n) front.same_size damaged.0,
+      subst (λ n. sectors_in layout h.settings.capacity ≤ n) front.same_size damaged.0,
       (λ hill. λ shows. damaged.1 (front.same_laws.1 lawful) hill.members
-          (subst (λ s. AllHeld s (current (facts.disk mid)) h.entries hill.members) (sym shows.settings)
-          (subst (λ image. AllHeld hill.settings image h.entries hill.members) (sym (ap current (settled lawful))) shows.members))),
+          (subst (λ s. AllHeld layout s (current (facts.disk mid)) h.entries hill.members) (sym shows.settings)
+          (subst (λ image. AllHeld layout hill.settings image h.entries hill.members) (sym (ap current (settled lawful))) shows.members))),
     )

@@ -8,7 +8,6 @@ use Rattle.std.proofs.lemmas.List.Elements.{All-nil, All-cons, All-head, All-tai
 use Rattle.std.proofs.lemmas.List.Quantifiers.{position-Some}
 use Rattle.std.proofs.lemmas.List.Sums.{fails_before_first}
 use Rattle.sector_disk.specs.Image.{put}
-use Rattle.sector_disk.proofs.Images.{put-other}
 use Rattle.koth_match.specs.declared.bout.Bout.{Bout}
 use Rattle.koth_match.specs.Match.{rounds_in}
 use Rattle.koth_hill.specs.Hill.{Member}
@@ -18,37 +17,38 @@ use Rattle.koth_hill.proofs.Places.{position-map}
 use Rattle.koth_hill.proofs.Truths.{map-remove, rows_with-push, rows_with-left, rows_with-same}
 use Rattle.hill_bytes.specs.declared.header.HeaderEntry.{HeaderEntry}
 use Rattle.hill_bytes.specs.declared.wins.Wins.{Wins}
-use Rattle.hill_bytes.specs.Layout.{EntriesRise, SlotIsFree, SlotsDiffer, FitRounds, results_in, back_sector}
+use Rattle.hill_bytes.specs.Layout.{EntriesRise, SlotIsFree, SlotsDiffer, FitRounds, Layout, results_in, slot_in}
 use Rattle.hill_images.specs.Stands.{no_wins, bout_of, result_read, slots_of, results_read}
 use Rattle.hill_images.specs.Named.{Agree}
 use Rattle.hill_images.specs.Places.{wins_of, results_onto, results_by_slot, kept_entries}
+use Rattle.hill_images.proofs.Sectors.{slot-elsewhere}
 use Rattle.hill_images.proofs.Held.{Apart}
 
 -- ---- sectors
 
--- these warriors' second sectors are the same in both images
-abbrev pub AreSame : (ℕ → List ℕ) → (ℕ → List ℕ) → List HeaderEntry → Type 0
-AreSame image other es = All (λ slot. other (back_sector slot) ≡ image (back_sector slot)) (slots_of es)
+-- these warriors' slots are the same in both images
+abbrev pub AreSame : Layout → (ℕ → List ℕ) → (ℕ → List ℕ) → List HeaderEntry → Type 0
+AreSame layout image other es = All (λ slot. slot_in layout other slot ≡ slot_in layout image slot) (slots_of es)
 
-pub results-same : (rounds : ℕ) (image other : ℕ → List ℕ) (es : List HeaderEntry) → AreSame image other es → results_read rounds other es ≡ results_read rounds image es
-results-same rounds image other es same = rows_with-same (result_read rounds other) (result_read rounds image) [] (slots_of es) (each (slots_of es) same)
+pub results-same : (layout : Layout) (rounds : ℕ) (image other : ℕ → List ℕ) (es : List HeaderEntry) → AreSame layout image other es → results_read layout rounds other es ≡ results_read layout rounds image es
+results-same layout rounds image other es same = rows_with-same (result_read layout rounds other) (result_read layout rounds image) [] (slots_of es) (each (slots_of es) same)
   where
-    each : (slots : List ℕ) → All (λ slot. other (back_sector slot) ≡ image (back_sector slot)) slots → All (λ slot. (older : ℕ) → result_read rounds other older slot ≡ result_read rounds image older slot) slots
-    each [] same = All-nil (λ slot. (older : ℕ) → result_read rounds other older slot ≡ result_read rounds image older slot)
+    each : (slots : List ℕ) → All (λ slot. slot_in layout other slot ≡ slot_in layout image slot) slots → All (λ slot. (older : ℕ) → result_read layout rounds other older slot ≡ result_read layout rounds image older slot) slots
+    each [] same = All-nil (λ slot. (older : ℕ) → result_read layout rounds other older slot ≡ result_read layout rounds image older slot)
     each (slot ∷ slots) same =
-        All-cons (λ k. (older : ℕ) → result_read rounds other older k ≡ result_read rounds image older k) slot slots
-        (λ older. ap (λ bytes. bout_of rounds (get_or (results_in bytes) older no_wins)) (All-head (λ k. other (back_sector k) ≡ image (back_sector k)) slot slots same))
-        (each slots (All-tail (λ k. other (back_sector k) ≡ image (back_sector k)) slot slots same))
+        All-cons (λ k. (older : ℕ) → result_read layout rounds other older k ≡ result_read layout rounds image older k) slot slots
+        (λ older. ap (λ sectors. bout_of rounds (get_or (results_in layout sectors) older no_wins)) (All-head (λ k. slot_in layout other k ≡ slot_in layout image k) slot slots same))
+        (each slots (All-tail (λ k. slot_in layout other k ≡ slot_in layout image k) slot slots same))
 
-pub same_elsewhere : (image : ℕ → List ℕ) (n : ℕ) (content : List ℕ) (es : List HeaderEntry) → Apart n es → AreSame image (put n content image) es
-same_elsewhere image n content [] apart = All-nil (λ slot. put n content image (back_sector slot) ≡ image (back_sector slot))
-same_elsewhere image n content (e ∷ es) apart =
-    All-cons (λ slot. put n content image (back_sector slot) ≡ image (back_sector slot)) e.slot (slots_of es)
-    (put-other image n (back_sector e.slot) content apart.1) (same_elsewhere image n content es apart.2)
+pub same_elsewhere : (layout : Layout) (image : ℕ → List ℕ) (n : ℕ) (content : List ℕ) (es : List HeaderEntry) → Apart layout n es → AreSame layout image (put n content image) es
+same_elsewhere layout image n content [] apart = All-nil (λ slot. slot_in layout (put n content image) slot ≡ slot_in layout image slot)
+same_elsewhere layout image n content (e ∷ es) apart =
+    All-cons (λ slot. slot_in layout (put n content image) slot ≡ slot_in layout image slot) e.slot (slots_of es)
+    (slot-elsewhere layout image n content e.slot apart.0) (same_elsewhere layout image n content es apart.1)
 
 -- a write elsewhere leaves the results
-pub results-elsewhere : (rounds : ℕ) (image : ℕ → List ℕ) (n : ℕ) (content : List ℕ) (es : List HeaderEntry) → Apart n es → results_read rounds (put n content image) es ≡ results_read rounds image es
-results-elsewhere rounds image n content es apart = results-same rounds image (put n content image) es (same_elsewhere image n content es apart)
+pub results-elsewhere : (layout : Layout) (rounds : ℕ) (image : ℕ → List ℕ) (n : ℕ) (content : List ℕ) (es : List HeaderEntry) → Apart layout n es → results_read layout rounds (put n content image) es ≡ results_read layout rounds image es
+results-elsewhere layout rounds image n content es apart = results-same layout rounds image (put n content image) es (same_elsewhere layout image n content es apart)
 
 -- ---- slots of those that stay
 
@@ -130,16 +130,16 @@ place_within fallen [] i found = cc
 place_within fallen (e ∷ es) i found = (position-Some (λ x. is_entry x.entry fallen) (e ∷ es) i e found).0
 
 -- a warrior that stays, in a slot of its own: the rows of those that stay, each without the fallen, and its own
-pub results-placed : (rounds : ℕ) (image : ℕ → List ℕ) (fallen place : Option ℕ) (es : List HeaderEntry) (new : HeaderEntry) → EntriesRise 0 es → position (λ e. is_entry e.entry fallen) es ≡ place
-    → results_read rounds image (kept_entries fallen es ++ new ∷ [])
-    ≡ rows_left place (results_read rounds image es) ++ without_place place (map (λ older. result_read rounds image older new.slot) (slots_of es)) ∷ []
-results-placed rounds image fallen place es new rising found =
+pub results-placed : (layout : Layout) (rounds : ℕ) (image : ℕ → List ℕ) (fallen place : Option ℕ) (es : List HeaderEntry) (new : HeaderEntry) → EntriesRise 0 es → position (λ e. is_entry e.entry fallen) es ≡ place
+    → results_read layout rounds image (kept_entries fallen es ++ new ∷ [])
+    ≡ rows_left place (results_read layout rounds image es) ++ without_place place (map (λ older. result_read layout rounds image older new.slot) (slots_of es)) ∷ []
+results-placed layout rounds image fallen place es new rising found =
     ap (rows_with f []) (map-append (λ (e : HeaderEntry). e.slot) (kept_entries fallen es) (new ∷ []) ∙ ap (λ slots. slots ++ new.slot ∷ []) left)
     ∙ rows_with-push f (without_place place (slots_of es)) new.slot
     ∙ ap₂ (λ (rows : List (List Bout)) (row : List Bout). rows ++ row ∷ []) (rows-without f (slots_of es) place within) (row-without (λ older. f older new.slot) (slots_of es) place)
   where
     f : ℕ → ℕ → Bout
-    f = result_read rounds image
+    f = result_read layout rounds image
 
     left : slots_of (kept_entries fallen es) ≡ without_place place (slots_of es)
     left = slots-left fallen place es rising found
@@ -148,11 +148,11 @@ results-placed rounds image fallen place es new rising found =
     within i is = let below = place_within fallen es i (found ∙ is) in let long = length-map es (λ (e : HeaderEntry). e.slot) in omega (arith, below, long)
 
 -- one more, behind the others
-pub results-push : (rounds : ℕ) (image : ℕ → List ℕ) (es : List HeaderEntry) (e : HeaderEntry)
-    → results_read rounds image (es ++ e ∷ []) ≡ results_read rounds image es ++ map (λ older. result_read rounds image older e.slot) (slots_of es) ∷ []
-results-push rounds image es e =
-    ap (rows_with (result_read rounds image) []) (map-append (λ (x : HeaderEntry). x.slot) es (e ∷ []))
-    ∙ rows_with-push (result_read rounds image) (slots_of es) e.slot
+pub results-push : (layout : Layout) (rounds : ℕ) (image : ℕ → List ℕ) (es : List HeaderEntry) (e : HeaderEntry)
+    → results_read layout rounds image (es ++ e ∷ []) ≡ results_read layout rounds image es ++ map (λ older. result_read layout rounds image older e.slot) (slots_of es) ∷ []
+results-push layout rounds image es e =
+    ap (rows_with (result_read layout rounds image) []) (map-append (λ (x : HeaderEntry). x.slot) es (e ∷ []))
+    ∙ rows_with-push (result_read layout rounds image) (slots_of es) e.slot
 
 -- a row read by entries is that by their slots
 pub row-slots : (rounds : ℕ) (results : List Wins) (es : List HeaderEntry)

@@ -16,9 +16,9 @@ use Rattle.koth_hill.proofs.RowsKept.{matches-rounds}
 use Rattle.koth_hill.proofs.Verdicts.{verdict-stays, verdict-falls, verdict-entry, verdict-bouts}
 use Rattle.hill_bytes.specs.declared.header.HeaderEntry.{HeaderEntry}
 use Rattle.hill_bytes.specs.declared.wins.Wins.{Wins}
-use Rattle.hill_bytes.specs.Layout.{HeaderParts, IsHeaderParts, IsEntry, IsSlot, EntriesRise, SlotsDiffer, SlotIsFree, IsTitled, front_bytes, back_bytes, sectors_for}
+use Rattle.hill_bytes.specs.Layout.{HeaderParts, IsHeaderParts, IsEntry, IsSlot, EntriesRise, SlotsDiffer, SlotIsFree, IsTitled, Layout, sectors_in, slot_bytes}
 use Rattle.hill_bytes.proofs.Results.{slot-written}
-use Rattle.hill_images.specs.Stands.{Reads, IsReady}
+use Rattle.hill_images.specs.Stands.{ReadsIn, IsReady}
 use Rattle.hill_images.specs.Named.{Agree, IsNamed}
 use Rattle.hill_images.specs.Places.{kept_entries, new_entry, header_placed, header_passed, results_by_slot, commits, places}
 use Rattle.hill_images.proofs.Stops.{Either, IsStep, IsPlacing, committed, commit_stopped, placed, place_stopped}
@@ -181,18 +181,18 @@ passed_fits h hill is named hill_fits more =
     (up_to_all h.settings.capacity h.counter h.entries is.entries) is.slots
 
 -- a ready device reads as its hill
-pub ready_reads : (size : ℕ) (disk : Disk) (h : HeaderParts) (hill : Kept) → sectors_for hill.settings.capacity ≤ size → IsReady disk h hill → Images disk (λ image. Reads size image hill)
-ready_reads size disk h hill room ready = images_settled disk (λ image. Reads size image hill) ready.settled (record { header = h; shows = ready.shows; room = room })
+pub ready_reads : {layout : Layout} (size : ℕ) (disk : Disk) (h : HeaderParts) (hill : Kept) → sectors_in layout hill.settings.capacity ≤ size → IsReady layout disk h hill → Images disk (λ image. ReadsIn layout size image hill)
+ready_reads {layout} size disk h hill room ready = images_settled disk (λ image. ReadsIn layout size image hill) ready.settled (record { header = h; shows = ready.shows; room = room })
 
-either_reads : (size : ℕ) (disk : Disk) (h next : HeaderParts) (old new : Kept) → sectors_for old.settings.capacity ≤ size → sectors_for new.settings.capacity ≤ size → Images disk (Either h next old new) → Images disk (λ image. Reads size image old ⊎ Reads size image new)
-either_reads size disk h next old new old_room new_room each image is = elim (each image is) [
+either_reads : (layout : Layout) (size : ℕ) (disk : Disk) (h next : HeaderParts) (old new : Kept) → sectors_in layout old.settings.capacity ≤ size → sectors_in layout new.settings.capacity ≤ size → Images disk (Either layout h next old new) → Images disk (λ image. ReadsIn layout size image old ⊎ ReadsIn layout size image new)
+either_reads layout size disk h next old new old_room new_room each image is = elim (each image is) [
   | inl shows ↦ inl (record { header = h; shows = shows; room = old_room })
   | inr shows ↦ inr (record { header = next; shows = shows; room = new_room })
 ]
 
 -- what a warrior that stays needs of a ready device
-pub record MayPlace (disk : Disk) (h : HeaderParts) (hill : Kept) (w : WarriorParts) (fallen : Option ℕ) (slot : ℕ) : Type 0 where
-  pub ready : IsReady disk h hill
+pub record MayPlace (layout : Layout) (disk : Disk) (h : HeaderParts) (hill : Kept) (w : WarriorParts) (fallen : Option ℕ) (slot : ℕ) : Type 0 where
+  pub ready : IsReady layout disk h hill
   pub free : SlotIsFree slot h.entries
   pub fits : Fits hill.settings w
   pub titled : IsTitled w
@@ -205,12 +205,12 @@ abbrev pub results_of : HeaderParts → Kept → WarriorParts → List Wins
 results_of h hill w = results_by_slot h.entries (fresh hill w)
 
 -- the sectors that are written are a slot's
-written_slot : (disk : Disk) (h : HeaderParts) (hill : Kept) (w : WarriorParts) (fallen : Option ℕ) (slot : ℕ) → MayPlace disk h hill w fallen slot → IsSlot hill.settings (front_bytes w) (back_bytes w (results_of h hill w)) w
-written_slot disk h hill w fallen slot may =
-    slot-written hill.settings w (results_of h hill w) may.kept.hill.settings may.fits may.titled (length-by_slot h.entries (fresh hill w))
+written_slot : {layout : Layout} (disk : Disk) (h : HeaderParts) (hill : Kept) (w : WarriorParts) (fallen : Option ℕ) (slot : ℕ) → MayPlace layout disk h hill w fallen slot → IsSlot layout hill.settings (slot_bytes layout w (results_of h hill w)) w
+written_slot {layout} disk h hill w fallen slot may =
+    slot-written layout hill.settings w (results_of h hill w) may.kept.hill.settings may.fits may.titled (length-by_slot h.entries (fresh hill w))
     (fits-by_slot hill.settings.rounds h.entries (fresh hill w) (matches-rounds hill.settings hill.members w))
 
-placing : (disk : Disk) (h : HeaderParts) (hill : Kept) (w : WarriorParts) (fallen : Option ℕ) (slot : ℕ) → MayPlace disk h hill w fallen slot → IsPlacing disk h (header_placed h fallen slot) slot w (results_of h hill w) hill (kept_stay hill w fallen)
+placing : {layout : Layout} (disk : Disk) (h : HeaderParts) (hill : Kept) (w : WarriorParts) (fallen : Option ℕ) (slot : ℕ) → MayPlace layout disk h hill w fallen slot → IsPlacing layout disk h (header_placed h fallen slot) slot w (results_of h hill w) hill (kept_stay hill w fallen)
 placing disk h hill w fallen slot may = record {
   settled = may.ready.settled;
   before = may.ready.shows;
@@ -218,24 +218,24 @@ placing disk h hill w fallen slot may = record {
   behind = shows_placed (current disk) h hill fallen slot w may.free (written_slot disk h hill w fallen slot may) may.before may.header may.kept may.ready.shows;
 }
 
-pub ready_placed : (disk new : Disk) (h : HeaderParts) (hill : Kept) (w : WarriorParts) (fallen : Option ℕ) (slot : ℕ) → MayPlace disk h hill w fallen slot → new ≡ after (places (header_placed h fallen slot) slot w (results_of h hill w)) disk → IsReady new (header_placed h fallen slot) (kept_stay hill w fallen)
-ready_placed disk new h hill w fallen slot may made =
-    subst (λ d. IsReady d (header_placed h fallen slot) (kept_stay hill w fallen)) (sym made)
+pub ready_placed : {layout : Layout} (disk new : Disk) (h : HeaderParts) (hill : Kept) (w : WarriorParts) (fallen : Option ℕ) (slot : ℕ) → MayPlace layout disk h hill w fallen slot → new ≡ after (places layout (header_placed h fallen slot) slot w (results_of h hill w)) disk → IsReady layout new (header_placed h fallen slot) (kept_stay hill w fallen)
+ready_placed {layout} disk new h hill w fallen slot may made =
+    subst (λ d. IsReady layout d (header_placed h fallen slot) (kept_stay hill w fallen)) (sym made)
     (placed disk h (header_placed h fallen slot) slot w (results_of h hill w) hill (kept_stay hill w fallen) (placing disk h hill w fallen slot may))
 
-pub cut_placed : (size : ℕ) (disk new : Disk) (h : HeaderParts) (hill : Kept) (w : WarriorParts) (fallen : Option ℕ) (slot : ℕ) → sectors_for hill.settings.capacity ≤ size → MayPlace disk h hill w fallen slot → Begun (places (header_placed h fallen slot) slot w (results_of h hill w)) disk new → Images new (λ image. Reads size image hill ⊎ Reads size image (kept_stay hill w fallen))
-cut_placed size disk new h hill w fallen slot room may begun =
-    either_reads size new h (header_placed h fallen slot) hill (kept_stay hill w fallen) room room
+pub cut_placed : {layout : Layout} (size : ℕ) (disk new : Disk) (h : HeaderParts) (hill : Kept) (w : WarriorParts) (fallen : Option ℕ) (slot : ℕ) → sectors_in layout hill.settings.capacity ≤ size → MayPlace layout disk h hill w fallen slot → Begun (places layout (header_placed h fallen slot) slot w (results_of h hill w)) disk new → Images new (λ image. ReadsIn layout size image hill ⊎ ReadsIn layout size image (kept_stay hill w fallen))
+cut_placed {layout} size disk new h hill w fallen slot room may begun =
+    either_reads layout size new h (header_placed h fallen slot) hill (kept_stay hill w fallen) room room
     (place_stopped disk new h (header_placed h fallen slot) slot w (results_of h hill w) hill (kept_stay hill w fallen) (placing disk h hill w fallen slot may) begun)
 
-passing : (disk : Disk) (h : HeaderParts) (hill : Kept) → IsReady disk h hill → IsHeaderParts (header_passed h) → IsStep (current disk) h (header_passed h) hill (kept_fall hill)
+passing : {layout : Layout} (disk : Disk) (h : HeaderParts) (hill : Kept) → IsReady layout disk h hill → IsHeaderParts (header_passed h) → IsStep layout (current disk) h (header_passed h) hill (kept_fall hill)
 passing disk h hill ready fits = record { before = ready.shows; behind = shows_passed (current disk) h hill fits ready.shows }
 
-pub ready_passed : (disk new : Disk) (h : HeaderParts) (hill : Kept) → IsReady disk h hill → IsHeaderParts (header_passed h) → new ≡ after (commits (header_passed h)) disk → IsReady new (header_passed h) (kept_fall hill)
-ready_passed disk new h hill ready fits made =
-    subst (λ d. IsReady d (header_passed h) (kept_fall hill)) (sym made) (committed disk h (header_passed h) hill (kept_fall hill) (passing disk h hill ready fits))
+pub ready_passed : {layout : Layout} (disk new : Disk) (h : HeaderParts) (hill : Kept) → IsReady layout disk h hill → IsHeaderParts (header_passed h) → new ≡ after (commits layout (header_passed h)) disk → IsReady layout new (header_passed h) (kept_fall hill)
+ready_passed {layout} disk new h hill ready fits made =
+    subst (λ d. IsReady layout d (header_passed h) (kept_fall hill)) (sym made) (committed disk h (header_passed h) hill (kept_fall hill) (passing disk h hill ready fits))
 
-pub cut_passed : (size : ℕ) (disk new : Disk) (h : HeaderParts) (hill : Kept) → sectors_for hill.settings.capacity ≤ size → IsReady disk h hill → IsHeaderParts (header_passed h) → Begun (commits (header_passed h)) disk new → Images new (λ image. Reads size image hill ⊎ Reads size image (kept_fall hill))
-cut_passed size disk new h hill room ready fits begun =
-    either_reads size new h (header_passed h) hill (kept_fall hill) room room
+pub cut_passed : {layout : Layout} (size : ℕ) (disk new : Disk) (h : HeaderParts) (hill : Kept) → sectors_in layout hill.settings.capacity ≤ size → IsReady layout disk h hill → IsHeaderParts (header_passed h) → Begun (commits layout (header_passed h)) disk new → Images new (λ image. ReadsIn layout size image hill ⊎ ReadsIn layout size image (kept_fall hill))
+cut_passed {layout} size disk new h hill room ready fits begun =
+    either_reads layout size new h (header_passed h) hill (kept_fall hill) room room
     (commit_stopped disk new h (header_passed h) hill (kept_fall hill) ready.settled (passing disk h hill ready fits) begun)

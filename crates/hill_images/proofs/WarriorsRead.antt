@@ -13,7 +13,7 @@ use Rattle.koth_hill.specs.Hill.{Member, member_of, last_entry, last_entry_from}
 use Rattle.koth_hill.specs.Kept.{Kept, IsKept as IsKeptHill, kept_of}
 use Rattle.hill_bytes.specs.declared.header.HeaderEntry.{HeaderEntry}
 use Rattle.hill_bytes.specs.declared.wins.Wins.{Wins}
-use Rattle.hill_bytes.specs.Layout.{HeaderParts, IsHeaderParts, IsEntry, EntriesRise, FitRounds, results_in, back_sector}
+use Rattle.hill_bytes.specs.Layout.{HeaderParts, IsHeaderParts, IsEntry, EntriesRise, FitRounds, Layout, results_in, slot_in}
 use Rattle.hill_images.specs.Stands.{IsHeld, AllHeld, no_wins, bout_of, slots_of, results_read}
 use Rattle.hill_images.specs.Named.{Agree}
 use Rattle.sector_disk.specs.Served.{IsKept, Failed}
@@ -27,15 +27,15 @@ use Rattle.hill_images.proofs.Nexts.{agree_length, slots_low}
 use Rattle.hill_images.proofs.Submitted.{agree_more}
 
 -- so many entries were read
-pub record IsReadTo {D : Type 0} (facts : DeviceFacts D) (old now : D) (h : HeaderParts) (i : ℕ) (hill : Kept) : Type 0 where
+pub record IsReadTo {D : Type 0} (layout : Layout) (facts : DeviceFacts D) (old now : D) (h : HeaderParts) (i : ℕ) (hill : Kept) : Type 0 where
   pub kept : IsKept facts old now
   pub faultless : facts.faults now ≡ facts.faults old
   pub same : facts.lawful old → facts.disk now ≡ facts.disk old
   pub settings : hill.settings ≡ h.settings
   pub counter : hill.counter ≡ h.counter
   pub agree : Agree (take i h.entries) hill.members
-  pub held : facts.lawful old → AllHeld h.settings (current (facts.disk old)) (take i h.entries) hill.members
-  pub results : facts.lawful old → hill.results ≡ results_read h.settings.rounds (current (facts.disk old)) (take i h.entries)
+  pub held : facts.lawful old → AllHeld layout h.settings (current (facts.disk old)) (take i h.entries) hill.members
+  pub results : facts.lawful old → hill.results ≡ results_read layout h.settings.rounds (current (facts.disk old)) (take i h.entries)
 
 -- the last that was read is before the next
 last_before : (before : ℕ) (es : List HeaderEntry) (ms : List Member) (i : ℕ) (d : HeaderEntry) → i < length es → Agree (take i es) ms → EntriesRise before es → last_entry_from before ms < (get_or es i d).entry
@@ -54,16 +54,16 @@ pub agree_next : (es : List HeaderEntry) (ms : List Member) (i : ℕ) (d : Heade
 agree_next es ms i d m below agree entry age =
     subst (λ xs. Agree xs (ms ++ m ∷ [])) (sym (take_more es i d below)) (agree_more (take i es) ms (get_or es i d) m agree entry age)
 
-pub held_next : (s : RawSettings) (image : ℕ → List ℕ) (es : List HeaderEntry) (ms : List Member) (i : ℕ) (d : HeaderEntry) (m : Member) → i < length es → AllHeld s image (take i es) ms → IsHeld s image (get_or es i d) m → AllHeld s image (take (i + 1) es) (ms ++ m ∷ [])
-held_next s image es ms i d m below held this =
-    subst (λ xs. AllHeld s image xs (ms ++ m ∷ [])) (sym (take_more es i d below)) (held_more s image (take i es) ms (get_or es i d) m held this)
+pub held_next : (layout : Layout) (s : RawSettings) (image : ℕ → List ℕ) (es : List HeaderEntry) (ms : List Member) (i : ℕ) (d : HeaderEntry) (m : Member) → i < length es → AllHeld layout s image (take i es) ms → IsHeld layout s image (get_or es i d) m → AllHeld layout s image (take (i + 1) es) (ms ++ m ∷ [])
+held_next layout s image es ms i d m below held this =
+    subst (λ xs. AllHeld layout s image xs (ms ++ m ∷ [])) (sym (take_more es i d below)) (held_more layout s image (take i es) ms (get_or es i d) m held this)
 
 -- each entry's slot holds a warrior
-pub held_at : (s : RawSettings) (image : ℕ → List ℕ) (es : List HeaderEntry) (ms : List Member) (i : ℕ) (d : HeaderEntry) → i < length es → AllHeld s image es ms → (w : WarriorParts) × SlotHolds s image (get_or es i d).slot w
-held_at s image [] ms i d below held = absurd (omega (arith, below))
-held_at s image (e ∷ es) [] i d below held = absurd held
-held_at s image (e ∷ es) (m ∷ ms) zero d below held = (m.warrior, held.0.slot)
-held_at s image (e ∷ es) (m ∷ ms) (suc i) d below held = held_at s image es ms i d (omega (arith, below)) held.1
+pub held_at : (layout : Layout) (s : RawSettings) (image : ℕ → List ℕ) (es : List HeaderEntry) (ms : List Member) (i : ℕ) (d : HeaderEntry) → i < length es → AllHeld layout s image es ms → (w : WarriorParts) × SlotHolds layout s image (get_or es i d).slot w
+held_at layout s image [] ms i d below held = absurd (omega (arith, below))
+held_at layout s image (e ∷ es) [] i d below held = absurd held
+held_at layout s image (e ∷ es) (m ∷ ms) zero d below held = (m.warrior, held.0.slot)
+held_at layout s image (e ∷ es) (m ∷ ms) (suc i) d below held = held_at layout s image es ms i d (omega (arith, below)) held.1
 
 pub rose_more : {D : Type 0} (facts : DeviceFacts D) (old mid new : D) → facts.faults old ≤ facts.faults mid → facts.faults mid ≤ facts.faults new → Failed facts mid new → Failed facts old new
 rose_more facts old mid new first second (inl rose) = inl (omega (arith, first, rose))
@@ -83,8 +83,8 @@ pub record IsNextRead (h : HeaderParts) (hill : Kept) (e : HeaderEntry) : Type 0
   pub counted : e.entry ≤ hill.counter
   pub age : e.age ≤ hill.counter - e.entry
 
-pub next_read : {D : Type 0} (facts : DeviceFacts D) (old now : D) (h : HeaderParts) (i : ℕ) (hill : Kept) (es : List HeaderEntry) (d : HeaderEntry) → es ≡ h.entries → IsHeaderParts h → i < length es → IsReadTo facts old now h i hill → IsNextRead h hill (get_or es i d)
-next_read facts old now h i hill es d same is below read =
+pub next_read : {D : Type 0} {layout : Layout} (facts : DeviceFacts D) (old now : D) (h : HeaderParts) (i : ℕ) (hill : Kept) (es : List HeaderEntry) (d : HeaderEntry) → es ≡ h.entries → IsHeaderParts h → i < length es → IsReadTo layout facts old now h i hill → IsNextRead h hill (get_or es i d)
+next_read {layout = layout} facts old now h i hill es d same is below read =
     subst (λ xs. IsNextRead h hill (get_or xs i d)) (sym same) (record {
       room = subst (λ s. length hill.members < s.capacity) (sym read.settings)
           (let count : length (take i h.entries) ≡ length hill.members = agree_length (take i h.entries) hill.members read.agree in
@@ -106,34 +106,34 @@ next_read facts old now h i hill es d same is below read =
 abbrev pub row_of : ℕ → List Wins → List HeaderEntry → List Bout
 row_of rounds results es = map (λ (e : HeaderEntry). bout_of rounds (get_or results e.slot no_wins)) es
 
-results_next : (rounds : ℕ) (image : ℕ → List ℕ) (es : List HeaderEntry) (i : ℕ) (d : HeaderEntry) (results : List Wins) (rows : List (List Bout)) → i < length es → results ≡ results_in (image (back_sector (get_or es i d).slot))
-    → rows ≡ results_read rounds image (take i es) → rows ++ row_of rounds results (take i es) ∷ [] ≡ results_read rounds image (take (i + 1) es)
-results_next rounds image es i d results rows below read before =
+results_next : (layout : Layout) (rounds : ℕ) (image : ℕ → List ℕ) (es : List HeaderEntry) (i : ℕ) (d : HeaderEntry) (results : List Wins) (rows : List (List Bout)) → i < length es → results ≡ results_in layout (slot_in layout image (get_or es i d).slot)
+    → rows ≡ results_read layout rounds image (take i es) → rows ++ row_of rounds results (take i es) ∷ [] ≡ results_read layout rounds image (take (i + 1) es)
+results_next layout rounds image es i d results rows below read before =
     ap₂ (λ (xs : List (List Bout)) (x : List Bout). xs ++ x ∷ []) before
     (row-slots rounds results (take i es) ∙ ap (λ (ws : List Wins). map (λ older. bout_of rounds (get_or ws older no_wins)) (slots_of (take i es))) read)
-    ∙ sym (results-push rounds image (take i es) (get_or es i d))
-    ∙ ap (results_read rounds image) (sym (take_more es i d below))
+    ∙ sym (results-push layout rounds image (take i es) (get_or es i d))
+    ∙ ap (results_read layout rounds image) (sym (take_more es i d below))
 
 -- one more was read
-pub read_more : {D : Type 0} (facts : DeviceFacts D) (old mid new : D) (h : HeaderParts) (i : ℕ) (hill next : Kept) (d : HeaderEntry) (w : WarriorParts) (results : List Wins) → i < length h.entries → IsReadTo facts old mid h i hill → IsKept facts mid new → facts.faults new ≡ facts.faults mid → (facts.lawful mid → facts.disk new ≡ facts.disk mid)
-    → WarriorRead facts mid h.settings (get_or h.entries i d).slot w → ResultsRead facts mid (get_or h.entries i d).slot results
+pub read_more : {D : Type 0} {layout : Layout} (facts : DeviceFacts D) (old mid new : D) (h : HeaderParts) (i : ℕ) (hill next : Kept) (d : HeaderEntry) (w : WarriorParts) (results : List Wins) → i < length h.entries → IsReadTo layout facts old mid h i hill → IsKept facts mid new → facts.faults new ≡ facts.faults mid → (facts.lawful mid → facts.disk new ≡ facts.disk mid)
+    → WarriorRead layout facts mid h.settings (get_or h.entries i d).slot w → ResultsRead layout facts mid (get_or h.entries i d).slot results
     → next ≡ kept_of hill.settings hill.counter (hill.members ++ member_of (get_or h.entries i d).entry (get_or h.entries i d).age w ∷ []) (hill.results ++ row_of h.settings.rounds results (take i h.entries) ∷ [])
-    → IsReadTo facts old new h (i + 1) next
-read_more facts old mid new h i hill next d w results below read kept faultless same_disk warrior row is =
-    subst (λ x. IsReadTo facts old new h (i + 1) x) (sym is) (record {
+    → IsReadTo layout facts old new h (i + 1) next
+read_more {layout = layout} facts old mid new h i hill next d w results below read kept faultless same_disk warrior row is =
+    subst (λ x. IsReadTo layout facts old new h (i + 1) x) (sym is) (record {
       kept = kept_on facts old mid new read.kept kept;
       faultless = faultless ∙ read.faultless;
       same = λ lawful. same_disk (read.kept.same_laws.1 lawful) ∙ read.same lawful;
       settings = read.settings;
       counter = read.counter;
       agree = agree_next h.entries hill.members i d (member_of (get_or h.entries i d).entry (get_or h.entries i d).age w) below read.agree refl refl;
-      held = λ lawful. held_next h.settings (current (facts.disk old)) h.entries hill.members i d (member_of (get_or h.entries i d).entry (get_or h.entries i d).age w) below (read.held lawful) (record {
+      held = λ lawful. held_next layout h.settings (current (facts.disk old)) h.entries hill.members i d (member_of (get_or h.entries i d).entry (get_or h.entries i d).age w) below (read.held lawful) (record {
         entry = refl;
         age = refl;
-        slot = subst (λ x. SlotHolds h.settings (current x) (get_or h.entries i d).slot w) (read.same lawful) (warrior (read.kept.same_laws.1 lawful));
+        slot = subst (λ x. SlotHolds layout h.settings (current x) (get_or h.entries i d).slot w) (read.same lawful) (warrior (read.kept.same_laws.1 lawful));
       });
-      results = λ lawful. results_next h.settings.rounds (current (facts.disk old)) h.entries i d results hill.results below
-          (subst (λ x. results ≡ results_in (current x (back_sector (get_or h.entries i d).slot))) (read.same lawful) (row (read.kept.same_laws.1 lawful)))
+      results = λ lawful. results_next layout h.settings.rounds (current (facts.disk old)) h.entries i d results hill.results below
+          (subst (λ x. results ≡ results_in layout (slot_in layout (current x) (get_or h.entries i d).slot)) (read.same lawful) (row (read.kept.same_laws.1 lawful)))
           (read.results lawful);
     })
 
@@ -142,15 +142,15 @@ abbrev pub IsRowRead : List HeaderEntry → ℕ → ℕ → List Wins → List B
 IsRowRead es i rounds results row = row ≡ row_of rounds results (take i es)
 
 -- with the entries and the settings as they were read
-pub read_next : {D : Type 0} (facts : DeviceFacts D) (old mid new : D) (h : HeaderParts) (i : ℕ) (hill next : Kept) (es : List HeaderEntry) (d : HeaderEntry) (w : WarriorParts) (results : List Wins) (row : List Bout) (s : RawSettings) (rounds : ℕ)
-    → es ≡ h.entries → s ≡ h.settings → rounds ≡ s.rounds → i < length es → IsReadTo facts old mid h i hill → IsKept facts mid new → facts.faults new ≡ facts.faults mid → (facts.lawful mid → facts.disk new ≡ facts.disk mid)
-    → WarriorRead facts mid s (get_or es i d).slot w → ResultsRead facts mid (get_or es i d).slot results → IsRowRead es i rounds results row
+pub read_next : {D : Type 0} {layout : Layout} (facts : DeviceFacts D) (old mid new : D) (h : HeaderParts) (i : ℕ) (hill next : Kept) (es : List HeaderEntry) (d : HeaderEntry) (w : WarriorParts) (results : List Wins) (row : List Bout) (s : RawSettings) (rounds : ℕ)
+    → es ≡ h.entries → s ≡ h.settings → rounds ≡ s.rounds → i < length es → IsReadTo layout facts old mid h i hill → IsKept facts mid new → facts.faults new ≡ facts.faults mid → (facts.lawful mid → facts.disk new ≡ facts.disk mid)
+    → WarriorRead layout facts mid s (get_or es i d).slot w → ResultsRead layout facts mid (get_or es i d).slot results → IsRowRead es i rounds results row
     → next ≡ kept_of hill.settings hill.counter (hill.members ++ member_of (get_or es i d).entry (get_or es i d).age w ∷ []) (hill.results ++ row ∷ [])
-    → IsReadTo facts old new h (i + 1) next
-read_next facts old mid new h i hill next es d w results row s rounds same same_s same_rounds below read kept faultless same_disk warrior there is_row is =
+    → IsReadTo layout facts old new h (i + 1) next
+read_next {layout = layout} facts old mid new h i hill next es d w results row s rounds same same_s same_rounds below read kept faultless same_disk warrior there is_row is =
     read_more facts old mid new h i hill next d w results (subst (λ xs. i < length xs) same below) read kept faultless same_disk
-    (subst (λ x. WarriorRead facts mid x (get_or h.entries i d).slot w) same_s (subst (λ xs. WarriorRead facts mid s (get_or xs i d).slot w) same warrior))
-    (subst (λ xs. ResultsRead facts mid (get_or xs i d).slot results) same there)
+    (subst (λ x. WarriorRead layout facts mid x (get_or h.entries i d).slot w) same_s (subst (λ xs. WarriorRead layout facts mid s (get_or xs i d).slot w) same warrior))
+    (subst (λ xs. ResultsRead layout facts mid (get_or xs i d).slot results) same there)
     (is ∙ ap (λ (xs : List HeaderEntry). kept_of hill.settings hill.counter (hill.members ++ member_of (get_or xs i d).entry (get_or xs i d).age w ∷ []) (hill.results ++ row ∷ [])) same
     ∙ ap (λ (r : List Bout). kept_of hill.settings hill.counter (hill.members ++ member_of (get_or h.entries i d).entry (get_or h.entries i d).age w ∷ []) (hill.results ++ r ∷ []))
     (is_row ∙ ap (λ n. row_of n results (take i es)) (same_rounds ∙ ap (λ (x : RawSettings). x.rounds) same_s) ∙ ap (λ (xs : List HeaderEntry). row_of h.settings.rounds results (take i xs)) same))
@@ -175,33 +175,33 @@ within_of n (e ∷ es) long low =
     All-cons (λ x. x.slot < n) e es (omega (arith, this, long)) (within_of n es long (All-tail (λ x. x.slot ≤ 20) e es low))
 
 -- so many were put back as were read
-pub members_read : {D : Type 0} (facts : DeviceFacts D) (old now : D) (h : HeaderParts) (i : ℕ) (hill : Kept) (es : List HeaderEntry) → es ≡ h.entries → i < length es → IsReadTo facts old now h i hill → length hill.members ≡ i
-members_read facts old now h i hill es same below read =
+pub members_read : {D : Type 0} {layout : Layout} (facts : DeviceFacts D) (old now : D) (h : HeaderParts) (i : ℕ) (hill : Kept) (es : List HeaderEntry) → es ≡ h.entries → i < length es → IsReadTo layout facts old now h i hill → length hill.members ≡ i
+members_read {layout = layout} facts old now h i hill es same below read =
     let count : length (take i h.entries) ≡ length hill.members = agree_length (take i h.entries) hill.members read.agree in
     let here : i < length h.entries = subst (λ xs. i < length xs) same below in
     let taken : length (take i h.entries) ≡ min i (length h.entries) = length-take i h.entries in
     omega arith
 
 -- one was not read
-pub read_failed : {D : Type 0} (facts : DeviceFacts D) (old mid new : D) (h : HeaderParts) (i : ℕ) (hill : Kept) (es : List HeaderEntry) (d : HeaderEntry) (s : RawSettings) (why : Unread) → es ≡ h.entries → s ≡ h.settings → i < length es → IsReadTo facts old mid h i hill → IsKept facts mid new → WarriorNotRead facts mid new s (get_or es i d).slot why → HillNotRead facts old new h why
-read_failed facts old mid new h i hill es d s unread.Disk same same_s below read kept failed = rose_more facts old mid new read.kept.later kept.later failed
-read_failed facts old mid new h i hill es d s unread.Memory same same_s below read kept failed = tt
-read_failed facts old mid new h i hill es d s unread.Damaged same same_s below read kept failed = λ lawful. λ ms. λ held.
-    let there = held_at h.settings (current (facts.disk old)) h.entries ms i d (subst (λ xs. i < length xs) same below) held in
+pub read_failed : {D : Type 0} {layout : Layout} (facts : DeviceFacts D) (old mid new : D) (h : HeaderParts) (i : ℕ) (hill : Kept) (es : List HeaderEntry) (d : HeaderEntry) (s : RawSettings) (why : Unread) → es ≡ h.entries → s ≡ h.settings → i < length es → IsReadTo layout facts old mid h i hill → IsKept facts mid new → WarriorNotRead layout facts mid new s (get_or es i d).slot why → HillNotRead layout facts old new h why
+read_failed {layout = layout} facts old mid new h i hill es d s unread.Disk same same_s below read kept failed = rose_more facts old mid new read.kept.later kept.later failed
+read_failed {layout = layout} facts old mid new h i hill es d s unread.Memory same same_s below read kept failed = tt
+read_failed {layout = layout} facts old mid new h i hill es d s unread.Damaged same same_s below read kept failed = λ lawful. λ ms. λ held.
+    let there = held_at layout h.settings (current (facts.disk old)) h.entries ms i d (subst (λ xs. i < length xs) same below) held in
     failed (read.kept.same_laws.1 lawful) there.0
-    (subst (λ x. SlotHolds s (current x) (get_or es i d).slot there.0) (sym (read.same lawful))
-    (subst (λ x. SlotHolds x (current (facts.disk old)) (get_or es i d).slot there.0) (sym same_s)
-    (subst (λ xs. SlotHolds h.settings (current (facts.disk old)) (get_or xs i d).slot there.0) (sym same) there.1)))
+    (subst (λ x. SlotHolds layout s (current x) (get_or es i d).slot there.0) (sym (read.same lawful))
+    (subst (λ x. SlotHolds layout x (current (facts.disk old)) (get_or es i d).slot there.0) (sym same_s)
+    (subst (λ xs. SlotHolds layout h.settings (current (facts.disk old)) (get_or xs i d).slot there.0) (sym same) there.1)))
 
 -- all were read
-pub read_all : {D : Type 0} (facts : DeviceFacts D) (old now : D) (h : HeaderParts) (i : ℕ) (hill : Kept) → length h.entries ≤ i → IsKeptHill hill → IsReadTo facts old now h i hill → HillRead facts old h hill
-read_all facts old now h i hill past kept read = record {
+pub read_all : {D : Type 0} {layout : Layout} (facts : DeviceFacts D) (old now : D) (h : HeaderParts) (i : ℕ) (hill : Kept) → length h.entries ≤ i → IsKeptHill hill → IsReadTo layout facts old now h i hill → HillRead layout facts old h hill
+read_all {layout = layout} facts old now h i hill past kept read = record {
   kept = kept;
   named = record { settings = sym read.settings; counter = sym read.counter; entries = subst (λ xs. Agree xs hill.members) whole read.agree };
-  held = λ lawful. subst (λ s. AllHeld s (current (facts.disk old)) h.entries hill.members) (sym read.settings) (subst (λ xs. AllHeld h.settings (current (facts.disk old)) xs hill.members) whole (read.held lawful));
+  held = λ lawful. subst (λ s. AllHeld layout s (current (facts.disk old)) h.entries hill.members) (sym read.settings) (subst (λ xs. AllHeld layout h.settings (current (facts.disk old)) xs hill.members) whole (read.held lawful));
   results = λ lawful. read.results lawful
-      ∙ ap (results_read h.settings.rounds (current (facts.disk old))) whole
-      ∙ ap (λ (s : RawSettings). results_read s.rounds (current (facts.disk old)) h.entries) (sym read.settings);
+      ∙ ap (results_read layout h.settings.rounds (current (facts.disk old))) whole
+      ∙ ap (λ (s : RawSettings). results_read layout s.rounds (current (facts.disk old)) h.entries) (sym read.settings);
 }
   where
     whole : take i h.entries ≡ h.entries

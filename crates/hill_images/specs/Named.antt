@@ -5,7 +5,7 @@ use Rattle.sector_disk.specs.Facts.{DeviceFacts}
 use Rattle.koth_hill.specs.Hill.{Member, Hill}
 use Rattle.koth_hill.specs.Kept.{Kept, hill_in, IsKept}
 use Rattle.hill_bytes.specs.declared.header.HeaderEntry.{HeaderEntry}
-use Rattle.hill_bytes.specs.Layout.{HeaderParts, IsHeaderParts, sectors_for}
+use Rattle.hill_bytes.specs.Layout.{Layout, HeaderParts, IsHeaderParts, first_layout, sectors_in}
 use Rattle.hill_images.specs.Stands.{IsReady}
 
 -- entries and members agree one by one
@@ -22,10 +22,13 @@ pub record IsNamed (h : HeaderParts) (hill : Hill) : Type 0 where
   pub entries : Agree h.entries hill.members
 
 -- what every store keeps
-pub record IsSound {D : Type 0} (facts : DeviceFacts D) (device : D) (h : HeaderParts) (hill : Kept) (arena : RawSettings) (reopen : Bool) : Type 0 where
-  pub room : sectors_for hill.settings.capacity ≤ facts.size device
+pub record IsSoundIn {D : Type 0} (layout : Layout) (facts : DeviceFacts D) (device : D) (h : HeaderParts) (hill : Kept) (arena : RawSettings) (reopen : Bool) : Type 0 where
+  pub room : sectors_in layout hill.settings.capacity ≤ facts.size device
   pub arena_of : arena ≡ hill.settings
   pub header : IsHeaderParts h
   pub kept : IsKept hill
   pub named : IsNamed h (hill_in hill)
-  pub ready : facts.lawful device → reopen ≡ false → IsReady (facts.disk device) h hill
+  pub ready : facts.lawful device → reopen ≡ false → IsReady layout (facts.disk device) h hill
+
+abbrev pub IsSound : {D : Type 0} → DeviceFacts D → D → HeaderParts → Kept → RawSettings → Bool → Type 0
+IsSound facts device h hill arena reopen = IsSoundIn first_layout facts device h hill arena reopen

@@ -6,7 +6,7 @@ use Rattle.koth_match.specs.declared.bout.Bout.{Bout}
 use Rattle.koth_hill.specs.Step.{is_entry}
 use Rattle.hill_bytes.specs.declared.header.HeaderEntry.{HeaderEntry}
 use Rattle.hill_bytes.specs.declared.wins.Wins.{Wins}
-use Rattle.hill_bytes.specs.Layout.{HeaderParts, header_parts, header_bytes, front_bytes, back_bytes, front_sector, back_sector}
+use Rattle.hill_bytes.specs.Layout.{Layout, HeaderParts, header_parts, header_bytes, slot_at, slot_bytes}
 use Rattle.hill_images.specs.Stands.{no_wins}
 
 -- a result as it is stored
@@ -23,17 +23,22 @@ results_onto places (e ∷ es) (b ∷ bouts) = results_onto (set places e.slot (
 abbrev pub results_by_slot : List HeaderEntry → List Bout → List Wins
 results_by_slot es bouts = results_onto (replicate 21 no_wins) es bouts
 
--- both sectors of a slot
-abbrev pub slot_writes : ℕ → WarriorParts → List Wins → List (Disk → Disk)
-slot_writes slot w results = wrote (front_sector slot) (front_bytes w) ∷ wrote (back_sector slot) (back_bytes w results) ∷ []
+-- these sectors, one behind the other from one on
+abbrev pub writes_from : ℕ → List (List ℕ) → List (Disk → Disk)
+writes_from at [] = []
+writes_from at (bytes ∷ sectors) = wrote at bytes ∷ writes_from (at + 1) sectors
+
+-- the sectors of a slot
+abbrev pub slot_writes : Layout → ℕ → WarriorParts → List Wins → List (Disk → Disk)
+slot_writes layout slot w results = writes_from (slot_at layout slot) (slot_bytes layout w results)
 
 -- the header, in the sector of its generation's parity
-abbrev pub commits : HeaderParts → List (Disk → Disk)
-commits h = wrote (h.generation % 2) (header_bytes h) ∷ synced ∷ []
+abbrev pub commits : Layout → HeaderParts → List (Disk → Disk)
+commits layout h = wrote (h.generation % 2) (header_bytes layout h) ∷ synced ∷ []
 
 -- the durable order of a warrior that stays: its slot, and only then the header that names it
-abbrev pub places : HeaderParts → ℕ → WarriorParts → List Wins → List (Disk → Disk)
-places h slot w results = slot_writes slot w results ++ (synced ∷ commits h)
+abbrev pub places : Layout → HeaderParts → ℕ → WarriorParts → List Wins → List (Disk → Disk)
+places layout h slot w results = slot_writes layout slot w results ++ (synced ∷ commits layout h)
 
 -- the entries that stay, one older each
 abbrev pub kept_entries : Option ℕ → List HeaderEntry → List HeaderEntry

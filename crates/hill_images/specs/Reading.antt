@@ -8,7 +8,7 @@ use Rattle.sector_disk.specs.Served.{Failed}
 use Rattle.koth_hill.specs.Hill.{Member}
 use Rattle.koth_hill.specs.Kept.{Kept, hill_in, IsKept}
 use Rattle.hill_bytes.specs.declared.wins.Wins.{Wins}
-use Rattle.hill_bytes.specs.Layout.{HeaderParts, IsHeaderParts, IsSlot, results_in, front_sector, back_sector, sectors_for}
+use Rattle.hill_bytes.specs.Layout.{Layout, HeaderParts, IsHeaderParts, IsSlot, results_in, sectors_in, slot_in}
 use Rattle.hill_images.specs.Stands.{AllHeld, results_read}
 use Rattle.hill_images.specs.Named.{IsNamed}
 use Rattle.hill_images.specs.declared.reading.Unread.{Unread}
@@ -23,32 +23,33 @@ refusal_of unread.Memory = refusals.Memory
 refusal_of unread.Damaged = refusals.Damaged
 
 -- the slot holds this warrior
-abbrev pub SlotHolds : RawSettings → (ℕ → List ℕ) → ℕ → WarriorParts → Type 0
-SlotHolds s image slot w = IsSlot s (image (front_sector slot)) (image (back_sector slot)) w
+abbrev pub SlotHolds : Layout → RawSettings → (ℕ → List ℕ) → ℕ → WarriorParts → Type 0
+SlotHolds layout s image slot w = IsSlot layout s (slot_in layout image slot) w
 
-abbrev pub WarriorRead : {D : Type 0} → DeviceFacts D → D → RawSettings → ℕ → WarriorParts → Type 0
-WarriorRead facts old s slot w = facts.lawful old → SlotHolds s (current (facts.disk old)) slot w
+abbrev pub WarriorRead : {D : Type 0} → Layout → DeviceFacts D → D → RawSettings → ℕ → WarriorParts → Type 0
+WarriorRead layout facts old s slot w = facts.lawful old → SlotHolds layout s (current (facts.disk old)) slot w
 
 -- and these results
-abbrev pub ResultsRead : {D : Type 0} → DeviceFacts D → D → ℕ → List Wins → Type 0
-ResultsRead facts old slot results = facts.lawful old → results ≡ results_in (current (facts.disk old) (back_sector slot))
+abbrev pub ResultsRead : {D : Type 0} → Layout → DeviceFacts D → D → ℕ → List Wins → Type 0
+ResultsRead layout facts old slot results = facts.lawful old → results ≡ results_in layout (slot_in layout (current (facts.disk old)) slot)
 
-abbrev pub WarriorNotRead : {D : Type 0} → DeviceFacts D → D → D → RawSettings → ℕ → Unread → Type 0
-WarriorNotRead facts old new s slot unread.Disk = Failed facts old new
-WarriorNotRead facts old new s slot unread.Memory = Unit {0}
-WarriorNotRead facts old new s slot unread.Damaged = facts.lawful old → (w : WarriorParts) → SlotHolds s (current (facts.disk old)) slot w → ⊥
+abbrev pub WarriorNotRead : {D : Type 0} → Layout → DeviceFacts D → D → D → RawSettings → ℕ → Unread → Type 0
+WarriorNotRead layout facts old new s slot unread.Disk = Failed facts old new
+WarriorNotRead layout facts old new s slot unread.Memory = Unit {0}
+WarriorNotRead layout facts old new s slot unread.Damaged =
+    facts.lawful old → (w : WarriorParts) → SlotHolds layout s (current (facts.disk old)) slot w → ⊥
 
 -- the hill that a header gives was read
-pub record HillRead {D : Type 0} (facts : DeviceFacts D) (old : D) (h : HeaderParts) (hill : Kept) : Type 0 where
+pub record HillRead {D : Type 0} (layout : Layout) (facts : DeviceFacts D) (old : D) (h : HeaderParts) (hill : Kept) : Type 0 where
   pub kept : IsKept hill
   pub named : IsNamed h (hill_in hill)
-  pub held : facts.lawful old → AllHeld hill.settings (current (facts.disk old)) h.entries hill.members
-  pub results : facts.lawful old → hill.results ≡ results_read hill.settings.rounds (current (facts.disk old)) h.entries
+  pub held : facts.lawful old → AllHeld layout hill.settings (current (facts.disk old)) h.entries hill.members
+  pub results : facts.lawful old → hill.results ≡ results_read layout hill.settings.rounds (current (facts.disk old)) h.entries
 
-abbrev pub HillNotRead : {D : Type 0} → DeviceFacts D → D → D → HeaderParts → Unread → Type 0
-HillNotRead facts old new h unread.Disk = Failed facts old new
-HillNotRead facts old new h unread.Memory = Unit {0}
-HillNotRead facts old new h unread.Damaged = facts.lawful old → (ms : List Member) → AllHeld h.settings (current (facts.disk old)) h.entries ms → ⊥
+abbrev pub HillNotRead : {D : Type 0} → Layout → DeviceFacts D → D → D → HeaderParts → Unread → Type 0
+HillNotRead layout facts old new h unread.Disk = Failed facts old new
+HillNotRead layout facts old new h unread.Memory = Unit {0}
+HillNotRead layout facts old new h unread.Damaged = facts.lawful old → (ms : List Member) → AllHeld layout h.settings (current (facts.disk old)) h.entries ms → ⊥
 
 -- what was decoded, as an answer
 abbrev pub IsDecodedAs : {W E : Type 0} → Result (Option W) E → Result W Unread → Type 0
@@ -57,19 +58,19 @@ IsDecodedAs (Ok None) result = result ≡ Err unread.Damaged
 IsDecodedAs (Err error) result = result ≡ Err unread.Memory
 
 -- why the hill of a header was not recovered
-abbrev pub HillRefused : {D : Type 0} → DeviceFacts D → D → D → HeaderParts → Refusal → Type 0
-HillRefused facts old new h refusals.TooSmall = facts.size old < sectors_for h.settings.capacity
-HillRefused facts old new h refusals.Disk = Failed facts old new
-HillRefused facts old new h refusals.Memory = Unit {0}
-HillRefused facts old new h refusals.Damaged =
-    (sectors_for h.settings.capacity ≤ facts.size old) × (facts.lawful old → (ms : List Member) → AllHeld h.settings (current (facts.disk old)) h.entries ms → ⊥)
-HillRefused facts old new h refusals.Occupied = ⊥
-HillRefused facts old new h refusals.NotAHill = ⊥
+abbrev pub HillRefused : {D : Type 0} → Layout → DeviceFacts D → D → D → HeaderParts → Refusal → Type 0
+HillRefused layout facts old new h refusals.TooSmall = facts.size old < sectors_in layout h.settings.capacity
+HillRefused layout facts old new h refusals.Disk = Failed facts old new
+HillRefused layout facts old new h refusals.Memory = Unit {0}
+HillRefused layout facts old new h refusals.Damaged =
+    (sectors_in layout h.settings.capacity ≤ facts.size old) × (facts.lawful old → (ms : List Member) → AllHeld layout h.settings (current (facts.disk old)) h.entries ms → ⊥)
+HillRefused layout facts old new h refusals.Occupied = ⊥
+HillRefused layout facts old new h refusals.NotAHill = ⊥
 
 -- the hill of a header was recovered
-pub record IsHillFound {D : Type 0} (facts : DeviceFacts D) (old : D) (given : HeaderParts) (h : HeaderParts) (hill : Kept) (arena : RawSettings) : Type 0 where
+pub record IsHillFound {D : Type 0} (layout : Layout) (facts : DeviceFacts D) (old : D) (given : HeaderParts) (h : HeaderParts) (hill : Kept) (arena : RawSettings) : Type 0 where
   pub same : h ≡ given
   pub header : IsHeaderParts h
   pub arena_of : arena ≡ h.settings
-  pub room : sectors_for h.settings.capacity ≤ facts.size old
-  pub read : HillRead facts old h hill
+  pub room : sectors_in layout h.settings.capacity ≤ facts.size old
+  pub read : HillRead layout facts old h hill

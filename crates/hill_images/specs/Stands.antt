@@ -1,4 +1,4 @@
--- Which hill an image stands for.
+-- Which hill an image stands for. Each of these is said of every layout; the words without `In` are said of the one that devices have.
 use Rattle.std.specs.Prelude.{◌≡◌, ℕ, ◌+◌, ◌-◌, ◌%◌, ◌≤◌, List, [], ◌∷◌, map, get_or}
 use Rattle.war_types.specs.declared.settings.RawSettings.{RawSettings}
 use Rattle.sector_disk.specs.Disk.{Disk, current, IsSettled}
@@ -7,25 +7,25 @@ use Rattle.koth_hill.specs.Hill.{Member, Hill}
 use Rattle.koth_hill.specs.Kept.{Kept, rows_with, fought}
 use Rattle.hill_bytes.specs.declared.header.HeaderEntry.{HeaderEntry}
 use Rattle.hill_bytes.specs.declared.wins.Wins.{Wins}
-use Rattle.hill_bytes.specs.Layout.{HeaderParts, IsHeader, IsSlot, results_in, front_sector, back_sector, sectors_for}
+use Rattle.hill_bytes.specs.Layout.{Layout, HeaderParts, IsHeader, IsSlot, first_layout, results_in, slot_in, sectors_in}
 
 -- the valid header of greatest generation; one is valid in the sector of its generation's parity
-pub record IsNewest (image : ℕ → List ℕ) (h : HeaderParts) : Type 0 where
-  pub here : IsHeader (image (h.generation % 2)) h
-  pub newest : (g : HeaderParts) → IsHeader (image (g.generation % 2)) g → g.generation ≤ h.generation
+pub record IsNewestIn (layout : Layout) (image : ℕ → List ℕ) (h : HeaderParts) : Type 0 where
+  pub here : IsHeader layout (image (h.generation % 2)) h
+  pub newest : (g : HeaderParts) → IsHeader layout (image (g.generation % 2)) g → g.generation ≤ h.generation
 
 -- the entry names this member, and its slot holds the member's warrior
-pub record IsHeld (s : RawSettings) (image : ℕ → List ℕ) (e : HeaderEntry) (m : Member) : Type 0 where
+pub record IsHeld (layout : Layout) (s : RawSettings) (image : ℕ → List ℕ) (e : HeaderEntry) (m : Member) : Type 0 where
   pub entry : m.entry ≡ e.entry
   pub age : m.age ≡ e.age
-  pub slot : IsSlot s (image (front_sector e.slot)) (image (back_sector e.slot)) m.warrior
+  pub slot : IsSlot layout s (slot_in layout image e.slot) m.warrior
 
 -- so it is with these entries and these members, one by one
-abbrev pub AllHeld : RawSettings → (ℕ → List ℕ) → List HeaderEntry → List Member → Type 0
-AllHeld s image [] [] = Unit {0}
-AllHeld s image [] (m ∷ ms) = ⊥
-AllHeld s image (e ∷ es) [] = ⊥
-AllHeld s image (e ∷ es) (m ∷ ms) = IsHeld s image e m × AllHeld s image es ms
+abbrev pub AllHeld : Layout → RawSettings → (ℕ → List ℕ) → List HeaderEntry → List Member → Type 0
+AllHeld layout s image [] [] = Unit {0}
+AllHeld layout s image [] (m ∷ ms) = ⊥
+AllHeld layout s image (e ∷ es) [] = ⊥
+AllHeld layout s image (e ∷ es) (m ∷ ms) = IsHeld layout s image e m × AllHeld layout s image es ms
 
 -- nobody won a round
 abbrev pub no_wins : Wins
@@ -36,36 +36,50 @@ abbrev pub bout_of : ℕ → Wins → Bout
 bout_of rounds w = record { older_wins = w.older; younger_wins = w.younger; ties = rounds - (w.older + w.younger) }
 
 -- the result of the warriors in two slots, which stands with the younger
-abbrev pub result_read : ℕ → (ℕ → List ℕ) → ℕ → ℕ → Bout
-result_read rounds image older younger = bout_of rounds (get_or (results_in (image (back_sector younger))) older no_wins)
+abbrev pub result_read : Layout → ℕ → (ℕ → List ℕ) → ℕ → ℕ → Bout
+result_read layout rounds image older younger = bout_of rounds (get_or (results_in layout (slot_in layout image younger)) older no_wins)
 
 abbrev pub slots_of : List HeaderEntry → List ℕ
 slots_of es = map (λ e. e.slot) es
 
 -- the results of the warriors of these entries, each with those before it
-abbrev pub results_read : ℕ → (ℕ → List ℕ) → List HeaderEntry → List (List Bout)
-results_read rounds image es = rows_with (result_read rounds image) [] (slots_of es)
+abbrev pub results_read : Layout → ℕ → (ℕ → List ℕ) → List HeaderEntry → List (List Bout)
+results_read layout rounds image es = rows_with (result_read layout rounds image) [] (slots_of es)
 
 -- the header is the newest, and with the slots that it names it gives the hill and what is kept of its matches, true or not
-pub record Shows (image : ℕ → List ℕ) (h : HeaderParts) (hill : Kept) : Type 0 where
-  pub newest : IsNewest image h
+pub record ShowsIn (layout : Layout) (image : ℕ → List ℕ) (h : HeaderParts) (hill : Kept) : Type 0 where
+  pub newest : IsNewestIn layout image h
   pub settings : h.settings ≡ hill.settings
   pub counter : h.counter ≡ hill.counter
-  pub members : AllHeld hill.settings image h.entries hill.members
-  pub results : hill.results ≡ results_read hill.settings.rounds image h.entries
+  pub members : AllHeld layout hill.settings image h.entries hill.members
+  pub results : hill.results ≡ results_read layout hill.settings.rounds image h.entries
 
 -- what an image of a device of so many sectors reads as
-pub record Reads (size : ℕ) (image : ℕ → List ℕ) (hill : Kept) : Type 0 where
+pub record ReadsIn (layout : Layout) (size : ℕ) (image : ℕ → List ℕ) (hill : Kept) : Type 0 where
   pub header : HeaderParts
-  pub shows : Shows image header hill
-  pub room : sectors_for hill.settings.capacity ≤ size
+  pub shows : ShowsIn layout image header hill
+  pub room : sectors_in layout hill.settings.capacity ≤ size
 
 -- An image of a device of so many sectors stands for the hill: it reads as that hill with every pair fought anew, so each result of two is
 -- their match.
-abbrev pub Stands : ℕ → (ℕ → List ℕ) → Hill → Type 0
-Stands size image hill = Reads size image (fought hill)
+abbrev pub StandsIn : Layout → ℕ → (ℕ → List ℕ) → Hill → Type 0
+StandsIn layout size image hill = ReadsIn layout size image (fought hill)
 
 -- nothing was written since the last sync, and this header shows the hill
-pub record IsReady (disk : Disk) (h : HeaderParts) (hill : Kept) : Type 0 where
+pub record IsReady (layout : Layout) (disk : Disk) (h : HeaderParts) (hill : Kept) : Type 0 where
   pub settled : IsSettled disk
-  pub shows : Shows (current disk) h hill
+  pub shows : ShowsIn layout (current disk) h hill
+
+-- ---- in the layout that devices have
+
+abbrev pub IsNewest : (ℕ → List ℕ) → HeaderParts → Type 0
+IsNewest image h = IsNewestIn first_layout image h
+
+abbrev pub Shows : (ℕ → List ℕ) → HeaderParts → Kept → Type 0
+Shows image h hill = ShowsIn first_layout image h hill
+
+abbrev pub Reads : ℕ → (ℕ → List ℕ) → Kept → Type 0
+Reads size image hill = ReadsIn first_layout size image hill
+
+abbrev pub Stands : ℕ → (ℕ → List ℕ) → Hill → Type 0
+Stands size image hill = StandsIn first_layout size image hill

@@ -3,15 +3,16 @@
 ghost use Rattle.std.specs.Prelude.{◌≡◌, ◌<◌, ◌≤◌};
 ghost use Rattle.sector_disk.specs.Changes.{Changes};
 ghost use Rattle.sector_disk.specs.Served.{IsServed};
-ghost use Rattle.hill_bytes.specs.Layout.{back_sector, IsTitled};
+ghost use Rattle.hill_bytes.specs.Layout.{first_layout, sectors_for, IsTitled};
 ghost use Rattle.hill_images.specs.Places.{commits, places};
 
+use crate::slots::write_slot;
 use hill_bytes::{Header, RESULTS, Slot, Wins, encode_header};
 use sector_disk::{Device, Fault};
 use std::alloc::Allocator;
 use war_types::Warrior;
 
-/// Places a warrior: both sectors of its slot, with the results of its matches by the older warriors' slots, and only when these have
+/// Places a warrior: the sectors of its slot, with the results of its matches by the older warriors' slots, and only when these have
 /// reached the disk the header that names it.
 pub fn place<D: Device, A: Allocator>(
     device: &mut D,
@@ -20,14 +21,12 @@ pub fn place<D: Device, A: Allocator>(
     warrior: &Warrior<A>,
     results: &[Wins; RESULTS],
 ) -> Result<(), Fault>
-    requires { back_sector slot < D.facts.size device.old }
+    requires { sectors_for slot ≤ D.facts.size device.old }
     ensures served { IsServed D.facts device.old device.new result }
     ensures titled { IsTitled warrior.now }
-    ensures changes { D.facts.lawful device.old → Changes (places header.now slot warrior.now results.now) (D.facts.disk device.old) (D.facts.disk device.new) result }
+    ensures changes { D.facts.lawful device.old → Changes (places first_layout header.now slot warrior.now results.now) (D.facts.disk device.old) (D.facts.disk device.new) result }
 {
-    let sectors = Slot::encode(warrior, results);
-    device.write(2 + 2 * u32::from(slot), &sectors.front)?;
-    device.write(3 + 2 * u32::from(slot), &sectors.back)?;
+    write_slot(device, slot, &Slot::encode(warrior, results))?;
     device.sync()?;
     commit(device, header)?;
     Ok(())
@@ -38,7 +37,7 @@ pub fn place<D: Device, A: Allocator>(
 pub fn commit<D: Device>(device: &mut D, header: &Header) -> Result<(), Fault>
     requires { 2 ≤ D.facts.size device.old }
     ensures served { IsServed D.facts device.old device.new result }
-    ensures changes { D.facts.lawful device.old → Changes (commits header.now) (D.facts.disk device.old) (D.facts.disk device.new) result }
+    ensures changes { D.facts.lawful device.old → Changes (commits first_layout header.now) (D.facts.disk device.old) (D.facts.disk device.new) result }
 {
     let sector = (header.generation() % 2) as u32;
     device.write(sector, &encode_header(header))?;

@@ -4,7 +4,7 @@ ghost use Rattle.std.specs.Prelude.{◌≡◌, ℕ, ◌%◌, ◌<◌, ◌≤◌,
 ghost use Rattle.sector_disk.specs.Disk.{current};
 ghost use Rattle.sector_disk.specs.Served.{IsServed};
 ghost use Rattle.hill_images.specs.Found.{IsFoundIn, IsNewestFound};
-ghost use Rattle.hill_bytes.specs.Layout.{IsHeader};
+ghost use Rattle.hill_bytes.specs.Layout.{first_layout, IsHeader};
 ghost use Rattle.hill_images.specs.Stands.{IsNewest};
 
 use hill_bytes::{Header, decode_header};
@@ -15,7 +15,7 @@ pub fn newest_header<D: Device>(device: &mut D) -> Result<Option<Header>, Fault>
     requires { 2 ≤ D.facts.size device.old }
     ensures served { IsServed D.facts device.old device.new result }
     ensures kept { D.facts.lawful device.old → D.facts.disk device.new ≡ D.facts.disk device.old }
-    ensures found { D.facts.lawful device.old → IfOk result (IsNewestFound (current (D.facts.disk device.old))) }
+    ensures found { D.facts.lawful device.old → IfOk result (IsNewestFound first_layout (current (D.facts.disk device.old))) }
 {
     let even = read_header(device, 0)?;
     let odd = read_header(device, 1)?;
@@ -27,7 +27,7 @@ fn read_header<D: Device>(device: &mut D, n: u32) -> Result<Option<Header>, Faul
     requires { n < D.facts.size device.old }
     ensures served { IsServed D.facts device.old device.new result }
     ensures kept { D.facts.lawful device.old → D.facts.disk device.new ≡ D.facts.disk device.old }
-    ensures found { D.facts.lawful device.old → IfOk result (IsFoundIn n (current (D.facts.disk device.old) n)) }
+    ensures found { D.facts.lawful device.old → IfOk result (IsFoundIn first_layout n (current (D.facts.disk device.old) n)) }
 {
     let mut bytes = [0; 512];
     device.read(n, &mut bytes)?;
@@ -35,7 +35,7 @@ fn read_header<D: Device>(device: &mut D, n: u32) -> Result<Option<Header>, Faul
 }
 
 fn valid_header(n: u32, bytes: &[u8; 512]) -> Option<Header>
-    ensures { IsFoundIn n bytes.now result }
+    ensures { IsFoundIn first_layout n bytes.now result }
 {
     match decode_header(bytes) {
         Some(header) => of_parity(n, header),
@@ -44,7 +44,7 @@ fn valid_header(n: u32, bytes: &[u8; 512]) -> Option<Header>
 }
 
 fn of_parity(n: u32, header: Header) -> Option<Header>
-    ensures { (bytes : List ℕ) → IsHeader bytes header → IsFoundIn n bytes result }
+    ensures { (bytes : List ℕ) → IsHeader first_layout bytes header → IsFoundIn first_layout n bytes result }
 {
     if header.generation() % 2 == u64::from(n) {
         Some(header)
@@ -55,7 +55,7 @@ fn of_parity(n: u32, header: Header) -> Option<Header>
 
 /// Of two headers that were found, the one of greater generation.
 fn newer(even: Option<Header>, odd: Option<Header>) -> Option<Header>
-    ensures { (image : ℕ → List ℕ) → IsFoundIn 0 (image 0) even → IsFoundIn 1 (image 1) odd → IsNewestFound image result }
+    ensures { (image : ℕ → List ℕ) → IsFoundIn first_layout 0 (image 0) even → IsFoundIn first_layout 1 (image 1) odd → IsNewestFound first_layout image result }
 {
     match (even, odd) {
         (Some(even), Some(odd)) => Some(later(even, odd)),
@@ -65,7 +65,7 @@ fn newer(even: Option<Header>, odd: Option<Header>) -> Option<Header>
 }
 
 fn later(even: Header, odd: Header) -> Header
-    ensures { (image : ℕ → List ℕ) → IsFoundIn 0 (image 0) (Some even) → IsFoundIn 1 (image 1) (Some odd) → IsNewest image result }
+    ensures { (image : ℕ → List ℕ) → IsFoundIn first_layout 0 (image 0) (Some even) → IsFoundIn first_layout 1 (image 1) (Some odd) → IsNewest image result }
 {
     if even.generation() < odd.generation() {
         odd

@@ -2,8 +2,9 @@
 //! `hill_bytes`, and knows warriors, but not the language of their sources.
 //!
 //! Data passes through the modules in this order: `entries` is the next header, the slot that is free for a warrior, and its results by
-//! the others' slots; `durable` writes a slot and then the header that names it; `found` is the newest header that a device holds, and `reading` are the warriors
-//! that it names; `opening` writes the first header of a hill, or reads one back, and `refusal` says why it doesn't; `laws` are laws of
+//! the others' slots; `slots` is where a slot lies, and writes and reads its sectors; `durable` writes a slot and then the header that names
+//! it; `found` is the newest header that a device holds, and `reading` are the warriors that it names; `opening` writes the first header of a
+//! hill, or reads one back, and `refusal` says why it doesn't; `laws` are laws of
 //! the definitions.
 //!
 //! The main clauses: `place` and `commit` make the changes of `Places` in `specs` or begin them; `recover` answers the hill that
@@ -18,9 +19,11 @@ mod laws;
 mod opening;
 mod reading;
 mod refusal;
+mod slots;
 
 pub use durable::{commit, place};
 pub use entries::{free_slot, header_passed, header_placed, results_by_slot};
 pub use laws::laws_of_storage;
-pub use opening::{Recovered, recover, sectors_for, write_first};
+pub use opening::{Recovered, recover, write_first};
 pub use refusal::Refusal;
+pub use slots::sectors_for;

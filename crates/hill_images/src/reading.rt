@@ -2,14 +2,14 @@
 
 ghost use Rattle.std.specs.Prelude.{◌≡◌, ◌+◌, ◌<◌, ◌≤◌, All, IfErr, IfOk, OnOk, get_or, length, map, take};
 ghost use Rattle.war_types.specs.Warrior.{Fits};
-ghost use Rattle.sector_disk.specs.Disk.{current};
-ghost use Rattle.sector_disk.specs.Served.{IsKept, IsServed};
-ghost use Rattle.hill_bytes.specs.Layout.{FitRounds, back_sector, front_sector, results_in, sectors_for};
+ghost use Rattle.sector_disk.specs.Served.{IsKept};
+ghost use Rattle.hill_bytes.specs.Layout.{FitRounds, first_layout, sectors_for};
 ghost use Rattle.hill_images.specs.Stands.{bout_of, no_wins};
 ghost use Rattle.hill_images.specs.Reading.{refusal_of, HillNotRead, HillRead, IsDecodedAs, ResultsRead, WarriorNotRead, WarriorRead};
 
 use crate::refusal::Refusal;
-use hill_bytes::{Header, HeaderEntry, RESULTS, Slot, Wins};
+use crate::slots::read_slot;
+use hill_bytes::{Header, HeaderEntry, RESULTS, Wins};
 use koth_hill::Hill;
 use koth_match::Bout;
 use sector_disk::{Device, Fault};
@@ -56,8 +56,8 @@ pub(crate) fn read_hill<D: Device, A: Allocator + Copy>(
     ensures kept { IsKept D.facts device.old device.new }
     ensures same { D.facts.lawful device.old → D.facts.disk device.new ≡ D.facts.disk device.old }
     ensures faultless { OnOk result (D.facts.faults device.new ≡ D.facts.faults device.old) }
-    ensures read { IfOk result (HillRead D.facts device.old header.now) }
-    ensures unread { IfErr result (HillNotRead D.facts device.old device.new header.now) }
+    ensures read { IfOk result (HillRead first_layout D.facts device.old header.now) }
+    ensures unread { IfErr result (HillNotRead first_layout D.facts device.old device.new header.now) }
 {
     let settings = *header.settings();
     let entries = header.entries();
@@ -119,42 +119,28 @@ fn read_warrior<D: Device, A: Allocator + Copy>(
     slot: u8,
     settings: &Settings,
 ) -> Result<Held<A>, Unread>
-    requires { back_sector slot < D.facts.size device.old }
+    requires { sectors_for slot ≤ D.facts.size device.old }
     ensures kept { IsKept D.facts device.old device.new }
     ensures same { D.facts.lawful device.old → D.facts.disk device.new ≡ D.facts.disk device.old }
     ensures faultless { OnOk result (D.facts.faults device.new ≡ D.facts.faults device.old) }
     ensures fits { IfOk result (λ held. Fits settings.now held.warrior) }
     ensures rounds { IfOk result (λ held. FitRounds settings.now.rounds held.results) }
     ensures len { IfOk result (λ held. length held.results ≡ 21) }
-    ensures read { IfOk result (λ held. WarriorRead D.facts device.old settings.now slot held.warrior) }
-    ensures results { IfOk result (λ held. ResultsRead D.facts device.old slot held.results) }
-    ensures unread { IfErr result (WarriorNotRead D.facts device.old device.new settings.now slot) }
+    ensures read { IfOk result (λ held. WarriorRead first_layout D.facts device.old settings.now slot held.warrior) }
+    ensures results { IfOk result (λ held. ResultsRead first_layout D.facts device.old slot held.results) }
+    ensures unread { IfErr result (WarriorNotRead first_layout D.facts device.old device.new settings.now slot) }
 {
-    let sectors = match read_slot(device, slot) {
-        Ok(sectors) => sectors,
+    let content = match read_slot(device, slot) {
+        Ok(content) => content,
         Err(Fault) => return Err(Unread::Disk),
     };
-    match decoded(sectors.decode(alloc, settings)) {
+    match decoded(content.decode(alloc, settings)) {
         Ok(warrior) => Ok(Held {
             warrior,
-            results: sectors.results(),
+            results: content.results(),
         }),
         Err(unread) => Err(unread),
     }
-}
-
-/// Reads both sectors of a slot.
-fn read_slot<D: Device>(device: &mut D, slot: u8) -> Result<Slot, Fault>
-    requires { back_sector slot < D.facts.size device.old }
-    ensures served { IsServed D.facts device.old device.new result }
-    ensures same { D.facts.lawful device.old → D.facts.disk device.new ≡ D.facts.disk device.old }
-    ensures front { D.facts.lawful device.old → IfOk result (λ s. s.front ≡ current (D.facts.disk device.old) (front_sector slot)) }
-    ensures back { D.facts.lawful device.old → IfOk result (λ s. s.back ≡ current (D.facts.disk device.old) (back_sector slot)) }
-{
-    let mut sectors = Slot::blank();
-    device.read(2 + 2 * u32::from(slot), &mut sectors.front)?;
-    device.read(3 + 2 * u32::from(slot), &mut sectors.back)?;
-    Ok(sectors)
 }
 
 fn decoded<A: Allocator>(

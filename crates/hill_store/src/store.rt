@@ -243,7 +243,7 @@ impl<D: Device, A: Allocator + Copy> Store<D, A> {
         &self.hill
     }
 
-    /// Whether each result that is kept is what the match comes to when it is fought anew. It takes no memory.
+    /// Whether each result that is kept is what the match comes to when it is fought anew. It needs no memory: its answer stands whatever is refused.
     pub fn audit(&mut self) -> bool
         ensures value { (result ≡ true → AreTrue self.old.hill) × (AreTrue self.old.hill → result ≡ true) }
         ensures unchanged { self.new ≡ self.old }
@@ -252,7 +252,7 @@ impl<D: Device, A: Allocator + Copy> Store<D, A> {
     }
 
     /// The first result, by the younger warrior's entry and then the older's, that is kept and is not what the match comes to when it is
-    /// fought anew; `None` where each is. It takes no memory.
+    /// fought anew; `None` where each is. It needs no memory: its answer stands whatever is refused.
     pub fn first_untrue(&mut self) -> Option<Untrue>
         ensures none { result ≡ None → AreTrue self.old.hill }
         ensures some { IfSome result (λ u. IsUntrue self.old.hill u.older u.younger u.kept u.fought) }
@@ -264,7 +264,7 @@ impl<D: Device, A: Allocator + Copy> Store<D, A> {
 }
 
 impl<D: Device, A: Allocator> Store<D, A> {
-    /// The device, as it stands. It takes no memory.
+    /// The device, as it stands. It needs no memory: its answer stands whatever is refused.
     pub fn close(self) -> D
         ensures { result ≡ self.device }
     {

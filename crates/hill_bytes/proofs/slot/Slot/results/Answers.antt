@@ -1,28 +1,28 @@
 use Rattle.std.proofs.Common.{◌≡◌, ◌<◌, ◌≤◌, length, get_or, arith, sym, ◌∙◌}
 use Rattle.std.proofs.lemmas.List.{length-set, take_all}
-use Rattle.hill_bytes.specs.Layout.{results_in}
+use Rattle.hill_bytes.specs.Layout.{first_layout, results_in}
 use Rattle.hill_bytes.proofs.HeaderBytes.{set-step}
 use Rattle.hill_bytes.proofs.Results.{length-results, result-at}
 use Rattle.hill_bytes.proofs.slot.Slot.results.Goals as goal
 
 pub loop-place-preserved : goal.loop-place-preserved
 loop-place-preserved c =
-    let back = c.args.self.now.back in
+    let sectors = c.args.self.now.sectors in
     let i = c.loop-place.place in
     let e = c.wins_at.result in
     let below : i < 21 = omega (arith, c.loop-place-test.true) in
     let room : i < length c.loop-place.results = omega (arith, below, c.loop-place.invariant.len) in
-    let inside : i < length (results_in back) = omega (arith, below, length-results back) in
-    let is : e ≡ get_or (results_in back) i e = c.wins_at.ensures ∙ sym (result-at back i e below) in
+    let inside : i < length (results_in first_layout sectors) = omega (arith, below, length-results first_layout sectors) in
+    let is : e ≡ get_or (results_in first_layout sectors) i e = c.wins_at.ensures ∙ sym (result-at first_layout sectors i e below) in
     record {
-      value = set-step c.loop-place.results (results_in back) i e room inside c.loop-place.invariant.value is;
+      value = set-step c.loop-place.results (results_in first_layout sectors) i e room inside c.loop-place.invariant.value is;
       len = length-set c.loop-place.results i e ∙ c.loop-place.invariant.len;
     }
 
 pub returns-clause-value : goal.returns-clause-value
 returns-clause-value c =
-    let back = c.args.self.now.back in
+    let sectors = c.args.self.now.sectors in
     let i = c.loop-place.place in
     let ended : 21 ≤ i = omega arith in
     sym (take_all i c.loop-place.results (omega (arith, ended, c.loop-place.invariant.len))) ∙ c.loop-place.invariant.value
-    ∙ take_all i (results_in back) (omega (arith, ended, length-results back))
+    ∙ take_all i (results_in first_layout sectors) (omega (arith, ended, length-results first_layout sectors))

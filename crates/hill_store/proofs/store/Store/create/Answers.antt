@@ -1,6 +1,7 @@
-use Rattle.std.proofs.Common.{refl, ap, rules}
-use Rattle.hill_bytes.specs.Layout.{HeaderParts}
+use Rattle.std.proofs.Common.{refl, sym, ap, subst, rules}
+use Rattle.hill_bytes.specs.Layout.{HeaderParts, first_layout}
 use Rattle.koth_hill.specs.Kept.{new_kept}
+use Rattle.hill_images.specs.Stands.{IsReady}
 use Rattle.hill_images.proofs.Submitted.{ready_reads}
 use Rattle.hill_store.proofs.Decided.{created_holds}
 use Rattle.hill_store.proofs.store.Store.create.Goals as goal
@@ -19,3 +20,14 @@ returns-in-Ok-write_first-clause-created g c = record {
 pub returns-in-Ok-write_first-clause-holds : goal.returns-in-Ok-write_first-clause-holds
 returns-in-Ok-write_first-clause-holds g c = λ lawful.
     created_holds g.D.Device.facts c.args.device c.args.settings _ c.in-Ok-write_first.ensures.kept (returns-in-Ok-write_first-clause-created g c) lawful
+
+pub invariant_of-result : goal.invariant_of-result
+invariant_of-result g c = record {
+  room = search rules;
+  arena_of = search rules;
+  header = search rules;
+  kept = search rules;
+  named = search rules;
+  ready = λ lawful open_now. subst (IsReady first_layout (g.D.Device.facts.disk c.write_first.new.device) c.in-Ok-write_first.header) (sym c.in-Ok.ensures)
+      (c.in-Ok-write_first.ensures.first.ready (c.in-Ok-write_first.ensures.kept.same_laws.0 lawful));
+}
