@@ -19,7 +19,7 @@ pub struct ReadFault;
 #[error("a write failed")]
 pub struct WriteFault;
 
-/// A stream with the number of its faults, and of the bytes that were read from it. It takes no memory.
+/// A stream with the number of its faults, and of the bytes that were read from it. It needs no memory.
 #[derive(Debug, Drop)]
 pub struct Counted<S> {
     stream: S,

@@ -36,7 +36,7 @@ impl<A: Allocator> Kept<A> {
         })
     }
 
-    /// Puts bytes in behind the others. It takes no memory.
+    /// Puts bytes in behind the others. It needs no memory.
     pub(crate) fn put(&mut self, more: &[u8])
         ensures { self.new ≡ kept (self.old ++ more.now) }
     {

@@ -7,7 +7,7 @@ use itoa::Buffer;
 use std::marker::Model;
 use war_types::AsmKind;
 
-/// The bytes of a line so far, at most 96. It takes no memory.
+/// The bytes of a line so far, at most 96. It needs no memory.
 #[derive(Debug, Drop)]
 pub struct Line {
     bytes: [u8; 96],

@@ -6,7 +6,7 @@ ghost use Rattle.koth_protocol.specs.Refusal.{refusal_line};
 use crate::line::Line;
 use war_types::AsmFault;
 
-/// The line `REFUSED line Kind`. It takes no memory.
+/// The line `REFUSED line Kind`. It needs no memory.
 pub fn refusal_line(fault: AsmFault) -> Line
     ensures { result ≡ refusal_line fault }
 {

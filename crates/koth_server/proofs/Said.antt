@@ -43,15 +43,20 @@ module _ {D : Type 0} (facts : DeviceFacts D) (before after : Seen D) (source : 
       } in
       subst (λ f. WritesAt SaysReply f o p) (sym is) (inr part)
 
+-- what may be said of one hill may be said of some
+pub said_of_some : (one some : Said) → ((status : Status) (text : List ℕ) → one status text → some status text) → (fault : HillFault) (o p : Option (List ℕ))
+    → WritesAt one fault o p → WritesAt some fault o p
+said_of_some one some holds (faults.Failed kinds.Stream) o p said = elim said [
+  | inl none ↦ inl none
+  | inr part ↦ inr record { status = part.status; text = part.text; answer = holds part.status part.text part.answer; written = part.written }
+]
+said_of_some one some holds (faults.Failed kinds.Memory) o p said = said
+said_of_some one some holds faults.TooSmall o p said = said
+said_of_some one some holds faults.Occupied o p said = said
+said_of_some one some holds faults.NotAHill o p said = said
+said_of_some one some holds faults.Damaged o p said = said
+
 -- the table of a hill is that of some hill
 pub shows_some : (matches : Bool) (hill : Kept) (r : Result Status HillFault) (o p : Option (List ℕ)) → Tries (ShowsOf matches hill) r o p → Tries (SaysTable matches) r o p
 shows_some matches hill (Ok status) o p said = record { text = said.text; answer = (hill, said.answer); written = said.written }
-shows_some matches hill (Err (faults.Failed kinds.Stream)) o p said = elim said [
-  | inl none ↦ inl none
-  | inr part ↦ inr record { status = part.status; text = part.text; answer = (hill, part.answer); written = part.written }
-]
-shows_some matches hill (Err (faults.Failed kinds.Memory)) o p said = said
-shows_some matches hill (Err faults.TooSmall) o p said = said
-shows_some matches hill (Err faults.Occupied) o p said = said
-shows_some matches hill (Err faults.NotAHill) o p said = said
-shows_some matches hill (Err faults.Damaged) o p said = said
+shows_some matches hill (Err fault) o p said = said_of_some (ShowsOf matches hill) (SaysTable matches) (λ status text answer. (hill, answer)) fault o p said

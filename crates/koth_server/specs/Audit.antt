@@ -2,7 +2,7 @@
 use Rattle.std.specs.Prelude.{◌≡◌, ◌⊎◌, ℕ, List, Option, None, Some, ◌++◌, [], codes, decimal}
 use Rattle.std.specs.Io.KnownBytes.{Appends}
 use Rattle.koth_match.specs.declared.bout.Bout.{Bout}
-use Rattle.koth_hill.specs.Kept.{Kept, AreTrue, IsUntrue}
+use Rattle.koth_hill.specs.Kept.{Kept, AreTrue, AreTrueBefore, IsUntrue}
 use Rattle.koth_hill.specs.declared.untrue.Untrue.{Untrue}
 use Rattle.koth_commands.specs.Streams.{Streams}
 use Rattle.koth_commands.specs.declared.status.Status.{Status}
@@ -21,10 +21,10 @@ pair_line older younger = codes "PAIR " ++ decimal older ++ codes " " ++ decimal
 abbrev pub untrue_text : Untrue → List ℕ
 untrue_text u = pair_line u.older u.younger ++ (counts_line (codes "KEPT ") u.kept ++ counts_line (codes "FOUGHT ") u.fought)
 
--- what an audit of a hill finds: nothing only where each result that it keeps is its match's, else one that isn't
+-- what an audit of a hill finds: nothing only where each result that it keeps is its match's, else the first that isn't
 abbrev pub IsAudited : Kept → Option Untrue → Type 0
 IsAudited hill None = AreTrue hill
-IsAudited hill (Some u) = IsUntrue hill u.older u.younger u.kept u.fought
+IsAudited hill (Some u) = IsUntrue hill u.older u.younger u.kept u.fought × AreTrueBefore hill u.older u.younger
 
 abbrev pub audit_status : Option Untrue → Status
 audit_status None = statuses.Done
@@ -39,9 +39,13 @@ abbrev pub told_of : Option Untrue → List ℕ
 told_of None = []
 told_of (Some u) = untrue_text u
 
--- the answer to an audit of some hill
+-- the answer to an audit of this hill
+abbrev pub AuditsOf : Kept → Said
+AuditsOf hill status text = (found : Option Untrue) × IsAudited hill found × (status ≡ audit_status found) × (text ≡ audit_answer found)
+
+-- that of some hill
 abbrev pub SaysAudit : Said
-SaysAudit status text = (hill : Kept) × (found : Option Untrue) × IsAudited hill found × (status ≡ audit_status found) × (text ≡ audit_answer found)
+SaysAudit status text = (hill : Kept) × AuditsOf hill status text
 
 -- the answer to an audit of this hill was written, and what is told of an untrue result, or a part of that
 pub record Audits (hill : Kept) (status : Status) (before after : Streams) : Type 0 where
@@ -51,6 +55,10 @@ pub record Audits (hill : Kept) (status : Status) (before after : Streams) : Typ
   pub written : Appends before.output after.output (audit_answer found)
   pub told : WritesPart before.errors after.errors (told_of found)
 
--- how `audit` ends: with its answer, or with a fault
+-- how an audit of this hill ends: with its answer, or with a fault, and then a part of that answer may have been written
+abbrev pub EndsAuditOf : Kept → Status → Streams → Streams → Type 0
+EndsAuditOf hill status before after = Audits hill status before after ⊎ TellsFault (AuditsOf hill) status before after
+
+-- how `audit` ends: with the answer of some hill, or with a fault
 abbrev pub EndsAudit : Status → Streams → Streams → Type 0
 EndsAudit status before after = ((hill : Kept) × Audits hill status before after) ⊎ TellsFault SaysAudit status before after

@@ -4,7 +4,7 @@ ghost use Rattle.std.specs.Prelude.{◌≡◌, ◌≢◌, ◌≤◌, ◌++◌, N
 ghost use Rattle.std.specs.Io.KnownBytes.{Appends};
 ghost use Rattle.koth_commands.specs.Streams.{streams};
 ghost use Rattle.koth_protocol.specs.Written.{WritesPart};
-ghost use Rattle.koth_server.specs.Audit.{EndsAudit, audit_answer, audit_status, counts_line, pair_line, told_of, untrue_text};
+ghost use Rattle.koth_server.specs.Audit.{EndsAudit, EndsAuditOf, audit_answer, audit_status, counts_line, pair_line, told_of, untrue_text};
 
 use crate::files::open_hill;
 use crate::hill_fault::HillFault;
@@ -44,7 +44,7 @@ fn audit_store<D: Device, A: Allocator + Copy, O: Write, E: Write>(
     output: &mut O,
     errors: &mut E,
 ) -> Status
-    ensures ends { EndsAudit result
+    ensures ends { EndsAuditOf store.old.hill result
         (streams None (O.contents output.old) (E.contents errors.old))
         (streams None (O.contents output.new) (E.contents errors.new)) }
     ensures words { result ≢ Status.WordFault }

@@ -21,7 +21,7 @@ use std::io::Write;
 /// | `Memory`, `Worn`, `Disk`, `Reopen` | `MEMORY`, `WORN`, `DISK`, `REOPEN` |
 ///
 /// One blank stands between the parts, numbers are decimal, and a line feed ends the line. `WriteFault` comes where the stream
-/// fails or takes no byte; a part of the line is written then, from its beginning on. It takes no memory.
+/// fails or takes no byte; a part of the line is written then, from its beginning on. It needs no memory.
 pub fn write_reply<W: Write>(output: &mut Counted<W>, reply: &Reply) -> Result<(), WriteFault>
     ensures whole { OnOk result (Appends (W.contents output.old.stream) (W.contents output.new.stream) (reply_line reply.now)) }
     ensures part { OnErr result (WritesPart (W.contents output.old.stream) (W.contents output.new.stream) (reply_line reply.now)) }
@@ -31,7 +31,7 @@ pub fn write_reply<W: Write>(output: &mut Counted<W>, reply: &Reply) -> Result<(
     send(output, line_of(reply).as_slice())
 }
 
-/// The line of a reply, as `write_reply` writes it. It takes no memory.
+/// The line of a reply, as `write_reply` writes it. It needs no memory.
 pub fn line_of(reply: &Reply) -> Line
     ensures { result ≡ reply_line reply.now }
 {

@@ -69,7 +69,7 @@ impl<A: Allocator + Copy> MemoryDevice<A> {
 }
 
 impl<A: Allocator> MemoryDevice<A> {
-    /// Makes a content the stable one of a sector, and drops what was written to it. It takes no memory.
+    /// Makes a content the stable one of a sector, and drops what was written to it. It needs no memory: its answer stands whatever is refused.
     pub fn set(&mut self, n: u32, content: &[u8; 512])
         requires { n < memory_size self.old }
         ensures { self.new ≡ set_at n content.now self.old }
@@ -91,7 +91,7 @@ impl<A: Allocator> Device for MemoryDevice<A> {
         self.faults
     }
 
-    /// It takes no memory, and doesn't fail.
+    /// It needs no memory, and doesn't fail.
     fn read(&mut self, n: u32, to: &mut [u8; 512]) -> Result<(), Fault>
         requires { n < memory_size self.old }
         ensures served { IsMemoryServed self.old self.new result }
@@ -119,7 +119,7 @@ impl<A: Allocator> Device for MemoryDevice<A> {
         }
     }
 
-    /// It takes no memory, and doesn't fail.
+    /// It needs no memory, and doesn't fail.
     fn sync(&mut self) -> Result<(), Fault>
         ensures served { IsMemoryServed self.old self.new result }
         ensures changes { Unit {0} → Changes (synced ∷ []) (memory_disk self.old) (memory_disk self.new) result }

@@ -23,7 +23,7 @@ impl<A: Allocator> Model for Sector<A> {
 }
 
 impl<A: Allocator> Sector<A> {
-    /// A sector that holds this content for good. It takes no memory.
+    /// A sector that holds this content for good. It needs no memory.
     pub fn new(alloc: A, stable: [u8; 512]) -> Sector<A>
         ensures { result ≡ sector_of stable [] }
     {

@@ -1,8 +1,12 @@
--- Where no hill opens, nothing is written.
+-- The hill that opens is some hill; where none opens, nothing is written.
 use Rattle.std.proofs.Common.{inr}
 use Rattle.koth_server.specs.Audit.{SaysAudit}
+use Rattle.koth_server.proofs.Audited.{some_audit}
 use Rattle.koth_server.proofs.Said.{nothing}
 use Rattle.koth_server.proofs.audit.audit.Goals as goal
+
+pub returns-in-Ok-clause-ends : goal.returns-in-Ok-clause-ends
+returns-in-Ok-clause-ends g c = some_audit c.in-Ok.store.hill c.audit_store.result _ _ c.audit_store.ensures.ends
 
 pub returns-in-Err-clause-ends : goal.returns-in-Err-clause-ends
 returns-in-Err-clause-ends g c =

@@ -10,27 +10,26 @@ use Rattle.koth_server.proofs.audit.audit_store.Goals as goal
 
 pub returns-in-Ok-clause-ends : goal.returns-in-Ok-clause-ends
 returns-in-Ok-clause-ends g c =
-    inl (
-      c.args.store.now.hill,
-      record {
-        found = c.first_untrue-found.result;
-        audited = is_audited c.args.store.now.hill c.first_untrue-found.result c.first_untrue-found.ensures.none c.first_untrue-found.ensures.some;
-        ends = c.finish.ensures.status;
-        written = subst (Appends (g.O.Write.contents c.args.output.now) (g.O.Write.contents c.write_whole.new.output)) c.answer.ensures c.in-Ok.ensures.whole;
-        told = c.finish.ensures.told;
-      },
-    )
+    let said = c.first_untrue-found.ensures in
+    inl record {
+      found = c.first_untrue-found.result;
+      audited = is_audited c.args.store.now.hill c.first_untrue-found.result said.none said.some said.first;
+      ends = c.finish.ensures.status;
+      written = subst (Appends (g.O.Write.contents c.args.output.now) (g.O.Write.contents c.write_whole.new.output)) c.answer.ensures c.in-Ok.ensures.whole;
+      told = c.finish.ensures.told;
+    }
 
 pub returns-in-Err-clause-ends : goal.returns-in-Err-clause-ends
 returns-in-Err-clause-ends g c =
     let found = c.first_untrue-found.result in
+    let said = c.first_untrue-found.ensures in
     inr record {
       fault = Failed Stream;
       ends = c.tell.ensures.status;
       output = inr record {
         status = audit_status found;
         text = audit_answer found;
-        answer = (c.args.store.now.hill, found, is_audited c.args.store.now.hill found c.first_untrue-found.ensures.none c.first_untrue-found.ensures.some, refl, refl);
+        answer = (found, is_audited c.args.store.now.hill found said.none said.some said.first, refl, refl);
         written = subst (WritesPart (g.O.Write.contents c.args.output.now) (g.O.Write.contents c.write_whole.new.output)) c.answer.ensures c.in-Err.ensures.part;
       };
       told = c.tell.ensures.told;
