@@ -2,7 +2,7 @@ ghost use Rattle.std.specs.Prelude.{◌≡◌, ◌+◌, IfOk};
 ghost use Rattle.koth_match.specs.Match.{rounds_in};
 ghost use Rattle.war_types.specs.Warrior.{Fits};
 
-use crate::warriors::{SMALL, die, imp, stay, warrior};
+use crate::warriors::{LARGEST, SMALL, back, die, imp, stay, warrior};
 use koth_hill::{Hill, Verdict};
 use koth_match::Bout;
 use mars_core::Arena;
@@ -132,14 +132,13 @@ fn check_rows(
     Ok(())
 }
 
-/// A hill of so many places judges warriors of one instruction each as it is due, and then has these rows.
+/// A hill of these settings judges warriors of one instruction each as it is due, and then has these rows.
 fn check_hill(
     rt: &(impl Abort + AllocGlobal),
-    capacity: u32,
+    settings: Settings,
     submitted: &[(Instr, Told)],
     rows: &[(u64, u32, u64)],
 ) -> Result<(), Fail> {
-    let settings = small(capacity)?;
     let mut arena = Arena::new(rt.alloc(), &settings)?;
     let mut hill = Hill::new(rt.alloc(), settings)?;
     check_verdicts(rt, &mut hill, &mut arena, submitted)?;
@@ -156,8 +155,8 @@ fn three_on_a_hill_of_two(rt: HostRuntime) -> Result<(), Fail> {
         (imp(), fell(4, 4)),
     ];
     let rows = [(1, 2, 1), (2, 2, 0)];
-    check_hill(&rt, 2, &submitted[..3], &rows)?;
-    check_hill(&rt, 2, &submitted, &rows)
+    check_hill(&rt, small(2)?, &submitted[..3], &rows)?;
+    check_hill(&rt, small(2)?, &submitted, &rows)
 }
 
 #[test]
@@ -167,13 +166,25 @@ fn the_last_of_equals_falls(rt: HostRuntime) -> Result<(), Fail> {
         (die(), stayed(2, None, 3, 2)),
         (stay(), stayed(3, Some(2), 6, 1)),
     ];
-    check_hill(&rt, 2, &submitted, &[(3, 6, 0), (1, 0, 2)])
+    check_hill(&rt, small(2)?, &submitted, &[(3, 6, 0), (1, 0, 2)])
 }
 
 #[test]
 fn a_hill_of_one(rt: HostRuntime) -> Result<(), Fail> {
     let submitted = [(imp(), stayed(1, None, 0, 1)), (die(), fell(2, 0))];
-    check_hill(&rt, 1, &submitted, &[(1, 0, 0)])
+    check_hill(&rt, small(1)?, &submitted, &[(1, 0, 0)])
+}
+
+/// A hill of twenty places, and matches of a thousand rounds: two that live win all against one that dies, and tie with each other.
+#[test]
+fn the_largest_hill(rt: HostRuntime) -> Result<(), Fail> {
+    let submitted = [
+        (back(), stayed(1, None, 0, 1)),
+        (die(), stayed(2, None, 0, 2)),
+        (stay(), stayed(3, None, 4000, 2)),
+    ];
+    let rows = [(1, 4000, 2), (3, 4000, 0), (2, 0, 1)];
+    check_hill(&rt, Settings::new(LARGEST)?, &submitted, &rows)
 }
 
 /// A hill of two with the entries 2, which waits, and 5, which dies at once, of five ever judged, and this result of the two.

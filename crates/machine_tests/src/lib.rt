@@ -2,10 +2,12 @@
 //!
 //! No crate stands on this one, so those three are proved once, without tests, and the tests are proved over them.
 //! `machine` tries single turns and whole rounds, `matches` the seeds, places and counts of matches, and `hill` what a hill
-//! of few places and a full hill make of a warrior. What they expect was worked by hand, or is counted again in another way.
+//! of few places and a full hill make of a warrior, and `growths` which calls take memory. What they expect was worked by hand, or is counted again in another way.
 //! A test here calls only what those crates offer to all others. It must not show what a contract could say instead.
 #![tactic(auto)]
 
+#[cfg(test)]
+mod growths;
 #[cfg(test)]
 mod hill;
 #[cfg(test)]

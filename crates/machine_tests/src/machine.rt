@@ -5,6 +5,7 @@ use std::process::Abort;
 use std::test::Fail;
 use war_types::{Instr, Mode, Modifier, Op, RawSettings, Settings};
 
+mod cleared;
 mod modes;
 mod operations;
 mod rounds;

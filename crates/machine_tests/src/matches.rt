@@ -1,4 +1,4 @@
-use crate::warriors::{SMALL, die, imp, stay, warrior};
+use crate::warriors::{LARGEST, SMALL, back, die, imp, stay, warrior};
 use koth_match::{fight, next_seed, position};
 use mars_core::Arena;
 use std::alloc::Global;
@@ -46,10 +46,8 @@ fn positions(rt: HostRuntime) -> Result<(), Fail> {
     Ok(())
 }
 
-/// Older and younger wins, and ties, of two warriors of one instruction each under small settings, in so many rounds.
-fn bout(alloc: Global, codes: [Instr; 2], rounds: u32) -> Result<(u16, u16, u16), Fail> {
-    let mut raw = SMALL;
-    raw.rounds = rounds;
+/// Older and younger wins, and ties, of two warriors of one instruction each.
+fn bout(alloc: Global, codes: [Instr; 2], raw: RawSettings) -> Result<(u16, u16, u16), Fail> {
     let settings = Settings::new(raw)?;
     let older = warrior(alloc, &[codes[0]], &settings)?;
     let younger = warrior(alloc, &[codes[1]], &settings)?;
@@ -74,7 +72,25 @@ fn small_matches(rt: HostRuntime) -> Result<(), Fail> {
         ([die(), stay()], 1000, (0, 1000, 0)),
     ];
     for (codes, rounds, due) in rows {
-        assert_eq!(rt; bout(rt.alloc(), codes, rounds)?, due, "{codes:?}");
+        let mut raw = SMALL;
+        raw.rounds = rounds;
+        assert_eq!(rt; bout(rt.alloc(), codes, raw)?, due, "{codes:?}");
+    }
+    Ok(())
+}
+
+/// In the largest core, where the older goes over its end, a thousand rounds of one turn a side.
+#[test]
+fn largest_matches(rt: HostRuntime) -> Result<(), Fail> {
+    let rows = [
+        ([back(), stay()], (0, 0, 1000)),
+        ([back(), die()], (1000, 0, 0)),
+        ([die(), back()], (0, 1000, 0)),
+        // The older warrior moves first, and dies first, in every other round.
+        ([die(), die()], (500, 500, 0)),
+    ];
+    for (codes, due) in rows {
+        assert_eq!(rt; bout(rt.alloc(), codes, LARGEST)?, due, "{codes:?}");
     }
     Ok(())
 }

@@ -18,6 +18,18 @@ pub const SMALL: RawSettings = RawSettings {
     capacity: 2,
 };
 
+/// All that takes room at its most, and the most rounds; in each, one turn a side.
+pub const LARGEST: RawSettings = RawSettings {
+    core: 65535,
+    cycles: 1,
+    processes: 65535,
+    length: 100,
+    distance: 100,
+    rounds: 1000,
+    seed: 1,
+    capacity: 20,
+};
+
 pub fn instr(op: Op, modifier: Modifier, a_mode: Mode, a: u16, b_mode: Mode, b: u16) -> Instr {
     Instr {
         op,
@@ -55,6 +67,11 @@ pub fn stay() -> Instr {
 
 fn title(text: &[u8]) -> Title {
     Title::new(text, "Unnamed")
+}
+
+/// MOV 0, -1 in the largest core
+pub fn back() -> Instr {
+    direct(Op::Mov, Modifier::I, 0, 65534)
 }
 
 /// A warrior of this code that starts at its first instruction.

@@ -5,15 +5,18 @@
 //! - `tokens`: the tokens of lines and their places, and what expressions come to;
 //! - `expansion`: the lines that sources are written out to, their labels, and the refusals of these;
 //! - `printer`: the load text of codes made by hand;
-//! - `sources`: the load text and the titles that sources give; its helpers serve the two below;
+//! - `sources`: the load text and the titles that sources give; its helpers serve those below;
 //! - `refusals`: sources that are refused, with the line and the kind;
-//! - `long_tests`: sources that are long once they are written out, on both sides of what an assembly may take.
+//! - `long_tests`: sources that are long once they are written out, on both sides of what an assembly may take;
+//! - `growths`: calls that are refused memory, and those that need none.
 //!
 //! What a contract says is proved there and not tried here.
 #![tactic(auto)]
 
 #[cfg(test)]
 mod expansion;
+#[cfg(test)]
+mod growths;
 #[cfg(test)]
 mod long_tests;
 #[cfg(test)]

@@ -23,7 +23,14 @@ fn text_of(rt: &HostRuntime, core: u16, start: u16, code: &[Instr]) -> Result<Ve
     Ok(load_text(rt.alloc(), &warrior, settings.core())?)
 }
 
-fn instr(op: Op, modifier: Modifier, a_mode: Mode, a: u16, b_mode: Mode, b: u16) -> Instr {
+pub(crate) fn instr(
+    op: Op,
+    modifier: Modifier,
+    a_mode: Mode,
+    a: u16,
+    b_mode: Mode,
+    b: u16,
+) -> Instr {
     Instr {
         op,
         modifier,

@@ -2,7 +2,6 @@
 
 use crate::sources::{defaults, printed, repeated};
 use redcode_asm::assemble;
-use refusing::Refusing;
 use std::alloc::Global;
 use std::process::Abort;
 use std::test::Fail;
@@ -58,7 +57,7 @@ fn smallest_sources(rt: HostRuntime) -> Result<(), Fail> {
 }
 
 /// Sources with a line that has a fault, and how they are refused.
-const FAULTS: [(&str, &str); 57] = [
+const FAULTS: [(&str, &str); 59] = [
     ("x DAT 0\nx DAT 1", "2 DuplicateName"),
     ("CORESIZE DAT 0", "1 DuplicateName"),
     ("DAT 0 = 1", "1 BadToken"),
@@ -119,6 +118,8 @@ const FAULTS: [(&str, &str); 57] = [
     ("i01 FOR 1\nDAT i&i01\nROF", "2 UnknownName"),
     ("x EQU i\ni FOR 1\nDAT x\nROF", "3 UnknownName"),
     ("FOR 1\nEND\nROF", "0 Empty"),
+    ("FOR 5000\nROF\nDAT 0", "1 ForLimit"),
+    ("FOR 5000\nFOR 0\nROF\nROF\nDAT 0", "1 ForLimit"),
 ];
 
 #[test]
@@ -126,20 +127,6 @@ fn lines_with_a_fault(rt: HostRuntime) -> Result<(), Fail> {
     for (source, refusal) in FAULTS {
         check_refused(&rt, source, refusal)?;
     }
-    Ok(())
-}
-
-/// Without memory every source is refused alike.
-#[test]
-fn no_memory(rt: HostRuntime) -> Result<(), Fail> {
-    let settings = defaults()?;
-    let memory = Refusing::new(rt.alloc());
-    memory.refuse(0, 1);
-    match assemble(&memory, b"DAT", &settings) {
-        Ok(_) => assert!(rt; false, "it is accepted"),
-        Err(fault) => assert_eq!(rt; (fault.line, fault.kind), (0, AsmKind::Memory)),
-    }
-    assert_eq!(rt; memory.refused(), 1);
     Ok(())
 }
 
@@ -202,8 +189,8 @@ const CHAIN: &str =
 const DOUBLE: &str =
     "x0 EQU x1+x1\nx1 EQU x2+x2\nx2 EQU x3+x3\nx3 EQU x4+x4\nx4 EQU x5+x5\nx5 EQU x6+x6\nx6 EQU x7+x7\nx7 EQU x8+x8\nx8 EQU 1\n";
 
-/// Lines with a chain of names or with doublings, those behind them, and the B-number of the first instruction, or the refusal.
-const ROUNDS: [(&str, &str, Result<u16, (u32, AsmKind)>); 4] = [
+/// Lines with a chain of names, with doublings or with a name that stands for itself, those behind them, and the B-number of the first instruction, or the refusal.
+const ROUNDS: [(&str, &str, Result<u16, (u32, AsmKind)>); 5] = [
     (CHAIN, "y15 EQU 7\nDAT y0", Ok(7)),
     (
         CHAIN,
@@ -212,6 +199,7 @@ const ROUNDS: [(&str, &str, Result<u16, (u32, AsmKind)>); 4] = [
     ),
     (DOUBLE, "DAT x0", Ok(256)),
     (DOUBLE, "DAT 0, x0", Err((10, AsmKind::EquLimit))),
+    ("a EQU a\n", "DAT 0", Ok(0)),
 ];
 
 /// The B-number of the first instruction that a source gives, or its refusal.
@@ -222,7 +210,7 @@ fn first_number(alloc: Global, source: &[u8]) -> Result<Result<u16, (u32, AsmKin
     }
 }
 
-/// Chains of names are followed 16 deep, and doublings up to 512 tokens.
+/// Chains of names are followed 16 deep, and doublings up to 512 tokens. A name that nothing uses is not followed.
 #[test]
 fn rounds_of_replacement(rt: HostRuntime) -> Result<(), Fail> {
     for (lines, others, answer) in ROUNDS {

@@ -8,13 +8,14 @@ use std::process::Abort;
 use std::test::Fail;
 use war_types::ExprFault;
 
-type Row = (TokenKind, &'static [u8], u32);
+pub(crate) type Row = (TokenKind, &'static [u8], u32);
 
 fn is_row(token: &Token<'_>, row: &Row) -> bool {
     token.kind == row.0 && token.text == row.1 && token.at == row.2
 }
 
-fn gives(tokens: &[Token<'_>], rows: &[Row]) -> bool {
+/// Whether the tokens are these.
+pub(crate) fn gives(tokens: &[Token<'_>], rows: &[Row]) -> bool {
     tokens.len() == rows.len()
         && tokens
             .iter()
@@ -22,22 +23,24 @@ fn gives(tokens: &[Token<'_>], rows: &[Row]) -> bool {
             .all(|(token, row)| is_row(token, row))
 }
 
+/// The tokens of `MOV.I #-1,>x2 ;c`.
+pub(crate) const MOVED: [Row; 10] = [
+    (TokenKind::Name, b"MOV", 0),
+    (TokenKind::Symbol, b".", 3),
+    (TokenKind::Name, b"I", 4),
+    (TokenKind::Symbol, b"#", 6),
+    (TokenKind::Symbol, b"-", 7),
+    (TokenKind::Number, b"1", 8),
+    (TokenKind::Symbol, b",", 9),
+    (TokenKind::Symbol, b">", 10),
+    (TokenKind::Name, b"x2", 11),
+    (TokenKind::Comment, b";c", 14),
+];
+
 #[test]
 fn tokens_and_their_places(rt: HostRuntime) -> Result<(), Fail> {
     let tokens = scan(rt.alloc(), b"MOV.I #-1,>x2 ;c")?;
-    let rows: [Row; 10] = [
-        (TokenKind::Name, b"MOV", 0),
-        (TokenKind::Symbol, b".", 3),
-        (TokenKind::Name, b"I", 4),
-        (TokenKind::Symbol, b"#", 6),
-        (TokenKind::Symbol, b"-", 7),
-        (TokenKind::Number, b"1", 8),
-        (TokenKind::Symbol, b",", 9),
-        (TokenKind::Symbol, b">", 10),
-        (TokenKind::Name, b"x2", 11),
-        (TokenKind::Comment, b";c", 14),
-    ];
-    assert!(rt; gives(&tokens, &rows));
+    assert!(rt; gives(&tokens, &MOVED));
     Ok(())
 }
 
@@ -71,8 +74,8 @@ fn lines_without_tokens(rt: HostRuntime) -> Result<(), AllocError> {
 
 /// Each name has one value, or none has any.
 #[derive(Clone, Copy)]
-struct Same {
-    value: Option<i64>,
+pub(crate) struct Same {
+    pub(crate) value: Option<i64>,
 }
 
 impl Names for Same {

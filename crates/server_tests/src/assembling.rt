@@ -1,5 +1,5 @@
 use crate::program::{check_on, run_on, words_of};
-use crate::streams::{FailingReader, FullWriter};
+use crate::streams::{FULL, Full, reader, writer};
 use koth_server::run;
 use std::net::Net;
 use std::process::Abort;
@@ -35,19 +35,16 @@ fn a_source_is_read_so_far_and_no_further(rt: HostRuntime) -> Result<(), Fail> {
     Ok(())
 }
 
-/// A source that is read four bytes at a time, where one of the reads fails. How many reads there were is the answer.
+/// A source of six bytes that is read so many at a time, where one of the reads fails. How many reads there were is the answer.
 fn check_read(
     rt: &(impl Abort + Files + Net + AllocGlobal),
+    most: usize,
     fails_at: u64,
     output: &str,
     errors: &str,
     status: u8,
 ) -> Result<u64, Fail> {
-    let mut input = FailingReader {
-        left: b"\n\n\n\n\n\n",
-        reads: 0,
-        fails_at,
-    };
+    let mut input = reader(b"\n\n\n\n\n\n", most, fails_at);
     let ran = run_on(rt, rt.alloc(), "koth asm", &mut input)?;
     assert_eq!(rt; ran.output.as_slice(), output.as_bytes());
     assert_eq!(rt; ran.errors.as_slice(), errors.as_bytes());
@@ -55,28 +52,30 @@ fn check_read(
     Ok(input.reads)
 }
 
+/// The last read is the one that finds the end.
 #[test]
 fn a_read_that_fails(rt: HostRuntime) -> Result<(), Fail> {
-    for fails_at in 1..=3 {
-        assert_eq!(rt; check_read(&rt, fails_at, "", "DISK\n", 3)?, fails_at);
+    for (most, reads) in [(4, 3), (1, 7)] {
+        for fails_at in 1..=reads {
+            let made = check_read(&rt, most, fails_at, "", "DISK\n", 3)?;
+            assert_eq!(rt; made, fails_at);
+        }
+        let made = check_read(&rt, most, 0, "REFUSED 0 Empty\n", "", 1)?;
+        assert_eq!(rt; made, reads);
     }
-    check_read(&rt, 4, "REFUSED 0 Empty\n", "", 1)?;
     Ok(())
 }
 
-/// A run whose output takes so many bytes, and then none.
+/// A run whose output takes so many bytes, so many at a time, and then is full. What it took is the answer.
 fn check_write(
     rt: &(impl Abort + Files + Net + AllocGlobal),
     line: &str,
+    most: usize,
     room: usize,
-    fails: bool,
-) -> Result<(), Fail> {
+    full: Full,
+) -> Result<Vec<u8>, Fail> {
     let words = words_of(rt.alloc(), line)?;
-    let mut output = FullWriter {
-        taken: 0,
-        room,
-        fails,
-    };
+    let mut output = writer(rt.alloc(), most, room, full);
     let mut errors = Vec::new(rt.alloc());
     let status = run(
         rt,
@@ -89,15 +88,22 @@ fn check_write(
     );
     assert_eq!(rt; errors.as_slice(), b"DISK\n".as_slice());
     assert_eq!(rt; status, 3);
-    assert_eq!(rt; output.taken, room);
-    Ok(())
+    assert_eq!(rt; output.taken.len(), room);
+    Ok(output.taken)
 }
 
+/// At each byte of the line that is due, and in the first line of the help.
 #[test]
 fn a_write_that_fails(rt: HostRuntime) -> Result<(), Fail> {
-    for (room, fails) in [(0, false), (0, true), (9, false), (9, true)] {
-        check_write(&rt, "koth asm", room, fails)?;
-        check_write(&rt, "koth --help", room, fails)?;
+    let line = b"REFUSED 0 Empty\n".as_slice();
+    for room in 0..line.len() {
+        for full in FULL {
+            let taken = check_write(&rt, "koth asm", usize::MAX, room, full)?;
+            assert_eq!(rt; line.get(..room), Some(taken.as_slice()));
+            let taken = check_write(&rt, "koth asm", 1, room, full)?;
+            assert_eq!(rt; line.get(..room), Some(taken.as_slice()));
+        }
+        check_write(&rt, "koth --help", usize::MAX, room, FULL[0])?;
     }
     Ok(())
 }

@@ -1,13 +1,14 @@
 //! Tests of the public calls of `koth_session` and `koth_server`: of what no clause of them says.
 //!
 //! No crate stands on this one, so a check of the crates above waits for none of them. The helpers come first: `program` runs
-//! the program on words and an input, `streams` are a reader and writers that fail, `stores` are hills over devices in memory.
+//! the program on words and an input, `streams` are a reader and a writer that fail, `stores` are hills over devices in memory.
 //! Then a module a subject:
 //!
 //! - `words`: which words are faults, ask for help, or give settings;
 //! - `assembling`, `fights` and `hills`: what the commands write, how they end, and what they do to files;
 //! - `audits`: the results that a hill keeps, shown, audited, and changed in its file;
 //! - `sessions` and `session_faults`: what a session answers, and how it ends where a stream or the device fails;
+//! - `growths`: sessions and commands with each growth of memory refused in turn;
 //! - `peers`: peers that wait for an answer, and streams that signals interrupt;
 //! - `service`: sessions over sockets, one after the other.
 //!
@@ -20,6 +21,8 @@ mod assembling;
 mod audits;
 #[cfg(test)]
 mod fights;
+#[cfg(test)]
+mod growths;
 #[cfg(test)]
 mod hills;
 #[cfg(test)]

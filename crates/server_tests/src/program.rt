@@ -1,5 +1,5 @@
 use koth_server::run;
-use std::alloc::{AllocError, Global};
+use std::alloc::{AllocError, Allocator, Global};
 use std::io::Read;
 use std::net::Net;
 use std::process::Abort;
@@ -30,12 +30,23 @@ pub(crate) fn run_on(
     line: &str,
     input: &mut impl Read,
 ) -> Result<Ran, AllocError> {
-    let words = words_of(alloc, line)?;
-    let mut output = Vec::new(alloc);
-    let mut errors = Vec::new(alloc);
+    run_within(rt, alloc, alloc, line, input)
+}
+
+/// The same where what the program takes besides its words is taken from another allocator.
+pub(crate) fn run_within<A: Allocator + Copy>(
+    rt: &(impl Files + Net),
+    heap: Global,
+    alloc: A,
+    line: &str,
+    input: &mut impl Read,
+) -> Result<Ran, AllocError> {
+    let words = words_of(heap, line)?;
+    let mut output = Vec::new(heap);
+    let mut errors = Vec::new(heap);
     let status = run(
         rt,
-        alloc,
+        heap,
         alloc,
         words.as_slice(),
         input,

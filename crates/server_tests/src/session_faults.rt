@@ -1,11 +1,13 @@
-use crate::sessions::check;
-use crate::stores::{empty_hill, failing_hill};
-use crate::streams::{FailingReader, Padded};
+use crate::sessions::{ROWS, check};
+use crate::stores::{empty_hill, empty_hill_on, reopened};
+use crate::streams::{FULL, Full, Padded, reader, writer};
 use koth_session::{Counted, SessionEnd, session};
+use sector_disk::{FuseDevice, FuseKind, MemoryDevice};
+use std::process::Abort;
 use std::test::Fail;
 
 /// A session of which these tests take parts.
-const LINES: &[u8] = b"SUBMIT\nMOV 0,1\n.\nBOGUS\nQUIT\n";
+pub(crate) const LINES: &[u8] = b"SUBMIT\nMOV 0,1\n.\nBOGUS\nQUIT\n";
 
 /// What is answered to so many bytes of it.
 fn answers(count: usize) -> &'static str {
@@ -27,44 +29,86 @@ fn every_prefix(rt: HostRuntime) -> Result<(), Fail> {
     Ok(())
 }
 
+/// It takes seven reads of four bytes or 28 of one, each of which fails once. What came before it is answered.
 #[test]
 fn a_read_that_fails(rt: HostRuntime) -> Result<(), Fail> {
-    for fails_at in 1..=7 {
-        let lines = FailingReader {
-            left: LINES,
-            reads: 0,
-            fails_at,
-        };
-        let came = 4 * (fails_at as usize - 1);
-        let faults = check(&rt, lines, answers(came), SessionEnd::ReadFault)?;
-        assert_eq!(rt; faults, 1);
+    for (most, reads) in [(4, 7), (1, 28)] {
+        for fails_at in 1..=reads {
+            let came = reads_before(fails_at).saturating_mul(most);
+            let lines = reader(LINES, most, fails_at);
+            let faults = check(&rt, lines, answers(came), SessionEnd::ReadFault)?;
+            assert_eq!(rt; faults, 1);
+        }
+        let lines = reader(LINES, most, reads.saturating_add(1));
+        assert_eq!(rt; check(&rt, lines, answers(28), SessionEnd::Quit)?, 0);
     }
+    let lines = reader(b"SHOW\n", 5, 2);
+    assert_eq!(rt; check(&rt, lines, ".\n", SessionEnd::ReadFault)?, 1);
     Ok(())
 }
 
-#[test]
-fn a_writer_of_four_bytes(rt: HostRuntime) -> Result<(), Fail> {
-    let mut room = [0; 4];
+fn reads_before(read: u64) -> usize {
+    read.saturating_sub(1) as usize
+}
+
+/// A session of one warrior whose output takes so many bytes, so many at a time, and then is full: it takes the first ones of the
+/// answers, and the warrior stands, on the device too.
+fn check_full(
+    rt: &(impl Abort + AllocGlobal),
+    lines: &[u8],
+    answers: &str,
+    most: usize,
+    room: usize,
+    full: Full,
+) -> Result<(), Fail> {
     let mut store = empty_hill(rt.alloc())?;
-    let mut output = Counted::new(room.as_mut_slice());
+    let mut output = Counted::new(writer(rt.alloc(), most, room, full));
     let ended = session(
         rt.alloc(),
-        &mut Counted::new(LINES),
+        &mut Counted::new(lines),
         &mut output,
         &mut store,
     );
-    assert_eq!(rt; ended, SessionEnd::WriteFault);
-    assert_eq!(rt; output.faults(), 1);
-    assert_eq!(rt; room, *b"PLAC");
+    let (end, faults) = if room < answers.len() {
+        (SessionEnd::WriteFault, 1)
+    } else {
+        (SessionEnd::Quit, 0)
+    };
+    assert_eq!(rt; ended, end, "{most} at a time, {room} in all, {full:?}");
+    assert_eq!(rt; output.faults(), faults);
+    let taken = output.into_inner().taken;
+    assert_eq!(rt; answers.as_bytes().get(..room), Some(taken.as_slice()));
+    assert_eq!(rt; store.rows()?.len(), 1);
+    let store = reopened(rt.alloc(), store.close())?;
     assert_eq!(rt; store.rows()?.len(), 1);
     Ok(())
 }
 
+/// Each number of bytes, up to all of the answers.
 #[test]
-fn a_device_that_fails(rt: HostRuntime) -> Result<(), Fail> {
-    let Some(mut store) = failing_hill(rt.alloc(), 8) else {
-        return Err("no hill is created".into());
-    };
+fn a_writer_that_is_full(rt: HostRuntime) -> Result<(), Fail> {
+    let (table, table_answers, _) = ROWS[6];
+    for (lines, answers) in [(LINES, answers(28)), (table.as_bytes(), table_answers)] {
+        for room in 0..=answers.len() {
+            for full in FULL {
+                check_full(&rt, lines, answers, 1, room, full)?;
+                check_full(&rt, lines, answers, 4, room, full)?;
+                check_full(&rt, lines, answers, usize::MAX, room, full)?;
+            }
+        }
+    }
+    Ok(())
+}
+
+/// A session whose device fails once, behind so many calls: nothing is answered, and the table stays empty. Whether the warrior is on
+/// the hill that is opened on the device is the answer.
+fn stands_behind_a_fault(
+    rt: &(impl Abort + AllocGlobal),
+    calls: u64,
+    kind: FuseKind,
+) -> Result<bool, Fail> {
+    let memory = MemoryDevice::new(rt.alloc(), 8)?;
+    let mut store = empty_hill_on(rt.alloc(), FuseDevice::new(memory, calls, kind))?;
     let mut output = Counted::new(Vec::new(rt.alloc()));
     let ended = session(
         rt.alloc(),
@@ -82,6 +126,18 @@ fn a_device_that_fails(rt: HostRuntime) -> Result<(), Fail> {
         let ended = session(rt.alloc(), &mut input, &mut output, &mut store);
         assert_eq!(rt; ended, end, "at {lines}");
         assert_eq!(rt; output.into_inner().as_slice(), answers.as_bytes());
+    }
+    Ok(reopened(rt.alloc(), store.close())?.rows()?.len() == 1)
+}
+
+/// Five calls create the hill. Then come those of the warrior: two sectors of its slot, a sync, the header and a sync.
+#[test]
+fn a_device_that_fails(rt: HostRuntime) -> Result<(), Fail> {
+    for calls in 5..10 {
+        let lost = stands_behind_a_fault(&rt, calls, FuseKind::FailLost)?;
+        assert_eq!(rt; lost, calls == 9, "the call behind {calls} is not made");
+        let kept = stands_behind_a_fault(&rt, calls, FuseKind::FailKept)?;
+        assert_eq!(rt; kept, calls >= 8, "the call behind {calls} is made");
     }
     Ok(())
 }

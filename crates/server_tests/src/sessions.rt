@@ -1,4 +1,5 @@
 use crate::stores::empty_hill;
+use crate::streams::{FULL, reader, writer};
 use koth_session::{Counted, SessionEnd, session};
 use std::io::Read;
 use std::process::Abort;
@@ -11,18 +12,30 @@ pub(crate) fn check(
     answers: &str,
     end: SessionEnd,
 ) -> Result<u64, Fail> {
+    check_slow(rt, lines, usize::MAX, answers, end)
+}
+
+/// The same where the output takes so many bytes at a time.
+fn check_slow(
+    rt: &(impl Abort + AllocGlobal),
+    lines: impl Read + Drop,
+    most: usize,
+    answers: &str,
+    end: SessionEnd,
+) -> Result<u64, Fail> {
     let mut store = empty_hill(rt.alloc())?;
     let mut input = Counted::new(lines);
-    let mut output = Counted::new(Vec::new(rt.alloc()));
+    let mut output = Counted::new(writer(rt.alloc(), most, usize::MAX, FULL[0]));
     let ended = session(rt.alloc(), &mut input, &mut output, &mut store);
     assert_eq!(rt; ended, end, "at {answers}");
     assert_eq!(rt; output.faults(), 0);
-    assert_eq!(rt; output.into_inner().as_slice(), answers.as_bytes());
+    let taken = output.into_inner().taken;
+    assert_eq!(rt; taken.as_slice(), answers.as_bytes());
     Ok(input.faults())
 }
 
 /// Lines of a session, its answers, and whether it ends with `QUIT` or with its input.
-const ROWS: [(&str, &str, SessionEnd); 8] = [
+pub(crate) const ROWS: [(&str, &str, SessionEnd); 8] = [
     (
         "SUBMIT\nMOV 0,1\n.\nBOGUS\nQUIT\n",
         "PLACED 1 1 0\nBAD\n",
@@ -49,10 +62,13 @@ const ROWS: [(&str, &str, SessionEnd); 8] = [
     ),
 ];
 
+/// Each of them at once, and then byte for byte.
 #[test]
 fn sessions(rt: HostRuntime) -> Result<(), Fail> {
     for (lines, answers, end) in ROWS {
         assert_eq!(rt; check(&rt, lines.as_bytes(), answers, end)?, 0);
+        let slow = reader(lines.as_bytes(), 1, 0);
+        assert_eq!(rt; check_slow(&rt, slow, 1, answers, end)?, 0);
     }
     Ok(())
 }

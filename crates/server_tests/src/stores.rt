@@ -1,8 +1,8 @@
 ghost use Rattle.std.specs.Prelude.{◌≡◌, false, IfOk, IfSome};
 
 use hill_store::Store;
-use sector_disk::{FuseDevice, FuseKind, MemoryDevice};
-use std::alloc::Global;
+use sector_disk::{Device, FuseDevice, FuseKind, MemoryDevice};
+use std::alloc::{Allocator, Global};
 use std::test::Fail;
 use war_types::{RawSettings, Settings};
 
@@ -21,10 +21,30 @@ const SMALL: RawSettings = RawSettings {
 pub(crate) fn empty_hill(alloc: Global) -> Result<Store<MemoryDevice<Global>, Global>, Fail>
     ensures { IfOk result (λ store. store.reopen ≡ false) }
 {
-    let device = MemoryDevice::new(alloc, 8)?;
+    empty_hill_on(alloc, MemoryDevice::new(alloc, 8)?)
+}
+
+/// The same on a device that was blank.
+pub(crate) fn empty_hill_on<D: Device + Drop, A: Allocator + Copy>(
+    alloc: A,
+    device: D,
+) -> Result<Store<D, A>, Fail>
+    ensures { IfOk result (λ store. store.reopen ≡ false) }
+{
     match Store::create(alloc, device, Settings::new(SMALL)?) {
         Ok(store) => Ok(store),
         Err(_) => Err("it is created".into()),
+    }
+}
+
+/// The hill that a device holds.
+pub(crate) fn reopened<D: Device + Drop, A: Allocator + Copy>(
+    alloc: A,
+    device: D,
+) -> Result<Store<D, A>, Fail> {
+    match Store::open(alloc, device) {
+        Ok(store) => Ok(store),
+        Err(_) => Err("it opens".into()),
     }
 }
 

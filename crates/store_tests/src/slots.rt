@@ -1,4 +1,4 @@
-//! The two sectors of a slot, and what is no slot's.
+//! The sectors of a slot, and what is no slot's.
 
 use crate::stores::SMALL;
 use hill_bytes::{Slot, Wins};
@@ -42,7 +42,9 @@ fn stored() -> Slot {
     back[342] = b'n';
     back[397] = 2;
     back[471] = 1;
-    Slot { front, back }
+    Slot {
+        sectors: [front, back],
+    }
 }
 
 #[test]
@@ -65,8 +67,7 @@ fn a_slot_is_read_and_written(rt: HostRuntime) -> Result<(), Fail> {
     };
     assert_eq!(rt; slot.results(), results);
     let again = Slot::encode(&warrior, &results);
-    assert!(rt; again.front == slot.front);
-    assert!(rt; again.back == slot.back);
+    assert!(rt; again.sectors == slot.sectors);
     Ok(())
 }
 
@@ -76,21 +77,21 @@ fn sectors_that_hold_no_warrior(rt: HostRuntime) -> Result<(), Fail> {
     let blank = Slot::blank();
     assert!(rt; blank.decode(rt.alloc(), &settings)?.is_none());
     let mut slot = stored();
-    slot.back[511] = 1;
+    slot.sectors[1][511] = 1;
     assert!(rt; slot.decode(rt.alloc(), &settings)?.is_none());
-    slot.back[511] = 0;
-    slot.front[16] = 1;
+    slot.sectors[1][511] = 0;
+    slot.sectors[0][16] = 1;
     assert!(rt; slot.decode(rt.alloc(), &settings)?.is_none());
-    slot.front[16] = 0;
-    slot.front[15] = 64;
+    slot.sectors[0][16] = 0;
+    slot.sectors[0][15] = 64;
     assert!(rt; slot.decode(rt.alloc(), &settings)?.is_none());
-    slot.front[15] = 63;
+    slot.sectors[0][15] = 63;
     assert!(rt; slot.decode(rt.alloc(), &settings)?.is_some());
     // A byte behind the results, and one round more than a match has.
-    slot.back[472] = 1;
+    slot.sectors[1][472] = 1;
     assert!(rt; slot.decode(rt.alloc(), &settings)?.is_none());
-    slot.back[472] = 0;
-    slot.back[399] = 1;
+    slot.sectors[1][472] = 0;
+    slot.sectors[1][399] = 1;
     assert!(rt; slot.decode(rt.alloc(), &settings)?.is_none());
     Ok(())
 }

@@ -1,0 +1,94 @@
+//! What is left in a core of the rounds before, and rounds in the largest core.
+
+use super::*;
+use crate::warriors::LARGEST;
+use koth_match::fight;
+
+/// The largest core, and as many processes as it has cells.
+const LARGE: RawSettings = RawSettings {
+    core: 65535,
+    processes: 65535,
+    ..SMALL
+};
+
+/// The first address whose cell is neither one of these two nor blank.
+fn left_over(arena: &Arena<Global>, core: u16, cells: [(u16, Instr); 2]) -> Option<u16> {
+    for at in 0..core {
+        let due = if at == cells[0].0 {
+            cells[0].1
+        } else if at == cells[1].0 {
+            cells[1].1
+        } else {
+            dat(0, 0)
+        };
+        if !is_cell(arena, at, due) {
+            return Some(at);
+        }
+    }
+    None
+}
+
+/// The first cell that is not as a round of `DAT 1, 1` at 0 and `DAT 2, 2` at 20 begins, behind two matches in the same arena.
+fn left_of_matches(alloc: Global, raw: RawSettings) -> Result<Option<u16>, Fail> {
+    let settings = Settings::new(raw)?;
+    if settings.core() < 21 {
+        return Err("they have no room".into());
+    }
+    let older = warrior(alloc, &[imp()], &settings)?;
+    let younger = warrior(alloc, &[stay()], &settings)?;
+    let one = warrior(alloc, &[dat(1, 1)], &settings)?;
+    let two = warrior(alloc, &[dat(2, 2)], &settings)?;
+    let mut arena = Arena::new(alloc, &settings)?;
+    fight(&mut arena, &older, &younger, &settings);
+    fight(&mut arena, &older, &younger, &settings);
+    arena.begin(&one, &two, 20, Side::First);
+    Ok(left_over(&arena, settings.core(), [(0, dat(1, 1)), (20, dat(2, 2))]))
+}
+
+#[test]
+fn nothing_is_left_of_a_match(rt: HostRuntime) -> Result<(), Fail> {
+    assert_eq!(rt; left_of_matches(rt.alloc(), SMALL)?, None);
+    assert_eq!(rt; left_of_matches(rt.alloc(), LARGE)?, None);
+    Ok(())
+}
+
+/// An imp goes from the last cells of the largest core to the first, where the other side then executes it too.
+#[test]
+fn across_the_end_of_the_largest_core(rt: HostRuntime) -> Result<(), Fail> {
+    let settings = Settings::new(LARGE)?;
+    let codes: [&[Instr]; 2] = [&[stay()], &[imp()]];
+    let mut arena = begun(rt.alloc(), &settings, codes, 65533, Side::Second)?;
+    for _ in 0..5 {
+        arena.turn();
+    }
+    check_process(&rt, &arena, Side::Second, 0, Some(1));
+    assert!(rt; is_cell(&arena, 65534, imp()));
+    assert!(rt; is_cell(&arena, 0, imp()));
+    assert!(rt; is_cell(&arena, 1, imp()));
+    assert!(rt; is_cell(&arena, 2, dat(0, 0)));
+    Ok(())
+}
+
+/// A hundred instructions up to the last cell: the first of them goes over the end to where the other side starts, which
+/// then executes it too. So the one cycle is over.
+#[test]
+fn one_cycle_under_the_largest_settings(rt: HostRuntime) -> Result<(), Fail> {
+    let settings = Settings::new(LARGEST)?;
+    let over = direct(Op::Mov, Modifier::I, 0, 100);
+    let codes: [&[Instr]; 2] = [&[stay()], &[over; 100]];
+    let mut arena = begun(rt.alloc(), &settings, codes, 65435, Side::Second)?;
+    check_outcome(&rt, &mut arena, Outcome::Tie);
+    check_process(&rt, &arena, Side::First, 0, Some(1));
+    check_process(&rt, &arena, Side::Second, 0, Some(65436));
+    for (at, due) in [
+        (0, over),
+        (1, dat(0, 0)),
+        (100, over),
+        (65434, dat(0, 0)),
+        (65534, over),
+    ] {
+        assert!(rt; is_cell(&arena, at, due), "at {at}");
+    }
+    check_next(&rt, &mut arena, Turned::Over);
+    Ok(())
+}

@@ -1,0 +1,239 @@
+//! Growths of memory that are refused: where a device takes its memory from the same allocator, in a list of submissions, and behind
+//! the first call of the device.
+
+use crate::stores::{SMALL, counted, created, fell, numbers, opened, placed, refused};
+use hill_store::{Refusal, Reply, Store};
+use refusing::{Refusing, refuse_each};
+use sector_disk::{Device, Fault, MemoryDevice};
+use std::alloc::{AllocError, Global};
+use std::process::Abort;
+use std::test::Fail;
+use war_types::{AsmKind, Settings};
+
+/// A device that refuses every further growth from its first call on.
+#[derive(Drop)]
+struct Stinting<'m, D> {
+    inner: D,
+    memory: &'m Refusing<Global>,
+}
+
+impl<D: Device> Device for Stinting<'_, D> {
+    ghost facts = { record { size = λ c. D.facts.size c.inner; lawful = λ c. D.facts.lawful c.inner; disk = λ c. D.facts.disk c.inner; faults = λ c. D.facts.faults c.inner } };
+
+    fn sectors(&self) -> u32 {
+        self.inner.sectors()
+    }
+
+    fn faults(&self) -> u64 {
+        self.inner.faults()
+    }
+
+    fn read(&mut self, n: u32, to: &mut [u8; 512]) -> Result<(), Fault> {
+        self.memory.refuse_rest();
+        self.inner.read(n, to)
+    }
+
+    fn write(&mut self, n: u32, from: &[u8; 512]) -> Result<(), Fault> {
+        self.memory.refuse_rest();
+        self.inner.write(n, from)
+    }
+
+    fn sync(&mut self) -> Result<(), Fault> {
+        self.memory.refuse_rest();
+        self.inner.sync()
+    }
+}
+
+/// Growths are refused now, and none was asked for since.
+fn expect_stinted(rt: &impl Abort, memory: &Refusing<Global>) {
+    assert_eq!(rt; memory.refused(), 0);
+    assert!(rt; Box::new(memory, 0_u8).is_err());
+    memory.refuse(0, 0);
+}
+
+/// The device has its memory from elsewhere. A store takes none once it has called its device, to create a hill and to submit, and an
+/// audit and the close take none at all.
+#[test]
+fn none_behind_the_first_call_of_the_device(rt: HostRuntime) -> Result<(), Fail> {
+    let memory = Refusing::new(rt.alloc());
+    let device = Stinting {
+        inner: MemoryDevice::new(rt.alloc(), 8)?,
+        memory: &memory,
+    };
+    let mut store = created(&memory, device)?;
+    expect_stinted(&rt, &memory);
+    let submissions: [(&[u8], Reply); 4] = [
+        (b"MOV 0,1", placed(1, 1, 0)),
+        (b"JMP 0", placed(2, 2, 2)),
+        (b"DAT 0,0", fell(3, 0)),
+        (b"MOV 0,1", fell(4, 4)),
+    ];
+    for (source, reply) in submissions {
+        assert_eq!(rt; store.submit(source), reply);
+        expect_stinted(&rt, &memory);
+    }
+    memory.refuse(0, u64::MAX);
+    assert!(rt; store.audit());
+    let device = store.close();
+    assert_eq!(rt; memory.refused(), 0);
+    memory.refuse(0, 0);
+    assert_eq!(rt; opened(rt.alloc(), device.inner)?.rows()?.len(), 2);
+    Ok(())
+}
+
+/// A device in memory takes a growth at the first write to a sector, as of the header of a hill that is created.
+fn expect_none_created(
+    rt: &(impl Abort + AllocGlobal),
+    memory: &Refusing<Global>,
+) -> Result<(), Fail> {
+    let device = MemoryDevice::new(memory, 8)?;
+    memory.refuse(0, 1);
+    let Err((device, refusal)) = Store::create(rt.alloc(), device, Settings::new(SMALL)?) else {
+        return Err("it is refused".into());
+    };
+    assert_eq!(rt; refusal, Refusal::Disk);
+    assert_eq!(rt; (device.faults(), memory.refused()), (1, 1));
+    let mut store = created(rt.alloc(), device)?;
+    assert_eq!(rt; store.submit(b"MOV 0,1"), placed(1, 1, 0));
+    Ok(())
+}
+
+/// A warrior is placed by the first writes to two sectors of a slot, and, behind a sync, to a header's: three growths. The store whose
+/// device found no memory is as it was before, and so is the hill that is opened on its device. It calls its device no more: creating
+/// the hill made five calls.
+#[test]
+fn of_a_device(rt: HostRuntime) -> Result<(), Fail> {
+    let memory = Refusing::new(rt.alloc());
+    expect_none_created(&rt, &memory)?;
+    for (k, calls) in [(0, 5 + 1), (1, 5 + 2), (2, 5 + 4)] {
+        let mut store = created(rt.alloc(), counted(MemoryDevice::new(&memory, 8)?))?;
+        memory.refuse(k, 1);
+        assert_eq!(rt; store.submit(b"MOV 0,1"), Reply::Disk, "at growth {k}");
+        assert_eq!(rt; store.submit(b"MOV 0,1"), Reply::Reopen);
+        assert_eq!(rt; memory.refused(), 1);
+        assert_eq!(rt; store.rows()?.len(), 0);
+        let device = store.close();
+        assert_eq!(rt; device.calls, calls, "at growth {k}");
+        let mut store = opened(rt.alloc(), device)?;
+        assert_eq!(rt; store.rows()?.len(), 0);
+        assert_eq!(rt; store.submit(b"MOV 0,1"), placed(1, 1, 0));
+    }
+    let mut store = created(rt.alloc(), MemoryDevice::new(&memory, 8)?)?;
+    memory.refuse(3, 1);
+    assert_eq!(rt; store.submit(b"MOV 0,1"), placed(1, 1, 0));
+    assert_eq!(rt; memory.refused(), 0);
+    Ok(())
+}
+
+#[test]
+fn of_a_table(rt: HostRuntime) -> Result<(), Fail> {
+    let memory = Refusing::new(rt.alloc());
+    let mut store = created(&memory, MemoryDevice::new(rt.alloc(), 8)?)?;
+    assert_eq!(rt; store.submit(b"MOV 0,1"), placed(1, 1, 0));
+    let runs = refuse_each(&memory, |_k| match store.rows() {
+        Ok(rows) => {
+            assert_eq!(rt; memory.refused(), 0);
+            assert_eq!(rt; numbers(rows.first()), Some((1, 0, 0)));
+        }
+        Err(AllocError) => assert_eq!(rt; memory.refused(), 1),
+    });
+    assert_eq!(rt; runs, 2);
+    Ok(())
+}
+
+/// The sources of a list, of which the third is refused and the fourth falls.
+const SOURCES: [&[u8]; 4] = [b"MOV 0,1", b"JMP 0", b"", b"DAT 0,0"];
+
+/// So many growths of the list, in their order, and the replies where one of them is refused: of the first source, of the device's writes
+/// for it, and so on. The third, without a line, takes none, and the fourth writes to a sector that was written before. A warrior that
+/// finds no memory leaves its entry and its place to the next. Behind `Disk` stands nothing.
+fn growths() -> [(u64, [Reply; 4]); 5] {
+    let (first, second) = (placed(1, 1, 0), placed(2, 2, 2));
+    let (empty, loses) = (refused(0, AsmKind::Empty), placed(2, 2, 0));
+    let (memory, disk) = (Reply::Memory, Reply::Disk);
+    [
+        (12, [memory, first, empty, loses]),
+        (3, [disk; 4]),
+        (12, [first, memory, empty, loses]),
+        (2, [first, disk, disk, disk]),
+        (12, [first, second, empty, memory]),
+    ]
+}
+
+/// The sources are submitted to an empty hill, and growth `k` is refused: these are the replies, up to the first `Disk`. Each warrior that
+/// was placed is on the hill, and on the one that is opened on its device, and no other. How many growths were refused is the answer.
+fn check_replies(
+    rt: &(impl Abort + AllocGlobal),
+    memory: &Refusing<Global>,
+    k: u64,
+    expected: &[Reply; 4],
+) -> Result<u64, Fail> {
+    let mut store = created(memory, MemoryDevice::new(memory, 8)?)?;
+    memory.refuse(k, 1);
+    let replies = store.submit_all(&SOURCES);
+    let count = memory.refused();
+    memory.refuse(0, 0);
+    let replies = replies?;
+    let made = made_of(expected);
+    assert_eq!(rt;
+        Some(replies.as_slice()),
+        expected.get(..made),
+        "at growth {k}"
+    );
+    let on_hill = placed_in(replies.as_slice());
+    assert_eq!(rt; store.rows()?.len(), on_hill, "at growth {k}");
+    assert_eq!(rt; opened(rt.alloc(), store.close())?.rows()?.len(), on_hill);
+    Ok(count)
+}
+
+/// How many replies there are up to the first `Disk`.
+fn made_of(replies: &[Reply]) -> usize {
+    for (i, reply) in replies.iter().enumerate() {
+        if reply.is_disk() {
+            return i.saturating_add(1);
+        }
+    }
+    replies.len()
+}
+
+fn placed_in(replies: &[Reply]) -> usize {
+    let mut count: usize = 0;
+    for reply in replies {
+        if matches!(*reply, Reply::Placed { .. }) {
+            count = count.saturating_add(1);
+        }
+    }
+    count
+}
+
+/// The first growth is that of the list of the replies: without it nothing is submitted.
+fn expect_no_list(rt: &(impl Abort + AllocGlobal), memory: &Refusing<Global>) -> Result<(), Fail> {
+    let mut store = created(memory, MemoryDevice::new(rt.alloc(), 8)?)?;
+    memory.refuse(0, 1);
+    assert!(rt; store.submit_all(&SOURCES).is_err());
+    assert_eq!(rt; memory.refused(), 1);
+    assert_eq!(rt; store.rows()?.len(), 0);
+    assert_eq!(rt; store.submit(b"MOV 0,1"), placed(1, 1, 0));
+    Ok(())
+}
+
+#[test]
+fn of_a_list(rt: HostRuntime) -> Result<(), Fail> {
+    let memory = Refusing::new(rt.alloc());
+    let done = [
+        placed(1, 1, 0),
+        placed(2, 2, 2),
+        refused(0, AsmKind::Empty),
+        fell(3, 0),
+    ];
+    expect_no_list(&rt, &memory)?;
+    let mut k: u64 = 1;
+    for (count, replies) in growths() {
+        for _ in 0..count {
+            assert_eq!(rt; check_replies(&rt, &memory, k, &replies)?, 1);
+            k = k.saturating_add(1);
+        }
+    }
+    assert_eq!(rt; check_replies(&rt, &memory, k, &done)?, 0, "it makes {k}");
+    Ok(())
+}
