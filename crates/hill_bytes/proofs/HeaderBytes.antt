@@ -9,7 +9,7 @@ use Rattle.war_types.specs.declared.settings.RawSettings.{RawSettings}
 use Rattle.byteorder.specs.Endian.{big_from}
 use Rattle.byteorder.specs.Numbers.{big_number-reads_back}
 use Rattle.hill_bytes.specs.declared.header.HeaderEntry.{HeaderEntry}
-use Rattle.hill_bytes.specs.Layout.{HeaderParts, IsHeaderParts, IsEntry, Layout, header_parts, header_bytes, settings_bytes, entry_bytes, entry_places}
+use Rattle.hill_bytes.specs.Layout.{HeaderParts, IsHeaderParts, IsEntry, Layout, header_parts, header_bytes, settings_bytes, limit_bytes, entry_bytes, entry_places}
 
 -- the number at a place is the one that was written there
 pub number-at : (k n : ℕ) (bytes rest : List ℕ) → n < 256 ^ k → bytes ≡ bytes_high_first k n ++ rest → big_from 0 k bytes ≡ n
@@ -18,7 +18,7 @@ number-at k n bytes rest below e = ap (big_from 0 k) e ∙ big_number-reads_back
 -- the fields of a header, behind the eight bytes that it begins with
 abbrev pub header_fields : HeaderParts → List ℕ
 header_fields h =
-    bytes_high_first 8 h.generation ++ settings_bytes h.settings ++ replicate 4 0 ++ bytes_high_first 8 h.counter
+    bytes_high_first 8 h.generation ++ settings_bytes h.settings ++ limit_bytes h.settings ++ bytes_high_first 8 h.counter
     ++ bytes_high_first 2 (length h.entries) ++ entry_places 20 h.entries ++ replicate 122 0
 
 regrouped : (a b c d e f g h : List ℕ) → (((((((a ++ b) ++ c) ++ d) ++ e) ++ f) ++ g) ++ h) ≡ a ++ ((((((b ++ c) ++ d) ++ e) ++ f) ++ g) ++ h)
@@ -27,7 +27,7 @@ regrouped a b c d e f g h = simp append_assoc
 pub fields-behind : (layout : Layout) (h : HeaderParts) → drop 8 (header_bytes layout h) ≡ header_fields h
 unfolding header_bytes
 fields-behind layout h =
-    ap (drop 8) (regrouped layout.magic (bytes_high_first 8 h.generation) (settings_bytes h.settings) (replicate 4 0) (bytes_high_first 8 h.counter)
+    ap (drop 8) (regrouped layout.magic (bytes_high_first 8 h.generation) (settings_bytes h.settings) (limit_bytes h.settings) (bytes_high_first 8 h.counter)
     (bytes_high_first 2 (length h.entries)) (entry_places 20 h.entries) (replicate 122 0))
     ∙ drop_at layout.magic (header_fields h) 8 layout.magic_long
 
@@ -37,7 +37,7 @@ generation_behind layout bytes h e = ap (drop 8) e ∙ fields-behind layout h
 pub generation-at : (layout : Layout) (bytes : List ℕ) (h : HeaderParts) → bytes ≡ header_bytes layout h → drop 8 bytes ≡ bytes_high_first 8 h.generation ++ drop 8 (header_fields h)
 generation-at layout bytes h e = generation_behind layout bytes h e
 
-pub settings-at : (layout : Layout) (bytes : List ℕ) (h : HeaderParts) → bytes ≡ header_bytes layout h → drop 16 bytes ≡ settings_bytes h.settings ++ drop 28 (header_fields h)
+pub settings-at : (layout : Layout) (bytes : List ℕ) (h : HeaderParts) → bytes ≡ header_bytes layout h → drop 16 bytes ≡ settings_bytes h.settings ++ limit_bytes h.settings ++ drop 32 (header_fields h)
 settings-at layout bytes h e = sym (drop-drop 8 8 bytes) ∙ ap (drop 8) (generation_behind layout bytes h e)
 
 pub counter-at : (layout : Layout) (bytes : List ℕ) (h : HeaderParts) → bytes ≡ header_bytes layout h → drop 40 bytes ≡ bytes_high_first 8 h.counter ++ drop 40 (header_fields h)

@@ -11,7 +11,7 @@ use Rattle.hill_bytes.specs.declared.wins.Wins.{Wins}
 use Rattle.hill_bytes.specs.Layout.{HeaderParts, Layout, first_layout, first_magic, header_bytes, fields_bytes, last_sector, slot_bytes, slot_at, slot_in, results_in, sectors_for, sectors_in}
 
 abbrev small : RawSettings
-small = record { core = 64; cycles = 100; processes = 8; length = 10; distance = 10; rounds = 2; seed = 1; capacity = 2 }
+small = record { core = 64; cycles = 100; processes = 8; length = 10; distance = 10; rounds = 2; seed = 1; capacity = 2; read_limit = 64; write_limit = 64 }
 
 abbrev entry : ℕ → ℕ → ℕ → HeaderEntry
 entry number slot age = record { entry = number; slot = slot; age = age }

@@ -1,10 +1,11 @@
 -- Writes one behind the other, and the settings that stand in a header.
-use Rattle.std.proofs.Common.{◌≡◌, ℕ, List, [], ◌++◌, Ok, arith, ap, ◌∙◌}
+use Rattle.std.proofs.Common.{◌≡◌, ℕ, ◌%◌, ◌≤◌, ◌==◌, Bool, true, false, if◌then◌else◌, List, [], ◌++◌, Ok, arith, ap, ◌∙◌, mod-eq_of_lt}
 use Rattle.std.proofs.lemmas.List.{append_assoc, append-nil}
 use Rattle.std.proofs.lemmas.Bool.Decides.{nat_tests}
 use Rattle.std.specs.Int.{bytes_high_first}
 use Rattle.war_types.specs.declared.settings.RawSettings.{RawSettings}
-use Rattle.war_types.specs.Settings.{AreSettings, settings_of}
+use Rattle.war_types.specs.Settings.{AreSettings, is_limit, limit_of, settings_of}
+use Rattle.hill_bytes.specs.Layout.{stored_limit}
 
 -- the number that is written is known by another name
 pub renamed : (k : ℕ) (before now : List ℕ) (n m : ℕ) → n ≡ m → now ≡ before ++ bytes_high_first k n → now ≡ before ++ bytes_high_first k m
@@ -22,9 +23,46 @@ writes-8 w w1 w2 w3 w4 w5 w6 w7 w8 a b c d e f g h e1 e2 e3 e4 e5 e6 e7 e8 =
     let regrouped : (((((((w ++ a) ++ b) ++ c) ++ d) ++ e) ++ f) ++ g) ++ h ≡ w ++ (((((((a ++ b) ++ c) ++ d) ++ e) ++ f) ++ g) ++ h) = simp append_assoc in
     flat ∙ regrouped
 
--- settings in their ranges are accepted
-pub settings_of-ok : (s : RawSettings) → AreSettings s → settings_of s ≡ Ok s
-settings_of-ok s are = grind (arith, nat_tests)
+abbrev pub with_stored_limits : RawSettings → RawSettings
+with_stored_limits s = record {
+  core = s.core;
+  cycles = s.cycles;
+  processes = s.processes;
+  length = s.length;
+  distance = s.distance;
+  rounds = s.rounds;
+  seed = s.seed;
+  capacity = s.capacity;
+  read_limit = stored_limit s.core s.read_limit;
+  write_limit = stored_limit s.core s.write_limit;
+}
+
+-- a divisor is at most what it divides
+divisor-most : (n d : ℕ) → 1 ≤ n → n % d ≡ 0 → d ≤ n
+divisor-most n d some divides = grind (arith, mod-eq_of_lt, nat_tests)
+
+pub limits-most : (s : RawSettings) → AreSettings s → (s.read_limit ≤ s.core) × (s.write_limit ≤ s.core)
+limits-most s are =
+    let some : 1 ≤ s.core = omega (arith, are.core_least) in
+    (divisor-most s.core s.read_limit some are.read_divides, divisor-most s.core s.write_limit some are.write_divides)
+
+stored-by : (b : Bool) (core limit : ℕ) → limit ≤ core → (if b then 0 else limit) ≤ core
+stored-by true core limit most = omega arith
+stored-by false core limit most = most
+
+pub stored-most : (core limit : ℕ) → limit ≤ core → stored_limit core limit ≤ core
+stored-most core limit most = stored-by (limit == core) core limit most
+
+-- a limit that is stored is read as that limit
+pub limit-back : (core limit : ℕ) → 1 ≤ limit → core % limit ≡ 0 → (is_limit core (stored_limit core limit) ≡ true) × (limit_of core (stored_limit core limit) ≡ limit)
+limit-back core limit least divides = (grind (arith, nat_tests), grind (arith, nat_tests))
+
+-- settings in their ranges are read back
+pub settings_of-stored : (s : RawSettings) → AreSettings s → settings_of (with_stored_limits s) ≡ Ok s
+settings_of-stored s are =
+    let read = limit-back s.core s.read_limit are.read_least are.read_divides in
+    let write = limit-back s.core s.write_limit are.write_least are.write_divides in
+    grind (arith, nat_tests)
 
 pub rewritten : (before now x y : List ℕ) → x ≡ y → now ≡ before ++ x → now ≡ before ++ y
 rewritten before now x y same e = e ∙ ap (λ z. before ++ z) same

@@ -1,5 +1,5 @@
 -- What the sectors hold: two headers in turn, and as many sectors for each slot as the layout says. Numbers are big endian.
-use Rattle.std.specs.Prelude.{◌≡◌, ℕ, zero, suc, ◌+◌, ◌-◌, ◌*◌, ◌^◌, ◌<◌, ◌≤◌, ◌≢◌, List, [], ◌∷◌, ◌++◌, length, get_or, drop, replicate, All, Option, Some, None, codes, refl}
+use Rattle.std.specs.Prelude.{◌≡◌, ℕ, zero, suc, ◌+◌, ◌-◌, ◌*◌, ◌^◌, ◌<◌, ◌≤◌, ◌≢◌, ◌==◌, if◌then◌else◌, List, [], ◌∷◌, ◌++◌, length, get_or, drop, replicate, All, Option, Some, None, codes, refl}
 use Rattle.std.specs.Int.{bytes_high_first}
 use Rattle.byteorder.specs.Endian.{big_number}
 use Rattle.war_types.specs.declared.instr.Instr.{Instr}
@@ -71,6 +71,13 @@ settings_bytes s =
     bytes_high_first 2 s.core ++ bytes_high_first 4 s.cycles ++ bytes_high_first 2 s.processes ++ bytes_high_first 2 s.length
     ++ bytes_high_first 2 s.distance ++ bytes_high_first 2 s.rounds ++ bytes_high_first 4 s.seed ++ bytes_high_first 2 s.capacity
 
+-- a limit as it is stored: zero stands for the core size
+abbrev pub stored_limit : ℕ → ℕ → ℕ
+stored_limit core limit = if limit == core then 0 else limit
+
+abbrev pub limit_bytes : RawSettings → List ℕ
+limit_bytes s = bytes_high_first 2 (stored_limit s.core s.read_limit) ++ bytes_high_first 2 (stored_limit s.core s.write_limit)
+
 abbrev pub entry_bytes : HeaderEntry → List ℕ
 entry_bytes e = bytes_high_first 8 e.entry ++ e.slot ∷ bytes_high_first 8 e.age
 
@@ -83,7 +90,7 @@ entry_places (suc n) (e ∷ es) = entry_bytes e ++ entry_places n es
 -- the 512 bytes of a header
 unfoldable pub header_bytes : Layout → HeaderParts → List ℕ
 header_bytes layout h =
-    layout.magic ++ bytes_high_first 8 h.generation ++ settings_bytes h.settings ++ replicate 4 0 ++ bytes_high_first 8 h.counter
+    layout.magic ++ bytes_high_first 8 h.generation ++ settings_bytes h.settings ++ limit_bytes h.settings ++ bytes_high_first 8 h.counter
     ++ bytes_high_first 2 (length h.entries) ++ entry_places 20 h.entries ++ replicate 122 0
 
 -- these bytes are this header's; a record of parts ranges over all numbers, so that it keeps its ranges is said here, and that the longest

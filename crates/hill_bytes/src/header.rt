@@ -5,7 +5,7 @@ ghost use Rattle.std.specs.Option.{SomeIff};
 ghost use Rattle.war_types.specs.declared.settings.RawSettings.{RawSettings};
 ghost use Rattle.war_types.specs.Settings.{AreSettings};
 ghost use Rattle.hill_bytes.specs.declared.header.HeaderEntry.{HeaderEntry};
-ghost use Rattle.hill_bytes.specs.Layout.{HeaderParts, IsHeader, IsHeaderParts, IsEntry, EntriesRise, SlotIsFree, SlotsDiffer, header_parts, first_layout, header_bytes, settings_bytes, entry_bytes, entry_places, IsDecoded};
+ghost use Rattle.hill_bytes.specs.Layout.{HeaderParts, IsHeader, IsHeaderParts, IsEntry, EntriesRise, SlotIsFree, SlotsDiffer, header_parts, first_layout, header_bytes, settings_bytes, limit_bytes, stored_limit, entry_bytes, entry_places, IsDecoded};
 
 pub(crate) mod reader;
 pub(crate) mod writer;
@@ -178,7 +178,7 @@ pub fn encode_header(header: &Header) -> [u8; 512]
     sector.put(b"KOTHHIL1");
     sector.put_u64(header.generation());
     put_settings(&mut sector, header.settings());
-    sector.put_zeros(4);
+    put_limits(&mut sector, header.settings());
     sector.put_u64(header.counter());
     sector.put_u16(header.entries().len() as u16);
     put_entries(&mut sector, header.entries());
@@ -199,6 +199,22 @@ fn put_settings(sector: &mut SectorWriter, settings: &Settings)
     sector.put_u16(settings.rounds());
     sector.put_u32(settings.seed());
     sector.put_u16(settings.capacity());
+}
+
+fn put_limits(sector: &mut SectorWriter, settings: &Settings)
+    requires { length sector.old ≡ 36 }
+    ensures value { sector.new ≡ sector.old ++ limit_bytes settings.now }
+    ensures len { length sector.new ≡ 40 }
+{
+    sector.put_u16(stored_limit(settings.core(), settings.read_limit()));
+    sector.put_u16(stored_limit(settings.core(), settings.write_limit()));
+}
+
+/// A limit as it is stored: 0 stands for the core's size.
+fn stored_limit(core: u16, limit: u16) -> u16
+    ensures { result ≡ stored_limit core limit }
+{
+    if limit == core { 0 } else { limit }
 }
 
 fn put_entry(sector: &mut SectorWriter, entry: &HeaderEntry)
@@ -255,7 +271,7 @@ fn read_header(bytes: &[u8; 512]) -> Option<Header>
 }
 
 fn read_settings(bytes: &[u8; 512]) -> Option<Settings>
-    ensures { (s : RawSettings) (rest : List ℕ) → AreSettings s → drop 16 bytes.now ≡ settings_bytes s ++ rest → result ≡ Some s }
+    ensures { (s : RawSettings) (rest : List ℕ) → AreSettings s → drop 16 bytes.now ≡ settings_bytes s ++ limit_bytes s ++ rest → result ≡ Some s }
 {
     let raw = RawSettings {
         core: u32::from(u16_at(bytes, 16)),
@@ -266,6 +282,8 @@ fn read_settings(bytes: &[u8; 512]) -> Option<Settings>
         rounds: u32::from(u16_at(bytes, 28)),
         seed: u32_at(bytes, 30),
         capacity: u32::from(u16_at(bytes, 34)),
+        read_limit: u32::from(u16_at(bytes, 36)),
+        write_limit: u32::from(u16_at(bytes, 38)),
     };
     Settings::new(raw).ok()
 }

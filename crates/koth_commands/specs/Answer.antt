@@ -18,6 +18,8 @@ settings_line faults.Distance = codes "BadSettings Distance\n"
 settings_line faults.Rounds = codes "BadSettings Rounds\n"
 settings_line faults.Seed = codes "BadSettings Seed\n"
 settings_line faults.Capacity = codes "BadSettings Capacity\n"
+settings_line faults.ReadLimit = codes "BadSettings ReadLimit\n"
+settings_line faults.WriteLimit = codes "BadSettings WriteLimit\n"
 
 -- the line was written on the errors, or a part of it where the errors failed, and nothing else was read or written
 pub record RefusesSettings (fault : SettingsFault) (before after : Streams) : Type 0 where

@@ -57,5 +57,7 @@ fn settings_line(fault: SettingsFault) -> &'static str
         SettingsFault::Rounds => "BadSettings Rounds\n",
         SettingsFault::Seed => "BadSettings Seed\n",
         SettingsFault::Capacity => "BadSettings Capacity\n",
+        SettingsFault::ReadLimit => "BadSettings ReadLimit\n",
+        SettingsFault::WriteLimit => "BadSettings WriteLimit\n",
     }
 }

@@ -20,7 +20,7 @@ use Rattle.koth_hill.specs.Step.{step_by, verdict_by, step, verdict, new_hill}
 use Rattle.koth_hill.specs.Kept.{Kept, fought, kept_of, result_of, step_kept, table_kept, verdict_kept}
 
 abbrev small : RawSettings
-small = record { core = 64; cycles = 100; processes = 8; length = 10; distance = 10; rounds = 2; seed = 1; capacity = 2 }
+small = record { core = 64; cycles = 100; processes = 8; length = 10; distance = 10; rounds = 2; seed = 1; capacity = 2; read_limit = 64; write_limit = 64 }
 
 abbrev direct : Op → Modifier → ℕ → ℕ → Instr
 direct op modifier a b = record { op = op; modifier = modifier; a_mode = modes.Direct; a = a; b_mode = modes.Direct; b = b }

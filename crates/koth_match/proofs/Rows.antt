@@ -16,10 +16,10 @@ use Rattle.koth_match.specs.Seeds.{next_seed, seed_of_round, place}
 use Rattle.koth_match.specs.Match.{round_outcome, match_of}
 
 abbrev small : RawSettings
-small = record { core = 64; cycles = 100; processes = 8; length = 10; distance = 10; rounds = 2; seed = 1; capacity = 2 }
+small = record { core = 64; cycles = 100; processes = 8; length = 10; distance = 10; rounds = 2; seed = 1; capacity = 2; read_limit = 64; write_limit = 64 }
 
 abbrev usual : RawSettings
-usual = record { core = 8000; cycles = 80000; processes = 8000; length = 100; distance = 100; rounds = 10; seed = 1; capacity = 20 }
+usual = record { core = 8000; cycles = 80000; processes = 8000; length = 100; distance = 100; rounds = 10; seed = 1; capacity = 20; read_limit = 8000; write_limit = 8000 }
 
 abbrev direct : Op → Modifier → ℕ → ℕ → Instr
 direct op modifier a b = record { op = op; modifier = modifier; a_mode = modes.Direct; a = a; b_mode = modes.Direct; b = b }

@@ -26,7 +26,7 @@ unfolding digits
 table_of_two = refl
 
 abbrev with_rounds : ℕ → RawSettings
-with_rounds rounds = record { core = 8000; cycles = 80000; processes = 8000; length = 100; distance = 100; rounds = rounds; seed = 1; capacity = 20 }
+with_rounds rounds = record { core = 8000; cycles = 80000; processes = 8000; length = 100; distance = 100; rounds = rounds; seed = 1; capacity = 20; read_limit = 8000; write_limit = 8000 }
 
 abbrev entered : ℕ → Member
 entered entry = member_of entry 0 (warrior_parts [] 0 [] [])

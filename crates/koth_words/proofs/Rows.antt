@@ -78,5 +78,6 @@ faults : (fault_of koth_app (codes "koth" ∷ []) ≡ errors.MissingSubcommand �
 unfolding clap_on_literals koth_app
 faults = (refl, refl, refl, refl, refl, refl)
 
-defaults_are_settings : settings_of default_settings ≡ Ok default_settings
+-- no limit is one of the core size
+defaults_are_settings : settings_of default_settings ≡ Ok (record default_settings { read_limit = 8000; write_limit = 8000 })
 defaults_are_settings = refl

@@ -28,9 +28,9 @@ with_option app name = with_rule app (option_rule name)
 -- the command with an option for each setting
 abbrev pub with_settings : App → App
 with_settings app =
-    with_option (with_option (with_option (with_option (with_option (with_option (with_option (with_option app
+    with_option (with_option (with_option (with_option (with_option (with_option (with_option (with_option (with_option (with_option app
     (codes "core")) (codes "cycles")) (codes "processes")) (codes "length")) (codes "distance")) (codes "rounds"))
-    (codes "seed")) (codes "capacity")
+    (codes "seed")) (codes "capacity")) (codes "read-limit")) (codes "write-limit")
 
 -- one decimal digit or more, which write a number below the limit
 abbrev pub is_number : ℕ → Text → Bool
@@ -62,6 +62,8 @@ default_settings = record {
   rounds = 10;
   seed = 1;
   capacity = 20;
+  read_limit = 0;
+  write_limit = 0;
 }
 
 -- the settings that a command's options give
@@ -75,4 +77,6 @@ settings_in rows = record {
   rounds = number_or default_settings.rounds (one_of (codes "rounds") rows);
   seed = number_or default_settings.seed (one_of (codes "seed") rows);
   capacity = number_or default_settings.capacity (one_of (codes "capacity") rows);
+  read_limit = number_or default_settings.read_limit (one_of (codes "read-limit") rows);
+  write_limit = number_or default_settings.write_limit (one_of (codes "write-limit") rows);
 }

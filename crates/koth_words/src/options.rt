@@ -19,9 +19,11 @@ const DEFAULTS: RawSettings = RawSettings {
     rounds: 10,
     seed: 1,
     capacity: 20,
+    read_limit: 0,
+    write_limit: 0,
 };
 
-/// The command with an option for each of the eight settings, which takes a whole number of 32 bits.
+/// The command with an option for each of the ten settings, which takes a whole number of 32 bits.
 pub(crate) fn with_settings<'a>(
     heap: Global,
     command: Command<'a>,
@@ -71,11 +73,23 @@ pub(crate) fn with_settings<'a>(
         "seed",
         "Seed of the positions, 1 to 2147483646; give a hill one of its own, 1 is known to all [default: 1]",
     )?;
-    with_option(
+    let capacity = with_option(
         heap,
         seed,
         "capacity",
         "Warriors on the hill at most, 1 to 20 [default: 20]",
+    )?;
+    let read_limit = with_option(
+        heap,
+        capacity,
+        "read-limit",
+        "Cells within which an operand reads, a divisor of the core, 0 for all of it [default: 0]",
+    )?;
+    with_option(
+        heap,
+        read_limit,
+        "write-limit",
+        "Cells within which an operand writes, a divisor of the core, 0 for all of it [default: 0]",
     )
 }
 
@@ -115,6 +129,8 @@ pub(crate) fn settings_given(matches: &ArgMatches<'_>) -> RawSettings
         rounds: number_given(matches, "rounds", DEFAULTS.rounds),
         seed: number_given(matches, "seed", DEFAULTS.seed),
         capacity: number_given(matches, "capacity", DEFAULTS.capacity),
+        read_limit: number_given(matches, "read-limit", DEFAULTS.read_limit),
+        write_limit: number_given(matches, "write-limit", DEFAULTS.write_limit),
     }
 }
 

@@ -6,6 +6,7 @@ use std::test::Fail;
 use war_types::{Instr, Mode, Modifier, Op, RawSettings, Settings};
 
 mod cleared;
+mod limits;
 mod modes;
 mod operations;
 mod rounds;

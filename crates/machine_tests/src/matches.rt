@@ -1,9 +1,9 @@
-use crate::warriors::{LARGEST, SMALL, back, die, imp, stay, warrior};
+use crate::warriors::{LARGEST, SMALL, back, dat, die, direct, imp, instr, stay, warrior};
 use koth_match::{fight, next_seed, position};
 use mars_core::Arena;
 use std::alloc::Global;
 use std::test::Fail;
-use war_types::{Instr, RawSettings, Settings};
+use war_types::{Instr, Mode, Modifier, Op, RawSettings, Settings};
 
 const USUAL: RawSettings = RawSettings {
     core: 8000,
@@ -14,6 +14,8 @@ const USUAL: RawSettings = RawSettings {
     rounds: 10,
     seed: 1,
     capacity: 20,
+    read_limit: 0,
+    write_limit: 0,
 };
 
 #[test]
@@ -48,9 +50,19 @@ fn positions(rt: HostRuntime) -> Result<(), Fail> {
 
 /// Older and younger wins, and ties, of two warriors of one instruction each.
 fn bout(alloc: Global, codes: [Instr; 2], raw: RawSettings) -> Result<(u16, u16, u16), Fail> {
+    bout_of(alloc, &[codes[0]], &[codes[1]], raw)
+}
+
+/// The same of two warriors that start at the first of their instructions.
+fn bout_of(
+    alloc: Global,
+    older: &[Instr],
+    younger: &[Instr],
+    raw: RawSettings,
+) -> Result<(u16, u16, u16), Fail> {
     let settings = Settings::new(raw)?;
-    let older = warrior(alloc, &[codes[0]], &settings)?;
-    let younger = warrior(alloc, &[codes[1]], &settings)?;
+    let older = warrior(alloc, older, &settings)?;
+    let younger = warrior(alloc, younger, &settings)?;
     let mut arena = Arena::new(alloc, &settings)?;
     let first = fight(&mut arena, &older, &younger, &settings);
     let again = fight(&mut arena, &older, &younger, &settings);
@@ -91,6 +103,61 @@ fn largest_matches(rt: HostRuntime) -> Result<(), Fail> {
     ];
     for (codes, due) in rows {
         assert_eq!(rt; bout(rt.alloc(), codes, LARGEST)?, due, "{codes:?}");
+    }
+    Ok(())
+}
+
+/// A warrior that drops a bomb on each fourth cell, against one that stays where it is, 32 cells ahead of it: without limits the seventh
+/// bomb, at 4 + 7 * 4, hits. Counted by hand from the draft's text: the bombs fall 2 + 4k cells ahead of the `MOV` at 2, for k from 1 on.
+/// A write limit of 32 folds them to 8, 12, 16, 52, 56, 60, 0, 4, and one of 16 to 8, 60, 0, 4, over and over.
+/// A read limit of 16 changes nothing. One of 2 lets `ADD #4, 3` add to the number of the `MOV`, so each bomb falls at 10.
+#[test]
+fn matches_under_limits(rt: HostRuntime) -> Result<(), Fail> {
+    let dropping = [
+        direct(Op::Jmp, Modifier::B, 1, 0),
+        instr(Op::Add, Modifier::AB, Mode::Immediate, 4, Mode::Direct, 3),
+        instr(Op::Mov, Modifier::I, Mode::Direct, 2, Mode::BIndirect, 2),
+        direct(Op::Jmp, Modifier::B, 62, 0),
+        dat(0, 0),
+    ];
+    let rows = [
+        (0, 0, (2, 0, 0)),
+        (64, 64, (2, 0, 0)),
+        (16, 64, (2, 0, 0)),
+        (64, 32, (0, 0, 2)),
+        (64, 16, (0, 0, 2)),
+        (2, 64, (0, 0, 2)),
+        (16, 16, (0, 0, 2)),
+    ];
+    for (read_limit, write_limit, due) in rows {
+        let raw = RawSettings {
+            distance: 32,
+            read_limit,
+            write_limit,
+            ..SMALL
+        };
+        assert_eq!(rt;
+            bout_of(rt.alloc(), &dropping, &[stay()], raw)?,
+            due,
+            "{read_limit} {write_limit}"
+        );
+    }
+    Ok(())
+}
+
+/// An imp needs a write limit of 2: within 1 it copies itself onto itself, and its next process meets an empty cell.
+#[test]
+fn an_imp_under_limits(rt: HostRuntime) -> Result<(), Fail> {
+    for (write_limit, due) in [(1, (0, 2, 0)), (2, (0, 0, 2)), (64, (0, 0, 2))] {
+        let raw = RawSettings {
+            write_limit,
+            ..SMALL
+        };
+        assert_eq!(rt;
+            bout(rt.alloc(), [imp(), stay()], raw)?,
+            due,
+            "{write_limit}"
+        );
     }
     Ok(())
 }

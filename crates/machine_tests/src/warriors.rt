@@ -16,6 +16,8 @@ pub const SMALL: RawSettings = RawSettings {
     rounds: 2,
     seed: 1,
     capacity: 2,
+    read_limit: 0,
+    write_limit: 0,
 };
 
 /// All that takes room at its most, and the most rounds; in each, one turn a side.
@@ -28,6 +30,8 @@ pub const LARGEST: RawSettings = RawSettings {
     rounds: 1000,
     seed: 1,
     capacity: 20,
+    read_limit: 0,
+    write_limit: 0,
 };
 
 pub fn instr(op: Op, modifier: Modifier, a_mode: Mode, a: u16, b_mode: Mode, b: u16) -> Instr {

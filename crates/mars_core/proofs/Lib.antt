@@ -3,3 +3,4 @@ pub mod Turns
 pub mod Marks
 pub mod Loads
 pub mod Words
+pub mod Reaches

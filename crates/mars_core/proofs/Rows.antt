@@ -17,7 +17,7 @@ use Rattle.mars_core.specs.Effect.{effect}
 use Rattle.mars_core.specs.Round.{Round, executed, side_turn, after_turn, after_turns, opening, outcome}
 
 abbrev small : RawSettings
-small = record { core = 64; cycles = 100; processes = 8; length = 10; distance = 10; rounds = 2; seed = 1; capacity = 2 }
+small = record { core = 64; cycles = 100; processes = 8; length = 10; distance = 10; rounds = 2; seed = 1; capacity = 2; read_limit = 64; write_limit = 64 }
 
 abbrev instr : Op → Modifier → Mode → ℕ → Mode → ℕ → Instr
 instr op modifier a_mode a b_mode b = record { op = op; modifier = modifier; a_mode = a_mode; a = a; b_mode = b_mode; b = b }
@@ -149,6 +149,45 @@ mov_predecrement = refl
 add_reads_b_late : gives ((instr ops.Add modifiers.B modes.BPost 0 modes.Immediate 5) ∷ []) ((instr ops.Add modifiers.B modes.BPost 0 modes.Immediate 6) ∷ []) (1 ∷ [])
 unfolding operand effect executed side_turn after_turn
 add_reads_b_late = refl
+
+-- ---- under limits: reading within 16 cells, writing within 8
+
+abbrev limited : RawSettings
+limited = record small { read_limit = 16; write_limit = 8 }
+
+abbrev gives_within : List Instr → List Instr → List ℕ → Type 0
+gives_within cells left queue = after_turn (record (before cells) { settings = limited }) ≡ record (after (core_of left) queue) { settings = limited }
+
+-- cells from 0, one at 61, and none else
+abbrev and_61 : List Instr → Instr → List Instr
+and_61 cells last = cells ++ replicate (61 - length cells) blank ++ last ∷ []
+
+-- MOV.I $20,$5; DAT.F $0,$0; DAT.F $0,$0; DAT.F $0,$0; DAT.F $7,$9
+mov_folded : gives_within ((instr ops.Mov modifiers.I modes.Direct 20 modes.Direct 5) ∷ blank ∷ blank ∷ blank ∷ dat 7 9 ∷ []) (and_61 ((instr ops.Mov modifiers.I modes.Direct 20 modes.Direct 5) ∷ blank ∷ blank ∷ blank ∷ dat 7 9 ∷ []) (dat 7 9)) (1 ∷ [])
+unfolding operand effect executed side_turn after_turn
+mov_folded = refl
+
+-- JMP.B $12,$0
+jmp_behind : gives_within ((instr ops.Jmp modifiers.B modes.Direct 12 modes.Direct 0) ∷ []) ((instr ops.Jmp modifiers.B modes.Direct 12 modes.Direct 0) ∷ []) (60 ∷ [])
+unfolding operand effect executed side_turn after_turn
+jmp_behind = refl
+
+-- JMP.B $8,$0
+jmp_ahead : gives_within ((instr ops.Jmp modifiers.B modes.Direct 8 modes.Direct 0) ∷ []) ((instr ops.Jmp modifiers.B modes.Direct 8 modes.Direct 0) ∷ []) (8 ∷ [])
+unfolding operand effect executed side_turn after_turn
+jmp_ahead = refl
+
+-- MOV.I <5,$1; four times DAT.F $0,$0; DAT.F $3,$0
+predecrement_folded : gives_within ((instr ops.Mov modifiers.I modes.BPre 5 modes.Direct 1) ∷ blank ∷ blank ∷ blank ∷ blank ∷ dat 3 0 ∷ [])
+    (and_61 ((instr ops.Mov modifiers.I modes.BPre 5 modes.Direct 1) ∷ dat 3 0 ∷ blank ∷ blank ∷ blank ∷ dat 3 0 ∷ []) (dat 0 63)) (1 ∷ [])
+unfolding operand effect executed side_turn after_turn
+predecrement_folded = refl
+
+-- DJN.B $3,$5; four times DAT.F $0,$0; DAT.F $0,$1
+djn_folded : gives_within ((instr ops.Djn modifiers.B modes.Direct 3 modes.Direct 5) ∷ blank ∷ blank ∷ blank ∷ blank ∷ dat 0 1 ∷ [])
+    (and_61 ((instr ops.Djn modifiers.B modes.Direct 3 modes.Direct 5) ∷ blank ∷ blank ∷ blank ∷ blank ∷ dat 0 1 ∷ []) (dat 0 63)) (1 ∷ [])
+unfolding operand effect executed side_turn after_turn
+djn_folded = refl
 
 abbrev warrior_of : Instr → WarriorParts
 warrior_of i = warrior_parts (i ∷ []) 0 [] []

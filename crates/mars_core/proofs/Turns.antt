@@ -8,9 +8,10 @@ use Rattle.war_types.specs.declared.settings.RawSettings.{RawSettings}
 use Rattle.mars_core.specs.declared.round.Side.{Side}
 use Rattle.mars_core.specs.declared.round.Side.TheVariants as sides
 use Rattle.mars_core.specs.declared.round.Turned.TheVariants as turneds
+use Rattle.mars_core.specs.Operand.{Reach}
 use Rattle.mars_core.specs.Effect.{Effect, queues}
 use Rattle.mars_core.specs.Queue.{Processes, processes, queued, front, behind_front}
-use Rattle.mars_core.specs.Round.{Round, SideTurn, executed, is_empty, is_over, turn_of, turned_by, after_side, side_turn, side_turned, after_turn, turned, after_turns, IsQueue}
+use Rattle.mars_core.specs.Round.{Round, SideTurn, executed, reach_of, is_empty, is_over, turn_of, turned_by, after_side, side_turn, side_turned, after_turn, turned, after_turns, IsQueue}
 use Rattle.mars_core.specs.Arena.{round_in}
 use Rattle.mars_core.specs.Code.{other}
 
@@ -139,22 +140,22 @@ after_turn-on : (r : Round) (t : SideTurn) → is_over r ≡ false → turn_of r
 unfolding after_turn
 after_turn-on r t o e = rw o (sym (ap (λ x. after_side r.to_move x.core x.queue r) e))
 
-side_turn-front : (size limit pc : ℕ) (core core' : List Instr) (queue more : List ℕ) → front queue ≡ Some pc → executed size core pc ≡ queues core' more →
-    side_turn size limit core queue ≡ side_turned core' (take limit (behind_front queue ++ more)) (turned_by more)
+side_turn-front : (reach : Reach) (limit pc : ℕ) (core core' : List Instr) (queue more : List ℕ) → front queue ≡ Some pc → executed reach core pc ≡ queues core' more →
+    side_turn reach limit core queue ≡ side_turned core' (take limit (behind_front queue ++ more)) (turned_by more)
 unfolding side_turn
-side_turn-front size limit pc core core' [] more f e = cc
-side_turn-front size limit pc core core' (x ∷ rest) more f e =
+side_turn-front reach limit pc core core' [] more f e = cc
+side_turn-front reach limit pc core core' (x ∷ rest) more f e =
     let same : x ≡ pc = cc in
-    ap (λ (done : Effect). side_turned done.core (take limit (rest ++ done.queued)) (turned_by done.queued)) (ap (executed size core) same ∙ e)
+    ap (λ (done : Effect). side_turned done.core (take limit (rest ++ done.queued)) (turned_by done.queued)) (ap (executed reach core) same ∙ e)
 
 -- the turn of the side to move, by the front of its queue
-turn_of-front : (m : Side) (s : RawSettings) (size pc used : ℕ) (core core' : List Instr) (first second : Processes) (more : List ℕ) → s.core ≡ size → s.processes ≡ first.limit → s.processes ≡ second.limit →
-    front (queue_at m first second).addresses ≡ Some pc → executed size core pc ≡ queues core' more →
+turn_of-front : (m : Side) (s : RawSettings) (reach : Reach) (pc used : ℕ) (core core' : List Instr) (first second : Processes) (more : List ℕ) → reach_of s ≡ reach → s.processes ≡ first.limit → s.processes ≡ second.limit →
+    front (queue_at m first second).addresses ≡ Some pc → executed reach core pc ≡ queues core' more →
     turn_of (round_in s core first.addresses second.addresses m used) ≡ side_turned core' (queued (without_front (queue_at m first second)) more).addresses (turned_by more)
-turn_of-front sides.First s size pc used core core' first second more z l1 l2 f e =
-    ap₂ (λ (a b : ℕ). side_turn a b core first.addresses) z l1 ∙ side_turn-front size first.limit pc core core' first.addresses more f e
-turn_of-front sides.Second s size pc used core core' first second more z l1 l2 f e =
-    ap₂ (λ (a b : ℕ). side_turn a b core second.addresses) z l2 ∙ side_turn-front size second.limit pc core core' second.addresses more f e
+turn_of-front sides.First s reach pc used core core' first second more z l1 l2 f e =
+    ap₂ (λ (a : Reach) (b : ℕ). side_turn a b core first.addresses) z l1 ∙ side_turn-front reach first.limit pc core core' first.addresses more f e
+turn_of-front sides.Second s reach pc used core core' first second more z l1 l2 f e =
+    ap₂ (λ (a : Reach) (b : ℕ). side_turn a b core second.addresses) z l2 ∙ side_turn-front reach second.limit pc core core' second.addresses more f e
 
 after_side-queues : (m : Side) (s : RawSettings) (used : ℕ) (core core' : List Instr) (more : List ℕ) (first second first' second' : Processes) → AreQueuesAfter m more first second first' second' →
     after_side m core' (queued (without_front (queue_at m first second)) more).addresses (round_in s core first.addresses second.addresses m used) ≡ round_in s core' first'.addresses second'.addresses (other m) (used + 1)
@@ -168,21 +169,21 @@ unfolding after_turns
 after_turns-suc m n r e = rw e refl
 
 -- one turn of two sides that have processes
-module _ (m : Side) (s : RawSettings) (size pc : ℕ) (core core' : List Instr) (first second first' second' : Processes) (more : List ℕ)
-    (z : s.core ≡ size) (l1 : s.processes ≡ first.limit) (l2 : s.processes ≡ second.limit) (lives1 : is_empty first.addresses ≡ false) (lives2 : is_empty second.addresses ≡ false)
-    (at_front : front (queue_at m first second).addresses ≡ Some pc) (done : executed size core pc ≡ queues core' more) (after : AreQueuesAfter m more first second first' second') where
+module _ (m : Side) (s : RawSettings) (reach : Reach) (pc : ℕ) (core core' : List Instr) (first second first' second' : Processes) (more : List ℕ)
+    (z : reach_of s ≡ reach) (l1 : s.processes ≡ first.limit) (l2 : s.processes ≡ second.limit) (lives1 : is_empty first.addresses ≡ false) (lives2 : is_empty second.addresses ≡ false)
+    (at_front : front (queue_at m first second).addresses ≡ Some pc) (done : executed reach core pc ≡ queues core' more) (after : AreQueuesAfter m more first second first' second') where
   goes-on : (used : ℕ) → used < 2 * s.cycles → is_over (round_in s core first.addresses second.addresses m used) ≡ false
   goes-on used h = is_over-no (is_empty first.addresses) (is_empty second.addresses) (2 * s.cycles) used lives1 lives2 h
 
   pub turned-made : (used : ℕ) → used < 2 * s.cycles → turned_by more ≡ turned (round_in s core first.addresses second.addresses m used)
   turned-made used h =
       turned-on (round_in s core first.addresses second.addresses m used) (side_turned core' (queued (without_front (queue_at m first second)) more).addresses (turned_by more))
-      (goes-on used h) (turn_of-front m s size pc used core core' first second more z l1 l2 at_front done)
+      (goes-on used h) (turn_of-front m s reach pc used core core' first second more z l1 l2 at_front done)
 
   after_turn-made : (used : ℕ) → used < 2 * s.cycles → after_turn (round_in s core first.addresses second.addresses m used) ≡ round_in s core' first'.addresses second'.addresses (other m) (used + 1)
   after_turn-made used h =
       sym (after_turn-on (round_in s core first.addresses second.addresses m used) (side_turned core' (queued (without_front (queue_at m first second)) more).addresses (turned_by more))
-      (goes-on used h) (turn_of-front m s size pc used core core' first second more z l1 l2 at_front done))
+      (goes-on used h) (turn_of-front m s reach pc used core core' first second more z l1 l2 at_front done))
       ∙ after_side-queues m s used core core' more first second first' second' after
 
   -- it is the first of those that are left

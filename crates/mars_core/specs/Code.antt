@@ -1,5 +1,5 @@
 -- Of the code alone: what its own values are in the words of the definitions. No definition names a word of this file.
-use Rattle.std.specs.Prelude.{ℕ, List, [], ◌∷◌}
+use Rattle.std.specs.Prelude.{ℕ, ◌≤◌, List, [], ◌∷◌}
 use Rattle.mars_core.specs.declared.field.Field as code_field
 use Rattle.mars_core.specs.declared.field.Field.TheVariants as fields
 use Rattle.mars_core.specs.declared.field.Pair as code_pair
@@ -8,6 +8,7 @@ use Rattle.mars_core.specs.declared.field.Paired.TheVariants as paireds
 use Rattle.mars_core.specs.declared.arithmetic.Arithmetic as code_arithmetic
 use Rattle.mars_core.specs.declared.arithmetic.Arithmetic.TheVariants as arithmetics
 use Rattle.mars_core.specs.declared.operand.Operand as code_operand
+use Rattle.mars_core.specs.declared.limits.Pointers as code_pointers
 use Rattle.mars_core.specs.declared.effect.Queued.{Queued}
 use Rattle.mars_core.specs.declared.effect.Queued.TheVariants as queueds
 use Rattle.mars_core.specs.declared.round.Side.{Side}
@@ -15,7 +16,8 @@ use Rattle.mars_core.specs.declared.round.Side.TheVariants as sides
 use Rattle.mars_core.specs.Cells.{Field}
 use Rattle.mars_core.specs.Pairs.{Pair}
 use Rattle.war_types.specs.declared.instr.Instr.{Instr}
-use Rattle.mars_core.specs.Operand.{Operand, operand}
+use Rattle.mars_core.specs.Operand.{Reach, Pointers, Operand, operand}
+use Rattle.mars_core.specs.Whole as whole
 use Rattle.mars_core.specs.Effect.{Arithmetic}
 
 abbrev pub field_of : code_field.Field → Field
@@ -38,7 +40,10 @@ arithmetic_of arithmetics.Quotient = Arithmetic.Quotient
 arithmetic_of arithmetics.Remainder = Arithmetic.Remainder
 
 abbrev pub operand_of : code_operand.Operand → Operand
-operand_of o = record { pointer = o.pointer; register = o.register.instr }
+operand_of o = record { pointer = o.pointer; target = o.target; register = o.register.instr }
+
+abbrev pub pointers_of : code_pointers.Pointers → Pointers
+pointers_of p = record { read = p.read; write = p.write }
 
 -- both operands of an instruction, and the core afterwards
 pub record Operands : Type 0 where
@@ -50,10 +55,16 @@ abbrev pub evaluated_both : Operand → Operand → List Instr → Operands
 evaluated_both a b core = record { a = a; b = b; core = core }
 
 -- A is evaluated, then B on the core that A left
-abbrev pub operands : ℕ → List Instr → ℕ → Instr → Operands
-operands size core pc i =
-    let a = operand size core pc i.a_mode i.a in
-    let b = operand size a.core pc i.b_mode i.b in
+abbrev pub operands : Reach → List Instr → ℕ → Instr → Operands
+operands reach core pc i =
+    let a = operand reach core pc i.a_mode i.a in
+    let b = operand reach a.core pc i.b_mode i.b in
+    evaluated_both a.operand b.operand b.core
+
+abbrev pub whole_operands : ℕ → List Instr → ℕ → Instr → Operands
+whole_operands size core pc i =
+    let a = whole.operand size core pc i.a_mode i.a in
+    let b = whole.operand size a.core pc i.b_mode i.b in
     evaluated_both a.operand b.operand b.core
 
 -- the addresses that it names one by one
@@ -65,3 +76,11 @@ addresses (queueds.Two a b) = a ∷ b ∷ []
 abbrev pub other : Side → Side
 other sides.First = sides.Second
 other sides.Second = sides.First
+
+-- limits that are within a core
+pub record IsReach (reach : Reach) : Type 0 where
+  pub size : reach.size ≤ 65535
+  pub read_least : 1 ≤ reach.read
+  pub read_most : reach.read ≤ reach.size
+  pub write_least : 1 ≤ reach.write
+  pub write_most : reach.write ≤ reach.size

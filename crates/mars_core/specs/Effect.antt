@@ -106,12 +106,12 @@ skip_where size pc test = plus size pc (if test then 2 else 1) ∷ []
 abbrev pub jump_where : ℕ → ℕ → Operand → Bool → List ℕ
 jump_where size pc a test = (if test then a.pointer else plus size pc 1) ∷ []
 
--- the cell that the B operand points to, and the core with another instruction there
+-- the cell that the B operand writes, and the core with another instruction there
 abbrev pub target : Operand → List Instr → Instr
-target b core = cell core b.pointer
+target b core = cell core b.target
 
 abbrev pub put : Operand → Instr → List Instr → List Instr
-put b i core = slice_set core b.pointer i
+put b i core = slice_set core b.target i
 
 -- the process ends where a pair has no value
 abbrev pub calculates : ℕ → ℕ → Arithmetic → Modifier → Operand → Operand → List Instr → Effect

@@ -3,6 +3,9 @@ pub mod Cells
 pub mod Pairs
 pub mod Operand
 pub mod Effect
+-- The same without limits, and that it is the same.
+pub mod Whole
+pub mod Laws
 -- Turns and rounds, and the round in an arena.
 pub mod Round
 pub mod Arena

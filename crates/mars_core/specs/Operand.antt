@@ -1,14 +1,46 @@
 -- The evaluation of an operand (the 1994 draft standard, "Instruction Execution"; the time of the B operand's copy is
 -- this project's own, for an immediate one too).
-use Rattle.std.specs.Prelude.{ℕ, List, slice_set}
+use Rattle.std.specs.Prelude.{ℕ, ◌+◌, ◌-◌, ◌/◌, ◌%◌, nat_lt, if◌then◌else◌, List, slice_set}
 use Rattle.war_types.specs.declared.instr.Mode.{Mode}
 use Rattle.war_types.specs.declared.instr.Mode.TheVariants as modes
 use Rattle.war_types.specs.declared.instr.Instr.{Instr}
 use Rattle.mars_core.specs.Cells.{Field, cell, number, plus, raised, lowered}
 
--- what an operand comes to: the address that it points to, and the instruction copied from there
+-- how many cells a core has, and within how many around its instruction an operand reads, and writes
+pub record Reach : Type 0 where
+  pub size : ℕ
+  pub read : ℕ
+  pub write : ℕ
+
+-- the draft's "Fold": a pointer within a limit leads half of it ahead, and the rest behind
+abbrev pub folded : ℕ → ℕ → ℕ → ℕ
+folded size limit pointer =
+    let rest = pointer % limit in
+    if nat_lt (limit / 2) rest then rest + (size - limit) else rest
+
+-- where an operand reads and where it writes, counted from its instruction
+pub record Pointers : Type 0 where
+  pub read : ℕ
+  pub write : ℕ
+
+abbrev pub pointers : ℕ → ℕ → Pointers
+pointers read write = record { read = read; write = write }
+
+-- a number as pointers
+abbrev pub pointed : Reach → ℕ → Pointers
+pointed reach n = pointers (folded reach.size reach.read n) (folded reach.size reach.write n)
+
+-- each pointer led on by a number of the cell that it leads to
+abbrev pub led_on : Reach → List Instr → ℕ → Field → Pointers → Pointers
+led_on reach core pc field p =
+    pointers
+    (folded reach.size reach.read (p.read + number field (cell core (plus reach.size pc p.read))))
+    (folded reach.size reach.write (p.write + number field (cell core (plus reach.size pc p.write))))
+
+-- what an operand comes to: the address that it reads, the one that it writes, and the instruction copied from the first
 pub record Operand : Type 0 where
   pub pointer : ℕ
+  pub target : ℕ
   pub register : Instr
 
 -- that, and the core afterwards
@@ -17,15 +49,14 @@ pub record Evaluated : Type 0 where
   pub core : List Instr
 
 -- the register is copied from the core as it stands
-abbrev pub found : List Instr → ℕ → Operand
-found core pointer = record { pointer = pointer; register = cell core pointer }
+abbrev pub found : ℕ → ℕ → List Instr → Operand
+found pointer target core = record { pointer = pointer; target = target; register = cell core pointer }
 
 abbrev pub evaluated : Operand → List Instr → Evaluated
 evaluated operand core = record { operand = operand; core = core }
 
--- from the cell at an address, on by one of that cell's numbers
-abbrev pub through : ℕ → List Instr → ℕ → Field → ℕ
-through size core at field = plus size at (number field (cell core at))
+abbrev pub found_from : Reach → List Instr → ℕ → Pointers → Operand
+found_from reach core pc p = found (plus reach.size pc p.read) (plus reach.size pc p.write) core
 
 -- the core with a number of the cell at an address raised, or lowered, by 1
 abbrev pub raised_at : ℕ → List Instr → ℕ → Field → List Instr
@@ -34,30 +65,31 @@ raised_at size core at field = slice_set core at (raised size field (cell core a
 abbrev pub lowered_at : ℕ → List Instr → ℕ → Field → List Instr
 lowered_at size core at field = slice_set core at (lowered size field (cell core at))
 
--- an indirect mode goes through the cell at an address
-abbrev pub indirect : ℕ → List Instr → ℕ → Field → Operand
-indirect size core at field = found core (through size core at field)
+-- an indirect mode goes through the cells that the pointers lead to
+abbrev pub indirect : Reach → List Instr → ℕ → Field → Pointers → Operand
+indirect reach core pc field p = found_from reach core pc (led_on reach core pc field p)
 
--- a predecrement lowers that cell's number before the pointer is taken
-abbrev pub predecremented : ℕ → List Instr → ℕ → Field → Evaluated
-predecremented size core at field =
-    let lower = lowered_at size core at field in
-    evaluated (indirect size lower at field) lower
+-- a predecrement lowers the number of the cell to be written through before the pointers are led on
+abbrev pub predecremented : Reach → List Instr → ℕ → Field → Pointers → Evaluated
+predecremented reach core pc field p =
+    let lower = lowered_at reach.size core (plus reach.size pc p.write) field in
+    evaluated (indirect reach lower pc field p) lower
 
 -- a postincrement raises it after the register is copied
-abbrev pub postincremented : ℕ → List Instr → ℕ → Field → Evaluated
-postincremented size core at field = evaluated (indirect size core at field) (raised_at size core at field)
+abbrev pub postincremented : Reach → List Instr → ℕ → Field → Pointers → Evaluated
+postincremented reach core pc field p =
+    evaluated (indirect reach core pc field p) (raised_at reach.size core (plus reach.size pc p.write) field)
 
--- the operand of a mode and a number in an instruction at pc, by the address that pc and the number make
-abbrev pub by_mode : ℕ → List Instr → ℕ → Mode → ℕ → Evaluated
-by_mode size core pc modes.Immediate at = evaluated (found core pc) core
-by_mode size core pc modes.Direct at = evaluated (found core at) core
-by_mode size core pc modes.AIndirect at = evaluated (indirect size core at Field.A) core
-by_mode size core pc modes.BIndirect at = evaluated (indirect size core at Field.B) core
-by_mode size core pc modes.APre at = predecremented size core at Field.A
-by_mode size core pc modes.BPre at = predecremented size core at Field.B
-by_mode size core pc modes.APost at = postincremented size core at Field.A
-by_mode size core pc modes.BPost at = postincremented size core at Field.B
+-- the operand of a mode in an instruction at pc, by the pointers that its number makes
+abbrev pub by_mode : Reach → List Instr → ℕ → Mode → Pointers → Evaluated
+by_mode reach core pc modes.Immediate p = evaluated (found_from reach core pc (pointers 0 0)) core
+by_mode reach core pc modes.Direct p = evaluated (found_from reach core pc p) core
+by_mode reach core pc modes.AIndirect p = evaluated (indirect reach core pc Field.A p) core
+by_mode reach core pc modes.BIndirect p = evaluated (indirect reach core pc Field.B p) core
+by_mode reach core pc modes.APre p = predecremented reach core pc Field.A p
+by_mode reach core pc modes.BPre p = predecremented reach core pc Field.B p
+by_mode reach core pc modes.APost p = postincremented reach core pc Field.A p
+by_mode reach core pc modes.BPost p = postincremented reach core pc Field.B p
 
-unfoldable pub operand : ℕ → List Instr → ℕ → Mode → ℕ → Evaluated
-operand size core pc mode number = by_mode size core pc mode (plus size pc number)
+unfoldable pub operand : Reach → List Instr → ℕ → Mode → ℕ → Evaluated
+operand reach core pc mode number = by_mode reach core pc mode (pointed reach number)

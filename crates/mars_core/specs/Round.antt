@@ -11,16 +11,16 @@ use Rattle.mars_core.specs.declared.round.Turned.TheVariants as turneds
 use Rattle.mars_core.specs.declared.round.Outcome.{Outcome}
 use Rattle.mars_core.specs.declared.round.Outcome.TheVariants as outcomes
 use Rattle.mars_core.specs.Cells.{IsCore, blank, cell}
-use Rattle.mars_core.specs.Operand.{operand}
+use Rattle.mars_core.specs.Operand.{Reach, operand}
 use Rattle.mars_core.specs.Effect.{Effect, effect}
 
 -- the process at pc: its instruction is copied, A is evaluated, then B on the core that A left, then the operation
-unfoldable pub executed : ℕ → List Instr → ℕ → Effect
-executed size core pc =
+unfoldable pub executed : Reach → List Instr → ℕ → Effect
+executed reach core pc =
     let i = cell core pc in
-    let a = operand size core pc i.a_mode i.a in
-    let b = operand size a.core pc i.b_mode i.b in
-    effect size pc i.op i.modifier a.operand b.operand b.core
+    let a = operand reach core pc i.a_mode i.a in
+    let b = operand reach a.core pc i.b_mode i.b in
+    effect reach.size pc i.op i.modifier a.operand b.operand b.core
 
 -- a round under its settings: the core, each side's queue, the side to move, the turns used
 pub record Round : Type 0 where
@@ -65,15 +65,19 @@ abbrev pub side_turned : List Instr → List ℕ → Turned → SideTurn
 side_turned core queue turned = record { core = core; queue = queue; turned = turned }
 
 -- the front process is taken and executed, and what it queues goes behind the others as far as there is room
-unfoldable pub side_turn : ℕ → ℕ → List Instr → List ℕ → SideTurn
-side_turn size limit core [] = side_turned core [] turneds.Over
-side_turn size limit core (pc ∷ rest) =
-    let done = executed size core pc in
+unfoldable pub side_turn : Reach → ℕ → List Instr → List ℕ → SideTurn
+side_turn reach limit core [] = side_turned core [] turneds.Over
+side_turn reach limit core (pc ∷ rest) =
+    let done = executed reach core pc in
     side_turned done.core (take limit (rest ++ done.queued)) (turned_by done.queued)
+
+-- how far operands reach under settings
+abbrev pub reach_of : RawSettings → Reach
+reach_of s = record { size = s.core; read = s.read_limit; write = s.write_limit }
 
 -- the turn of the side to move
 abbrev pub turn_of : Round → SideTurn
-turn_of r = side_turn r.settings.core r.settings.processes r.core (queue_of r.to_move r)
+turn_of r = side_turn (reach_of r.settings) r.settings.processes r.core (queue_of r.to_move r)
 
 -- one turn; once the round is over nothing changes
 unfoldable pub after_turn : Round → Round

@@ -1,9 +1,10 @@
 //! The arena in which rounds are played.
 
 ghost use Rattle.std.specs.Prelude.{◌≡◌, ◌+◌, ◌-◌, ◌*◌, ◌≤◌, Bool, true, false, Option, length, slice_get, IfOk};
-ghost use Rattle.mars_core.specs.Round.{is_empty, is_over, queue_of, after_turn, turned, after_turns, outcome, fresh, opening, IsRound, CanBegin};
+ghost use Rattle.mars_core.specs.Round.{is_empty, is_over, queue_of, reach_of, after_turn, turned, after_turns, outcome, fresh, opening, IsRound, CanBegin};
 
 use crate::cells::Core;
+use crate::limits::{Limits, Whole, Within};
 use crate::load::load;
 use crate::queue::Queue;
 use crate::round::{Outcome, Side, Turned};
@@ -118,9 +119,29 @@ impl<A: Allocator> Arena<A> {
         ensures round { IsRound self.new }
     {
         let size = Size::of(self.settings.core());
+        let (read, write) = (self.settings.read_limit(), self.settings.write_limit());
+        if read == self.settings.core() && write == self.settings.core() {
+            self.turns_under(Whole { size }, most)
+        } else {
+            self.turns_under(Within::of(size, read, write), most)
+        }
+    }
+
+    /// Makes them under the settings' limits. Each kind of limits has its loop in a function of its own: as one function, the two loops would share the
+    /// processor's registers.
+    #[inline(never)]
+    fn turns_under<L: Limits>(&mut self, limits: L, most: u32) -> Turned
+        requires on { is_over self.old ≡ false }
+        requires most { self.old.used + most ≤ 2 * self.old.settings.cycles }
+        requires limits { reach_of self.old.settings ≡ L.reach limits }
+        ensures after { self.new ≡ after_turns most self.old }
+        ensures last { most ≡ 1 → result ≡ turned self.old }
+        ensures round { IsRound self.new }
+    {
         let played = turns(
             &mut self.core,
-            size,
+            Size::of(self.settings.core()),
+            limits,
             &mut self.first,
             &mut self.second,
             self.to_move,

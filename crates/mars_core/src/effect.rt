@@ -5,13 +5,14 @@ ghost use Rattle.war_types.specs.Warrior.{HasNumbersBelow};
 ghost use Rattle.mars_core.specs.Cells.{IsCore};
 ghost use Rattle.mars_core.specs.Round.{executed};
 ghost use Rattle.mars_core.specs.Effect.{queues, effect, skip_where, jump_where, calculates, put, target};
-ghost use Rattle.mars_core.specs.Code.{addresses, arithmetic_of, evaluated_both, operand_of, operands};
+ghost use Rattle.mars_core.specs.Code.{addresses, arithmetic_of, operand_of};
 
 use crate::arithmetic::Arithmetic;
 use crate::cells::Core;
 use crate::copying::copy_to;
 use crate::field::Field;
-use crate::operand::{Operand, evaluate, plain};
+use crate::limits::Limits;
+use crate::operand::Operand;
 use crate::registers::{all_lowered, are_equal, are_less, are_zero, calculated, fall_to_zero};
 use crate::size::Size;
 use crate::word::Word;
@@ -28,52 +29,35 @@ pub(crate) enum Queued {
     Two(u32, u32),
 }
 
-/// Executes the instruction at `pc` in a core of so many cells: A is evaluated wholly before B.
+/// Executes the instruction at `pc` in a core of so many cells, of which operands reach so many: A is evaluated wholly before B.
 #[inline(always)]
 #[tactic(auto, unfolding(crate::specs::Round::executed))]
-pub(crate) fn execute<A: Allocator>(core: &mut Core<A>, size: Size, pc: u32) -> Queued
+pub(crate) fn execute<L: Limits, A: Allocator>(
+    core: &mut Core<A>,
+    size: Size,
+    limits: L,
+    pc: u32,
+) -> Queued
     requires wide { 2 ≤ size }
+    requires size { (L.reach limits).size ≡ size }
     requires core { IsCore size core.old }
     requires pc { pc < size }
-    ensures value { executed size core.old pc ≡ queues core.new (addresses result) }
+    ensures value { executed (L.reach limits) core.old pc ≡ queues core.new (addresses result) }
     ensures core { IsCore size core.new }
     ensures addresses { All (λ a. a < size) (addresses result) }
 {
     let i = core.cell(size, pc);
-    let (a, b) = operands(core, size, pc, i);
-    effect(core, size, pc, i, a, b)
-}
-
-/// Evaluates the operands of an instruction that stands at `pc`.
-#[inline(always)]
-fn operands<A: Allocator>(core: &mut Core<A>, size: Size, pc: u32, i: Word) -> (Operand, Operand)
-    requires core { IsCore size core.old }
-    requires pc { pc < size }
-    requires numbers { HasNumbersBelow size i.instr }
-    ensures value { operands size core.old pc i.instr ≡ evaluated_both (operand_of result.0) (operand_of result.1) core.new }
-    ensures core { IsCore size core.new }
-    ensures a { result.0.pointer < size }
-    ensures a_numbers { HasNumbersBelow size result.0.register.instr }
-    ensures b { result.1.pointer < size }
-    ensures b_numbers { HasNumbersBelow size result.1.register.instr }
-{
-    if i.is_plain() {
-        let a = plain(core, size, pc, i.a_mode(), i.number(Field::A));
-        let b = plain(core, size, pc, i.b_mode(), i.number(Field::B));
-        (a, b)
-    } else {
-        let a = evaluate(core, size, pc, i.a_mode(), i.number(Field::A));
-        let b = evaluate(core, size, pc, i.b_mode(), i.number(Field::B));
-        (a, b)
-    }
+    let (a, b) = limits.operands(core, size, pc, i);
+    effect(core, size, limits, pc, i, a, b)
 }
 
 /// Executes an instruction that stands at `pc`, once its operands are evaluated, in a core of so many cells.
 #[inline(always)]
 #[tactic(auto, unfolding(crate::specs::Effect::effect))]
-fn effect<A: Allocator>(
+fn effect<L: Limits, A: Allocator>(
     core: &mut Core<A>,
     size: Size,
+    _limits: L,
     pc: u32,
     i: Word,
     a: Operand,
@@ -84,7 +68,7 @@ fn effect<A: Allocator>(
     requires pc { pc < size }
     requires a { a.pointer < size }
     requires a_numbers { HasNumbersBelow size a.register.instr }
-    requires b { b.pointer < size }
+    requires b { b.target < size }
     requires b_numbers { HasNumbersBelow size b.register.instr }
     ensures value { effect size pc i.instr.op i.instr.modifier (operand_of a) (operand_of b) core.old ≡ queues core.new (addresses result) }
     ensures core { IsCore size core.new }
@@ -94,7 +78,7 @@ fn effect<A: Allocator>(
     match i.op() {
         Op::Dat => Queued::Nothing,
         Op::Mov => {
-            copy_to(core, size, i.modifier(), a.register, b.pointer);
+            copy_to(core, size, i.modifier(), a.register, b.target);
             Queued::One(next)
         }
         Op::Add => calculates(core, size, pc, Arithmetic::Sum, i.modifier(), a, b),
@@ -106,8 +90,8 @@ fn effect<A: Allocator>(
         Op::Jmz => jump_where(size, pc, a, are_zero(i.modifier(), b.register)),
         Op::Jmn => jump_where(size, pc, a, !are_zero(i.modifier(), b.register)),
         Op::Djn => {
-            let target = core.cell(size, b.pointer);
-            core.put(size, b.pointer, all_lowered(size, i.modifier(), target));
+            let target = core.cell(size, b.target);
+            core.put(size, b.target, all_lowered(size, i.modifier(), target));
             jump_where(size, pc, a, !fall_to_zero(size, i.modifier(), b.register))
         }
         Op::Seq => skip_where(size, pc, are_equal(i.modifier(), a.register, b.register)),
@@ -132,15 +116,15 @@ fn calculates<A: Allocator>(
     requires core { IsCore size core.old }
     requires pc { pc < size }
     requires a_numbers { HasNumbersBelow size a.register.instr }
-    requires b { b.pointer < size }
+    requires b { b.target < size }
     requires b_numbers { HasNumbersBelow size b.register.instr }
     ensures value { calculates size pc (arithmetic_of arithmetic) modifier (operand_of a) (operand_of b) core.old ≡ queues core.new (addresses result) }
     ensures core { IsCore size core.new }
     ensures addresses { All (λ a. a < size) (addresses result) }
 {
-    let target = core.cell(size, b.pointer);
+    let target = core.cell(size, b.target);
     let (target, all) = calculated(size, arithmetic, modifier, a.register, b.register, target);
-    core.put(size, b.pointer, target);
+    core.put(size, b.target, target);
     if all {
         Queued::One(size.plus(pc, 1))
     } else {

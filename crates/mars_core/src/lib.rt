@@ -7,6 +7,8 @@ mod cells;
 mod copying;
 mod effect;
 mod field;
+mod laws;
+mod limits;
 mod load;
 mod operand;
 mod queue;
@@ -17,4 +19,5 @@ mod turn;
 mod word;
 
 pub use arena::Arena;
+pub use laws::laws_of_limits;
 pub use round::{Outcome, Side, Turned};

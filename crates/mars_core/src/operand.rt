@@ -1,10 +1,11 @@
-//! The evaluation of operands.
+//! The evaluation of operands where there are no limits.
 
 ghost use Rattle.std.specs.Prelude.{◌≡◌, ◌<◌, true};
 ghost use Rattle.war_types.specs.Warrior.{HasNumbersBelow};
 ghost use Rattle.mars_core.specs.Cells.{IsCore};
-ghost use Rattle.mars_core.specs.Operand.{evaluated, found, through, indirect, predecremented, postincremented, operand};
-ghost use Rattle.mars_core.specs.Code.{field_of, operand_of};
+ghost use Rattle.mars_core.specs.Operand.{evaluated};
+ghost use Rattle.mars_core.specs.Whole.{found, through, indirect, predecremented, postincremented, operand};
+ghost use Rattle.mars_core.specs.Code.{field_of, operand_of, evaluated_both, whole_operands};
 ghost use Rattle.mars_core.specs.Words.{is_plain};
 
 use crate::cells::Core;
@@ -17,16 +18,18 @@ use war_types::Mode;
 /// What an operand comes to.
 #[derive(Clone, Copy, Debug)]
 pub(crate) struct Operand {
-    /// The address that it points to.
+    /// The address that it reads.
     pub(crate) pointer: u32,
-    /// A copy of the instruction there, as it was when the operand was evaluated.
+    /// The address that it writes.
+    pub(crate) target: u32,
+    /// A copy of the instruction that it reads, as it was when the operand was evaluated.
     pub(crate) register: Word,
 }
 
 /// The operand of this mode and number in the instruction at `pc`, in a core of so many cells. An indirect mode
 /// may raise or lower a number of the cell that it goes through.
 #[inline(always)]
-#[tactic(auto, unfolding(crate::specs::Operand::operand))]
+#[tactic(auto, unfolding(crate::specs::Whole::operand))]
 pub(crate) fn evaluate<A: Allocator>(
     core: &mut Core<A>,
     size: Size,
@@ -40,6 +43,7 @@ pub(crate) fn evaluate<A: Allocator>(
     ensures value { operand size core.old pc mode number ≡ evaluated (operand_of result) core.new }
     ensures core { IsCore size core.new }
     ensures pointer { result.pointer < size }
+    ensures target { result.target < size }
     ensures register { HasNumbersBelow size result.register.instr }
 {
     let at = size.plus(pc, number);
@@ -57,7 +61,7 @@ pub(crate) fn evaluate<A: Allocator>(
 
 /// The operand of a mode that is immediate or direct.
 #[inline(always)]
-#[tactic(auto, unfolding(crate::specs::Operand::operand))]
+#[tactic(auto, unfolding(crate::specs::Whole::operand))]
 pub(crate) fn plain<A: Allocator>(
     core: &Core<A>,
     size: Size,
@@ -71,6 +75,7 @@ pub(crate) fn plain<A: Allocator>(
     requires plain { is_plain mode ≡ true }
     ensures value { operand size core.now pc mode number ≡ evaluated (operand_of result) core.now }
     ensures pointer { result.pointer < size }
+    ensures target { result.target < size }
     ensures register { HasNumbersBelow size result.register.instr }
 {
     let offset = match mode {
@@ -86,10 +91,12 @@ fn found<A: Allocator>(core: &Core<A>, size: Size, pointer: u32) -> Operand
     requires pointer { pointer < size }
     ensures value { operand_of result ≡ found core.now pointer }
     ensures pointer { result.pointer < size }
+    ensures target { result.target < size }
     ensures register { HasNumbersBelow size result.register.instr }
 {
     Operand {
         pointer,
+        target: pointer,
         register: core.cell(size, pointer),
     }
 }
@@ -101,6 +108,7 @@ fn indirect<A: Allocator>(core: &Core<A>, size: Size, at: u32, field: Field) -> 
     requires address { at < size }
     ensures value { operand_of result ≡ indirect size core.now at (field_of field) }
     ensures pointer { result.pointer < size }
+    ensures target { result.target < size }
     ensures register { HasNumbersBelow size result.register.instr }
 {
     let through = core.cell(size, at);
@@ -114,6 +122,7 @@ fn predecremented<A: Allocator>(core: &mut Core<A>, size: Size, at: u32, field: 
     ensures value { predecremented size core.old at (field_of field) ≡ evaluated (operand_of result) core.new }
     ensures core { IsCore size core.new }
     ensures pointer { result.pointer < size }
+    ensures target { result.target < size }
     ensures register { HasNumbersBelow size result.register.instr }
 {
     let lowered = size.minus(core.cell(size, at).number(field), 1);
@@ -128,10 +137,40 @@ fn postincremented<A: Allocator>(core: &mut Core<A>, size: Size, at: u32, field:
     ensures value { postincremented size core.old at (field_of field) ≡ evaluated (operand_of result) core.new }
     ensures core { IsCore size core.new }
     ensures pointer { result.pointer < size }
+    ensures target { result.target < size }
     ensures register { HasNumbersBelow size result.register.instr }
 {
     let operand = indirect(core, size, at, field);
     let raised = size.plus(core.cell(size, at).number(field), 1);
     core.put_number(size, at, field, raised);
     operand
+}
+
+/// Evaluates the operands of an instruction that stands at `pc`: A wholly before B.
+#[inline(always)]
+pub(crate) fn whole_operands<A: Allocator>(
+    core: &mut Core<A>,
+    size: Size,
+    pc: u32,
+    i: Word,
+) -> (Operand, Operand)
+    requires core { IsCore size core.old }
+    requires pc { pc < size }
+    requires numbers { HasNumbersBelow size i.instr }
+    ensures value { whole_operands size core.old pc i.instr ≡ evaluated_both (operand_of result.0) (operand_of result.1) core.new }
+    ensures core { IsCore size core.new }
+    ensures a { result.0.pointer < size }
+    ensures a_numbers { HasNumbersBelow size result.0.register.instr }
+    ensures b { result.1.target < size }
+    ensures b_numbers { HasNumbersBelow size result.1.register.instr }
+{
+    if i.is_plain() {
+        let a = plain(core, size, pc, i.a_mode(), i.number(Field::A));
+        let b = plain(core, size, pc, i.b_mode(), i.number(Field::B));
+        (a, b)
+    } else {
+        let a = evaluate(core, size, pc, i.a_mode(), i.number(Field::A));
+        let b = evaluate(core, size, pc, i.b_mode(), i.number(Field::B));
+        (a, b)
+    }
 }

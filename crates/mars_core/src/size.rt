@@ -2,6 +2,7 @@
 
 ghost use Rattle.std.specs.Prelude.{◌≡◌, ◌<◌, ◌≤◌, IfSome};
 ghost use Rattle.mars_core.specs.Cells.{plus, minus};
+ghost use Rattle.mars_core.specs.Operand.{folded};
 ghost use Rattle.mars_core.specs.Effect.{combined};
 ghost use Rattle.mars_core.specs.Code.{arithmetic_of};
 
@@ -77,6 +78,22 @@ impl Size {
             Arithmetic::Product => Some(y * x % self.cells),
             Arithmetic::Quotient => y.checked_div(x),
             Arithmetic::Remainder => y.checked_rem(x),
+        }
+    }
+
+    /// A pointer within a limit: it leads half of the limit ahead, and the rest behind.
+    #[inline(always)]
+    pub(crate) fn folded(self, limit: u32, pointer: u32) -> u32
+        requires least { 1 ≤ limit }
+        requires most { limit ≤ self }
+        ensures value { result ≡ folded self limit pointer }
+        ensures below { result < self }
+    {
+        let rest = pointer % limit;
+        if rest > limit / 2 {
+            rest + (self.cells - limit)
+        } else {
+            rest
         }
     }
 }

@@ -3,12 +3,13 @@
 ghost use Rattle.std.specs.Prelude.{◌≡◌, ℕ, ◌+◌, ◌-◌, ◌*◌, ◌≤◌, false};
 ghost use Rattle.war_types.specs.declared.settings.RawSettings.{RawSettings};
 ghost use Rattle.mars_core.specs.Cells.{IsCore};
-ghost use Rattle.mars_core.specs.Round.{after_turns, is_empty, turned, IsQueue};
+ghost use Rattle.mars_core.specs.Round.{after_turns, is_empty, reach_of, turned, IsQueue};
 ghost use Rattle.mars_core.specs.Arena.{round_in};
 ghost use Rattle.mars_core.specs.Code.{other};
 
 use crate::cells::Core;
 use crate::effect::{Queued, execute};
+use crate::limits::Limits;
 use crate::queue::Queue;
 use crate::round::{Side, Turned};
 use crate::size::Size;
@@ -38,15 +39,17 @@ impl Side {
 }
 
 /// Makes so many turns of two sides that have processes, in turn, or fewer where one of them has none left.
-pub(crate) fn turns<A: Allocator>(
+pub(crate) fn turns<L: Limits, A: Allocator>(
     core: &mut Core<A>,
     size: Size,
+    limits: L,
     first: &mut Queue<A>,
     second: &mut Queue<A>,
     to_move: Side,
     most: u32,
 ) -> Played
     requires wide { 2 ≤ size }
+    requires size { (L.reach limits).size ≡ size }
     requires core { IsCore size core.old }
     requires first { IsQueue size first.old.limit first.old.addresses }
     requires second { IsQueue size second.old.limit second.old.addresses }
@@ -58,11 +61,11 @@ pub(crate) fn turns<A: Allocator>(
     ensures first_limit { first.new.limit ≡ first.old.limit }
     ensures second_limit { second.new.limit ≡ second.old.limit }
     ensures left { result.left ≤ most }
-    ensures after { (s : RawSettings) (used : ℕ) → s.core ≡ size → s.processes ≡ first.old.limit → s.processes ≡ second.old.limit
+    ensures after { (s : RawSettings) (used : ℕ) → reach_of s ≡ L.reach limits → s.processes ≡ first.old.limit → s.processes ≡ second.old.limit
         → used + most ≤ 2 * s.cycles
         → after_turns most (round_in s core.old first.old.addresses second.old.addresses to_move used)
         ≡ round_in s core.new first.new.addresses second.new.addresses result.to_move (used + (most - result.left)) }
-    ensures last { (s : RawSettings) (used : ℕ) → s.core ≡ size → s.processes ≡ first.old.limit → s.processes ≡ second.old.limit
+    ensures last { (s : RawSettings) (used : ℕ) → reach_of s ≡ L.reach limits → s.processes ≡ first.old.limit → s.processes ≡ second.old.limit
         → used + most ≤ 2 * s.cycles → most ≡ 1
         → result.last ≡ turned (round_in s core.old first.old.addresses second.old.addresses to_move used) }
 {
@@ -75,7 +78,7 @@ pub(crate) fn turns<A: Allocator>(
             Side::First => first.front(),
             Side::Second => second.front(),
         };
-        let queued = execute(core, size, pc);
+        let queued = execute(core, size, limits, pc);
         match queued {
             Queued::Nothing => {
                 let is_empty = match to_move {

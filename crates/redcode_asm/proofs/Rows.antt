@@ -16,7 +16,7 @@ use Rattle.redcode_asm.specs.LoadText.{load_text}
 use Rattle.redcode_statement.specs.InstrLine.{instr_line}
 
 abbrev defaults : RawSettings
-defaults = record { core = 8000; cycles = 80000; processes = 8000; length = 100; distance = 100; rounds = 10; seed = 1; capacity = 20 }
+defaults = record { core = 8000; cycles = 80000; processes = 8000; length = 100; distance = 100; rounds = 10; seed = 1; capacity = 20; read_limit = 8000; write_limit = 8000 }
 
 -- the load text of what a source gives, or nothing with the refusal
 abbrev printed : Result WarriorParts AsmFault → Result (List ℕ) AsmFault

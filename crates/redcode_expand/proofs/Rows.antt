@@ -15,7 +15,7 @@ use Rattle.redcode_names.specs.Name.{LabelList}
 use Rattle.redcode_expand.specs.Expansion.{Expansion, ExpandedLine, expansion}
 
 abbrev defaults : RawSettings
-defaults = record { core = 8000; cycles = 80000; processes = 8000; length = 100; distance = 100; rounds = 10; seed = 1; capacity = 20 }
+defaults = record { core = 8000; cycles = 80000; processes = 8000; length = 100; distance = 100; rounds = 10; seed = 1; capacity = 20; read_limit = 8000; write_limit = 8000 }
 
 -- a line by its number, its kind, the instructions before it, its title and the texts of its tokens
 abbrev Outline : Type 0

@@ -17,6 +17,8 @@ fn defaults() -> Result<Settings, SettingsFault> {
         rounds: 10,
         seed: 1,
         capacity: 20,
+        read_limit: 0,
+        write_limit: 0,
     })
 }
 

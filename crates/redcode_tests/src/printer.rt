@@ -15,6 +15,8 @@ fn text_of(rt: &HostRuntime, core: u16, start: u16, code: &[Instr]) -> Result<Ve
         rounds: 10,
         seed: 1,
         capacity: 20,
+        read_limit: 0,
+        write_limit: 0,
     })?;
     let title = Title::new(b"", "Unnamed");
     let author = Title::new(b"", "Anonymous");

@@ -16,6 +16,8 @@ pub(crate) fn defaults() -> Result<Settings, SettingsFault> {
         rounds: 10,
         seed: 1,
         capacity: 20,
+        read_limit: 0,
+        write_limit: 0,
     })
 }
 

@@ -15,6 +15,8 @@ const SMALL: RawSettings = RawSettings {
     rounds: 2,
     seed: 1,
     capacity: 2,
+    read_limit: 0,
+    write_limit: 0,
 };
 
 /// A hill of two without warriors.

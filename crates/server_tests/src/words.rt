@@ -83,7 +83,7 @@ fn check_help(
 }
 
 /// Words that ask for help, and a part of it.
-const HELPS: [(&str, &str); 13] = [
+const HELPS: [(&str, &str); 14] = [
     ("koth --help", "Usage: koth <COMMAND>"),
     ("koth -h", "Usage: koth <COMMAND>"),
     ("koth help", "Usage: koth <COMMAND>"),
@@ -92,6 +92,7 @@ const HELPS: [(&str, &str); 13] = [
     ("koth fight -h", "Usage: koth fight"),
     ("koth fight --help", "1 to 1000000 [default: 80000]"),
     ("koth create --help", "FILE"),
+    ("koth create --help", "--write-limit"),
     ("koth submit --help", "<FILE> <SOURCE>"),
     ("koth help show", "Usage: koth show [OPTIONS] <FILE>"),
     ("koth show -h", "--matches"),
@@ -119,7 +120,7 @@ fn options_give_settings(rt: HostRuntime) -> Result<(), Fail> {
 }
 
 /// Options that give settings out of their ranges, and the first such field.
-const OUT_OF_RANGE: [(&str, &str); 10] = [
+const OUT_OF_RANGE: [(&str, &str); 13] = [
     ("--core 63 --cycles 0", "Core"),
     ("--core 4294967295", "Core"),
     ("--cycles 0", "Cycles"),
@@ -130,6 +131,9 @@ const OUT_OF_RANGE: [(&str, &str); 10] = [
     ("--rounds 1001", "Rounds"),
     ("--seed 0", "Seed"),
     ("--capacity 21", "Capacity"),
+    ("--read-limit 3 --write-limit 3", "ReadLimit"),
+    ("--read-limit 16000", "ReadLimit"),
+    ("--core 200 --read-limit 8 --write-limit 16", "WriteLimit"),
 ];
 
 /// A command with these options is refused for this field before anything is read.

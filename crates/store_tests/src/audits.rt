@@ -18,7 +18,11 @@ fn device_of_two(rt: &impl Abort, alloc: Global) -> Result<MemoryDevice<Global>,
 }
 
 /// Puts a content into one of a device's sectors.
-fn put(device: &mut MemoryDevice<Global>, n: u32, content: &[u8; 512]) -> Result<(), Fault> {
+pub(crate) fn put(
+    device: &mut MemoryDevice<Global>,
+    n: u32,
+    content: &[u8; 512],
+) -> Result<(), Fault> {
     if n >= device.sectors() {
         return Err(Fault);
     }

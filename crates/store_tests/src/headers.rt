@@ -3,7 +3,7 @@
 use crate::stores::SMALL;
 use hill_store::{Header, HeaderEntry, decode_header, encode_header};
 use std::test::Fail;
-use war_types::Settings;
+use war_types::{RawSettings, Settings};
 
 /// How the header of two warriors begins: all that is not zero, and the places between.
 pub(crate) const BEGINS: [u8; 84] = [
@@ -45,6 +45,36 @@ fn a_header_is_written_and_read(rt: HostRuntime) -> Result<(), Fail> {
     bytes[7] = b'0';
     assert!(rt; decode_header(&bytes).is_none());
     assert!(rt; decode_header(&[0; 512]).is_none());
+    Ok(())
+}
+
+/// Limits stand at 36 and 38, and one of the core size as zero.
+#[test]
+fn limits_in_a_header(rt: HostRuntime) -> Result<(), Fail> {
+    let limited = |read_limit, write_limit| RawSettings {
+        read_limit,
+        write_limit,
+        ..SMALL
+    };
+    let settings = Settings::new(limited(64, 64))?;
+    let header = Header::new(2, settings, 2, &[FIRST, SECOND]).ok_or("a header")?;
+    let bytes = encode_header(&header);
+    assert_eq!(rt; bytes.split_at(84).0, BEGINS.as_slice());
+
+    let settings = Settings::new(limited(16, 8))?;
+    let header = Header::new(2, settings, 2, &[FIRST, SECOND]).ok_or("a header")?;
+    let mut bytes = encode_header(&header);
+    assert_eq!(rt; [bytes[36], bytes[37], bytes[38], bytes[39]], [0, 16, 0, 8]);
+    let read = decode_header(&bytes).ok_or("its header")?;
+    assert_eq!(rt; read.settings().read_limit(), 16);
+    assert_eq!(rt; read.settings().write_limit(), 8);
+    // The core size, and what doesn't divide it.
+    bytes[37] = 64;
+    assert!(rt; decode_header(&bytes).is_none());
+    bytes[37] = 0;
+    assert!(rt; decode_header(&bytes).is_some());
+    bytes[39] = 10;
+    assert!(rt; decode_header(&bytes).is_none());
     Ok(())
 }
 

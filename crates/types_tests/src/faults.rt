@@ -61,6 +61,8 @@ fn faults_of_settings_are_written_as_the_field(rt: HostRuntime) -> Result<(), Fa
         (SettingsFault::Rounds, "Rounds"),
         (SettingsFault::Seed, "Seed"),
         (SettingsFault::Capacity, "Capacity"),
+        (SettingsFault::ReadLimit, "ReadLimit"),
+        (SettingsFault::WriteLimit, "WriteLimit"),
     ];
     for (fault, name) in rows {
         assert_eq!(rt; fault.to_string(rt.alloc())?.as_str(), name);

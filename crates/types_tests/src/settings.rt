@@ -12,6 +12,8 @@ pub const SMALL: RawSettings = RawSettings {
     rounds: 2,
     seed: 1,
     capacity: 2,
+    read_limit: 0,
+    write_limit: 0,
 };
 
 fn fault_of(raw: RawSettings) -> Option<SettingsFault> {
@@ -29,6 +31,8 @@ fn readers_give_their_fields(rt: HostRuntime) -> Result<(), Fail> {
         rounds: 250,
         seed: 2_000_000_000,
         capacity: 20,
+        read_limit: 400,
+        write_limit: 250,
     })?;
     assert_eq!(rt; settings.core(), 8000);
     assert_eq!(rt; settings.cycles(), 80_000);
@@ -38,11 +42,28 @@ fn readers_give_their_fields(rt: HostRuntime) -> Result<(), Fail> {
     assert_eq!(rt; settings.rounds(), 250);
     assert_eq!(rt; settings.seed(), 2_000_000_000);
     assert_eq!(rt; settings.capacity(), 20);
+    assert_eq!(rt; settings.read_limit(), 400);
+    assert_eq!(rt; settings.write_limit(), 250);
+    Ok(())
+}
+
+/// No limit is one of the core size, and both are the same settings.
+#[test]
+fn a_limit_of_zero_is_the_core_size(rt: HostRuntime) -> Result<(), Fail> {
+    for limit in [0, SMALL.core] {
+        let settings = Settings::new(RawSettings {
+            read_limit: limit,
+            write_limit: limit,
+            ..SMALL
+        })?;
+        assert_eq!(rt; settings.read_limit(), 64);
+        assert_eq!(rt; settings.write_limit(), 64);
+    }
     Ok(())
 }
 
 /// Settings with a field at an edge of its range.
-const ACCEPTED: [RawSettings; 15] = [
+const ACCEPTED: [RawSettings; 19] = [
     SMALL,
     RawSettings {
         core: 65_535,
@@ -99,6 +120,26 @@ const ACCEPTED: [RawSettings; 15] = [
         capacity: 20,
         ..SMALL
     },
+    RawSettings {
+        read_limit: 1,
+        ..SMALL
+    },
+    RawSettings {
+        write_limit: 1,
+        ..SMALL
+    },
+    RawSettings {
+        core: 65_535,
+        distance: 32_767,
+        read_limit: 65_535,
+        write_limit: 21_845,
+        ..SMALL
+    },
+    RawSettings {
+        read_limit: 32,
+        write_limit: 64,
+        ..SMALL
+    },
 ];
 
 #[test]
@@ -109,7 +150,7 @@ fn settings_at_the_edges_of_their_ranges(rt: HostRuntime) {
 }
 
 /// Settings with a field past an edge of its range, and what is said of them.
-const REFUSED: [(RawSettings, SettingsFault); 18] = [
+const REFUSED: [(RawSettings, SettingsFault); 23] = [
     (RawSettings { core: 63, ..SMALL }, SettingsFault::Core),
     (
         RawSettings {
@@ -209,6 +250,42 @@ const REFUSED: [(RawSettings, SettingsFault); 18] = [
         },
         SettingsFault::Capacity,
     ),
+    (
+        RawSettings {
+            read_limit: 10,
+            write_limit: 10,
+            ..SMALL
+        },
+        SettingsFault::ReadLimit,
+    ),
+    (
+        RawSettings {
+            read_limit: 65,
+            ..SMALL
+        },
+        SettingsFault::ReadLimit,
+    ),
+    (
+        RawSettings {
+            read_limit: u32::MAX,
+            ..SMALL
+        },
+        SettingsFault::ReadLimit,
+    ),
+    (
+        RawSettings {
+            write_limit: 128,
+            ..SMALL
+        },
+        SettingsFault::WriteLimit,
+    ),
+    (
+        RawSettings {
+            write_limit: 48,
+            ..SMALL
+        },
+        SettingsFault::WriteLimit,
+    ),
 ];
 
 #[test]
@@ -229,6 +306,8 @@ fn the_first_field_out_of_its_range_is_named(rt: HostRuntime) {
         rounds: 0,
         seed: 0,
         capacity: 0,
+        read_limit: 3,
+        write_limit: 3,
     };
     assert_eq!(rt;
         fault_of(RawSettings {
@@ -254,5 +333,9 @@ fn the_first_field_out_of_its_range_is_named(rt: HostRuntime) {
     raw.seed = SMALL.seed;
     assert_eq!(rt; fault_of(raw), Some(SettingsFault::Capacity));
     raw.capacity = SMALL.capacity;
+    assert_eq!(rt; fault_of(raw), Some(SettingsFault::ReadLimit));
+    raw.read_limit = SMALL.read_limit;
+    assert_eq!(rt; fault_of(raw), Some(SettingsFault::WriteLimit));
+    raw.write_limit = SMALL.write_limit;
     assert_eq!(rt; fault_of(raw), None);
 }

@@ -1,5 +1,5 @@
 -- Which settings a hill may have. The first five ranges are those of pMARS's options of these names.
-use Rattle.std.specs.Prelude.{ℕ, ◌*◌, ◌≤◌, Bool, ◌&&◌, nat_le, if◌then◌else◌, Result, Ok, Err}
+use Rattle.std.specs.Prelude.{◌≡◌, ℕ, ◌*◌, ◌%◌, ◌≤◌, ◌==◌, Bool, ◌&&◌, ◌||◌, nat_le, if◌then◌else◌, Result, Ok, Err}
 use Rattle.war_types.specs.declared.settings.RawSettings.{RawSettings}
 use Rattle.war_types.specs.declared.settings.SettingsFault.{SettingsFault}
 use Rattle.war_types.specs.declared.settings.SettingsFault.TheVariants as faults
@@ -8,7 +8,28 @@ use Rattle.war_types.specs.declared.settings.SettingsFault.TheVariants as faults
 abbrev pub is_from_to : ℕ → ℕ → ℕ → Bool
 is_from_to low high n = nat_le low n && nat_le n high
 
--- the settings, or the first field in this order that is out of its range
+-- a limit of reading or writing divides the core (the 1994 draft standard's limits; that 0 stands for the whole core is this project's own)
+abbrev pub is_limit : ℕ → ℕ → Bool
+is_limit core limit = limit == 0 || core % limit == 0
+
+abbrev pub limit_of : ℕ → ℕ → ℕ
+limit_of core limit = if limit == 0 then core else limit
+
+abbrev pub with_limits : RawSettings → RawSettings
+with_limits s = record {
+  core = s.core;
+  cycles = s.cycles;
+  processes = s.processes;
+  length = s.length;
+  distance = s.distance;
+  rounds = s.rounds;
+  seed = s.seed;
+  capacity = s.capacity;
+  read_limit = limit_of s.core s.read_limit;
+  write_limit = limit_of s.core s.write_limit;
+}
+
+-- the settings, each limit as the number that it stands for, or the first field in this order that is out of its range
 abbrev pub settings_of : RawSettings → Result RawSettings SettingsFault
 settings_of s =
     if is_from_to 64 65535 s.core then (
@@ -18,7 +39,11 @@ settings_of s =
     if nat_le s.length s.distance && nat_le (2 * s.distance) s.core then (
     if is_from_to 1 1000 s.rounds then (
     if is_from_to 1 2147483646 s.seed then (
-    if is_from_to 1 20 s.capacity then Ok s
+    if is_from_to 1 20 s.capacity then (
+    if is_limit s.core s.read_limit then (
+    if is_limit s.core s.write_limit then Ok (with_limits s)
+    else Err faults.WriteLimit)
+    else Err faults.ReadLimit)
     else Err faults.Capacity)
     else Err faults.Seed)
     else Err faults.Rounds)
@@ -46,3 +71,7 @@ pub record AreSettings (s : RawSettings) : Type 0 where
   pub seed_most : s.seed ≤ 2147483646
   pub capacity_least : 1 ≤ s.capacity
   pub capacity_most : s.capacity ≤ 20
+  pub read_least : 1 ≤ s.read_limit
+  pub read_divides : s.core % s.read_limit ≡ 0
+  pub write_least : 1 ≤ s.write_limit
+  pub write_divides : s.core % s.write_limit ≡ 0

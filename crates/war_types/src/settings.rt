@@ -1,12 +1,12 @@
 //! The settings of a hill or of a fight.
 
-ghost use Rattle.std.specs.Prelude.{◌≡◌, ◌*◌, ◌&&◌, nat_le};
-ghost use Rattle.war_types.specs.Settings.{AreSettings, is_from_to, settings_of};
+ghost use Rattle.std.specs.Prelude.{◌≡◌, ◌*◌, ◌%◌, ◌≤◌, ◌&&◌, true, nat_le};
+ghost use Rattle.war_types.specs.Settings.{AreSettings, is_from_to, is_limit, limit_of, settings_of};
 
 use std::marker::Model;
 use thiserror::Error;
 
-/// Eight numbers that nobody has checked yet.
+/// Ten numbers that nobody has checked yet.
 #[derive(Clone, Copy, Debug, PartialEq, Eq)]
 pub struct RawSettings {
     /// Cells of the core, 64 to 65,535.
@@ -25,6 +25,10 @@ pub struct RawSettings {
     pub seed: u32,
     /// Warriors that the hill holds, 1 to 20.
     pub capacity: u32,
+    /// Cells within which an operand reads, around its instruction: a divisor of the core, or 0 for the whole core.
+    pub read_limit: u32,
+    /// Cells within which an operand writes, as with reading.
+    pub write_limit: u32,
 }
 
 /// The first field of settings that is out of its range.
@@ -46,9 +50,13 @@ pub enum SettingsFault {
     Seed,
     #[error("Capacity")]
     Capacity,
+    #[error("ReadLimit")]
+    ReadLimit,
+    #[error("WriteLimit")]
+    WriteLimit,
 }
 
-/// Settings with every field in its range.
+/// Settings with every field in its range. A limit is 1 to the core's cells here, never 0.
 #[derive(Clone, Copy, Debug)]
 pub struct Settings {
     raw: RawSettings,
@@ -97,7 +105,19 @@ impl Settings {
         if !is_from_to(1, 20, raw.capacity) {
             return Err(SettingsFault::Capacity);
         }
-        Ok(Settings { raw })
+        if !is_limit(raw.core, raw.read_limit) {
+            return Err(SettingsFault::ReadLimit);
+        }
+        if !is_limit(raw.core, raw.write_limit) {
+            return Err(SettingsFault::WriteLimit);
+        }
+        Ok(Settings {
+            raw: RawSettings {
+                read_limit: limit_of(raw.core, raw.read_limit),
+                write_limit: limit_of(raw.core, raw.write_limit),
+                ..raw
+            },
+        })
     }
 
     /// Cells of the core, 64 to 65,535.
@@ -163,6 +183,22 @@ impl Settings {
     {
         self.raw.capacity as u16
     }
+
+    /// Cells within which an operand reads: a divisor of the core, at most the core.
+    pub fn read_limit(&self) -> u16
+        ensures value { result ≡ self.now.read_limit }
+        ensures settings { AreSettings self.now }
+    {
+        self.raw.read_limit as u16
+    }
+
+    /// Cells within which an operand writes: a divisor of the core, at most the core.
+    pub fn write_limit(&self) -> u16
+        ensures value { result ≡ self.now.write_limit }
+        ensures settings { AreSettings self.now }
+    {
+        self.raw.write_limit as u16
+    }
 }
 
 fn is_from_to(low: u32, high: u32, number: u32) -> bool
@@ -175,4 +211,22 @@ fn is_distance(distance: u32, length: u32, core: u32) -> bool
     ensures { result ≡ (nat_le length distance && nat_le (2 * distance) core) }
 {
     length <= distance && distance <= core / 2
+}
+
+/// Whether a limit divides the core, or is 0, which stands for it.
+fn is_limit(core: u32, limit: u32) -> bool
+    ensures { result ≡ is_limit core limit }
+{
+    limit == 0 || core % limit == 0
+}
+
+/// The limit that a number stands for.
+fn limit_of(core: u32, limit: u32) -> u32
+    requires some { 1 ≤ core }
+    requires limit { is_limit core limit ≡ true }
+    ensures value { result ≡ limit_of core limit }
+    ensures least { 1 ≤ result }
+    ensures divides { core % result ≡ 0 }
+{
+    if limit == 0 { core } else { limit }
 }

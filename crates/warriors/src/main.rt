@@ -32,6 +32,8 @@ const SETTINGS: RawSettings = RawSettings {
     rounds: 2,
     seed: 1,
     capacity: 20,
+    read_limit: 0,
+    write_limit: 0,
 };
 
 fn main(rt: HostRuntime) -> io::Result<()> {

@@ -5,7 +5,7 @@ use Rattle.hill_bytes.proofs.header.read_header.Goals as goal
 
 pub returns-in_err-settings : goal.returns-in_err-settings
 returns-in_err-settings c = λ h is.
-    let some : c.read_settings.result ≡ Some h.settings = c.read_settings.ensures h.settings (drop 28 (header_fields h)) is.header.settings (settings-at first_layout c.args.bytes.now h is.bytes_are) in
+    let some : c.read_settings.result ≡ Some h.settings = c.read_settings.ensures h.settings (drop 32 (header_fields h)) is.header.settings (settings-at first_layout c.args.bytes.now h is.bytes_are) in
     let none : c.read_settings.result ≡ None = c.in_err-settings.was in
     cc
 
@@ -24,7 +24,7 @@ returns c = λ h is.
     let low = is.header.counter in
     let top = is.header.generation in
     let below : h.counter < 2 ^ 64 = omega (arith, low, top) in
-    let some : c.read_settings.result ≡ Some h.settings = c.read_settings.ensures h.settings (drop 28 (header_fields h)) is.header.settings (settings-at first_layout bytes h is.bytes_are) in
+    let some : c.read_settings.result ≡ Some h.settings = c.read_settings.ensures h.settings (drop 32 (header_fields h)) is.header.settings (settings-at first_layout bytes h is.bytes_are) in
     let was : c.read_settings.result ≡ Some c.in_ok-settings.settings = c.in_ok-settings.was in
     let settings : c.in_ok-settings.settings ≡ h.settings = cc in
     let stored : c.u16_at.result ≡ length h.entries = c.u16_at.ensures (length h.entries) (drop 42 (header_fields h)) (omega (arith, few, most)) (count-at first_layout bytes h is.bytes_are) in

@@ -3,7 +3,8 @@ use Rattle.war_types.specs.declared.instr.Instr.{Instr}
 use Rattle.war_types.specs.declared.instr.Mode.{Mode}
 use Rattle.war_types.specs.declared.instr.Mode.TheVariants as modes
 use Rattle.mars_core.specs.Cells.{plus}
-use Rattle.mars_core.specs.Operand.{Operand, evaluated, found, operand}
+use Rattle.mars_core.specs.Operand.{Operand, evaluated}
+use Rattle.mars_core.specs.Whole.{found, operand}
 use Rattle.mars_core.specs.Words.{is_plain}
 use Rattle.mars_core.proofs.operand.plain.Goals as goal
 use Rattle.mars_core.proofs.operand.plain.Goals.{in-Immediate, in_default}

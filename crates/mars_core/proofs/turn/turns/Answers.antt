@@ -78,7 +78,7 @@ loop-left-preserved g c =
       start = λ e. absurd (omega (arith, kept.left, c.loop-left-test.true, e));
       after = λ s used z l1 l2 bound.
           ap (λ (next : Side). after_turns (c.loop-left.left - 1) (round_in s c.execute-queued.new.core c.match-queued.first.addresses c.match-queued.second.addresses next (used + (c.args.most - (c.loop-left.left - 1))))) c.other-to_move.ensures
-          ∙ (after_turns-made m s c.args.size c.match-to_move.pc c.loop-left.core c.execute-queued.new.core first second c.match-queued.first c.match-queued.second more
+          ∙ (after_turns-made m s (g.L.Limits.reach c.args.limits) c.match-to_move.pc c.loop-left.core c.execute-queued.new.core first second c.match-queued.first c.match-queued.second more
           z (l1 ∙ sym kept.first_limit) (l2 ∙ sym kept.second_limit) kept.first_lives kept.second_lives at_front c.execute-queued.ensures.value moved.0
           used c.args.most c.loop-left.left bound c.loop-left-test.true kept.left
           ∙ kept.after s used z l1 l2 bound);
@@ -86,7 +86,7 @@ loop-left-preserved g c =
           let first_one : c.loop-left.left ≡ c.args.most = omega (arith, kept.left, c.loop-left-test.true, one, none) in
           let same = kept.start first_one in
           last
-          ∙ (turned-made m s c.args.size c.match-to_move.pc c.loop-left.core c.execute-queued.new.core first second c.match-queued.first c.match-queued.second more
+          ∙ (turned-made m s (g.L.Limits.reach c.args.limits) c.match-to_move.pc c.loop-left.core c.execute-queued.new.core first second c.match-queued.first c.match-queued.second more
           z (l1 ∙ sym kept.first_limit) (l2 ∙ sym kept.second_limit) kept.first_lives kept.second_lives at_front c.execute-queued.ensures.value moved.0
           used (omega (arith, bound, one))
           ∙ ap turned (same_round s used c.loop-left.core c.args.core.now first c.args.first.now second c.args.second.now m c.args.to_move same.0 same.1 same.2 same.3));
@@ -130,7 +130,7 @@ returns-then-is_empty-clause-after g c = λ s used z l1 l2 bound.
     let after : ℕ → Side → Round = λ used next. round_in s c.execute-queued.new.core c.match-to_move-2.first.addresses c.match-to_move-2.second.addresses next used in
     let used_now = used + (c.args.most - (c.loop-left.left - 1)) in
     sym (kept.after s used z l1 l2 bound)
-    ∙ (sym (after_turns-made m s c.args.size c.match-to_move.pc c.loop-left.core c.execute-queued.new.core first second c.match-to_move-2.first c.match-to_move-2.second (addresses c.execute-queued.result)
+    ∙ (sym (after_turns-made m s (g.L.Limits.reach c.args.limits) c.match-to_move.pc c.loop-left.core c.execute-queued.new.core first second c.match-to_move-2.first c.match-to_move-2.second (addresses c.execute-queued.result)
     z (l1 ∙ sym kept.first_limit) (l2 ∙ sym kept.second_limit) kept.first_lives kept.second_lives (front-at-end g c) c.execute-queued.ensures.value moved.0
     used c.args.most c.loop-left.left bound c.loop-left-test.true kept.left)
     ∙ (after_turns-over (c.loop-left.left - 1) (after used_now (other m)) (over-empty m s c.execute-queued.new.core c.match-to_move-2.first c.match-to_move-2.second (other m) used_now moved.1)
@@ -146,7 +146,7 @@ returns-then-is_empty-clause-last g c = λ s used z l1 l2 bound one.
     let same = kept.start first_one in
     let moved = moved-at-end g c in
     sym (ap (λ (q : Queued). turned_by (addresses q)) c.in-Nothing.is)
-    ∙ (turned-made m s c.args.size c.match-to_move.pc c.loop-left.core c.execute-queued.new.core first second c.match-to_move-2.first c.match-to_move-2.second (addresses c.execute-queued.result)
+    ∙ (turned-made m s (g.L.Limits.reach c.args.limits) c.match-to_move.pc c.loop-left.core c.execute-queued.new.core first second c.match-to_move-2.first c.match-to_move-2.second (addresses c.execute-queued.result)
     z (l1 ∙ sym kept.first_limit) (l2 ∙ sym kept.second_limit) kept.first_lives kept.second_lives (front-at-end g c) c.execute-queued.ensures.value moved.0
     used (omega (arith, bound, one))
     ∙ ap turned (same_round s used c.loop-left.core c.args.core.now first c.args.first.now second c.args.second.now m c.args.to_move same.0 same.1 same.2 same.3))

@@ -2,7 +2,7 @@
 use Rattle.std.proofs.Common.{◌≡◌, ℕ, ◌+◌, ◌-◌, ◌*◌, ◌≤◌, false}
 use Rattle.war_types.specs.declared.settings.RawSettings.{RawSettings}
 use Rattle.mars_core.specs.Cells.{IsCore}
-use Rattle.mars_core.specs.Round.{after_turns, is_empty, turned, IsQueue}
+use Rattle.mars_core.specs.Round.{after_turns, is_empty, reach_of, turned, IsQueue}
 use Rattle.mars_core.specs.Arena.{round_in}
 use Rattle.mars_core.proofs.turn.turns.Given as goal
 
@@ -17,10 +17,10 @@ invariant-loop-left g l = record {
   second_lives : is_empty l.second.addresses ≡ false;
   left : l.left ≤ l.most;
   start : l.left ≡ l.most → (l.core ≡ l.fn.core) × (l.first ≡ l.fn.first) × (l.second ≡ l.fn.second) × (l.to_move ≡ l.fn.to_move);
-  after : (s : RawSettings) (used : ℕ) → s.core ≡ l.size → s.processes ≡ l.fn.first.limit → s.processes ≡ l.fn.second.limit → used + l.most ≤ 2 * s.cycles →
+  after : (s : RawSettings) (used : ℕ) → reach_of s ≡ g.L.Limits.reach l.fn.limits → s.processes ≡ l.fn.first.limit → s.processes ≡ l.fn.second.limit → used + l.most ≤ 2 * s.cycles →
       after_turns l.left (round_in s l.core l.first.addresses l.second.addresses l.to_move (used + (l.most - l.left)))
       ≡ after_turns l.most (round_in s l.fn.core l.fn.first.addresses l.fn.second.addresses l.fn.to_move used);
-  last : (s : RawSettings) (used : ℕ) → s.core ≡ l.size → s.processes ≡ l.fn.first.limit → s.processes ≡ l.fn.second.limit → used + l.most ≤ 2 * s.cycles → l.most ≡ 1 → l.left ≡ 0 →
+  last : (s : RawSettings) (used : ℕ) → reach_of s ≡ g.L.Limits.reach l.fn.limits → s.processes ≡ l.fn.first.limit → s.processes ≡ l.fn.second.limit → used + l.most ≤ 2 * s.cycles → l.most ≡ 1 → l.left ≡ 0 →
       l.last ≡ turned (round_in s l.fn.core l.fn.first.addresses l.fn.second.addresses l.fn.to_move used);
 }
 

@@ -1,6 +1,6 @@
 use Rattle.std.proofs.Common.{◌≡◌, ap, ◌∙◌, sym, Bool, true, false, ◌&&◌}
 use Rattle.mars_core.specs.Words.{is_plain}
-use Rattle.mars_core.proofs.effect.operands.Goals as goal
+use Rattle.mars_core.proofs.operand.whole_operands.Goals as goal
 
 -- of two tests that both hold the second one holds
 second-holds : (a b both : Bool) → both ≡ (a && b) → both ≡ true → b ≡ true

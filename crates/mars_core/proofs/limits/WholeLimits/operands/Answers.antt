@@ -1,0 +1,11 @@
+use Rattle.std.proofs.Common.{ℕ, ap, ◌∙◌}
+use Rattle.mars_core.specs.Whole.{whole}
+use Rattle.mars_core.specs.Code.{operands}
+use Rattle.mars_core.proofs.Reaches.{operands-whole}
+use Rattle.mars_core.proofs.limits.WholeLimits.operands.Goals as goal
+
+pub returns-clause-value : goal.returns-clause-value
+returns-clause-value g c =
+    ap (λ (n : ℕ). operands (whole n) c.args.core.now c.args.pc c.args.i.instr) c.requires.size
+    ∙ operands-whole c.args.size c.args.pc c.args.core.now c.args.i.instr c.requires.pc
+    ∙ c.whole_operands.ensures.value
