@@ -3,6 +3,7 @@ pub mod Writes
 pub mod OneHeader
 pub mod SlotBytes
 pub mod Results
+pub mod Widened
 pub mod OneSlot
 pub mod Codes
 pub mod Rows

@@ -1,6 +1,5 @@
 -- The layout of a small hill, computed by the definitions.
-use Rattle.std.proofs.Common.{◌≡◌, ℕ, List, [], ◌∷◌, ◌++◌, length, take, drop, replicate, refl}
-use Rattle.std.specs.Prelude.{codes}
+use Rattle.std.proofs.Common.{◌≡◌, ℕ, List, [], ◌∷◌, ◌++◌, take, drop, replicate, refl}
 use Rattle.war_types.specs.declared.instr.Op.TheVariants as ops
 use Rattle.war_types.specs.declared.instr.Modifier.TheVariants as modifiers
 use Rattle.war_types.specs.declared.instr.Mode.TheVariants as modes
@@ -8,7 +7,7 @@ use Rattle.war_types.specs.declared.settings.RawSettings.{RawSettings}
 use Rattle.war_types.specs.Warrior.{WarriorParts, warrior_parts}
 use Rattle.hill_bytes.specs.declared.header.HeaderEntry.{HeaderEntry}
 use Rattle.hill_bytes.specs.declared.wins.Wins.{Wins}
-use Rattle.hill_bytes.specs.Layout.{HeaderParts, Layout, first_layout, first_magic, header_bytes, fields_bytes, last_sector, slot_bytes, slot_at, slot_in, results_in, sectors_for, sectors_in}
+use Rattle.hill_bytes.specs.Layout.{HeaderParts, new_layout, old_layout, new_magic, old_magic, header_bytes, fields_bytes, last_sector, slot_bytes, slot_at, slot_in, results_in, sectors_for, sectors_in}
 
 abbrev small : RawSettings
 small = record { core = 64; cycles = 100; processes = 8; length = 10; distance = 10; rounds = 2; seed = 1; capacity = 2; read_limit = 64; write_limit = 64 }
@@ -20,18 +19,27 @@ entry number slot age = record { entry = number; slot = slot; age = age }
 abbrev second : HeaderParts
 second = record { generation = 2; settings = small; counter = 2; entries = entry 1 0 1 ∷ entry 2 1 0 ∷ [] }
 
-second_begins : take 84 (header_bytes first_layout second) ≡
-    0x4b ∷ 0x4f ∷ 0x54 ∷ 0x48 ∷ 0x48 ∷ 0x49 ∷ 0x4c ∷ 0x31 ∷ 0 ∷ 0 ∷ 0 ∷ 0 ∷ 0 ∷ 0 ∷ 0 ∷ 2
+second_begins : take 84 (header_bytes new_layout second) ≡
+    0x4b ∷ 0x4f ∷ 0x54 ∷ 0x48 ∷ 0x48 ∷ 0x49 ∷ 0x4c ∷ 0x32 ∷ 0 ∷ 0 ∷ 0 ∷ 0 ∷ 0 ∷ 0 ∷ 0 ∷ 2
     ∷ 0 ∷ 0x40 ∷ 0 ∷ 0 ∷ 0 ∷ 0x64 ∷ 0 ∷ 8 ∷ 0 ∷ 0x0a ∷ 0 ∷ 0x0a ∷ 0 ∷ 2 ∷ 0 ∷ 0 ∷ 0 ∷ 1 ∷ 0 ∷ 2 ∷ 0 ∷ 0 ∷ 0 ∷ 0
     ∷ 0 ∷ 0 ∷ 0 ∷ 0 ∷ 0 ∷ 0 ∷ 0 ∷ 2 ∷ 0 ∷ 2
     ∷ 0 ∷ 0 ∷ 0 ∷ 0 ∷ 0 ∷ 0 ∷ 0 ∷ 1 ∷ 0 ∷ 0 ∷ 0 ∷ 0 ∷ 0 ∷ 0 ∷ 0 ∷ 0 ∷ 1
     ∷ 0 ∷ 0 ∷ 0 ∷ 0 ∷ 0 ∷ 0 ∷ 0 ∷ 2 ∷ 1 ∷ 0 ∷ 0 ∷ 0 ∷ 0 ∷ 0 ∷ 0 ∷ 0 ∷ 0 ∷ []
-unfolding header_bytes first_magic
+unfolding header_bytes new_magic
 second_begins = refl
 
-second_ends : drop 84 (header_bytes first_layout second) ≡ replicate 428 0
-unfolding header_bytes first_magic
+second_ends : drop 84 (header_bytes new_layout second) ≡ replicate 428 0
+unfolding header_bytes new_magic
 second_ends = refl
+
+-- the same in the old format
+old_begins : take 16 (header_bytes old_layout second) ≡ 0x4b ∷ 0x4f ∷ 0x54 ∷ 0x48 ∷ 0x48 ∷ 0x49 ∷ 0x4c ∷ 0x31 ∷ 0 ∷ 0 ∷ 0 ∷ 0 ∷ 0 ∷ 0 ∷ 0 ∷ 2 ∷ []
+unfolding header_bytes old_magic
+old_begins = refl
+
+old_behind : drop 8 (header_bytes old_layout second) ≡ drop 8 (header_bytes new_layout second)
+unfolding header_bytes old_magic new_magic
+old_behind = refl
 
 -- a warrior of one instruction, MOV.I $0,$1
 abbrev imp : WarriorParts
@@ -51,64 +59,52 @@ wins older younger = record { older = older; younger = younger }
 abbrev unmatched : List Wins
 unmatched = replicate 21 (wins 0 0)
 
-imp_slot : slot_bytes first_layout imp unmatched ≡ imp_code ∷ (replicate 288 0 ++ imp_fields ++ replicate 124 0) ∷ []
+imp_slot : slot_bytes new_layout imp unmatched ≡ imp_code ∷ replicate 512 0 ∷ replicate 512 0 ∷ (replicate 288 0 ++ imp_fields ++ replicate 124 0) ∷ []
 unfolding slot_bytes fields_bytes
 imp_slot = refl
+
+old_slot : slot_bytes old_layout imp unmatched ≡ imp_code ∷ (replicate 288 0 ++ imp_fields ++ replicate 124 0) ∷ []
+unfolding slot_bytes fields_bytes
+old_slot = refl
 
 -- the results of a warrior that lost both rounds to the older one in slot 2
 abbrev lost : List Wins
 lost = replicate 2 (wins 0 0) ++ wins 2 0 ∷ replicate 18 (wins 0 0)
 
-imp_lost : slot_bytes first_layout imp lost ≡ imp_code ∷ (replicate 288 0 ++ imp_fields ++ replicate 8 0 ++ (0 ∷ 2 ∷ 0 ∷ 0 ∷ []) ++ replicate 112 0) ∷ []
+imp_lost : slot_bytes new_layout imp lost ≡
+    imp_code ∷ replicate 512 0 ∷ replicate 512 0 ∷ (replicate 288 0 ++ imp_fields ++ replicate 8 0 ++ (0 ∷ 2 ∷ 0 ∷ 0 ∷ []) ++ replicate 112 0) ∷ []
 unfolding slot_bytes fields_bytes
 imp_lost = refl
 
-lost_read : results_in first_layout (slot_bytes first_layout imp lost) ≡ lost
+lost_read : results_in new_layout (slot_bytes new_layout imp lost) ≡ lost
 unfolding results_in slot_bytes fields_bytes
 lost_read = refl
 
--- where slots lie, and how large a device is
-first_places : (slot_at first_layout 2 ≡ 6) × (sectors_for 2 ≡ 8) × (sectors_for 20 ≡ 44)
-first_places = (refl, refl, refl)
-
-first_sectors : (image : ℕ → List ℕ) → slot_in first_layout image 2 ≡ image 6 ∷ image 7 ∷ []
-first_sectors image = refl
-
--- ---- another layout: a slot of four sectors, with room for 200 instructions, of which the last eight stand in the fourth
-
-unfoldable second_magic : List ℕ
-second_magic = codes "KOTHHIL2"
-
-second_magic_long : length second_magic ≡ 8
-unfolding second_magic
-second_magic_long = refl
-
-abbrev second_layout : Layout
-second_layout = record { magic = second_magic; magic_long = second_magic_long; full = 3; last = 8; zeros = 224; fields_at = refl }
-
-wide_begins : take 16 (header_bytes second_layout second) ≡ 0x4b ∷ 0x4f ∷ 0x54 ∷ 0x48 ∷ 0x48 ∷ 0x49 ∷ 0x4c ∷ 0x32 ∷ 0 ∷ 0 ∷ 0 ∷ 0 ∷ 0 ∷ 0 ∷ 0 ∷ 2 ∷ []
-unfolding header_bytes second_magic
-wide_begins = refl
-
-wide_slot : slot_bytes second_layout imp lost ≡
-    imp_code ∷ replicate 512 0 ∷ replicate 512 0 ∷ (replicate 288 0 ++ imp_fields ++ replicate 8 0 ++ (0 ∷ 2 ∷ 0 ∷ 0 ∷ []) ++ replicate 112 0) ∷ []
+old_lost : slot_bytes old_layout imp lost ≡ imp_code ∷ (replicate 288 0 ++ imp_fields ++ replicate 8 0 ++ (0 ∷ 2 ∷ 0 ∷ 0 ∷ []) ++ replicate 112 0) ∷ []
 unfolding slot_bytes fields_bytes
-wide_slot = refl
+old_lost = refl
 
-wide_read : results_in second_layout (slot_bytes second_layout imp lost) ≡ lost
+old_read : results_in old_layout (slot_bytes old_layout imp lost) ≡ lost
 unfolding results_in slot_bytes fields_bytes
-wide_read = refl
+old_read = refl
 
 -- a warrior of 193 instructions has the last of them in the fourth sector
 abbrev long : WarriorParts
 long = warrior_parts (replicate 193 (record { op = ops.Mov; modifier = modifiers.I; a_mode = modes.Direct; a = 0; b_mode = modes.Direct; b = 1 })) 0 (65 ∷ []) (66 ∷ 67 ∷ [])
 
-wide_last : take 290 (last_sector second_layout (slot_bytes second_layout long unmatched)) ≡ (1 ∷ 6 ∷ 1 ∷ 1 ∷ 0 ∷ 0 ∷ 0 ∷ 1 ∷ []) ++ replicate 281 0 ++ 193 ∷ []
+long_last : take 290 (last_sector new_layout (slot_bytes new_layout long unmatched)) ≡ (1 ∷ 6 ∷ 1 ∷ 1 ∷ 0 ∷ 0 ∷ 0 ∷ 1 ∷ []) ++ replicate 281 0 ++ 193 ∷ []
 unfolding slot_bytes fields_bytes
-wide_last = refl
+long_last = refl
 
-wide_places : (slot_at second_layout 2 ≡ 10) × (sectors_in second_layout 2 ≡ 14) × (sectors_in second_layout 20 ≡ 86)
-wide_places = (refl, refl, refl)
+-- where slots lie, and how large a device is
+places : (slot_at new_layout 2 ≡ 10) × (sectors_for 2 ≡ 14) × (sectors_for 20 ≡ 86)
+places = (refl, refl, refl)
 
-wide_sectors : (image : ℕ → List ℕ) → slot_in second_layout image 2 ≡ image 10 ∷ image 11 ∷ image 12 ∷ image 13 ∷ []
-wide_sectors image = refl
+sectors : (image : ℕ → List ℕ) → slot_in new_layout image 2 ≡ image 10 ∷ image 11 ∷ image 12 ∷ image 13 ∷ []
+sectors image = refl
+
+old_places : (slot_at old_layout 2 ≡ 6) × (sectors_in old_layout 2 ≡ 8) × (sectors_in old_layout 20 ≡ 44)
+old_places = (refl, refl, refl)
+
+old_sectors : (image : ℕ → List ℕ) → slot_in old_layout image 2 ≡ image 6 ∷ image 7 ∷ []
+old_sectors image = refl

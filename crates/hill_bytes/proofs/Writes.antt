@@ -1,6 +1,6 @@
 -- Writes one behind the other, and the settings that stand in a header.
 use Rattle.std.proofs.Common.{◌≡◌, ℕ, ◌%◌, ◌≤◌, ◌==◌, Bool, true, false, if◌then◌else◌, List, [], ◌++◌, Ok, arith, ap, ◌∙◌, mod-eq_of_lt}
-use Rattle.std.proofs.lemmas.List.{append_assoc, append-nil}
+use Rattle.std.proofs.lemmas.List.{append_assoc}
 use Rattle.std.proofs.lemmas.Bool.Decides.{nat_tests}
 use Rattle.std.specs.Int.{bytes_high_first}
 use Rattle.war_types.specs.declared.settings.RawSettings.{RawSettings}
@@ -24,18 +24,7 @@ writes-8 w w1 w2 w3 w4 w5 w6 w7 w8 a b c d e f g h e1 e2 e3 e4 e5 e6 e7 e8 =
     flat ∙ regrouped
 
 abbrev pub with_stored_limits : RawSettings → RawSettings
-with_stored_limits s = record {
-  core = s.core;
-  cycles = s.cycles;
-  processes = s.processes;
-  length = s.length;
-  distance = s.distance;
-  rounds = s.rounds;
-  seed = s.seed;
-  capacity = s.capacity;
-  read_limit = stored_limit s.core s.read_limit;
-  write_limit = stored_limit s.core s.write_limit;
-}
+with_stored_limits s = record s { read_limit = stored_limit s.core s.read_limit; write_limit = stored_limit s.core s.write_limit }
 
 -- a divisor is at most what it divides
 divisor-most : (n d : ℕ) → 1 ≤ n → n % d ≡ 0 → d ≤ n
@@ -72,11 +61,10 @@ pub writes-all : (w0 w1 w2 w3 w4 w5 w6 w7 w8 a b c d e f g h : List ℕ) → w0 
 writes-all w0 w1 w2 w3 w4 w5 w6 w7 w8 a b c d e f g h e0 e1 e2 e3 e4 e5 e6 e7 e8 =
     let first : w1 ≡ a = e1 ∙ ap (λ w. w ++ a) e0 in cc
 
--- eight writes to an empty sector, the second of nothing
-pub writes-behind : (w0 w1 w2 w3 w4 w5 w6 w7 w8 a b c d e f g : List ℕ) → w0 ≡ [] → w1 ≡ w0 ++ a → w2 ≡ w1 ++ [] → w3 ≡ w2 ++ b → w4 ≡ w3 ++ c → w5 ≡ w4 ++ d → w6 ≡ w5 ++ e → w7 ≡ w6 ++ f → w8 ≡ w7 ++ g → w8 ≡ a ++ (((((b ++ c) ++ d) ++ e) ++ f) ++ g)
-writes-behind w0 w1 w2 w3 w4 w5 w6 w7 w8 a b c d e f g e0 e1 e2 e3 e4 e5 e6 e7 e8 =
+-- eight writes to an empty sector, the first two of them apart
+pub writes-behind : (w0 w1 w2 w3 w4 w5 w6 w7 w8 a z b c d e f g : List ℕ) → w0 ≡ [] → w1 ≡ w0 ++ a → w2 ≡ w1 ++ z → w3 ≡ w2 ++ b → w4 ≡ w3 ++ c → w5 ≡ w4 ++ d → w6 ≡ w5 ++ e → w7 ≡ w6 ++ f → w8 ≡ w7 ++ g → w8 ≡ a ++ (z ++ (((((b ++ c) ++ d) ++ e) ++ f) ++ g))
+writes-behind w0 w1 w2 w3 w4 w5 w6 w7 w8 a z b c d e f g e0 e1 e2 e3 e4 e5 e6 e7 e8 =
     let first : w1 ≡ a = e1 ∙ ap (λ w. w ++ a) e0 in
-    let second : w2 ≡ a = e2 ∙ append-nil w1 ∙ first in
-    let flat : w8 ≡ (((((a ++ b) ++ c) ++ d) ++ e) ++ f) ++ g = cc in
-    let regrouped : (((((a ++ b) ++ c) ++ d) ++ e) ++ f) ++ g ≡ a ++ (((((b ++ c) ++ d) ++ e) ++ f) ++ g) = simp append_assoc in
+    let flat : w8 ≡ ((((((a ++ z) ++ b) ++ c) ++ d) ++ e) ++ f) ++ g = cc in
+    let regrouped : ((((((a ++ z) ++ b) ++ c) ++ d) ++ e) ++ f) ++ g ≡ a ++ (z ++ (((((b ++ c) ++ d) ++ e) ++ f) ++ g)) = simp append_assoc in
     flat ∙ regrouped

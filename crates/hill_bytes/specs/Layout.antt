@@ -1,5 +1,5 @@
 -- What the sectors hold: two headers in turn, and as many sectors for each slot as the layout says. Numbers are big endian.
-use Rattle.std.specs.Prelude.{◌≡◌, ℕ, zero, suc, ◌+◌, ◌-◌, ◌*◌, ◌^◌, ◌<◌, ◌≤◌, ◌≢◌, ◌==◌, if◌then◌else◌, List, [], ◌∷◌, ◌++◌, length, get_or, drop, replicate, All, Option, Some, None, codes, refl}
+use Rattle.std.specs.Prelude.{◌≡◌, ◌↔◌, ℕ, zero, suc, ◌+◌, ◌-◌, ◌*◌, ◌^◌, ◌<◌, ◌≤◌, ◌≢◌, ◌==◌, if◌then◌else◌, List, [], ◌∷◌, ◌++◌, length, get_or, drop, replicate, All, Option, Some, None, codes, refl}
 use Rattle.std.specs.Int.{bytes_high_first}
 use Rattle.byteorder.specs.Endian.{big_number}
 use Rattle.war_types.specs.declared.instr.Instr.{Instr}
@@ -8,6 +8,8 @@ use Rattle.war_types.specs.Settings.{AreSettings}
 use Rattle.war_types.specs.Bytes.{instr_bytes}
 use Rattle.war_types.specs.Title.{IsTitle}
 use Rattle.war_types.specs.Warrior.{WarriorParts, Fits}
+use Rattle.hill_bytes.specs.declared.format.Format.{Format}
+use Rattle.hill_bytes.specs.declared.format.Format.TheVariants as formats
 use Rattle.hill_bytes.specs.declared.header.HeaderEntry.{HeaderEntry}
 use Rattle.hill_bytes.specs.declared.wins.Wins.{Wins}
 
@@ -203,18 +205,41 @@ IsSlotRead layout s sectors (Some w) = IsSlot layout s sectors w
 abbrev pub header_parts : ℕ → RawSettings → ℕ → List HeaderEntry → HeaderParts
 header_parts generation settings counter entries = record { generation = generation; settings = settings; counter = counter; entries = entries }
 
--- ---- the layout that devices have
+-- ---- the layouts of both formats
 
-unfoldable pub first_magic : List ℕ
-first_magic = codes "KOTHHIL1"
+unfoldable pub old_magic : List ℕ
+old_magic = codes "KOTHHIL1"
 
-pub first_magic_long : length first_magic ≡ 8
-unfolding first_magic
-first_magic_long = refl
+unfoldable pub new_magic : List ℕ
+new_magic = codes "KOTHHIL2"
+
+pub old_magic_long : length old_magic ≡ 8
+unfolding old_magic
+old_magic_long = refl
+
+pub new_magic_long : length new_magic ≡ 8
+unfolding new_magic
+new_magic_long = refl
 
 -- a slot of two sectors, with room for 100 instructions
-abbrev pub first_layout : Layout
-first_layout = record { magic = first_magic; magic_long = first_magic_long; full = 1; last = 36; zeros = 0; fields_at = refl }
+abbrev pub old_layout : Layout
+old_layout = record { magic = old_magic; magic_long = old_magic_long; full = 1; last = 36; zeros = 0; fields_at = refl }
+
+-- a slot of four sectors, with room for 200 instructions
+abbrev pub new_layout : Layout
+new_layout = record { magic = new_magic; magic_long = new_magic_long; full = 3; last = 8; zeros = 224; fields_at = refl }
+
+abbrev pub layout_of : Format → Layout
+layout_of formats.Old = old_layout
+layout_of formats.New = new_layout
+
+-- these sectors of the new format hold what those of a slot of this layout hold: the same results, and the same warriors, where it has
+-- room for the longest
+pub record HoldsSame (layout : Layout) (sectors : List (List ℕ)) (others : List (List ℕ)) : Type 0 where
+  pub results : results_in new_layout sectors ≡ results_in layout others
+  pub warriors : (s : RawSettings) (w : WarriorParts) → s.length ≤ code_room layout → IsSlot new_layout s sectors w ↔ IsSlot layout s others w
+
+-- ---- in the new format, in which hills are written
 
 abbrev pub sectors_for : ℕ → ℕ
-sectors_for capacity = sectors_in first_layout capacity
+sectors_for capacity = sectors_in new_layout capacity

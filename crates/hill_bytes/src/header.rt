@@ -5,11 +5,12 @@ ghost use Rattle.std.specs.Option.{SomeIff};
 ghost use Rattle.war_types.specs.declared.settings.RawSettings.{RawSettings};
 ghost use Rattle.war_types.specs.Settings.{AreSettings};
 ghost use Rattle.hill_bytes.specs.declared.header.HeaderEntry.{HeaderEntry};
-ghost use Rattle.hill_bytes.specs.Layout.{HeaderParts, IsHeader, IsHeaderParts, IsEntry, EntriesRise, SlotIsFree, SlotsDiffer, header_parts, first_layout, header_bytes, settings_bytes, limit_bytes, stored_limit, entry_bytes, entry_places, IsDecoded};
+ghost use Rattle.hill_bytes.specs.Layout.{HeaderParts, IsHeader, IsHeaderParts, IsEntry, EntriesRise, SlotIsFree, SlotsDiffer, Layout, header_parts, header_bytes, layout_of, new_layout, old_layout, settings_bytes, limit_bytes, stored_limit, entry_bytes, entry_places, IsDecoded};
 
 pub(crate) mod reader;
 pub(crate) mod writer;
 
+use crate::format::Format;
 use reader::{u8_at, u16_at, u32_at, u64_at};
 use std::marker::Model;
 use war_types::{RawSettings, Settings};
@@ -172,10 +173,29 @@ fn slot_is_free(slot: u8, entries: &[HeaderEntry]) -> bool
 
 /// The 512 bytes of a header. It needs no memory: its answer stands whatever is refused.
 pub fn encode_header(header: &Header) -> [u8; 512]
-    ensures { result ≡ header_bytes first_layout header.now }
+    ensures { result ≡ header_bytes new_layout header.now }
+{
+    encode_in(Format::New, header)
+}
+
+/// The 512 bytes of a header in the old format, `None` where its warriors may have more than 100 instructions. It needs no memory: its answer
+/// stands whatever is refused.
+pub fn encode_old_header(header: &Header) -> Option<[u8; 512]>
+    ensures { SomeIff result (header.now.settings.length ≤ 100) (header_bytes old_layout header.now) }
+{
+    if header.settings().length() > Format::Old.code_room() {
+        return None;
+    }
+    Some(encode_in(Format::Old, header))
+}
+
+/// The 512 bytes of a header in a format, whether or not it has room for the longest warriors. It needs no memory: its answer stands
+/// whatever is refused.
+pub fn encode_in(format: Format, header: &Header) -> [u8; 512]
+    ensures { result ≡ header_bytes (layout_of format) header.now }
 {
     let mut sector = SectorWriter::new();
-    sector.put(b"KOTHHIL1");
+    sector.put(&format.magic());
     sector.put_u64(header.generation());
     put_settings(&mut sector, header.settings());
     put_limits(&mut sector, header.settings());
@@ -242,19 +262,34 @@ fn put_entries(sector: &mut SectorWriter, entries: &[HeaderEntry])
 
 /// The header whose bytes these are; `None` where they are no header's. It needs no memory: its answer stands whatever is refused.
 pub fn decode_header(bytes: &[u8; 512]) -> Option<Header>
-    ensures { IsDecoded first_layout bytes.now result }
+    ensures { IsDecoded new_layout bytes.now result }
+{
+    decode_in(Format::New, bytes)
+}
+
+/// The header whose bytes these are in the old format; `None` where they are none's. It needs no memory: its answer stands whatever is
+/// refused.
+pub fn decode_old_header(bytes: &[u8; 512]) -> Option<Header>
+    ensures { IsDecoded old_layout bytes.now result }
+{
+    decode_in(Format::Old, bytes)
+}
+
+/// The header whose bytes these are in a format; `None` where they are none's. It needs no memory: its answer stands whatever is refused.
+pub fn decode_in(format: Format, bytes: &[u8; 512]) -> Option<Header>
+    ensures { IsDecoded (layout_of format) bytes.now result }
 {
     let header = read_header(bytes)?;
-    if encode_header(&header) == *bytes {
+    if header.settings().length() <= format.code_room() && encode_in(format, &header) == *bytes {
         Some(header)
     } else {
         None
     }
 }
 
-/// Reads the fields. Of bytes that are no header's it may give any header, or none.
+/// Reads the fields, which stand at the same places in each format. Of bytes that are no header's it may give any header, or none.
 fn read_header(bytes: &[u8; 512]) -> Option<Header>
-    ensures { (h : HeaderParts) → IsHeader first_layout bytes.now h → result ≡ Some h }
+    ensures { (layout : Layout) (h : HeaderParts) → IsHeader layout bytes.now h → result ≡ Some h }
 {
     let settings = read_settings(bytes)?;
     let count = usize::from(u16_at(bytes, 48));

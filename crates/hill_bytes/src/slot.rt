@@ -5,7 +5,7 @@ ghost use Rattle.war_types.specs.declared.instr.Instr.{Instr};
 ghost use Rattle.war_types.specs.Bytes.{instr_bytes};
 ghost use Rattle.war_types.specs.Title.{IsTitle};
 ghost use Rattle.war_types.specs.Warrior.{WarriorParts, HasNumbersBelow, Fits};
-ghost use Rattle.hill_bytes.specs.Layout.{first_layout, code_places, code_room, fields_bytes, filled, slot_bytes, result_places, results_in, wins_in, with_code, FitRounds, IsTitled, IsSlot, IsSlotRead};
+ghost use Rattle.hill_bytes.specs.Layout.{new_layout, code_places, code_room, fields_bytes, filled, slot_bytes, result_places, results_in, wins_in, with_code, FitRounds, IsTitled, IsSlot, IsSlotRead};
 
 use crate::header::reader::u16_at;
 use crate::header::writer::SectorWriter;
@@ -15,19 +15,19 @@ use std::alloc::{AllocError, Allocator};
 use war_types::{Instr, Settings, Title, Warrior};
 
 /// Sectors of a slot.
-pub const SECTORS: usize = 2;
+pub const SECTORS: usize = 4;
 
 /// The last of them. Those before it are full of code.
-const LAST: usize = SECTORS - 1;
+pub(crate) const LAST: usize = SECTORS - 1;
 
 /// Instructions that stand in a sector full of code.
 const FULL_PLACES: usize = 64;
 
 /// Instructions that stand in the last sector.
-const LAST_PLACES: usize = 36;
+const LAST_PLACES: usize = 8;
 
 /// Where its fields begin.
-const FIELDS_AT: usize = 288;
+pub(crate) const FIELDS_AT: usize = 288;
 
 /// Results that stand in it: one for each slot that an older warrior may have.
 pub const RESULTS: usize = 21;
@@ -35,8 +35,8 @@ pub const RESULTS: usize = 21;
 /// Where they begin.
 const RESULTS_AT: usize = 388;
 
-/// The sectors of a slot: the first holds instructions 0 to 63, the last instructions 64 to 99, their number, the start, the two names, and
-/// the results by the older warrior's slot.
+/// The sectors of a slot: the first three hold instructions 0 to 191, 64 each, the last instructions 192 to 199, the number of all, the
+/// start, the two names, and the results by the older warrior's slot.
 #[derive(Debug, Drop)]
 pub struct Slot {
     /// In their order on the device.
@@ -46,7 +46,7 @@ pub struct Slot {
 impl Slot {
     /// Sectors of zeros. It needs no memory.
     pub fn blank() -> Slot
-        ensures { result.sectors ≡ replicate (first_layout.full + 1) (replicate 512 0) }
+        ensures { result.sectors ≡ replicate (new_layout.full + 1) (replicate 512 0) }
     {
         Slot {
             sectors: [[0; 512]; SECTORS],
@@ -55,7 +55,7 @@ impl Slot {
 
     /// The sectors that hold a warrior and the results of its matches, by the older warrior's slot. It needs no memory.
     pub fn encode<A: Allocator>(warrior: &Warrior<A>, results: &[Wins; RESULTS]) -> Slot
-        ensures value { result.sectors ≡ slot_bytes first_layout warrior.now results.now }
+        ensures value { result.sectors ≡ slot_bytes new_layout warrior.now results.now }
         ensures titled { IsTitled warrior.now }
     {
         let mut sectors = [[0; 512]; SECTORS];
@@ -72,7 +72,7 @@ impl Slot {
         alloc: A,
         settings: &Settings,
     ) -> Result<Option<Warrior<A>>, AllocError>
-        ensures { IfOk result (IsSlotRead first_layout settings.now self.now.sectors) }
+        ensures { IfOk result (IsSlotRead new_layout settings.now self.now.sectors) }
     {
         let results = self.results();
         if !fit_rounds(settings.rounds(), &results) {
@@ -91,7 +91,7 @@ impl Slot {
 
     /// The results that stand in the last sector, by the older warrior's slot. It needs no memory.
     pub fn results(&self) -> [Wins; RESULTS]
-        ensures value { result ≡ results_in first_layout self.now.sectors }
+        ensures value { result ≡ results_in new_layout self.now.sectors }
         ensures len { length result ≡ 21 }
     {
         let mut results = [Wins::NONE; RESULTS];
@@ -108,7 +108,7 @@ impl Slot {
         settings: &Settings,
     ) -> Result<Option<Warrior<A>>, AllocError>
         ensures fits { IfOk result (λ read. IfSome read (Fits settings.now)) }
-        ensures every { IfOk result (λ read. (w : WarriorParts) → IsSlot first_layout settings.now self.now.sectors w → read ≡ Some w) }
+        ensures every { IfOk result (λ read. (w : WarriorParts) → IsSlot new_layout settings.now self.now.sectors w → read ≡ Some w) }
     {
         let core = settings.core();
         let last = &self.sectors[LAST];
@@ -134,9 +134,9 @@ impl Slot {
         len: usize,
         core: u16,
     ) -> Result<Vec<Instr, A>, AllocError>
-        requires { len ≤ code_room first_layout }
+        requires { len ≤ code_room new_layout }
         ensures { IfOk result (λ code. (is : List Instr) (behind : List ℕ) → length is ≡ len → All (HasNumbersBelow core) is
-            → self.now.sectors ≡ with_code first_layout is behind → code.items ≡ is) }
+            → self.now.sectors ≡ with_code new_layout is behind → code.items ≡ is) }
     {
         let mut code = Vec::new(alloc);
         for place in 0..len {
@@ -150,9 +150,9 @@ impl Slot {
 
     /// The instruction of a place, counted from 0 through all sectors.
     fn instr_at(&self, place: usize, core: u16) -> Option<Instr>
-        requires { place < code_room first_layout }
+        requires { place < code_room new_layout }
         ensures { (is : List Instr) (behind : List ℕ) (other : Instr) → place < length is → HasNumbersBelow core (get_or is place other)
-            → self.now.sectors ≡ with_code first_layout is behind → result ≡ Some (get_or is place other) }
+            → self.now.sectors ≡ with_code new_layout is behind → result ≡ Some (get_or is place other) }
     {
         read_instr(
             &self.sectors[place / FULL_PLACES],
@@ -171,7 +171,7 @@ fn code_from(code: &[Instr], from: usize) -> &[Instr]
 
 /// The n-th of the sectors that are full of code.
 fn full_sector(code: &[Instr], n: usize) -> [u8; 512]
-    requires { n < first_layout.full }
+    requires { n < new_layout.full }
     ensures { result ≡ code_places 64 (drop (64 * n) code.now) }
 {
     let mut sector = SectorWriter::new();
@@ -181,7 +181,7 @@ fn full_sector(code: &[Instr], n: usize) -> [u8; 512]
 
 /// The last sector of a slot.
 fn last_sector<A: Allocator>(warrior: &Warrior<A>, results: &[Wins; RESULTS]) -> [u8; 512]
-    ensures value { result ≡ code_places first_layout.last (drop (64 * first_layout.full) warrior.now.code) ++ fields_bytes warrior.now results.now }
+    ensures value { result ≡ code_places new_layout.last (drop (64 * new_layout.full) warrior.now.code) ++ (replicate new_layout.zeros 0 ++ fields_bytes warrior.now results.now) }
     ensures titled { IsTitled warrior.now }
 {
     let mut sector = SectorWriter::new();

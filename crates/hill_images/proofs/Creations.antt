@@ -1,52 +1,51 @@
--- The exits of a creation.
-use Rattle.std.proofs.Common.{◌≡◌, inl, inr, ◌≤◌, [], ◌∷◌, Result, Ok, Err, IfOk, IfErr, sym, ap, subst, ◌∙◌}
-use Rattle.war_types.specs.declared.settings.RawSettings.{RawSettings}
-use Rattle.war_types.specs.Settings.{AreSettings}
+-- The exits of writing a hill to a device that holds none.
+use Rattle.std.proofs.Common.{◌≡◌, inl, inr, ◌≤◌, [], ◌∷◌, Result, Ok, Err, IfErr, OnOk, sym, ap, subst, ◌∙◌}
 use Rattle.sector_disk.specs.Facts.{DeviceFacts}
-use Rattle.sector_disk.specs.Disk.{current, synced}
-use Rattle.sector_disk.specs.Changes.{after, Begun, Changes}
+use Rattle.sector_disk.specs.Disk.{current, synced, IsSettled}
+use Rattle.sector_disk.specs.Image.{Images}
+use Rattle.sector_disk.specs.Changes.{Begun}
+use Rattle.sector_disk.specs.Served.{IsKept, Failed}
 use Rattle.sector_disk.proofs.Images.{settled-synced}
-use Rattle.koth_hill.specs.Kept.{new_kept}
+use Rattle.koth_hill.specs.Kept.{Kept}
+use Rattle.hill_bytes.specs.Layout.{HeaderParts, sectors_for}
 use Rattle.hill_images.specs.declared.refusal.Refusal.{Refusal}
 use Rattle.hill_images.specs.declared.refusal.Refusal.TheVariants as refusals
-use Rattle.hill_bytes.specs.Layout.{Layout, HeaderParts, code_room, sectors_in}
-use Rattle.hill_images.specs.Stands.{IsReady}
-use Rattle.hill_images.specs.Places.{commits}
-use Rattle.sector_disk.specs.Served.{IsKept, Failed}
-use Rattle.hill_images.specs.Opening.{HoldsNoneIn, first_header, IsCreationCutIn, IsFirst, IsNotFirst}
-use Rattle.hill_images.proofs.Firsts.{first_committed, first_stopped, images_begun_sync}
+use Rattle.hill_images.specs.Opening.{HoldsNone, IsNotWritten, IsWriteCut, IsWritten}
+use Rattle.hill_images.specs.Writing.{IsPut, NoneOrHill}
+use Rattle.hill_images.proofs.Firsts.{images_begun_sync}
 use Rattle.hill_images.proofs.WarriorsRead.{rose_more}
 
 -- the device failed before anything was written
-pub cut_early : {D : Type 0} {layout : Layout} (facts : DeviceFacts D) (old new : D) (s : RawSettings) → Failed facts old new → (facts.lawful old → Begun (synced ∷ []) (facts.disk old) (facts.disk new)) → IsCreationCutIn layout facts old s new
-cut_early facts old new s rose begun = record {
+pub cut_early : {D : Type 0} (facts : DeviceFacts D) (old new : D) (hill : Kept) → Failed facts old new → (facts.lawful old → Begun (synced ∷ []) (facts.disk old) (facts.disk new)) → IsWriteCut facts old hill new
+cut_early facts old new hill rose begun = record {
   cause = rose;
   images = λ lawful. λ image. λ is. inl (images_begun_sync (facts.disk old) (facts.disk new) (begun lawful) image is);
-  occupied = λ lawful. λ h. λ is. begun lawful;
+  occupied = λ lawful. λ is. begun lawful;
 }
 
--- it failed while the first header was written
-pub cut_late : {D : Type 0} {layout : Layout} (facts : DeviceFacts D) (old mid new : D) (s : RawSettings) → AreSettings s → s.length ≤ code_room layout → sectors_in layout s.capacity ≤ facts.size old → IsKept facts old mid → IsKept facts mid new → Failed facts mid new → (facts.lawful old → facts.disk mid ≡ synced (facts.disk old)) → (facts.lawful old → HoldsNoneIn layout (current (facts.disk old))) → (facts.lawful mid → Begun (commits layout (first_header s)) (facts.disk mid) (facts.disk new)) → IsCreationCutIn layout facts old s new
-cut_late {layout = layout} facts old mid new s are long room front back rose settled none begun = record {
-  cause = rose_more facts old mid new front.later back.later rose;
-  images = λ lawful. λ image. λ is. inr (first_stopped layout (facts.size new) (synced (facts.disk old)) (facts.disk new) s are long (subst (λ n. sectors_in layout s.capacity ≤ n) (sym (back.same_size ∙ front.same_size)) room)
-      (settled-synced (facts.disk old)) (none lawful) (subst (λ d. Begun (commits layout (first_header s)) d (facts.disk new)) (settled lawful) (begun (front.same_laws.1 lawful))) image is);
-  occupied = λ lawful. λ h. λ is. absurd (none lawful h is);
-}
+module _ {D : Type 0} (facts : DeviceFacts D) (old mid new : D) (h : HeaderParts) (hill : Kept) (front : IsKept facts old mid) (back : IsKept facts mid new) (settled : facts.lawful old → facts.disk mid ≡ synced (facts.disk old)) (none : facts.lawful old → HoldsNone (current (facts.disk old))) where
+  settled_mid : facts.lawful old → IsSettled (facts.disk mid)
+  settled_mid lawful = subst IsSettled (sym (settled lawful)) (settled-synced (facts.disk old))
 
--- what the first commit answered
-pub first_or_not : {D : Type 0} (layout : Layout) (facts : DeviceFacts D) (old mid new : D) (s : RawSettings) (result : Result HeaderParts Refusal) → AreSettings s → s.length ≤ code_room layout → sectors_in layout s.capacity ≤ facts.size old → IsKept facts old mid → IsKept facts mid new → (facts.lawful old → facts.disk mid ≡ synced (facts.disk old)) → (facts.lawful old → HoldsNoneIn layout (current (facts.disk old)))
-    → IfOk result (λ h. h ≡ first_header s) → IfErr result (λ why. (why ≡ refusals.Disk) × Failed facts mid new) → (facts.lawful mid → Changes (commits layout (first_header s)) (facts.disk mid) (facts.disk new) result)
-    → IfOk result (IsFirst layout facts old s new) × IfErr result (IsNotFirst layout facts old s new)
-first_or_not layout facts old mid new s (Ok h) are long room front back settled none is_first cause changes = (
-  record {
-    settings = are;
-    first = is_first;
-    was_none = none;
-    ready = λ lawful. subst (λ x. IsReady layout (facts.disk new) x (new_kept s 0)) (sym is_first)
-        (first_committed layout (synced (facts.disk old)) (facts.disk new) s are long (none lawful) (changes (front.same_laws.1 lawful) ∙ ap (after (commits layout (first_header s))) (settled lawful)));
-  },
-  tt,
-)
-first_or_not layout facts old mid new s (Err why) are long room front back settled none is_first cause changes =
-    (tt, subst (λ x. IsNotFirst layout facts old s new x) (sym cause.0) (cut_late facts old mid new s are long room front back cause.1 settled none changes))
+  none_mid : facts.lawful old → HoldsNone (current (facts.disk mid))
+  none_mid lawful = subst HoldsNone (sym (ap current (settled lawful))) (none lawful)
+
+  -- it failed while the hill was written
+  cut_late : sectors_for hill.settings.capacity ≤ facts.size old → Failed facts mid new → (facts.lawful old → Images (facts.disk new) (NoneOrHill h hill)) → IsWriteCut facts old hill new
+  cut_late room rose each = record {
+    cause = rose_more facts old mid new front.later back.later rose;
+    images = λ lawful. λ image. λ is. inr (elim (each lawful image is) [
+      | inl without ↦ inl without
+      | inr shows ↦ inr (record { header = h; shows = shows; room = subst (λ n. sectors_for hill.settings.capacity ≤ n) (sym (back.same_size ∙ front.same_size)) room })
+    ]);
+    occupied = λ lawful. λ is. absurd (none lawful is.format is.header is.here);
+  }
+
+  -- what writing it answered
+  pub written_or_not : {T : Type 0} (result : Result T Refusal) → sectors_for hill.settings.capacity ≤ facts.size old → IfErr result (λ why. (why ≡ refusals.Disk) × Failed facts mid new)
+      → (facts.lawful mid → IsSettled (facts.disk mid) → HoldsNone (current (facts.disk mid)) → IsPut facts h hill new result)
+      → OnOk result (IsWritten facts old h hill new) × IfErr result (IsNotWritten facts old hill new)
+  written_or_not (Ok done) room cause put =
+      (record { was_none = none; ready = λ lawful. put (front.same_laws.1 lawful) (settled_mid lawful) (none_mid lawful) }, tt)
+  written_or_not (Err why) room cause put =
+      (tt, subst (IsNotWritten facts old hill new) (sym cause.0) (cut_late room cause.1 (λ lawful. put (front.same_laws.1 lawful) (settled_mid lawful) (none_mid lawful))))

@@ -1,9 +1,12 @@
--- The newest of the headers found.
-use Rattle.std.proofs.Common.{◌≡◌, ◌≢◌, ℕ, inl, inr, ◌%◌, ◌<◌, ◌≤◌, List, Option, Some, None, sym, ap, subst, ◌∙◌, arith}
+-- The headers that are found: the newest of a format, and whether there is one of either.
+use Rattle.std.proofs.Common.{◌≡◌, ◌≢◌, ℕ, inl, inr, ◌%◌, ◌<◌, ◌≤◌, Bool, true, false, ◌||◌, is_some, List, Option, Some, None, sym, ap, subst, ◌∙◌, arith}
 use Rattle.std.proofs.lemmas.Bool.{cases_eq}
-use Rattle.hill_bytes.specs.Layout.{Layout, HeaderParts, IsHeader}
+use Rattle.hill_bytes.specs.declared.format.Format.{Format}
+use Rattle.hill_bytes.specs.declared.format.Format.TheVariants as formats
+use Rattle.hill_bytes.specs.Layout.{Layout, HeaderParts, IsHeader, layout_of, new_layout, old_layout}
 use Rattle.hill_images.specs.Stands.{IsNewestIn}
-use Rattle.hill_images.specs.Found.{IsFoundIn, IsNewestFound}
+use Rattle.hill_images.specs.Found.{HoldsIf, IsFoundIn, IsHeaderAt, IsNewestFound}
+use Rattle.hill_images.specs.Opening.{HoldsHeader, HoldsOneIf}
 use Rattle.hill_bytes.proofs.Codes.{one_header}
 use Rattle.hill_images.proofs.Newest.{parity_low}
 
@@ -59,3 +62,24 @@ newest_odd_found layout image (Some odd) no_even is_odd = record {
       (λ g. λ parity. λ is. absurd (no_even g parity is))
       (λ g. λ parity. λ is. let same : g.generation ≡ odd.generation = same_generation layout (image 1) g odd is is_odd.1 in omega arith);
 }
+
+-- ---- headers of either format
+
+-- whether a sector holds one, by what was found in each format
+pub holds_if : (n : ℕ) (bytes : List ℕ) (old new : Option HeaderParts) → IsFoundIn old_layout n bytes old → IsFoundIn new_layout n bytes new → HoldsIf n bytes (is_some old || is_some new)
+holds_if n bytes (Some h) new is_old is_new = record { format = formats.Old; header = h; found = is_old }
+holds_if n bytes None (Some h) is_old is_new = record { format = formats.New; header = h; found = is_new }
+holds_if n bytes None None is_old is_new = λ format. none format
+  where
+    none : (format : Format) → IsFoundIn (layout_of format) n bytes None
+    none formats.Old = is_old
+    none formats.New = is_new
+
+found_held : (image : ℕ → List ℕ) (n : ℕ) → IsHeaderAt n (image n) → HoldsHeader image
+found_held image n at = record { format = at.format; header = at.header; here = found_at (layout_of at.format) image n at.header at.found }
+
+-- whether a device holds one, by its two sectors
+pub holds_one : (image : ℕ → List ℕ) (even odd : Bool) → HoldsIf 0 (image 0) even → HoldsIf 1 (image 1) odd → HoldsOneIf image (even || odd)
+holds_one image true odd is_even is_odd = found_held image 0 is_even
+holds_one image false true is_even is_odd = found_held image 1 is_odd
+holds_one image false false is_even is_odd = λ format. by_parity (layout_of format) image (λ g. ⊥) (is_even format) (is_odd format)

@@ -12,4 +12,6 @@ pub mod Exits
 pub mod Firsts
 pub mod WarriorsRead
 pub mod Creations
+pub mod Stored
+pub mod Puts
 pub mod Openings

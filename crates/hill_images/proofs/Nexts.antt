@@ -13,7 +13,7 @@ use Rattle.koth_hill.specs.Kept.{Kept, hill_in, fresh, fallen_place, without_pla
 use Rattle.koth_hill.proofs.RowsKept.{matches-rounds}
 use Rattle.hill_bytes.specs.declared.header.HeaderEntry.{HeaderEntry}
 use Rattle.hill_bytes.specs.declared.wins.Wins.{Wins}
-use Rattle.hill_bytes.specs.Layout.{HeaderParts, IsHeaderParts, IsEntry, SlotIsFree, IsSlot, Layout, results_in, slot_bytes, slot_in}
+use Rattle.hill_bytes.specs.Layout.{HeaderParts, IsHeaderParts, IsEntry, SlotIsFree, SlotsDiffer, IsSlot, Layout, results_in, slot_bytes, slot_in}
 use Rattle.hill_bytes.proofs.Results.{results-written}
 use Rattle.hill_images.specs.Stands.{AllHeld, ShowsIn, no_wins, bout_of, result_read, slots_of, results_read}
 use Rattle.hill_images.specs.Named.{Agree}
@@ -53,6 +53,15 @@ pub slot_holds : {layout : Layout} (s : RawSettings) (image : ℕ → List ℕ) 
     → IsSlot layout s (slot_in layout (with_slot layout slot w results image) slot) w
 slot_holds {layout} s image slot w results is = subst (λ sectors. IsSlot layout s sectors w) (sym (slot-put layout slot w results image)) is
 
+-- results with the warriors of these entries are read back, once they were written with a warrior to a slot
+pub row_back : (layout : Layout) (rounds : ℕ) (image : ℕ → List ℕ) (slot : ℕ) (w : WarriorParts) (es : List HeaderEntry) (bouts : List Bout) → rounds ≤ 1000 → All (λ e. e.slot ≤ 20) es → SlotsDiffer es → length bouts ≡ length es → HaveRounds rounds bouts
+    → map (λ older. result_read layout rounds (with_slot layout slot w (results_by_slot es bouts) image) older slot) (slots_of es) ≡ bouts
+row_back layout rounds image slot w es bouts most low differ long have =
+    ap (λ (ws : List Wins). map (λ older. bout_of rounds (get_or ws older no_wins)) (slots_of es))
+    (ap (results_in layout) (slot-put layout slot w (results_by_slot es bouts) image)
+    ∙ results-written layout w (results_by_slot es bouts) rounds most (length-by_slot es bouts) (fits-by_slot rounds es bouts have))
+    ∙ by_slot-back rounds es bouts low differ long have
+
 -- a challenger that stays, with the results of its matches
 pub shows_placed : {layout : Layout} (image : ℕ → List ℕ) (h : HeaderParts) (hill : Kept) (fallen : Option ℕ) (slot : ℕ) (w : WarriorParts) → SlotIsFree slot h.entries
     → IsSlot layout hill.settings (slot_bytes layout w (results_by_slot h.entries (fresh hill w))) w → IsHeaderParts h → IsHeaderParts (header_placed h fallen slot) → IsKept hill → ShowsIn layout image h hill
@@ -85,14 +94,8 @@ shows_placed {layout} image h hill fallen slot w free is_slot was fits kept is =
     have : HaveRounds rounds (fresh hill w)
     have = matches-rounds hill.settings hill.members w
 
-    -- what is read of the new slot
-    own : results_in layout (slot_in layout next slot) ≡ results
-    own = ap (results_in layout) (slot-put layout slot w results image)
-        ∙ results-written layout w results rounds kept.hill.settings.rounds_most (length-by_slot h.entries (fresh hill w)) (fits-by_slot rounds h.entries (fresh hill w) have)
-
     row : map (λ older. result_read layout rounds next older slot) (slots_of h.entries) ≡ fresh hill w
-    row = ap (λ (ws : List Wins). map (λ older. bout_of rounds (get_or ws older no_wins)) (slots_of h.entries)) own
-        ∙ by_slot-back rounds h.entries (fresh hill w) (slots_low h was) was.slots long have
+    row = row_back layout rounds image slot w h.entries (fresh hill w) kept.hill.settings.rounds_most (slots_low h was) was.slots long have
 
     place : position (λ e. is_entry e.entry fallen) h.entries ≡ fallen_place fallen hill.members
     place = place-agrees fallen h.entries hill.members agree

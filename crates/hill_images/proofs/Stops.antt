@@ -51,11 +51,14 @@ abbrev pub Either : Layout → HeaderParts → HeaderParts → Kept → Kept →
 Either layout h next old new image = ShowsIn layout image h old ⊎ ShowsIn layout image next new
 
 -- a commit that was made in full
-pub committed : {layout : Layout} (disk : Disk) (h next : HeaderParts) (old new : Kept) → IsStep layout (current disk) h next old new → IsReady layout (after (commits layout next) disk) next new
-committed {layout} disk h next old new is = record {
+pub committed_of : {layout : Layout} (disk : Disk) (next : HeaderParts) (new : Kept) → ShowsIn layout (with_header layout next (current disk)) next new → IsReady layout (after (commits layout next) disk) next new
+committed_of {layout} disk next new behind = record {
   settled = settled-synced (wrote (next.generation % 2) (header_bytes layout next) disk);
-  shows = subst (λ image. ShowsIn layout image next new) (sym (current-wrote disk (next.generation % 2) (header_bytes layout next))) is.behind;
+  shows = subst (λ image. ShowsIn layout image next new) (sym (current-wrote disk (next.generation % 2) (header_bytes layout next))) behind;
 }
+
+pub committed : {layout : Layout} (disk : Disk) (h next : HeaderParts) (old new : Kept) → IsStep layout (current disk) h next old new → IsReady layout (after (commits layout next) disk) next new
+committed disk h next old new is = committed_of disk next new is.behind
 
 -- a commit that was stopped
 pub commit_stopped : {layout : Layout} (disk stopped : Disk) (h next : HeaderParts) (old new : Kept) → IsSettled disk → IsStep layout (current disk) h next old new → Begun (commits layout next) disk stopped → Images stopped (Either layout h next old new)
@@ -83,7 +86,7 @@ commit_stopped {layout} disk stopped h next old new settled is begun = elim begu
 pub slot_kept : (layout : Layout) (slot : ℕ) (h : HeaderParts) (hill : Kept) → SlotIsFree slot h.entries → IsKeptBy (λ image. ShowsIn layout image h hill) (slot_at layout slot) (slot_at layout slot + (layout.full + 1))
 slot_kept layout slot h hill free m content image from to is = shows_elsewhere image m content h hill (omega (arith, from)) (apart_slot layout m slot h.entries from to free) is
 
-slot_room : (layout : Layout) (slot : ℕ) (w : WarriorParts) (results : List Wins) → slot_at layout slot + length (slot_bytes layout w results) ≤ slot_at layout slot + (layout.full + 1)
+pub slot_room : (layout : Layout) (slot : ℕ) (w : WarriorParts) (results : List Wins) → slot_at layout slot + length (slot_bytes layout w results) ≤ slot_at layout slot + (layout.full + 1)
 slot_room layout slot w results = omega (arith, length-slot layout w results)
 
 -- a warrior was written to one

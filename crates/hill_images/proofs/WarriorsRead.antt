@@ -1,5 +1,5 @@
 -- The warriors of a header, read one after another.
-use Rattle.std.proofs.Common.{◌≡◌, ℕ, zero, suc, ◌+◌, ◌-◌, ◌<◌, ◌≤◌, List, [], ◌∷◌, ◌++◌, length, map, All, take, get_or, refl, sym, ap, ap₂, subst, ◌∙◌, inl, inr, min, arith, length-take}
+use Rattle.std.proofs.Common.{◌≡◌, ℕ, zero, suc, ◌+◌, ◌-◌, ◌<◌, ◌≤◌, List, [], ◌∷◌, ◌++◌, length, map, All, take, get_or, Option, None, Some, Result, Ok, Err, IfOk, refl, sym, ap, ap₂, subst, ◌∙◌, inl, inr, min, arith, length-take}
 use Rattle.std.proofs.lemmas.Bool.{cases_eq}
 use Rattle.std.proofs.lemmas.List.{take_more, take_all}
 use Rattle.std.proofs.lemmas.List.Elements.{All-nil, All-cons, All-head, All-tail, All-take, All-get_or}
@@ -13,12 +13,12 @@ use Rattle.koth_hill.specs.Hill.{Member, member_of, last_entry, last_entry_from}
 use Rattle.koth_hill.specs.Kept.{Kept, IsKept as IsKeptHill, kept_of}
 use Rattle.hill_bytes.specs.declared.header.HeaderEntry.{HeaderEntry}
 use Rattle.hill_bytes.specs.declared.wins.Wins.{Wins}
-use Rattle.hill_bytes.specs.Layout.{HeaderParts, IsHeaderParts, IsEntry, EntriesRise, FitRounds, Layout, results_in, slot_in}
+use Rattle.hill_bytes.specs.Layout.{HeaderParts, IsHeaderParts, IsEntry, EntriesRise, FitRounds, HoldsSame, IsSlotRead, Layout, code_room, new_layout, results_in, slot_in}
 use Rattle.hill_images.specs.Stands.{IsHeld, AllHeld, no_wins, bout_of, slots_of, results_read}
 use Rattle.hill_images.specs.Named.{Agree}
 use Rattle.sector_disk.specs.Served.{IsKept, Failed}
 use Rattle.sector_disk.proofs.Kept.{kept_on}
-use Rattle.hill_images.specs.Reading.{ResultsRead, SlotHolds, WarriorRead, WarriorNotRead, HillRead, HillNotRead}
+use Rattle.hill_images.specs.Reading.{IsDecodedAs, ResultsRead, SlotHolds, WarriorRead, WarriorNotRead, HillRead, HillNotRead}
 use Rattle.hill_images.specs.declared.reading.Unread.{Unread}
 use Rattle.hill_images.specs.declared.reading.Unread.TheVariants as unread
 use Rattle.hill_images.proofs.Held.{held_more}
@@ -206,3 +206,24 @@ read_all {layout = layout} facts old now h i hill past kept read = record {
   where
     whole : take i h.entries ≡ h.entries
     whole = take_all i h.entries past
+
+-- ---- what was decoded
+
+pub same_read : (layout : Layout) (s : RawSettings) (sectors others : List (List ℕ)) (read : Option WarriorParts) → HoldsSame layout sectors others → s.length ≤ code_room layout → IsSlotRead new_layout s sectors read → IsSlotRead layout s others read
+same_read layout s sectors others None same room none = λ w is. none w ((same.warriors s w room).1 is)
+same_read layout s sectors others (Some w) same room is = (same.warriors s w room).0 is
+
+pub decoded_some : {W E : Type 0} (found : Result (Option W) E) (w : W) (P : Option W → Type 0) → IsDecodedAs found (Ok w) → IfOk found P → P (Some w)
+decoded_some (Ok (Some v)) w P is has = let same : Some v ≡ Some w = cc in subst P same has
+decoded_some (Ok None) w P is has = cc
+decoded_some (Err error) w P is has = cc
+
+pub not_decoded : {D E : Type 0} (layout : Layout) (facts : DeviceFacts D) (old new : D) (s : RawSettings) (slot : ℕ) (found : Result (Option WarriorParts) E) (why : Unread) → IsDecodedAs found (Err why)
+    → IfOk found (λ read. facts.lawful old → IsSlotRead layout s (slot_in layout (current (facts.disk old)) slot) read) → WarriorNotRead layout facts old new s slot why
+not_decoded layout facts old new s slot (Ok (Some w)) why is has = cc
+not_decoded layout facts old new s slot (Ok None) unread.Damaged is has = has
+not_decoded layout facts old new s slot (Ok None) unread.Disk is has = cc
+not_decoded layout facts old new s slot (Ok None) unread.Memory is has = tt
+not_decoded layout facts old new s slot (Err error) unread.Memory is has = tt
+not_decoded layout facts old new s slot (Err error) unread.Disk is has = cc
+not_decoded layout facts old new s slot (Err error) unread.Damaged is has = cc

@@ -4,4 +4,5 @@ pub mod Found
 pub mod Named
 pub mod Reading
 pub mod Opening
+pub mod Writing
 pub mod Laws

@@ -5,7 +5,7 @@ use Rattle.sector_disk.specs.Facts.{DeviceFacts}
 use Rattle.koth_hill.specs.Hill.{Member, Hill}
 use Rattle.koth_hill.specs.Kept.{Kept, hill_in, IsKept}
 use Rattle.hill_bytes.specs.declared.header.HeaderEntry.{HeaderEntry}
-use Rattle.hill_bytes.specs.Layout.{Layout, HeaderParts, IsHeaderParts, first_layout, sectors_in}
+use Rattle.hill_bytes.specs.Layout.{Layout, HeaderParts, IsHeaderParts, new_layout, sectors_in}
 use Rattle.hill_images.specs.Stands.{IsReady}
 
 -- entries and members agree one by one
@@ -31,4 +31,4 @@ pub record IsSoundIn {D : Type 0} (layout : Layout) (facts : DeviceFacts D) (dev
   pub ready : facts.lawful device → reopen ≡ false → IsReady layout (facts.disk device) h hill
 
 abbrev pub IsSound : {D : Type 0} → DeviceFacts D → D → HeaderParts → Kept → RawSettings → Bool → Type 0
-IsSound facts device h hill arena reopen = IsSoundIn first_layout facts device h hill arena reopen
+IsSound facts device h hill arena reopen = IsSoundIn new_layout facts device h hill arena reopen

@@ -1,4 +1,4 @@
--- Which hill an image stands for. Each of these is said of every layout; the words without `In` are said of the one that devices have.
+-- Which hill an image stands for. Each of these is said of every layout; the words without `In` are said of the new one, in which hills are written.
 use Rattle.std.specs.Prelude.{◌≡◌, ℕ, ◌+◌, ◌-◌, ◌%◌, ◌≤◌, List, [], ◌∷◌, map, get_or}
 use Rattle.war_types.specs.declared.settings.RawSettings.{RawSettings}
 use Rattle.sector_disk.specs.Disk.{Disk, current, IsSettled}
@@ -7,7 +7,7 @@ use Rattle.koth_hill.specs.Hill.{Member, Hill}
 use Rattle.koth_hill.specs.Kept.{Kept, rows_with, fought}
 use Rattle.hill_bytes.specs.declared.header.HeaderEntry.{HeaderEntry}
 use Rattle.hill_bytes.specs.declared.wins.Wins.{Wins}
-use Rattle.hill_bytes.specs.Layout.{Layout, HeaderParts, IsHeader, IsSlot, first_layout, results_in, slot_in, sectors_in}
+use Rattle.hill_bytes.specs.Layout.{Layout, HeaderParts, IsHeader, IsSlot, new_layout, results_in, slot_in, sectors_in}
 
 -- the valid header of greatest generation; one is valid in the sector of its generation's parity
 pub record IsNewestIn (layout : Layout) (image : ℕ → List ℕ) (h : HeaderParts) : Type 0 where
@@ -70,16 +70,16 @@ pub record IsReady (layout : Layout) (disk : Disk) (h : HeaderParts) (hill : Kep
   pub settled : IsSettled disk
   pub shows : ShowsIn layout (current disk) h hill
 
--- ---- in the layout that devices have
+-- ---- in the new layout
 
 abbrev pub IsNewest : (ℕ → List ℕ) → HeaderParts → Type 0
-IsNewest image h = IsNewestIn first_layout image h
+IsNewest image h = IsNewestIn new_layout image h
 
 abbrev pub Shows : (ℕ → List ℕ) → HeaderParts → Kept → Type 0
-Shows image h hill = ShowsIn first_layout image h hill
+Shows image h hill = ShowsIn new_layout image h hill
 
 abbrev pub Reads : ℕ → (ℕ → List ℕ) → Kept → Type 0
-Reads size image hill = ReadsIn first_layout size image hill
+Reads size image hill = ReadsIn new_layout size image hill
 
 abbrev pub Stands : ℕ → (ℕ → List ℕ) → Hill → Type 0
-Stands size image hill = StandsIn first_layout size image hill
+Stands size image hill = StandsIn new_layout size image hill

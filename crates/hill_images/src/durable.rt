@@ -3,7 +3,7 @@
 ghost use Rattle.std.specs.Prelude.{◌≡◌, ◌<◌, ◌≤◌};
 ghost use Rattle.sector_disk.specs.Changes.{Changes};
 ghost use Rattle.sector_disk.specs.Served.{IsServed};
-ghost use Rattle.hill_bytes.specs.Layout.{first_layout, sectors_for, IsTitled};
+ghost use Rattle.hill_bytes.specs.Layout.{new_layout, sectors_for, IsTitled};
 ghost use Rattle.hill_images.specs.Places.{commits, places};
 
 use crate::slots::write_slot;
@@ -24,7 +24,7 @@ pub fn place<D: Device, A: Allocator>(
     requires { sectors_for slot ≤ D.facts.size device.old }
     ensures served { IsServed D.facts device.old device.new result }
     ensures titled { IsTitled warrior.now }
-    ensures changes { D.facts.lawful device.old → Changes (places first_layout header.now slot warrior.now results.now) (D.facts.disk device.old) (D.facts.disk device.new) result }
+    ensures changes { D.facts.lawful device.old → Changes (places new_layout header.now slot warrior.now results.now) (D.facts.disk device.old) (D.facts.disk device.new) result }
 {
     write_slot(device, slot, &Slot::encode(warrior, results))?;
     device.sync()?;
@@ -37,7 +37,7 @@ pub fn place<D: Device, A: Allocator>(
 pub fn commit<D: Device>(device: &mut D, header: &Header) -> Result<(), Fault>
     requires { 2 ≤ D.facts.size device.old }
     ensures served { IsServed D.facts device.old device.new result }
-    ensures changes { D.facts.lawful device.old → Changes (commits first_layout header.now) (D.facts.disk device.old) (D.facts.disk device.new) result }
+    ensures changes { D.facts.lawful device.old → Changes (commits new_layout header.now) (D.facts.disk device.old) (D.facts.disk device.new) result }
 {
     let sector = (header.generation() % 2) as u32;
     device.write(sector, &encode_header(header))?;

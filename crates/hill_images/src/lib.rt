@@ -3,13 +3,12 @@
 //!
 //! Data passes through the modules in this order: `entries` is the next header, the slot that is free for a warrior, and its results by
 //! the others' slots; `slots` is where a slot lies, and writes and reads its sectors; `durable` writes a slot and then the header that names
-//! it; `found` is the newest header that a device holds, and `reading` are the warriors that it names; `opening` writes the first header of a
-//! hill, or reads one back, and `refusal` says why it doesn't; `laws` are laws of
-//! the definitions.
+//! it; `found` are the headers that a device holds, and `reading` are the warriors that one names; `opening` reads a hill back, in either format,
+//! `writing` writes one to a device that holds none, and `refusal` says why they don't; `laws` are laws of the definitions.
 //!
 //! The main clauses: `place` and `commit` make the changes of `Places` in `specs` or begin them; `recover` answers the hill that
-//! the device reads as, settled so that no stop can lose it, or why there is none (`Opening`); an image stands for one hill at
-//! most (`Stands`, `Laws`). The lemmas of `Submitted` say what every image stands for after a stop.
+//! the device reads as, settled so that no stop can lose it, or why there is none, and `write_first` and `write_hill` leave no hill or this one,
+//! wherever they stop (`Opening`); an image stands for one hill at most (`Stands`, `Laws`). The lemmas of `Submitted` say what every image stands for after a stop.
 #![tactic(auto)]
 
 mod durable;
@@ -20,10 +19,12 @@ mod opening;
 mod reading;
 mod refusal;
 mod slots;
+mod writing;
 
 pub use durable::{commit, place};
 pub use entries::{free_slot, header_passed, header_placed, results_by_slot};
 pub use laws::laws_of_storage;
-pub use opening::{Recovered, recover, write_first};
+pub use opening::{Recovered, recover};
 pub use refusal::Refusal;
 pub use slots::sectors_for;
+pub use writing::{write_first, write_hill};

@@ -3,13 +3,13 @@
 ghost use Rattle.std.specs.Prelude.{◌≡◌, ◌+◌, ◌<◌, ◌≤◌, All, IfErr, IfOk, OnOk, get_or, length, map, take};
 ghost use Rattle.war_types.specs.Warrior.{Fits};
 ghost use Rattle.sector_disk.specs.Served.{IsKept};
-ghost use Rattle.hill_bytes.specs.Layout.{FitRounds, first_layout, sectors_for};
+ghost use Rattle.hill_bytes.specs.Layout.{FitRounds, code_room, layout_of, sectors_in};
 ghost use Rattle.hill_images.specs.Stands.{bout_of, no_wins};
 ghost use Rattle.hill_images.specs.Reading.{refusal_of, HillNotRead, HillRead, IsDecodedAs, ResultsRead, WarriorNotRead, WarriorRead};
 
 use crate::refusal::Refusal;
 use crate::slots::read_slot;
-use hill_bytes::{Header, HeaderEntry, RESULTS, Wins};
+use hill_bytes::{Format, Header, HeaderEntry, RESULTS, Wins};
 use koth_hill::Hill;
 use koth_match::Bout;
 use sector_disk::{Device, Fault};
@@ -50,14 +50,16 @@ const NO_ROUNDS: Bout = Bout {
 pub(crate) fn read_hill<D: Device, A: Allocator + Copy>(
     alloc: A,
     device: &mut D,
+    format: Format,
     header: &Header,
 ) -> Result<Hill<A>, Unread>
-    requires { sectors_for header.now.settings.capacity ≤ D.facts.size device.old }
+    requires size { sectors_in (layout_of format) header.now.settings.capacity ≤ D.facts.size device.old }
+    requires room { D.facts.lawful device.old → header.now.settings.length ≤ code_room (layout_of format) }
     ensures kept { IsKept D.facts device.old device.new }
     ensures same { D.facts.lawful device.old → D.facts.disk device.new ≡ D.facts.disk device.old }
     ensures faultless { OnOk result (D.facts.faults device.new ≡ D.facts.faults device.old) }
-    ensures read { IfOk result (HillRead first_layout D.facts device.old header.now) }
-    ensures unread { IfErr result (HillNotRead first_layout D.facts device.old device.new header.now) }
+    ensures read { IfOk result (HillRead (layout_of format) D.facts device.old header.now) }
+    ensures unread { IfErr result (HillNotRead (layout_of format) D.facts device.old device.new header.now) }
 {
     let settings = *header.settings();
     let entries = header.entries();
@@ -66,7 +68,7 @@ pub(crate) fn read_hill<D: Device, A: Allocator + Copy>(
         Err(AllocError) => return Err(Unread::Memory),
     };
     for (i, e) in entries.iter().enumerate() {
-        let held = match read_warrior(alloc, device, e.slot, &settings) {
+        let held = match read_warrior(alloc, device, format, e.slot, &settings) {
             Ok(held) => held,
             Err(unread) => return Err(unread),
         };
@@ -116,21 +118,23 @@ struct Held<A: Allocator> {
 fn read_warrior<D: Device, A: Allocator + Copy>(
     alloc: A,
     device: &mut D,
+    format: Format,
     slot: u8,
     settings: &Settings,
 ) -> Result<Held<A>, Unread>
-    requires { sectors_for slot ≤ D.facts.size device.old }
+    requires size { sectors_in (layout_of format) slot ≤ D.facts.size device.old }
+    requires room { D.facts.lawful device.old → settings.now.length ≤ code_room (layout_of format) }
     ensures kept { IsKept D.facts device.old device.new }
     ensures same { D.facts.lawful device.old → D.facts.disk device.new ≡ D.facts.disk device.old }
     ensures faultless { OnOk result (D.facts.faults device.new ≡ D.facts.faults device.old) }
     ensures fits { IfOk result (λ held. Fits settings.now held.warrior) }
     ensures rounds { IfOk result (λ held. FitRounds settings.now.rounds held.results) }
     ensures len { IfOk result (λ held. length held.results ≡ 21) }
-    ensures read { IfOk result (λ held. WarriorRead first_layout D.facts device.old settings.now slot held.warrior) }
-    ensures results { IfOk result (λ held. ResultsRead first_layout D.facts device.old slot held.results) }
-    ensures unread { IfErr result (WarriorNotRead first_layout D.facts device.old device.new settings.now slot) }
+    ensures read { IfOk result (λ held. WarriorRead (layout_of format) D.facts device.old settings.now slot held.warrior) }
+    ensures results { IfOk result (λ held. ResultsRead (layout_of format) D.facts device.old slot held.results) }
+    ensures unread { IfErr result (WarriorNotRead (layout_of format) D.facts device.old device.new settings.now slot) }
 {
-    let content = match read_slot(device, slot) {
+    let content = match read_slot(device, format, slot) {
         Ok(content) => content,
         Err(Fault) => return Err(Unread::Disk),
     };

@@ -2,22 +2,22 @@
 use Rattle.std.proofs.Common.{◌≡◌, ◌⊎◌, inl, inr, ℕ, ◌<◌, ◌≤◌, List, [], ◌∷◌, ◌++◌, Option, Some, None, refl, sym, ap, subst, ◌∙◌, arith}
 use Rattle.war_types.specs.declared.settings.RawSettings.{RawSettings}
 use Rattle.sector_disk.specs.Facts.{DeviceFacts}
-use Rattle.sector_disk.specs.Disk.{current, synced}
+use Rattle.sector_disk.specs.Disk.{current}
 use Rattle.sector_disk.specs.Image.{Images}
-use Rattle.sector_disk.specs.Changes.{Begun}
-use Rattle.sector_disk.proofs.Images.{images_read, images_sync}
+use Rattle.sector_disk.proofs.Images.{images_read}
 use Rattle.koth_hill.specs.Kept.{Kept, fought}
 use Rattle.hill_images.specs.declared.refusal.Refusal.{Refusal}
 use Rattle.hill_images.specs.declared.refusal.Refusal.TheVariants as refusals
-use Rattle.hill_bytes.specs.Layout.{HeaderParts, sectors_for}
+use Rattle.hill_bytes.specs.Layout.{HeaderParts, Layout, new_layout, sectors_in}
 use Rattle.hill_store.specs.Earned.{earned}
-use Rattle.hill_images.specs.Stands.{Shows, Reads, Stands}
+use Rattle.hill_images.specs.Stands.{ReadsIn, Reads, ShowsIn, Stands}
 use Rattle.hill_store.specs.Seen.{Seen}
 use Rattle.sector_disk.specs.Served.{IsKept}
-use Rattle.hill_images.specs.Opening.{IsNotOpened, Refuses}
+use Rattle.hill_images.specs.Opening.{IsNotOpened, RefusesIn}
 use Rattle.hill_store.specs.Opened.{IsCreated, IsOpened}
-use Rattle.hill_store.specs.Holding.{StandsFor, Holds, IsHolding, IsDecided, IsUndecided}
+use Rattle.hill_store.specs.Holding.{StandsFor, StandsForIn, Holds, IsHolding, IsDecided, IsUndecided}
 use Rattle.hill_images.proofs.Newest.{one_newest, reads_once}
+use Rattle.hill_store.proofs.Living.{begun_holds}
 
 -- a hill that was created holds no sources
 pub created_holds : {D : Type 0} (facts : DeviceFacts D) (old : D) (s : RawSettings) (store : Seen D) → IsKept facts old store.device → IsCreated facts old s store → facts.lawful old → IsHolding facts s [] store
@@ -53,35 +53,31 @@ decided facts old s before (Some source) store kept opened lawful holds = elim (
 ]
 
 -- a device that reads as a hill is refused for want of memory or for a failure alone
-reason_of : (size : ℕ) (image : ℕ → List ℕ) (hill : Kept) (why : Refusal) → Reads size image hill → Refuses size image why → (why ≡ refusals.Disk) ⊎ (why ≡ refusals.Memory)
-reason_of size image hill refusals.Disk stands reason = inl refl
-reason_of size image hill refusals.Memory stands reason = inr refl
-reason_of size image hill refusals.Occupied stands reason = absurd reason
-reason_of size image hill refusals.NotAHill stands reason = absurd (reason stands.header stands.shows.newest.here)
-reason_of size image hill refusals.Damaged stands reason =
-    absurd (reason.3 hill (subst (λ h. Shows image h hill) (one_newest image stands.header reason.0 stands.shows.newest reason.1) stands.shows))
-reason_of size image hill refusals.TooSmall stands (inl few) = let room : sectors_for hill.settings.capacity ≤ size = stands.room in absurd (omega (arith, few, room))
-reason_of size image hill refusals.TooSmall stands (inr few) =
-    let room : sectors_for hill.settings.capacity ≤ size = stands.room in
-    let short : size < sectors_for hill.settings.capacity =
-    subst (λ (t : RawSettings). size < sectors_for t.capacity) (ap (λ (h : HeaderParts). h.settings) (sym (one_newest image stands.header few.0 stands.shows.newest few.1)) ∙ stands.shows.settings) few.2 in
+reason_of : (layout : Layout) (size : ℕ) (image : ℕ → List ℕ) (hill : Kept) (why : Refusal) → ReadsIn layout size image hill → RefusesIn layout size image why → (why ≡ refusals.Disk) ⊎ (why ≡ refusals.Memory)
+reason_of layout size image hill refusals.Disk stands reason = inl refl
+reason_of layout size image hill refusals.Memory stands reason = inr refl
+reason_of layout size image hill refusals.Occupied stands reason = absurd reason
+reason_of layout size image hill refusals.NotAHill stands reason = absurd (reason stands.header stands.shows.newest.here)
+reason_of layout size image hill refusals.Damaged stands reason =
+    absurd (reason.3 hill (subst (λ h. ShowsIn layout image h hill) (one_newest image stands.header reason.0 stands.shows.newest reason.1) stands.shows))
+reason_of layout size image hill refusals.TooSmall stands (inl few) = let room : sectors_in layout hill.settings.capacity ≤ size = stands.room in absurd (omega (arith, few, room))
+reason_of layout size image hill refusals.TooSmall stands (inr few) =
+    let room : sectors_in layout hill.settings.capacity ≤ size = stands.room in
+    let short : size < sectors_in layout hill.settings.capacity =
+    subst (λ (t : RawSettings). size < sectors_in layout t.capacity) (ap (λ (h : HeaderParts). h.settings) (sym (one_newest image stands.header few.0 stands.shows.newest few.1)) ∙ stands.shows.settings) few.2 in
     absurd (omega (arith, short, room))
 
-any_reason : (size : ℕ) (image : ℕ → List ℕ) (s : RawSettings) (before : List (List ℕ)) (more : Option (List ℕ)) (why : Refusal) → StandsFor size s before more image → Refuses size image why → (why ≡ refusals.Disk) ⊎ (why ≡ refusals.Memory)
-any_reason size image s before None why stands reason = reason_of size image (fought (earned s before)) why stands reason
-any_reason size image s before (Some source) why (inl stands) reason = reason_of size image (fought (earned s before)) why stands reason
-any_reason size image s before (Some source) why (inr stands) reason = reason_of size image (fought (earned s (before ++ source ∷ []))) why stands reason
+pub any_reason : (layout : Layout) (size : ℕ) (image : ℕ → List ℕ) (s : RawSettings) (before : List (List ℕ)) (more : Option (List ℕ)) (why : Refusal) → StandsForIn layout size s before more image → RefusesIn layout size image why → (why ≡ refusals.Disk) ⊎ (why ≡ refusals.Memory)
+any_reason layout size image s before None why stands reason = reason_of layout size image (fought (earned s before)) why stands reason
+any_reason layout size image s before (Some source) why (inl stands) reason = reason_of layout size image (fought (earned s before)) why stands reason
+any_reason layout size image s before (Some source) why (inr stands) reason = reason_of layout size image (fought (earned s (before ++ source ∷ []))) why stands reason
 
 -- no hill was opened
 pub undecided : {D : Type 0} (facts : DeviceFacts D) (old : D) (s : RawSettings) (before : List (List ℕ)) (more : Option (List ℕ)) (new : D) (why : Refusal) → IsKept facts old new → IsNotOpened facts old new why → facts.lawful old → Holds (facts.size old) (facts.disk old) s before more → IsUndecided facts s before more new why
 undecided facts old s before more new why kept refused lawful holds = record {
-  cause = any_reason (facts.size old) (current (facts.disk old)) s before more why reads (refused.reason lawful);
-  holds = subst (λ n. Holds n (facts.disk new) s before more) (sym kept.same_size) (held (refused.kept lawful));
+  cause = any_reason new_layout (facts.size old) (current (facts.disk old)) s before more why reads (refused.reason lawful);
+  holds = subst (λ n. Holds n (facts.disk new) s before more) (sym kept.same_size) (begun_holds new_layout (facts.size old) s before more (facts.disk old) (facts.disk new) holds (refused.kept lawful));
 }
   where
     reads : StandsFor (facts.size old) s before more (current (facts.disk old))
     reads = images_read (facts.disk old) (StandsFor (facts.size old) s before more) holds
-
-    held : Begun (synced ∷ []) (facts.disk old) (facts.disk new) → Holds (facts.size old) (facts.disk new) s before more
-    held (inl same) = subst (λ d. Holds (facts.size old) d s before more) (sym same) holds
-    held (inr same) = subst (λ d. Holds (facts.size old) d s before more) (sym same) (images_sync (facts.disk old) (StandsFor (facts.size old) s before more) reads)

@@ -2,8 +2,9 @@ pub mod Written
 pub mod Replies
 pub mod Lists
 pub mod Holdings
-pub mod Decided
 pub mod Living
+pub mod Decided
+pub mod Moving
 pub mod Eventful
 pub mod Counting
 pub mod Fought

@@ -11,7 +11,7 @@ use Rattle.koth_hill.specs.declared.verdict.Verdict.{Verdict}
 use Rattle.koth_hill.specs.Kept.{Kept, verdict_kept}
 use Rattle.hill_bytes.specs.declared.header.HeaderEntry.{HeaderEntry}
 use Rattle.hill_bytes.specs.declared.wins.Wins.{Wins}
-use Rattle.hill_bytes.specs.Layout.{HeaderParts, SlotIsFree, first_layout}
+use Rattle.hill_bytes.specs.Layout.{HeaderParts, SlotIsFree, new_layout}
 use Rattle.hill_images.specs.Named.{Agree, IsSound}
 use Rattle.hill_images.specs.Places.{header_placed, places, results_by_slot}
 use Rattle.hill_images.proofs.Exits.{MayAdmit}
@@ -27,8 +27,8 @@ results_are h hill w judged results es bouts is same_es same_bouts judged_is =
 
 -- its slot, and the header that names it
 pub places_are : (h next : HeaderParts) (hill : Kept) (w : WarriorParts) (judged : Verdict) (slot : ℕ) (results : List Wins)
-    → next ≡ header_placed h judged.falls slot → results ≡ results_of h hill w → places first_layout next slot w results ≡ places first_layout (header_placed h judged.falls slot) slot w (results_of h hill w)
-places_are h next hill w judged slot results next_is results_is = ap₂ (λ (x : HeaderParts) (rs : List Wins). places first_layout x slot w rs) next_is results_is
+    → next ≡ header_placed h judged.falls slot → results ≡ results_of h hill w → places new_layout next slot w results ≡ places new_layout (header_placed h judged.falls slot) slot w (results_of h hill w)
+places_are h next hill w judged slot results next_is results_is = ap₂ (λ (x : HeaderParts) (rs : List Wins). places new_layout x slot w rs) next_is results_is
 
 -- there is a result for each on the hill
 pub results_each : (h : HeaderParts) (hill : Kept) (w : WarriorParts) (judged : Verdict) (es : List HeaderEntry) (bouts : List Bout)
@@ -42,7 +42,7 @@ module _ {D : Type 0} (facts : DeviceFacts D) (device : D) (h : HeaderParts) (hi
   -- what is known of a store as its caller sees it
   pub may_admit : (store : Seen D) (es : List HeaderEntry) → seen device hill h.generation reopen ≡ store → IsSound facts device h hill arena reopen → store.reopen ≡ false → store.generation < 2 ^ 64 - 1
       → Fits store.hill.settings w → judged ≡ verdict_kept store.hill w → judged.stays ≡ true → es ≡ h.entries → SlotIsFree slot es → slot ≤ length es
-      → MayAdmit first_layout facts device h hill arena reopen w judged slot
+      → MayAdmit new_layout facts device h hill arena reopen w judged slot
   may_admit store es is sound is_open more fits judged_is stays_is same free within = record {
     sound = sound;
     is_open = ap (λ (s : Seen D). s.reopen) is ∙ is_open;

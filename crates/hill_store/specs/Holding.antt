@@ -3,27 +3,38 @@ use Rattle.std.specs.Prelude.{◌≡◌, ◌⊎◌, ℕ, Bool, true, false, if�
 use Rattle.war_types.specs.declared.settings.RawSettings.{RawSettings}
 use Rattle.sector_disk.specs.Facts.{DeviceFacts}
 use Rattle.sector_disk.specs.Disk.{Disk}
-use Rattle.sector_disk.specs.Image.{Images}
+use Rattle.sector_disk.specs.Image.{IsImage, Images}
 use Rattle.hill_store.specs.declared.reply.Reply.{Reply}
 use Rattle.hill_store.specs.declared.reply.Reply.TheVariants as replies
 use Rattle.hill_images.specs.declared.refusal.Refusal.{Refusal}
 use Rattle.hill_images.specs.declared.refusal.Refusal.TheVariants as refusals
 use Rattle.koth_hill.specs.Kept.{fought}
 use Rattle.hill_store.specs.Earned.{earned}
-use Rattle.hill_images.specs.Stands.{Stands}
+use Rattle.hill_bytes.specs.Layout.{Layout, new_layout, old_layout}
+use Rattle.hill_images.specs.Opening.{HoldsNone}
+use Rattle.hill_images.specs.Stands.{StandsIn}
+use Rattle.hill_store.specs.declared.migration.MigrateFault.{MigrateFault}
+use Rattle.hill_store.specs.declared.migration.MigrateSide.TheVariants as sides
 use Rattle.hill_store.specs.Seen.{Seen}
 use Rattle.hill_store.specs.Runs.{is_disk}
 
 -- The hill that these sources earn, or these and one more, is what every image stands for.
-abbrev pub StandsFor : ℕ → RawSettings → List (List ℕ) → Option (List ℕ) → (ℕ → List ℕ) → Type 0
-StandsFor size s sources None image = Stands size image (earned s sources)
-StandsFor size s sources (Some source) image = Stands size image (earned s sources) ⊎ Stands size image (earned s (sources ++ source ∷ []))
+abbrev pub StandsForIn : Layout → ℕ → RawSettings → List (List ℕ) → Option (List ℕ) → (ℕ → List ℕ) → Type 0
+StandsForIn layout size s sources None image = StandsIn layout size image (earned s sources)
+StandsForIn layout size s sources (Some source) image = StandsIn layout size image (earned s sources) ⊎ StandsIn layout size image (earned s (sources ++ source ∷ []))
 
 -- What a disk of so many sectors holds: whatever a stop leaves of it stands for the hill that these sources earn from the beginning, with every
 -- pair fought anew, or where one more source is named, for that hill or for the one that it earns behind them. It stands for no other hill: an
 -- image stands for one at most.
+abbrev pub HoldsIn : Layout → ℕ → Disk → RawSettings → List (List ℕ) → Option (List ℕ) → Type 0
+HoldsIn layout size disk s sources more = Images disk (StandsForIn layout size s sources more)
+
+-- both in the new layout
+abbrev pub StandsFor : ℕ → RawSettings → List (List ℕ) → Option (List ℕ) → (ℕ → List ℕ) → Type 0
+StandsFor size s sources more image = StandsForIn new_layout size s sources more image
+
 abbrev pub Holds : ℕ → Disk → RawSettings → List (List ℕ) → Option (List ℕ) → Type 0
-Holds size disk s sources more = Images disk (StandsFor size s sources more)
+Holds size disk s sources more = HoldsIn new_layout size disk s sources more
 
 -- the submission was answered: it was placed, or fell, or was refused
 abbrev pub is_answer : Reply → Bool
@@ -86,3 +97,17 @@ pub record IsDecided {D : Type 0} (facts : DeviceFacts D) (s : RawSettings) (sou
 pub record IsUndecided {D : Type 0} (facts : DeviceFacts D) (s : RawSettings) (sources : List (List ℕ)) (more : Option (List ℕ)) (device : D) (why : Refusal) : Type 0 where
   pub cause : (why ≡ refusals.Disk) ⊎ (why ≡ refusals.Memory)
   pub holds : Holds (facts.size device) (facts.disk device) s sources more
+
+-- moving a hill decided it: both devices stand for what the sources found earn, and the store on the new one holds that
+pub record IsMoved {O D : Type 0} (old_facts : DeviceFacts O) (facts : DeviceFacts D) (s : RawSettings) (sources : List (List ℕ)) (more : Option (List ℕ)) (old : O) (store : Seen D) : Type 0 where
+  pub found : List (List ℕ)
+  pub are : AreDecided sources more found
+  pub holding : IsHolding facts s found store
+  pub kept : HoldsIn old_layout (old_facts.size old) (old_facts.disk old) s found None
+
+-- it did not: the old device holds what it held, and whatever a stop leaves of the new one was there before, or is without a hill, or stands for what
+-- these sources earn
+pub record IsUnmoved {O D : Type 0} (old_facts : DeviceFacts O) (facts : DeviceFacts D) (s : RawSettings) (sources : List (List ℕ)) (more : Option (List ℕ)) (old : O) (new after : D) (fault : MigrateFault) : Type 0 where
+  pub cause : (fault.side ≡ sides.New) ⊎ ((fault.refusal ≡ refusals.Disk) ⊎ (fault.refusal ≡ refusals.Memory))
+  pub holds : HoldsIn old_layout (old_facts.size old) (old_facts.disk old) s sources more
+  pub images : Images (facts.disk after) (λ image. IsImage (facts.disk new) image ⊎ (HoldsNone image ⊎ StandsFor (facts.size after) s sources more image))

@@ -1,16 +1,19 @@
--- What creating and opening a store makes of a device.
+-- What creating and opening a store makes of a device, and what moving a hill from one of the old format makes of both.
 use Rattle.std.specs.Prelude.{◌≡◌, ◌<◌, false}
 use Rattle.war_types.specs.declared.settings.RawSettings.{RawSettings}
 use Rattle.sector_disk.specs.Facts.{DeviceFacts}
 use Rattle.sector_disk.specs.Disk.{current, synced}
 use Rattle.sector_disk.specs.Image.{Images}
 use Rattle.koth_hill.specs.Step.{new_hill}
-use Rattle.koth_hill.specs.Kept.{new_kept}
-use Rattle.hill_bytes.specs.Layout.{HeaderParts, sectors_for}
+use Rattle.koth_hill.specs.Kept.{Kept, new_kept}
+use Rattle.hill_bytes.specs.Layout.{HeaderParts, old_layout, sectors_for}
 use Rattle.hill_images.specs.declared.refusal.Refusal.{Refusal}
 use Rattle.hill_images.specs.declared.refusal.Refusal.TheVariants as refusals
-use Rattle.hill_images.specs.Stands.{IsNewest, Reads, Stands}
-use Rattle.hill_images.specs.Opening.{HoldsNone, IsCreationCut}
+use Rattle.hill_images.specs.Stands.{IsNewest, IsNewestIn, Reads, ReadsIn, Stands}
+use Rattle.hill_images.specs.Opening.{HoldsNone, IsNotOpenedIn, IsNotWritten}
+use Rattle.hill_store.specs.declared.migration.MigrateFault.{MigrateFault}
+use Rattle.hill_store.specs.declared.migration.MigrateSide.{MigrateSide}
+use Rattle.hill_store.specs.declared.migration.MigrateSide.TheVariants as sides
 use Rattle.hill_store.specs.Seen.{Seen}
 
 -- a hill was created: its first header was written, and no call of the device failed
@@ -26,9 +29,8 @@ pub record IsCreated {D : Type 0} (facts : DeviceFacts D) (old : D) (s : RawSett
 abbrev pub IsNotCreated : {D : Type 0} → DeviceFacts D → D → RawSettings → D → Refusal → Type 0
 IsNotCreated facts old s new refusals.TooSmall = (facts.size old < sectors_for s.capacity) × (new ≡ old)
 IsNotCreated facts old s new refusals.Memory = new ≡ old
-IsNotCreated facts old s new refusals.Disk = IsCreationCut facts old s new
-IsNotCreated facts old s new refusals.Occupied =
-    facts.lawful old → ((h : HeaderParts) × IsNewest (current (facts.disk old)) h) × (facts.disk new ≡ synced (facts.disk old))
+IsNotCreated facts old s new refusals.Disk = IsNotWritten facts old (new_kept s 0) new refusals.Disk
+IsNotCreated facts old s new refusals.Occupied = IsNotWritten facts old (new_kept s 0) new refusals.Occupied
 IsNotCreated facts old s new refusals.NotAHill = ⊥
 IsNotCreated facts old s new refusals.Damaged = ⊥
 
@@ -40,3 +42,37 @@ pub record IsOpened {D : Type 0} (facts : DeviceFacts D) (old : D) (store : Seen
   pub synced_now : facts.lawful old → facts.disk store.device ≡ synced (facts.disk old)
   pub reads_as : facts.lawful old → Reads (facts.size old) (current (facts.disk old)) store.hill
   pub reads : facts.lawful old → Images (facts.disk store.device) (λ image. Reads (facts.size store.device) image store.hill)
+
+-- ---- from a device of the old format to another
+
+-- the hill of the old device: nothing that was read of it can be lost, and no call of it failed
+pub record IsReadOf {O : Type 0} (facts : DeviceFacts O) (old after : O) (hill : Kept) : Type 0 where
+  pub faultless : facts.faults after ≡ facts.faults old
+  pub synced_now : facts.lawful old → facts.disk after ≡ synced (facts.disk old)
+  pub reads_as : facts.lawful old → ReadsIn old_layout (facts.size old) (current (facts.disk old)) hill
+
+-- it was moved: the new device held none, and reads as it now, with the results that stood on the old one, true or not, and the generation of its header
+pub record IsMigrated {O D : Type 0} (old_facts : DeviceFacts O) (facts : DeviceFacts D) (old after : O) (new : D) (store : Seen D) : Type 0 where
+  pub read : IsReadOf old_facts old after store.hill
+  pub generation : old_facts.lawful old → (h : HeaderParts) × IsNewestIn old_layout (current (old_facts.disk old)) h × (store.generation ≡ h.generation)
+  pub open_now : store.reopen ≡ false
+  pub faultless : facts.faults store.device ≡ facts.faults new
+  pub was_none : facts.lawful new → HoldsNone (current (facts.disk new))
+  pub reads : facts.lawful new → Images (facts.disk store.device) (λ image. Reads (facts.size store.device) image store.hill)
+
+-- why the new device did not take it, and what became of that
+abbrev pub IsNotTaken : {D : Type 0} → DeviceFacts D → D → Kept → D → Refusal → Type 0
+IsNotTaken facts new hill after refusals.TooSmall = (facts.size new < sectors_for hill.settings.capacity) × (after ≡ new)
+IsNotTaken facts new hill after refusals.Disk = IsNotWritten facts new hill after refusals.Disk
+IsNotTaken facts new hill after refusals.Occupied = IsNotWritten facts new hill after refusals.Occupied
+IsNotTaken facts new hill after refusals.Memory = ⊥
+IsNotTaken facts new hill after refusals.NotAHill = ⊥
+IsNotTaken facts new hill after refusals.Damaged = ⊥
+
+-- one of the devices was refused, and for this reason
+abbrev pub IsNotMigratedBy : {O D : Type 0} → DeviceFacts O → DeviceFacts D → O → O → D → D → Refusal → MigrateSide → Type 0
+IsNotMigratedBy old_facts facts old old_after new new_after why sides.Old = IsNotOpenedIn old_layout old_facts old old_after why × (new_after ≡ new)
+IsNotMigratedBy old_facts facts old old_after new new_after why sides.New = (hill : Kept) × IsReadOf old_facts old old_after hill × IsNotTaken facts new hill new_after why
+
+abbrev pub IsNotMigrated : {O D : Type 0} → DeviceFacts O → DeviceFacts D → O → O → D → D → MigrateFault → Type 0
+IsNotMigrated old_facts facts old old_after new new_after fault = IsNotMigratedBy old_facts facts old old_after new new_after fault.refusal fault.side

@@ -1,6 +1,6 @@
 //! Laws of the definitions, each the contract of a function that does nothing.
 
-ghost use Rattle.hill_store.specs.Calls.{CallsAreEvents};
+ghost use Rattle.hill_store.specs.Calls.{CallsAreEvents, MigrationsAreEvents};
 ghost use Rattle.hill_store.specs.Kept.{LawsOfKept};
 ghost use Rattle.hill_store.specs.Lives.{LawsOfLives};
 
@@ -11,9 +11,9 @@ pub fn laws_of_kept()
     ensures { LawsOfKept }
 {}
 
-/// The life of a device that holds a hill: whatever openings, submissions, faults and stops there are, one after another, it holds what
-/// the submissions that were answered earn, in their order, and of each time it was open at most one more: the last one, where that was
-/// not answered.
+/// The life of a device that holds a hill, in either format: whatever openings, submissions, faults and stops there are, one after another,
+/// it holds what the submissions that were answered earn, in their order, and of each time it was open at most one more: the last one, where
+/// that was not answered. Where the hill moves to a device of the new format, so it is with that device from there on.
 pub fn laws_of_lives()
     ensures { LawsOfLives }
 {}
@@ -22,4 +22,10 @@ pub fn laws_of_lives()
 /// none.
 pub fn calls_in_lives<D: Device>(_device: &D)
     ensures { CallsAreEvents D.facts }
+{}
+
+/// What a migration is in the life of the device that it begins with: the move to the other device, or an opening that was refused; and
+/// where it was stopped, the move too, if what is left of the other device stands for the hill.
+pub fn migrations_in_lives<O: Device, D: Device>(_old: &O, _new: &D)
+    ensures { MigrationsAreEvents O.facts D.facts }
 {}

@@ -6,16 +6,21 @@
 //!
 //! The main clauses: `submit` and `submit_all` answer the reply that is due, and on a lawful device every image then stands for
 //! the hill after the sources that were answered (`Seen`, `Runs`, `Holding` in `specs`); after a stop, `open` finds the hill with
-//! or without the source that was under way.
+//! or without the source that was under way, and `migrate` moves it so from a device of the old format to another one (`migration` has
+//! its faults).
 #![tactic(auto)]
 
 mod laws;
+mod migration;
 mod reply;
 mod store;
 
-pub use hill_bytes::{Header, HeaderEntry, decode_header, encode_header};
+pub use hill_bytes::{
+    Header, HeaderEntry, decode_header, decode_old_header, encode_header, encode_old_header,
+};
 pub use hill_images::{Refusal, laws_of_storage, sectors_for};
 pub use koth_hill::Untrue;
-pub use laws::{calls_in_lives, laws_of_kept, laws_of_lives};
+pub use laws::{calls_in_lives, laws_of_kept, laws_of_lives, migrations_in_lives};
+pub use migration::{MigrateFault, MigrateSide};
 pub use reply::Reply;
 pub use store::Store;

@@ -9,19 +9,19 @@ ghost use Rattle.koth_hill.specs.Rows.{rows_parts};
 ghost use Rattle.hill_store.specs.Runs.{Runs, texts};
 ghost use Rattle.sector_disk.specs.Served.{IsKept};
 ghost use Rattle.hill_images.specs.Opening.{IsNotOpened};
-ghost use Rattle.hill_store.specs.Opened.{IsCreated, IsNotCreated, IsOpened};
+ghost use Rattle.hill_store.specs.Opened.{IsCreated, IsMigrated, IsNotCreated, IsNotMigrated, IsOpened};
 ghost use Rattle.war_types.specs.declared.settings.RawSettings.{RawSettings};
 ghost use Rattle.hill_store.specs.Earned.{reply_judged};
-ghost use Rattle.hill_store.specs.Holding.{Holds};
-ghost use Rattle.hill_store.specs.Holding.{IsHolding, HoldsMore, IsDecided, IsUndecided};
-ghost use Rattle.hill_bytes.specs.Layout.{sectors_for};
+ghost use Rattle.hill_store.specs.Holding.{Holds, HoldsIn, HoldsMore, IsDecided, IsHolding, IsMoved, IsUndecided, IsUnmoved};
+ghost use Rattle.hill_bytes.specs.Layout.{old_layout, sectors_for};
 ghost use Rattle.hill_store.specs.Seen.{Seen, IsAnswered, IsCut, IsLeft, Submits, Challenges, IsRefusal};
 
+use crate::migration::{MigrateFault, MigrateSide};
 use crate::reply::Reply;
-use hill_bytes::Header;
+use hill_bytes::{Format, Header};
 use hill_images::{
     Refusal, commit, free_slot, header_passed, header_placed, place, recover, results_by_slot,
-    sectors_for, write_first,
+    sectors_for, write_first, write_hill,
 };
 use koth_hill::{Hill, Row, Untrue, Verdict};
 use mars_core::Arena;
@@ -57,7 +57,7 @@ impl<D: Device, A: Allocator + Copy> Store<D, A> {
     /// Creates a hill without warriors on a device that holds none.
     ///
     /// The refusals, in their order: `TooSmall` where the device has fewer sectors than the hill needs, `Memory` (all memory
-    /// is taken here), `Disk`, `Occupied` where a sector holds a valid header, and `Disk` while the first header is written.
+    /// is taken here), `Disk`, `Occupied` where a sector holds a valid header of either format, and `Disk` while the first header is written.
     /// The device comes back with each.
     pub fn create(alloc: A, mut device: D, settings: Settings) -> Result<Store<D, A>, (D, Refusal)>
         ensures kept { MatchResult result (λ store. IsKept D.facts device store.device) (λ refused. IsKept D.facts device refused.0) }
@@ -103,7 +103,7 @@ impl<D: Device, A: Allocator + Copy> Store<D, A> {
         ensures holds { (s : RawSettings) (sources : List (List ℕ)) (more : Option (List ℕ)) → D.facts.lawful device → Holds (D.facts.size device) (D.facts.disk device) s sources more
             → MatchResult result (IsDecided D.facts s sources more) (λ refused. IsUndecided D.facts s sources more refused.0 refused.1) }
     {
-        match recover(alloc, &mut device) {
+        match recover(alloc, &mut device, Format::New) {
             Ok(found) => Ok(Store {
                 alloc,
                 device,
@@ -113,6 +113,47 @@ impl<D: Device, A: Allocator + Copy> Store<D, A> {
                 reopen: false,
             }),
             Err(refusal) => Err((device, refusal)),
+        }
+    }
+
+    /// Moves the hill that a device holds in the old format to another device, in the new one. Nothing is written to the old device.
+    ///
+    /// The refusals, in their order: those of the old device, as `open` has them; then those of the new one, `TooSmall` where it has fewer
+    /// sectors than the hill needs, `Disk`, `Occupied` where a sector holds a valid header of either format, and `Disk` while the slots of the
+    /// warriors and then the header are written. All memory is taken before the new device is looked at. Both devices come back with each.
+    pub fn migrate<O: Device>(
+        alloc: A,
+        mut old: O,
+        mut new: D,
+    ) -> Result<(O, Store<D, A>), (O, D, MigrateFault)>
+        ensures kept { MatchResult result (λ moved. IsKept O.facts old moved.0 × IsKept D.facts new moved.1.device) (λ refused. IsKept O.facts old refused.0 × IsKept D.facts new refused.1) }
+        ensures migrated { IfOk result (λ moved. IsMigrated O.facts D.facts old moved.0 new moved.1) }
+        ensures refused { IfErr result (λ refused. IsNotMigrated O.facts D.facts old refused.0 new refused.1 refused.2) }
+        ensures holds { (s : RawSettings) (sources : List (List ℕ)) (more : Option (List ℕ)) → O.facts.lawful old → D.facts.lawful new
+            → HoldsIn old_layout (O.facts.size old) (O.facts.disk old) s sources more
+            → MatchResult result (λ moved. IsMoved O.facts D.facts s sources more moved.0 moved.1) (λ refused. IsUnmoved O.facts D.facts s sources more refused.0 new refused.1 refused.2) }
+    {
+        let found = match recover(alloc, &mut old, Format::Old) {
+            Ok(found) => found,
+            Err(refusal) => return Err((old, new, fault_of(MigrateSide::Old, refusal))),
+        };
+        if new.sectors() < sectors_for(found.header.settings().capacity()) {
+            let fault = fault_of(MigrateSide::New, Refusal::TooSmall);
+            return Err((old, new, fault));
+        }
+        match write_hill(&mut new, &found.header, &found.hill) {
+            Ok(()) => {
+                let store = Store {
+                    alloc,
+                    device: new,
+                    header: found.header,
+                    hill: found.hill,
+                    arena: found.arena,
+                    reopen: false,
+                };
+                Ok((old, store))
+            }
+            Err(refusal) => Err((old, new, fault_of(MigrateSide::New, refusal))),
         }
     }
 
@@ -270,6 +311,13 @@ impl<D: Device, A: Allocator> Store<D, A> {
     {
         self.device
     }
+}
+
+fn fault_of(side: MigrateSide, refusal: Refusal) -> MigrateFault
+    ensures side { result.side ≡ side }
+    ensures refusal { result.refusal ≡ refusal }
+{
+    MigrateFault { side, refusal }
 }
 
 /// The one way into the state in which every submission is answered `Reopen`.

@@ -1,6 +1,6 @@
 //! The hill.
 
-ghost use Rattle.std.specs.Prelude.{◌≡◌, ◌+◌, ◌-◌, ◌<◌, ◌≤◌, ◌^◌, ◌++◌, ◌∷◌, [], All, true, false, length, slice_get, None, IfOk, IfSome};
+ghost use Rattle.std.specs.Prelude.{◌≡◌, ◌+◌, ◌-◌, ◌<◌, ◌≤◌, ◌^◌, ◌++◌, ◌∷◌, [], All, true, false, length, slice_get, None, Some, IfOk, IfSome};
 ghost use Rattle.war_types.specs.Warrior.{WarriorParts, Fits};
 ghost use Rattle.koth_match.specs.Match.{rounds_in};
 ghost use Rattle.koth_hill.specs.Hill.{last_entry, member_of};
@@ -101,6 +101,15 @@ impl<A: Allocator> Hill<A> {
             Some(entrant) => Some(entrant.shown()),
             None => None,
         }
+    }
+
+    /// The results kept of the warrior at place `i` with those that entered before it, by rising entry. There has to be one at that place.
+    pub fn bouts(&self, i: usize) -> &[Bout]
+        requires { i < length self.now.members }
+        ensures value { slice_get self.now.results i ≡ Some result.now }
+        ensures hill { IsKept self.now }
+    {
+        self.members[i].bouts().as_slice()
     }
 
     /// The result kept of two warriors on the hill, by their entries; `None` where they aren't both on it, the first entered before the

@@ -13,6 +13,7 @@ use Rattle.koth_commands.specs.Failure.{failure_line}
 use Rattle.koth_commands.specs.Fight.{EndsFight}
 use Rattle.koth_server.specs.Hills.{EndsCreate, EndsHill, EndsServe, Said, SaysReply, SaysTable, listening_line}
 use Rattle.koth_server.specs.Audit.{EndsAudit}
+use Rattle.koth_server.specs.Migration.{SaysMigrated}
 use Rattle.koth_words.specs.Options.{settings_in}
 use Rattle.koth_server.specs.Run.{EndsRequest, EndsWithout, unread}
 use Rattle.koth_protocol.specs.Written.{WritesPart}
@@ -25,7 +26,7 @@ use Rattle.koth_commands.specs.declared.status.Status.TheVariants.{NoMemory, Wor
 use Rattle.koth_words.specs.declared.words.NoRequest.{NoRequest}
 use Rattle.koth_words.specs.declared.words.NoRequest.TheVariants as reasons
 use Rattle.koth_words.specs.declared.words.Request.{Request}
-use Rattle.koth_words.specs.declared.words.Request.TheVariants.{Asm, Fight, Create, Submit, Show, Serve, Audit}
+use Rattle.koth_words.specs.declared.words.Request.TheVariants.{Asm, Fight, Create, Submit, Show, Serve, Audit, Migrate}
 
 -- one name isn't another
 other_verb : (a b name : Text) → bytes_eq a b ≡ false → bytes_eq b b ≡ true → name ≡ a → Some name ≡ Some b → ⊥
@@ -44,6 +45,7 @@ asm_carried (Some e) (Submit files) status before after asks ends names = absurd
 asm_carried (Some e) (Show shown) status before after asks ends names = absurd (other_verb (codes "show") (codes "asm") e.0 refl refl asks.0 names)
 asm_carried (Some e) (Serve service) status before after asks ends names = absurd (other_verb (codes "serve") (codes "asm") e.0 refl refl asks.0 names)
 asm_carried (Some e) (Audit file) status before after asks ends names = absurd (other_verb (codes "audit") (codes "asm") e.0 refl refl asks.0 names)
+asm_carried (Some e) (Migrate files) status before after asks ends names = absurd (other_verb (codes "migrate") (codes "asm") e.0 refl refl asks.0 names)
 
 pub fight_carried : (entered : Option (Text × List Row)) (request : Request) (status : Status) (before after : Streams) → AsksBy entered request
     → EndsRequest request status before after → option_map (λ e. e.0) entered ≡ Some (codes "fight") → EndsFight (settings_of (settings_in (given_in entered))) status (unread before) (unread after)
@@ -55,6 +57,7 @@ fight_carried (Some e) (Submit files) status before after asks ends names = absu
 fight_carried (Some e) (Show shown) status before after asks ends names = absurd (other_verb (codes "show") (codes "fight") e.0 refl refl asks.0 names)
 fight_carried (Some e) (Serve service) status before after asks ends names = absurd (other_verb (codes "serve") (codes "fight") e.0 refl refl asks.0 names)
 fight_carried (Some e) (Audit file) status before after asks ends names = absurd (other_verb (codes "audit") (codes "fight") e.0 refl refl asks.0 names)
+fight_carried (Some e) (Migrate files) status before after asks ends names = absurd (other_verb (codes "migrate") (codes "fight") e.0 refl refl asks.0 names)
 
 pub create_carried : (entered : Option (Text × List Row)) (request : Request) (status : Status) (before after : Streams) → AsksBy entered request
     → EndsRequest request status before after → option_map (λ e. e.0) entered ≡ Some (codes "create") → EndsCreate (settings_of (settings_in (given_in entered))) status (unread before) (unread after)
@@ -66,6 +69,7 @@ create_carried (Some e) (Submit files) status before after asks ends names = abs
 create_carried (Some e) (Show shown) status before after asks ends names = absurd (other_verb (codes "show") (codes "create") e.0 refl refl asks.0 names)
 create_carried (Some e) (Serve service) status before after asks ends names = absurd (other_verb (codes "serve") (codes "create") e.0 refl refl asks.0 names)
 create_carried (Some e) (Audit file) status before after asks ends names = absurd (other_verb (codes "audit") (codes "create") e.0 refl refl asks.0 names)
+create_carried (Some e) (Migrate files) status before after asks ends names = absurd (other_verb (codes "migrate") (codes "create") e.0 refl refl asks.0 names)
 
 pub submit_carried : (entered : Option (Text × List Row)) (request : Request) (status : Status) (before after : Streams) → AsksBy entered request
     → EndsRequest request status before after → option_map (λ e. e.0) entered ≡ Some (codes "submit") → EndsHill SaysReply status (unread before) (unread after)
@@ -77,6 +81,7 @@ submit_carried (Some e) (Submit files) status before after asks ends names = end
 submit_carried (Some e) (Show shown) status before after asks ends names = absurd (other_verb (codes "show") (codes "submit") e.0 refl refl asks.0 names)
 submit_carried (Some e) (Serve service) status before after asks ends names = absurd (other_verb (codes "serve") (codes "submit") e.0 refl refl asks.0 names)
 submit_carried (Some e) (Audit file) status before after asks ends names = absurd (other_verb (codes "audit") (codes "submit") e.0 refl refl asks.0 names)
+submit_carried (Some e) (Migrate files) status before after asks ends names = absurd (other_verb (codes "migrate") (codes "submit") e.0 refl refl asks.0 names)
 
 pub show_carried : (entered : Option (Text × List Row)) (request : Request) (status : Status) (before after : Streams) → AsksBy entered request
     → EndsRequest request status before after → option_map (λ e. e.0) entered ≡ Some (codes "show") → EndsHill (SaysTable (matches_in (given_in entered))) status (unread before) (unread after)
@@ -88,6 +93,7 @@ show_carried (Some e) (Submit files) status before after asks ends names = absur
 show_carried (Some e) (Show shown) status before after asks ends names = subst (λ m. EndsHill (SaysTable m) status (unread before) (unread after)) asks.2 ends.0
 show_carried (Some e) (Serve service) status before after asks ends names = absurd (other_verb (codes "serve") (codes "show") e.0 refl refl asks.0 names)
 show_carried (Some e) (Audit file) status before after asks ends names = absurd (other_verb (codes "audit") (codes "show") e.0 refl refl asks.0 names)
+show_carried (Some e) (Migrate files) status before after asks ends names = absurd (other_verb (codes "migrate") (codes "show") e.0 refl refl asks.0 names)
 
 pub serve_carried : (entered : Option (Text × List Row)) (request : Request) (status : Status) (before after : Streams) → AsksBy entered request
     → EndsRequest request status before after → option_map (λ e. e.0) entered ≡ Some (codes "serve") → EndsServe status (unread before) (unread after)
@@ -99,6 +105,7 @@ serve_carried (Some e) (Submit files) status before after asks ends names = absu
 serve_carried (Some e) (Show shown) status before after asks ends names = absurd (other_verb (codes "show") (codes "serve") e.0 refl refl asks.0 names)
 serve_carried (Some e) (Serve service) status before after asks ends names = ends.0
 serve_carried (Some e) (Audit file) status before after asks ends names = absurd (other_verb (codes "audit") (codes "serve") e.0 refl refl asks.0 names)
+serve_carried (Some e) (Migrate files) status before after asks ends names = absurd (other_verb (codes "migrate") (codes "serve") e.0 refl refl asks.0 names)
 
 pub audit_carried : (entered : Option (Text × List Row)) (request : Request) (status : Status) (before after : Streams) → AsksBy entered request
     → EndsRequest request status before after → option_map (λ e. e.0) entered ≡ Some (codes "audit") → EndsAudit status (unread before) (unread after)
@@ -110,6 +117,19 @@ audit_carried (Some e) (Submit files) status before after asks ends names = absu
 audit_carried (Some e) (Show shown) status before after asks ends names = absurd (other_verb (codes "show") (codes "audit") e.0 refl refl asks.0 names)
 audit_carried (Some e) (Serve service) status before after asks ends names = absurd (other_verb (codes "serve") (codes "audit") e.0 refl refl asks.0 names)
 audit_carried (Some e) (Audit file) status before after asks ends names = ends.0
+audit_carried (Some e) (Migrate files) status before after asks ends names = absurd (other_verb (codes "migrate") (codes "audit") e.0 refl refl asks.0 names)
+
+pub migrate_carried : (entered : Option (Text × List Row)) (request : Request) (status : Status) (before after : Streams) → AsksBy entered request
+    → EndsRequest request status before after → option_map (λ e. e.0) entered ≡ Some (codes "migrate") → EndsHill SaysMigrated status (unread before) (unread after)
+migrate_carried None request status before after asks ends names = absurd asks
+migrate_carried (Some e) (Asm given) status before after asks ends names = absurd (other_verb (codes "asm") (codes "migrate") e.0 refl refl asks.0 names)
+migrate_carried (Some e) (Fight given files) status before after asks ends names = absurd (other_verb (codes "fight") (codes "migrate") e.0 refl refl asks.0 names)
+migrate_carried (Some e) (Create given file) status before after asks ends names = absurd (other_verb (codes "create") (codes "migrate") e.0 refl refl asks.0 names)
+migrate_carried (Some e) (Submit files) status before after asks ends names = absurd (other_verb (codes "submit") (codes "migrate") e.0 refl refl asks.0 names)
+migrate_carried (Some e) (Show shown) status before after asks ends names = absurd (other_verb (codes "show") (codes "migrate") e.0 refl refl asks.0 names)
+migrate_carried (Some e) (Serve service) status before after asks ends names = absurd (other_verb (codes "serve") (codes "migrate") e.0 refl refl asks.0 names)
+migrate_carried (Some e) (Audit file) status before after asks ends names = absurd (other_verb (codes "audit") (codes "migrate") e.0 refl refl asks.0 names)
+migrate_carried (Some e) (Migrate files) status before after asks ends names = ends.0
 
 -- known bytes that stay grow by nothing
 Keeps-appends : (o p : Option (List ℕ)) → Keeps o p → Appends o p []

@@ -1,6 +1,7 @@
 mod Audited
 mod Carried
 mod Listening
+mod OldHeaders
 mod Parts
 mod Said
 mod Shown

@@ -1,5 +1,6 @@
 -- What was written of a command's answer.
-use Rattle.std.proofs.Common.{◌≡◌, ◌≢◌, ◌∙◌, ℕ, List, Option, Result, Ok, Err, Bool, false, true≢false, inl, inr, refl, sym, subst}
+use Rattle.std.proofs.Common.{◌≡◌, ◌≢◌, ◌∙◌, ℕ, List, Option, Result, Ok, Err, IsErrAnd, Bool, false, true≢false, inl, inr, refl, sym, subst}
+use Rattle.std.specs.Io.KnownBytes.{Keeps}
 use Rattle.std.proofs.KnownBytes.{Keeps-refl}
 use Rattle.sector_disk.specs.Facts.{DeviceFacts}
 use Rattle.koth_hill.specs.Kept.{Kept}
@@ -8,20 +9,26 @@ use Rattle.hill_store.specs.declared.reply.Reply.{Reply}
 use Rattle.hill_store.specs.declared.reply.Reply.TheVariants as replies
 use Rattle.koth_session.specs.Reply.{reply_line}
 use Rattle.koth_server.specs.Hills.{Said, SaysPart, SaysReply, SaysTable, ShowsOf, SubmitsTo, Tries, WritesAt}
+use Rattle.koth_server.specs.Migration.{SaysMigrated, TellsMigrated, migrated_line}
 use Rattle.koth_server.specs.ReplyStatus.{reply_status}
 use Rattle.koth_commands.specs.declared.failure.Failure.TheVariants as kinds
 use Rattle.koth_commands.specs.declared.status.Status.{Status}
+use Rattle.koth_commands.specs.declared.status.Status.TheVariants as statuses
 use Rattle.koth_server.specs.declared.hill_fault.HillFault.{HillFault}
 use Rattle.koth_server.specs.declared.hill_fault.HillFault.TheVariants as faults
 
 -- nothing was
+pub nothing_new : (said : Said) (fault : HillFault) (o p : Option (List ℕ)) → Keeps o p → WritesAt said fault o p
+nothing_new said (faults.Failed kinds.Stream) o p kept = inl kept
+nothing_new said (faults.Failed kinds.Memory) o p kept = kept
+nothing_new said faults.TooSmall o p kept = kept
+nothing_new said faults.Occupied o p kept = kept
+nothing_new said faults.NotAHill o p kept = kept
+nothing_new said faults.OldHill o p kept = kept
+nothing_new said faults.Damaged o p kept = kept
+
 pub nothing : (said : Said) (fault : HillFault) (o : Option (List ℕ)) → WritesAt said fault o o
-nothing said (faults.Failed kinds.Stream) o = inl (Keeps-refl o)
-nothing said (faults.Failed kinds.Memory) o = Keeps-refl o
-nothing said faults.TooSmall o = Keeps-refl o
-nothing said faults.Occupied o = Keeps-refl o
-nothing said faults.NotAHill o = Keeps-refl o
-nothing said faults.Damaged o = Keeps-refl o
+nothing said fault o = nothing_new said fault o o (Keeps-refl o)
 
 -- a hill that was open answers no `REOPEN`
 module _ {D : Type 0} (facts : DeviceFacts D) (before after : Seen D) (source : List ℕ) (o p : Option (List ℕ)) where
@@ -54,9 +61,22 @@ said_of_some one some holds (faults.Failed kinds.Memory) o p said = said
 said_of_some one some holds faults.TooSmall o p said = said
 said_of_some one some holds faults.Occupied o p said = said
 said_of_some one some holds faults.NotAHill o p said = said
+said_of_some one some holds faults.OldHill o p said = said
 said_of_some one some holds faults.Damaged o p said = said
 
 -- the table of a hill is that of some hill
 pub shows_some : (matches : Bool) (hill : Kept) (r : Result Status HillFault) (o p : Option (List ℕ)) → Tries (ShowsOf matches hill) r o p → Tries (SaysTable matches) r o p
 shows_some matches hill (Ok status) o p said = record { text = said.text; answer = (hill, said.answer); written = said.written }
 shows_some matches hill (Err fault) o p said = said_of_some (ShowsOf matches hill) (SaysTable matches) (λ status text answer. (hill, answer)) fault o p said
+
+-- a hill was moved, and the line that says so was written, or a part of it
+pub says_migrated : (r : Result Status HillFault) (o p : Option (List ℕ)) → TellsMigrated r o p → Tries SaysMigrated r o p
+says_migrated (Ok status) o p said = record { text = migrated_line; answer = (said.0, refl); written = said.1 }
+says_migrated (Err fault) o p said =
+    let part : SaysPart SaysMigrated o p = record { status = statuses.Done; text = migrated_line; answer = (refl, refl); written = said.1 } in
+    subst (λ f. WritesAt SaysMigrated f o p) (sym said.0) (inr part)
+
+-- or it was not, and nothing was written
+pub says_refused : (r : Result Status HillFault) (why : HillFault → Type 0) (o p : Option (List ℕ)) → IsErrAnd r why → Keeps o p → Tries SaysMigrated r o p
+says_refused (Ok status) why o p refused kept = absurd refused
+says_refused (Err fault) why o p refused kept = nothing_new SaysMigrated fault o p kept

@@ -7,7 +7,7 @@ use Rattle.hill_images.specs.declared.refusal.Refusal.TheVariants as refusals
 use Rattle.koth_commands.specs.Failure.{failure_line, failure_status}
 use Rattle.koth_commands.specs.declared.failure.Failure.TheVariants as failures
 use Rattle.koth_server.specs.declared.hill_fault.HillFault.{HillFault}
-use Rattle.koth_server.specs.declared.hill_fault.HillFault.TheVariants.{TooSmall, Occupied, NotAHill, Damaged, Failed}
+use Rattle.koth_server.specs.declared.hill_fault.HillFault.TheVariants.{TooSmall, Occupied, NotAHill, OldHill, Damaged, Failed}
 use Rattle.koth_commands.specs.declared.status.Status.{Status}
 use Rattle.koth_commands.specs.declared.status.Status.TheVariants as statuses
 
@@ -16,6 +16,7 @@ abbrev pub fault_line : HillFault → List ℕ
 fault_line TooSmall = codes "TooSmall\n"
 fault_line Occupied = codes "Occupied\n"
 fault_line NotAHill = codes "NotAHill\n"
+fault_line OldHill = codes "NotAHill\nA hill of the old format: koth migrate FILE NEW moves it to a new file\n"
 fault_line Damaged = codes "Damaged\n"
 fault_line (Failed failure) = failure_line failure
 
@@ -24,6 +25,7 @@ abbrev pub fault_status : HillFault → Status
 fault_status TooSmall = statuses.Refused
 fault_status Occupied = statuses.Refused
 fault_status NotAHill = statuses.Refused
+fault_status OldHill = statuses.Refused
 fault_status Damaged = statuses.Refused
 fault_status (Failed failure) = failure_status failure
 

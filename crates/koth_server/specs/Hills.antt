@@ -74,6 +74,7 @@ WritesAt said (faults.Failed kinds.Memory) old new = Keeps old new
 WritesAt said faults.TooSmall old new = Keeps old new
 WritesAt said faults.Occupied old new = Keeps old new
 WritesAt said faults.NotAHill old new = Keeps old new
+WritesAt said faults.OldHill old new = Keeps old new
 WritesAt said faults.Damaged old new = Keeps old new
 
 -- before a fault is told

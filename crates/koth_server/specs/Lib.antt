@@ -1,8 +1,11 @@
 -- What is told of a fault of a hill, and how the program ends with it, and with a reply.
 pub mod HillFault
 pub mod ReplyStatus
+-- What is told of a device whose hill is not opened, and of a hill of the old format.
+pub mod OldHill
 -- What each command on a hill writes and how it ends.
 pub mod Hills
 pub mod Audit
+pub mod Migration
 -- The number that a run leaves with.
 pub mod Run

@@ -8,6 +8,7 @@ use Rattle.koth_commands.specs.Asm.{EndsAsm}
 use Rattle.koth_commands.specs.Fight.{EndsFight}
 use Rattle.koth_server.specs.Hills.{EndsCreate, EndsHill, EndsServe, SaysReply, SaysTable}
 use Rattle.koth_server.specs.Audit.{EndsAudit}
+use Rattle.koth_server.specs.Migration.{SaysMigrated}
 use Rattle.koth_commands.specs.Status.{status_code}
 use Rattle.koth_commands.specs.Streams.{Streams, streams}
 use Rattle.koth_commands.specs.declared.failure.Failure.TheVariants as failures
@@ -17,7 +18,7 @@ use Rattle.koth_words.specs.Words.{koth_app, matches_named, settings_named, AreW
 use Rattle.koth_words.specs.declared.words.NoRequest.{NoRequest}
 use Rattle.koth_words.specs.declared.words.NoRequest.TheVariants as reasons
 use Rattle.koth_words.specs.declared.words.Request.{Request}
-use Rattle.koth_words.specs.declared.words.Request.TheVariants.{Asm, Fight, Create, Submit, Show, Serve, Audit}
+use Rattle.koth_words.specs.declared.words.Request.TheVariants.{Asm, Fight, Create, Submit, Show, Serve, Audit, Migrate}
 
 -- the code is that of a status of which this holds
 abbrev pub Leaves : ℕ → (Status → Type 0) → Type 0
@@ -35,6 +36,7 @@ CommandEnds (Create given file) status before after = EndsCreate (settings_of gi
 CommandEnds (Submit files) status before after = EndsHill SaysReply status (unread before) (unread after)
 CommandEnds (Show shown) status before after = EndsHill (SaysTable shown.matches) status (unread before) (unread after)
 CommandEnds (Audit file) status before after = EndsAudit status (unread before) (unread after)
+CommandEnds (Migrate files) status before after = EndsHill SaysMigrated status (unread before) (unread after)
 CommandEnds (Serve service) status before after = EndsServe status (unread before) (unread after)
 
 -- how a run ends that carried a request out: as its command does, and never as at a fault of the words
@@ -57,6 +59,7 @@ pub record EndsRun (given : List (List ℕ)) (status : Status) (before after : S
   pub submit : AsksFor (codes "submit") given → EndsHill SaysReply status (unread before) (unread after)
   pub show : AsksFor (codes "show") given → EndsHill (SaysTable (matches_named given)) status (unread before) (unread after)
   pub audit : AsksFor (codes "audit") given → EndsAudit status (unread before) (unread after)
+  pub migrate : AsksFor (codes "migrate") given → EndsHill SaysMigrated status (unread before) (unread after)
   pub serve : AsksFor (codes "serve") given → EndsServe status (unread before) (unread after)
   pub words : takes koth_app given ≡ true → status ≢ statuses.WordFault
   pub wrong : AreWrong given → (status ≡ statuses.WordFault) ⊎ (status ≡ statuses.NoMemory)

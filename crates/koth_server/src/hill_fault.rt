@@ -18,11 +18,17 @@ pub enum HillFault {
     Occupied,
     /// The file holds no hill.
     NotAHill,
+    /// The file holds a hill of the old format, which `migrate` moves to a new file.
+    OldHill,
     /// A warrior on the hill is not to be read.
     Damaged,
     /// A file, a device, a socket or a stream failed, or memory ran out.
     Failed(Failure),
 }
+
+/// What is told of a hill of the old format.
+const OLD_HILL: &str =
+    "NotAHill\nA hill of the old format: koth migrate FILE NEW moves it to a new file\n";
 
 impl HillFault {
     ghost use Rattle.koth_server.specs.HillFault.{fault_line, fault_status};
@@ -36,6 +42,7 @@ impl HillFault {
             HillFault::TooSmall => refuse("TooSmall\n", errors),
             HillFault::Occupied => refuse("Occupied\n", errors),
             HillFault::NotAHill => refuse("NotAHill\n", errors),
+            HillFault::OldHill => refuse(OLD_HILL, errors),
             HillFault::Damaged => refuse("Damaged\n", errors),
             HillFault::Failed(failure) => failure.tell(errors),
         }

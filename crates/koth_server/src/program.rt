@@ -6,6 +6,7 @@ ghost use Rattle.koth_commands.specs.Streams.{streams};
 
 use crate::audit::audit;
 use crate::create::create;
+use crate::migrate::migrate;
 use crate::serve::serve;
 use crate::show::show;
 use crate::submit::submit;
@@ -76,6 +77,7 @@ fn fulfil<R: Files + Net, A: Allocator + Copy, I: Read, O: Write, E: Write>(
         Request::Submit(files) => submit(rt, alloc, files, output, errors),
         Request::Show(shown) => show(rt, alloc, shown, output, errors),
         Request::Audit(file) => audit(rt, alloc, file, output, errors),
+        Request::Migrate(files) => migrate(rt, alloc, files, output, errors),
         Request::Serve(service) => serve(rt, alloc, service, output, errors),
     }
 }

@@ -43,31 +43,34 @@ named app m words is has =
 abbrev IsCommand : Text → Type 0
 IsCommand name = (name ≡ codes "asm") ⊎ (name ≡ codes "fight") ⊎ (name ≡ codes "create")
     ⊎ (name ≡ codes "submit") ⊎ (name ≡ codes "show") ⊎ (name ≡ codes "serve") ⊎ (name ≡ codes "audit")
+    ⊎ (name ≡ codes "migrate")
 
-abbrev met_by : Bool → Bool → Bool → Bool → Bool → Bool → Bool → Bool → Option Text
-met_by asm fight create submit show serve audit help = option_map (λ (s : Text × List Text). s.0) (
+abbrev met_by : Bool → Bool → Bool → Bool → Bool → Bool → Bool → Bool → Bool → Option Text
+met_by asm fight create submit show serve audit migrate help = option_map (λ (s : Text × List Text). s.0) (
     if asm || false then Some (codes "asm", []) else if fight || false then Some (codes "fight", [])
     else if create || false then Some (codes "create", []) else if submit || false then Some (codes "submit", [])
     else if show || false then Some (codes "show", []) else if serve || false then Some (codes "serve", [])
-    else if audit || false then Some (codes "audit", []) else if help || false then Some (codes "help", []) else None)
+    else if audit || false then Some (codes "audit", []) else if migrate || false then Some (codes "migrate", [])
+    else if help || false then Some (codes "help", []) else None)
 
-met_is_command : (asm fight create submit show serve audit help : Bool) (word : Text) (h : Held)
-    → other_fault (built koth_app).top (met_by asm fight create submit show serve audit help) word h ≡ []
-    → IfSome (met_by asm fight create submit show serve audit help) IsCommand
+met_is_command : (asm fight create submit show serve audit migrate help : Bool) (word : Text) (h : Held)
+    → other_fault (built koth_app).top (met_by asm fight create submit show serve audit migrate help) word h ≡ []
+    → IfSome (met_by asm fight create submit show serve audit migrate help) IsCommand
 unfolding clap_on_literals koth_app
-met_is_command true fight create submit show serve audit help word h none = inl refl
-met_is_command false true create submit show serve audit help word h none = inr (inl refl)
-met_is_command false false true submit show serve audit help word h none = inr (inr (inl refl))
-met_is_command false false false true show serve audit help word h none = inr (inr (inr (inl refl)))
-met_is_command false false false false true serve audit help word h none = inr (inr (inr (inr (inl refl))))
-met_is_command false false false false false true audit help word h none = inr (inr (inr (inr (inr (inl refl)))))
-met_is_command false false false false false false true help word h none = inr (inr (inr (inr (inr (inr refl)))))
-met_is_command false false false false false false false true word h none = absurd (cc)
-met_is_command false false false false false false false false word h none = tt
+met_is_command true fight create submit show serve audit migrate help word h none = inl refl
+met_is_command false true create submit show serve audit migrate help word h none = inr (inl refl)
+met_is_command false false true submit show serve audit migrate help word h none = inr (inr (inl refl))
+met_is_command false false false true show serve audit migrate help word h none = inr (inr (inr (inl refl)))
+met_is_command false false false false true serve audit migrate help word h none = inr (inr (inr (inr (inl refl))))
+met_is_command false false false false false true audit migrate help word h none = inr (inr (inr (inr (inr (inl refl)))))
+met_is_command false false false false false false true migrate help word h none = inr (inr (inr (inr (inr (inr (inl refl))))))
+met_is_command false false false false false false false true help word h none = inr (inr (inr (inr (inr (inr (inr refl))))))
+met_is_command false false false false false false false false true word h none = absurd (cc)
+met_is_command false false false false false false false false false word h none = tt
 
 each_is_command : OnNames (built koth_app).top (names_of (built koth_app)) IsCommand
 unfolding clap_on_literals koth_app
-each_is_command idle word h none = met_is_command _ _ _ _ _ _ _ _ word h none
+each_is_command idle word h none = met_is_command _ _ _ _ _ _ _ _ _ word h none
 each_is_command (option id) word h none = tt
 each_is_command positional word h none = tt
 
@@ -89,7 +92,8 @@ enters_command (Some p) (inr (inr (inl is))) has = inr (inr (inl (ap (λ n. ente
 enters_command (Some p) (inr (inr (inr (inl is)))) has = inr (inr (inr (inl (ap (λ n. entered_at n p.1) is))))
 enters_command (Some p) (inr (inr (inr (inr (inl is))))) has = inr (inr (inr (inr (inl (ap (λ n. entered_at n p.1) is)))))
 enters_command (Some p) (inr (inr (inr (inr (inr (inl is)))))) has = inr (inr (inr (inr (inr (inl (ap (λ n. entered_at n p.1) is))))))
-enters_command (Some p) (inr (inr (inr (inr (inr (inr is)))))) has = inr (inr (inr (inr (inr (inr (ap (λ n. entered_at n p.1) is))))))
+enters_command (Some p) (inr (inr (inr (inr (inr (inr (inl is))))))) has = inr (inr (inr (inr (inr (inr (inl (ap (λ n. entered_at n p.1) is)))))))
+enters_command (Some p) (inr (inr (inr (inr (inr (inr (inr is))))))) has = inr (inr (inr (inr (inr (inr (inr (ap (λ n. entered_at n p.1) is)))))))
 
 -- words in which clap finds no fault name a command
 names_command : (words : List Text) → fault_of koth_app words ≡ [] → NamesCommand (option_map (λ p. p.0) (subcommand_of koth_app words))

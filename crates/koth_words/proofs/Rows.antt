@@ -1,11 +1,11 @@
 -- Rows of the definitions, computed.
-use Rattle.std.proofs.Common.{◌≡◌, true, false, [], ◌∷◌, Ok, codes, refl}
+use Rattle.std.proofs.Common.{◌≡◌, true, false, List, [], ◌∷◌, Some, Ok, codes, refl}
 use Rattle.war_types.specs.Settings.{settings_of}
-use Rattle.clap.specs.Words.{fault_of, takes}
+use Rattle.clap.specs.Words.{Row, fault_of, first_of, subcommand_of, takes}
 use Rattle.clap.specs.declared.error.kind.ErrorKind.TheVariants as errors
 use Rattle.clap.proofs.OnLiterals.{clap_on_literals}
 use Rattle.koth_words.specs.Options.{default_settings}
-use Rattle.koth_words.specs.Words.{AsksFor, koth_app, matches_named, settings_named}
+use Rattle.koth_words.specs.Words.{AsksFor, given_in, koth_app, matches_named, settings_named}
 
 -- the premise of `asm` is met by these words
 asm_asks : AsksFor (codes "asm") (codes "koth" ∷ codes "asm" ∷ [])
@@ -22,8 +22,9 @@ hills_ask : AsksFor (codes "create") (codes "koth" ∷ codes "create" ∷ codes 
     × AsksFor (codes "serve") (codes "koth" ∷ codes "serve" ∷ codes "a.hill" ∷ codes "--port=0" ∷ codes "--connections" ∷ codes "4294967295" ∷ [])
     × AsksFor (codes "show") (codes "koth" ∷ codes "show" ∷ codes "h.hill" ∷ codes "--matches" ∷ [])
     × AsksFor (codes "audit") (codes "koth" ∷ codes "audit" ∷ codes "h.hill" ∷ [])
+    × AsksFor (codes "migrate") (codes "koth" ∷ codes "migrate" ∷ codes "a.hill" ∷ codes "b.hill" ∷ [])
 unfolding clap_on_literals koth_app
-hills_ask = ((refl, refl), (refl, refl), (refl, refl), (refl, refl), (refl, refl), (refl, refl))
+hills_ask = ((refl, refl), (refl, refl), (refl, refl), (refl, refl), (refl, refl), (refl, refl), (refl, refl))
 
 -- the flag is given where the words have it, behind the file or before it, and else not
 matches_given : (matches_named (codes "koth" ∷ codes "show" ∷ codes "h.hill" ∷ codes "--matches" ∷ []) ≡ true)
@@ -31,6 +32,15 @@ matches_given : (matches_named (codes "koth" ∷ codes "show" ∷ codes "h.hill"
     × (matches_named (codes "koth" ∷ codes "show" ∷ codes "h.hill" ∷ []) ≡ false)
 unfolding clap_on_literals koth_app
 matches_given = (refl, refl, refl)
+
+-- what the words of a migration give it: the first file is that of the hill, and the second that of the new one
+abbrev migration_given : List Row
+migration_given = given_in (subcommand_of koth_app (codes "koth" ∷ codes "migrate" ∷ codes "a.hill" ∷ codes "b.hill" ∷ []))
+
+migration_files : (first_of (codes "FILE") migration_given ≡ Some (codes "a.hill"))
+    × (first_of (codes "NEW") migration_given ≡ Some (codes "b.hill"))
+unfolding clap_on_literals koth_app
+migration_files = (refl, refl)
 
 -- a flag with a value, a flag that is given twice, a flag of another command and an audit without a file are not taken
 flags_not_taken : (takes koth_app (codes "koth" ∷ codes "show" ∷ codes "h.hill" ∷ codes "--matches=true" ∷ []) ≡ false)
@@ -40,13 +50,15 @@ flags_not_taken : (takes koth_app (codes "koth" ∷ codes "show" ∷ codes "h.hi
 unfolding clap_on_literals koth_app
 flags_not_taken = (refl, refl, refl, refl)
 
--- a source, a port or a number of connections too few, and a port past 16 bits are not taken
+-- a source, a port, a number of connections or a new file too few, a file too many, and a port past 16 bits are not taken
 hills_not_taken : (takes koth_app (codes "koth" ∷ codes "submit" ∷ codes "a.hill" ∷ []) ≡ false)
     × (takes koth_app (codes "koth" ∷ codes "serve" ∷ codes "a.hill" ∷ codes "--connections=1" ∷ []) ≡ false)
     × (takes koth_app (codes "koth" ∷ codes "serve" ∷ codes "a.hill" ∷ codes "--port=1" ∷ []) ≡ false)
     × (takes koth_app (codes "koth" ∷ codes "serve" ∷ codes "a.hill" ∷ codes "--port=65536" ∷ codes "--connections=1" ∷ []) ≡ false)
+    × (takes koth_app (codes "koth" ∷ codes "migrate" ∷ codes "a.hill" ∷ []) ≡ false)
+    × (takes koth_app (codes "koth" ∷ codes "migrate" ∷ codes "a.hill" ∷ codes "b.hill" ∷ codes "c.hill" ∷ []) ≡ false)
 unfolding clap_on_literals koth_app
-hills_not_taken = (refl, refl, refl, refl)
+hills_not_taken = (refl, refl, refl, refl, refl, refl)
 
 -- the settings that words give, by one word or by two, with a plus sign or without
 given_settings : (settings_named (codes "koth" ∷ codes "asm" ∷ []) ≡ default_settings)

@@ -11,7 +11,7 @@ use Rattle.koth_words.specs.Options.{number_below, number_or, required_rule, set
 use Rattle.koth_words.specs.declared.words.NoRequest.{NoRequest}
 use Rattle.koth_words.specs.declared.words.NoRequest.TheVariants as reasons
 use Rattle.koth_words.specs.declared.words.Request.{Request}
-use Rattle.koth_words.specs.declared.words.Request.TheVariants.{Asm, Fight, Create, Submit, Show, Serve, Audit}
+use Rattle.koth_words.specs.declared.words.Request.TheVariants.{Asm, Fight, Create, Submit, Show, Serve, Audit, Migrate}
 
 -- a command that wants the name of one of its subcommands
 abbrev pub wants_subcommand : App → App
@@ -47,11 +47,14 @@ serve_app = with_rule (with_rule (with_rule (new_app (codes "serve")) (file_rule
 abbrev pub audit_app : App
 audit_app = with_rule (new_app (codes "audit")) (file_rule (codes "FILE"))
 
+abbrev pub migrate_app : App
+migrate_app = with_rule (with_rule (new_app (codes "migrate")) (file_rule (codes "FILE"))) (file_rule (codes "NEW"))
+
 -- the program's words: `koth`, and a command's name with its files and options
 unfoldable pub koth_app : App
-koth_app = with_subcommand (with_subcommand (with_subcommand (with_subcommand (with_subcommand (with_subcommand (with_subcommand
+koth_app = with_subcommand (with_subcommand (with_subcommand (with_subcommand (with_subcommand (with_subcommand (with_subcommand (with_subcommand
     (wants_subcommand (new_app (codes "koth"))) asm_app.top) fight_app.top) create_app.top) submit_app.top) show_app.top) serve_app.top)
-    audit_app.top
+    audit_app.top) migrate_app.top
 
 -- a command has a further one among its own, which was made
 abbrev pub HasCommand : {E : Type 0} → App → Result Command E → Command → Type 0
@@ -106,6 +109,9 @@ Asks entered (Serve service) = (entered.0 ≡ codes "serve")
     × (service.connections ≡ number_or 0 (one_of (codes "connections") entered.1))
 Asks entered (Audit file) = (entered.0 ≡ codes "audit")
     × (file.now ≡ text_or_none (first_of (codes "FILE") entered.1))
+Asks entered (Migrate files) = (entered.0 ≡ codes "migrate")
+    × (files.old.now ≡ text_or_none (first_of (codes "FILE") entered.1))
+    × (files.new.now ≡ text_or_none (first_of (codes "NEW") entered.1))
 
 -- the same where a command is named
 abbrev pub AsksBy : Option (Text × List Row) → Request → Type 0
@@ -116,7 +122,7 @@ AsksBy (Some entered) request = Asks entered request
 abbrev pub NamesCommand : Option Text → Type 0
 NamesCommand name = (name ≡ Some (codes "asm")) ⊎ (name ≡ Some (codes "fight")) ⊎ (name ≡ Some (codes "create"))
     ⊎ (name ≡ Some (codes "submit")) ⊎ (name ≡ Some (codes "show")) ⊎ (name ≡ Some (codes "serve"))
-    ⊎ (name ≡ Some (codes "audit"))
+    ⊎ (name ≡ Some (codes "audit")) ⊎ (name ≡ Some (codes "migrate"))
 
 -- the words have a fault, and ask for no help
 abbrev pub AreWrong : List (List ℕ) → Type 0

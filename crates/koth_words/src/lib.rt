@@ -7,4 +7,4 @@
 mod options;
 mod words;
 
-pub use words::{Fighters, NoRequest, Request, Service, Shown, Submission, parse};
+pub use words::{Fighters, Migration, NoRequest, Request, Service, Shown, Submission, parse};

@@ -53,7 +53,7 @@ pub(crate) fn with_settings<'a>(
         heap,
         processes,
         "length",
-        "Instructions of a warrior at most, 1 to 100 [default: 100]",
+        "Instructions of a warrior at most, 1 to 200 [default: 100]",
     )?;
     let distance = with_option(
         heap,

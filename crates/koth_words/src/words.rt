@@ -4,7 +4,7 @@ ghost use Rattle.std.specs.Prelude.{◌≡◌, ◌≢◌, true, false, codes, ma
 ghost use Rattle.clap.specs.Words.{app_of, first_of, found_of, kind_of, new_app, new_rule, one_of, rows_of, rule_of, subcommand_name_of, subcommand_of, subcommand_rows_of, takes, with_rule};
 ghost use Rattle.clap.specs.declared.builder.command.Command.TheViews.{out-Command};
 ghost use Rattle.koth_words.specs.Options.{number_below, number_or, required_rule, with_settings};
-ghost use Rattle.koth_words.specs.Words.{asm_app, audit_app, create_app, fight_app, file_rule, flag_rule, is_true, koth_app, matches_in, serve_app, show_app, submit_app, text_or_none, wants_subcommand, AreWrong, AsksBy, HasCommand, IsRefusal, NamesCommand};
+ghost use Rattle.koth_words.specs.Words.{asm_app, audit_app, create_app, fight_app, file_rule, flag_rule, is_true, koth_app, matches_in, migrate_app, serve_app, show_app, submit_app, text_or_none, wants_subcommand, AreWrong, AsksBy, HasCommand, IsRefusal, NamesCommand};
 
 use crate::options::{number_given, settings_given, with_settings};
 use clap::error::ErrorKind;
@@ -29,6 +29,8 @@ pub enum Request<'w> {
     Serve(Service<'w>),
     /// `audit`: fight every pair of the hill in this file anew, and write whether each kept result is the fight's.
     Audit(&'w str),
+    /// `migrate`: move a hill of the layout before this one to a new file.
+    Migrate(Migration<'w>),
 }
 
 /// The files of two warriors.
@@ -61,6 +63,15 @@ pub struct Service<'w> {
     pub port: u16,
     /// Connections that are served before the service ends.
     pub connections: u32,
+}
+
+/// The files of a hill of the old layout, and of the one that it moves to.
+#[derive(Clone, Copy, Debug, PartialEq, Eq)]
+pub struct Migration<'w> {
+    /// Stays as it is.
+    pub old: &'w str,
+    /// Made where it is missing.
+    pub new: &'w str,
 }
 
 /// Why the words ask for nothing that is done.
@@ -104,7 +115,8 @@ fn koth_command<'a>(heap: Global) -> Result<Command<'a>, AllocError>
     let command = with_command(command, submit_command(heap))?;
     let command = with_command(command, show_command(heap))?;
     let command = with_command(command, serve_command(heap))?;
-    with_command(command, audit_command(heap))
+    let command = with_command(command, audit_command(heap))?;
+    with_command(command, migrate_command(heap))
 }
 
 fn program<'a>(heap: Global) -> Command<'a>
@@ -212,6 +224,29 @@ fn audit_command<'a>(heap: Global) -> Result<Command<'a>, AllocError>
     with_file(heap, command, "FILE", "File of the hill")
 }
 
+fn migrate_command<'a>(heap: Global) -> Result<Command<'a>, AllocError>
+    ensures app { IfOk result (λ c. app_of c ≡ migrate_app) }
+    ensures globals { IfOk result (λ c. (out-Command c).has_globals ≡ false) }
+{
+    let command = described(
+        heap,
+        "migrate",
+        "Moves a hill of the layout before this one to a new file, and writes MIGRATED",
+    );
+    let old = with_file(
+        heap,
+        command,
+        "FILE",
+        "File of the hill, which stays as it is",
+    )?;
+    with_file(
+        heap,
+        old,
+        "NEW",
+        "File of the new hill, which is made where it is missing",
+    )
+}
+
 /// The command with this one among its own, if that was made.
 fn with_command<'a>(
     command: Command<'a>,
@@ -300,6 +335,7 @@ fn request_of<'w>(matches: &ArgMatches<'w>) -> Request<'w>
         Some(("show", given)) => Request::Show(shown_named(given)),
         Some(("serve", given)) => Request::Serve(service_named(given)),
         Some(("audit", given)) => Request::Audit(file_named(given, "FILE")),
+        Some(("migrate", given)) => Request::Migrate(migration_named(given)),
         _ => unreachable!(),
     }
 }
@@ -343,6 +379,16 @@ fn service_named<'w>(matches: &ArgMatches<'w>) -> Service<'w>
         hill: file_named(matches, "FILE"),
         port: port_given(matches),
         connections: number_given(matches, "connections", 0),
+    }
+}
+
+fn migration_named<'w>(matches: &ArgMatches<'w>) -> Migration<'w>
+    ensures old { result.old.now ≡ text_or_none (first_of (codes "FILE") (rows_of (found_of matches.now))) }
+    ensures new { result.new.now ≡ text_or_none (first_of (codes "NEW") (rows_of (found_of matches.now))) }
+{
+    Migration {
+        old: file_named(matches, "FILE"),
+        new: file_named(matches, "NEW"),
     }
 }
 

@@ -1,5 +1,5 @@
 -- Under limits of the core size an operand is the one without limits, for `laws_of_limits` and for machines without limits.
-use Rattle.std.proofs.Common.{◌≡◌, ℕ, ◌+◌, ◌-◌, ◌*◌, ◌/◌, ◌%◌, ◌<◌, Bool, true, false, nat_lt, if◌then◌else◌, List, refl, ap, sym, ◌∙◌, arith, mod-eq_of_lt}
+use Rattle.std.proofs.Common.{◌≡◌, ℕ, ◌+◌, ◌-◌, ◌*◌, ◌/◌, ◌%◌, ◌<◌, Bool, true, false, nat_lt, if◌then◌else◌, List, [], ◌∷◌, ◌++◌, take, All, refl, ap, sym, ◌∙◌, arith, mod-eq_of_lt}
 use Rattle.std.proofs.lemmas.Nat.{div-add-mod', mod-mul-add, mod_below}
 use Rattle.war_types.specs.declared.instr.Instr.{Instr}
 use Rattle.war_types.specs.declared.instr.Mode.{Mode}
@@ -9,8 +9,8 @@ use Rattle.mars_core.specs.Operand as limited
 use Rattle.mars_core.specs.Operand.{Operand, Evaluated, folded, pointers, evaluated, raised_at, lowered_at}
 use Rattle.mars_core.specs.Whole as without_limits
 use Rattle.mars_core.specs.Whole.{whole, found, indirect, predecremented, postincremented, by_mode, operand}
-use Rattle.mars_core.specs.Effect.{effect}
-use Rattle.mars_core.specs.Round.{executed}
+use Rattle.mars_core.specs.Effect.{Effect, effect}
+use Rattle.mars_core.specs.Round.{executed, side_turn, side_turned, turned_by}
 use Rattle.mars_core.specs.Code.{Operands, operands, whole_operands, evaluated_both}
 
 add-mod : (a b m : ℕ) → 0 < m → (a + b % m) % m ≡ (a + b) % m
@@ -80,3 +80,9 @@ unfolding executed without_limits.executed
 executed-whole size pc core inside =
     let i = cell core pc in
     ap (λ (o : Operands). effect size pc i.op i.modifier o.a o.b o.core) (operands-whole size pc core i inside)
+
+pub side_turn-whole : (size limit : ℕ) (core : List Instr) (queue : List ℕ) → All (λ a. a < size) queue → side_turn (whole size) limit core queue ≡ without_limits.side_turn size limit core queue
+unfolding side_turn without_limits.side_turn
+side_turn-whole size limit core [] inside = refl
+side_turn-whole size limit core (pc ∷ rest) inside =
+    ap (λ (done : Effect). side_turned done.core (take limit (rest ++ done.queued)) (turned_by done.queued)) (executed-whole size pc core (inside 0 0 (omega arith)))

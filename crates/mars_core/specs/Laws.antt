@@ -1,11 +1,12 @@
 -- A law of limits.
-use Rattle.std.specs.Prelude.{◌≡◌, ℕ, ◌<◌, List}
+use Rattle.std.specs.Prelude.{◌≡◌, ℕ, List}
 use Rattle.war_types.specs.declared.instr.Instr.{Instr}
 use Rattle.mars_core.specs.Cells.{IsCore}
-use Rattle.mars_core.specs.Round.{executed}
+use Rattle.mars_core.specs.Round.{side_turn, IsQueue}
 use Rattle.mars_core.specs.Whole as without_limits
 use Rattle.mars_core.specs.Whole.{whole}
 
--- with both limits at the core size a process executes as without limits
+-- with both limits at the core size a side's turn is the turn without limits
 abbrev pub LawOfLimits : Type 0
-LawOfLimits = (size pc : ℕ) (core : List Instr) → IsCore size core → pc < size → executed (whole size) core pc ≡ without_limits.executed size core pc
+LawOfLimits = (size limit : ℕ) (core : List Instr) (queue : List ℕ) → IsCore size core → IsQueue size limit queue
+    → side_turn (whole size) limit core queue ≡ without_limits.side_turn size limit core queue

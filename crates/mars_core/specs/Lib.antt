@@ -3,12 +3,12 @@ pub mod Cells
 pub mod Pairs
 pub mod Operand
 pub mod Effect
--- The same without limits, and that it is the same.
-pub mod Whole
-pub mod Laws
 -- Turns and rounds, and the round in an arena.
 pub mod Round
 pub mod Arena
+-- Operands and turns without limits, and that they are the same.
+pub mod Whole
+pub mod Laws
 -- Of the code alone, for private contracts: what its values mean, the words of its cells, and the queues that it keeps.
 pub mod Code
 pub mod Words

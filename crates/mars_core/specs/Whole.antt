@@ -1,13 +1,15 @@
 -- Of the machine without limits: an operand reads and writes anywhere in the core, so one address stands for both pointers. The laws of limits say
 -- that this is the definition where both limits are the core size.
-use Rattle.std.specs.Prelude.{ℕ, List}
+use Rattle.std.specs.Prelude.{ℕ, List, [], ◌∷◌, ◌++◌, take}
 use Rattle.war_types.specs.declared.instr.Mode.{Mode}
 use Rattle.war_types.specs.declared.instr.Mode.TheVariants as modes
 use Rattle.war_types.specs.declared.instr.Instr.{Instr}
 use Rattle.mars_core.specs.Cells.{Field, cell, number, plus}
 use Rattle.mars_core.specs.Operand as limited
 use Rattle.mars_core.specs.Operand.{Reach, Operand, Evaluated, evaluated, raised_at, lowered_at}
+use Rattle.mars_core.specs.declared.round.Turned.TheVariants as turneds
 use Rattle.mars_core.specs.Effect.{Effect, effect}
+use Rattle.mars_core.specs.Round.{SideTurn, side_turned, turned_by}
 
 -- both limits are the core size
 abbrev pub whole : ℕ → Reach
@@ -55,3 +57,10 @@ executed size core pc =
     let a = operand size core pc i.a_mode i.a in
     let b = operand size a.core pc i.b_mode i.b in
     effect size pc i.op i.modifier a.operand b.operand b.core
+
+-- a side's turn, as with limits
+unfoldable pub side_turn : ℕ → ℕ → List Instr → List ℕ → SideTurn
+side_turn size limit core [] = side_turned core [] turneds.Over
+side_turn size limit core (pc ∷ rest) =
+    let done = executed size core pc in
+    side_turned done.core (take limit (rest ++ done.queued)) (turned_by done.queued)

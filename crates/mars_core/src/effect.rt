@@ -51,7 +51,8 @@ pub(crate) fn execute<L: Limits, A: Allocator>(
     effect(core, size, limits, pc, i, a, b)
 }
 
-/// Executes an instruction that stands at `pc`, once its operands are evaluated, in a core of so many cells.
+/// Executes an instruction that stands at `pc`, once its operands are evaluated, in a core of so many cells. It is passed the limits for the compiler
+/// alone: so each kind of them has one of its own, called from one place, which is written out there.
 #[inline(always)]
 #[tactic(auto, unfolding(crate::specs::Effect::effect))]
 fn effect<L: Limits, A: Allocator>(

@@ -101,7 +101,7 @@ assembled s e said code at start says code_is long given below hold name author 
     rw (says, code_is, long, given, lt-ltb start (length code) below, hold, name, author) refl
 
 -- the lines of a load text give its warrior's code and start
-pub assembly_of-load : (s : RawSettings) (w : WarriorParts) → AllByRecursion (HasNumbersBelow s.core) w.code → s.core ≤ 65535 → w.start < length w.code → length w.code ≤ s.length → s.length ≤ 100
+pub assembly_of-load : (s : RawSettings) (w : WarriorParts) → AllByRecursion (HasNumbersBelow s.core) w.code → s.core ≤ 65535 → w.start < length w.code → length w.code ≤ s.length → s.length ≤ 200
     → assembly_of s (record { lines = load_lines s.core w; labels = [] }) ≡ Ok (warrior_with w.code w.start)
 assembly_of-load s w below most starts few limit =
     assembled s (record { lines = load_lines s.core w; labels = [] }) ((1, statements.Org (pos w.start)) ∷ said_lines 2 w.code) w.code 1 w.start

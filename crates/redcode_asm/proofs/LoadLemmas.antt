@@ -232,7 +232,7 @@ load_parts core w small =
     cut_line (codes "ORG " ++ decimal w.start) (flat_map (instr_line core) w.code) (codes "END\n") inside
 
 -- a short load text expands to its lines
-pub expansion-load_text : (s : RawSettings) (w : WarriorParts) → AllByRecursion (HasNumbersBelow s.core) w.code → s.core ≤ 65535 → w.start < 65536 → length w.code ≤ 100
+pub expansion-load_text : (s : RawSettings) (w : WarriorParts) → AllByRecursion (HasNumbersBelow s.core) w.code → s.core ≤ 65535 → w.start < 65536 → length w.code ≤ 200
     → expansion s (load_text s.core w) ≡ Ok (record { lines = load_lines s.core w; labels = [] })
 expansion-load_text s w below most small few =
     let first = ReadsAs-org w.start small in

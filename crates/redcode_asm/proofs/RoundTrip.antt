@@ -15,7 +15,7 @@ pub round_trip : (s : RawSettings) (w : WarriorParts) → AreSettings s → Fits
 unfolding assembly
 round_trip s w are fits =
     let numbers = recursion_from_All (HasNumbersBelow s.core) w.code fits.numbers in
-    let few : length w.code ≤ 100 = omega (arith, fits.length, are.length_most) in
+    let few : length w.code ≤ 200 = omega (arith, fits.length, are.length_most) in
     let small : w.start < 65536 = omega (arith, fits.start) in
     rw (expansion-load_text s w numbers are.core_most small few)
     (assembly_of-load s w numbers are.core_most fits.start fits.length are.length_most)

@@ -1,11 +1,11 @@
 //! Sources that are refused, with the line and the kind.
 
-use crate::sources::{defaults, printed, repeated};
+use crate::sources::{defaults, printed, repeated, with_length};
 use redcode_asm::assemble;
 use std::alloc::Global;
 use std::process::Abort;
 use std::test::Fail;
-use war_types::AsmKind;
+use war_types::{AsmKind, Settings};
 
 /// A source that is refused so.
 fn check_refused(rt: &(impl Abort + AllocGlobal), source: &str, refusal: &str) -> Result<(), Fail> {
@@ -177,6 +177,30 @@ fn limits(rt: HostRuntime) -> Result<(), Fail> {
             Err(fault) => Some((fault.line, fault.kind)),
         };
         assert_eq!(rt; refused, refusal, "{count} lines");
+    }
+    Ok(())
+}
+
+/// How many instructions a source gives, or its refusal.
+fn assembled(alloc: Global, source: &[u8], settings: &Settings) -> Result<usize, (u32, AsmKind)> {
+    match assemble(alloc, source, settings) {
+        Ok(warrior) => Ok(warrior.code().len()),
+        Err(fault) => Err((fault.line, fault.kind)),
+    }
+}
+
+/// A warrior has at most as many instructions as the settings say, which is at most 200.
+#[test]
+fn the_longest_warriors(rt: HostRuntime) -> Result<(), Fail> {
+    for (length, count, answer) in [
+        (1, 1, Ok(1)),
+        (1, 2, Err((0, AsmKind::TooLong))),
+        (200, 200, Ok(200)),
+        (200, 201, Err((0, AsmKind::TooLong))),
+    ] {
+        let source = repeated(rt.alloc(), b"DAT 0\n", count)?;
+        let found = assembled(rt.alloc(), source.as_slice(), &with_length(length)?);
+        assert_eq!(rt; found, answer, "{count} lines");
     }
     Ok(())
 }

@@ -7,12 +7,17 @@ use std::test::Fail;
 use war_types::{AsmFault, AsmKind, RawSettings, Settings, SettingsFault};
 
 pub(crate) fn defaults() -> Result<Settings, SettingsFault> {
+    with_length(100)
+}
+
+/// Settings of warriors that may have so many instructions, and lie that far apart.
+pub(crate) fn with_length(length: u32) -> Result<Settings, SettingsFault> {
     Settings::new(RawSettings {
         core: 8000,
         cycles: 80_000,
         processes: 8000,
-        length: 100,
-        distance: 100,
+        length,
+        distance: length,
         rounds: 10,
         seed: 1,
         capacity: 20,

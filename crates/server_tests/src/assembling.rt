@@ -107,3 +107,20 @@ fn a_write_that_fails(rt: HostRuntime) -> Result<(), Fail> {
     }
     Ok(())
 }
+
+/// The load text of so many lines `DAT 0`, up to the longest warrior that settings allow.
+#[test]
+fn the_longest_warrior(rt: HostRuntime) -> Result<(), Fail> {
+    let line = "koth asm --length 200 --distance 200";
+    let mut source = String::new(rt.alloc());
+    let mut text = String::from_str(rt.alloc(), "ORG 0\n")?;
+    for _ in 0..200 {
+        source.push_str("DAT 0\n")?;
+        text.push_str("DAT.F  $     0, $     0\n")?;
+    }
+    text.push_str("END\n")?;
+    check_on(&rt, line, source.as_bytes(), text.as_str(), "", 0)?;
+    source.push_str("DAT 0\n")?;
+    check_on(&rt, line, source.as_bytes(), "REFUSED 0 TooLong\n", "", 1)?;
+    Ok(())
+}

@@ -22,7 +22,7 @@ fn create_two(rt: &(impl Abort + Files + Net + AllocGlobal), file: &str) -> Resu
     Ok(())
 }
 
-/// Puts another result into the file, at the younger warrior's slot: so many rounds that the older won, and the younger.
+/// Puts another result into the file, in the last sector of the younger warrior's slot: so many rounds that the older won, and the younger.
 fn put_result(
     rt: &(impl Abort + Files + Net + AllocGlobal),
     file: &str,
@@ -31,7 +31,7 @@ fn put_result(
 ) -> Result<(), Fail> {
     let mut bytes = fs::read(rt, file)?;
     for (at, wins) in [(389, older), (391, younger)] {
-        match bytes.as_mut_slice().get_mut(5 * 512 + at) {
+        match bytes.as_mut_slice().get_mut(9 * 512 + at) {
             Some(place) => *place = wins,
             None => return Err("the slot".into()),
         }

@@ -1,10 +1,11 @@
 //! Each growth of memory refused in turn: what is answered then, what stands after it, and what the same input is answered once
 //! there is memory.
 
+use crate::earlier;
 use crate::program::{check, run_within};
 use crate::session_faults::LINES;
 use crate::sessions::ROWS;
-use crate::stores::{empty_hill_on, reopened};
+use crate::stores::{SECTORS, empty_hill_on, reopened};
 use hill_store::Store;
 use koth_session::{Counted, SessionEnd, session};
 use refusing::Refusing;
@@ -40,11 +41,11 @@ const OF_ONE: Ending = Ending {
 };
 
 /// So many growths of it, in their order, and how it ends where one of them is refused: the two buffers, without which nothing is read,
-/// those of the assembler, and, where the device has its memory there too, the first writes to the two sectors of a slot and to a header's.
+/// those of the assembler, and, where the device has its memory there too, the first writes to the four sectors of a slot and to a header's.
 const WITHOUT_ONE: [(u64, &str, SessionEnd, &str); 3] = [
     (2, "", SessionEnd::Memory, NONE),
     (12, "MEMORY\nBAD\n", SessionEnd::Quit, NONE),
-    (3, "", SessionEnd::StoreFailed, NONE),
+    (5, "", SessionEnd::StoreFailed, NONE),
 ];
 
 /// How a session on three warriors and their table ends.
@@ -64,14 +65,14 @@ const WITHOUT_THREE: [(u64, &str, SessionEnd, &str); 7] = [
         SessionEnd::EndOfInput,
         WON,
     ),
-    (3, "", SessionEnd::StoreFailed, NONE),
+    (5, "", SessionEnd::StoreFailed, NONE),
     (
         12,
         "PLACED 1 1 0\nMEMORY\nPLACED 2 2 0\n1 1 6 1 Unnamed by Anonymous\n2 2 0 0 Unnamed by Anonymous\n.\n",
         SessionEnd::EndOfInput,
         WON,
     ),
-    (2, "PLACED 1 1 0\n", SessionEnd::StoreFailed, ONE),
+    (4, "PLACED 1 1 0\n", SessionEnd::StoreFailed, ONE),
     (
         12,
         "PLACED 1 1 0\nPLACED 2 2 2\nMEMORY\n1 1 2 1 Unnamed by Anonymous\n2 2 2 0 Unnamed by Anonymous\n.\n",
@@ -129,7 +130,7 @@ fn check_ending(
     ending: Ending,
 ) -> Result<u64, Fail> {
     let memory = memories.session;
-    let mut store = empty_hill_on(memory, MemoryDevice::new(memories.device, 8)?)?;
+    let mut store = empty_hill_on(memory, MemoryDevice::new(memories.device, SECTORS)?)?;
     memory.refuse(k, 1);
     let (end, answers) = serve(rt.alloc(), memory, lines, &mut store);
     let refused = memory.refused();
@@ -197,7 +198,10 @@ const HILL: &str = "growths.hill";
 /// The second, in a file.
 const SOURCE: &str = "growths.red";
 
-/// A hill that is created.
+/// A hill of the old format, in a file that no command changes.
+const OLD_HILL: &str = "old_growths.hill";
+
+/// A hill that is created, or moved there.
 const CREATED: &str = "growing.hill";
 
 /// A command and its input, and what it writes and leaves with where it finds its memory.
@@ -213,8 +217,9 @@ struct Command {
 /// the command, its input, what it writes, and what it leaves with.
 ///
 /// A source is read into a buffer and assembled by 12 growths. A hill is created by 5, the members and an arena's four, behind one for
-/// the path of its file, and opened by these and the code of the one warrior. Texts grow from 8 bytes to 16, 32 and 64, load text from 4.
-const COMMANDS: [(u64, u64, &str, &str, &str, u8); 8] = [
+/// the path of its file, and opened by these and the code of the one warrior. The hill of the old format that is moved to a file that is made
+/// has three warriors. Texts grow from 8 bytes to 16, 32 and 64, load text from 4.
+const COMMANDS: [(u64, u64, &str, &str, &str, u8); 9] = [
     (
         1 + 12 + 5,
         0,
@@ -250,6 +255,14 @@ const COMMANDS: [(u64, u64, &str, &str, &str, u8); 8] = [
         0,
     ),
     (6, 0, "koth audit growths.hill", "", "true\n", 0),
+    (
+        1 + 5 + 3,
+        0,
+        "koth migrate old_growths.hill growing.hill",
+        "",
+        "MIGRATED\n",
+        0,
+    ),
     (
         6 + 1,
         12,
@@ -364,6 +377,7 @@ fn of_commands(rt: HostRuntime) -> Result<(), Fail> {
         0,
     )?;
     fs::write(&rt, SOURCE, "JMP 0\n")?;
+    earlier::put(&rt, OLD_HILL)?;
     let hill = fs::read(&rt, HILL)?;
     for (faults, replies, line, input, output, status) in COMMANDS {
         let command = Command {
@@ -376,6 +390,7 @@ fn of_commands(rt: HostRuntime) -> Result<(), Fail> {
     }
     put_files(&rt, hill.as_slice())?;
     fs::remove_file(&rt, HILL)?;
+    fs::remove_file(&rt, OLD_HILL)?;
     fs::remove_file(&rt, SOURCE)?;
     Ok(())
 }

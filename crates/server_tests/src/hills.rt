@@ -25,7 +25,7 @@ fn create_small(
 fn a_hill_is_created_once(rt: HostRuntime) -> Result<(), Fail> {
     let file = "created.hill";
     create_small(&rt, file, "CREATED\n", "", 0)?;
-    assert_eq!(rt; fs::metadata(&rt, file)?.len(), 8 * 512);
+    assert_eq!(rt; fs::metadata(&rt, file)?.len(), 14 * 512);
     check(&rt, "koth show created.hill", ".\n", "", 0)?;
     create_small(&rt, file, "", "Occupied\n", 1)?;
     fs::remove_file(&rt, file)?;
@@ -82,7 +82,7 @@ fn sources_that_cannot_be_read(rt: HostRuntime) -> Result<(), Fail> {
 }
 
 /// Each command on a file without a hill, which is tried before the source is read or the port is bound.
-fn check_no_hill(
+pub(crate) fn check_no_hill(
     rt: &(impl Abort + Files + Net + AllocGlobal),
     file: &str,
     errors: &str,

@@ -7,6 +7,7 @@
 //! - `words`: which words are faults, ask for help, or give settings;
 //! - `assembling`, `fights` and `hills`: what the commands write, how they end, and what they do to files;
 //! - `audits`: the results that a hill keeps, shown, audited, and changed in its file;
+//! - `earlier` and `migrations`: a hill of the old format, and how it is moved to the new one;
 //! - `sessions` and `session_faults`: what a session answers, and how it ends where a stream or the device fails;
 //! - `growths`: sessions and commands with each growth of memory refused in turn;
 //! - `peers`: peers that wait for an answer, and streams that signals interrupt;
@@ -20,11 +21,15 @@ mod assembling;
 #[cfg(test)]
 mod audits;
 #[cfg(test)]
+mod earlier;
+#[cfg(test)]
 mod fights;
 #[cfg(test)]
 mod growths;
 #[cfg(test)]
 mod hills;
+#[cfg(test)]
+mod migrations;
 #[cfg(test)]
 mod peers;
 #[cfg(test)]

@@ -1,5 +1,5 @@
 use crate::sessions::{ROWS, check};
-use crate::stores::{empty_hill, empty_hill_on, reopened};
+use crate::stores::{SECTORS, empty_hill, empty_hill_on, reopened};
 use crate::streams::{FULL, Full, Padded, reader, writer};
 use koth_session::{Counted, SessionEnd, session};
 use sector_disk::{FuseDevice, FuseKind, MemoryDevice};
@@ -107,7 +107,7 @@ fn stands_behind_a_fault(
     calls: u64,
     kind: FuseKind,
 ) -> Result<bool, Fail> {
-    let memory = MemoryDevice::new(rt.alloc(), 8)?;
+    let memory = MemoryDevice::new(rt.alloc(), SECTORS)?;
     let mut store = empty_hill_on(rt.alloc(), FuseDevice::new(memory, calls, kind))?;
     let mut output = Counted::new(Vec::new(rt.alloc()));
     let ended = session(
@@ -130,14 +130,14 @@ fn stands_behind_a_fault(
     Ok(reopened(rt.alloc(), store.close())?.rows()?.len() == 1)
 }
 
-/// Five calls create the hill. Then come those of the warrior: two sectors of its slot, a sync, the header and a sync.
+/// Five calls create the hill. Then come those of the warrior: four sectors of its slot, a sync, the header and a sync.
 #[test]
 fn a_device_that_fails(rt: HostRuntime) -> Result<(), Fail> {
-    for calls in 5..10 {
+    for calls in 5..12 {
         let lost = stands_behind_a_fault(&rt, calls, FuseKind::FailLost)?;
-        assert_eq!(rt; lost, calls == 9, "the call behind {calls} is not made");
+        assert_eq!(rt; lost, calls == 11, "the call behind {calls} is not made");
         let kept = stands_behind_a_fault(&rt, calls, FuseKind::FailKept)?;
-        assert_eq!(rt; kept, calls >= 8, "the call behind {calls} is made");
+        assert_eq!(rt; kept, calls >= 10, "the call behind {calls} is made");
     }
     Ok(())
 }

@@ -19,11 +19,14 @@ const SMALL: RawSettings = RawSettings {
     write_limit: 0,
 };
 
+/// Sectors of a hill of two: those of the headers, and four for each of three slots.
+pub(crate) const SECTORS: u32 = 2 + 4 * 3;
+
 /// A hill of two without warriors.
 pub(crate) fn empty_hill(alloc: Global) -> Result<Store<MemoryDevice<Global>, Global>, Fail>
     ensures { IfOk result (λ store. store.reopen ≡ false) }
 {
-    empty_hill_on(alloc, MemoryDevice::new(alloc, 8)?)
+    empty_hill_on(alloc, MemoryDevice::new(alloc, SECTORS)?)
 }
 
 /// The same on a device that was blank.
@@ -58,6 +61,10 @@ pub(crate) fn failing_hill(
     ensures { IfSome result (λ store. store.reopen ≡ false) }
 {
     let settings = Settings::new(SMALL).ok()?;
-    let device = FuseDevice::new(MemoryDevice::new(alloc, 8).ok()?, calls, FuseKind::FailLost);
+    let device = FuseDevice::new(
+        MemoryDevice::new(alloc, SECTORS).ok()?,
+        calls,
+        FuseKind::FailLost,
+    );
     Store::create(alloc, device, settings).ok()
 }

@@ -23,7 +23,7 @@ fn check_fault(
 }
 
 /// Words with a fault, and a part of what is told of it.
-const FAULTS: [(&str, &str); 22] = [
+const FAULTS: [(&str, &str); 24] = [
     ("koth", "requires a subcommand"),
     ("koth fly", "unrecognized subcommand 'fly'"),
     ("koth ASM", "unrecognized subcommand 'ASM'"),
@@ -58,6 +58,8 @@ const FAULTS: [(&str, &str); 22] = [
         "invalid value '65536'",
     ),
     ("koth audit f --matches", "unexpected argument '--matches'"),
+    ("koth migrate f", "<NEW>"),
+    ("koth migrate f g h", "unexpected argument 'h'"),
 ];
 
 #[test]
@@ -83,7 +85,7 @@ fn check_help(
 }
 
 /// Words that ask for help, and a part of it.
-const HELPS: [(&str, &str); 14] = [
+const HELPS: [(&str, &str); 16] = [
     ("koth --help", "Usage: koth <COMMAND>"),
     ("koth -h", "Usage: koth <COMMAND>"),
     ("koth help", "Usage: koth <COMMAND>"),
@@ -97,6 +99,8 @@ const HELPS: [(&str, &str); 14] = [
     ("koth help show", "Usage: koth show [OPTIONS] <FILE>"),
     ("koth show -h", "--matches"),
     ("koth audit --help", "Usage: koth audit <FILE>"),
+    ("koth migrate --help", "Usage: koth migrate <FILE> <NEW>"),
+    ("koth asm --help", "1 to 200 [default: 100]"),
     ("koth serve --help", "0 to 65535"),
 ];
 
@@ -120,12 +124,13 @@ fn options_give_settings(rt: HostRuntime) -> Result<(), Fail> {
 }
 
 /// Options that give settings out of their ranges, and the first such field.
-const OUT_OF_RANGE: [(&str, &str); 13] = [
+const OUT_OF_RANGE: [(&str, &str); 14] = [
     ("--core 63 --cycles 0", "Core"),
     ("--core 4294967295", "Core"),
     ("--cycles 0", "Cycles"),
     ("--processes 65536", "Processes"),
-    ("--length 101", "Length"),
+    ("--length 201 --distance 201", "Length"),
+    ("--length 200", "Distance"),
     ("--distance 99", "Distance"),
     ("--core 64", "Distance"),
     ("--rounds 1001", "Rounds"),

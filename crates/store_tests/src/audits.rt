@@ -1,8 +1,8 @@
 //! Results that a device keeps, true and untrue.
 
-use crate::stores::{created, numbers, opened, placed};
+use crate::stores::{SECTORS, created, numbers, opened, placed};
 use crate::written::sector;
-use hill_store::{Refusal, Store};
+use hill_store::{Refusal, Store, Untrue};
 use sector_disk::{Device, Fault, MemoryDevice};
 use std::alloc::Global;
 use std::process::Abort;
@@ -10,7 +10,7 @@ use std::test::Fail;
 
 /// A device that holds two warriors, each of which loses at once: of their two rounds each won one.
 fn device_of_two(rt: &impl Abort, alloc: Global) -> Result<MemoryDevice<Global>, Fail> {
-    let mut store = created(alloc, MemoryDevice::new(alloc, 8)?)?;
+    let mut store = created(alloc, MemoryDevice::new(alloc, SECTORS)?)?;
     assert_eq!(rt; store.submit(b"DAT 0,0"), placed(1, 1, 0));
     assert_eq!(rt; store.submit(b"DAT 0,0"), placed(2, 2, 3));
     assert!(rt; store.audit());
@@ -38,10 +38,10 @@ fn device_with(
     younger: u8,
 ) -> Result<MemoryDevice<Global>, Fail> {
     let mut device = device_of_two(rt, alloc)?;
-    let mut content = sector(&mut device, 5)?;
+    let mut content = sector(&mut device, 9)?;
     content[389] = older;
     content[391] = younger;
-    put(&mut device, 5, &content)?;
+    put(&mut device, 9, &content)?;
     Ok(device)
 }
 
@@ -65,20 +65,24 @@ fn untrue_results_open_and_are_told(rt: HostRuntime) -> Result<(), Fail> {
         let mut store = opened(rt.alloc(), device_with(&rt, rt.alloc(), older, younger)?)?;
         assert!(rt; !store.audit(), "{older} and {younger}");
         let untrue = store.first_untrue().ok_or("the pair")?;
-        assert_eq!(rt; (untrue.older, untrue.younger), (1, 2));
-        assert_eq!(rt; untrue.kept.older_wins, u16::from(older));
-        assert_eq!(rt; untrue.kept.younger_wins, u16::from(younger));
-        assert_eq!(rt;
-            (
-                untrue.fought.older_wins,
-                untrue.fought.younger_wins,
-                untrue.fought.ties
-            ),
-            (1, 1, 0)
-        );
+        expect_told(&rt, &untrue, older, younger);
         expect_points(&rt, &store, points)?;
     }
     Ok(())
+}
+
+/// The pair, the result that is kept of it, and what its match comes to.
+fn expect_told(rt: &impl Abort, untrue: &Untrue, older: u8, younger: u8) {
+    assert_eq!(rt; (untrue.older, untrue.younger), (1, 2));
+    let (kept, fought) = (untrue.kept, untrue.fought);
+    assert_eq!(rt;
+        (kept.older_wins, kept.younger_wins),
+        (u16::from(older), u16::from(younger))
+    );
+    assert_eq!(rt;
+        (fought.older_wins, fought.younger_wins, fought.ties),
+        (1, 1, 0)
+    );
 }
 
 /// The points of the two entries.
@@ -119,15 +123,19 @@ fn more_rounds_than_a_match_has(rt: HostRuntime) -> Result<(), Fail> {
     }
 }
 
+/// The header in this sector begins as those of hills that kept no results.
+fn rename(device: &mut MemoryDevice<Global>, n: u32) -> Result<(), Fault> {
+    let mut content = sector(device, n)?;
+    content[7] = b'0';
+    put(device, n, &content)
+}
+
 /// A device that an earlier version wrote, which kept no results, holds no hill, and one is created over it.
 #[test]
 fn an_earlier_hill_is_none(rt: HostRuntime) -> Result<(), Fail> {
     let mut device = device_of_two(&rt, rt.alloc())?;
-    for n in 0..2 {
-        let mut content = sector(&mut device, n)?;
-        content[7] = b'0';
-        put(&mut device, n, &content)?;
-    }
+    rename(&mut device, 0)?;
+    rename(&mut device, 1)?;
     let device = match Store::open(rt.alloc(), device) {
         Ok(_) => return Err("it holds no hill".into()),
         Err((device, refusal)) => {

@@ -1,10 +1,15 @@
-//! A hill that the program wrote before settings had limits. Its fields of limits are zeros, which stand for the core size.
+//! A hill that the program wrote before slots had four sectors, and before settings had limits. Its fields of limits are zeros, which stand
+//! for the core size.
 
 use crate::audits::put;
+use crate::migrations::{expect_no_hill, moved};
+use crate::narrowed::narrowed;
 use crate::stores::{fell, numbers, opened};
 use crate::written::sector;
+use hill_store::Store;
 use sector_disk::MemoryDevice;
 use std::alloc::Global;
+use std::process::Abort;
 use std::test::Fail;
 
 /// What its sectors hold that is not zero: the sector, where it begins, and the bytes. Four warriors came, and the third fell.
@@ -63,12 +68,17 @@ fn content_of(n: u32) -> [u8; 512] {
     let mut content = [0; 512];
     for (sector, begins, bytes) in WRITTEN {
         if sector == n {
-            for (place, byte) in content.iter_mut().skip(begins).zip(bytes) {
-                *place = *byte;
-            }
+            put_bytes(&mut content, begins, bytes);
         }
     }
     content
+}
+
+/// These bytes stand from one place on.
+fn put_bytes(content: &mut [u8; 512], begins: usize, bytes: &[u8]) {
+    for (place, byte) in content.iter_mut().skip(begins).zip(bytes) {
+        *place = *byte;
+    }
 }
 
 fn earlier(alloc: Global) -> Result<MemoryDevice<Global>, Fail> {
@@ -79,10 +89,24 @@ fn earlier(alloc: Global) -> Result<MemoryDevice<Global>, Fail> {
     Ok(device)
 }
 
-/// The table and the reply are what that program said, and opening writes nothing.
+/// The table and the reply are what that program said. Nothing is written to the device that it wrote.
 #[test]
 fn a_hill_from_before_limits(rt: HostRuntime) -> Result<(), Fail> {
-    let mut store = opened(rt.alloc(), earlier(rt.alloc())?)?;
+    let old = expect_no_hill(&rt, rt.alloc(), earlier(rt.alloc())?)?;
+    let (mut old, mut store) = moved(rt.alloc(), old, MemoryDevice::new(rt.alloc(), 18)?)?;
+    for n in 0..10 {
+        assert_eq!(rt; sector(&mut old, n)?, content_of(n), "{n}");
+    }
+    expect_table(&rt, &store)?;
+    assert!(rt; store.audit());
+    let mut store = opened(rt.alloc(), store.close())?;
+    expect_table(&rt, &store)?;
+    assert!(rt; store.audit());
+    assert_eq!(rt; store.submit(b"JMP 0"), fell(5, 38));
+    Ok(())
+}
+
+fn expect_table(rt: &impl Abort, store: &Store<MemoryDevice<Global>, Global>) -> Result<(), Fail> {
     assert_eq!(rt; store.hill().settings().read_limit(), 800);
     assert_eq!(rt; store.hill().settings().write_limit(), 800);
     let rows = store.rows()?;
@@ -90,13 +114,38 @@ fn a_hill_from_before_limits(rt: HostRuntime) -> Result<(), Fail> {
     assert_eq!(rt; numbers(rows.first()), Some((4, 92, 0)));
     assert_eq!(rt; numbers(rows.get(1)), Some((2, 35, 2)));
     assert_eq!(rt; numbers(rows.get(2)), Some((1, 21, 3)));
-    drop(rows);
-    assert!(rt; store.audit());
-    let mut device = store.close();
-    for n in 0..10 {
-        assert_eq!(rt; sector(&mut device, n)?, content_of(n), "{n}");
-    }
-    let mut store = opened(rt.alloc(), device)?;
+    Ok(())
+}
+
+/// The store that the hill is moved to answers as one that was opened.
+#[test]
+fn a_moved_hill_answers_at_once(rt: HostRuntime) -> Result<(), Fail> {
+    let new = MemoryDevice::new(rt.alloc(), 18)?;
+    let (_, mut store) = moved(rt.alloc(), earlier(rt.alloc())?, new)?;
     assert_eq!(rt; store.submit(b"JMP 0"), fell(5, 38));
+    Ok(())
+}
+
+/// What was written of the hill as it stands: neither the header before the last nor the slot of the third warrior, which fell, and no
+/// result against that one.
+fn standing_content_of(n: u32) -> [u8; 512] {
+    let mut content = content_of(n);
+    match n {
+        1 | 6 | 7 => content = [0; 512],
+        9 => content[399] = 0,
+        _ => {}
+    }
+    content
+}
+
+/// In the old format the moved hill has the bytes that the program wrote.
+#[test]
+fn a_moved_hill_has_the_same_bytes(rt: HostRuntime) -> Result<(), Fail> {
+    let new = MemoryDevice::new(rt.alloc(), 18)?;
+    let (_, store) = moved(rt.alloc(), earlier(rt.alloc())?, new)?;
+    let mut again = narrowed(rt.alloc(), &mut store.close(), 4)?;
+    for n in 0..10 {
+        assert_eq!(rt; sector(&mut again, n)?, standing_content_of(n), "{n}");
+    }
     Ok(())
 }

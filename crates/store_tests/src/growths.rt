@@ -1,14 +1,18 @@
 //! Growths of memory that are refused: where a device takes its memory from the same allocator, in a list of submissions, and behind
 //! the first call of the device.
 
-use crate::stores::{SMALL, counted, created, fell, numbers, opened, placed, refused};
-use hill_store::{Refusal, Reply, Store};
+use crate::stores::{SECTORS, SMALL, counted, created, fell, numbers, opened, placed, refused};
+use hill_bytes::{OldSlot, Slot, Wins};
+use hill_store::{
+    Header, Refusal, Reply, Store, decode_header, decode_old_header, encode_header,
+    encode_old_header,
+};
 use refusing::{Refusing, refuse_each};
 use sector_disk::{Device, Fault, MemoryDevice};
 use std::alloc::{AllocError, Global};
 use std::process::Abort;
 use std::test::Fail;
-use war_types::{AsmKind, Settings};
+use war_types::{AsmKind, Settings, Warrior};
 
 /// A device that refuses every further growth from its first call on.
 #[derive(Drop)]
@@ -57,7 +61,7 @@ fn expect_stinted(rt: &impl Abort, memory: &Refusing<Global>) {
 fn none_behind_the_first_call_of_the_device(rt: HostRuntime) -> Result<(), Fail> {
     let memory = Refusing::new(rt.alloc());
     let device = Stinting {
-        inner: MemoryDevice::new(rt.alloc(), 8)?,
+        inner: MemoryDevice::new(rt.alloc(), SECTORS)?,
         memory: &memory,
     };
     let mut store = created(&memory, device)?;
@@ -81,12 +85,48 @@ fn none_behind_the_first_call_of_the_device(rt: HostRuntime) -> Result<(), Fail>
     Ok(())
 }
 
+/// A header is the same in both formats, written and read.
+fn expect_header(rt: &impl Abort) -> Result<(), Fail> {
+    let header = Header::new(0, Settings::new(SMALL)?, 0, &[]).ok_or("a header")?;
+    let read = decode_header(&encode_header(&header)).ok_or("its header")?;
+    assert_eq!(rt; read.generation(), 0);
+    let bytes = encode_old_header(&header).ok_or("it has room")?;
+    let read = decode_old_header(&bytes).ok_or("its header")?;
+    assert_eq!(rt; read.settings().capacity(), 2);
+    Ok(())
+}
+
+/// Slots of both formats hold the warrior, which has no results.
+fn expect_slot(rt: &impl Abort, warrior: &Warrior<&Refusing<Global>>) {
+    let slot = Slot::encode(warrior, &[Wins::NONE; 21]);
+    assert_eq!(rt; slot.results(), [Wins::NONE; 21]);
+    let old = OldSlot {
+        sectors: [slot.sectors[0], slot.sectors[3]],
+    };
+    assert!(rt; old.widened().sectors == slot.sectors);
+    assert!(rt; Slot::blank().sectors != slot.sectors);
+}
+
+#[test]
+fn headers_and_slots_need_none(rt: HostRuntime) -> Result<(), Fail> {
+    let memory = Refusing::new(rt.alloc());
+    let mut store = created(&memory, MemoryDevice::new(rt.alloc(), SECTORS)?)?;
+    assert_eq!(rt; store.submit(b"MOV 0,1"), placed(1, 1, 0));
+    memory.refuse(0, u64::MAX);
+    expect_header(&rt)?;
+    let member = store.hill().member(0).ok_or("the warrior")?;
+    expect_slot(&rt, member.warrior);
+    assert_eq!(rt; memory.refused(), 0);
+    memory.refuse(0, 0);
+    Ok(())
+}
+
 /// A device in memory takes a growth at the first write to a sector, as of the header of a hill that is created.
 fn expect_none_created(
     rt: &(impl Abort + AllocGlobal),
     memory: &Refusing<Global>,
 ) -> Result<(), Fail> {
-    let device = MemoryDevice::new(memory, 8)?;
+    let device = MemoryDevice::new(memory, SECTORS)?;
     memory.refuse(0, 1);
     let Err((device, refusal)) = Store::create(rt.alloc(), device, Settings::new(SMALL)?) else {
         return Err("it is refused".into());
@@ -98,15 +138,15 @@ fn expect_none_created(
     Ok(())
 }
 
-/// A warrior is placed by the first writes to two sectors of a slot, and, behind a sync, to a header's: three growths. The store whose
+/// A warrior is placed by the first writes to the four sectors of a slot, and, behind a sync, to a header's: five growths. The store whose
 /// device found no memory is as it was before, and so is the hill that is opened on its device. It calls its device no more: creating
 /// the hill made five calls.
 #[test]
 fn of_a_device(rt: HostRuntime) -> Result<(), Fail> {
     let memory = Refusing::new(rt.alloc());
     expect_none_created(&rt, &memory)?;
-    for (k, calls) in [(0, 5 + 1), (1, 5 + 2), (2, 5 + 4)] {
-        let mut store = created(rt.alloc(), counted(MemoryDevice::new(&memory, 8)?))?;
+    for (k, calls) in [(0, 5 + 1), (1, 5 + 2), (2, 5 + 3), (3, 5 + 4), (4, 5 + 6)] {
+        let mut store = created(rt.alloc(), counted(MemoryDevice::new(&memory, SECTORS)?))?;
         memory.refuse(k, 1);
         assert_eq!(rt; store.submit(b"MOV 0,1"), Reply::Disk, "at growth {k}");
         assert_eq!(rt; store.submit(b"MOV 0,1"), Reply::Reopen);
@@ -118,8 +158,8 @@ fn of_a_device(rt: HostRuntime) -> Result<(), Fail> {
         assert_eq!(rt; store.rows()?.len(), 0);
         assert_eq!(rt; store.submit(b"MOV 0,1"), placed(1, 1, 0));
     }
-    let mut store = created(rt.alloc(), MemoryDevice::new(&memory, 8)?)?;
-    memory.refuse(3, 1);
+    let mut store = created(rt.alloc(), MemoryDevice::new(&memory, SECTORS)?)?;
+    memory.refuse(5, 1);
     assert_eq!(rt; store.submit(b"MOV 0,1"), placed(1, 1, 0));
     assert_eq!(rt; memory.refused(), 0);
     Ok(())
@@ -128,7 +168,7 @@ fn of_a_device(rt: HostRuntime) -> Result<(), Fail> {
 #[test]
 fn of_a_table(rt: HostRuntime) -> Result<(), Fail> {
     let memory = Refusing::new(rt.alloc());
-    let mut store = created(&memory, MemoryDevice::new(rt.alloc(), 8)?)?;
+    let mut store = created(&memory, MemoryDevice::new(rt.alloc(), SECTORS)?)?;
     assert_eq!(rt; store.submit(b"MOV 0,1"), placed(1, 1, 0));
     let runs = refuse_each(&memory, |_k| match store.rows() {
         Ok(rows) => {
@@ -153,9 +193,9 @@ fn growths() -> [(u64, [Reply; 4]); 5] {
     let (memory, disk) = (Reply::Memory, Reply::Disk);
     [
         (12, [memory, first, empty, loses]),
-        (3, [disk; 4]),
+        (5, [disk; 4]),
         (12, [first, memory, empty, loses]),
-        (2, [first, disk, disk, disk]),
+        (4, [first, disk, disk, disk]),
         (12, [first, second, empty, memory]),
     ]
 }
@@ -168,7 +208,7 @@ fn check_replies(
     k: u64,
     expected: &[Reply; 4],
 ) -> Result<u64, Fail> {
-    let mut store = created(memory, MemoryDevice::new(memory, 8)?)?;
+    let mut store = created(memory, MemoryDevice::new(memory, SECTORS)?)?;
     memory.refuse(k, 1);
     let replies = store.submit_all(&SOURCES);
     let count = memory.refused();
@@ -188,12 +228,10 @@ fn check_replies(
 
 /// How many replies there are up to the first `Disk`.
 fn made_of(replies: &[Reply]) -> usize {
-    for (i, reply) in replies.iter().enumerate() {
-        if reply.is_disk() {
-            return i.saturating_add(1);
-        }
+    match replies.iter().position(|reply| reply.is_disk()) {
+        Some(i) => i.saturating_add(1),
+        None => replies.len(),
     }
-    replies.len()
 }
 
 fn placed_in(replies: &[Reply]) -> usize {
@@ -208,7 +246,7 @@ fn placed_in(replies: &[Reply]) -> usize {
 
 /// The first growth is that of the list of the replies: without it nothing is submitted.
 fn expect_no_list(rt: &(impl Abort + AllocGlobal), memory: &Refusing<Global>) -> Result<(), Fail> {
-    let mut store = created(memory, MemoryDevice::new(rt.alloc(), 8)?)?;
+    let mut store = created(memory, MemoryDevice::new(rt.alloc(), SECTORS)?)?;
     memory.refuse(0, 1);
     assert!(rt; store.submit_all(&SOURCES).is_err());
     assert_eq!(rt; memory.refused(), 1);

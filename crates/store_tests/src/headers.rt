@@ -1,13 +1,16 @@
 //! The bytes of a header, and what is no header.
 
 use crate::stores::SMALL;
-use hill_store::{Header, HeaderEntry, decode_header, encode_header};
+use hill_store::{
+    Header, HeaderEntry, decode_header, decode_old_header, encode_header, encode_old_header,
+};
+use std::process::Abort;
 use std::test::Fail;
 use war_types::{RawSettings, Settings};
 
 /// How the header of two warriors begins: all that is not zero, and the places between.
 pub(crate) const BEGINS: [u8; 84] = [
-    0x4B, 0x4F, 0x54, 0x48, 0x48, 0x49, 0x4C, 0x31, 0, 0, 0, 0, 0, 0, 0, 2, 0, 0x40, 0, 0, 0, 0x64,
+    0x4B, 0x4F, 0x54, 0x48, 0x48, 0x49, 0x4C, 0x32, 0, 0, 0, 0, 0, 0, 0, 2, 0, 0x40, 0, 0, 0, 0x64,
     0, 8, 0, 10, 0, 10, 0, 2, 0, 0, 0, 1, 0, 2, 0, 0, 0, 0, 0, 0, 0, 0, 0, 0, 0, 2, 0, 2, 0, 0, 0,
     0, 0, 0, 0, 1, 0, 0, 0, 0, 0, 0, 0, 0, 1, 0, 0, 0, 0, 0, 0, 0, 2, 1, 0, 0, 0, 0, 0, 0, 0, 0,
 ];
@@ -99,5 +102,71 @@ fn headers_that_are_none(rt: HostRuntime) -> Result<(), Fail> {
     assert!(rt; Header::new(2, settings, 2, &[SECOND, FIRST]).is_none());
     assert!(rt; Header::new(3, settings, 3, &[FIRST, SECOND, third]).is_none());
     assert!(rt; Header::new(3, settings, 3, &[FIRST, third]).is_some());
+    Ok(())
+}
+
+/// The header of two warriors, of a hill whose warriors may have so many instructions.
+fn of_length(length: u32) -> Result<Header, Fail> {
+    let settings = Settings::new(RawSettings {
+        core: 400,
+        length,
+        distance: length,
+        ..SMALL
+    })?;
+    Ok(Header::new(2, settings, 2, &[FIRST, SECOND]).ok_or("a header")?)
+}
+
+/// In the old format one byte is another. Each format reads its own headers alone.
+#[test]
+fn a_header_in_the_old_format(rt: HostRuntime) -> Result<(), Fail> {
+    let settings = Settings::new(SMALL)?;
+    let header = Header::new(2, settings, 2, &[FIRST, SECOND]).ok_or("a header")?;
+    let bytes = encode_old_header(&header).ok_or("it has room")?;
+    let mut expected = encode_header(&header);
+    assert!(rt; decode_old_header(&expected).is_none());
+    expected[7] = b'1';
+    assert_eq!(rt; bytes, expected);
+    assert!(rt; decode_header(&bytes).is_none());
+
+    let read = decode_old_header(&bytes).ok_or("its header")?;
+    assert_eq!(rt; (read.generation(), read.counter()), (2, 2));
+    assert_eq!(rt; read.settings().capacity(), 2);
+    assert_eq!(rt; read.entries(), [FIRST, SECOND].as_slice());
+    Ok(())
+}
+
+/// The header of a hill with a length, in the new format, and in the old one, if it has room for such warriors.
+fn expect_lengths(rt: &impl Abort, length: u32, has_room: bool) -> Result<(), Fail> {
+    let header = of_length(length)?;
+    assert_eq!(rt; encode_old_header(&header).is_some(), has_room, "{length}");
+    let mut bytes = encode_header(&header);
+    assert_eq!(rt; u32::from(bytes[25]), length);
+    let read = decode_header(&bytes).ok_or("its header")?;
+    assert_eq!(rt; u32::from(read.settings().length()), length);
+    bytes[7] = b'1';
+    assert_eq!(rt; decode_old_header(&bytes).is_some(), has_room, "{length}");
+    Ok(())
+}
+
+/// A slot of the old format has no room for more than 100 instructions.
+#[test]
+fn lengths_in_a_header(rt: HostRuntime) -> Result<(), Fail> {
+    for (length, has_room) in [(1, true), (100, true), (101, false), (200, false)] {
+        expect_lengths(&rt, length, has_room)?;
+    }
+    Ok(())
+}
+
+/// One byte makes it none: behind the entries, of what it begins with, and of a limit.
+#[test]
+fn bytes_that_are_no_old_header(rt: HostRuntime) -> Result<(), Fail> {
+    let bytes = encode_old_header(&of_length(100)?).ok_or("it has room")?;
+    for (at, byte) in [(511, 1), (7, b'0'), (7, b'3'), (36, 1)] {
+        let mut other = bytes;
+        other[at] = byte;
+        assert!(rt; decode_old_header(&other).is_none(), "{byte} at {at}");
+    }
+    assert!(rt; decode_old_header(&bytes).is_some());
+    assert!(rt; decode_old_header(&[0; 512]).is_none());
     Ok(())
 }

@@ -17,10 +17,18 @@ mod headers;
 #[cfg(test)]
 mod lives;
 #[cfg(test)]
+mod migrations;
+#[cfg(test)]
+mod moves;
+#[cfg(test)]
+mod narrowed;
+#[cfg(test)]
 mod slots;
 #[cfg(test)]
 mod stores;
 #[cfg(test)]
 mod sweeps;
+#[cfg(test)]
+mod twenty;
 #[cfg(test)]
 mod written;

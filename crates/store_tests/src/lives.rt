@@ -1,6 +1,7 @@
 //! The life of a device: a fault, a store that is opened again, and a stop.
 
-use crate::stores::{SMALL, numbers, placed};
+use crate::stores::{SECTORS, SMALL, numbers, placed};
+use crate::written::sector;
 use hill_store::{Reply, Store};
 use sector_disk::{Device, FuseDevice, FuseKind, MemoryDevice};
 use std::alloc::Global;
@@ -8,15 +9,15 @@ use std::process::Abort;
 use std::test::Fail;
 use war_types::Settings;
 
-/// Calls that open a hill of two: a sync, two headers, and two sectors of each slot.
-const OPENING: u64 = 7;
+/// Calls that open a hill of two: a sync, two headers, and four sectors of each slot.
+const OPENING: u64 = 11;
 
-/// A device whose last sync failed while a third warrior was placed: 5 calls to create the hill and 5 for each warrior.
+/// A device whose last sync failed while a third warrior was placed: 5 calls to create the hill and 7 for each warrior.
 fn failed_at_the_last_sync(
     rt: &impl Abort,
     alloc: Global,
 ) -> Result<FuseDevice<MemoryDevice<Global>>, Fail> {
-    let device = FuseDevice::new(MemoryDevice::new(alloc, 8)?, 19, FuseKind::FailLost);
+    let device = FuseDevice::new(MemoryDevice::new(alloc, SECTORS)?, 25, FuseKind::FailLost);
     let Ok(mut store) = Store::create(alloc, device, Settings::new(SMALL)?) else {
         return Err("it is created".into());
     };
@@ -40,13 +41,13 @@ fn expect_two<D: Device + Drop>(rt: &impl Abort, alloc: Global, device: D) -> Re
     Ok(store.close())
 }
 
-/// The device stops behind the two writes of a fourth warrior's slot.
+/// The device stops behind the four writes of a fourth warrior's slot.
 fn stopped_in_a_slot(
     rt: &impl Abort,
     alloc: Global,
     device: MemoryDevice<Global>,
 ) -> Result<MemoryDevice<Global>, Fail> {
-    let device = FuseDevice::new(device, OPENING + 2, FuseKind::Stop);
+    let device = FuseDevice::new(device, OPENING + 4, FuseKind::Stop);
     let Ok(mut store) = Store::open(alloc, device) else {
         return Err("it opens".into());
     };
@@ -59,16 +60,30 @@ fn a_life_of_a_hill(rt: HostRuntime) -> Result<(), Fail> {
     let device = failed_at_the_last_sync(&rt, rt.alloc())?;
     let device = expect_two(&rt, rt.alloc(), device)?;
     let device = stopped_in_a_slot(&rt, rt.alloc(), device.into_inner())?;
-    // The second warrior's slot, sectors 4 and 5, is free, and each of them is kept or lost.
-    for [front, back] in [[0, 0], [0, 1], [1, 0], [1, 1]] {
-        let mut image = device.stopped(&[0, 0, 0, 0, front, back])?;
-        let mut content = [0; 512];
-        if image.sectors() > 4 {
-            image.read(4, &mut content)?;
-        }
-        // `JMP.B $0, $0`, or `DAT.F $0, $0` of the warrior that fell.
-        assert_eq!(rt; content[0], if front == 0 { 0 } else { 7 });
-        drop(expect_two(&rt, rt.alloc(), image)?);
+    for kept in 0..16 {
+        let image = device.stopped(&choice_of(kept))?;
+        expect_image(&rt, rt.alloc(), image, kept)?;
     }
+    Ok(())
+}
+
+/// The second warrior's slot, sectors 6 to 9, is free, and each of them is kept or lost.
+fn choice_of(kept: u32) -> [u32; 10] {
+    let second = [kept % 2, kept / 2 % 2, kept / 4 % 2, kept / 8 % 2];
+    let mut choice = [0; 10];
+    choice[6..].copy_from_slice(&second);
+    choice
+}
+
+/// In the first of these sectors stands `JMP.B $0, $0`, or `DAT.F $0, $0` of the warrior that fell.
+fn expect_image(
+    rt: &impl Abort,
+    alloc: Global,
+    mut image: MemoryDevice<Global>,
+    kept: u32,
+) -> Result<(), Fail> {
+    let content = sector(&mut image, 6)?;
+    assert_eq!(rt; content[0], if kept % 2 == 0 { 0 } else { 7 });
+    drop(expect_two(rt, alloc, image)?);
     Ok(())
 }

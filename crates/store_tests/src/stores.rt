@@ -22,6 +22,9 @@ pub(crate) const SMALL: RawSettings = RawSettings {
     write_limit: 0,
 };
 
+/// Sectors that a hill of two needs: two headers, and four for each of three slots.
+pub(crate) const SECTORS: u32 = 14;
+
 /// A hill of two without warriors, on a device that was blank.
 pub(crate) fn created<D: Device + Drop, A: Allocator + Copy>(
     alloc: A,
@@ -100,7 +103,7 @@ pub(crate) fn numbers(row: Option<&Row<'_>>) -> Option<(u64, u32, u64)> {
 
 #[test]
 fn submissions_one_by_one(rt: HostRuntime) -> Result<(), Fail> {
-    let mut store = created(rt.alloc(), MemoryDevice::new(rt.alloc(), 8)?)?;
+    let mut store = created(rt.alloc(), MemoryDevice::new(rt.alloc(), SECTORS)?)?;
     assert_eq!(rt; store.submit(b"MOV 0,1"), placed(1, 1, 0));
     assert_eq!(rt; store.submit(b"JMP 0"), placed(2, 2, 2));
     assert_eq!(rt; store.submit(b"DAT 0,0"), fell(3, 0));
@@ -110,9 +113,9 @@ fn submissions_one_by_one(rt: HostRuntime) -> Result<(), Fail> {
 }
 
 /// Both have two points, and the one that came first is one older.
-fn expect_two_rows(
+pub(crate) fn expect_two_rows<D: Device, A: Allocator + Copy>(
     rt: &impl Abort,
-    store: &Store<MemoryDevice<Global>, Global>,
+    store: &Store<D, A>,
 ) -> Result<(), Fail> {
     let rows = store.rows()?;
     assert_eq!(rt; rows.len(), 2);
@@ -121,10 +124,10 @@ fn expect_two_rows(
     Ok(())
 }
 
-/// Creating makes five calls: sync, read, read, write, sync. Each warrior that is placed makes five more, the one that falls two.
+/// Creating makes five calls: sync, read, read, write, sync. Each warrior that is placed makes seven more, the one that falls two.
 #[test]
 fn a_list_of_submissions(rt: HostRuntime) -> Result<(), Fail> {
-    let device = counted(MemoryDevice::new(rt.alloc(), 8)?);
+    let device = counted(MemoryDevice::new(rt.alloc(), SECTORS)?);
     let mut store = created(rt.alloc(), device)?;
     let sources: [&[u8]; 4] = [b"MOV 0,1", b"JMP 0", b"", b"DAT 0,0"];
     let replies = store.submit_all(&sources)?;
@@ -134,7 +137,7 @@ fn a_list_of_submissions(rt: HostRuntime) -> Result<(), Fail> {
     assert_eq!(rt; replies[2], refused(0, AsmKind::Empty));
     assert_eq!(rt; replies[3], fell(3, 0));
     assert_eq!(rt; store.submit_all(&[])?.len(), 0);
-    assert_eq!(rt; store.close().calls, 5 + 12);
+    assert_eq!(rt; store.close().calls, 5 + 16);
     Ok(())
 }
 
@@ -148,7 +151,7 @@ fn a_stopped_image_opens(rt: HostRuntime) -> Result<(), Fail> {
 
 /// A device that holds a hill of one warrior.
 fn device_of_one(rt: &impl Abort, alloc: Global) -> Result<MemoryDevice<Global>, Fail> {
-    let mut store = created(alloc, MemoryDevice::new(alloc, 8)?)?;
+    let mut store = created(alloc, MemoryDevice::new(alloc, SECTORS)?)?;
     assert_eq!(rt; store.submit(b"MOV 0,1"), placed(1, 1, 0));
     Ok(store.close())
 }
@@ -172,7 +175,7 @@ fn refusal_to_open<D: Device + Drop, A: Allocator + Copy>(alloc: A, device: D) -
 }
 
 /// Why no hill of two is created on a device, if none is.
-fn refusal_to_create<A: Allocator + Copy>(
+pub(crate) fn refusal_to_create<A: Allocator + Copy>(
     alloc: A,
     device: MemoryDevice<Global>,
 ) -> Result<Option<Refusal>, Fail> {
@@ -194,18 +197,21 @@ fn refusal_of_blank(
 
 /// Why no hill is created on a device that holds one.
 fn refusal_of_a_hill(alloc: Global) -> Result<Option<Refusal>, Fail> {
-    let store = created(alloc, MemoryDevice::new(alloc, 8)?)?;
+    let store = created(alloc, MemoryDevice::new(alloc, SECTORS)?)?;
     refusal_to_create(alloc, store.close())
 }
 
 #[test]
 fn devices_that_are_refused(rt: HostRuntime) -> Result<(), Fail> {
-    let blank = refusal_of_blank(rt.alloc(), 8)?;
-    assert_eq!(rt; blank, (Some(Refusal::NotAHill), None));
-    let small = refusal_of_blank(rt.alloc(), 4)?;
-    assert_eq!(rt; small, (Some(Refusal::NotAHill), Some(Refusal::TooSmall)));
-    let tiny = refusal_of_blank(rt.alloc(), 1)?;
-    assert_eq!(rt; tiny, (Some(Refusal::TooSmall), Some(Refusal::TooSmall)));
+    for (sectors, opening, creation) in [
+        (14, Refusal::NotAHill, None),
+        (13, Refusal::NotAHill, Some(Refusal::TooSmall)),
+        (4, Refusal::NotAHill, Some(Refusal::TooSmall)),
+        (1, Refusal::TooSmall, Some(Refusal::TooSmall)),
+    ] {
+        let found = refusal_of_blank(rt.alloc(), sectors)?;
+        assert_eq!(rt; found, (Some(opening), creation), "{sectors} sectors");
+    }
     let occupied = refusal_of_a_hill(rt.alloc())?;
     assert_eq!(rt; occupied, Some(Refusal::Occupied));
     Ok(())
@@ -225,15 +231,15 @@ fn with_bad_slots(alloc: Global) -> Result<MemoryDevice<Global>, Fail> {
     };
     let settings = Settings::new(SMALL)?;
     let header = Header::new(2, settings, 2, &[first, second]).ok_or("a header")?;
-    let mut device = MemoryDevice::new(alloc, 8)?;
+    let mut device = MemoryDevice::new(alloc, SECTORS)?;
     device.set(0, &encode_header(&header));
     Ok(device)
 }
 
-/// A sync, two headers and the two sectors of the first slot are five calls: where the sixth fails, the first slot is told of all the same.
+/// A sync, two headers and the four sectors of the first slot are seven calls: where the eighth fails, the first slot is told of all the same.
 #[test]
 fn slots_are_refused_in_their_order(rt: HostRuntime) -> Result<(), Fail> {
-    for (calls, refusal) in [(4, Refusal::Disk), (5, Refusal::Damaged)] {
+    for (calls, refusal) in [(6, Refusal::Disk), (7, Refusal::Damaged)] {
         let device = FuseDevice::new(with_bad_slots(rt.alloc())?, calls, FuseKind::Stop);
         let found = refusal_to_open(rt.alloc(), device);
         assert_eq!(rt; found, Some(refusal), "behind {calls} calls");
@@ -260,7 +266,7 @@ fn a_refusal_tells_its_name(rt: HostRuntime) -> Result<(), Fail> {
 
 /// A device with the header of the greatest generation, of a hill of two without warriors.
 fn worn(alloc: Global) -> Result<MemoryDevice<Global>, Fail> {
-    let mut device = MemoryDevice::new(alloc, 8)?;
+    let mut device = MemoryDevice::new(alloc, SECTORS)?;
     let header = Header::new(u64::MAX, Settings::new(SMALL)?, 0, &[]).ok_or("a header")?;
     device.set(1, &encode_header(&header));
     Ok(device)
@@ -288,7 +294,7 @@ fn a_device_that_fails(rt: HostRuntime) -> Result<(), Fail> {
 
 /// A device that was stopped at the last sync of a second warrior.
 fn cut_at_the_last_sync(rt: &impl Abort, alloc: Global) -> Result<MemoryDevice<Global>, Fail> {
-    let device = FuseDevice::new(MemoryDevice::new(alloc, 8)?, 14, FuseKind::Stop);
+    let device = FuseDevice::new(MemoryDevice::new(alloc, SECTORS)?, 18, FuseKind::Stop);
     let mut store = created(alloc, device)?;
     assert_eq!(rt; store.submit(b"MOV 0,1"), placed(1, 1, 0));
     assert_eq!(rt; store.submit(b"JMP 0"), Reply::Disk);
@@ -301,7 +307,7 @@ fn cut_at_the_last_sync(rt: &impl Abort, alloc: Global) -> Result<MemoryDevice<G
 fn each_growth_of_a_creation(rt: HostRuntime) -> Result<(), Fail> {
     let memory = Refusing::new(rt.alloc());
     for k in 0..100_u64 {
-        let device = MemoryDevice::new(rt.alloc(), 8)?;
+        let device = MemoryDevice::new(rt.alloc(), SECTORS)?;
         memory.refuse(k, 1);
         let refusal = refusal_to_create(&memory, device)?;
         if memory.refused() == 0 {
@@ -334,14 +340,14 @@ fn each_growth_of_an_opening(rt: HostRuntime) -> Result<(), Fail> {
 #[test]
 fn each_growth_of_a_submission(rt: HostRuntime) -> Result<(), Fail> {
     let memory = Refusing::new(rt.alloc());
-    let device = counted(MemoryDevice::new(rt.alloc(), 8)?);
+    let device = counted(MemoryDevice::new(rt.alloc(), SECTORS)?);
     let mut store = created(&memory, device)?;
     for k in 0..1000_u64 {
         memory.refuse(k, 1);
         let reply = store.submit(b"MOV 0,1");
         if memory.refused() == 0 {
             assert_eq!(rt; reply, placed(1, 1, 0));
-            assert_eq!(rt; store.close().calls, 5 + 5);
+            assert_eq!(rt; store.close().calls, 5 + 7);
             assert_eq!(rt; k, 12);
             return Ok(());
         }

@@ -1,6 +1,6 @@
 //! A device that stops, or fails once, at each of its calls while a hill is created and four sources are submitted.
 
-use crate::stores::{SMALL, fell, placed};
+use crate::stores::{SECTORS, SMALL, fell, placed};
 use hill_store::{Refusal, Reply, Store};
 use koth_hill::Row;
 use sector_disk::{Device, FuseDevice, FuseKind, MemoryDevice};
@@ -12,8 +12,8 @@ use war_types::Settings;
 /// The sources, of which the third is refused and the fourth falls.
 const SOURCES: [&[u8]; 4] = [b"MOV 0,1", b"JMP 0", b"", b"DAT 0,0"];
 
-/// Sectors of the device: two headers, and two for each of three slots.
-const SECTORS: usize = 8;
+/// Numbers in a choice: one for each sector.
+const CHOICES: usize = SECTORS as usize;
 
 /// A number for a sector that names the content written last, whatever there is.
 const KEPT: u32 = 9;
@@ -26,7 +26,7 @@ enum Opens {
 }
 
 /// What is due where the device stops behind so many calls: without the header that is written and not synced, and with it. Counted by
-/// hand from the order of the calls: sync, two reads, header, sync; for each warrior that is placed two sectors of its slot, sync, header
+/// hand from the order of the calls: sync, two reads, header, sync; for each warrior that is placed four sectors of its slot, sync, header
 /// and sync; for the one that falls header and sync.
 fn due(calls: u64) -> (Opens, Opens) {
     let (none, empty) = (Opens::Refused(Refusal::NotAHill), Opens::Hill([0, 0, 1]));
@@ -35,12 +35,12 @@ fn due(calls: u64) -> (Opens, Opens) {
     match calls {
         0..=3 => (none, none),
         4 => (none, empty),
-        5..=8 => (empty, empty),
-        9 => (empty, one),
-        10..=13 => (one, one),
-        14 => (one, two),
-        15 => (two, two),
-        16 => (two, three),
+        5..=10 => (empty, empty),
+        11 => (empty, one),
+        12..=17 => (one, one),
+        18 => (one, two),
+        19 => (two, two),
+        20 => (two, three),
         _ => (three, three),
     }
 }
@@ -48,14 +48,14 @@ fn due(calls: u64) -> (Opens, Opens) {
 /// The sector of the header that is written and not synced behind so many calls, where one is.
 fn unsynced_header(calls: u64) -> usize {
     match calls {
-        9 | 16 => 1,
+        11 | 20 => 1,
         _ => 0,
     }
 }
 
 /// The device within a fuse of so many calls, behind a creation and the four submissions.
 fn stopped_behind(alloc: Global, calls: u64) -> Result<MemoryDevice<Global>, Fail> {
-    let device = FuseDevice::new(MemoryDevice::new(alloc, 8)?, calls, FuseKind::Stop);
+    let device = FuseDevice::new(MemoryDevice::new(alloc, SECTORS)?, calls, FuseKind::Stop);
     match Store::create(alloc, device, Settings::new(SMALL)?) {
         Ok(mut store) => {
             let _ = store.submit_all(&SOURCES)?;
@@ -99,10 +99,10 @@ fn expect_images(rt: &impl Abort, alloc: Global, calls: u64) -> Result<(), Fail>
     let (lost, kept) = due(calls);
     let found = opens_to(alloc, device.stopped(&[])?)?;
     assert_eq!(rt; found, lost, "all lost behind {calls}");
-    let found = opens_to(alloc, device.stopped(&[KEPT; SECTORS])?)?;
+    let found = opens_to(alloc, device.stopped(&[KEPT; CHOICES])?)?;
     assert_eq!(rt; found, kept, "all kept behind {calls}");
-    for n in 0..SECTORS {
-        let mut choice = [0; SECTORS];
+    for n in 0..CHOICES {
+        let mut choice = [0; CHOICES];
         choice[n] = KEPT;
         let found = opens_to(alloc, device.stopped(&choice)?)?;
         let expected = if n == unsynced_header(calls) {
@@ -117,19 +117,19 @@ fn expect_images(rt: &impl Abort, alloc: Global, calls: u64) -> Result<(), Fail>
 
 #[test]
 fn a_stop_at_each_call(rt: HostRuntime) -> Result<(), Fail> {
-    for calls in 0..=17 {
+    for calls in 0..=21 {
         expect_images(&rt, rt.alloc(), calls)?;
     }
     Ok(())
 }
 
-/// What the script was answered on a device that fails once, at call 13, and what `JMP 0` is answered once the hill is opened again.
+/// What the script was answered on a device that fails once, behind 17 calls, and what `JMP 0` is answered once the hill is opened again.
 fn answered_around_a_fault(
     rt: &impl Abort,
     alloc: Global,
     kind: FuseKind,
 ) -> Result<([u64; 2], Reply), Fail> {
-    let device = FuseDevice::new(MemoryDevice::new(alloc, 8)?, 13, kind);
+    let device = FuseDevice::new(MemoryDevice::new(alloc, SECTORS)?, 17, kind);
     let Ok(mut store) = Store::create(alloc, device, Settings::new(SMALL)?) else {
         return Err("it is created".into());
     };

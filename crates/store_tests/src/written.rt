@@ -1,15 +1,15 @@
 //! The bytes of a device on which a store wrote.
 
 use crate::headers::BEGINS;
-use crate::stores::{created, fell, placed};
+use crate::stores::{SECTORS, created, fell, placed};
 use sector_disk::{Device, Fault, MemoryDevice};
 use std::alloc::Global;
 use std::process::Abort;
 use std::test::Fail;
 
 /// A hill of two, on which a third warrior fell: headers of the generations 2 and 3, and two slots.
-fn written(rt: &impl Abort, alloc: Global) -> Result<MemoryDevice<Global>, Fail> {
-    let mut store = created(alloc, MemoryDevice::new(alloc, 8)?)?;
+pub(crate) fn written(rt: &impl Abort, alloc: Global) -> Result<MemoryDevice<Global>, Fail> {
+    let mut store = created(alloc, MemoryDevice::new(alloc, SECTORS)?)?;
     assert_eq!(rt; store.submit(b"MOV 0,1"), placed(1, 1, 0));
     assert_eq!(rt; store.submit(b"JMP 0"), placed(2, 2, 2));
     assert_eq!(rt; store.submit(b"DAT 0,0"), fell(3, 0));
@@ -35,13 +35,13 @@ fn with_zeros(begins: &[u8]) -> [u8; 512] {
     content
 }
 
-/// The front of a slot holds the code, one instruction here.
-fn front(instruction: [u8; 8]) -> [u8; 512] {
+/// The first sector of a slot begins with the code, one instruction here.
+pub(crate) fn front(instruction: [u8; 8]) -> [u8; 512] {
     with_zeros(instruction.as_slice())
 }
 
-/// The back of a slot: the length 1, the start 0, the name and the author, and no round that anybody won.
-fn back() -> [u8; 512] {
+/// The last sector of a slot: the length 1, the start 0, the name and the author, and no round that anybody won.
+pub(crate) fn back() -> [u8; 512] {
     let mut content = [0; 512];
     content[289] = 1;
     content[292..299].copy_from_slice(b"Unnamed");
@@ -59,20 +59,27 @@ fn headers_and_slots(rt: HostRuntime) -> Result<(), Fail> {
     later[47] = 3;
     assert_eq!(rt; sector(&mut device, 1)?, with_zeros(later.as_slice()));
     // `MOV.I $0, $1`, and `JMP.B $0, $0`.
-    assert_eq!(rt; sector(&mut device, 2)?, front([1, 6, 1, 1, 0, 0, 0, 1]));
-    assert_eq!(rt; sector(&mut device, 3)?, back());
-    assert_eq!(rt; sector(&mut device, 4)?, front([7, 1, 1, 1, 0, 0, 0, 0]));
-    assert_eq!(rt; sector(&mut device, 5)?, back());
+    let (first, second) = (
+        front([1, 6, 1, 1, 0, 0, 0, 1]),
+        front([7, 1, 1, 1, 0, 0, 0, 0]),
+    );
+    let (last, blank) = (back(), [0; 512]);
     // The slot of the warrior that fell was never written.
-    assert_eq!(rt; sector(&mut device, 6)?, [0; 512]);
-    assert_eq!(rt; sector(&mut device, 7)?, [0; 512]);
+    let slots = [
+        [first, blank, blank, last],
+        [second, blank, blank, last],
+        [blank, blank, blank, blank],
+    ];
+    for (n, content) in (2..14).zip(slots.as_flattened()) {
+        assert_eq!(rt; sector(&mut device, n)?, *content, "sector {n}");
+    }
     Ok(())
 }
 
 /// Two warriors that lose at once win a round each, and one that stays where it is wins both of each of them.
 #[test]
 fn results_stand_with_the_younger(rt: HostRuntime) -> Result<(), Fail> {
-    let mut store = created(rt.alloc(), MemoryDevice::new(rt.alloc(), 8)?)?;
+    let mut store = created(rt.alloc(), MemoryDevice::new(rt.alloc(), SECTORS)?)?;
     assert_eq!(rt; store.submit(b"DAT 0,0"), placed(1, 1, 0));
     assert_eq!(rt; store.submit(b"DAT 0,0"), placed(2, 2, 3));
     assert_eq!(rt; store.submit(b"JMP 0"), placed(3, 1, 6));
@@ -80,11 +87,11 @@ fn results_stand_with_the_younger(rt: HostRuntime) -> Result<(), Fail> {
     let mut second = back();
     second[389] = 1;
     second[391] = 1;
-    assert_eq!(rt; sector(&mut device, 5)?, second);
+    assert_eq!(rt; sector(&mut device, 9)?, second);
     // The second warrior fell to this one, and its place holds their result all the same.
     let mut third = back();
     third[391] = 2;
     third[395] = 2;
-    assert_eq!(rt; sector(&mut device, 7)?, third);
+    assert_eq!(rt; sector(&mut device, 13)?, third);
     Ok(())
 }

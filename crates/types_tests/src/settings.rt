@@ -89,9 +89,9 @@ const ACCEPTED: [RawSettings; 19] = [
         ..SMALL
     },
     RawSettings {
-        core: 200,
-        length: 100,
-        distance: 100,
+        core: 400,
+        length: 200,
+        distance: 200,
         ..SMALL
     },
     RawSettings {
@@ -150,7 +150,7 @@ fn settings_at_the_edges_of_their_ranges(rt: HostRuntime) {
 }
 
 /// Settings with a field past an edge of its range, and what is said of them.
-const REFUSED: [(RawSettings, SettingsFault); 23] = [
+const REFUSED: [(RawSettings, SettingsFault); 25] = [
     (RawSettings { core: 63, ..SMALL }, SettingsFault::Core),
     (
         RawSettings {
@@ -184,12 +184,26 @@ const REFUSED: [(RawSettings, SettingsFault); 23] = [
     (RawSettings { length: 0, ..SMALL }, SettingsFault::Length),
     (
         RawSettings {
-            core: 202,
-            length: 101,
-            distance: 101,
+            core: 402,
+            length: 201,
+            distance: 201,
             ..SMALL
         },
         SettingsFault::Length,
+    ),
+    (
+        RawSettings {
+            length: 201,
+            ..SMALL
+        },
+        SettingsFault::Length,
+    ),
+    (
+        RawSettings {
+            length: 200,
+            ..SMALL
+        },
+        SettingsFault::Distance,
     ),
     (
         RawSettings {

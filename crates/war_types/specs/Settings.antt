@@ -16,18 +16,7 @@ abbrev pub limit_of : ℕ → ℕ → ℕ
 limit_of core limit = if limit == 0 then core else limit
 
 abbrev pub with_limits : RawSettings → RawSettings
-with_limits s = record {
-  core = s.core;
-  cycles = s.cycles;
-  processes = s.processes;
-  length = s.length;
-  distance = s.distance;
-  rounds = s.rounds;
-  seed = s.seed;
-  capacity = s.capacity;
-  read_limit = limit_of s.core s.read_limit;
-  write_limit = limit_of s.core s.write_limit;
-}
+with_limits s = record s { read_limit = limit_of s.core s.read_limit; write_limit = limit_of s.core s.write_limit }
 
 -- the settings, each limit as the number that it stands for, or the first field in this order that is out of its range
 abbrev pub settings_of : RawSettings → Result RawSettings SettingsFault
@@ -35,7 +24,7 @@ settings_of s =
     if is_from_to 64 65535 s.core then (
     if is_from_to 1 1000000 s.cycles then (
     if is_from_to 1 65535 s.processes then (
-    if is_from_to 1 100 s.length then (
+    if is_from_to 1 200 s.length then (
     if nat_le s.length s.distance && nat_le (2 * s.distance) s.core then (
     if is_from_to 1 1000 s.rounds then (
     if is_from_to 1 2147483646 s.seed then (
@@ -62,7 +51,7 @@ pub record AreSettings (s : RawSettings) : Type 0 where
   pub processes_least : 1 ≤ s.processes
   pub processes_most : s.processes ≤ 65535
   pub length_least : 1 ≤ s.length
-  pub length_most : s.length ≤ 100
+  pub length_most : s.length ≤ 200
   pub distance_least : s.length ≤ s.distance
   pub distance_most : 2 * s.distance ≤ s.core
   pub rounds_least : 1 ≤ s.rounds

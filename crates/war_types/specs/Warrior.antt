@@ -27,4 +27,4 @@ pub record Fits (s : RawSettings) (w : WarriorParts) : Type 0 where
 -- what every warrior keeps, whatever its settings: it has an instruction, its start is one, and they are few
 pub record IsWarrior (w : WarriorParts) : Type 0 where
   pub start : w.start < length w.code
-  pub short : length w.code ≤ 100
+  pub short : length w.code ≤ 200

@@ -15,7 +15,7 @@ pub struct RawSettings {
     pub cycles: u32,
     /// Processes that a side may have at once, 1 to 65,535.
     pub processes: u32,
-    /// Instructions that a warrior may have, 1 to 100.
+    /// Instructions that a warrior may have, 1 to 200.
     pub length: u32,
     /// Cells from the beginning of one warrior to that of the other, at least: from the length to half the core.
     pub distance: u32,
@@ -90,7 +90,7 @@ impl Settings {
         if !is_from_to(1, 65_535, raw.processes) {
             return Err(SettingsFault::Processes);
         }
-        if !is_from_to(1, 100, raw.length) {
+        if !is_from_to(1, 200, raw.length) {
             return Err(SettingsFault::Length);
         }
         if !is_distance(raw.distance, raw.length, raw.core) {
@@ -144,7 +144,7 @@ impl Settings {
         self.raw.processes as u16
     }
 
-    /// Instructions that a warrior may have, 1 to 100.
+    /// Instructions that a warrior may have, 1 to 200.
     pub fn length(&self) -> u16
         ensures value { result ≡ self.now.length }
         ensures settings { AreSettings self.now }

@@ -82,14 +82,14 @@ impl SectorWriter {
         self.put(&bytes);
     }
 
-    /// Writes this many zeros, at most 122.
+    /// Writes this many zeros, at most 288.
     pub(crate) fn put_zeros(&mut self, count: usize)
-        requires few { count ≤ 122 }
+        requires few { count ≤ 288 }
         requires room { length self.old + count ≤ 512 }
         ensures value { self.new ≡ self.old ++ replicate count 0 }
         ensures len { length self.new ≡ length self.old + count }
     {
-        self.put(&[0; 122][..count]);
+        self.put(&[0; 288][..count]);
     }
 
     /// The sector, which is written to its end.

@@ -1,10 +1,10 @@
 use Rattle.std.proofs.Common.{subst, rules}
 use Rattle.sector_disk.specs.Disk.{current}
-use Rattle.hill_bytes.specs.Layout.{first_layout}
+use Rattle.hill_bytes.specs.Layout.{layout_of}
 use Rattle.hill_images.specs.Found.{IsFoundIn}
 use Rattle.hill_images.proofs.found.newest_header.Goals as goal
 
 pub returns-clause-found : goal.returns-clause-found
 returns-clause-found g c = λ lawful.
-    c.newer.ensures (current (g.D.Device.facts.disk c.args.device.now)) (c.in_ok-even.ensures.found lawful)
-    (subst (λ disk. IsFoundIn first_layout 1 (current disk 1) c.in_ok-odd.odd) (c.in_ok-even.ensures.kept lawful) (c.in_ok-odd.ensures.found (search rules)))
+    c.newer.ensures (layout_of c.args.format) (current (g.D.Device.facts.disk c.args.device.now)) (c.in_ok-even.ensures.found lawful)
+    (subst (λ disk. IsFoundIn (layout_of c.args.format) 1 (current disk 1) c.in_ok-odd.odd) (c.in_ok-even.ensures.kept lawful) (c.in_ok-odd.ensures.found (search rules)))

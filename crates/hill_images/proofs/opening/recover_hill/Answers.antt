@@ -1,5 +1,5 @@
 use Rattle.std.proofs.Common.{refl, rules, subst, sym}
-use Rattle.hill_bytes.specs.Layout.{first_layout}
+use Rattle.hill_bytes.specs.Layout.{layout_of}
 use Rattle.hill_images.specs.Reading.{HillRefused}
 use Rattle.hill_images.proofs.Openings.{not_read}
 use Rattle.hill_images.proofs.opening.recover_hill.Goals as goal
@@ -15,5 +15,5 @@ returns-in-Ok-read_hill-clause-found g c = record {
 
 pub returns-in-Err-read_hill-clause-refused : goal.returns-in-Err-read_hill-clause-refused
 returns-in-Err-read_hill-clause-refused g c =
-    subst (HillRefused first_layout g.D.Device.facts c.args.device.now c.read_hill.new.device c.args.header) (sym c.refusal_of.ensures)
-    (not_read first_layout g.D.Device.facts c.args.device.now c.read_hill.new.device c.args.header c.in-Err-read_hill.unread (search rules) c.in-Err-read_hill.ensures.unread)
+    subst (HillRefused (layout_of c.args.format) g.D.Device.facts c.args.device.now c.read_hill.new.device c.args.header) (sym c.refusal_of.ensures)
+    (not_read (layout_of c.args.format) g.D.Device.facts c.args.device.now c.read_hill.new.device c.args.header c.in-Err-read_hill.unread (search rules) c.in-Err-read_hill.ensures.unread)

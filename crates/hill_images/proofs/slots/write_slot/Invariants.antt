@@ -1,6 +1,6 @@
 -- The sectors so far were written.
 use Rattle.std.proofs.Common.{◌≡◌, length, take}
-use Rattle.hill_bytes.specs.Layout.{first_layout, slot_at}
+use Rattle.hill_bytes.specs.Layout.{new_layout, slot_at}
 use Rattle.sector_disk.specs.Changes.{after}
 use Rattle.sector_disk.specs.Served.{IsKept}
 use Rattle.hill_images.specs.Places.{writes_from}
@@ -10,6 +10,6 @@ abbrev pub invariant-loop-n : goal.invariant-loop-n
 invariant-loop-n g l = record {
   kept : IsKept g.D.Device.facts l.fn.device l.device;
   faultless : g.D.Device.facts.faults l.device ≡ g.D.Device.facts.faults l.fn.device;
-  long : length l.fn.content.sectors ≡ 2;
-  made : g.D.Device.facts.lawful l.fn.device → g.D.Device.facts.disk l.device ≡ after (writes_from (slot_at first_layout l.fn.slot) (take l.n l.fn.content.sectors)) (g.D.Device.facts.disk l.fn.device);
+  long : length l.fn.content.sectors ≡ 4;
+  made : g.D.Device.facts.lawful l.fn.device → g.D.Device.facts.disk l.device ≡ after (writes_from (slot_at new_layout l.fn.slot) (take l.n l.fn.content.sectors)) (g.D.Device.facts.disk l.fn.device);
 }

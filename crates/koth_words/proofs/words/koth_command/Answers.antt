@@ -2,7 +2,7 @@
 use Rattle.std.proofs.Common.{ap, ◌∙◌}
 use Rattle.std.proofs.lemmas.Result.{IfOk-weaker}
 use Rattle.clap.specs.Words.{App, app_of, with_subcommand}
-use Rattle.koth_words.specs.Words.{asm_app, audit_app, create_app, fight_app, koth_app, serve_app, show_app, submit_app}
+use Rattle.koth_words.specs.Words.{asm_app, audit_app, create_app, fight_app, koth_app, migrate_app, serve_app, show_app, submit_app}
 use Rattle.koth_words.proofs.Commands.{has_made}
 use Rattle.koth_words.proofs.words.koth_command.Goals as goal
 
@@ -21,7 +21,9 @@ returns c =
     ∙ ap (λ (a : App). with_subcommand a show_app.top) submit in
     let serve = has_made (app_of c.in_ok-command-5.command) _ _ serve_app c.serve_command.ensures.app c.in_ok-command-6.ensures
     ∙ ap (λ (a : App). with_subcommand a serve_app.top) show in
+    let audit = has_made (app_of c.in_ok-command-6.command) _ _ audit_app c.audit_command.ensures.app c.in_ok-command-7.ensures
+    ∙ ap (λ (a : App). with_subcommand a audit_app.top) serve in
     record {
-      app = IfOk-weaker c.with_command-7.result _ _ (λ r has. has_made (app_of c.in_ok-command-6.command) _ _ audit_app c.audit_command.ensures.app has
-          ∙ ap (λ (a : App). with_subcommand a audit_app.top) serve) c.with_command-7.ensures;
+      app = IfOk-weaker c.with_command-8.result _ _ (λ r has. has_made (app_of c.in_ok-command-7.command) _ _ migrate_app c.migrate_command.ensures.app has
+          ∙ ap (λ (a : App). with_subcommand a migrate_app.top) audit) c.with_command-8.ensures;
     }

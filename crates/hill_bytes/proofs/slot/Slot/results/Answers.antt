@@ -1,6 +1,6 @@
 use Rattle.std.proofs.Common.{◌≡◌, ◌<◌, ◌≤◌, length, get_or, arith, sym, ◌∙◌}
 use Rattle.std.proofs.lemmas.List.{length-set, take_all}
-use Rattle.hill_bytes.specs.Layout.{first_layout, results_in}
+use Rattle.hill_bytes.specs.Layout.{new_layout, results_in}
 use Rattle.hill_bytes.proofs.HeaderBytes.{set-step}
 use Rattle.hill_bytes.proofs.Results.{length-results, result-at}
 use Rattle.hill_bytes.proofs.slot.Slot.results.Goals as goal
@@ -12,10 +12,10 @@ loop-place-preserved c =
     let e = c.wins_at.result in
     let below : i < 21 = omega (arith, c.loop-place-test.true) in
     let room : i < length c.loop-place.results = omega (arith, below, c.loop-place.invariant.len) in
-    let inside : i < length (results_in first_layout sectors) = omega (arith, below, length-results first_layout sectors) in
-    let is : e ≡ get_or (results_in first_layout sectors) i e = c.wins_at.ensures ∙ sym (result-at first_layout sectors i e below) in
+    let inside : i < length (results_in new_layout sectors) = omega (arith, below, length-results new_layout sectors) in
+    let is : e ≡ get_or (results_in new_layout sectors) i e = c.wins_at.ensures ∙ sym (result-at new_layout sectors i e below) in
     record {
-      value = set-step c.loop-place.results (results_in first_layout sectors) i e room inside c.loop-place.invariant.value is;
+      value = set-step c.loop-place.results (results_in new_layout sectors) i e room inside c.loop-place.invariant.value is;
       len = length-set c.loop-place.results i e ∙ c.loop-place.invariant.len;
     }
 
@@ -25,4 +25,4 @@ returns-clause-value c =
     let i = c.loop-place.place in
     let ended : 21 ≤ i = omega arith in
     sym (take_all i c.loop-place.results (omega (arith, ended, c.loop-place.invariant.len))) ∙ c.loop-place.invariant.value
-    ∙ take_all i (results_in first_layout sectors) (omega (arith, ended, length-results first_layout sectors))
+    ∙ take_all i (results_in new_layout sectors) (omega (arith, ended, length-results new_layout sectors))

@@ -1,5 +1,5 @@
 use Rattle.std.proofs.Common.{refl, sym, ap, subst, rules}
-use Rattle.hill_bytes.specs.Layout.{HeaderParts, first_layout}
+use Rattle.hill_bytes.specs.Layout.{HeaderParts, new_layout}
 use Rattle.koth_hill.specs.Kept.{new_kept}
 use Rattle.hill_images.specs.Stands.{IsReady}
 use Rattle.hill_images.proofs.Submitted.{ready_reads}
@@ -12,9 +12,9 @@ returns-in-Ok-write_first-clause-created g c = record {
   generation = ap (λ (h : HeaderParts). h.generation) c.in-Ok-write_first.ensures.first.first;
   faultless = c.in-Ok-write_first.ensures.faultless;
   open_now = refl;
-  was_none = c.in-Ok-write_first.ensures.first.was_none;
+  was_none = c.in-Ok-write_first.ensures.first.written.was_none;
   stands = λ lawful. ready_reads (g.D.Device.facts.size c.write_first.new.device) (g.D.Device.facts.disk c.write_first.new.device) c.in-Ok-write_first.header (new_kept c.args.settings 0)
-      (search rules) (c.in-Ok-write_first.ensures.first.ready lawful);
+      (search rules) (c.in-Ok-write_first.ensures.first.written.ready lawful);
 }
 
 pub returns-in-Ok-write_first-clause-holds : goal.returns-in-Ok-write_first-clause-holds
@@ -28,6 +28,6 @@ invariant_of-result g c = record {
   header = search rules;
   kept = search rules;
   named = search rules;
-  ready = λ lawful open_now. subst (IsReady first_layout (g.D.Device.facts.disk c.write_first.new.device) c.in-Ok-write_first.header) (sym c.in-Ok.ensures)
-      (c.in-Ok-write_first.ensures.first.ready (c.in-Ok-write_first.ensures.kept.same_laws.0 lawful));
+  ready = λ lawful open_now. subst (IsReady new_layout (g.D.Device.facts.disk c.write_first.new.device) c.in-Ok-write_first.header) (sym c.in-Ok.ensures)
+      (c.in-Ok-write_first.ensures.first.written.ready (c.in-Ok-write_first.ensures.kept.same_laws.0 lawful));
 }

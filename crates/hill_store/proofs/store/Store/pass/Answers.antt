@@ -5,7 +5,7 @@ use Rattle.hill_images.proofs.Submitted.{hill_passed}
 use Rattle.sector_disk.specs.Changes.{after, Begun}
 use Rattle.sector_disk.specs.Image.{Images}
 use Rattle.hill_images.specs.Stands.{Reads}
-use Rattle.hill_bytes.specs.Layout.{HeaderParts, first_layout}
+use Rattle.hill_bytes.specs.Layout.{HeaderParts, new_layout}
 use Rattle.sector_disk.specs.Served.{IsKept}
 use Rattle.sector_disk.proofs.Kept.{kept_where_served}
 use Rattle.hill_store.specs.Seen.{Seen, seen, Challenges}
@@ -32,7 +32,7 @@ invariant_of-self g c =
       is_open = ap (λ (s : Seen _). s.reopen) c.self.view_is ∙ c.requires.is_open;
       more = subst (λ (s : Seen _). s.generation < 2 ^ 64 - 1) (sym c.self.view_is) c.requires.more;
     }) c.in-Ok.ensures.served.same_size c.in-Ok.ensures.served.same_laws.0
-    (λ is_lawful. subst (λ h. g.D.Device.facts.disk c.commit.new.device ≡ after (commits first_layout h) (g.D.Device.facts.disk c.self.inside.device)) c.header_passed-header.ensures (c.in-Ok.ensures.changes is_lawful))))
+    (λ is_lawful. subst (λ h. g.D.Device.facts.disk c.commit.new.device ≡ after (commits new_layout h) (g.D.Device.facts.disk c.self.inside.device)) c.header_passed-header.ensures (c.in-Ok.ensures.changes is_lawful))))
 
 pub returns-in-Ok-clause-challenges : goal.returns-in-Ok-clause-challenges
 returns-in-Ok-clause-challenges g c = λ w. λ judged_is.
@@ -53,7 +53,7 @@ returns-in-Ok-clause-challenges g c = λ w. λ judged_is.
             more = subst (λ (s : Seen _). s.generation < 2 ^ 64 - 1) (sym c.self.view_is) c.requires.more;
           })
           c.in-Ok.ensures.served.same_size c.in-Ok.ensures.served.same_laws
-          (λ is_lawful. subst (λ h. g.D.Device.facts.disk c.commit.new.device ≡ after (commits first_layout h) (g.D.Device.facts.disk c.self.inside.device)) c.header_passed-header.ensures (c.in-Ok.ensures.changes is_lawful))
+          (λ is_lawful. subst (λ h. g.D.Device.facts.disk c.commit.new.device ≡ after (commits new_layout h) (g.D.Device.facts.disk c.self.inside.device)) c.header_passed-header.ensures (c.in-Ok.ensures.changes is_lawful))
           (subst (λ (s : Seen _). g.D.Device.facts.lawful s.device) (sym c.self.view_is) lawful)));
     })
 
@@ -75,7 +75,7 @@ returns-in-Err-clause-challenges g c = λ w. λ judged_is.
             more = subst (λ (s : Seen _). s.generation < 2 ^ 64 - 1) (sym c.self.view_is) c.requires.more;
           })
           c.in-Err.ensures.served.same_size
-          (λ is_lawful. subst (λ h. Begun (commits first_layout h) (g.D.Device.facts.disk c.self.inside.device) (g.D.Device.facts.disk c.commit.new.device)) c.header_passed-header.ensures (c.in-Err.ensures.changes is_lawful))
+          (λ is_lawful. subst (λ h. Begun (commits new_layout h) (g.D.Device.facts.disk c.self.inside.device) (g.D.Device.facts.disk c.commit.new.device)) c.header_passed-header.ensures (c.in-Err.ensures.changes is_lawful))
           (subst (λ (s : Seen _). g.D.Device.facts.lawful s.device) (sym c.self.view_is) lawful)));
     })
 

@@ -1,0 +1,46 @@
+-- What moving the hill in a file of the old format to another file writes, and how it ends.
+use Rattle.std.specs.Prelude.{◌≡◌, ◌⊎◌, ℕ, List, Option, Result, Ok, Err, IsErrAnd, codes}
+use Rattle.std.specs.Io.KnownBytes.{Appends, Keeps}
+use Rattle.sector_disk.specs.Facts.{DeviceFacts}
+use Rattle.hill_store.specs.Opened.{IsMigrated, IsNotMigrated}
+use Rattle.hill_store.specs.Seen.{Seen}
+use Rattle.hill_store.specs.declared.migration.MigrateFault.{MigrateFault}
+use Rattle.koth_protocol.specs.Written.{WritesPart}
+use Rattle.koth_commands.specs.declared.failure.Failure.TheVariants as kinds
+use Rattle.koth_commands.specs.declared.status.Status.{Status}
+use Rattle.koth_commands.specs.declared.status.Status.TheVariants as statuses
+use Rattle.koth_server.specs.HillFault.{fault_of_refusal}
+use Rattle.koth_server.specs.Hills.{Said}
+use Rattle.koth_server.specs.declared.hill_fault.HillFault.{HillFault}
+use Rattle.koth_server.specs.declared.hill_fault.HillFault.TheVariants as faults
+
+abbrev pub migrated_line : List ℕ
+migrated_line = codes "MIGRATED\n"
+
+abbrev pub SaysMigrated : Said
+SaysMigrated status text = (status ≡ statuses.Done) × (text ≡ migrated_line)
+
+-- the hill on a device of the old format was moved to another device, in the new one
+pub record Migrates {D : Type 0} (facts : DeviceFacts D) (old new : D) : Type 0 where
+  pub after : D
+  pub store : Seen D
+  pub migrated : IsMigrated facts facts old after new store
+
+-- it was not, and this is told of it
+pub record RefusesToMigrate {D : Type 0} (facts : DeviceFacts D) (old new : D) (fault : HillFault) : Type 0 where
+  pub old_after : D
+  pub new_after : D
+  pub why : MigrateFault
+  pub refused : IsNotMigrated facts facts old old_after new new_after why
+  pub told : fault ≡ fault_of_refusal why.refusal
+
+-- the line that says so was written, or a part of it where the output failed
+abbrev pub TellsMigrated : Result Status HillFault → Option (List ℕ) → Option (List ℕ) → Type 0
+TellsMigrated (Ok status) before after = (status ≡ statuses.Done) × Appends before after migrated_line
+TellsMigrated (Err fault) before after = (fault ≡ faults.Failed kinds.Stream) × WritesPart before after migrated_line
+
+-- what moving a hill from one device to another answers and writes: nothing where it was not moved
+abbrev pub MigratesTo : {D : Type 0} → DeviceFacts D → D → D → Result Status HillFault → Option (List ℕ) → Option (List ℕ) → Type 0
+MigratesTo facts old new result before after =
+    (Migrates facts old new × TellsMigrated result before after)
+    ⊎ (IsErrAnd result (RefusesToMigrate facts old new) × Keeps before after)

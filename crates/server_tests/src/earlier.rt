@@ -1,0 +1,85 @@
+//! The file of a hill that an earlier version of the program wrote, in the old format.
+
+use std::fs;
+use std::rt::Files;
+use std::test::Fail;
+
+/// Bytes of a sector.
+pub(crate) const SECTOR: usize = 512;
+
+/// Sectors of the file: those of the headers, and two for each of four slots.
+pub(crate) const SECTORS: usize = 2 + 2 * 4;
+
+/// What its sectors hold that is not zero: the sector, where it begins, and the bytes. Four warriors came, and the third fell.
+const WRITTEN: [(usize, usize, &[u8]); 17] = [
+    (
+        0,
+        0,
+        &[
+            75, 79, 84, 72, 72, 73, 76, 49, 0, 0, 0, 0, 0, 0, 0, 4, 3, 32, 0, 0, 7, 208, 0, 64, 0,
+            20, 0, 40, 0, 20, 1, 53, 41, 6, 0, 3, 0, 0, 0, 0, 0, 0, 0, 0, 0, 0, 0, 4, 0, 3, 0, 0,
+            0, 0, 0, 0, 0, 1, 0, 0, 0, 0, 0, 0, 0, 0, 3, 0, 0, 0, 0, 0, 0, 0, 2, 1, 0, 0, 0, 0, 0,
+            0, 0, 2, 0, 0, 0, 0, 0, 0, 0, 4, 3,
+        ],
+    ),
+    (
+        1,
+        0,
+        &[
+            75, 79, 84, 72, 72, 73, 76, 49, 0, 0, 0, 0, 0, 0, 0, 3, 3, 32, 0, 0, 7, 208, 0, 64, 0,
+            20, 0, 40, 0, 20, 1, 53, 41, 6, 0, 3, 0, 0, 0, 0, 0, 0, 0, 0, 0, 0, 0, 3, 0, 3, 0, 0,
+            0, 0, 0, 0, 0, 1, 0, 0, 0, 0, 0, 0, 0, 0, 2, 0, 0, 0, 0, 0, 0, 0, 2, 1, 0, 0, 0, 0, 0,
+            0, 0, 1, 0, 0, 0, 0, 0, 0, 0, 3, 2,
+        ],
+    ),
+    (2, 0, &[1, 6, 1, 1, 0, 0, 0, 1]),
+    (3, 289, &[1, 0, 0, 73, 109, 112]),
+    (3, 340, b"A. K. Dewdney"),
+    (
+        4,
+        0,
+        &[
+            2, 2, 0, 1, 0, 4, 0, 3, 1, 6, 1, 3, 0, 2, 0, 2, 7, 1, 1, 1, 3, 30, 0, 0, 0, 4,
+        ],
+    ),
+    (5, 289, &[4, 0, 0, 68, 119, 97, 114, 102]),
+    (5, 340, b"A. K. Dewdney"),
+    (5, 391, &[2]),
+    (6, 1, &[4, 1, 1]),
+    (7, 289, &[1, 0, 0, 85, 110, 110, 97, 109, 101, 100]),
+    (7, 340, b"Anonymous"),
+    (7, 389, &[20, 0, 0, 0, 20]),
+    (
+        8,
+        1,
+        &[
+            4, 1, 1, 0, 0, 0, 0, 14, 1, 1, 1, 0, 0, 0, 0, 1, 6, 1, 5, 3, 30, 3, 29, 10, 1, 1, 5, 3,
+            31, 2, 248,
+        ],
+    ),
+    (9, 289, &[4, 0, 1, 83, 116, 111, 110, 101]),
+    (9, 340, b"Nobody"),
+    (9, 391, &[17, 0, 0, 0, 9, 0, 0, 0, 20]),
+];
+
+/// Its table, as that version showed it.
+pub(crate) const TABLE: &str =
+    "1 4 92 0 Stone by Nobody\n2 2 35 2 Dwarf by A. K. Dewdney\n3 1 21 3 Imp by A. K. Dewdney\n.\n";
+
+/// The bytes of the file.
+pub(crate) fn bytes() -> [u8; SECTORS * SECTOR] {
+    let mut bytes = [0; SECTORS * SECTOR];
+    for (sector, begins, written) in WRITTEN {
+        let places = bytes.iter_mut().skip(sector * SECTOR + begins);
+        for (place, byte) in places.zip(written) {
+            *place = *byte;
+        }
+    }
+    bytes
+}
+
+/// Writes the file.
+pub(crate) fn put(rt: &impl Files, file: &str) -> Result<(), Fail> {
+    fs::write(rt, file, &bytes())?;
+    Ok(())
+}
