@@ -2,8 +2,6 @@ pub mod Rows
 pub mod Steps
 pub mod Bounds
 pub mod Fitting
-pub mod LineLemmas
-pub mod PlainLemmas
 pub mod LoadLemmas
 pub mod AssemblyLemmas
 pub mod RoundTrip

@@ -1,105 +1,78 @@
 -- The steps from expanded lines to a warrior.
-use Rattle.std.proofs.Common.{◌≡◌, ℕ, zero, suc, ◌+◌, ◌<◌, Bool, true, false, List, [], ◌∷◌, ◌++◌, length, map, get_or, drop, Option, Some, None, Result, Ok, Err, refl, sym, ap, ◌∙◌, append_assoc, inl, inr, arith}
+use Rattle.std.proofs.Common.{◌≡◌, ℕ, zero, suc, ◌+◌, ◌<◌, Bool, List, [], ◌∷◌, ◌++◌, length, map, get_or, drop, Result, Ok, Err, refl, sym, ap, ◌∙◌, append_assoc, add-one, arith}
 use Rattle.std.specs.Prelude.{if◌then◌else◌}
-use Rattle.std.specs.Option.{option_or, unwrap_or}
-use Rattle.std.proofs.lemmas.List.{at_drop_more, length-map, map-append}
+use Rattle.std.specs.Option.{unwrap_or}
+use Rattle.std.proofs.lemmas.List.{length-map}
 use Rattle.war_types.specs.declared.fault.AsmFault.{AsmFault}
 use Rattle.war_types.specs.declared.settings.RawSettings.{RawSettings}
 use Rattle.redcode_lines.specs.declared.line.Line.{Line}
 use Rattle.redcode_lines.specs.declared.line.LineKind.{LineKind}
-use Rattle.redcode_lines.specs.declared.line.LineKind.TheVariants.{Other}
-use Rattle.redcode_expand.specs.Expansion.{ExpandedLine, line_of, title_at, tokens_at}
-use Rattle.redcode_asm.specs.Names.{Labels}
-use Rattle.redcode_asm.specs.Said.{said_by}
-use Rattle.redcode_asm.specs.Assembly.{Placed, said_at, said_on, all_said, title_if, last_text}
-use Rattle.redcode_names.specs.Gives.{Fails}
-use Rattle.redcode_asm.specs.declared.assembler.Said.{Said}
-use Rattle.redcode_asm.specs.Placed.{placed, all_placed}
+use Rattle.redcode_names.specs.Name.{LabelList}
+use Rattle.redcode_expand.specs.Expansion.{ExpandedLine, line_of, line_word_at, title_at, tokens_at}
 use Rattle.redcode_statement.specs.Chain.{◌>>=◌}
+use Rattle.redcode_asm.specs.Said.{said_by}
+use Rattle.redcode_asm.specs.Assembly.{Placed, said_at, all_said, last_text}
+
+-- the line at a place, with what is said of it
+pub record At (lines : List ExpandedLine) (i : ℕ) (item : Line) : Type 0 where
+  pub line : ExpandedLine
+  pub from : drop i lines ≡ line ∷ drop (suc i) lines
+  pub item_is : item ≡ line_of line
+  pub word_is : line_word_at lines i ≡ line.word
+  pub title_is : title_at lines i ≡ line.title
+  pub tokens_are : tokens_at lines i ≡ line.tokens
+
+at_place : (lines : List ExpandedLine) (i : ℕ) (e : Line) → i < length lines → At lines i (get_or (map line_of lines) i e)
+at_place [] i e lt = absurd (omega arith)
+at_place (l ∷ ls) zero e lt = record { line = l; from = refl; item_is = refl; word_is = refl; title_is = refl; tokens_are = refl }
+at_place (l ∷ ls) (suc i) e lt =
+    let at = at_place ls i e (omega arith) in
+    record { line = at.line; from = at.from; item_is = at.item_is; word_is = at.word_is; title_is = at.title_is; tokens_are = at.tokens_are }
+
+pub at_items : (lines : List ExpandedLine) (items : List Line) (i : ℕ) (e : Line) → items ≡ map line_of lines → i < length items → At lines i (get_or items i e)
+at_items lines items i e are lt = rw are (at_place lines i e (omega (arith, ap length are, length-map lines line_of)))
+
+-- ---- what the lines say
 
 -- what was said before, and what is still said
 abbrev pub with_front : List Placed → Result (List Placed) AsmFault → Result (List Placed) AsmFault
 with_front front said = said >>= λ others. Ok (front ++ others)
 
-pub with_front-push : (front : List Placed) (s : Placed) (said : Result (List Placed) AsmFault)
-    → with_front front (said >>= λ others. Ok (s ∷ others)) ≡ with_front (front ++ s ∷ []) said
-with_front-push front s (Ok others) = ap (λ (ss : List Placed). Ok ss) (simp append_assoc)
-with_front-push front s (Err fault) = refl
+-- what the line at a place says
+abbrev pub said_there : RawSettings → LabelList → List ExpandedLine → ℕ → Line → Result Placed AsmFault
+said_there s labels lines i line = said_at line.source_line (said_by s labels line.kind (line_word_at lines i) line.before (tokens_at lines i))
 
--- what the line at a place says beside its tokens, and its tokens
-pub line_of-at : (lines : List ExpandedLine) (i : ℕ) (d : ExpandedLine) (e : Line) → i < length lines → get_or (map line_of lines) i e ≡ line_of (get_or lines i d)
-line_of-at [] i d e lt = absurd (omega arith)
-line_of-at (l ∷ ls) zero d e lt = refl
-line_of-at (l ∷ ls) (suc i) d e lt = line_of-at ls i d e (omega arith)
-
-pub tokens_at-is : (lines : List ExpandedLine) (i : ℕ) (d : ExpandedLine) → i < length lines → tokens_at lines i ≡ (get_or lines i d).tokens
-tokens_at-is [] i d lt = absurd (omega arith)
-tokens_at-is (l ∷ ls) zero d lt = refl
-tokens_at-is (l ∷ ls) (suc i) d lt = tokens_at-is ls i d (omega arith)
-
--- a text, unless a later line gives another
-text_or-title : (later : Option (List ℕ)) (is : Bool) (title before : List ℕ)
-    → unwrap_or (option_or later (title_if is title)) before ≡ unwrap_or later (if is then title else before)
-text_or-title None true title before = refl
-text_or-title None false title before = refl
-text_or-title (Some text) is title before = refl
-
-pub last_text-drop : (is_kind : LineKind → Bool) (lines : List ExpandedLine) (i : ℕ) (e : Line) (before : List ℕ) → i < length lines
-    → unwrap_or (last_text is_kind (drop i lines)) before
-    ≡ unwrap_or (last_text is_kind (drop (suc i) lines)) (if is_kind (get_or (map line_of lines) i e).kind then title_at lines i else before)
-last_text-drop is_kind [] i e before lt = absurd (omega arith)
-last_text-drop is_kind (l ∷ ls) zero e before lt = text_or-title (last_text is_kind ls) (is_kind l.kind) l.title before
-last_text-drop is_kind (l ∷ ls) (suc i) e before lt = last_text-drop is_kind ls i e before (omega arith)
-
--- as many lines as there are expanded lines
-shorter : (lines : List ExpandedLine) (items : List Line) (i : ℕ) → items ≡ map line_of lines → i < length items → i < length lines
-shorter lines items i same lt = omega (arith, ap length same, length-map lines line_of)
-
--- one line further
-pub last_text-kept : (is_kind : LineKind → Bool) (lines : List ExpandedLine) (items : List Line) (i : ℕ) (e : Line) (title before after whole : List ℕ)
-    → items ≡ map line_of lines → i < length items → title ≡ title_at lines i → unwrap_or (last_text is_kind (drop i lines)) before ≡ whole
-    → after ≡ (if is_kind (get_or items i e).kind then title else before)
-    → unwrap_or (last_text is_kind (drop (i + 1) lines)) after ≡ whole
-last_text-kept is_kind lines items i e title before after whole same lt title-is so_far is =
-    let next : i + 1 ≡ suc i = omega arith in
-    rw (next, is, title-is, same) (sym (last_text-drop is_kind lines i e before (shorter lines items i same lt)) ∙ so_far)
-
--- ---- what the line at a place says
-
--- what the line at a place says, by its parts
-abbrev pub said_there : RawSettings → Labels → List ExpandedLine → ℕ → Line → Result Placed AsmFault
-said_there s labels lines i line = said_at line.source_line (said_by s labels line.kind line.before (tokens_at lines i))
-
-said_on-is : (s : RawSettings) (labels : Labels) (lines : List ExpandedLine) (i : ℕ) (d : ExpandedLine) (e : Line) → i < length lines
-    → said_there s labels lines i (get_or (map line_of lines) i e) ≡ said_on s labels (get_or lines i d)
-said_on-is s labels lines i d e lt = rw (line_of-at lines i d e lt, tokens_at-is lines i d lt) refl
-
-all_said-drop : (s : RawSettings) (labels : Labels) (lines : List ExpandedLine) (i : ℕ) (e : Line) → i < length lines
-    → all_said s labels (drop i lines) ≡ (said_there s labels lines i (get_or (map line_of lines) i e) >>= λ first. all_said s labels (drop (i + 1) lines) >>= λ behind. Ok (first ∷ behind))
-all_said-drop s labels lines i e lt =
-    let d : ExpandedLine = record { source_line = 0; kind = Other; before = 0; title = []; tokens = [] } in
-    rw (said_on-is s labels lines i d e lt) (at_drop_more (all_said s labels) lines i d lt)
+said-next : (s : RawSettings) (labels : LabelList) (lines : List ExpandedLine) (i : ℕ) (item : Line) (front : List Placed) → At lines i item
+    → with_front front (all_said s labels (drop i lines)) ≡ (said_there s labels lines i item >>= λ first. with_front (front ++ first ∷ []) (all_said s labels (drop (suc i) lines)))
+said-next s labels lines i item front at = rw (at.from, at.item_is, at.word_is, at.tokens_are) (grind (arith, append_assoc))
 
 -- the next line's statement goes behind those before
-pub all_said-kept : (s : RawSettings) (labels : Labels) (lines : List ExpandedLine) (items : List Line) (i : ℕ) (e : Line) (front after : List Said) (next : Said) (whole : Result (List Placed) AsmFault)
-    → items ≡ map line_of lines → i < length items → with_front (all_placed front) (all_said s labels (drop i lines)) ≡ whole
-    → said_there s labels lines i (get_or items i e) ≡ Ok (placed next) → after ≡ front ++ next ∷ []
-    → with_front (all_placed after) (all_said s labels (drop (i + 1) lines)) ≡ whole
-all_said-kept s labels lines items i e front after next whole same lt so_far is after-is =
-    let there : said_there s labels lines i (get_or (map line_of lines) i e) ≡ Ok (placed next) = rw (← same) is in
-    let one : all_said s labels (drop i lines) ≡ (all_said s labels (drop (i + 1) lines) >>= λ others. Ok (placed next ∷ others)) =
-    all_said-drop s labels lines i e (shorter lines items i same lt) ∙ rw there refl in
-    let pushed : all_placed after ≡ all_placed front ++ placed next ∷ [] = ap all_placed after-is ∙ map-append placed front (next ∷ []) in
-    rw pushed (sym (with_front-push (all_placed front) (placed next) (all_said s labels (drop (i + 1) lines))) ∙ ap (with_front (all_placed front)) (sym one) ∙ so_far)
+pub said-kept : (s : RawSettings) (labels : LabelList) (lines : List ExpandedLine) (items : List Line) (i : ℕ) (e : Line) (front after : List Placed) (next : Placed) (whole : Result (List Placed) AsmFault)
+    → items ≡ map line_of lines → i < length items → with_front front (all_said s labels (drop i lines)) ≡ whole
+    → Ok next ≡ said_there s labels lines i (get_or items i e) → after ≡ front ++ next ∷ []
+    → with_front after (all_said s labels (drop (i + 1) lines)) ≡ whole
+said-kept s labels lines items i e front after next whole are lt so_far is after-is =
+    let more : i + 1 ≡ suc i = omega arith in
+    let split = said-next s labels lines i (get_or items i e) front (at_items lines items i e are lt) in
+    rw (more, after-is) (rw (← is) refl ∙ sym split ∙ so_far)
 
 -- a line's fault is that of all
-pub all_said-fault : (s : RawSettings) (labels : Labels) (lines : List ExpandedLine) (items : List Line) (i : ℕ) (e : Line) (front : List Said) (fault : AsmFault) (whole : Result (List Placed) AsmFault)
-    → items ≡ map line_of lines → i < length items → with_front (all_placed front) (all_said s labels (drop i lines)) ≡ whole
-    → Fails fault (said_there s labels lines i (get_or items i e)) → Fails fault whole
-all_said-fault s labels lines items i e front fault whole same lt so_far is = elim is [
-  | inl memory ↦ inl memory
-  | inr refused ↦
-      let there : said_there s labels lines i (get_or (map line_of lines) i e) ≡ Err fault = rw (← same) refused in
-      let one : all_said s labels (drop i lines) ≡ Err fault = all_said-drop s labels lines i e (shorter lines items i same lt) ∙ rw there refl in
-      inr (sym so_far ∙ rw one refl)
-]
+pub said-refused : (s : RawSettings) (labels : LabelList) (lines : List ExpandedLine) (items : List Line) (i : ℕ) (e : Line) (front : List Placed) (fault : AsmFault) (whole : Result (List Placed) AsmFault)
+    → items ≡ map line_of lines → i < length items → with_front front (all_said s labels (drop i lines)) ≡ whole
+    → Err fault ≡ said_there s labels lines i (get_or items i e) → whole ≡ Err fault
+said-refused s labels lines items i e front fault whole are lt so_far is =
+    sym so_far ∙ said-next s labels lines i (get_or items i e) front (at_items lines items i e are lt) ∙ rw (← is) refl
+
+-- ---- the titles
+
+title-next : (is_kind : LineKind → Bool) (lines : List ExpandedLine) (i : ℕ) (item : Line) (before : List ℕ) → At lines i item
+    → unwrap_or (last_text is_kind (drop i lines)) before ≡ unwrap_or (last_text is_kind (drop (suc i) lines)) (if is_kind item.kind then title_at lines i else before)
+title-next is_kind lines i item before at = rw (at.from, at.item_is, at.title_is) (grind arith)
+
+-- one line further
+pub title-kept : (is_kind : LineKind → Bool) (lines : List ExpandedLine) (items : List Line) (i : ℕ) (e : Line) (test : Bool) (before after whole : List ℕ)
+    → items ≡ map line_of lines → i < length items → unwrap_or (last_text is_kind (drop i lines)) before ≡ whole
+    → test ≡ is_kind (get_or items i e).kind → after ≡ (if test then title_at lines i else before)
+    → unwrap_or (last_text is_kind (drop (i + 1) lines)) after ≡ whole
+title-kept is_kind lines items i e test before after whole are lt so_far test-is is =
+    rw (add-one, is, test-is) (sym (title-next is_kind lines i (get_or items i e) before (at_items lines items i e are lt)) ∙ so_far)

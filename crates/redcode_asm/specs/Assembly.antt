@@ -14,10 +14,10 @@ use Rattle.redcode_lines.specs.declared.line.LineKind.{LineKind}
 use Rattle.redcode_lines.specs.declared.line.LineKind.TheVariants as lines
 use Rattle.redcode_expand.specs.Expansion.{ExpandedLine, Expansion, expansion}
 use Rattle.redcode_names.specs.Gives.{fault_at}
+use Rattle.redcode_names.specs.Name.{LabelList}
 use Rattle.redcode_statement.specs.declared.statement.Statement.{Statement}
 use Rattle.redcode_statement.specs.declared.statement.Statement.TheVariants as statements
 use Rattle.redcode_statement.specs.Chain.{◌>>=◌}
-use Rattle.redcode_asm.specs.Names.{Labels}
 use Rattle.redcode_statement.specs.Statement.{instr_said}
 use Rattle.redcode_asm.specs.Said.{statement_of}
 
@@ -31,11 +31,11 @@ abbrev pub said_at : ℕ → Result Statement AsmKind → Result Placed AsmFault
 said_at line (Ok statement) = Ok (line, statement)
 said_at line (Err kind) = Err (fault_at line kind)
 
-abbrev pub said_on : RawSettings → Labels → ExpandedLine → Result Placed AsmFault
+abbrev pub said_on : RawSettings → LabelList → ExpandedLine → Result Placed AsmFault
 said_on s labels line = said_at line.source_line (statement_of s labels line)
 
 -- what the lines say one after another, or the first fault among them
-abbrev pub all_said : RawSettings → Labels → List ExpandedLine → Result (List Placed) AsmFault
+abbrev pub all_said : RawSettings → LabelList → List ExpandedLine → Result (List Placed) AsmFault
 all_said s labels [] = Ok []
 all_said s labels (line ∷ others) = said_on s labels line >>= λ first. all_said s labels others >>= λ behind. Ok (first ∷ behind)
 
@@ -59,17 +59,11 @@ last_of gives (x ∷ xs) = option_or (last_of gives xs) (gives x)
 -- the line and the value of an ORG, or of an END
 abbrev pub org_at : ℕ → Statement → Option (ℕ × ℤ)
 org_at line (statements.Org z) = Some (line, z)
-org_at line (statements.End z) = None
-org_at line (statements.Assert z) = None
-org_at line (statements.Instruction instr) = None
-org_at line statements.Nothing = None
+org_at line _ = None
 
 abbrev pub end_at : ℕ → Statement → Option (ℕ × ℤ)
 end_at line (statements.End z) = Some (line, z)
-end_at line (statements.Org z) = None
-end_at line (statements.Assert z) = None
-end_at line (statements.Instruction instr) = None
-end_at line statements.Nothing = None
+end_at line _ = None
 
 abbrev pub org_of : Placed → Option (ℕ × ℤ)
 org_of said = org_at said.0 said.1
@@ -91,10 +85,7 @@ start_of count (Some (line, negsuc n)) = Err (fault_at line kinds.BadStart)
 
 abbrev pub is_false : Statement → Bool
 is_false (statements.Assert z) = is_zero z
-is_false (statements.Org z) = false
-is_false (statements.End z) = false
-is_false (statements.Instruction instr) = false
-is_false statements.Nothing = false
+is_false _ = false
 
 -- no assertion has the value 0; the first that has it is refused
 abbrev pub all_hold : List Placed → Result (Unit {0}) AsmFault
@@ -109,21 +100,11 @@ title_if false title = None
 
 abbrev pub is_name : LineKind → Bool
 is_name lines.Name = true
-is_name lines.Operation = false
-is_name lines.Org = false
-is_name lines.End = false
-is_name lines.Assert = false
-is_name lines.Author = false
-is_name lines.Other = false
+is_name _ = false
 
 abbrev pub is_author : LineKind → Bool
 is_author lines.Author = true
-is_author lines.Operation = false
-is_author lines.Org = false
-is_author lines.End = false
-is_author lines.Assert = false
-is_author lines.Name = false
-is_author lines.Other = false
+is_author _ = false
 
 -- the text of the last line of a kind, none where no line is of that kind
 abbrev pub last_text : (LineKind → Bool) → List ExpandedLine → Option (List ℕ)
@@ -153,7 +134,7 @@ checked_start limit said =
 abbrev pub warrior_said : RawSettings → List ExpandedLine → List Placed → Result WarriorParts AsmFault
 warrior_said s all said = checked_start s.length said >>= λ start. Ok (warrior_parts (code_of said) start (name_of all) (author_of all))
 
-unfoldable pub assembly_of : RawSettings → Expansion → Result WarriorParts AsmFault
+abbrev pub assembly_of : RawSettings → Expansion → Result WarriorParts AsmFault
 assembly_of s e = all_said s e.labels e.lines >>= warrior_said s e.lines
 
 -- the warrior that a source gives under these settings, or the refusal

@@ -2,5 +2,4 @@ pub mod Names
 pub mod Said
 pub mod Assembly
 pub mod LoadText
-pub mod Placed
 pub mod RoundTrip

@@ -1,9 +1,10 @@
 -- What an expanded line says.
-use Rattle.std.specs.Prelude.{if◌then◌else◌, ℕ, List, drop, Result, Ok, Err}
+use Rattle.std.specs.Prelude.{if◌then◌else◌, ℕ, List, drop, Option, Result, Ok, Err}
 use Rattle.std.specs.List.{list_any}
 use Rattle.war_types.specs.declared.fault.AsmKind.{AsmKind}
 use Rattle.war_types.specs.declared.fault.AsmKind.TheVariants as kinds
 use Rattle.war_types.specs.declared.settings.RawSettings.{RawSettings}
+use Rattle.redcode_text.specs.declared.vocabulary.Word.{Word}
 use Rattle.redcode_text.specs.Tokens.{Piece}
 use Rattle.redcode_statement.specs.declared.statement.Statement.{Statement}
 use Rattle.redcode_statement.specs.declared.statement.Statement.TheVariants as statements
@@ -12,22 +13,22 @@ use Rattle.redcode_statement.specs.Statement.{is_bad, org_said, end_said, assert
 use Rattle.redcode_lines.specs.declared.line.LineKind.{LineKind}
 use Rattle.redcode_lines.specs.declared.line.LineKind.TheVariants as lines
 use Rattle.redcode_expand.specs.Expansion.{ExpandedLine}
-use Rattle.redcode_asm.specs.Names.{Labels, absolute, relative}
+use Rattle.redcode_names.specs.Name.{LabelList}
+use Rattle.redcode_asm.specs.Names.{values_of}
 
-abbrev pub said_by_kind : RawSettings → Labels → LineKind → ℕ → List Piece → Result Statement AsmKind
-said_by_kind s labels lines.Operation before tokens = instruction_said (instruction_of s.core (relative s labels before) tokens)
-said_by_kind s labels lines.Org before tokens = org_said (absolute s labels before) (drop 1 tokens)
-said_by_kind s labels lines.End before tokens = end_said (absolute s labels before) (drop 1 tokens)
-said_by_kind s labels lines.Assert before tokens = assert_said (absolute s labels before) tokens
-said_by_kind s labels lines.Name before tokens = Ok statements.Nothing
-said_by_kind s labels lines.Author before tokens = Ok statements.Nothing
-said_by_kind s labels lines.Other before tokens = other_said tokens
+abbrev pub said_by_kind : RawSettings → LabelList → LineKind → Option Word → ℕ → List Piece → Result Statement AsmKind
+said_by_kind s labels lines.Operation word before tokens = instruction_said (instruction_of s.core (values_of s labels before before) word (drop 1 tokens))
+said_by_kind s labels lines.Org word before tokens = org_said (values_of s labels before 0) (drop 1 tokens)
+said_by_kind s labels lines.End word before tokens = end_said (values_of s labels before 0) (drop 1 tokens)
+said_by_kind s labels lines.Assert word before tokens = assert_said (values_of s labels before 0) tokens
+said_by_kind s labels lines.Other word before tokens = other_said word
+said_by_kind s labels _ word before tokens = Ok statements.Nothing
 
--- what a line of this kind and these tokens says, with so many instructions before it, or the first of its faults in the
--- order of their kinds
-unfoldable pub said_by : RawSettings → Labels → LineKind → ℕ → List Piece → Result Statement AsmKind
-said_by s labels kind before tokens = if list_any is_bad tokens then Err kinds.BadToken else said_by_kind s labels kind before tokens
+-- what a line of this kind, word and tokens says, with so many instructions before it, or the first of its faults in the order of
+-- their kinds
+unfoldable pub said_by : RawSettings → LabelList → LineKind → Option Word → ℕ → List Piece → Result Statement AsmKind
+said_by s labels kind word before tokens = if list_any is_bad tokens then Err kinds.BadToken else said_by_kind s labels kind word before tokens
 
 -- what a line says under these settings and with these labels
-abbrev pub statement_of : RawSettings → Labels → ExpandedLine → Result Statement AsmKind
-statement_of s labels line = said_by s labels line.kind line.before line.tokens
+abbrev pub statement_of : RawSettings → LabelList → ExpandedLine → Result Statement AsmKind
+statement_of s labels line = said_by s labels line.kind line.word line.before line.tokens

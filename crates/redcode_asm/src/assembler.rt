@@ -1,30 +1,27 @@
 //! The assembler.
 
-ghost use Rattle.std.specs.Prelude.{◌≡◌, ◌^◌, ◌<◌, length, if◌then◌else◌, IfOk, Ok, unwrap_or, [], drop};
+ghost use Rattle.std.specs.Prelude.{◌≡◌, ◌^◌, ◌<◌, length, IfOk, Ok, Err, unwrap_or, []};
 ghost use Rattle.war_types.specs.Warrior.{Fits};
+ghost use Rattle.war_types.specs.declared.fault.AsmKind.TheVariants.{SourceTooLong};
 ghost use Rattle.redcode_text.specs.Tokens.{pieces};
-ghost use Rattle.redcode_expand.specs.Expansion.{tokens_at};
+ghost use Rattle.redcode_expand.specs.Expansion.{line_word_at, tokens_at};
 ghost use Rattle.redcode_names.specs.Gives.{Gives, fault_at};
 ghost use Rattle.redcode_asm.specs.Said.{said_by};
-ghost use Rattle.redcode_asm.specs.Placed.{placed, all_placed};
-ghost use Rattle.redcode_asm.specs.Assembly.{Assembles, assembly, assembly_of, checked_start, warrior_said, said_at, all_said, code_of, given_start, start_of, of_length, all_hold, last_text, is_name, is_author};
+ghost use Rattle.redcode_asm.specs.Assembly.{Assembles, assembly, checked_start, warrior_said, said_at, all_said, code_of, given_start, start_of, of_length, all_hold, last_text, is_name, is_author};
 
-use crate::names::{Absolute, Relative};
+use crate::names::Labels;
+use bumpalo::Bump;
 use redcode_expand::{Expanded, Line, LineKind, expand};
+use redcode_lines::behind_first;
 use redcode_statement::{
     Statement, assert_said, end_said, has_bad_token, instruction_of, org_said, other_said,
 };
-use redcode_text::Token;
+use redcode_text::{Token, Word};
 use std::alloc::Allocator;
 use war_types::{AsmFault, AsmKind, Instr, Settings, Title, Warrior};
 
-/// What a line of the source says.
-#[derive(Clone, Copy, Debug)]
-pub(crate) struct Said {
-    /// The line's number in the source, from 1.
-    pub line: u32,
-    pub statement: Statement,
-}
+/// What a line says, with its number in the source, counted from 1.
+type Said = (u32, Statement);
 
 /// Assembles a source of Redcode under these settings.
 ///
@@ -32,31 +29,20 @@ pub(crate) struct Said {
 /// it the first fault in the order of `AsmKind`, then `Empty`, `TooLong`, `BadStart`, and the first assertion that doesn't
 /// hold. It names a line of the source, counted from 1, or 0 where none is to blame; `AsmKind::Memory` stands only
 /// where a growth was refused.
-#[tactic(auto, unfolding(crate::specs::Assembly::assembly, crate::specs::Assembly::assembly_of))]
+#[tactic(auto, unfolding(crate::specs::Assembly::assembly))]
 pub fn assemble<A: Allocator + Copy>(
     alloc: A,
     source: &[u8],
     settings: &Settings,
 ) -> Result<Warrior<A>, AsmFault>
     ensures assembled { Assembles result (assembly settings.now source.now) }
+    ensures too_long { 65536 < length source.now → result ≡ Err (fault_at 0 SourceTooLong) }
     ensures fits { IfOk result (Fits settings.now) }
 {
-    let expanded = expand(alloc, source, settings)?;
-    assembled(alloc, &expanded, settings)
-}
-
-/// The warrior of expanded lines, or the first refusal that is due behind the expansion.
-#[tactic(auto, unfolding(crate::specs::Assembly::assembly_of))]
-fn assembled<A: Allocator + Copy>(
-    alloc: A,
-    expanded: &Expanded<'_, A>,
-    settings: &Settings,
-) -> Result<Warrior<A>, AsmFault>
-    ensures assembled { Assembles result (assembly_of settings.now expanded.now) }
-    ensures fits { IfOk result (Fits settings.now) }
-{
-    let said = all_said(alloc, expanded, settings)?;
-    warrior_of(alloc, expanded, said.as_slice(), settings)
+    let region = Bump::new(alloc);
+    let expanded = expand(alloc, &region, source, settings)?;
+    let said = all_said(alloc, &expanded, settings)?;
+    warrior_of(alloc, &expanded, said.as_slice(), settings)
 }
 
 /// The warrior of lines that say this.
@@ -66,8 +52,8 @@ fn warrior_of<A: Allocator + Copy>(
     said: &[Said],
     settings: &Settings,
 ) -> Result<Warrior<A>, AsmFault>
-    requires { all_said settings.now expanded.now.labels expanded.now.lines ≡ Ok (all_placed said.now) }
-    ensures assembled { Assembles result (warrior_said settings.now expanded.now.lines (all_placed said.now)) }
+    requires { all_said settings.now expanded.now.labels expanded.now.lines ≡ Ok said.now }
+    ensures assembled { Assembles result (warrior_said settings.now expanded.now.lines said.now) }
     ensures fits { IfOk result (Fits settings.now) }
 {
     let code = code_of(alloc, said)?;
@@ -80,8 +66,8 @@ fn warrior_of<A: Allocator + Copy>(
 
 /// The start of the code of these lines, where that is neither too short nor too long and no assertion fails.
 fn checked_start(code: &[Instr], said: &[Said], limit: u16) -> Result<u16, AsmFault>
-    requires code { code.now ≡ code_of (all_placed said.now) }
-    ensures { result ≡ checked_start limit (all_placed said.now) }
+    requires code { code.now ≡ code_of said.now }
+    ensures { result ≡ checked_start limit said.now }
 {
     check_length(code, limit)?;
     let start = start_of(code, given_start(said))?;
@@ -101,7 +87,7 @@ fn all_said<A: Allocator + Copy>(
     expanded: &Expanded<'_, A>,
     settings: &Settings,
 ) -> Result<Vec<Said, A>, AsmFault>
-    ensures { Gives (λ all. all_placed all.items) result (all_said settings.now expanded.now.labels expanded.now.lines) }
+    ensures { Gives (λ all. all.items) result (all_said settings.now expanded.now.labels expanded.now.lines) }
 {
     let mut all = Vec::new(alloc);
     for (i, line) in expanded.lines().iter().enumerate() {
@@ -118,15 +104,12 @@ fn said_on<A: Allocator + Copy>(
     line: Line,
 ) -> Result<Said, AsmFault>
     requires { place < length expanded.now.lines }
-    ensures { let tokens = tokens_at expanded.now.lines place in
-        Gives placed result (said_at line.source_line (said_by settings.now expanded.now.labels line.kind line.before tokens)) }
+    ensures { let word = line_word_at expanded.now.lines place in let tokens = tokens_at expanded.now.lines place in
+        result ≡ said_at line.source_line (said_by settings.now expanded.now.labels line.kind word line.before tokens) }
 {
-    let tokens = expanded.tokens(place)?;
-    match said_by(expanded, settings, line, tokens.as_slice()) {
-        Ok(statement) => Ok(Said {
-            line: line.source_line,
-            statement,
-        }),
+    let word = expanded.word(place);
+    match said_by(expanded, settings, line, word, expanded.line_tokens(place)) {
+        Ok(statement) => Ok((line.source_line, statement)),
         Err(kind) => Err(fault(line.source_line, kind)),
     }
 }
@@ -137,55 +120,46 @@ fn said_by<A: Allocator + Copy>(
     expanded: &Expanded<'_, A>,
     settings: &Settings,
     line: Line,
+    word: Option<Word>,
     tokens: &[Token<'_>],
 ) -> Result<Statement, AsmKind>
-    ensures { result ≡ said_by settings.now expanded.now.labels line.kind line.before (pieces tokens.now) }
+    ensures { result ≡ said_by settings.now expanded.now.labels line.kind word line.before (pieces tokens.now) }
 {
     if has_bad_token(tokens) {
         return Err(AsmKind::BadToken);
     }
     let before = line.before;
-    let absolute = Absolute {
+    let absolute = Labels {
         expanded,
         settings,
         before,
-    };
-    let relative = Relative {
-        expanded,
-        settings,
-        before,
+        origin: 0,
     };
     match line.kind {
         LineKind::Operation => {
-            let instr = instruction_of(settings.core(), tokens, &relative)?;
+            let relative = Labels {
+                origin: before,
+                ..absolute
+            };
+            let instr = instruction_of(settings.core(), word, behind_first(tokens), &relative)?;
             Ok(Statement::Instruction(instr))
         }
-        LineKind::Org => org_said(behind_word(tokens), &absolute),
-        LineKind::End => end_said(behind_word(tokens), &absolute),
+        LineKind::Org => org_said(behind_first(tokens), &absolute),
+        LineKind::End => end_said(behind_first(tokens), &absolute),
         LineKind::Assert => assert_said(tokens, &absolute),
         LineKind::Name | LineKind::Author => Ok(Statement::Nothing),
-        LineKind::Other => other_said(tokens),
-    }
-}
-
-/// The tokens behind the word at the front.
-fn behind_word<'t, 'l>(tokens: &'t [Token<'l>]) -> &'t [Token<'l>]
-    ensures { pieces result.now ≡ drop 1 (pieces tokens.entry.now) }
-{
-    match tokens {
-        [] => tokens,
-        [_, behind @ ..] => behind,
+        LineKind::Other => other_said(word),
     }
 }
 
 /// The instructions of the lines one after another.
 fn code_of<A: Allocator>(alloc: A, said: &[Said]) -> Result<Vec<Instr, A>, AsmFault>
-    ensures { Gives (λ code. code.items) result (Ok (code_of (all_placed said.now))) }
+    ensures { Gives (λ code. code.items) result (Ok (code_of said.now)) }
 {
     let mut code = Vec::new(alloc);
-    for line in said {
-        if let Statement::Instruction(instr) = line.statement {
-            code.push(instr)?;
+    for (_, statement) in said {
+        if let Statement::Instruction(instr) = statement {
+            code.push(*instr)?;
         }
     }
     Ok(code)
@@ -206,14 +180,14 @@ fn check_length(code: &[Instr], limit: u16) -> Result<(), AsmFault>
 
 /// The line and the value of the last `ORG`, else of the `END`.
 fn given_start(said: &[Said]) -> Option<(u32, i64)>
-    ensures { result ≡ given_start (all_placed said.now) }
+    ensures { result ≡ given_start said.now }
 {
     let mut org = None;
     let mut end = None;
-    for line in said {
-        match line.statement {
-            Statement::Org(value) => org = Some((line.line, value)),
-            Statement::End(value) => end = Some((line.line, value)),
+    for (line, statement) in said {
+        match statement {
+            Statement::Org(value) => org = Some((*line, *value)),
+            Statement::End(value) => end = Some((*line, *value)),
             _ => {}
         }
     }
@@ -236,11 +210,11 @@ fn start_of(code: &[Instr], given: Option<(u32, i64)>) -> Result<u16, AsmFault>
 
 /// Refuses the first assertion that doesn't hold.
 fn check_assertions(said: &[Said]) -> Result<(), AsmFault>
-    ensures { result ≡ all_hold (all_placed said.now) }
+    ensures { result ≡ all_hold said.now }
 {
-    for line in said {
-        if matches!(line.statement, Statement::Assert(0)) {
-            return Err(fault(line.line, AsmKind::AssertFalse));
+    for (line, statement) in said {
+        if matches!(statement, Statement::Assert(0)) {
+            return Err(fault(*line, AsmKind::AssertFalse));
         }
     }
     Ok(())
@@ -254,29 +228,24 @@ fn last_texts<'e, A: Allocator + Copy>(expanded: &'e Expanded<'_, A>) -> (&'e [u
     let mut name: &[u8] = b"";
     let mut author: &[u8] = b"";
     for (i, line) in expanded.lines().iter().enumerate() {
-        let title = expanded.title(i);
-        name = name_from(line.kind, title, name);
-        author = author_from(line.kind, title, author);
+        if is_name(line.kind) {
+            name = expanded.title(i);
+        }
+        if is_author(line.kind) {
+            author = expanded.title(i);
+        }
     }
     (name, author)
 }
 
-/// The title of a line that is a `;name`, else the name before it.
-fn name_from<'e>(kind: LineKind, title: &'e [u8], before: &'e [u8]) -> &'e [u8]
-    ensures { result.now ≡ (if is_name kind then title.entry.now else before.entry.now) }
+fn is_name(kind: LineKind) -> bool
+    ensures { result ≡ is_name kind }
 {
-    match kind {
-        LineKind::Name => title,
-        _ => before,
-    }
+    matches!(kind, LineKind::Name)
 }
 
-/// The title of a line that is an `;author`, else the author before it.
-fn author_from<'e>(kind: LineKind, title: &'e [u8], before: &'e [u8]) -> &'e [u8]
-    ensures { result.now ≡ (if is_author kind then title.entry.now else before.entry.now) }
+fn is_author(kind: LineKind) -> bool
+    ensures { result ≡ is_author kind }
 {
-    match kind {
-        LineKind::Author => title,
-        _ => before,
-    }
+    matches!(kind, LineKind::Author)
 }

@@ -1,5 +1,3 @@
-mod Fronts
+pub mod PlainLines
+pub mod WrittenLines
 mod Joining
-pub mod Numbers
-pub mod LongLines
-mod SourceLines

@@ -1,14 +1,13 @@
 -- The counters of blocks, and what a copy of a line is under them.
-use Rattle.std.specs.Prelude.{ℕ, Bool, true, false, ◌&&◌, ◌||◌, nat_lt, if◌then◌else◌, List, [], ◌∷◌, ◌++◌, map, Option, Some, None, codes, decimal}
+use Rattle.std.specs.Prelude.{ℕ, Bool, true, false, ◌&&◌, nat_lt, if◌then◌else◌, List, [], ◌∷◌, ◌++◌, map, Option, Some, None, codes, decimal}
 use Rattle.std.specs.Str.{bytes_eq}
-use Rattle.redcode_text.specs.declared.token.TokenKind.{TokenKind}
 use Rattle.redcode_text.specs.declared.token.TokenKind.TheVariants as kinds
-use Rattle.redcode_text.specs.Tokens.{Piece}
-use Rattle.redcode_copies.specs.declared.source_line.LineForm.{LineForm}
-use Rattle.redcode_copies.specs.declared.source_line.LineForm.TheVariants as forms
-use Rattle.redcode_lines.specs.declared.word.Word.{Word}
-use Rattle.redcode_lines.specs.declared.word.Word.TheVariants as words
-use Rattle.redcode_lines.specs.Word.{piece, is_name, is_front, has_text, line_word, taken_while, dropped_while}
+use Rattle.redcode_text.specs.Tokens.{Piece, piece}
+use Rattle.redcode_lines.specs.declared.reading.LineForm.{LineForm}
+use Rattle.redcode_lines.specs.declared.reading.LineForm.TheVariants as forms
+use Rattle.redcode_text.specs.declared.vocabulary.Word.{Word}
+use Rattle.redcode_text.specs.declared.vocabulary.Word.TheVariants as words
+use Rattle.redcode_lines.specs.Line.{SourceLine, is_name, has_text, taken_while, dropped_while}
 
 -- a name that stands for the number of a copy
 pub record Counter : Type 0 where
@@ -21,16 +20,12 @@ counter_of name number = record { name = name; number = number }
 abbrev pub is_counter : Counter → Piece → Bool
 is_counter c token = is_name token.kind && bytes_eq token.text c.name
 
-abbrev pub names_counter : Counter → List Piece → Bool
-names_counter c [] = false
-names_counter c (token ∷ tokens) = is_counter c token || names_counter c tokens
-
 -- the number in decimal digits, two at least
 abbrev pub two_digits : ℕ → List ℕ
 two_digits n = if nat_lt n 10 then codes "0" ++ decimal n else decimal n
 
-abbrev pub number_token : Counter → Piece
-number_token c = piece kinds.Number (decimal c.number)
+abbrev pub number_token : ℕ → Piece
+number_token n = piece kinds.Number (decimal n)
 
 -- ---- names joined to the number by an &
 
@@ -65,7 +60,7 @@ abbrev pub kept : List (Bool × Piece) → List Piece
 kept tokens = map (λ token. token.1) tokens
 
 abbrev pub number_or : Counter → Bool × Piece → Piece
-number_or c token = if token.0 then token.1 else (if is_counter c token.1 then number_token c else token.1)
+number_or c token = if token.0 then token.1 else (if is_counter c token.1 then number_token c.number else token.1)
 
 -- the number for the counter, but for what was joined
 abbrev pub numbered : Counter → List (Bool × Piece) → List Piece
@@ -79,13 +74,9 @@ behind_operation c (token ∷ name ∷ tokens) =
     if has_text (codes ".") token.1 then token.1 ∷ name.1 ∷ numbered c tokens else numbered c (token ∷ name ∷ tokens)
 
 abbrev pub behind_word : Counter → Word → List (Bool × Piece) → List Piece
-behind_word c words.Operation tokens = behind_operation c tokens
-behind_word c words.Equ tokens = numbered c tokens
-behind_word c words.For tokens = numbered c tokens
-behind_word c words.Rof tokens = numbered c tokens
-behind_word c words.Org tokens = numbered c tokens
-behind_word c words.End tokens = numbered c tokens
-behind_word c words.Pin tokens = numbered c tokens
+behind_word c (words.Operation op) tokens = behind_operation c tokens
+behind_word c words.Pspace tokens = behind_operation c tokens
+behind_word c _ tokens = numbered c tokens
 
 -- the word is never joined
 abbrev pub from_word : Counter → Word → List Piece → List Piece
@@ -95,33 +86,23 @@ from_word c word (token ∷ tokens) = token ∷ behind_word c word (joined c tok
 abbrev pub is_label : Bool × Piece → Bool
 is_label token = is_name token.1.kind
 
--- among labels no number stands for the counter
-abbrev pub rewritten_by : Counter → Option Word → List Piece → List Piece
-rewritten_by c (Some word) tokens = kept (joined c (taken_while is_front tokens)) ++ from_word c word (dropped_while is_front tokens)
-rewritten_by c None tokens = kept (taken_while is_label (joined c tokens)) ++ numbered c (dropped_while is_label (joined c tokens))
+-- among the names at the front no number stands for the counter
+abbrev pub without_word : Counter → List (Bool × Piece) → List Piece
+without_word c tokens = kept (taken_while is_label tokens) ++ numbered c (dropped_while is_label tokens)
 
-abbrev pub rewritten : Counter → LineForm → List Piece → List Piece
-rewritten c forms.Statement tokens = rewritten_by c (line_word tokens) tokens
-rewritten c forms.Assert tokens = numbered c (joined c tokens)
-rewritten c forms.Name tokens = []
-rewritten c forms.Author tokens = []
+-- ---- lines
 
--- the tokens of a line in the copy of this number; a line that does not name the counter stays as it is
-abbrev pub in_copy : Counter → LineForm → List Piece → List Piece
-in_copy c form tokens = if names_counter c tokens then rewritten c form tokens else tokens
+-- what stands behind the labels, and the names at the front of a line without a word
+abbrev pub copied_tokens : Counter → LineForm → Option Word → List Piece → List Piece
+copied_tokens c forms.Statement None tokens = without_word c (joined c tokens)
+copied_tokens c forms.Statement (Some word) tokens = from_word c word tokens
+copied_tokens c _ word tokens = numbered c (joined c tokens)
 
--- the tokens of a line within copies of several blocks, the outermost first
-abbrev pub in_copies : List Counter → LineForm → List Piece → List Piece
-in_copies [] form tokens = tokens
-in_copies (c ∷ cs) form tokens = in_copies cs form (in_copy c form tokens)
+-- a line in the copy of this number; before a word no number stands for the counter
+abbrev pub in_copy : Counter → SourceLine → SourceLine
+in_copy c line = record line { front = kept (joined c line.front); tokens = copied_tokens c line.form line.word line.tokens }
 
--- ---- the names of counters
-
-abbrev pub has_name : List (List ℕ) → List ℕ → Bool
-has_name [] name = false
-has_name (x ∷ xs) name = bytes_eq name x || has_name xs name
-
--- one of these names is among the tokens
-abbrev pub are_named : List (List ℕ) → List Piece → Bool
-are_named names [] = false
-are_named names (token ∷ tokens) = (is_name token.kind && has_name names token.text) || are_named names tokens
+-- a line within copies of several blocks, the outermost first
+abbrev pub in_copies : List Counter → SourceLine → SourceLine
+in_copies [] line = line
+in_copies (c ∷ cs) line = in_copies cs (in_copy c line)

@@ -1,4 +1,6 @@
+-- the counters of blocks, and what a copy of a line is under them
 pub mod Counter
-pub mod Numbering
-pub mod Block
-pub mod Long
+-- lines without an &
+pub mod Plain
+-- what a contract sees of a copy in memory
+pub mod Views

@@ -1,11 +1,18 @@
-//! The lines of a source that say something, and what a copy of each is within a block.
+//! What a copy of a line is within a block: names joined to the number of the copy by `&`, and the number in place of the counter.
+//!
+//! `copying` writes the copy of a line under one `counter`; `plain` writes that of a line without an `&` under all counters at once;
+//! `line_copy` has the tokens that were written. What is made, a joined name or a number, lies in the region of the assembly, so a token of
+//! a copy is a `Token` as one of the source is.
+//!
+//! The main clauses: `in_copy` is that of `Counter` in `specs`, and `plain_copy` is `in_copies` of such a line.
 #![tactic(auto)]
 
+mod copying;
 mod counter;
-mod line_tokens;
-mod numbering;
-mod source_line;
+mod line_copy;
+mod plain;
 
-pub use counter::{Counter, in_copy};
-pub use numbering::has_and;
-pub use source_line::{LineForm, SourceLine, line_at, rof_behind, source_lines};
+pub use copying::in_copy;
+pub use counter::Counter;
+pub use line_copy::LineCopy;
+pub use plain::{Counters, has_counter, plain_copy};

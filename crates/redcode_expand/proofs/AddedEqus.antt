@@ -1,47 +1,25 @@
 -- What the lines of a walk make of its EQUs.
-use Rattle.std.proofs.Common.{◌≡◌, ℕ, ◌+◌, Bool, true, false, ◌||◌, is_some, nat_lt, nat_eq, if◌then◌else◌, List, [], ◌∷◌, ◌++◌, map, drop, Option, Some, None, Result, Ok, Err, refl, sym, ap, ◌∙◌, subst}
-use Rattle.std.proofs.lemmas.Bool.{true≢false, or_parts}
+use Rattle.std.proofs.Common.{unwrap_or, arith, ◌≡◌, ℕ, Bool, true, false, ◌||◌, is_some, if◌then◌else◌, List, [], ◌∷◌, ◌++◌, drop, Option, Some, None, Result, Ok, refl, sym, ap, ◌∙◌, subst}
+use Rattle.std.proofs.lemmas.Bool.{or_parts}
 use Rattle.std.proofs.lemmas.Slice.Eq.{bytes_eq-Decides}
 use Rattle.std.specs.Str.{bytes_eq}
 use Rattle.war_types.specs.declared.fault.AsmFault.{AsmFault}
-use Rattle.war_types.specs.declared.fault.AsmKind.TheVariants as kinds
 use Rattle.war_types.specs.declared.settings.RawSettings.{RawSettings}
 use Rattle.redcode_text.specs.Tokens.{Piece}
 use Rattle.redcode_lines.specs.declared.line.LineKind.{LineKind}
-use Rattle.redcode_lines.specs.declared.line.LineKind.TheVariants as line_kinds
-use Rattle.redcode_copies.specs.declared.source_line.LineForm.{LineForm}
-use Rattle.redcode_copies.specs.declared.source_line.LineForm.TheVariants as forms
-use Rattle.redcode_lines.specs.declared.word.Word.{Word}
-use Rattle.redcode_lines.specs.declared.word.Word.TheVariants as words
-use Rattle.redcode_copies.specs.Block.{SourceLine}
+use Rattle.redcode_lines.specs.declared.reading.LineForm.{LineForm}
+use Rattle.redcode_text.specs.declared.vocabulary.Word.{Word}
+use Rattle.redcode_lines.specs.Line.{SourceLine, labels_of, behind_labels}
 use Rattle.redcode_copies.specs.Counter.{Counter, in_copies}
-use Rattle.redcode_lines.specs.Word.{labels_of, line_word, behind_labels, unplaced}
-use Rattle.redcode_names.specs.Gives.{◌>>=◌, fault_at}
-use Rattle.redcode_names.specs.Equ.{EquList, body_of, has_tokens, is_equ, is_bad_body}
-use Rattle.redcode_names.specs.Name.{Names, is_taken, defined, all_defined, equ_defined, equ_line, predefined, address_of, for_labels}
-use Rattle.redcode_expand.specs.Walk.{WalkState, Begun, begun_as, counted, labelled, equated, with_line, with_other, placed, is_equ_word, worded, statement, step_by, step, copies_of, begun, closed, copied}
+use Rattle.redcode_names.specs.Gives.{◌>>=◌}
+use Rattle.redcode_names.specs.Equ.{EquList, body_of, has_tokens}
+use Rattle.redcode_names.specs.Name.{Names, defined, all_defined, but_last, equ_defined, equ_named, equ_line, predefined, for_labels}
+use Rattle.redcode_expand.specs.Walk.{lined, WalkState, Begun, begun_as, counted, labelled, equated, placed_by, placed, is_equ_word, worded, step_by, step, copies_of, begun_of, begun, closed, copied}
 use Rattle.redcode_expand.specs.Kept.{Keeps}
-
--- ---- what is bound
-
-bound : {A B : Type 0} (m : Result A AsmFault) (f : A → Result B AsmFault) (y : B) → m >>= f ≡ Ok y → (x : A) × (m ≡ Ok x) × (f x ≡ Ok y)
-bound (Ok x) f y is = (x, refl, is)
-bound (Err fault) f y is = cc
-
-abbrev the_ok : {A : Type 0} → A → Result A AsmFault
-the_ok x = Ok x
-
-same-ok : {A : Type 0} (x y : A) → the_ok x ≡ Ok y → x ≡ y
-same-ok x y is = cc
-
-accepted : {A : Type 0} (b : Bool) (fault : AsmFault) (x y : A) → (if b then the_ok x else Err fault) ≡ Ok y → x ≡ y
-accepted true fault x y is = cc
-accepted false fault x y is = cc
-
--- where a test refuses, nothing is answered
-not-refused : {A : Type 0} (b : Bool) (fault : AsmFault) (m : Result A AsmFault) (y : A) → (if b then Err fault else m) ≡ Ok y → (b ≡ false) × (m ≡ Ok y)
-not-refused true fault m y is = cc
-not-refused false fault m y is = (refl, is)
+use Rattle.redcode_expand.proofs.Counted.{Holds, bind, either, all-hold, last-hold}
+use Rattle.std.specs.Bool.{⊤}
+use Rattle.redcode_lines.specs.declared.line.LineKind.TheVariants as line_kinds
+use Rattle.redcode_lines.specs.declared.reading.LineForm.TheVariants as forms
 
 -- ---- lists of EQUs
 
@@ -54,13 +32,10 @@ keeps-equal s old new is = subst (λ (equs : EquList). Keeps s old equs) (sym is
 -- an EQU at the end is looked up last
 body-found : (found b : Bool) (name : List ℕ) (text body behind more : List Piece) → (has_tokens (if b then body else behind) || found) ≡ true
     → ((has_tokens behind || found) ≡ true → more ≡ behind) → (if b then body else more) ≡ (if b then body else behind)
-body-found found true name text body behind more is later = refl
-body-found found false name text body behind more is later = later is
+body-found found b name text body behind more h1 h2 = grind arith
 
 differs-by : (s : RawSettings) (name other : List ℕ) → is_some (predefined s 0 other) ≡ false → is_some (predefined s 0 name) ≡ true → (b : Bool) → bytes_eq name other ≡ b → b ≡ false
-differs-by s name other free known true same =
-    absurd (true≢false (sym known ∙ ap (λ (n : List ℕ). is_some (predefined s 0 n)) ((bytes_eq-Decides name other).0 same) ∙ free))
-differs-by s name other free known false same = refl
+differs-by s name other h1 h2 b h3 = grind (arith, bytes_eq-Decides)
 
 body-added : (s : RawSettings) (equs : EquList) (other : List ℕ) (body : List Piece) → is_some (predefined s 0 other) ≡ false → (name : List ℕ)
     → (has_tokens (body_of equs name) || is_some (predefined s 0 name)) ≡ true → body_of (equs ++ (other, body) ∷ []) name ≡ body_of equs name
@@ -75,129 +50,95 @@ keeps-added s equs other body free = record { same = λ name is. body-added s eq
 
 -- ---- names that are defined
 
-defined-equs : (s : RawSettings) (line address : ℕ) (name : List ℕ) (names new : Names) → defined s line address name names ≡ Ok new → new.equs ≡ names.equs
-defined-equs s line address name names new is =
-    let found = not-refused (is_taken s names name) (fault_at line kinds.DuplicateName) _ new is in
-    sym (ap (λ (n : Names). n.equs) (same-ok _ new found.1))
+defined-equs : (s : RawSettings) (line address : ℕ) (name : List ℕ) (names : Names) (equs : EquList) → names.equs ≡ equs
+    → Holds (λ (new : Names). new.equs ≡ equs) (defined s line address name names)
+defined-equs s line address name names equs is = grind arith
 
-all-equs : (s : RawSettings) (line address : ℕ) (labels : List (List ℕ)) (names new : Names) → all_defined s line address labels names ≡ Ok new → new.equs ≡ names.equs
-all-equs s line address [] names new is = sym (ap (λ (n : Names). n.equs) (same-ok names new is))
-all-equs s line address (label ∷ labels) names new is =
-    let found = bound (defined s line address label names) (all_defined s line address labels) new is in
-    all-equs s line address labels found.0 new found.2 ∙ defined-equs s line address label names found.0 found.1
+all-equs : (s : RawSettings) (line address : ℕ) (labels : List (List ℕ)) (names : Names) → Holds (λ (new : Names). new.equs ≡ names.equs) (all_defined s line address labels names)
+all-equs s line address labels names =
+    all-hold (λ n. n.equs ≡ names.equs) s line address (λ name old is. defined-equs s line address name old names.equs is) labels names refl
 
-for-equs : (s : RawSettings) (line address : ℕ) (labels : List (List ℕ)) (names : Names) (new : Names × List ℕ) → for_labels s line address labels names ≡ Ok new → new.0.equs ≡ names.equs
-for-equs s line address [] names new is = sym (ap (λ (n : Names × List ℕ). n.0.equs) (same-ok (names, []) new is))
-for-equs s line address (name ∷ []) names new is = sym (ap (λ (n : Names × List ℕ). n.0.equs) (same-ok (names, name) new is))
-for-equs s line address (name ∷ next ∷ others) names new is =
-    let found = bound (defined s line address name names) (for_labels s line address (next ∷ others)) new is in
-    for-equs s line address (next ∷ others) found.0 new found.2 ∙ defined-equs s line address name names found.0 found.1
+last-equs : (s : RawSettings) (line address : ℕ) (labels : List (List ℕ)) (names : Names)
+    → Holds (λ (new : Names × Option (List ℕ)). new.0.equs ≡ names.equs) (but_last s line address labels names)
+last-equs s line address labels names =
+    last-hold (λ n. n.equs ≡ names.equs) s line address (λ name old is. defined-equs s line address name old names.equs is) labels names refl
 
-equ-keeps : (s : RawSettings) (line : ℕ) (body : List Piece) (name : List ℕ) (names new : Names) → equ_defined s line body name names ≡ Ok new → Keeps s names.equs new.equs
-equ-keeps s line body name names new is =
-    let found = not-refused (is_taken s names name) (fault_at line kinds.DuplicateName) _ new is in
-    let whole = not-refused (is_bad_body body) (fault_at line kinds.BadEqu) _ new found.1 in
-    let free = or_parts (is_some (predefined s 0 name)) (is_some (address_of names.labels name) || is_equ names.equs name) found.0 in
-    subst (λ (n : Names). Keeps s names.equs n.equs) (same-ok _ new whole.1) (keeps-added s names.equs name (map unplaced body) free.0)
+equ-keeps : (s : RawSettings) (line : ℕ) (body : List Piece) (name : List ℕ) (names : Names) → Holds (λ (new : Names). Keeps s names.equs new.equs) (equ_defined s line body name names)
+equ-keeps s line body name names = grind (arith, keeps-added, or_parts)
 
-line-keeps : (s : RawSettings) (line address : ℕ) (body : List Piece) (labels : List (List ℕ)) (names new : Names) → equ_line s line address body labels names ≡ Ok new → Keeps s names.equs new.equs
-line-keeps s line address body [] names new is = cc
-line-keeps s line address body (name ∷ []) names new is = equ-keeps s line body name names new is
-line-keeps s line address body (name ∷ next ∷ others) names new is =
-    let found = bound (defined s line address name names) (equ_line s line address body (next ∷ others)) new is in
-    subst (λ (equs : EquList). Keeps s equs new.equs) (defined-equs s line address name names found.0 found.1)
-    (line-keeps s line address body (next ∷ others) found.0 new found.2)
+named-keeps : (s : RawSettings) (line : ℕ) (body : List Piece) (name : Option (List ℕ)) (names : Names) → Holds (λ (new : Names). Keeps s names.equs new.equs) (equ_named s line body name names)
+named-keeps s line body None names = tt
+named-keeps s line body (Some name) names = equ-keeps s line body name names
+
+line-keeps : (s : RawSettings) (line address : ℕ) (body : List Piece) (labels : List (List ℕ)) (names : Names) → Holds (λ (new : Names). Keeps s names.equs new.equs) (equ_line s line address body labels names)
+line-keeps s line address body labels names =
+    bind (λ found. found.0.equs ≡ names.equs) (λ new. Keeps s names.equs new.equs) (but_last s line address labels names) (λ found. equ_named s line body found.1 found.0)
+    (last-equs s line address labels names) (λ found same. subst (λ (equs : EquList). Holds (λ (new : Names). Keeps s equs new.equs) (equ_named s line body found.1 found.0)) same (named-keeps s line body found.1 found.0))
 
 -- ---- lines
 
-counted-names : (line : ℕ) (st new : WalkState) → counted line st ≡ Ok new → new.names ≡ st.names
-counted-names line st new is =
-    sym (ap (λ (w : WalkState). w.names) (accepted (nat_lt st.counted 4096) (fault_at line kinds.ForLimit) (record st { counted = st.counted + 1 }) new is))
+-- what is held of what was found
+held : {A : Type 0} (P : A → Type 0) (m : Result A AsmFault) (x : A) → Holds P m → m ≡ Ok x → P x
+held P m x holds is = subst (Holds P) is holds
 
-labelled-equs : (s : RawSettings) (line : ℕ) (labels : List (List ℕ)) (st new : WalkState) → labelled s line labels st ≡ Ok new → new.names.equs ≡ st.names.equs
-labelled-equs s line labels st new is =
-    let found = bound (all_defined s line st.before labels st.names) (λ names. Ok (record st { names = names })) new is in
-    ap (λ (w : WalkState). w.names.equs) (sym (same-ok (record st { names = found.0 }) new found.2))
-    ∙ all-equs s line st.before labels st.names found.0 found.1
+abbrev IsSame : WalkState → WalkState → Type 0
+IsSame st new = new.names.equs ≡ st.names.equs
 
-equated-keeps : (s : RawSettings) (line : ℕ) (labels : List (List ℕ)) (body : List Piece) (st new : WalkState) → equated s line labels body st ≡ Ok new → Keeps s st.names.equs new.names.equs
-equated-keeps s line labels body st new is =
-    let found = bound (equ_line s line st.before body labels st.names) (λ names. Ok (record st { names = names })) new is in
-    subst (λ (w : WalkState). Keeps s st.names.equs w.names.equs) (same-ok (record st { names = found.0 }) new found.2)
-    (line-keeps s line st.before body labels st.names found.0 found.1)
+abbrev IsLater : RawSettings → WalkState → WalkState → Type 0
+IsLater s st new = Keeps s st.names.equs new.names.equs
 
-other-names : (line : ℕ) (tokens : List Piece) (st : WalkState) → (with_other line tokens st).names ≡ st.names
-other-names line [] st = refl
-other-names line (token ∷ tokens) st = refl
+counted-names : (line : ℕ) (st : WalkState) → Holds (λ (new : WalkState). new.names ≡ st.names) (counted line st)
+counted-names line st = grind arith
 
-placed-names : (line : ℕ) (word : Option Word) (tokens : List Piece) (st : WalkState) → (placed line word tokens st).names ≡ st.names
-placed-names line None tokens st = other-names line tokens st
-placed-names line (Some words.Operation) tokens st = refl
-placed-names line (Some words.Org) tokens st = refl
-placed-names line (Some words.End) tokens st = refl
-placed-names line (Some words.Pin) tokens st = refl
-placed-names line (Some words.Equ) tokens st = refl
-placed-names line (Some words.For) tokens st = refl
-placed-names line (Some words.Rof) tokens st = refl
+labelled-equs : (s : RawSettings) (line : ℕ) (labels : List (List ℕ)) (st : WalkState) → Holds (IsSame st) (labelled s line labels st)
+labelled-equs s line labels st =
+    bind (λ names. names.equs ≡ st.names.equs) (IsSame st) (all_defined s line st.before labels st.names) (λ names. Ok (record st { names = names })) (all-equs s line st.before labels st.names)
+    (λ names same. same)
 
-worded-by : (s : RawSettings) (b : Bool) (line : ℕ) (word : Option Word) (labels : List (List ℕ)) (tokens : List Piece) (st new : WalkState)
-    → (if b then equated s line labels (drop 1 tokens) st else (labelled s line labels st >>= λ st. Ok (placed line word tokens st))) ≡ Ok new
-    → Keeps s st.names.equs new.names.equs
-worded-by s true line word labels tokens st new is = equated-keeps s line labels (drop 1 tokens) st new is
-worded-by s false line word labels tokens st new is =
-    let found = bound (labelled s line labels st) (λ st. Ok (placed line word tokens st)) new is in
-    keeps-equal s st.names.equs new.names.equs (
-    ap (λ (w : WalkState). w.names.equs) (sym (same-ok (placed line word tokens found.0) new found.2))
-    ∙ ap (λ (n : Names). n.equs) (placed-names line word tokens found.0)
-    ∙ labelled-equs s line labels st found.0 found.1)
+placed-names : (line : ℕ) (word : Option Word) (tokens : List Piece) (st : WalkState) → (placed_by line word tokens st).names ≡ st.names
+placed-names line word tokens st = grind arith
 
-statement-keeps : (s : RawSettings) (line : ℕ) (tokens : List Piece) (st new : WalkState) → statement s line tokens st ≡ Ok new → Keeps s st.names.equs new.names.equs
-statement-keeps s line tokens st new is =
-    let found = bound (counted line st) (worded s line (line_word tokens) (labels_of tokens) (behind_labels tokens)) new is in
-    subst (λ (n : Names). Keeps s n.equs new.names.equs) (counted-names line st found.0 found.1)
-    (worded-by s (is_equ_word (line_word tokens)) line (line_word tokens) (labels_of tokens) (behind_labels tokens) found.0 new found.2)
+worded-keeps : (s : RawSettings) (line : SourceLine) (st : WalkState) → Holds (IsLater s st) (worded s line st)
+worded-keeps s line st =
+    either (IsLater s st) (is_equ_word line.word) (equated s line.number (labels_of line) (drop 1 line.tokens) st) (labelled s line.number (labels_of line) st >>= λ st. Ok (placed line st))
+    (bind (λ names. Keeps s st.names.equs names.equs) (IsLater s st) (equ_line s line.number st.before (drop 1 line.tokens) (labels_of line) st.names) (λ names. Ok (record st { names = names }))
+    (line-keeps s line.number st.before (drop 1 line.tokens) (labels_of line) st.names) (λ names keeps. keeps))
+    (bind (IsSame st) (IsLater s st) (labelled s line.number (labels_of line) st) (λ st. Ok (placed line st)) (labelled-equs s line.number (labels_of line) st)
+    (λ now same. keeps-equal s st.names.equs (placed line now).names.equs (ap (λ (n : Names). n.equs) (placed-names line.number line.word (behind_labels line) now) ∙ same)))
 
-lined-names : (line : ℕ) (kind : LineKind) (title : List ℕ) (tokens : List Piece) (st new : WalkState)
-    → counted line st >>= (λ st. Ok (with_line line kind title tokens st)) ≡ Ok new → new.names ≡ st.names
-lined-names line kind title tokens st new is =
-    let found = bound (counted line st) (λ st. Ok (with_line line kind title tokens st)) new is in
-    ap (λ (w : WalkState). w.names) (sym (same-ok (with_line line kind title tokens found.0) new found.2)) ∙ counted-names line st found.0 found.1
+lined-keeps : (s : RawSettings) (line : ℕ) (kind : LineKind) (title : List ℕ) (tokens : List Piece) (st : WalkState) → Holds (IsLater s st) (lined line kind title tokens st)
+lined-keeps s line kind title tokens st = grind arith
 
-lined-keeps : (s : RawSettings) (line : ℕ) (kind : LineKind) (title : List ℕ) (tokens : List Piece) (st new : WalkState)
-    → counted line st >>= (λ st. Ok (with_line line kind title tokens st)) ≡ Ok new → Keeps s st.names.equs new.names.equs
-lined-keeps s line kind title tokens st new is =
-    keeps-equal s st.names.equs new.names.equs (ap (λ (n : Names). n.equs) (lined-names line kind title tokens st new is))
-
-step-by : (s : RawSettings) (line : ℕ) (form : LineForm) (title : List ℕ) (tokens : List Piece) (st new : WalkState) → step_by s line form title tokens st ≡ Ok new
-    → Keeps s st.names.equs new.names.equs
-step-by s line forms.Statement title tokens st new is = statement-keeps s line tokens st new is
-step-by s line forms.Assert title tokens st new is = lined-keeps s line line_kinds.Assert [] tokens st new is
-step-by s line forms.Name title tokens st new is = lined-keeps s line line_kinds.Name title [] st new is
-step-by s line forms.Author title tokens st new is = lined-keeps s line line_kinds.Author title [] st new is
+step-by : (s : RawSettings) (form : LineForm) (line : SourceLine) (st : WalkState) → Holds (IsLater s st) (step_by s form line st)
+step-by s forms.Statement line st =
+    bind (λ now. now.names ≡ st.names) (IsLater s st) (counted line.number st) (worded s line) (counted-names line.number st)
+    (λ now same. subst (λ (n : Names). Holds (λ (new : WalkState). Keeps s n.equs new.names.equs) (worded s line now)) same (worded-keeps s line now))
+step-by s forms.Assert line st = lined-keeps s line.number line_kinds.Assert [] line.tokens st
+step-by s forms.Name line st = lined-keeps s line.number line_kinds.Name line.title [] st
+step-by s forms.Author line st = lined-keeps s line.number line_kinds.Author line.title [] st
 
 -- a line keeps what the names stood for
 pub step-keeps : (s : RawSettings) (cs : List Counter) (line : SourceLine) (st new : WalkState) → step s cs line st ≡ Ok new → Keeps s st.names.equs new.names.equs
-step-keeps s cs line st new is = step-by s line.number line.form line.title (in_copies cs line.form line.tokens) st new is
+step-keeps s cs line st new is = held (IsLater s st) (step s cs line st) new (step-by s (in_copies cs line).form (in_copies cs line) st) is
 
 -- a ROF adds no EQU
 pub closed-equs : (s : RawSettings) (cs : List Counter) (line : SourceLine) (st new : WalkState) → closed s cs line st ≡ Ok new → new.names.equs ≡ st.names.equs
-closed-equs s cs line st new is = labelled-equs s line.number (labels_of (in_copies cs line.form line.tokens)) st new is
-
-copied-by : (b : Bool) (line : ℕ) (st new : WalkState) → (if b then counted line st else Ok st) ≡ Ok new → new.names.equs ≡ st.names.equs
-copied-by true line st new is = ap (λ (n : Names). n.equs) (counted-names line st new is)
-copied-by false line st new is = sym (ap (λ (w : WalkState). w.names.equs) (same-ok st new is))
+closed-equs s cs line st new is = held (IsSame st) (closed s cs line st) new (labelled-equs s line.number (labels_of (in_copies cs line)) st) is
 
 -- nor does the end of a copy
 pub copied-equs : (line start : ℕ) (st new : WalkState) → copied line start st ≡ Ok new → new.names.equs ≡ st.names.equs
-copied-equs line start st new is = copied-by (nat_eq st.counted start) line st new is
+copied-equs line start st new is = grind arith
 
 -- nor does a FOR
+pub begun_of-equs : (s : RawSettings) (line : SourceLine) (st : WalkState) (b : Begun) → begun_of s line st ≡ Ok b → b.state.names.equs ≡ st.names.equs
+begun_of-equs s line st b is =
+    held (λ x. IsSame st x.state) (begun_of s line st) b
+    (bind (λ found. found.0.equs ≡ st.names.equs) (λ x. IsSame st x.state) (for_labels s line.number st.before (labels_of line) st.names)
+    (λ found. copies_of s line.number st.before found.0.equs (drop 1 line.tokens) >>= λ n. Ok (begun_as (record st { names = found.0 }) found.1 n))
+    (bind (λ found. found.0.equs ≡ st.names.equs) (λ found. found.0.equs ≡ st.names.equs) (but_last s line.number st.before (labels_of line) st.names) (λ found. Ok (found.0, unwrap_or found.1 []))
+    (last-equs s line.number st.before (labels_of line) st.names) (λ found same. same))
+    (λ found same. bind (λ n. ⊤) (λ x. IsSame st x.state) (copies_of s line.number st.before found.0.equs (drop 1 line.tokens)) (λ n. Ok (begun_as (record st { names = found.0 }) found.1 n))
+    (grind arith) (λ n all. same))) is
+
 pub begun-equs : (s : RawSettings) (cs : List Counter) (line : SourceLine) (st : WalkState) (b : Begun) → begun s cs line st ≡ Ok b → b.state.names.equs ≡ st.names.equs
-begun-equs s cs line st b is =
-    let tokens : List Piece = in_copies cs line.form line.tokens in
-    let count : List Piece = drop 1 (behind_labels tokens) in
-    let named = bound (for_labels s line.number st.before (labels_of tokens) st.names)
-    (λ found. copies_of s line.number st.before found.0.equs count >>= λ n. Ok (begun_as (record st { names = found.0 }) found.1 n)) b is in
-    let worked = bound (copies_of s line.number st.before named.0.0.equs count) (λ n. Ok (begun_as (record st { names = named.0.0 }) named.0.1 n)) b named.2 in
-    ap (λ (x : Begun). x.state.names.equs) (sym (same-ok (begun_as (record st { names = named.0.0 }) named.0.1 worked.0) b worked.2))
-    ∙ for-equs s line.number st.before (labels_of tokens) st.names named.0 named.1
+begun-equs s cs line st b is = grind (arith, begun_of-equs)

@@ -1,40 +1,29 @@
--- A count that was worked out stays the same while EQUs are added.
-use Rattle.std.proofs.Common.{◌≡◌, ℕ, zero, suc, Bool, true, false, ◌||◌, ◌&&◌, not, is_some, nat_lt, if◌then◌else◌, List, [], ◌∷◌, ◌++◌, length, map, codes, Option, Ok, Err, ℤ, refl, sym, ap, ◌∙◌}
-use Rattle.std.proofs.lemmas.Bool.{true≢false, or_parts}
-use Rattle.std.specs.Str.{bytes_eq}
-use Rattle.war_types.specs.declared.fault.AsmKind.TheVariants as kinds
+-- A count that was worked out stays the same while EQUs are added; counts that are kept, and how a block begins, from the steps of the code.
+use Rattle.std.proofs.Common.{arith, ◌≡◌, ℕ, zero, suc, Bool, false, ◌||◌, ◌&&◌, not, if◌then◌else◌, List, [], ◌∷◌, ◌++◌, length, map, Ok, refl, sym, ap, ◌∙◌, nat_eq, true, ◌+◌, ◌<◌, ◌^◌, drop, Option, Some, None, subst, inl, inr, replicate, Result}
+use Rattle.std.proofs.lemmas.Bool.{or_parts, cases_Bool, eqb-true}
 use Rattle.war_types.specs.declared.settings.RawSettings.{RawSettings}
 use Rattle.redcode_text.specs.Tokens.{Piece}
-use Rattle.redcode_text.specs.declared.token.TokenKind.{TokenKind}
-use Rattle.redcode_text.specs.declared.token.TokenKind.TheVariants as tokens
-use Rattle.redcode_text.specs.Value.{part_of, part_by_kind, value_of, value_within, or_bad}
-use Rattle.redcode_lines.specs.Word.{is_name}
-use Rattle.redcode_names.specs.Gives.{fault_at}
-use Rattle.redcode_names.specs.Equ.{EquList, body_of, body_at, or_itself, round, has_tokens, has_equ, left_over, replaced, after_rounds}
-use Rattle.redcode_names.specs.Name.{is_loose, predefined}
-use Rattle.redcode_expand.specs.Kept.{has_loose, Keeps}
+use Rattle.redcode_text.specs.Value.{part_of, value_of, value_within, or_bad}
+use Rattle.redcode_lines.specs.Line.{is_name, SourceLine, labels_of}
+use Rattle.redcode_names.specs.Equ.{EquList, body_at, round, has_tokens, has_equ, left_over, replaced, after_rounds}
+use Rattle.redcode_names.specs.Name.{is_loose, predefined, Names, for_labels}
+use Rattle.redcode_expand.specs.Kept.{has_loose, Keeps, CountIsFixed, IsKept, AreKept, kept_at}
 use Rattle.redcode_names.proofs.Replacing.{left_over-all}
 use Rattle.redcode_names.proofs.Unchanged.{replaced-left}
+use Rattle.std.proofs.lemmas.Grind.{common_steps}
+use Rattle.std.specs.Prelude.{slice_set}
+use Rattle.std.proofs.lemmas.List.{get_or-set_other, get_or-replicate, length-set, length-replicate}
+use Rattle.redcode_copies.specs.Counter.{Counter, in_copies}
+use Rattle.redcode_expand.specs.Walk.{WalkState, begun_as, begun, walk_state, ExpandedLine, Begun, begun_of, copies_of, count_by}
+use Rattle.redcode_expand.proofs.GoingOn.{nat_eq-other}
+use Rattle.war_types.specs.declared.fault.AsmFault.{AsmFault}
+use Rattle.redcode_names.specs.Gives.{◌>>=◌, Fails}
 
 -- ---- the value of a name that is not loose
 
-predefined-by : (s : RawSettings) (before : ℕ) (name : List ℕ) → bytes_eq name (codes "CURLINE") ≡ false → predefined s before name ≡ predefined s 0 name
-predefined-by s before name is = rw is refl
-
-part-by : (s : RawSettings) (before : ℕ) (kind : TokenKind) (text : List ℕ) → (is_name kind && is_loose s text) ≡ false
-    → part_by_kind (predefined s before) kind text ≡ part_by_kind (predefined s 0) kind text
-part-by s before tokens.Name text is =
-    ap (λ (o : Option ℤ). part_by_kind (λ name. o) tokens.Name text) (predefined-by s before text (or_parts _ _ is).1)
-part-by s before tokens.Number text is = refl
-part-by s before tokens.Symbol text is = refl
-part-by s before tokens.Comment text is = refl
-part-by s before tokens.Bad text is = refl
-
 parts-same : (s : RawSettings) (before : ℕ) (ts : List Piece) → has_loose s ts ≡ false → map (part_of (predefined s before)) ts ≡ map (part_of (predefined s 0)) ts
 parts-same s before [] is = refl
-parts-same s before (t ∷ ts) is =
-    let none = or_parts (is_name t.kind && is_loose s t.text) (has_loose s ts) is in
-    rw (part-by s before t.kind t.text none.0, parts-same s before ts none.1) refl
+parts-same s before (t ∷ ts) is = grind (arith, or_parts, parts-same s before ts)
 
 -- a value without loose names is the same on every line
 pub value-same : (s : RawSettings) (before : ℕ) (ts : List Piece) → has_loose s ts ≡ false → value_of (predefined s before) ts ≡ value_of (predefined s 0) ts
@@ -51,40 +40,19 @@ has_stray s equs [] = false
 has_stray s equs (x ∷ xs) = is_stray s equs x || has_stray s equs xs
 
 or-false : (b c : Bool) → b ≡ false → c ≡ false → (b || c) ≡ false
-or-false true c is-b is-c = is-b
-or-false false c is-b is-c = is-c
-
-and-false : (b c : Bool) → b ≡ false → (b && c) ≡ false
-and-false true c is = absurd (true≢false is)
-and-false false c is = refl
+or-false b c h1 h2 = grind arith
 
 loose-stray : (s : RawSettings) (equs : EquList) (xs : List Piece) → has_loose s xs ≡ false → has_stray s equs xs ≡ false
 loose-stray s equs [] is = refl
-loose-stray s equs (x ∷ xs) is =
-    let none = or_parts (is_name x.kind && is_loose s x.text) (has_loose s xs) is in
-    or-false (is_stray s equs x) (has_stray s equs xs) (and-false _ (not (has_tokens (body_at equs x))) none.0) (loose-stray s equs xs none.1)
+loose-stray s equs (x ∷ xs) is = grind (arith, or_parts, or-false, loose-stray s equs xs)
 
 stray-append : (s : RawSettings) (equs : EquList) (xs ys : List Piece) → has_stray s equs (xs ++ ys) ≡ false → (has_stray s equs xs ≡ false) × (has_stray s equs ys ≡ false)
 stray-append s equs [] ys is = (refl, is)
-stray-append s equs (x ∷ xs) ys is =
-    let none = or_parts (is_stray s equs x) (has_stray s equs (xs ++ ys)) is in
-    let behind = stray-append s equs xs ys none.1 in
-    (or-false (is_stray s equs x) (has_stray s equs xs) none.0 behind.0, behind.1)
-
-and-not : (b : Bool) → (b && not true) ≡ false
-and-not true = refl
-and-not false = refl
-
--- a token that no body replaces stands in the next round too
-stray-first : (s : RawSettings) (equs : EquList) (x : Piece) (body : List Piece) → body_at equs x ≡ body → has_stray s equs (or_itself x body) ≡ false → is_stray s equs x ≡ false
-stray-first s equs x [] at is = (or_parts (is_stray s equs x) false is).0
-stray-first s equs x (b ∷ bs) at is = rw at (and-not (is_name x.kind && is_loose s x.text))
+stray-append s equs (x ∷ xs) ys is = grind (arith, stray-append s equs xs ys)
 
 stray-round : (s : RawSettings) (equs : EquList) (xs : List Piece) → has_stray s equs (round equs xs) ≡ false → has_stray s equs xs ≡ false
 stray-round s equs [] is = refl
-stray-round s equs (x ∷ xs) is =
-    let none = stray-append s equs (or_itself x (body_at equs x)) (round equs xs) is in
-    or-false (is_stray s equs x) (has_stray s equs xs) (stray-first s equs x (body_at equs x) refl none.0) (stray-round s equs xs none.1)
+stray-round s equs (x ∷ xs) is = grind (arith, stray-append, stray-round s equs xs)
 
 stray-after : (n : ℕ) (s : RawSettings) (equs : EquList) (xs : List Piece) → has_loose s (after_rounds n equs xs) ≡ false → has_stray s equs xs ≡ false
 stray-after zero s equs xs is = loose-stray s equs xs is
@@ -92,32 +60,16 @@ stray-after (suc n) s equs xs is = stray-round s equs xs (stray-after n s equs (
 
 -- ---- the rounds with more EQUs
 
-body-or-known : (p c h : Bool) → ((not p || c) && not h) ≡ false → (h || p) ≡ true
-body-or-known p c true is = refl
-body-or-known true c false is = refl
-body-or-known false c false is = absurd (true≢false is)
-
-body-by : (s : RawSettings) (old new : EquList) → Keeps s old new → (name : Bool) (text : List ℕ)
-    → ((name && is_loose s text) && not (has_tokens (if name then body_of old text else []))) ≡ false
-    → (if name then body_of new text else []) ≡ (if name then body_of old text else [])
-body-by s old new keeps true text is =
-    keeps.same text (body-or-known (is_some (predefined s 0 text)) (bytes_eq text (codes "CURLINE")) (has_tokens (body_of old text)) is)
-body-by s old new keeps false text is = refl
-
 body-same : (s : RawSettings) (old new : EquList) → Keeps s old new → (x : Piece) → is_stray s old x ≡ false → body_at new x ≡ body_at old x
-body-same s old new keeps x is = body-by s old new keeps (is_name x.kind) x.text is
+body-same s old new keeps x is = grind arith
 
 round-same : (s : RawSettings) (old new : EquList) → Keeps s old new → (xs : List Piece) → has_stray s old xs ≡ false → round new xs ≡ round old xs
 round-same s old new keeps [] is = refl
-round-same s old new keeps (x ∷ xs) is =
-    let none = or_parts (is_stray s old x) (has_stray s old xs) is in
-    rw (body-same s old new keeps x none.0, round-same s old new keeps xs none.1) refl
+round-same s old new keeps (x ∷ xs) is = grind (arith, body-same s old new keeps x, round-same s old new keeps xs)
 
 has_equ-same : (s : RawSettings) (old new : EquList) → Keeps s old new → (xs : List Piece) → has_stray s old xs ≡ false → has_equ new xs ≡ has_equ old xs
 has_equ-same s old new keeps [] is = refl
-has_equ-same s old new keeps (x ∷ xs) is =
-    let none = or_parts (is_stray s old x) (has_stray s old xs) is in
-    rw (body-same s old new keeps x none.0, has_equ-same s old new keeps xs none.1) refl
+has_equ-same s old new keeps (x ∷ xs) is = grind (arith, body-same s old new keeps x, has_equ-same s old new keeps xs)
 
 after-same : (n : ℕ) (s : RawSettings) (old new : EquList) → Keeps s old new → (xs : List Piece) → has_loose s (after_rounds n old xs) ≡ false
     → after_rounds n new xs ≡ after_rounds n old xs
@@ -126,8 +78,7 @@ after-same (suc n) s old new keeps xs is =
     ap (after_rounds n new) (round-same s old new keeps xs (stray-after (suc n) s old xs is)) ∙ after-same n s old new keeps (round old xs) is
 
 left-same : (s : RawSettings) (line : ℕ) (old new : EquList) → Keeps s old new → (xs : List Piece) → has_loose s xs ≡ false → left_over line new xs ≡ left_over line old xs
-left-same s line old new keeps xs is =
-    ap (λ (b : Bool). if nat_lt 512 (length xs) || b then Err (fault_at line kinds.EquLimit) else Ok xs) (has_equ-same s old new keeps xs (loose-stray s old xs is))
+left-same s line old new h1 xs h2 = grind (arith, has_equ-same, loose-stray)
 
 -- what was replaced until no loose name was left is replaced so later too
 pub replaced-kept : (s : RawSettings) (line : ℕ) (old new : EquList) (ts left : List Piece) → Keeps s old new → replaced line old ts ≡ Ok left → has_loose s left ≡ false
@@ -138,3 +89,84 @@ replaced-kept s line old new ts left keeps is fixed =
     let none : has_loose s (after_rounds 16 old ts) ≡ false = ap (has_loose s) all ∙ fixed in
     replaced-left line new ts ∙ ap (left_over line new) (after-same 16 s old new keeps ts none)
     ∙ left-same s line old new keeps (after_rounds 16 old ts) none ∙ whole
+
+-- ---- more EQUs
+
+kept-later : (s : RawSettings) (line : SourceLine) (old new : EquList) (n : ℕ) → Keeps s old new → IsKept s old line n → IsKept s new line n
+kept-later s line old new n h1 h2 = grind (arith, replaced-kept)
+
+pub all-later : (s : RawSettings) (lines : List SourceLine) (old new : EquList) (counts : List (Option ℕ)) → Keeps s old new → AreKept s lines old counts → AreKept s lines new counts
+all-later s lines old new counts keeps are =
+    record { room = are.room; kept = λ at line n some read is. kept-later s line old new n keeps (are.kept at line n some read is) }
+
+pub all-same : (s : RawSettings) (lines : List SourceLine) (old new : EquList) (counts : List (Option ℕ)) → new ≡ old → AreKept s lines old counts → AreKept s lines new counts
+all-same s lines old new counts same are = subst (λ (equs : EquList). AreKept s lines equs counts) (sym same) are
+
+-- ---- more counts
+
+None≢Some : (n : ℕ) (o : Option ℕ) → o ≡ None → o ≡ Some n → ⊥
+None≢Some n o none some = cc
+
+-- at first there is none
+pub none-kept : (s : RawSettings) (lines : List SourceLine) (equs : EquList) (counts : List (Option ℕ)) → counts ≡ replicate (length lines) None → AreKept s lines equs counts
+none-kept s lines equs counts h1 = grind (arith, length-replicate, None≢Some, get_or-replicate)
+
+with-at : (s : RawSettings) (lines : List SourceLine) (equs : EquList) (counts : List (Option ℕ)) (at place : ℕ) (line other : SourceLine) (n m : ℕ) → at < length counts → at ≡ place
+    → drop at lines ≡ line ∷ drop (at + 1) lines → drop place lines ≡ other ∷ drop (place + 1) lines → kept_at (slice_set counts at (Some n)) place ≡ Some m
+    → IsKept s equs line n → IsKept s equs other m
+with-at s lines equs counts at place line other n m h1 h2 h3 h4 h5 h6 = grind (arith, common_steps)
+
+-- one more is kept
+pub all-with : (s : RawSettings) (lines : List SourceLine) (equs : EquList) (counts : List (Option ℕ)) (at : ℕ) (line : SourceLine) (n : ℕ) → at < length lines
+    → drop at lines ≡ line ∷ drop (at + 1) lines → IsKept s equs line n → AreKept s lines equs counts → AreKept s lines equs (slice_set counts at (Some n))
+all-with s lines equs counts at line n some read kept are =
+    let within : at < length counts = omega (arith, are.room, some) in
+    record {
+      room = length-set counts at (Some n) ∙ are.room;
+      kept = λ place other m there again is. elim (cases_Bool (nat_eq place at)) [
+        | inl t ↦ with-at s lines equs counts at place line other n m within (sym (eqb-true place at t)) read again is kept
+        | inr f ↦ are.kept place other m there again (sym (get_or-set_other counts at place (Some n) None (nat_eq-other place at f)) ∙ is)
+      ];
+    }
+
+-- ---- a block that begins by a count that is kept
+
+pub begun-kept : (s : RawSettings) (cs : List Counter) (line : SourceLine) (st : WalkState) (n : ℕ) → in_copies cs line ≡ line
+    → IsKept s st.names.equs line n → begun s cs line st ≡ Ok (begun_as st [] n)
+begun-kept s cs line st n h1 h2 = grind arith
+
+-- ---- the steps of the code
+
+-- a count that was worked out is kept if it is fixed
+pub all-learned : (s : RawSettings) (lines : List SourceLine) (old new : EquList) (counts after : List (Option ℕ)) (at : ℕ) (line : SourceLine) (n : ℕ) (fixed : Bool)
+    → new ≡ old → at < length lines → drop at lines ≡ line ∷ drop (at + 1) lines → AreKept s lines old counts → labels_of line ≡ []
+    → CountIsFixed s line.number new (drop 1 line.tokens) fixed n → n < 2 ^ 63 → after ≡ (if fixed then slice_set counts at (Some n) else counts) → AreKept s lines new after
+all-learned s lines old new counts after at line n true same some read are none is few learned =
+    subst (λ (cs : List (Option ℕ)). AreKept s lines new cs) (sym learned)
+    (all-with s lines new counts at line n some read (record { labels = none; count = is.if_told refl; few = few }) (all-same s lines old new counts same are))
+all-learned s lines old new counts after at line n false same some read are none is few learned =
+    subst (λ (cs : List (Option ℕ)). AreKept s lines new cs) (sym learned) (all-same s lines old new counts same are)
+
+-- ---- a count
+
+-- a count without loose names is fixed
+pub count-fixed : (s : RawSettings) (line before : ℕ) (equs : EquList) (tokens left seen again : List Piece) (loose : Bool) (n : ℕ) → replaced line equs tokens ≡ Ok left
+    → seen ≡ left → count_by line (value_of (predefined s before) seen) ≡ Ok n → again ≡ left → loose ≡ has_loose s again
+    → CountIsFixed s line equs tokens (not loose) n
+count-fixed s line before equs tokens left seen again loose n h1 h2 h3 h4 h5 = grind (arith, value-same)
+
+-- ---- a block
+
+-- what is due behind the labels of a FOR
+pub begun-due : (s : RawSettings) (line : SourceLine) (st : WalkState) (counted before : ℕ) (old new : Names) (lines : List ExpandedLine) (ended : Bool) (labels : List (List ℕ)) (count : List Piece)
+    (name : List ℕ) → walk_state counted before old lines ended ≡ st → labels ≡ labels_of line → for_labels s line.number before labels old ≡ Ok (new, name) → count ≡ drop 1 line.tokens
+    → begun_of s line st ≡ copies_of s line.number before new.equs count >>= λ n. Ok (begun_as (walk_state counted before new lines ended) name n)
+begun-due s line st counted before old new lines ended labels count name h1 h2 h3 h4 = grind arith
+
+pub begun-done : (due : Result Begun AsmFault) (st : WalkState) (name given : List ℕ) (m : Result ℕ AsmFault) (n : ℕ) → due ≡ m >>= (λ n. Ok (begun_as st name n)) → given ≡ name → m ≡ Ok n
+    → due ≡ Ok (begun_as st given n)
+begun-done due st name given m n h1 h2 h3 = grind arith
+
+pub begun-refused : (due : Result Begun AsmFault) (st : WalkState) (name : List ℕ) (m : Result ℕ AsmFault) (fault : AsmFault) → due ≡ m >>= (λ n. Ok (begun_as st name n)) → Fails fault m
+    → Fails fault due
+begun-refused due st name m fault h1 h2 = grind arith

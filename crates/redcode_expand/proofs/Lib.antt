@@ -1,18 +1,13 @@
-pub mod Plain
-mod AllLines
-mod OneLine
 mod Unchanged
 mod Places
-mod Counters
-mod KnownNames
 mod PlacedNames
-mod BareLines
+mod PlainCounts
 mod GoingOn
-mod Pairing
-mod EndingCopies
 mod Rows
+mod RowsOfBlocks
+mod Alike
+mod Capped
 mod Keeping
-mod LongSteps
 mod AddedEqus
-mod KeptCounts
-mod BeginningBlocks
+mod Counted
+mod WrittenOut

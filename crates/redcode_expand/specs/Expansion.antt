@@ -1,8 +1,9 @@
 -- The expanded lines and the labels of a source, or the first fault in the order of the refusals.
-use Rattle.std.specs.Prelude.{ℕ, zero, suc, ◌-◌, nat_lt, if◌then◌else◌, List, [], ◌∷◌, ◌++◌, length, take, Result, Ok, Err}
+use Rattle.std.specs.Prelude.{ℕ, zero, suc, ◌-◌, nat_lt, if◌then◌else◌, List, [], ◌∷◌, ◌++◌, length, take, Option, None, Result, Ok, Err}
 use Rattle.war_types.specs.declared.fault.AsmKind.TheVariants as kinds
 use Rattle.war_types.specs.declared.fault.AsmFault.{AsmFault}
 use Rattle.war_types.specs.declared.settings.RawSettings.{RawSettings}
+use Rattle.redcode_text.specs.declared.vocabulary.Word.{Word}
 use Rattle.redcode_text.specs.Tokens.{Piece}
 use Rattle.redcode_lines.specs.declared.line.Line.{Line}
 use Rattle.redcode_lines.specs.declared.line.LineKind.{LineKind}
@@ -10,7 +11,7 @@ use Rattle.redcode_names.specs.Gives.{◌>>=◌, fault_at}
 use Rattle.redcode_lines.specs.Operand.{operands_of}
 use Rattle.redcode_lines.specs.Source.{NumberedLine, live_lines}
 use Rattle.redcode_names.specs.Equ.{EquList, replaced}
-use Rattle.redcode_copies.specs.Block.{parsed, source_lines}
+use Rattle.redcode_lines.specs.Block.{parsed, source_lines}
 use Rattle.redcode_names.specs.Name.{LabelList}
 use Rattle.redcode_expand.specs.Walk.{WalkState, walk_all, walk_begin}
 pub use Rattle.redcode_names.specs.Name.{address_of, predefined}
@@ -53,6 +54,12 @@ abbrev pub title_at : List ExpandedLine → ℕ → List ℕ
 title_at [] i = []
 title_at (line ∷ others) zero = line.title
 title_at (line ∷ others) (suc i) = title_at others i
+
+-- the word of the line at this place, where it has one
+abbrev pub line_word_at : List ExpandedLine → ℕ → Option Word
+line_word_at [] i = None
+line_word_at (line ∷ others) zero = line.word
+line_word_at (line ∷ others) (suc i) = line_word_at others i
 
 -- the tokens of the line at this place
 abbrev pub tokens_at : List ExpandedLine → ℕ → List Piece

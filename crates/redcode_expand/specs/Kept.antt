@@ -1,10 +1,9 @@
--- Counts of blocks that stay the same in the rest of a source.
+-- Counts of blocks that stay the same in the rest of a source: what the code keeps, no part of the definition.
 use Rattle.std.specs.Prelude.{◌≡◌, ℕ, ◌+◌, ◌<◌, ◌^◌, Bool, true, false, ◌||◌, ◌&&◌, List, [], ◌∷◌, length, drop, is_some, Option, Some, None, Ok, slice_index_or}
 use Rattle.war_types.specs.declared.settings.RawSettings.{RawSettings}
 use Rattle.redcode_text.specs.Tokens.{Piece}
 use Rattle.redcode_text.specs.Value.{value_of}
-use Rattle.redcode_copies.specs.Block.{SourceLine}
-use Rattle.redcode_lines.specs.Word.{is_name, labels_of, behind_labels}
+use Rattle.redcode_lines.specs.Line.{SourceLine, is_name, labels_of}
 use Rattle.redcode_names.specs.Equ.{EquList, body_of, has_tokens, replaced}
 use Rattle.redcode_names.specs.Name.{is_loose, predefined}
 use Rattle.redcode_expand.specs.Walk.{count_by}
@@ -29,10 +28,10 @@ pub record IsFixed (s : RawSettings) (line : ℕ) (equs : EquList) (tokens : Lis
 pub record CountIsFixed (s : RawSettings) (line : ℕ) (equs : EquList) (tokens : List Piece) (told : Bool) (n : ℕ) : Type 0 where
   pub if_told : told ≡ true → IsFixed s line equs tokens n
 
--- so does the count of a FOR line with these tokens, which has no labels
-pub record IsKept (s : RawSettings) (line : ℕ) (equs : EquList) (tokens : List Piece) (n : ℕ) : Type 0 where
-  pub labels : labels_of tokens ≡ []
-  pub count : IsFixed s line equs (drop 1 (behind_labels tokens)) n
+-- so does the count of this FOR line, which has no labels
+pub record IsKept (s : RawSettings) (equs : EquList) (line : SourceLine) (n : ℕ) : Type 0 where
+  pub labels : labels_of line ≡ []
+  pub count : IsFixed s line.number equs (drop 1 line.tokens) n
   pub few : n < 2 ^ 63
 
 -- what is kept of a line behind so many others
@@ -42,4 +41,4 @@ kept_at counts at = slice_index_or counts at None
 -- each count that is kept is that of the line at its place
 pub record AreKept (s : RawSettings) (lines : List SourceLine) (equs : EquList) (counts : List (Option ℕ)) : Type 0 where
   pub room : length counts ≡ length lines
-  pub kept : (at : ℕ) → (line : SourceLine) → (n : ℕ) → at < length lines → drop at lines ≡ line ∷ drop (at + 1) lines → kept_at counts at ≡ Some n → IsKept s line.number equs line.tokens n
+  pub kept : (at : ℕ) → (line : SourceLine) → (n : ℕ) → at < length lines → drop at lines ≡ line ∷ drop (at + 1) lines → kept_at counts at ≡ Some n → IsKept s equs line n

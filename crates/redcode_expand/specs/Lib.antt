@@ -1,7 +1,12 @@
+-- the definition: the walk over the lines of a source, in the order in which they are written out
 pub mod Walk
-pub mod Rest
-pub mod Kept
-pub mod Bare
+-- and what it comes to, with the names of EQUs replaced
 pub mod Expansion
-pub mod Long
-pub mod Found
+-- laws that hold of them
+pub mod Laws
+-- what the code keeps: what is left of a source within blocks that are open
+pub mod Rest
+-- counts that stay the same
+pub mod Kept
+-- and counts with the values of counters
+pub mod Values

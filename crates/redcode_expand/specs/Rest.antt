@@ -6,8 +6,9 @@ use Rattle.war_types.specs.declared.fault.AsmFault.{AsmFault}
 use Rattle.war_types.specs.declared.fault.AsmKind.TheVariants as kinds
 use Rattle.war_types.specs.declared.settings.RawSettings.{RawSettings}
 use Rattle.redcode_names.specs.Gives.{◌>>=◌, fault_at}
-use Rattle.redcode_copies.specs.Block.{SourceLine, Blocks, Parsed, parsed}
-use Rattle.redcode_copies.specs.Counter.{Counter, counter_of, has_name}
+use Rattle.redcode_lines.specs.Line.{SourceLine}
+use Rattle.redcode_lines.specs.Block.{Blocks, Parsed, parsed}
+use Rattle.redcode_copies.specs.Counter.{Counter, counter_of}
 use Rattle.redcode_names.specs.Name.{LabelList, address_of}
 use Rattle.redcode_expand.specs.Walk.{WalkState, walk, copies, copied, closed, unmatched, until_end}
 
@@ -96,16 +97,6 @@ pub record Passes (s : RawSettings) (lines : List SourceLine) (due : Result Walk
 abbrev pub counters_in : List OpenBlock → List Counter
 counters_in [] = []
 counters_in (b ∷ bs) = b.counter ∷ counters_in bs
-
--- their names
-abbrev pub names_in : List OpenBlock → List (List ℕ)
-names_in [] = []
-names_in (b ∷ bs) = b.counter.name ∷ names_in bs
-
--- the counter of each block has one of these names
-abbrev pub AreKnown : List (List ℕ) → List OpenBlock → Type 0
-AreKnown names [] = ⊤
-AreKnown names (b ∷ bs) = (has_name names b.counter.name ≡ true) × AreKnown names bs
 
 -- where the first of the blocks stands whose counter has this name
 abbrev pub place_in : List OpenBlock → List ℕ → Option ℕ

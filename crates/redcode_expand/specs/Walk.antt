@@ -1,29 +1,31 @@
 -- The walk over the lines of a source, in the order in which they are written out.
-use Rattle.std.specs.Prelude.{◌≡◌, ◌≢◌, ℕ, zero, suc, ◌+◌, ◌<◌, ◌≤◌, ℤ, pos, negsuc, Bool, true, false, nat_lt, nat_eq, if◌then◌else◌, List, [], ◌∷◌, ◌++◌, map, drop, Option, Some, None, Result, Ok, Err}
+use Rattle.std.specs.Prelude.{◌≡◌, ◌≢◌, ℕ, zero, suc, ◌+◌, ◌<◌, ◌≤◌, ℤ, pos, negsuc, Bool, true, false, nat_lt, nat_eq, if◌then◌else◌, List, [], ◌∷◌, ◌++◌, drop, Option, Some, None, Result, Ok, Err}
 use Rattle.war_types.specs.declared.fault.AsmKind.TheVariants as kinds
 use Rattle.war_types.specs.declared.fault.AsmFault.{AsmFault}
 use Rattle.war_types.specs.declared.settings.RawSettings.{RawSettings}
 use Rattle.war_types.specs.declared.fault.ExprFault.{ExprFault}
 use Rattle.redcode_text.specs.Tokens.{Piece}
 use Rattle.redcode_text.specs.Value.{value_of}
-use Rattle.redcode_copies.specs.declared.source_line.LineForm.{LineForm}
-use Rattle.redcode_copies.specs.declared.source_line.LineForm.TheVariants as forms
+use Rattle.redcode_lines.specs.declared.reading.LineForm.{LineForm}
+use Rattle.redcode_lines.specs.declared.reading.LineForm.TheVariants as forms
 use Rattle.redcode_lines.specs.declared.line.LineKind.{LineKind}
 use Rattle.redcode_lines.specs.declared.line.LineKind.TheVariants as lines
-use Rattle.redcode_lines.specs.declared.word.Word.{Word}
-use Rattle.redcode_lines.specs.declared.word.Word.TheVariants as words
+use Rattle.redcode_text.specs.declared.vocabulary.Word.{Word}
+use Rattle.redcode_text.specs.declared.vocabulary.Word.TheVariants as words
 use Rattle.redcode_names.specs.Gives.{◌>>=◌, fault_at}
-use Rattle.redcode_copies.specs.Block.{SourceLine, Blocks, Parsed, finish, one_line, block, open_for}
+use Rattle.redcode_lines.specs.Line.{SourceLine, labels_of, behind_labels}
+use Rattle.redcode_lines.specs.Block.{Blocks, Parsed, finish, one_line, block, open_for}
 use Rattle.redcode_copies.specs.Counter.{Counter, counter_of, in_copies}
 use Rattle.redcode_names.specs.Equ.{EquList, replaced}
 use Rattle.redcode_names.specs.Name.{Names, names_of, all_defined, equ_line, for_labels, predefined}
-use Rattle.redcode_lines.specs.Word.{labels_of, line_word, behind_labels, unplaced}
 
 -- a line of the expanded source
 pub record ExpandedLine : Type 0 where
   -- its number in the source, counted from 1
   pub source_line : ℕ
   pub kind : LineKind
+  -- its word, where it has one
+  pub word : Option Word
   -- instructions before it
   pub before : ℕ
   -- of a name or an author the text behind that word
@@ -61,63 +63,66 @@ abbrev pub equated : RawSettings → ℕ → List (List ℕ) → List Piece → 
 equated s line labels body st = equ_line s line st.before body labels st.names >>= λ names. Ok (record st { names = names })
 
 -- a further line
-abbrev pub with_line : ℕ → LineKind → List ℕ → List Piece → WalkState → WalkState
-with_line line kind title tokens st =
-    record st { lines = st.lines ++ record { source_line = line; kind = kind; before = st.before; title = title; tokens = map unplaced tokens } ∷ [] }
+abbrev pub with_line : ℕ → LineKind → Option Word → List ℕ → List Piece → WalkState → WalkState
+with_line line kind word title tokens st =
+    record st { lines = st.lines ++ record { source_line = line; kind = kind; word = word; before = st.before; title = title; tokens = tokens } ∷ [] }
 
 -- a line with nothing behind its labels is no line of the expanded source
 abbrev pub with_other : ℕ → List Piece → WalkState → WalkState
 with_other line [] st = st
-with_other line (token ∷ tokens) st = with_line line lines.Other [] (token ∷ tokens) st
+with_other line (token ∷ tokens) st = with_line line lines.Other None [] (token ∷ tokens) st
 
--- a line by its word, with what is behind its labels
-abbrev pub placed : ℕ → Option Word → List Piece → WalkState → WalkState
-placed line None tokens st = with_other line tokens st
-placed line (Some words.Operation) tokens st = record (with_line line lines.Operation [] tokens st) { before = st.before + 1 }
-placed line (Some words.Org) tokens st = with_line line lines.Org [] tokens st
-placed line (Some words.End) tokens st = record (with_line line lines.End [] tokens st) { ended = true }
-placed line (Some words.Pin) tokens st = with_line line lines.Other [] tokens st
-placed line (Some words.Equ) tokens st = st
-placed line (Some words.For) tokens st = st
-placed line (Some words.Rof) tokens st = st
+-- an instruction
+abbrev pub with_instruction : ℕ → Word → List Piece → WalkState → WalkState
+with_instruction line word tokens st = record (with_line line lines.Operation (Some word) [] tokens st) { before = st.before + 1 }
+
+-- a line by its word, with the tokens from it on
+abbrev pub with_word : ℕ → Word → List Piece → WalkState → WalkState
+with_word line (words.Operation op) tokens st = with_instruction line (words.Operation op) tokens st
+with_word line words.Pspace tokens st = with_instruction line words.Pspace tokens st
+with_word line words.Org tokens st = with_line line lines.Org (Some words.Org) [] tokens st
+with_word line words.End tokens st = record (with_line line lines.End (Some words.End) [] tokens st) { ended = true }
+with_word line words.Pin tokens st = with_line line lines.Other (Some words.Pin) [] tokens st
+with_word line _ tokens st = st
+
+abbrev pub placed_by : ℕ → Option Word → List Piece → WalkState → WalkState
+placed_by line None tokens st = with_other line tokens st
+placed_by line (Some word) tokens st = with_word line word tokens st
+
+-- a line without its labels
+abbrev pub placed : SourceLine → WalkState → WalkState
+placed line st = placed_by line.number line.word (behind_labels line) st
 
 abbrev pub is_equ_word : Option Word → Bool
 is_equ_word (Some words.Equ) = true
-is_equ_word (Some words.Operation) = false
-is_equ_word (Some words.For) = false
-is_equ_word (Some words.Rof) = false
-is_equ_word (Some words.Org) = false
-is_equ_word (Some words.End) = false
-is_equ_word (Some words.Pin) = false
-is_equ_word None = false
+is_equ_word _ = false
 
--- a line by its word, with its labels and what is behind them
-abbrev pub worded : RawSettings → ℕ → Option Word → List (List ℕ) → List Piece → WalkState → Result WalkState AsmFault
-worded s line word labels tokens st =
-    if is_equ_word word then equated s line labels (drop 1 tokens) st else (labelled s line labels st >>= λ st. Ok (placed line word tokens st))
+-- a statement that counts
+abbrev pub worded : RawSettings → SourceLine → WalkState → Result WalkState AsmFault
+worded s line st =
+    if is_equ_word line.word then equated s line.number (labels_of line) (drop 1 line.tokens) st
+    else (labelled s line.number (labels_of line) st >>= λ st. Ok (placed line st))
 
--- a line that has tokens
-abbrev pub statement : RawSettings → ℕ → List Piece → WalkState → Result WalkState AsmFault
-statement s line tokens st = counted line st >>= worded s line (line_word tokens) (labels_of tokens) (behind_labels tokens)
+abbrev pub statement : RawSettings → SourceLine → WalkState → Result WalkState AsmFault
+statement s line st = counted line.number st >>= worded s line
 
--- a line that has a title
-abbrev pub titled : ℕ → LineKind → List ℕ → WalkState → Result WalkState AsmFault
-titled line kind title st = counted line st >>= λ st. Ok (with_line line kind title [] st)
+-- a line that counts, without a word
+abbrev pub lined : ℕ → LineKind → List ℕ → List Piece → WalkState → Result WalkState AsmFault
+lined line kind title tokens st = counted line st >>= λ st. Ok (with_line line kind None title tokens st)
 
--- an assertion
-abbrev pub asserted : ℕ → List Piece → WalkState → Result WalkState AsmFault
-asserted line tokens st = counted line st >>= λ st. Ok (with_line line lines.Assert [] tokens st)
+abbrev pub step_by : RawSettings → LineForm → SourceLine → WalkState → Result WalkState AsmFault
+step_by s forms.Statement line st = statement s line st
+step_by s forms.Assert line st = lined line.number lines.Assert [] line.tokens st
+step_by s forms.Name line st = lined line.number lines.Name line.title [] st
+step_by s forms.Author line st = lined line.number lines.Author line.title [] st
 
--- a line with these tokens
-abbrev pub step_by : RawSettings → ℕ → LineForm → List ℕ → List Piece → WalkState → Result WalkState AsmFault
-step_by s line forms.Statement title tokens st = statement s line tokens st
-step_by s line forms.Assert title tokens st = asserted line tokens st
-step_by s line forms.Name title tokens st = titled line lines.Name title st
-step_by s line forms.Author title tokens st = titled line lines.Author title st
+-- a line that makes no block
+abbrev pub step_as : RawSettings → SourceLine → WalkState → Result WalkState AsmFault
+step_as s line st = step_by s line.form line st
 
--- a line under these counters
+-- the same under these counters
 abbrev pub step : RawSettings → List Counter → SourceLine → WalkState → Result WalkState AsmFault
-step s counters line st = step_by s line.number line.form line.title (in_copies counters line.form line.tokens) st
+step s counters line st = step_as s (in_copies counters line) st
 
 -- ---- blocks
 
@@ -144,22 +149,19 @@ pub record Begun : Type 0 where
 abbrev pub begun_as : WalkState → List ℕ → ℕ → Begun
 begun_as st counter copies = record { state = st; counter = counter; copies = copies }
 
--- a FOR line with these labels and the tokens of this count
-abbrev pub begun_by : RawSettings → ℕ → List (List ℕ) → List Piece → WalkState → Result Begun AsmFault
-begun_by s line labels count st =
-    for_labels s line st.before labels st.names >>= λ found.
-    copies_of s line st.before found.0.equs count >>= λ n. Ok (begun_as (record st { names = found.0 }) found.1 n)
+-- a FOR line
+abbrev pub begun_of : RawSettings → SourceLine → WalkState → Result Begun AsmFault
+begun_of s line st =
+    for_labels s line.number st.before (labels_of line) st.names >>= λ found.
+    copies_of s line.number st.before found.0.equs (drop 1 line.tokens) >>= λ n. Ok (begun_as (record st { names = found.0 }) found.1 n)
 
-abbrev pub begun_of : RawSettings → ℕ → List Piece → WalkState → Result Begun AsmFault
-begun_of s line tokens st = begun_by s line (labels_of tokens) (drop 1 (behind_labels tokens)) st
-
--- a FOR line under these counters
+-- the same under these counters
 abbrev pub begun : RawSettings → List Counter → SourceLine → WalkState → Result Begun AsmFault
-begun s counters line st = begun_of s line.number (in_copies counters line.form line.tokens) st
+begun s counters line st = begun_of s (in_copies counters line) st
 
 -- a ROF line under these counters: its labels stand at the next instruction
 abbrev pub closed : RawSettings → List Counter → SourceLine → WalkState → Result WalkState AsmFault
-closed s counters line st = labelled s line.number (labels_of (in_copies counters line.form line.tokens)) st
+closed s counters line st = labelled s line.number (labels_of (in_copies counters line)) st
 
 -- behind an END nothing counts
 abbrev pub until_end : (WalkState → Result WalkState AsmFault) → WalkState → Result WalkState AsmFault
@@ -191,6 +193,8 @@ unmatched (rof ∷ rofs) st = Err (fault_at rof.0.number kinds.UnmatchedRof)
 -- all blocks of a source
 abbrev pub walk_all : RawSettings → Parsed → WalkState → Result WalkState AsmFault
 walk_all s source st = walk s [] source.0 st >>= until_end (unmatched source.1)
+
+-- ---- what the code keeps: no part of the definition
 
 -- what every state of the walk keeps: an instruction is a line that counts, and these are few
 pub record IsWalk (st : WalkState) : Type 0 where

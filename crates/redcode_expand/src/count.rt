@@ -4,12 +4,10 @@ ghost use Rattle.std.specs.Prelude.{◌≡◌, ◌<◌, ◌^◌, IfOk};
 ghost use Rattle.redcode_text.specs.Tokens.{pieces};
 ghost use Rattle.redcode_text.specs.Value.{value_of};
 ghost use Rattle.redcode_names.specs.Gives.{Gives};
-ghost use Rattle.redcode_names.specs.Name.{predefined};
 ghost use Rattle.redcode_expand.specs.Walk.{copies_of, count_by};
-ghost use Rattle.redcode_names.specs.Equ.{replaced};
 ghost use Rattle.redcode_expand.specs.Kept.{has_loose, CountIsFixed};
 
-use redcode_lines::{Part, is_name, tokens_of};
+use redcode_lines::is_name;
 use redcode_names::{Equs, is_loose, predefined, replaced};
 use redcode_text::{Names, Token, value};
 use std::alloc::Allocator;
@@ -48,31 +46,17 @@ pub(crate) fn copies_of<'s, A: Allocator + Copy>(
     line: u32,
     before: u32,
     equs: &Equs<'s, A>,
-    tokens: &[Part<'s, A>],
+    tokens: &[Token<'s>],
 ) -> Result<Copies, AsmFault>
-    ensures copies { Gives (λ c. c.count) result (copies_of settings.now line before equs.now tokens.now) }
+    ensures copies { Gives (λ c. c.count) result (copies_of settings.now line before equs.now (pieces tokens.now)) }
     ensures few { IfOk result (λ c. c.count < 2 ^ 63) }
-    ensures fixed { IfOk result (λ c. CountIsFixed settings.now line equs.now tokens.now c.is_fixed c.count) }
+    ensures fixed { IfOk result (λ c. CountIsFixed settings.now line equs.now (pieces tokens.now) c.is_fixed c.count) }
 {
     let replaced = replaced(alloc, equs, line, tokens)?;
-    let count = count_of(alloc, settings, line, before, replaced.as_slice())?;
-    let is_fixed = !has_loose(settings, replaced.as_slice());
+    let replaced = replaced.as_slice();
+    let count = counted(line, replaced, &Predefined { settings, before })?;
+    let is_fixed = !has_loose(settings, replaced);
     Ok(Copies { count, is_fixed })
-}
-
-/// How many copies a count without a name of an `EQU` asks for.
-fn count_of<A: Allocator + Copy>(
-    alloc: A,
-    settings: &Settings,
-    line: u32,
-    before: u32,
-    tokens: &[Part<'_, A>],
-) -> Result<u64, AsmFault>
-    ensures copies { Gives (λ n. n) result (count_by line (value_of (predefined settings.now before) tokens.now)) }
-    ensures few { IfOk result (λ n. n < 2 ^ 63) }
-{
-    let tokens = tokens_of(alloc, tokens)?;
-    counted(line, tokens.as_slice(), &Predefined { settings, before })
 }
 
 /// How many copies a count asks for by the values of names.
@@ -91,12 +75,12 @@ pub(crate) fn counted<N: Names>(line: u32, tokens: &[Token<'_>], names: &N) -> R
 }
 
 /// Whether a name among the tokens is not predefined, or its value changes from line to line.
-fn has_loose<A: Allocator>(settings: &Settings, tokens: &[Part<'_, A>]) -> bool
-    ensures { result ≡ has_loose settings.now tokens.now }
+fn has_loose(settings: &Settings, tokens: &[Token<'_>]) -> bool
+    ensures { result ≡ has_loose settings.now (pieces tokens.now) }
 {
     let mut rest = tokens;
     while let [first, behind @ ..] = rest {
-        if is_name(first) && is_loose(settings, first.text()) {
+        if is_name(first) && is_loose(settings, first.text) {
             return true;
         }
         rest = behind;

@@ -1,16 +1,18 @@
 //! The lines of a source written out.
 
-ghost use Rattle.std.specs.Prelude.{◌≡◌, ◌<◌, map, length, IfOk, Ok};
+ghost use Rattle.std.specs.Prelude.{◌≡◌, ◌<◌, map, length, IfOk, Ok, Err};
 ghost use Rattle.redcode_text.specs.Tokens.{pieces};
-ghost use Rattle.redcode_names.specs.Gives.{Gives};
-ghost use Rattle.redcode_expand.specs.Expansion.{expansion, address_of, line_of, title_at, tokens_at};
+ghost use Rattle.redcode_names.specs.Gives.{Gives, fault_at};
+ghost use Rattle.redcode_expand.specs.Laws.{AreCounted, BlocksAreWrittenOut};
+ghost use Rattle.war_types.specs.declared.fault.AsmKind.TheVariants.{SourceTooLong};
+ghost use Rattle.redcode_expand.specs.Expansion.{expansion, address_of, line_of, line_word_at, title_at, tokens_at};
 
 use crate::blocks::walk_all;
 use crate::entry::Entry;
-use redcode_copies::source_lines;
-use redcode_lines::{Line, live_source};
+use bumpalo::Bump;
+use redcode_lines::{Line, live_source, source_lines};
 use redcode_names::{Labels, NameHash};
-use redcode_text::Token;
+use redcode_text::{Token, Word};
 use std::alloc::{AllocError, Allocator};
 use std::marker::Model;
 use war_types::{AsmFault, AsmKind, Settings};
@@ -24,7 +26,7 @@ pub struct Expanded<'s, A: Allocator + Copy> {
     alloc: A,
     lines: Vec<Line, A>,
     entries: Vec<Entry<'s, A>, A>,
-    labels: Labels<A>,
+    labels: Labels<'s, A>,
 }
 
 impl<'s, A: Allocator + Copy> Model for Expanded<'s, A> {
@@ -47,13 +49,19 @@ impl<'s, A: Allocator + Copy> Model for Expanded<'s, A> {
 /// a reserved word in it, as `BadEqu`; the count of a `FOR`, as `EquLimit` where it has more than 512 tokens before or after one of
 /// 16 rounds of replacement, or the name of an `EQU` after the last, and as `ForCount` where it has no value. Then the first line
 /// whose operands have so many tokens, or such a name, as `EquLimit`. `Memory` stands only where a growth was refused.
+///
+/// What is made, the numbers of copies and the names that are joined to them, lies in the region.
 #[tactic(auto, unfolding(crate::specs::Expansion::expansion))]
 pub fn expand<'s, A: Allocator + Copy>(
     alloc: A,
+    region: &'s Bump<A>,
     source: &'s [u8],
     settings: &Settings,
 ) -> Result<Expanded<'s, A>, AsmFault>
-    ensures { Gives (λ expanded. expanded) result (expansion settings.now source.entry.now) }
+    ensures gives { Gives (λ expanded. expanded) result (expansion settings.now source.entry.now) }
+    ensures too_long { 65536 < length source.entry.now → result ≡ Err (fault_at 0 SourceTooLong) }
+    ensures written { BlocksAreWrittenOut settings.now }
+    ensures counted { IfOk result AreCounted }
 {
     if source.len() > SOURCE_LIMIT {
         return Err(AsmFault {
@@ -64,7 +72,7 @@ pub fn expand<'s, A: Allocator + Copy>(
     let (number, live) = live_source(source);
     let lines = source_lines(alloc, number, live)?;
     let hash = NameHash::of(source, settings);
-    walk_all(alloc, lines.as_slice(), settings, hash)?.finish()
+    walk_all(alloc, region, lines.as_slice(), settings, hash)?.finish()
 }
 
 impl<'s, A: Allocator + Copy> Expanded<'s, A> {
@@ -72,9 +80,9 @@ impl<'s, A: Allocator + Copy> Expanded<'s, A> {
     pub(crate) fn new(
         alloc: A,
         entries: Vec<Entry<'s, A>, A>,
-        labels: Labels<A>,
+        labels: Labels<'s, A>,
     ) -> Result<Expanded<'s, A>, AsmFault>
-        ensures { Gives (λ expanded. expanded) result (Ok (record { lines = entries.entry.items; labels = labels })) }
+        ensures { Gives (λ expanded. expanded) result (Ok (record { lines = entries.entry.items; labels = labels.entry })) }
     {
         let mut lines = Vec::new(alloc);
         for entry in entries.as_slice() {
@@ -111,13 +119,29 @@ impl<'s, A: Allocator + Copy> Expanded<'s, A> {
         self.entries[i].title()
     }
 
+    /// The word of a line, where it has one.
+    pub fn word(&self, i: usize) -> Option<Word>
+        requires { i < length self.now.lines }
+        ensures { result ≡ line_word_at self.now.lines i }
+    {
+        self.entries[i].word()
+    }
+
     /// The tokens of a line: of an operation, `ORG` or `END` from that word on, of an assertion all behind its word, of
     /// another line all behind its labels, of `;name` and `;author` none. In operands and expressions the names of `EQU`
-    /// lines are replaced. A comment at the end is left out, and each `at` is 0. An error is want of memory.
+    /// lines are replaced. A comment at the end is left out.
+    pub fn line_tokens(&self, i: usize) -> &[Token<'s>]
+        requires { i < length self.now.lines }
+        ensures { pieces result.now ≡ tokens_at self.now.lines i }
+    {
+        self.entries[i].tokens()
+    }
+
+    /// The same tokens. An error is want of memory.
     pub fn tokens(&self, i: usize) -> Result<Vec<Token<'_>, A>, AllocError>
         requires { i < length self.now.lines }
         ensures { IfOk result (λ tokens. pieces tokens.items ≡ tokens_at self.now.lines i) }
     {
-        self.entries[i].tokens(self.alloc)
+        Vec::from_slice(self.alloc, self.line_tokens(i))
     }
 }

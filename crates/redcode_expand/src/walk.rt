@@ -1,30 +1,21 @@
 //! The walk over the lines of a source.
 
-ghost use Rattle.std.specs.Prelude.{◌≡◌, ◌+◌, ◌<◌, ◌^◌, [], drop, Ok, OnOk, IfOk};
+ghost use Rattle.std.specs.Prelude.{◌≡◌, ◌+◌, ◌<◌, [], Ok, OnOk};
+ghost use Rattle.redcode_text.specs.Tokens.{pieces};
 ghost use Rattle.redcode_names.specs.Gives.{Gives};
-ghost use Rattle.redcode_lines.specs.Word.{behind_labels, may_label, names_among, taken_while};
-ghost use Rattle.redcode_names.specs.Name.{all_defined};
+ghost use Rattle.redcode_lines.specs.Line.{labels_of};
+ghost use Rattle.redcode_lines.specs.Views.{line_read};
 ghost use Rattle.redcode_expand.specs.Expansion.{finished};
 ghost use Rattle.redcode_expand.specs.Rest.{counters_of};
-ghost use Rattle.redcode_expand.specs.Kept.{CountIsFixed};
-ghost use Rattle.redcode_copies.specs.Counter.{in_copies};
-ghost use Rattle.redcode_copies.specs.Long.{IsLong};
-ghost use Rattle.redcode_copies.specs.declared.source_line.LineForm.TheVariants.{Statement};
-ghost use Rattle.redcode_expand.specs.Long.{long_assertion, long_statement, passed, with_copy};
-ghost use Rattle.redcode_expand.specs.Walk.{walk_begin, begun, begun_as, closed, copied, counted, labelled, with_line, placed, statement, titled, step, step_by, IsCopied};
+ghost use Rattle.redcode_expand.specs.Walk.{walk_begin, closed, copied, counted, labelled, with_line, placed, statement, lined, step, step_as, IsCopied};
 
-use crate::count::copies_of;
 use crate::entry::Entry;
 use crate::expanded::Expanded;
-use crate::found::Found;
-use crate::long_line::LongLine;
 use crate::open_blocks::OpenBlocks;
 use crate::replace::replace_all;
-use redcode_copies::{LineForm, SourceLine};
-use redcode_lines::{
-    Line, LineKind, Part, Word, behind_first, behind_labels, line_word, unplaced_parts,
-};
+use redcode_lines::{Line, LineForm, LineKind, Reading, behind_first};
 use redcode_names::{Equs, NameHash, Names};
+use redcode_text::{Token, Word};
 use std::alloc::Allocator;
 use std::marker::Model;
 use war_types::{AsmFault, AsmKind, Settings};
@@ -32,24 +23,14 @@ use war_types::{AsmFault, AsmKind, Settings};
 /// Lines that may count.
 const LINE_LIMIT: u32 = 4096;
 
-/// How a block begins.
-#[derive(Drop)]
-pub(crate) struct Begun<A: Allocator> {
-    /// The counter's name, empty where there is none.
-    pub counter: Vec<u8, A>,
-    pub copies: u64,
-    /// Whether the count asks for so many on every line, and whatever EQUs there are later.
-    pub is_fixed: bool,
-}
-
 /// How far the walk has come.
 #[derive(Drop)]
 pub(crate) struct Walk<'s, A: Allocator + Copy> {
-    alloc: A,
+    pub alloc: A,
     counted: u32,
-    before: u32,
-    names: Names<'s, A>,
-    entries: Vec<Found<'s, A>, A>,
+    pub before: u32,
+    pub names: Names<'s, A>,
+    entries: Vec<Entry<'s, A>, A>,
     ended: bool,
 }
 
@@ -110,90 +91,28 @@ impl<'s, A: Allocator + Copy> Walk<'s, A> {
     pub(crate) fn step(
         &mut self,
         settings: &Settings,
-        blocks: &OpenBlocks<A>,
-        line: &SourceLine<'s, A>,
+        blocks: &OpenBlocks<'s, A>,
+        line: Reading<'_, 's>,
     ) -> Result<(), AsmFault>
-        ensures step { Gives (λ _. self.new) result (step settings.now (counters_of blocks.now) line.now self.old) }
+        ensures step { Gives (λ _. self.new) result (step settings.now (counters_of blocks.now) (line_read line.entry) self.old) }
         ensures counted { OnOk result ((self.new.counted ≡ self.old.counted + 1) × (self.old.counted < 4096)) }
     {
-        if let Some(kind) = line.long_kind() {
-            return self.long(settings, blocks, line, kind);
-        }
-        let tokens = blocks.tokens_of(line)?;
-        let tokens = tokens.as_slice();
-        self.step_by(settings, line.number(), line.form(), line.title(), tokens)
-    }
-
-    /// Walks over a line that has these tokens.
-    fn step_by(
-        &mut self,
-        settings: &Settings,
-        number: u32,
-        form: LineForm,
-        title: &'s [u8],
-        tokens: &[Part<'s, A>],
-    ) -> Result<(), AsmFault>
-        ensures step { Gives (λ _. self.new) result (step_by settings.now number form title.entry.now tokens.entry.now self.old) }
-        ensures counted { OnOk result ((self.new.counted ≡ self.old.counted + 1) × (self.old.counted < 4096)) }
-    {
-        match form {
-            LineForm::Statement => self.statement(settings, number, tokens),
-            LineForm::Assert => {
-                self.count(number)?;
-                self.push(number, LineKind::Assert, b"", tokens)
-            }
-            LineForm::Name => self.titled(number, LineKind::Name, title),
-            LineForm::Author => self.titled(number, LineKind::Author, title),
+        match blocks.copy_of(line)? {
+            Some(copy) => self.step_as(settings, copy.reading(line)),
+            None => self.step_as(settings, line),
         }
     }
 
-    /// Walks over the `FOR` of a block: its labels and its count.
-    pub(crate) fn begin(
-        &mut self,
-        settings: &Settings,
-        blocks: &OpenBlocks<A>,
-        line: &SourceLine<'s, A>,
-    ) -> Result<Begun<A>, AsmFault>
-        ensures begun { Gives (λ b. begun_as self.new b.counter.items b.copies) result (begun settings.now (counters_of blocks.now) line.now self.old) }
-        ensures goes_on { OnOk result (self.new.ended ≡ self.old.ended) }
-        ensures counted { OnOk result (self.new.counted ≡ self.old.counted) }
-        ensures few { IfOk result (λ b. b.copies < 2 ^ 63) }
-        ensures fixed { let tokens = in_copies (counters_of blocks.now) line.now.form line.now.tokens in
-            IfOk result (λ b. CountIsFixed settings.now line.now.number self.new.names.equs (drop 1 (behind_labels tokens)) b.is_fixed b.copies) }
+    /// Walks over a line as it reads.
+    fn step_as(&mut self, settings: &Settings, line: Reading<'_, 's>) -> Result<(), AsmFault>
+        ensures step { Gives (λ _. self.new) result (step_as settings.now (line_read line.entry) self.old) }
+        ensures counted { OnOk result ((self.new.counted ≡ self.old.counted + 1) × (self.old.counted < 4096)) }
     {
-        let tokens = blocks.tokens_of(line)?;
-        let number = line.number();
-        let word = line_word(tokens.as_slice());
-        let before = self.before;
-        let label = self
-            .names
-            .define_earlier(settings, number, before, word, tokens.as_slice())?;
-        let counter = Vec::from_slice(self.alloc, label)?;
-        let operands = behind_first(behind_labels(tokens.as_slice(), word));
-        let copies = copies_of(
-            self.alloc,
-            settings,
-            number,
-            before,
-            &self.names.equs,
-            operands,
-        )?;
-        Ok(Begun {
-            counter,
-            copies: copies.count,
-            is_fixed: copies.is_fixed,
-        })
-    }
-
-    /// How a block begins that has no counter's name, and so many copies on every line.
-    pub(crate) fn begun_by(&self, copies: u64) -> Begun<A>
-        ensures counter { result.counter.items ≡ [] }
-        ensures copies { result.copies ≡ copies }
-    {
-        Begun {
-            counter: Vec::new(self.alloc),
-            copies,
-            is_fixed: true,
+        match line.form {
+            LineForm::Statement => self.statement(settings, line),
+            LineForm::Assert => self.lined(line.number, LineKind::Assert, b"", line.tokens),
+            LineForm::Name => self.lined(line.number, LineKind::Name, line.title, &[]),
+            LineForm::Author => self.lined(line.number, LineKind::Author, line.title, &[]),
         }
     }
 
@@ -201,15 +120,16 @@ impl<'s, A: Allocator + Copy> Walk<'s, A> {
     pub(crate) fn close(
         &mut self,
         settings: &Settings,
-        blocks: &OpenBlocks<A>,
-        line: &SourceLine<'s, A>,
+        blocks: &OpenBlocks<'s, A>,
+        line: Reading<'_, 's>,
     ) -> Result<(), AsmFault>
-        ensures closed { Gives (λ _. self.new) result (closed settings.now (counters_of blocks.now) line.now self.old) }
+        ensures closed { Gives (λ _. self.new) result (closed settings.now (counters_of blocks.now) (line_read line.entry) self.old) }
         ensures counted { self.new.counted ≡ self.old.counted }
     {
-        let tokens = blocks.tokens_of(line)?;
-        let tokens = tokens.as_slice();
-        self.label(settings, line.number(), line_word(tokens), tokens)
+        match blocks.copy_of(line)? {
+            Some(copy) => self.label(settings, copy.reading(line)),
+            None => self.label(settings, line),
+        }
     }
 
     /// Ends a copy that began with so many lines counted: it counts where nothing in it did.
@@ -234,61 +154,62 @@ impl<'s, A: Allocator + Copy> Walk<'s, A> {
         Expanded::new(self.alloc, lines, names.labels)
     }
 
-    fn titled(&mut self, number: u32, kind: LineKind, text: &'s [u8]) -> Result<(), AsmFault>
-        ensures { Gives (λ _. self.new) result (titled number kind text.entry.now self.old) }
+    /// A line that counts, without a word.
+    fn lined(
+        &mut self,
+        number: u32,
+        kind: LineKind,
+        title: &'s [u8],
+        tokens: &[Token<'s>],
+    ) -> Result<(), AsmFault>
+        ensures lined { Gives (λ _. self.new) result (lined number kind title.entry.now (pieces tokens.now) self.old) }
+        ensures counted { OnOk result ((self.new.counted ≡ self.old.counted + 1) × (self.old.counted < 4096)) }
     {
         self.count(number)?;
-        self.push(number, kind, text, &[])
+        self.push(number, kind, None, title, tokens)
     }
 
     /// A line that has tokens.
-    fn statement(
-        &mut self,
-        settings: &Settings,
-        number: u32,
-        tokens: &[Part<'s, A>],
-    ) -> Result<(), AsmFault>
-        ensures { Gives (λ _. self.new) result (statement settings.now number tokens.entry.now self.old) }
+    fn statement(&mut self, settings: &Settings, line: Reading<'_, 's>) -> Result<(), AsmFault>
+        ensures statement { Gives (λ _. self.new) result (statement settings.now (line_read line.entry) self.old) }
+        ensures counted { OnOk result ((self.new.counted ≡ self.old.counted + 1) × (self.old.counted < 4096)) }
     {
-        let word = line_word(tokens);
-        self.count(number)?;
-        let behind = behind_labels(tokens, word);
-        if matches!(word, Some(Word::Equ)) {
+        self.count(line.number)?;
+        if matches!(line.word, Some(Word::Equ)) {
             let before = self.before;
-            let body = behind_first(behind);
+            let body = behind_first(line.tokens);
             return self
                 .names
-                .equate_line(settings, number, before, word, tokens, body);
+                .equate_line(settings, line.number, before, line.labels(), body);
         }
-        self.label(settings, number, word, tokens)?;
-        self.place(number, word, behind)
+        self.label(settings, line)?;
+        self.place(line)
     }
 
-    /// A line by its word, with what is behind its labels.
-    fn place(
-        &mut self,
-        number: u32,
-        word: Option<Word>,
-        tokens: &[Part<'s, A>],
-    ) -> Result<(), AsmFault>
+    /// A line without its labels.
+    fn place(&mut self, line: Reading<'_, 's>) -> Result<(), AsmFault>
         requires { self.old.before < self.old.counted }
-        ensures { Gives (λ _. self.new) result (Ok (placed number word tokens.entry.now self.old)) }
+        ensures placed { Gives (λ _. self.new) result (Ok (placed (line_read line.entry) self.old)) }
+        ensures counted { self.new.counted ≡ self.old.counted }
     {
+        let number = line.number;
+        let word = line.word;
+        let tokens = line.behind_labels();
         match word {
-            Some(Word::Operation) => {
-                self.push(number, LineKind::Operation, b"", tokens)?;
+            Some(Word::Operation(_) | Word::Pspace) => {
+                self.push(number, LineKind::Operation, word, b"", tokens)?;
                 self.before += 1;
             }
-            Some(Word::Org) => self.push(number, LineKind::Org, b"", tokens)?,
+            Some(Word::Org) => self.push(number, LineKind::Org, word, b"", tokens)?,
             Some(Word::End) => {
-                self.push(number, LineKind::End, b"", tokens)?;
+                self.push(number, LineKind::End, word, b"", tokens)?;
                 self.ended = true;
             }
-            Some(Word::Pin) => self.push(number, LineKind::Other, b"", tokens)?,
+            Some(Word::Pin) => self.push(number, LineKind::Other, word, b"", tokens)?,
             Some(Word::Equ | Word::For | Word::Rof) => {}
             None => {
                 if !tokens.is_empty() {
-                    self.push(number, LineKind::Other, b"", tokens)?;
+                    self.push(number, LineKind::Other, None, b"", tokens)?;
                 }
             }
         }
@@ -311,20 +232,14 @@ impl<'s, A: Allocator + Copy> Walk<'s, A> {
     }
 
     /// The labels of a line, at the next instruction.
-    fn label(
-        &mut self,
-        settings: &Settings,
-        number: u32,
-        word: Option<Word>,
-        tokens: &[Part<'s, A>],
-    ) -> Result<(), AsmFault>
-        ensures labelled { Gives (λ _. self.new) result (labelled settings.now number (names_among (taken_while (may_label word) tokens.entry.now)) self.old) }
+    fn label(&mut self, settings: &Settings, line: Reading<'_, 's>) -> Result<(), AsmFault>
+        ensures labelled { Gives (λ _. self.new) result (labelled settings.now line.entry.number (labels_of (line_read line.entry)) self.old) }
         ensures before { self.new.before ≡ self.old.before }
         ensures counted { self.new.counted ≡ self.old.counted }
     {
         let address = self.before;
         self.names
-            .define_all(settings, number, address, word, tokens)
+            .define_all(settings, line.number, address, line.labels())
     }
 
     /// A further line of the expanded source.
@@ -332,110 +247,25 @@ impl<'s, A: Allocator + Copy> Walk<'s, A> {
         &mut self,
         number: u32,
         kind: LineKind,
+        word: Option<Word>,
         title: &'s [u8],
-        tokens: &[Part<'s, A>],
+        tokens: &[Token<'s>],
     ) -> Result<(), AsmFault>
-        ensures pushed { Gives (λ _. self.new) result (Ok (with_line number kind title.entry.now tokens.entry.now self.old)) }
+        ensures pushed { Gives (λ _. self.new) result (Ok (with_line number kind word title.entry.now (pieces tokens.now) self.old)) }
+        ensures counted { self.new.counted ≡ self.old.counted }
     {
         let line = Line {
             source_line: number,
             kind,
             before: self.before,
         };
-        let tokens = unplaced_parts(self.alloc, tokens)?;
-        self.entries.push(Found::kept(Entry {
+        let tokens = Vec::from_slice(self.alloc, tokens)?;
+        self.entries.push(Entry {
             line,
+            word,
             title,
             tokens,
-        }))?;
+        })?;
         Ok(())
-    }
-
-    /// A line that is long, of this kind: what is kept of it needs none of its tokens.
-    fn long(
-        &mut self,
-        settings: &Settings,
-        blocks: &OpenBlocks<A>,
-        line: &SourceLine<'s, A>,
-        kind: LineKind,
-    ) -> Result<(), AsmFault>
-        requires { IsLong line.now.form line.now.tokens kind }
-        ensures step { Gives (λ _. self.new) result (step settings.now (counters_of blocks.now) line.now self.old) }
-        ensures counted { OnOk result ((self.new.counted ≡ self.old.counted + 1) × (self.old.counted < 4096)) }
-    {
-        match line.form() {
-            LineForm::Statement => self.long_statement(settings, blocks, line, kind),
-            LineForm::Assert | LineForm::Name | LineForm::Author => {
-                self.long_assertion(blocks, line, kind)
-            }
-        }
-    }
-
-    /// A statement that is long: its labels are those that it has in the source.
-    fn long_statement(
-        &mut self,
-        settings: &Settings,
-        blocks: &OpenBlocks<A>,
-        line: &SourceLine<'s, A>,
-        kind: LineKind,
-    ) -> Result<(), AsmFault>
-        requires form { line.now.form ≡ Statement }
-        requires long { IsLong line.now.form line.now.tokens kind }
-        ensures step { Gives (λ _. self.new) result (long_statement settings.now (counters_of blocks.now) line.now kind self.old) }
-        ensures counted { OnOk result ((self.new.counted ≡ self.old.counted + 1) × (self.old.counted < 4096)) }
-    {
-        let number = line.number();
-        self.count(number)?;
-        self.label(settings, number, line.word(), line.tokens())?;
-        self.push_long(blocks, line, kind)?;
-        self.pass(kind);
-        Ok(())
-    }
-
-    /// An assertion that is long.
-    fn long_assertion(
-        &mut self,
-        blocks: &OpenBlocks<A>,
-        line: &SourceLine<'s, A>,
-        kind: LineKind,
-    ) -> Result<(), AsmFault>
-        requires { IsLong line.now.form line.now.tokens kind }
-        ensures step { Gives (λ _. self.new) result (long_assertion (counters_of blocks.now) line.now kind self.old) }
-        ensures counted { OnOk result ((self.new.counted ≡ self.old.counted + 1) × (self.old.counted < 4096)) }
-    {
-        self.count(line.number())?;
-        self.push_long(blocks, line, kind)
-    }
-
-    /// A further line of the expanded source, which is long.
-    fn push_long(
-        &mut self,
-        blocks: &OpenBlocks<A>,
-        line: &SourceLine<'s, A>,
-        kind: LineKind,
-    ) -> Result<(), AsmFault>
-        requires { IsLong line.now.form line.now.tokens kind }
-        ensures pushed { Gives (λ _. self.new) result (Ok (with_copy (counters_of blocks.now) line.now kind self.old)) }
-    {
-        let place = Line {
-            source_line: line.number(),
-            kind,
-            before: self.before,
-        };
-        self.entries
-            .push(Found::long(LongLine::new(place, line, blocks)))?;
-        Ok(())
-    }
-
-    /// Goes on behind a line of this kind.
-    fn pass(&mut self, kind: LineKind)
-        requires { self.old.before < self.old.counted }
-        ensures { self.new ≡ passed kind self.old }
-    {
-        match kind {
-            LineKind::Operation => self.before += 1,
-            LineKind::End => self.ended = true,
-            _ => {}
-        }
     }
 }

@@ -1,3 +1,4 @@
 mod Lines
 pub mod Readings
-mod Words
+pub mod SourceLines
+pub mod Pairs

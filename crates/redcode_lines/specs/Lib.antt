@@ -1,3 +1,12 @@
+-- the lines of a source, and its directives
 pub mod Source
-pub mod Word
+-- how a line is read
+pub mod Line
+-- the blocks that lines make
+pub mod Block
+-- which tokens of an expanded line are operands
 pub mod Operand
+-- what the code keeps of a line that is too long
+pub mod Capped
+-- what a contract sees of a line in memory
+pub mod Views

@@ -3,7 +3,7 @@ use Rattle.std.specs.Prelude.{if◌then◌else◌, List, [], ◌∷◌, drop, co
 use Rattle.redcode_text.specs.Tokens.{Piece}
 use Rattle.redcode_lines.specs.declared.line.LineKind.{LineKind}
 use Rattle.redcode_lines.specs.declared.line.LineKind.TheVariants as lines
-use Rattle.redcode_lines.specs.Word.{has_text}
+use Rattle.redcode_lines.specs.Line.{has_text}
 
 -- behind an operation, a dot and the modifier's name that follows it
 abbrev pub behind_modifier : List Piece → List Piece
@@ -16,6 +16,4 @@ operands_of lines.Operation tokens = behind_modifier (drop 1 tokens)
 operands_of lines.Org tokens = drop 1 tokens
 operands_of lines.End tokens = drop 1 tokens
 operands_of lines.Assert tokens = tokens
-operands_of lines.Name tokens = []
-operands_of lines.Author tokens = []
-operands_of lines.Other tokens = []
+operands_of _ tokens = []

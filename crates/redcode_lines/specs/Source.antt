@@ -1,9 +1,9 @@
 -- The lines of a source, and its directives.
-use Rattle.std.specs.Prelude.{ℕ, ◌+◌, Bool, true, false, ◌&&◌, ◌==◌, if◌then◌else◌, List, [], ◌∷◌, map, take, drop, length, Option, Some, None, codes}
+use Rattle.std.specs.Prelude.{ℕ, ◌+◌, Bool, true, false, ◌&&◌, ◌==◌, if◌then◌else◌, List, [], ◌∷◌, take, drop, length, Option, Some, None, codes}
 use Rattle.std.specs.Borrow.{Bor}
-use Rattle.std.specs.Char.{to_ascii_lowercase}
-use Rattle.std.specs.Str.{bytes_eq}
+use Rattle.std.specs.Option.{unwrap_or}
 use Rattle.war_types.specs.Title.{is_blank, after_blanks}
+use Rattle.redcode_text.specs.Vocabulary.{is_word}
 use Rattle.redcode_lines.specs.declared.directive.Directive.{Directive}
 use Rattle.redcode_lines.specs.declared.directive.Directive.TheVariants as directives
 
@@ -28,10 +28,6 @@ lines_of (b ∷ bs) = if b == 10 then [] ∷ lines_of bs else onto_first b (line
 abbrev pub numbered_from : ℕ → List (List ℕ) → List NumberedLine
 numbered_from n [] = []
 numbered_from n (line ∷ lines) = record { number = n; text = line } ∷ numbered_from (n + 1) lines
-
--- the same word in whatever letter case
-abbrev pub is_word : List ℕ → List ℕ → Bool
-is_word word text = bytes_eq (map to_ascii_lowercase text) (map to_ascii_lowercase word)
 
 abbrev pub is_blank_or_end : List ℕ → Bool
 is_blank_or_end [] = true
@@ -67,16 +63,8 @@ abbrev pub seen : Directive × Bor (List ℕ) → Directive × List ℕ
 seen found = (found.0, found.1.now)
 
 abbrev pub is_redcode : Option (Directive × List ℕ) → Bool
-is_redcode None = false
 is_redcode (Some (directives.Redcode, text)) = true
-is_redcode (Some (directives.Name, text)) = false
-is_redcode (Some (directives.Author, text)) = false
-is_redcode (Some (directives.Assert, text)) = false
-is_redcode (Some (directives.Remark, text)) = false
-
-abbrev pub option_or : {X : Type 0} → Option X → X → X
-option_or (Some x) other = x
-option_or None other = other
+is_redcode _ = false
 
 -- from the first ;redcode line on
 abbrev pub redcode_on : List NumberedLine → Option (List NumberedLine)
@@ -85,4 +73,4 @@ redcode_on (line ∷ lines) = if is_redcode (directive_of line.text) then Some (
 
 -- the lines that count: where there is a ;redcode line, all before the first one is ignored
 abbrev pub live_lines : List ℕ → List NumberedLine
-live_lines source = option_or (redcode_on (numbered_from 1 (lines_of source))) (numbered_from 1 (lines_of source))
+live_lines source = unwrap_or (redcode_on (numbered_from 1 (lines_of source))) (numbered_from 1 (lines_of source))

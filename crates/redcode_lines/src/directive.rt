@@ -2,10 +2,10 @@
 
 ghost use Rattle.std.specs.Prelude.{◌≡◌, ◌≤◌, length, drop, IfSome};
 ghost use Rattle.std.specs.Option.{option_map};
-ghost use Rattle.war_types.specs.Title.{is_blank, after_blanks};
+ghost use Rattle.war_types.specs.Title.{after_blanks};
 ghost use Rattle.redcode_lines.specs.Source.{begins, begins_alone, directive_of, is_redcode, remark_of, seen};
 
-use crate::word::is_word;
+use redcode_text::{is_blank, is_word};
 
 /// What a line is that begins with a semicolon.
 #[derive(Clone, Copy, Debug, PartialEq, Eq)]
@@ -96,11 +96,4 @@ fn after_blanks(text: &[u8]) -> &[u8]
         rest = behind;
     }
     rest
-}
-
-/// A space, a tab or a carriage return.
-fn is_blank(byte: u8) -> bool
-    ensures { result ≡ is_blank byte }
-{
-    byte == b' ' || byte == b'\t' || byte == b'\r'
 }

@@ -1,19 +1,16 @@
 //! The operands of a line.
 
 ghost use Rattle.std.specs.Prelude.{◌≡◌, ◌≤◌, drop, length};
+ghost use Rattle.redcode_text.specs.Tokens.{pieces};
 ghost use Rattle.redcode_lines.specs.Operand.{operands_of, behind_modifier};
 
 use crate::line::LineKind;
-use crate::part::Part;
 use crate::reading::has_text;
-use std::alloc::Allocator;
+use redcode_text::Token;
 
 /// The tokens of a line that are operands, or an expression.
-pub fn operands_of<'t, 's, A: Allocator>(
-    kind: LineKind,
-    tokens: &'t [Part<'s, A>],
-) -> &'t [Part<'s, A>]
-    ensures operands { result.now ≡ operands_of kind tokens.entry.now }
+pub fn operands_of<'t, 's>(kind: LineKind, tokens: &'t [Token<'s>]) -> &'t [Token<'s>]
+    ensures operands { pieces result.now ≡ operands_of kind (pieces tokens.entry.now) }
     ensures short { length result.now ≤ length tokens.entry.now }
 {
     match kind {
@@ -25,8 +22,8 @@ pub fn operands_of<'t, 's, A: Allocator>(
 }
 
 /// Behind an operation, a dot and the modifier's name that follows it.
-fn behind_modifier<'t, 's, A: Allocator>(tokens: &'t [Part<'s, A>]) -> &'t [Part<'s, A>]
-    ensures behind { result.now ≡ behind_modifier tokens.entry.now }
+fn behind_modifier<'t, 's>(tokens: &'t [Token<'s>]) -> &'t [Token<'s>]
+    ensures behind { pieces result.now ≡ behind_modifier (pieces tokens.entry.now) }
     ensures short { length result.now ≤ length tokens.entry.now }
 {
     match tokens {
@@ -36,8 +33,8 @@ fn behind_modifier<'t, 's, A: Allocator>(tokens: &'t [Part<'s, A>]) -> &'t [Part
 }
 
 /// The tokens without the first.
-pub fn behind_first<T>(tokens: &[T]) -> &[T]
-    ensures behind { result.now ≡ drop 1 tokens.entry.now }
+pub fn behind_first<'t, 's>(tokens: &'t [Token<'s>]) -> &'t [Token<'s>]
+    ensures behind { pieces result.now ≡ drop 1 (pieces tokens.entry.now) }
     ensures short { length result.now ≤ length tokens.entry.now }
 {
     match tokens {

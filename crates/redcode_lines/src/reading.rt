@@ -1,39 +1,94 @@
-//! How a line is read: its labels, its word, and what is behind.
+//! How a line is read: its labels, its word, and what is behind them.
 
 ghost use Rattle.std.specs.Prelude.{◌≡◌, ◌≤◌, length};
-ghost use Rattle.redcode_text.specs.Tokens.{pieces};
-ghost use Rattle.redcode_lines.specs.Word.{word_at, is_front, first_word, dropped_while, line_word, may_label, behind_labels, without_comment, is_no_comment, is_name, is_comment, has_text};
+ghost use Rattle.redcode_text.specs.Tokens.{piece_of, pieces};
+ghost use Rattle.redcode_lines.specs.Line.{behind_labels, dropped_while, has_text, is_name, is_name_token, is_no_comment, labels_of, line_word, names_among, tokens_from_word, word_at};
+ghost use Rattle.redcode_lines.specs.Capped.{has_and};
+ghost use Rattle.redcode_lines.specs.Views.{line_read};
 
-use crate::part::Part;
-use crate::word::{Word, word_of};
-use redcode_text::{Token, TokenKind};
-use std::alloc::Allocator;
+use redcode_text::{Token, TokenKind, Word, word_of};
 
-/// The word of a line: its first reserved word, where names, `&` and `:` alone stand before it.
-pub fn line_word<A: Allocator>(tokens: &[Part<'_, A>]) -> Option<Word>
-    ensures { result ≡ line_word tokens.now }
+/// What a line of the source is.
+#[derive(Clone, Copy, Debug, PartialEq, Eq)]
+pub enum LineForm {
+    /// Labels and what stands behind them.
+    Statement,
+    /// `;assert`.
+    Assert,
+    /// `;name`.
+    Name,
+    /// `;author`.
+    Author,
+}
+
+/// How a line reads, in the source or in a copy of a block.
+#[derive(Clone, Copy, Debug)]
+pub struct Reading<'l, 's> {
+    /// Its number in the source, counted from 1.
+    pub number: u32,
+    pub form: LineForm,
+    /// The word of a statement.
+    pub word: Option<Word>,
+    /// Of a name or an author the text behind that word.
+    pub title: &'s [u8],
+    /// Of a statement with a word the tokens before it.
+    pub front: &'l [Token<'s>],
+    /// Of a statement the other tokens, from its word on; of an assertion those behind its word.
+    pub tokens: &'l [Token<'s>],
+}
+
+impl<'l, 's> Reading<'l, 's> {
+    /// The tokens whose names are its labels.
+    pub fn labels(&self) -> &'l [Token<'s>]
+        ensures { names_among (pieces result.now) ≡ labels_of (line_read self.now) }
+    {
+        match self.word {
+            Some(_) => self.front,
+            None => {
+                let behind = behind_names(self.tokens);
+                &self.tokens[..self.tokens.len() - behind.len()]
+            }
+        }
+    }
+
+    /// What is behind its labels: from the word on, or behind the names at the front of a line without one.
+    pub fn behind_labels(&self) -> &'l [Token<'s>]
+        ensures { pieces result.now ≡ behind_labels (line_read self.now) }
+    {
+        match self.word {
+            Some(_) => self.tokens,
+            None => behind_names(self.tokens),
+        }
+    }
+}
+
+/// The word of a statement of these tokens, and the tokens from it on; all tokens where there is no word.
+pub(crate) fn from_word<'t, 's>(tokens: &'t [Token<'s>]) -> (Option<Word>, &'t [Token<'s>])
+    ensures word { result.0 ≡ line_word (pieces tokens.entry.now) }
+    ensures from { pieces result.1.now ≡ tokens_from_word (pieces tokens.entry.now) }
+    ensures short { length result.1.now ≤ length tokens.entry.now }
 {
     let mut rest = tokens;
     while let [first, behind @ ..] = rest {
-        if !is_front(first) {
-            return word_at(first);
+        if let Some(word) = word_at(first) {
+            return (Some(word), rest);
+        }
+        if !is_name(first) && !has_text(first, b"&") && !has_text(first, b":") {
+            break;
         }
         rest = behind;
     }
-    None
+    (None, tokens)
 }
 
-/// What is behind the labels of a line with this word: from the word on, or behind the names at the front of a line
-/// without one.
-pub fn behind_labels<'t, 's, A: Allocator>(
-    tokens: &'t [Part<'s, A>],
-    word: Option<Word>,
-) -> &'t [Part<'s, A>]
-    ensures { result.now ≡ dropped_while (may_label word) tokens.entry.now }
+/// From the first token on that is no name.
+pub fn behind_names<'t, 's>(tokens: &'t [Token<'s>]) -> &'t [Token<'s>]
+    ensures behind { pieces result.now ≡ dropped_while is_name_token (pieces tokens.entry.now) }
+    ensures short { length result.now ≤ length tokens.entry.now }
 {
     let mut rest = tokens;
     while let [first, behind @ ..] = rest {
-        if !may_label(word, first) {
+        if !is_name(first) {
             break;
         }
         rest = behind;
@@ -41,75 +96,56 @@ pub fn behind_labels<'t, 's, A: Allocator>(
     rest
 }
 
-/// Whether a token may stand among the labels of a line with this word.
-pub fn may_label<A: Allocator>(word: Option<Word>, token: &Part<'_, A>) -> bool
-    ensures { result ≡ may_label word token.now }
-{
-    match word {
-        Some(_) => is_front(token),
-        None => is_name(token),
-    }
-}
-
-/// Whether a token may stand before a word: a name that is none, `&` or `:`.
-pub fn is_front<A: Allocator>(token: &Part<'_, A>) -> bool
-    ensures { result ≡ is_front token.now }
-{
-    is_name(token) && word_of(token.text()).is_none()
-        || has_text(token, b"&")
-        || has_text(token, b":")
-}
-
 /// The reserved word that a token is.
-pub fn word_at<A: Allocator>(token: &Part<'_, A>) -> Option<Word>
-    ensures { result ≡ word_at token.now }
+pub fn word_at(token: &Token<'_>) -> Option<Word>
+    ensures { result ≡ word_at (piece_of token.now) }
 {
     if is_name(token) {
-        word_of(token.text())
+        word_of(token.text)
     } else {
         None
     }
 }
 
 /// Whether a token is a name.
-pub fn is_name<A: Allocator>(token: &Part<'_, A>) -> bool
-    ensures { result ≡ is_name token.now.kind }
+pub fn is_name(token: &Token<'_>) -> bool
+    ensures { result ≡ is_name_token (piece_of token.now) }
 {
-    matches!(token.kind(), TokenKind::Name)
+    matches!(token.kind, TokenKind::Name)
 }
 
 /// Whether the token is spelled so.
-pub fn has_text<A: Allocator>(token: &Part<'_, A>, text: &[u8]) -> bool
-    ensures { result ≡ has_text text.now token.now }
+pub fn has_text(token: &Token<'_>, text: &[u8]) -> bool
+    ensures { result ≡ has_text text.now (piece_of token.now) }
 {
-    token.text() == text
+    token.text == text
 }
 
-/// The tokens of a line without the comment at its end.
-pub fn without_comment<'t, 'l>(tokens: &'t [Token<'l>]) -> &'t [Token<'l>]
-    ensures { pieces result.now ≡ without_comment (pieces tokens.entry.now) }
+/// Whether an `&` is among the tokens.
+pub fn has_and(tokens: &[Token<'_>]) -> bool
+    ensures { result ≡ has_and (pieces tokens.now) }
 {
-    let comment = comment_at_end(tokens);
-    &tokens[..tokens.len() - comment.len()]
+    let mut rest = tokens;
+    while let [first, behind @ ..] = rest {
+        if has_text(first, b"&") {
+            return true;
+        }
+        rest = behind;
+    }
+    false
 }
 
 /// From the first comment on.
-fn comment_at_end<'t, 'l>(tokens: &'t [Token<'l>]) -> &'t [Token<'l>]
+pub(crate) fn comment_at_end<'t, 'l>(tokens: &'t [Token<'l>]) -> &'t [Token<'l>]
     ensures comment { pieces result.now ≡ dropped_while is_no_comment (pieces tokens.entry.now) }
     ensures short { length result.now ≤ length tokens.entry.now }
 {
     let mut rest = tokens;
     while let [first, behind @ ..] = rest {
-        if is_comment(first) {
+        if matches!(first.kind, TokenKind::Comment) {
             break;
         }
         rest = behind;
     }
     rest
-}
-
-fn is_comment(token: &Token<'_>) -> bool
-    ensures { result ≡ is_comment token.now.kind }
-{
-    matches!(token.kind, TokenKind::Comment)
 }

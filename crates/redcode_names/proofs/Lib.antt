@@ -1,7 +1,4 @@
 mod Lookups
 pub mod Residuals
-mod LastNames
 pub mod Replacing
 pub mod Unchanged
-mod Writing
-mod Linked

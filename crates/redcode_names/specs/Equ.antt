@@ -5,7 +5,7 @@ use Rattle.war_types.specs.declared.fault.AsmKind.TheVariants as kinds
 use Rattle.war_types.specs.declared.fault.AsmFault.{AsmFault}
 use Rattle.redcode_text.specs.Tokens.{Piece}
 use Rattle.redcode_names.specs.Gives.{fault_at}
-use Rattle.redcode_lines.specs.Word.{is_name, word_at}
+use Rattle.redcode_lines.specs.Line.{is_name, word_at}
 
 -- names with the tokens that they stand for, one token at least, in the order of their definition
 abbrev pub EquList : Type 0

@@ -1,42 +1,41 @@
--- Tokens that know where the EQU stands that they name.
-use Rattle.std.specs.Prelude.{◌≡◌, ℕ, List, [], ◌∷◌, map, slice_get, Option, Some, MatchOption, ⊤}
-use Rattle.redcode_text.specs.Tokens.{Piece}
+-- Tokens that know where the EQU stands that they name, and what the code writes of them.
+use Rattle.std.specs.Prelude.{◌≡◌, ℕ, zero, suc, nat_eq, if◌then◌else◌, List, [], ◌∷◌, ◌++◌, length, map, slice_get, Option, Some, MatchOption, All, Result, Ok, Err}
+use Rattle.war_types.specs.declared.fault.AsmKind.TheVariants as kinds
+use Rattle.war_types.specs.declared.fault.AsmFault.{AsmFault}
+use Rattle.redcode_text.specs.Tokens.{Piece, piece_of}
+use Rattle.redcode_names.specs.declared.link.Link.{Link}
+use Rattle.redcode_names.specs.Gives.{◌>>=◌, fault_at}
 use Rattle.redcode_names.specs.Equ.{EquList, body_at}
-
--- a token, and how many EQUs stand before the one that it names
-pub record Link : Type 0 where
-  pub token : Piece
-  pub equ : Option ℕ
-
-abbrev pub link : Piece → Option ℕ → Link
-link token equ = record { token = token; equ = equ }
 
 -- the tokens alone
 abbrev pub tokens_of : List Link → List Piece
-tokens_of links = map (λ l. l.token) links
+tokens_of links = map (λ l. piece_of l.token) links
 
 -- the bodies of EQUs, in the order of their definition
 abbrev pub bodies_of : EquList → List (List Piece)
 bodies_of equs = map (λ equ. equ.1) equs
 
--- this is where the EQU stands that has a body; nowhere where there is none
-abbrev pub StandsIn : EquList → List Piece → Option ℕ → Type 0
-StandsIn equs body place = MatchOption place (body ≡ []) (λ i. slice_get (bodies_of equs) i ≡ Some body)
-
 -- this is where the EQU stands that a token names; nowhere where it names none
 abbrev pub Stands : EquList → Piece → Option ℕ → Type 0
-Stands equs token place = StandsIn equs (body_at equs token) place
+Stands equs token place = MatchOption place (body_at equs token ≡ []) (λ i. slice_get (bodies_of equs) i ≡ Some (body_at equs token))
 
 -- each token knows its EQU
 abbrev pub AreLinked : EquList → List Link → Type 0
-AreLinked equs [] = ⊤
-AreLinked equs (l ∷ ls) = Stands equs l.token l.equ × AreLinked equs ls
+AreLinked equs links = All (λ l. Stands equs (piece_of l.token) l.equ) links
 
--- so do the tokens of each list
-abbrev pub AreAllLinked : EquList → List (List Link) → Type 0
-AreAllLinked equs [] = ⊤
-AreAllLinked equs (links ∷ others) = AreLinked equs links × AreAllLinked equs others
+-- ---- what is written
 
--- the bodies of these EQUs, linked
-abbrev pub AreBodies : EquList → List (List Link) → Type 0
-AreBodies equs bodies = (map tokens_of bodies ≡ bodies_of equs) × AreAllLinked equs bodies
+-- tokens one after another behind others
+abbrev pub all_written : (List Piece → Piece → Result (List Piece) AsmFault) → List Piece → List Piece → Result (List Piece) AsmFault
+all_written one out [] = Ok out
+all_written one out (token ∷ tokens) = one out token >>= λ out. all_written one out tokens
+
+-- a token behind others where it has no body, unless there are 512 of them, and what its body becomes otherwise
+abbrev pub itself_or : ℕ → List Piece → Piece → List Piece → Result (List Piece) AsmFault → Result (List Piece) AsmFault
+itself_or line out token [] other = if nat_eq (length out) 512 then Err (fault_at line kinds.EquLimit) else Ok (out ++ token ∷ [])
+itself_or line out token (first ∷ others) other = other
+
+-- what is written of tokens behind others in fewer than so many rounds: each token itself, or what its body becomes in one round less
+abbrev pub written : ℕ → ℕ → EquList → List Piece → List Piece → Result (List Piece) AsmFault
+written zero line equs out tokens = Err (fault_at line kinds.EquLimit)
+written (suc n) line equs out tokens = all_written (λ out token. itself_or line out token (body_at equs token) (written n line equs out (body_at equs token))) out tokens

@@ -1,12 +1,11 @@
 -- The names of a source: its labels, those of its EQU lines, and those that are known before it.
-use Rattle.std.specs.Prelude.{ℕ, Bool, not, ◌||◌, if◌then◌else◌, List, [], ◌∷◌, ◌++◌, map, is_some, Option, Some, None, Result, Ok, Err, ℤ, pos, codes}
+use Rattle.std.specs.Prelude.{ℕ, Bool, not, ◌||◌, if◌then◌else◌, List, [], ◌∷◌, ◌++◌, is_some, unwrap_or, Option, Some, None, Result, Ok, Err, ℤ, pos, codes}
 use Rattle.std.specs.Str.{bytes_eq}
 use Rattle.war_types.specs.declared.fault.AsmKind.TheVariants as kinds
 use Rattle.war_types.specs.declared.fault.AsmFault.{AsmFault}
 use Rattle.war_types.specs.declared.settings.RawSettings.{RawSettings}
 use Rattle.redcode_text.specs.Tokens.{Piece}
 use Rattle.redcode_names.specs.Gives.{◌>>=◌, fault_at}
-use Rattle.redcode_lines.specs.Word.{unplaced}
 use Rattle.redcode_names.specs.Equ.{EquList, is_equ, is_bad_body}
 
 -- names with the addresses that they stand for, in the order of their definition
@@ -60,16 +59,22 @@ all_defined s line address (name ∷ others) names = defined s line address name
 abbrev pub equ_defined : RawSettings → ℕ → List Piece → List ℕ → Names → Result Names AsmFault
 equ_defined s line body name names =
     if is_taken s names name then Err (fault_at line kinds.DuplicateName) else (
-    if is_bad_body body then Err (fault_at line kinds.BadEqu) else Ok (record names { equs = names.equs ++ (name, map unplaced body) ∷ [] }))
+    if is_bad_body body then Err (fault_at line kinds.BadEqu) else Ok (record names { equs = names.equs ++ (name, body) ∷ [] }))
+
+-- labels of these names at this address but for the last one, and that one
+abbrev pub but_last : RawSettings → ℕ → ℕ → List (List ℕ) → Names → Result (Names × Option (List ℕ)) AsmFault
+but_last s line address [] names = Ok (names, None)
+but_last s line address (name ∷ []) names = Ok (names, Some name)
+but_last s line address (name ∷ next ∷ others) names = defined s line address name names >>= but_last s line address (next ∷ others)
+
+abbrev pub equ_named : RawSettings → ℕ → List Piece → Option (List ℕ) → Names → Result Names AsmFault
+equ_named s line body None names = Err (fault_at line kinds.BadEqu)
+equ_named s line body (Some name) names = equ_defined s line body name names
 
 -- the labels of an EQU line: the last one is its name, and those before it stand at this address
 abbrev pub equ_line : RawSettings → ℕ → ℕ → List Piece → List (List ℕ) → Names → Result Names AsmFault
-equ_line s line address body [] names = Err (fault_at line kinds.BadEqu)
-equ_line s line address body (name ∷ []) names = equ_defined s line body name names
-equ_line s line address body (name ∷ next ∷ others) names = defined s line address name names >>= equ_line s line address body (next ∷ others)
+equ_line s line address body labels names = but_last s line address labels names >>= λ found. equ_named s line body found.1 found.0
 
--- labels but for the last one at this address, and the last one, which is the counter's name
+-- the labels of a FOR line: the last one is the counter's name, empty where there is none, and those before it stand at this address
 abbrev pub for_labels : RawSettings → ℕ → ℕ → List (List ℕ) → Names → Result (Names × List ℕ) AsmFault
-for_labels s line address [] names = Ok (names, [])
-for_labels s line address (name ∷ []) names = Ok (names, name)
-for_labels s line address (name ∷ next ∷ others) names = defined s line address name names >>= for_labels s line address (next ∷ others)
+for_labels s line address labels names = but_last s line address labels names >>= λ found. Ok (found.0, unwrap_or found.1 [])

@@ -1,9 +1,10 @@
 //! The labels of a source.
+#![tactic(auto, using(crate::proofs::Lookups::names))]
 
 ghost use Rattle.std.specs.Prelude.{◌≡◌, ◌++◌, ◌∷◌, [], true, not, is_some, IfOk, OnOk};
 ghost use Rattle.redcode_names.specs.Name.{address_of};
 
-use crate::name_key::{NameHash, NameKey, Sought};
+use crate::name_key::{NameHash, NameKey};
 use indexmap::IndexMap;
 use std::alloc::{AllocError, Allocator};
 use std::marker::Model;
@@ -16,27 +17,24 @@ const GROWTH: usize = 7;
 
 /// Names with the addresses that they stand for, in the order of their definition.
 #[derive(Drop)]
-pub struct Labels<A: Allocator + Copy> {
-    alloc: A,
-    addresses: IndexMap<NameKey<A>, u32, NameHash, A>,
+pub struct Labels<'s, A: Allocator + Copy> {
+    addresses: IndexMap<NameKey<'s>, u32, NameHash, A>,
 }
 
-impl<A: Allocator + Copy> Model for Labels<A> {
-    ghost use Rattle.std.specs.Prelude.{map};
+impl<'s, A: Allocator + Copy> Model for Labels<'s, A> {
     ghost use Rattle.redcode_names.specs.Name.{LabelList};
 
     ghost Value = { LabelList };
 
-    ghost view = { λ l. map (λ entry. (entry.0, entry.1)) l.addresses.entries };
+    ghost view = { λ l. l.addresses.entries };
 }
 
-impl<A: Allocator + Copy> Labels<A> {
+impl<'s, A: Allocator + Copy> Labels<'s, A> {
     /// No labels.
-    pub(crate) fn new(alloc: A, hash: NameHash) -> Labels<A>
+    pub(crate) fn new(alloc: A, hash: NameHash) -> Labels<'s, A>
         ensures { result ≡ [] }
     {
         Labels {
-            alloc,
             addresses: IndexMap::with_hasher(alloc, hash),
         }
     }
@@ -45,16 +43,16 @@ impl<A: Allocator + Copy> Labels<A> {
     pub fn address_of(&self, name: &[u8]) -> Option<u32>
         ensures { result ≡ address_of self.now name.now }
     {
-        self.addresses.get(Sought { name }).copied()
+        self.addresses.get(&NameKey { bytes: name }).copied()
     }
 
     /// Adds a label, and tells whether its name is new. What becomes of one that isn't is not said.
-    pub(crate) fn add(&mut self, name: &[u8], address: u32) -> Result<bool, AllocError>
-        ensures new { IfOk result (λ is_new. is_new ≡ not (is_some (address_of self.old name.now))) }
-        ensures added { IfOk result (λ is_new. is_new ≡ true → self.new ≡ self.old ++ (name.now, address) ∷ []) }
+    pub(crate) fn add(&mut self, name: &'s [u8], address: u32) -> Result<bool, AllocError>
+        ensures new { IfOk result (λ is_new. is_new ≡ not (is_some (address_of self.old name.entry.now))) }
+        ensures added { IfOk result (λ is_new. is_new ≡ true → self.new ≡ self.old ++ (name.entry.now, address) ∷ []) }
     {
         self.make_room()?;
-        let name = NameKey::of(self.alloc, name)?;
+        let name = NameKey { bytes: name };
         let earlier = self.addresses.insert(name, address)?;
         Ok(earlier.is_none())
     }

@@ -17,4 +17,4 @@ pub use link::LinkedEqus;
 pub use name::{is_loose, predefined};
 pub use name_key::NameHash;
 pub use names::Names;
-pub use rounds::{TOKEN_LIMIT, has_equ, replaced, too_many, written};
+pub use rounds::{TOKEN_LIMIT, replaced, too_many, written};

@@ -1,7 +1,6 @@
 //! Names that are known before any source.
 
 ghost use Rattle.std.specs.Prelude.{◌≡◌};
-ghost use Rattle.std.specs.Str.{bytes_eq};
 ghost use Rattle.redcode_names.specs.Name.{is_loose, predefined};
 
 use war_types::Settings;
@@ -10,21 +9,21 @@ use war_types::Settings;
 pub fn predefined(settings: &Settings, before: u32, name: &[u8]) -> Option<i64>
     ensures { result ≡ predefined settings.now before name.now }
 {
-    if is_same(name, b"CORESIZE") {
+    if name == b"CORESIZE".as_slice() {
         Some(i64::from(settings.core()))
-    } else if is_same(name, b"MAXPROCESSES") {
+    } else if name == b"MAXPROCESSES".as_slice() {
         Some(i64::from(settings.processes()))
-    } else if is_same(name, b"MAXCYCLES") {
+    } else if name == b"MAXCYCLES".as_slice() {
         Some(i64::from(settings.cycles()))
-    } else if is_same(name, b"MAXLENGTH") {
+    } else if name == b"MAXLENGTH".as_slice() {
         Some(i64::from(settings.length()))
-    } else if is_same(name, b"MINDISTANCE") {
+    } else if name == b"MINDISTANCE".as_slice() {
         Some(i64::from(settings.distance()))
-    } else if is_same(name, b"ROUNDS") {
+    } else if name == b"ROUNDS".as_slice() {
         Some(i64::from(settings.rounds()))
-    } else if is_same(name, b"WARRIORS") {
+    } else if name == b"WARRIORS".as_slice() {
         Some(2)
-    } else if is_same(name, b"CURLINE") {
+    } else if name == b"CURLINE".as_slice() {
         Some(i64::from(before))
     } else {
         None
@@ -35,14 +34,5 @@ pub fn predefined(settings: &Settings, before: u32, name: &[u8]) -> Option<i64>
 pub fn is_loose(settings: &Settings, name: &[u8]) -> bool
     ensures { result ≡ is_loose settings.now name.now }
 {
-    match predefined(settings, 0, name) {
-        Some(_) => is_same(name, b"CURLINE"),
-        None => true,
-    }
-}
-
-pub(crate) fn is_same(name: &[u8], other: &[u8]) -> bool
-    ensures { result ≡ bytes_eq name.now other.now }
-{
-    name == other
+    predefined(settings, 0, name).is_none() || name == b"CURLINE".as_slice()
 }

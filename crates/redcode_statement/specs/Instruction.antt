@@ -1,5 +1,5 @@
--- The instruction that the tokens of a line give, the operation's name first.
-use Rattle.std.specs.Prelude.{ℕ, ◌-◌, ◌%◌, Bool, true, false, ◌||◌, if◌then◌else◌, List, [], ◌∷◌, Option, Some, None, Result, Ok, Err, ℤ, pos, negsuc, ok_or, unwrap_or, codes}
+-- The instruction that a line gives.
+use Rattle.std.specs.Prelude.{ℕ, ◌-◌, ◌%◌, Bool, true, false, if◌then◌else◌, List, [], ◌∷◌, Option, Some, None, Result, Ok, Err, ℤ, pos, negsuc, unwrap_or, codes}
 use Rattle.war_types.specs.declared.fault.AsmKind.{AsmKind}
 use Rattle.war_types.specs.declared.fault.AsmKind.TheVariants as kinds
 use Rattle.war_types.specs.declared.instr.Op.{Op}
@@ -10,22 +10,19 @@ use Rattle.war_types.specs.declared.instr.Mode.{Mode}
 use Rattle.war_types.specs.declared.instr.Mode.TheVariants as modes
 use Rattle.war_types.specs.declared.instr.Instr.{Instr}
 use Rattle.redcode_text.specs.Operators.{Value}
+use Rattle.redcode_text.specs.declared.vocabulary.Word.{Word}
+use Rattle.redcode_text.specs.declared.vocabulary.Word.TheVariants as words
 use Rattle.redcode_text.specs.Tokens.{Piece}
+use Rattle.redcode_text.specs.Vocabulary.{named, modifier_names}
+use Rattle.redcode_lines.specs.Line.{has_text}
 use Rattle.redcode_statement.specs.declared.operand.Operand.{Operand}
 use Rattle.redcode_statement.specs.Chain.{◌>>=◌}
-use Rattle.redcode_statement.specs.Name.{is_word, named, operations, modifier_names}
 use Rattle.redcode_statement.specs.Operand.{operand_of}
-use Rattle.redcode_statement.specs.Sides.{SideTokens, has_text, sides_of}
+use Rattle.redcode_statement.specs.Sides.{SideTokens, sides_of}
 
 abbrev pub is_immediate : Mode → Bool
 is_immediate modes.Immediate = true
-is_immediate modes.Direct = false
-is_immediate modes.AIndirect = false
-is_immediate modes.BIndirect = false
-is_immediate modes.APre = false
-is_immediate modes.BPre = false
-is_immediate modes.APost = false
-is_immediate modes.BPost = false
+is_immediate _ = false
 
 -- one modifier where the A operand is immediate, another where the B operand is, a third elsewhere
 abbrev pub by_modes : Mode → Mode → Modifier → Modifier → Modifier → Modifier
@@ -44,11 +41,8 @@ default_modifier ops.Mul a b = by_modes a b modifiers.AB modifiers.B modifiers.F
 default_modifier ops.Div a b = by_modes a b modifiers.AB modifiers.B modifiers.F
 default_modifier ops.Mdl a b = by_modes a b modifiers.AB modifiers.B modifiers.F
 default_modifier ops.Slt a b = by_modes a b modifiers.AB modifiers.B modifiers.B
-default_modifier ops.Jmp a b = modifiers.B
-default_modifier ops.Jmz a b = modifiers.B
-default_modifier ops.Jmn a b = modifiers.B
-default_modifier ops.Djn a b = modifiers.B
-default_modifier ops.Spl a b = modifiers.B
+-- JMP, JMZ, JMN, DJN and SPL
+default_modifier _ a b = modifiers.B
 
 -- a number as an address of a core of this size: its remainder, from 0 on
 abbrev pub reduced : ℕ → ℤ → ℕ
@@ -79,13 +73,6 @@ instr_of core op modifier a b more = instr_of_values core op modifier a.mode b.m
 
 -- ---- from tokens
 
--- there is no P-space
-abbrev pub is_pspace : List ℕ → Bool
-is_pspace word = is_word (codes "LDP") word || is_word (codes "STP") word
-
-abbrev pub op_of : List ℕ → Result Op AsmKind
-op_of word = if is_pspace word then Err kinds.Pspace else ok_or (named operations word) kinds.BadOperation
-
 -- the modifier of this name, and the tokens behind it
 abbrev pub modifier_or_bad : Option Modifier → List Piece → Result (Option Modifier × List Piece) AsmKind
 modifier_or_bad None behind = Err kinds.BadModifier
@@ -103,11 +90,11 @@ modifier_at (t ∷ ts) = if has_text (codes ".") t then modifier_named_at ts els
 abbrev pub instr_of_sides : ℕ → (List ℕ → Option ℤ) → Op → Option Modifier → SideTokens → Result Instr AsmKind
 instr_of_sides core names op modifier sides = instr_of core op modifier (operand_of names sides.a) (operand_of names sides.b) sides.more
 
--- the instruction in a core of this size, by what the names stand for, or its first fault
-abbrev pub instruction_of : ℕ → (List ℕ → Option ℤ) → List Piece → Result Instr AsmKind
-instruction_of core names [] = Err kinds.BadOperation
-instruction_of core names (word ∷ tokens) =
-    op_of word.text >>= λ op.
+-- the instruction in a core of this size, by what the names stand for, of the word and the tokens behind it, or its first fault;
+-- a word that is no operation of the machine is LDP or STP, and there is no P-space
+abbrev pub instruction_of : ℕ → (List ℕ → Option ℤ) → Option Word → List Piece → Result Instr AsmKind
+instruction_of core names (Some (words.Operation op)) tokens =
     modifier_at tokens >>= λ modifier.
     sides_of op modifier.1 >>= λ sides.
     instr_of_sides core names op modifier.0 sides
+instruction_of core names _ tokens = Err kinds.Pspace

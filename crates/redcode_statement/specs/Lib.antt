@@ -1,5 +1,4 @@
 pub mod Chain
-pub mod Name
 pub mod Sides
 pub mod Views
 pub mod Operand

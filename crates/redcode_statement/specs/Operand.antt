@@ -4,8 +4,8 @@ use Rattle.war_types.specs.declared.instr.Mode.{Mode}
 use Rattle.war_types.specs.declared.instr.Mode.TheVariants as modes
 use Rattle.redcode_text.specs.Tokens.{Piece}
 use Rattle.redcode_text.specs.Value.{value_of}
+use Rattle.redcode_text.specs.Vocabulary.{named, mode_names}
 use Rattle.redcode_statement.specs.declared.operand.Operand.{Operand}
-use Rattle.redcode_statement.specs.Name.{named, mode_names}
 
 -- what stands where no operand is written
 abbrev pub direct_zero : Operand

@@ -1,15 +1,12 @@
 -- The operands of an instruction, parted by commas, even within parentheses: the first comma parts A from B, and a second
 -- one ends B.
-use Rattle.std.specs.Prelude.{Bool, false, if◌then◌else◌, ℕ, List, [], ◌∷◌, Option, Some, None, Result, Ok, Err, is_some, codes}
-use Rattle.std.specs.Str.{bytes_eq}
+use Rattle.std.specs.Prelude.{Bool, false, if◌then◌else◌, List, [], ◌∷◌, Option, Some, None, Result, Ok, Err, is_some, codes}
 use Rattle.war_types.specs.declared.fault.AsmKind.{AsmKind}
 use Rattle.war_types.specs.declared.fault.AsmKind.TheVariants as kinds
 use Rattle.war_types.specs.declared.instr.Op.{Op}
 use Rattle.war_types.specs.declared.instr.Op.TheVariants as ops
 use Rattle.redcode_text.specs.Tokens.{Piece}
-
-abbrev pub has_text : List ℕ → Piece → Bool
-has_text text token = bytes_eq token.text text
+use Rattle.redcode_lines.specs.Line.{has_text}
 
 abbrev pub is_comma : Piece → Bool
 is_comma token = has_text (codes ",") token

@@ -1,25 +1,23 @@
 -- What the tokens of a line say.
-use Rattle.std.specs.Prelude.{Bool, true, false, if◌then◌else◌, ℕ, List, [], ◌∷◌, Option, Some, None, Result, Ok, Err, ℤ, codes}
+use Rattle.std.specs.Prelude.{Bool, true, false, ℕ, List, [], ◌∷◌, Option, Some, None, Result, Ok, Err, ℤ}
 use Rattle.war_types.specs.declared.fault.AsmKind.{AsmKind}
 use Rattle.war_types.specs.declared.fault.AsmKind.TheVariants as kinds
 use Rattle.war_types.specs.declared.instr.Instr.{Instr}
 use Rattle.redcode_text.specs.declared.token.TokenKind.{TokenKind}
 use Rattle.redcode_text.specs.declared.token.TokenKind.TheVariants as token_kinds
+use Rattle.redcode_text.specs.declared.vocabulary.Word.{Word}
+use Rattle.redcode_text.specs.declared.vocabulary.Word.TheVariants as words
 use Rattle.redcode_text.specs.Operators.{Value}
 use Rattle.redcode_text.specs.Tokens.{Piece}
 use Rattle.redcode_text.specs.Value.{value_of}
 use Rattle.redcode_statement.specs.declared.statement.Statement.{Statement}
 use Rattle.redcode_statement.specs.declared.statement.Statement.TheVariants as statements
 use Rattle.redcode_statement.specs.Chain.{◌>>=◌}
-use Rattle.redcode_statement.specs.Name.{is_word}
 use Rattle.redcode_statement.specs.Sides.{before_comma, behind_comma}
 
 abbrev pub is_bad_kind : TokenKind → Bool
 is_bad_kind token_kinds.Bad = true
-is_bad_kind token_kinds.Name = false
-is_bad_kind token_kinds.Number = false
-is_bad_kind token_kinds.Symbol = false
-is_bad_kind token_kinds.Comment = false
+is_bad_kind _ = false
 
 abbrev pub is_bad : Piece → Bool
 is_bad token = is_bad_kind token.kind
@@ -61,14 +59,11 @@ abbrev pub instruction_said : Result Instr AsmKind → Result Statement AsmKind
 instruction_said instr = instr >>= λ i. Ok (statements.Instruction i)
 
 -- what is no line of the language: there is no P-space, so PIN is refused for that
-abbrev pub other_said : List Piece → Result Statement AsmKind
-other_said [] = Err kinds.BadOperation
-other_said (t ∷ ts) = if is_word (codes "PIN") t.text then Err kinds.Pspace else Err kinds.BadOperation
+abbrev pub other_said : Option Word → Result Statement AsmKind
+other_said (Some words.Pin) = Err kinds.Pspace
+other_said _ = Err kinds.BadOperation
 
 -- the instruction of a statement that is one
 abbrev pub instr_said : Statement → List Instr
 instr_said (statements.Instruction instr) = instr ∷ []
-instr_said (statements.Org z) = []
-instr_said (statements.End z) = []
-instr_said (statements.Assert z) = []
-instr_said statements.Nothing = []
+instr_said _ = []

@@ -1,44 +1,35 @@
-//! The instruction that the tokens of a line give.
+//! The instruction that a line gives.
 
 ghost use Rattle.std.specs.Prelude.{◌≡◌, ◌<◌, IfOk};
 ghost use Rattle.redcode_text.specs.Tokens.{pieces};
-ghost use Rattle.redcode_statement.specs.Instruction.{is_immediate, by_modes, default_modifier, reduced, instr_of, is_pspace, op_of, modifier_named_at, modifier_at, instruction_of};
+ghost use Rattle.redcode_statement.specs.Instruction.{is_immediate, by_modes, default_modifier, reduced, instr_of, modifier_named_at, modifier_at, instruction_of};
 ghost use Rattle.redcode_statement.specs.Views.{read, result_map};
 
 use crate::operand::{Operand, operand_of};
-use crate::side::{has_text, sides_of};
-use crate::word::{is_word, modifier_named, operation_named};
-use redcode_text::{Names, Token};
+use crate::side::sides_of;
+use redcode_lines::has_text;
+use redcode_text::{Names, Token, Word, modifier_named};
 use war_types::{AsmKind, Instr, Mode, Modifier, Op};
 
-/// The instruction in a core of so many cells, of tokens from its operation on, or its first fault.
+/// The instruction in a core of so many cells, of its word and the tokens behind that, or its first fault. A word that is no
+/// operation of the machine is `LDP` or `STP`, and there is no P-space.
 pub fn instruction_of<N: Names>(
     core: u16,
+    word: Option<Word>,
     tokens: &[Token<'_>],
     names: &N,
 ) -> Result<Instr, AsmKind>
     requires { 0 < core }
-    ensures { result ≡ instruction_of core (N.values names.now) (pieces tokens.now) }
+    ensures { result ≡ instruction_of core (N.values names.now) word (pieces tokens.now) }
 {
-    let [word, behind @ ..] = tokens else {
-        return Err(AsmKind::BadOperation);
+    let Some(Word::Operation(op)) = word else {
+        return Err(AsmKind::Pspace);
     };
-    let op = op_of(word.text)?;
-    let (modifier, behind) = modifier_at(behind)?;
+    let (modifier, behind) = modifier_at(tokens)?;
     let sides = sides_of(op, behind)?;
     let a = operand_of(sides.a, names);
     let b = operand_of(sides.b, names);
     instr_of(core, op, modifier, a, b, sides.more)
-}
-
-/// The operation of this name. There is no P-space.
-fn op_of(word: &[u8]) -> Result<Op, AsmKind>
-    ensures { result ≡ op_of word.now }
-{
-    if is_word(b"LDP", word) || is_word(b"STP", word) {
-        return Err(AsmKind::Pspace);
-    }
-    operation_named(word).ok_or(AsmKind::BadOperation)
 }
 
 /// The modifier behind a dot, or none where no dot stands there, and the tokens of the operands.

@@ -1,10 +1,8 @@
-//! What the tokens of a line say, and how the line of an instruction is written. It stands on the tokens alone, and not on how
-//! a source is cut into lines.
+//! What the word of a line and the tokens behind it say, and how the line of an instruction is written.
 //!
-//! Data passes through the modules in this order: `word` finds the operation, the modifier and the mode that a word names, in
-//! whatever letter case; `side` parts the operands at the commas; `operand` reads a mode and the value of an expression;
-//! `instruction` puts these together, or answers the first fault; `statement` says what an `ORG`, an `END` and an assertion say.
-//! The way back is `name`, how load text spells the names, and `line`, which writes an instruction.
+//! Data passes through the modules in this order: `side` parts the operands at the commas; `operand` reads a mode and the value
+//! of an expression; `instruction` puts these together, or answers the first fault; `statement` says what an `ORG`, an `END` and
+//! an assertion say. The way back is `line`, which writes an instruction.
 //!
 //! The main clauses: `instruction_of` and the statements are the definitions of `Instruction` and `Statement` in `specs`, in terms
 //! of what the names stand for, and `append_line` appends the text of `InstrLine`.
@@ -12,11 +10,9 @@
 
 mod instruction;
 mod line;
-mod name;
 mod operand;
 mod side;
 mod statement;
-mod word;
 
 pub use instruction::instruction_of;
 pub use line::append_line;

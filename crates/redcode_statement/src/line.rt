@@ -4,11 +4,11 @@ ghost use Rattle.std.specs.Prelude.{◌≡◌, ◌<◌, ◌++◌, codes};
 ghost use Rattle.std.specs.Fmt.{signed_decimal};
 ghost use Rattle.std.specs.Result.{OnOk};
 ghost use Rattle.war_types.specs.Warrior.{HasNumbersBelow};
-ghost use Rattle.redcode_statement.specs.Name.{op_text, modifier_text, mode_text};
+ghost use Rattle.redcode_text.specs.Vocabulary.{op_text, modifier_text, mode_text};
 ghost use Rattle.redcode_statement.specs.InstrLine.{spaces, signed_number, left_in, operand_text, instr_line};
 
-use crate::name::{mode_text, modifier_text, op_text};
 use itoa::Buffer;
+use redcode_text::{mode_text, modifier_text, op_text};
 use std::alloc::{AllocError, Allocator};
 use war_types::{Instr, Mode, Modifier, Op};
 

@@ -4,8 +4,7 @@ ghost use Rattle.std.specs.Prelude.{◌≡◌};
 ghost use Rattle.redcode_text.specs.Tokens.{pieces};
 ghost use Rattle.redcode_statement.specs.Operand.{operand_of};
 
-use crate::word::mode_named;
-use redcode_text::{Names, Token, value};
+use redcode_text::{Names, Token, mode_named, value};
 use war_types::{ExprFault, Mode};
 
 /// An operand: its mode, `$` where none is written, and the value of its expression, or what is wrong with that.

@@ -1,10 +1,11 @@
 //! The operands of an instruction, parted by commas.
 
 ghost use Rattle.std.specs.Prelude.{◌≡◌, is_some};
-ghost use Rattle.redcode_text.specs.Tokens.{piece_of, pieces};
-ghost use Rattle.redcode_statement.specs.Sides.{has_text, before_comma, behind_comma, without_comma, two_operands, sides_of};
+ghost use Rattle.redcode_text.specs.Tokens.{pieces};
+ghost use Rattle.redcode_statement.specs.Sides.{before_comma, behind_comma, without_comma, two_operands, sides_of};
 ghost use Rattle.redcode_statement.specs.Views.{result_map, sides_seen, tokens_seen};
 
+use redcode_lines::has_text;
 use redcode_text::Token;
 use war_types::{AsmKind, Op};
 
@@ -44,12 +45,6 @@ pub(crate) fn at_comma<'t, 'l>(
         }
     }
     (tokens, None)
-}
-
-pub(crate) fn has_text(token: &Token<'_>, text: &[u8]) -> bool
-    ensures { result ≡ has_text text.now (piece_of token.now) }
-{
-    token.text == text
 }
 
 /// One operand or none: DAT has one as its B operand, other operations as their A operand.

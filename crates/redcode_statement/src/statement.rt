@@ -6,8 +6,7 @@ ghost use Rattle.redcode_text.specs.Tokens.{pieces};
 ghost use Rattle.redcode_statement.specs.Statement.{is_bad, is_bad_kind, single_value, value_or_missing, org_said, end_said, assert_said, other_said};
 
 use crate::side::at_comma;
-use crate::word::is_word;
-use redcode_text::{Names, Token, TokenKind, value};
+use redcode_text::{Names, Token, TokenKind, Word, value};
 use war_types::{AsmKind, Instr};
 
 /// What a line says that has no fault.
@@ -67,12 +66,12 @@ pub fn assert_said<N: Names>(tokens: &[Token<'_>], names: &N) -> Result<Statemen
     Ok(Statement::Assert(value))
 }
 
-/// The fault of a line that is none of the language.
-pub fn other_said(tokens: &[Token<'_>]) -> Result<Statement, AsmKind>
-    ensures { result ≡ other_said (pieces tokens.now) }
+/// The fault of a line with this word that is none of the language.
+pub fn other_said(word: Option<Word>) -> Result<Statement, AsmKind>
+    ensures { result ≡ other_said word }
 {
-    match tokens {
-        [first, ..] if is_word(b"PIN", first.text) => Err(AsmKind::Pspace),
+    match word {
+        Some(Word::Pin) => Err(AsmKind::Pspace),
         _ => Err(AsmKind::BadOperation),
     }
 }

@@ -1,5 +1,6 @@
 //! Sources, and the lines and labels of what is written out of them.
 
+use bumpalo::Bump;
 use redcode_expand::{Expanded, Line, LineKind, expand, predefined};
 use redcode_text::Token;
 use std::alloc::{AllocError, Global};
@@ -59,7 +60,8 @@ fn is_line(
 /// Whether these are the lines: the number in the source, the kind, the instructions before, the title and the tokens.
 fn are_lines(alloc: Global, source: &[u8], rows: &[Row]) -> Result<bool, Fail> {
     let settings = defaults()?;
-    let expanded = expand(alloc, source, &settings)?;
+    let region = Bump::new(alloc);
+    let expanded = expand(alloc, &region, source, &settings)?;
     if expanded.lines().len() != rows.len() {
         return Ok(false);
     }
@@ -107,7 +109,8 @@ fn names_of_equ_lines(rt: HostRuntime) -> Result<(), Fail> {
 /// The address of a label of a source.
 fn label_of(alloc: Global, source: &[u8], name: &[u8]) -> Result<Option<u32>, Fail> {
     let settings = defaults()?;
-    let expanded = expand(alloc, source, &settings)?;
+    let region = Bump::new(alloc);
+    let expanded = expand(alloc, &region, source, &settings)?;
     Ok(expanded.label(name))
 }
 
@@ -147,7 +150,8 @@ fn labels(rt: HostRuntime) -> Result<(), Fail> {
 
 fn fault_of(alloc: Global, source: &[u8]) -> Result<Option<AsmFault>, Fail> {
     let settings = defaults()?;
-    match expand(alloc, source, &settings) {
+    let region = Bump::new(alloc);
+    match expand(alloc, &region, source, &settings) {
         Ok(_) => Ok(None),
         Err(fault) => Ok(Some(fault)),
     }

@@ -5,6 +5,7 @@
 use crate::printer::instr;
 use crate::sources::defaults;
 use crate::tokens::{MOVED, Same, gives};
+use bumpalo::Bump;
 use redcode_asm::{assemble, load_text};
 use redcode_expand::{Expanded, LineKind, expand};
 use redcode_text::{Token, scan, value};
@@ -82,7 +83,11 @@ fn answer(
             let tokens = scan(memory, b"MOV.I #-1,>x2 ;c")?;
             Ok(gives(tokens.as_slice(), &MOVED))
         }
-        Call::Expand => Ok(are_copies(&expand(memory, COPIED, settings)?)),
+        Call::Expand => {
+            let region = Bump::new(memory);
+            let expanded = expand(memory, &region, COPIED, settings)?;
+            Ok(are_copies(&expanded))
+        }
         Call::AssembleNamed => {
             let code = [direct(Op::Dat, Modifier::F, 0, 11)];
             has_code(memory, NAMED, settings, &code)
@@ -170,7 +175,8 @@ fn is_replaced(expanded: &Expanded<'_, &Refusing<Global>>) -> Result<bool, AsmFa
 #[test]
 fn each_growth_of_the_tokens(rt: HostRuntime) -> Result<(), Fail> {
     let memory = Refusing::new(rt.alloc());
-    let expanded = expand(&memory, NAMED, &defaults()?)?;
+    let region = Bump::new(&memory);
+    let expanded = expand(&memory, &region, NAMED, &defaults()?)?;
     let runs = refuse_each(&memory, |_k| {
         let first = is_replaced(&expanded);
         if was_refused(&rt, memory.refused(), first) {
@@ -203,8 +209,9 @@ fn is_made(code: Vec<Instr, &Refusing<Global>>, settings: &Settings) -> bool {
 fn what_takes_no_memory(rt: HostRuntime) -> Result<(), Fail> {
     let settings = defaults()?;
     let memory = Refusing::new(rt.alloc());
-    let copies = expand(&memory, COPIED, &settings)?;
-    let titled = expand(&memory, TITLED, &settings)?;
+    let region = Bump::new(&memory);
+    let copies = expand(&memory, &region, COPIED, &settings)?;
+    let titled = expand(&memory, &region, TITLED, &settings)?;
     let tokens = scan(&memory, b"1+2*3==7 && !0")?;
     let code = Vec::from_slice(&memory, &[direct(Op::Mov, Modifier::I, 0, 1)])?;
     memory.refuse(0, u64::MAX);

@@ -7,6 +7,7 @@
 //! - `printer`: the load text of codes made by hand;
 //! - `sources`: the load text and the titles that sources give; its helpers serve those below;
 //! - `refusals`: sources that are refused, with the line and the kind;
+//! - `limits`: the limits of a source, of its lines and of a warrior, on both sides;
 //! - `long_tests`: sources that are long once they are written out, on both sides of what an assembly may take;
 //! - `growths`: calls that are refused memory, and those that need none.
 //!
@@ -17,6 +18,8 @@
 mod expansion;
 #[cfg(test)]
 mod growths;
+#[cfg(test)]
+mod limits;
 #[cfg(test)]
 mod long_tests;
 #[cfg(test)]

@@ -1,11 +1,11 @@
 //! Sources that are refused, with the line and the kind.
 
-use crate::sources::{defaults, printed, repeated, with_length};
+use crate::sources::{defaults, printed};
 use redcode_asm::assemble;
 use std::alloc::Global;
 use std::process::Abort;
 use std::test::Fail;
-use war_types::{AsmKind, Settings};
+use war_types::AsmKind;
 
 /// A source that is refused so.
 fn check_refused(rt: &(impl Abort + AllocGlobal), source: &str, refusal: &str) -> Result<(), Fail> {
@@ -131,7 +131,7 @@ fn lines_with_a_fault(rt: HostRuntime) -> Result<(), Fail> {
 }
 
 /// Of several faults the one that is told.
-const ORDERED: [(&str, &str); 14] = [
+const ORDERED: [(&str, &str); 17] = [
     ("SPL\nDAT foo\nx\nx", "4 DuplicateName"),
     ("DAT foo\nDAT a\na EQU a\nEQU 1", "4 BadEqu"),
     ("DAT ?\na EQU a\nDAT a\n;assert a", "3 EquLimit"),
@@ -146,61 +146,16 @@ const ORDERED: [(&str, &str); 14] = [
     (";assert 0\nDAT 0\nEND 1", "3 BadStart"),
     (";assert 1\n;assert 0\n;assert 0\nDAT 0", "2 AssertFalse"),
     (";assert 0\nDAT 0\n;assert 1/0", "3 DivideByZero"),
+    // LDP and STP are instructions to those behind them, PIN is none
+    ("LDP\nFOR 4097*CURLINE\nROF\nDAT", "2 ForLimit"),
+    ("STP\nFOR 4097*CURLINE\nROF\nDAT", "2 ForLimit"),
+    ("PIN\nFOR 4097*CURLINE\nROF\nDAT", "1 Pspace"),
 ];
 
 #[test]
 fn order_of_faults(rt: HostRuntime) -> Result<(), Fail> {
     for (source, refusal) in ORDERED {
         check_refused(&rt, source, refusal)?;
-    }
-    Ok(())
-}
-
-#[test]
-fn limits(rt: HostRuntime) -> Result<(), Fail> {
-    let settings = defaults()?;
-    for (line, count, refusal) in [
-        ("DAT 0\n", 100, None),
-        ("DAT 0\n", 101, Some((0, AsmKind::TooLong))),
-        ("DAT 0\n", 4096, Some((0, AsmKind::TooLong))),
-        ("DAT 0\n", 4097, Some((4097, AsmKind::ForLimit))),
-        (";name x\n", 4097, Some((4097, AsmKind::ForLimit))),
-        ("\n", 65_536, Some((0, AsmKind::Empty))),
-        ("\n", 65_537, Some((0, AsmKind::SourceTooLong))),
-    ] {
-        let source = repeated(rt.alloc(), line.as_bytes(), count)?;
-        let refused = match assemble(rt.alloc(), source.as_slice(), &settings) {
-            Ok(warrior) => {
-                assert_eq!(rt; warrior.code().len(), count);
-                None
-            }
-            Err(fault) => Some((fault.line, fault.kind)),
-        };
-        assert_eq!(rt; refused, refusal, "{count} lines");
-    }
-    Ok(())
-}
-
-/// How many instructions a source gives, or its refusal.
-fn assembled(alloc: Global, source: &[u8], settings: &Settings) -> Result<usize, (u32, AsmKind)> {
-    match assemble(alloc, source, settings) {
-        Ok(warrior) => Ok(warrior.code().len()),
-        Err(fault) => Err((fault.line, fault.kind)),
-    }
-}
-
-/// A warrior has at most as many instructions as the settings say, which is at most 200.
-#[test]
-fn the_longest_warriors(rt: HostRuntime) -> Result<(), Fail> {
-    for (length, count, answer) in [
-        (1, 1, Ok(1)),
-        (1, 2, Err((0, AsmKind::TooLong))),
-        (200, 200, Ok(200)),
-        (200, 201, Err((0, AsmKind::TooLong))),
-    ] {
-        let source = repeated(rt.alloc(), b"DAT 0\n", count)?;
-        let found = assembled(rt.alloc(), source.as_slice(), &with_length(length)?);
-        assert_eq!(rt; found, answer, "{count} lines");
     }
     Ok(())
 }
@@ -242,24 +197,6 @@ fn rounds_of_replacement(rt: HostRuntime) -> Result<(), Fail> {
         source.extend_from_slice(others.as_bytes())?;
         let found = first_number(rt.alloc(), source.as_slice())?;
         assert_eq!(rt; found, answer, "{others:?}");
-    }
-    Ok(())
-}
-
-/// A line has at most 512 tokens behind its word.
-#[test]
-fn tokens_of_a_line(rt: HostRuntime) -> Result<(), Fail> {
-    let settings = defaults()?;
-    for (sign, sums, refusal) in [("-", 255, None), ("", 256, Some((1, AsmKind::EquLimit)))] {
-        let mut source = Vec::from_slice(rt.alloc(), b"DAT ")?;
-        source.extend_from_slice(sign.as_bytes())?;
-        source.extend_from_slice(repeated(rt.alloc(), b"1+", sums)?.as_slice())?;
-        source.push(b'1')?;
-        let refused = match assemble(rt.alloc(), source.as_slice(), &settings) {
-            Ok(_) => None,
-            Err(fault) => Some((fault.line, fault.kind)),
-        };
-        assert_eq!(rt; refused, refusal, "{sums} sums");
     }
     Ok(())
 }

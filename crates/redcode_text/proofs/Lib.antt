@@ -1,6 +1,6 @@
+pub mod Words
 pub mod Scanning
 pub mod TextKinds
-pub mod FirstTokens
 pub mod TokenLists
 pub mod Longest
 pub mod ValueRows

@@ -1,15 +1,7 @@
 -- How far a token goes, and what is behind it.
-use Rattle.std.proofs.Common.{◌≡◌, ℕ, zero, suc, ◌+◌, ◌-◌, ◌<◌, ◌≤◌, Bool, true, false, List, [], ◌∷◌, length, get_or, take, drop, refl, sym, ap, ◌∙◌, arith, length-drop}
-use Rattle.std.specs.List.{take_while}
-use Rattle.std.proofs.lemmas.List.Folds.{length-prefix_len}
-use Rattle.std.proofs.lemmas.List.Sums.{prefix_len_is}
-use Rattle.war_types.specs.Title.{is_blank}
-use Rattle.redcode_text.specs.declared.token.TokenKind.{TokenKind}
-use Rattle.redcode_text.specs.Tokens.{IsAtToken, kind_at, rest_of_token, tokens_after}
-
--- a front of bytes that pass, up to one that doesn't or the end, is as long as the longest such
-pub length-take_while_is : (p : ℕ → Bool) (xs : List ℕ) (n : ℕ) → n ≤ length xs → ((k : ℕ) → k < n → p (get_or xs k 0) ≡ true) → (n < length xs → p (get_or xs n 0) ≡ false) → n ≡ length (take_while p xs)
-length-take_while_is p xs n le passes stops = sym (length-prefix_len p xs ∙ prefix_len_is p xs n 0 le passes stops)
+use Rattle.std.proofs.Common.{◌≡◌, ℕ, zero, suc, ◌+◌, ◌-◌, ◌≤◌, List, [], ◌∷◌, length, get_or, map, take, drop, refl, ap, arith}
+use Rattle.redcode_text.specs.declared.token.Token.{Token}
+use Rattle.redcode_text.specs.Tokens.{IsAtToken, Piece, piece_of, pieces, scanned_pieces, without_place, kind_at, rest_of_token, tokens_after}
 
 -- behind the bytes of a token the line begins anew
 pub tokens_after-drop : (bytes n : ℕ) (bs : List ℕ) → tokens_after bytes n bs ≡ tokens_after bytes 0 (drop n bs)
@@ -18,19 +10,14 @@ tokens_after-drop bytes (suc n) [] = refl
 tokens_after-drop bytes (suc n) (b ∷ bs) = tokens_after-drop bytes n bs
 
 -- a token is first at bytes that begin with one, and the line goes on behind it
-pub first_token_at : (bytes b : ℕ) (bs : List ℕ) → is_blank b ≡ false
-    → tokens_after bytes 0 (b ∷ bs) ≡ record { kind = kind_at b bs; text = b ∷ take (rest_of_token b bs) bs; at = bytes - length (b ∷ bs) } ∷ tokens_after bytes 0 (drop (rest_of_token b bs) bs)
-first_token_at bytes b bs h = rw (h, tokens_after-drop bytes (rest_of_token b bs) bs) refl
-
-pub first_token_is : (bytes : ℕ) (end text rest : List ℕ) (kind : TokenKind) (at n : ℕ) (front behind : List ℕ)
-    → tokens_after bytes 0 text ≡ tokens_after bytes 0 end → length text ≤ length end → IsAtToken text → 1 ≤ length text → rest ≡ drop 1 text
-    → kind ≡ kind_at (get_or text 0 0) rest → at ≡ bytes - length text → n ≡ rest_of_token (get_or text 0 0) rest → front ≡ take (1 + n) text → behind ≡ drop (1 + n) text
-    → (tokens_after bytes 0 end ≡ record { kind = kind; text = front; at = at } ∷ tokens_after bytes 0 behind) × (length behind < length end)
-first_token_is bytes end [] rest kind at n front behind same le first some rest-is kind-is at-is n-is front-is behind-is = absurd (omega arith)
-first_token_is bytes end (b ∷ bs) rest kind at n front behind same le first some rest-is kind-is at-is n-is front-is behind-is =
-    let n' : n ≡ rest_of_token b bs = n-is ∙ ap (rest_of_token b) rest-is in
-    let kind' : kind ≡ kind_at b bs = kind-is ∙ ap (kind_at b) rest-is in
+pub first_token_at : (bytes : ℕ) (text rest : List ℕ) (n : ℕ) → IsAtToken text → 1 ≤ length text → rest ≡ drop 1 text → n ≡ rest_of_token (get_or text 0 0) rest
+    → tokens_after bytes 0 text ≡ record { kind = kind_at (get_or text 0 0) rest; text = take (1 + n) text; at = bytes - length text } ∷ tokens_after bytes 0 (drop (1 + n) text)
+first_token_at bytes [] rest n first some rest-is n-is = absurd (omega arith)
+first_token_at bytes (b ∷ bs) rest n first some rest-is n-is =
     let one : 1 + n ≡ suc n = omega arith in
-    let front' : front ≡ b ∷ take n bs = front-is ∙ ap (λ k. take k (b ∷ bs)) one in
-    let behind' : behind ≡ drop n bs = behind-is ∙ ap (λ k. drop k (b ∷ bs)) one in
-    (sym same ∙ (first_token_at bytes b bs first ∙ rw (kind', at-is, front', behind', n') refl), omega (arith, ap length behind', length-drop n bs))
+    rw (one, first, n-is, rest-is, tokens_after-drop bytes (rest_of_token b bs) bs) refl
+
+-- tokens without their places
+pub without_places : (tokens : List Token) → map without_place (scanned_pieces tokens) ≡ pieces tokens
+without_places [] = refl
+without_places (t ∷ ts) = ap (λ (ps : List Piece). piece_of t ∷ ps) (without_places ts)

@@ -23,15 +23,10 @@ IsSplit operand nested ps None = Unit {0}
 IsSplit operand nested ps (Some s) = SplitIs operand nested ps s
 
 Under-behind : (r : ℕ) (part : Part) (x : Option Split) → Under r x → Under r (behind part x)
-Under-behind r part None h = tt
-Under-behind r part (Some s) h = h
+Under-behind r part x h = grind arith
 
 Under-looser : (r : ℕ) (o : Operator) (ps : List Part) (x : Option Split) → rank_of o < r → Under r x → Under r (looser o ps x)
-Under-looser r o ps None here h = here
-Under-looser r o ps (Some s) here h = elim (cases_Bool (nat_le (rank_of o) (rank_of s.operator))) [
-  | inl later ↦ rw later h
-  | inr tighter ↦ rw tighter here
-]
+Under-looser r o ps x here h = grind arith
 
 behind_split : (a b : Bool) (m n : ℕ) (part : Part) (ps : List Part) (x : Option Split)
     → ((qs : List Part) → split_from a m (part ∷ qs) ≡ behind part (split_from b n qs)) → IsSplit b n ps x → IsSplit a m (part ∷ ps) (behind part x)

@@ -7,17 +7,34 @@ use Rattle.redcode_text.specs.declared.token.Token.{Token}
 use Rattle.redcode_text.specs.declared.token.TokenKind.{TokenKind}
 use Rattle.redcode_text.specs.declared.token.TokenKind.TheVariants as kinds
 
--- a token without where it lies in memory
+-- a token without where it lies in memory or stands in its line
 pub record Piece : Type 0 where
+  pub kind : TokenKind
+  pub text : List ℕ
+
+abbrev pub piece : TokenKind → List ℕ → Piece
+piece kind text = record { kind = kind; text = text }
+
+abbrev pub piece_of : Token → Piece
+piece_of token = piece token.kind token.text.now
+
+abbrev pub pieces : List Token → List Piece
+pieces tokens = map piece_of tokens
+
+-- a token of a line, with how many bytes of the line stand before it
+pub record ScannedPiece : Type 0 where
   pub kind : TokenKind
   pub text : List ℕ
   pub at : ℕ
 
-abbrev pub piece_of : Token → Piece
-piece_of token = record { kind = token.kind; text = token.text.now; at = token.at }
+abbrev pub scanned_piece_of : Token → ScannedPiece
+scanned_piece_of token = record { kind = token.kind; text = token.text.now; at = token.at }
 
-abbrev pub pieces : List Token → List Piece
-pieces tokens = map piece_of tokens
+abbrev pub scanned_pieces : List Token → List ScannedPiece
+scanned_pieces tokens = map scanned_piece_of tokens
+
+abbrev pub without_place : ScannedPiece → Piece
+without_place token = piece token.kind token.text
 
 -- ---- what the tokens of a line are
 
@@ -42,7 +59,7 @@ is_of_kind kinds.Comment (b ∷ bs) = b == 59
 is_of_kind kinds.Bad (b ∷ bs) = is_bad_text b bs
 
 -- the piece is the first token of a line that begins at a place, and what is behind it
-pub record IsFirst (place : ℕ) (line : List ℕ) (piece : Piece) (behind : List ℕ) : Type 0 where
+pub record IsFirst (place : ℕ) (line : List ℕ) (piece : ScannedPiece) (behind : List ℕ) : Type 0 where
   pub blanks : List ℕ
   pub are_blank : list_all is_blank blanks ≡ true
   pub together : line ≡ blanks ++ (piece.text ++ behind)
@@ -50,12 +67,12 @@ pub record IsFirst (place : ℕ) (line : List ℕ) (piece : Piece) (behind : Lis
   pub kind : is_of_kind piece.kind piece.text ≡ true
   pub longest : (kind : TokenKind) (byte : ℕ) (more rest : List ℕ) → behind ≡ byte ∷ (more ++ rest) → is_of_kind kind (piece.text ++ byte ∷ more) ≡ false
 
-abbrev pub AreTokensFrom : ℕ → List ℕ → List Piece → Type 0
+abbrev pub AreTokensFrom : ℕ → List ℕ → List ScannedPiece → Type 0
 AreTokensFrom place line [] = list_all is_blank line ≡ true
 AreTokensFrom place line (piece ∷ others) = (behind : List ℕ) × (IsFirst place line piece behind × AreTokensFrom (piece.at + length piece.text) behind others)
 
 -- the pieces and the blanks between them are the line, each piece has its kind, and none could be longer at its place
-abbrev pub IsTokensOf : List ℕ → List Piece → Type 0
+abbrev pub IsTokensOf : List ℕ → List ScannedPiece → Type 0
 IsTokensOf line tokens = AreTokensFrom 0 line tokens
 
 -- ---- that list, from the front
@@ -81,15 +98,19 @@ rest_of_token b bs =
     if begins_symbol b bs then 1 else 0)))
 
 -- the tokens at the end of a line of so many bytes, behind the first bytes of that end, so many, which belong to a token already
-abbrev pub tokens_after : ℕ → ℕ → List ℕ → List Piece
+abbrev pub tokens_after : ℕ → ℕ → List ℕ → List ScannedPiece
 tokens_after bytes skip [] = []
 tokens_after bytes (suc skip) (b ∷ bs) = tokens_after bytes skip bs
 tokens_after bytes zero (b ∷ bs) =
     if is_blank b then tokens_after bytes 0 bs
     else record { kind = kind_at b bs; text = b ∷ take (rest_of_token b bs) bs; at = bytes - length (b ∷ bs) } ∷ tokens_after bytes (rest_of_token b bs) bs
 
-abbrev pub tokens_of : List ℕ → List Piece
+abbrev pub tokens_of : List ℕ → List ScannedPiece
 tokens_of line = tokens_after (length line) 0 line
+
+-- the same without their places
+abbrev pub pieces_of : List ℕ → List Piece
+pieces_of line = map without_place (tokens_of line)
 
 -- the bytes are none, or begin with a token
 abbrev pub IsAtToken : List ℕ → Type 0

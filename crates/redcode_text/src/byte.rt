@@ -41,7 +41,7 @@ pub(crate) fn is_digit(byte: u8) -> bool
 }
 
 /// A space, a tab or a carriage return.
-pub(crate) fn is_blank(byte: u8) -> bool
+pub fn is_blank(byte: u8) -> bool
     ensures { result ≡ is_blank byte }
 {
     byte == b' ' || byte == b'\t' || byte == b'\r'

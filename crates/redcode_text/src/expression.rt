@@ -1,6 +1,6 @@
 //! Expressions: C's operators and precedence on 64-bit signed numbers.
 
-ghost use Rattle.std.specs.Prelude.{◌≡◌, ℕ, List, Option, ℤ};
+ghost use Rattle.std.specs.Prelude.{◌≡◌, ◌≤◌, ◌<◌, ℕ, List, length, Option, IfSome, ℤ};
 ghost use Rattle.std.specs.Option.{option_map};
 ghost use Rattle.redcode_text.specs.Operators.{denied};
 ghost use Rattle.redcode_text.specs.Tokens.{pieces};
@@ -40,17 +40,18 @@ pub fn value<N: Names>(tokens: &[Token<'_>], names: &N) -> Result<i64, ExprFault
 /// The operands and operators at the front that bind no more loosely than the rank.
 #[cycle(climb)]
 fn climb<'t, 'l, N: Names>(tokens: &'t [Token<'l>], names: &N, rank: u8, depth: u8) -> Found<'t, 'l>
-    ensures { Climbs rank depth (Begin (parts_of (N.values names.now) tokens.entry.now)) (found (N.values names.now) result) }
+    ensures climbs { Climbs rank depth (Begin (parts_of (N.values names.now) tokens.entry.now)) (found (N.values names.now) result) }
+    ensures shorter { IfSome result (λ f. length f.1.now ≤ length tokens.entry.now) }
 {
     let (mut value, mut rest) = operand(tokens, names, depth)?;
     let mut climbed = 0;
     while climbed < rank && !rest.is_empty() {
-        climbed += 1;
-        while let Some((operator, behind)) = operator_at(rest, names, climbed) {
-            let (right, after) = climb(behind, names, climbed - 1, depth)?;
+        while let Some((operator, behind)) = operator_at(rest, names, climbed + 1) {
+            let (right, after) = climb(behind, names, climbed, depth)?;
             value = applied(operator, value, right);
             rest = after;
         }
+        climbed += 1;
     }
     Some((value, rest))
 }
@@ -58,7 +59,8 @@ fn climb<'t, 'l, N: Names>(tokens: &'t [Token<'l>], names: &N, rank: u8, depth: 
 /// A number, a name, or a unary operator or parentheses around what is left of the depth.
 #[cycle(climb)]
 fn operand<'t, 'l, N: Names>(tokens: &'t [Token<'l>], names: &N, depth: u8) -> Found<'t, 'l>
-    ensures { Climbs 0 depth (Begin (parts_of (N.values names.now) tokens.entry.now)) (found (N.values names.now) result) }
+    ensures climbs { Climbs 0 depth (Begin (parts_of (N.values names.now) tokens.entry.now)) (found (N.values names.now) result) }
+    ensures shorter { IfSome result (λ f. length f.1.now ≤ length tokens.entry.now) }
 {
     let (part, rest) = first_part(tokens, names)?;
     if let Part::Operand(value) = part {
@@ -80,7 +82,8 @@ fn first_part<'t, 'l, N: Names>(
     tokens: &'t [Token<'l>],
     names: &N,
 ) -> Option<(Part, &'t [Token<'l>])>
-    ensures { option_map (first (N.values names.now)) result ≡ first_of (parts_of (N.values names.now) tokens.entry.now) }
+    ensures shorter { IfSome result (λ f. length f.1.now < length tokens.entry.now) }
+    ensures first { option_map (first (N.values names.now)) result ≡ first_of (parts_of (N.values names.now) tokens.entry.now) }
 {
     let [first, behind @ ..] = tokens else {
         return None;
@@ -94,7 +97,8 @@ fn operator_at<'t, 'l, N: Names>(
     names: &N,
     rank: u8,
 ) -> Option<(Operator, &'t [Token<'l>])>
-    ensures { option_map (next (N.values names.now)) result ≡ next_at rank (parts_of (N.values names.now) tokens.entry.now) }
+    ensures shorter { IfSome result (λ f. length f.1.now < length tokens.entry.now) }
+    ensures next { option_map (next (N.values names.now)) result ≡ next_at rank (parts_of (N.values names.now) tokens.entry.now) }
 {
     let [first, behind @ ..] = tokens else {
         return None;
@@ -107,7 +111,8 @@ fn operator_at<'t, 'l, N: Names>(
 
 /// The value with a `!` before it.
 fn behind_not<'t, 'l>(inner: Found<'t, 'l>) -> Found<'t, 'l>
-    ensures { (names : List ℕ → Option ℤ) → found names result ≡ under denied (found names inner.entry) }
+    ensures shorter { (n : ℕ) → IfSome inner.entry (λ f. length f.1.now ≤ n) → IfSome result (λ f. length f.1.now ≤ n) }
+    ensures value { (names : List ℕ → Option ℤ) → found names result ≡ under denied (found names inner.entry) }
 {
     let (value, rest) = inner?;
     Some((denied(value), rest))
@@ -115,7 +120,8 @@ fn behind_not<'t, 'l>(inner: Found<'t, 'l>) -> Found<'t, 'l>
 
 /// The value with a `+` or a `-` before it. No other operator stands before an operand.
 fn behind_sign<'t, 'l>(sign: Operator, inner: Found<'t, 'l>) -> Found<'t, 'l>
-    ensures { (names : List ℕ → Option ℤ) → found names result ≡ signed_found sign (found names inner.entry) }
+    ensures shorter { (n : ℕ) → IfSome inner.entry (λ f. length f.1.now ≤ n) → IfSome result (λ f. length f.1.now ≤ n) }
+    ensures value { (names : List ℕ → Option ℤ) → found names result ≡ signed_found sign (found names inner.entry) }
 {
     let (value, rest) = inner?;
     match sign {
@@ -127,7 +133,8 @@ fn behind_sign<'t, 'l>(sign: Operator, inner: Found<'t, 'l>) -> Found<'t, 'l>
 
 /// The value, where a closing parenthesis stands behind it.
 fn before_close<'t, 'l, N: Names>(inner: Found<'t, 'l>, names: &N) -> Found<'t, 'l>
-    ensures { found (N.values names.now) result ≡ enclosed (found (N.values names.now) inner.entry) }
+    ensures shorter { (n : ℕ) → IfSome inner.entry (λ f. length f.1.now ≤ n) → IfSome result (λ f. length f.1.now ≤ n) }
+    ensures value { found (N.values names.now) result ≡ enclosed (found (N.values names.now) inner.entry) }
 {
     let (value, rest) = inner?;
     match first_part(rest, names)? {

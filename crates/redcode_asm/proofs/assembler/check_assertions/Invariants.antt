@@ -1,8 +1,7 @@
 -- All assertions so far hold.
 use Rattle.std.proofs.Common.{◌≡◌, drop}
 use Rattle.redcode_asm.specs.Assembly.{all_hold}
-use Rattle.redcode_asm.specs.Placed.{all_placed}
 use Rattle.redcode_asm.proofs.assembler.check_assertions.Given as goal
 
 abbrev pub invariant-loop-line : goal.invariant-loop-line
-invariant-loop-line l = all_hold (all_placed (drop l.line-index l.said)) ≡ all_hold (all_placed l.said)
+invariant-loop-line l = all_hold (drop l.line-index l.said) ≡ all_hold l.said

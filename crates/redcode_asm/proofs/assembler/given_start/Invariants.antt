@@ -2,10 +2,9 @@
 use Rattle.std.proofs.Common.{◌≡◌, drop}
 use Rattle.std.specs.Option.{option_or}
 use Rattle.redcode_asm.specs.Assembly.{last_of, org_of, end_of}
-use Rattle.redcode_asm.specs.Placed.{all_placed}
 use Rattle.redcode_asm.proofs.assembler.given_start.Given as goal
 
 abbrev pub invariant-loop-line : goal.invariant-loop-line
 invariant-loop-line l =
-    (option_or (last_of org_of (all_placed (drop l.line-index l.said))) l.org ≡ last_of org_of (all_placed l.said))
-    × (option_or (last_of end_of (all_placed (drop l.line-index l.said))) l.end ≡ last_of end_of (all_placed l.said))
+    (option_or (last_of org_of (drop l.line-index l.said)) l.org ≡ last_of org_of l.said)
+    × (option_or (last_of end_of (drop l.line-index l.said)) l.end ≡ last_of end_of l.said)

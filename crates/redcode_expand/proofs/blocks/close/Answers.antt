@@ -1,9 +1,10 @@
-use Rattle.redcode_text.specs.Tokens.{pieces}
+use Rattle.std.proofs.Common.{refl, sym, ◌∙◌}
+use Rattle.redcode_lines.specs.Views.{line_read}
 use Rattle.redcode_expand.specs.Rest.{counters_of}
-use Rattle.redcode_expand.proofs.BareLines.{closed-bare, found-is}
+use Rattle.redcode_expand.proofs.PlainCounts.{closed-plain}
 use Rattle.redcode_expand.proofs.blocks.close.Goals as goal
 
-pub returns-in-Some-clause-closed : goal.returns-in-Some-clause-closed
-returns-in-Some-clause-closed g c =
-    closed-bare c.args.settings.now (counters_of c.args.blocks.now) c.args.line.now c.args.walk.now _
-    (found-is (λ tokens. pieces tokens.now) c.behind.result _ _ _ c.requires c.behind.ensures c.in-Some.is)
+pub returns-then-is_empty-clause-closed : goal.returns-then-is_empty-clause-closed
+returns-then-is_empty-clause-closed g c =
+    closed-plain c.args.settings.now (counters_of c.args.blocks.now) (line_read c.args.line) c.args.walk.now c.args.line.front.now refl
+    (sym c.is_some.ensures ∙ c.if-is_some.true) (sym c.is_empty.ensures ∙ c.if-is_empty.true)

@@ -1,6 +1,7 @@
-use Rattle.redcode_expand.proofs.Pairing.{unmatched-told}
+use Rattle.std.proofs.Common.{arith}
+use Rattle.std.proofs.lemmas.Grind.{common_steps}
+use Rattle.redcode_expand.proofs.GoingOn.{unmatched-told}
 use Rattle.redcode_expand.proofs.blocks.is_unmatched.Goals as goal
 
 pub returns-then-is_empty : goal.returns-then-is_empty
-returns-then-is_empty g c =
-    unmatched-told c.args.lines.now c.args.blocks.now c.args.body c.rof_behind.result c.rof_behind.ensures.rofs c.rof_behind.ensures.from
+returns-then-is_empty g c = grind (arith, common_steps, unmatched-told)

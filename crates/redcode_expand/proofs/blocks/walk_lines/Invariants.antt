@@ -1,6 +1,6 @@
 -- What is left is due, and each step leaves fewer.
 use Rattle.std.proofs.Common.{◌≡◌, drop}
-use Rattle.redcode_copies.specs.Block.{parsed}
+use Rattle.redcode_lines.specs.Block.{parsed}
 use Rattle.redcode_expand.specs.Walk.{walk_all, walk_begin}
 use Rattle.redcode_expand.specs.Rest.{rest_of, steps_left, AreOpen}
 use Rattle.redcode_expand.specs.Kept.{AreKept}

@@ -1,7 +1,7 @@
 -- The comment at the end of what is left is that of the line.
 use Rattle.std.proofs.Common.{◌≡◌, ◌≤◌, length}
 use Rattle.redcode_text.specs.Tokens.{pieces}
-use Rattle.redcode_lines.specs.Word.{dropped_while, is_no_comment}
+use Rattle.redcode_lines.specs.Line.{dropped_while, is_no_comment}
 use Rattle.redcode_lines.proofs.reading.comment_at_end.Given as goal
 
 abbrev pub invariant-loop-rest : goal.invariant-loop-rest

@@ -1,6 +1,8 @@
 -- The tokens so far are linked.
-use Rattle.redcode_names.proofs.Linked.{AreSoFar}
+use Rattle.std.proofs.Common.{◌≡◌, take}
+use Rattle.redcode_text.specs.Tokens.{pieces}
+use Rattle.redcode_names.specs.Link.{AreLinked, tokens_of}
 use Rattle.redcode_names.proofs.link.linked.Given as goal
 
 abbrev pub invariant-loop-token : goal.invariant-loop-token
-invariant-loop-token g l = AreSoFar l.equs l.tokens l.token-index l.links.items
+invariant-loop-token g l = (tokens_of l.links.items ≡ pieces (take l.token-index l.tokens)) × AreLinked l.equs l.links.items

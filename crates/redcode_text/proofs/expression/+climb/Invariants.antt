@@ -1,5 +1,5 @@
 -- What is climbed from here on is climbed from the beginning.
-use Rattle.std.proofs.Common.{◌+◌, ◌-◌, ◌*◌, ◌<◌, ◌≤◌, length, Some}
+use Rattle.std.proofs.Common.{suc, ◌+◌, ◌-◌, ◌*◌, ◌≤◌, length, Some}
 use Rattle.redcode_text.specs.Climbing.{Found, Climbs, Begin, Continue, parts_of}
 use Rattle.redcode_text.proofs.expression.+climb.Given as goal
 
@@ -11,16 +11,16 @@ decreases-operand g l = 8 * length l.tokens.now
 
 abbrev pub invariant-climb-loop-climbed : goal.invariant-climb-loop-climbed
 invariant-climb-loop-climbed g l =
-    Climbs l.climbed l.depth (Begin (parts_of (g.N.Names.values l.names) l.tokens)) (Some (l.value, parts_of (g.N.Names.values l.names) l.rest))
-    × (l.climbed ≤ l.rank) × (length l.rest ≤ length l.tokens)
+    let parts = parts_of (g.N.Names.values l.names) in
+    Climbs l.climbed l.depth (Begin (parts l.tokens)) (Some (l.value, parts l.rest)) × (l.climbed ≤ l.rank) × (length l.rest ≤ length l.tokens)
 
 abbrev pub decreases-climb-loop-climbed : goal.decreases-climb-loop-climbed
 decreases-climb-loop-climbed g l = l.rank - l.climbed
 
 abbrev pub invariant-climb-loop-operator : goal.invariant-climb-loop-operator
 invariant-climb-loop-operator g l =
-    ((out : Found) → Climbs l.climbed l.depth (Continue l.value (parts_of (g.N.Names.values l.names) l.rest)) out → Climbs l.climbed l.depth (Begin (parts_of (g.N.Names.values l.names) l.tokens)) out)
-    × (0 < l.climbed) × (l.climbed ≤ l.rank) × (length l.rest ≤ length l.tokens)
+    let parts = parts_of (g.N.Names.values l.names) in
+    ((out : Found) → Climbs (suc l.climbed) l.depth (Continue l.value (parts l.rest)) out → Climbs (suc l.climbed) l.depth (Begin (parts l.tokens)) out) × (length l.rest ≤ length l.tokens)
 
 abbrev pub decreases-climb-loop-operator : goal.decreases-climb-loop-operator
 decreases-climb-loop-operator g l = length l.rest

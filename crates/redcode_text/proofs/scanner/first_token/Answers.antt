@@ -1,9 +1,12 @@
-use Rattle.std.proofs.Common.{refl, arith}
+use Rattle.std.proofs.Common.{sym, ap, ◌∙◌, length, arith, length-drop}
 use Rattle.std.proofs.lemmas.Grind.{common_steps}
-use Rattle.redcode_text.proofs.Scanning.{first_token_is}
+use Rattle.redcode_text.proofs.Scanning.{first_token_at}
 use Rattle.redcode_text.proofs.scanner.first_token.Goals as goal
 
 pub returns : goal.returns
-returns c =
-    first_token_is c.args.bytes _ c.after_blanks-text.result.now _ _ _ _ _ _ c.after_blanks-text.ensures.tokens c.after_blanks-text.ensures.shorter
-    c.after_blanks-text.ensures.front (omega arith) (grind (arith, common_steps)) c.kind_at-kind.ensures refl c.rest_of_token.ensures.value c.split_at.ensures.front c.split_at.ensures.back
+returns c = (
+  rw (c.split_at.ensures.front, c.split_at.ensures.back, c.kind_at-kind.ensures) (
+      sym c.after_blanks-text.ensures.tokens
+      ∙ first_token_at c.args.bytes c.after_blanks-text.result.now _ _ c.after_blanks-text.ensures.front (omega arith) (grind (arith, common_steps)) c.rest_of_token.ensures.value),
+  omega (arith, simp length-drop at (ap length c.split_at.ensures.back), c.after_blanks-text.ensures.shorter),
+)

@@ -1,14 +1,19 @@
-use Rattle.std.proofs.Common.{◌++◌, subst, sym, ap, ◌∙◌, append-nil}
-use Rattle.redcode_text.specs.Tokens.{IsTokensOf, pieces}
+use Rattle.std.proofs.Common.{append-nil, refl}
+use Rattle.redcode_text.proofs.Scanning.{without_places}
 use Rattle.redcode_text.proofs.TokenLists.{one_list}
 use Rattle.redcode_text.proofs.Longest.{are_tokens_of}
 use Rattle.redcode_text.proofs.scanner.scan.Goals as goal
 
 pub returns-in_err-push-clause-only : goal.returns-in_err-push-clause-only
-returns-in_err-push-clause-only g c = λ tokens others a b. one_list 0 c.args.line.now tokens others a b
+returns-in_err-push-clause-only g c = one_list 0 c.args.line.now
 
 pub returns-clause-are_its : goal.returns-clause-are_its
-returns-clause-are_its g c = subst (IsTokensOf c.args.line.now) (sym c.loop-token.invariant.0 ∙ ap (λ ts. pieces c.loop-token.tokens.items ++ ts) (c.in_default.ensures) ∙ append-nil (pieces c.loop-token.tokens.items)) (are_tokens_of c.args.line.now)
+returns-clause-are_its g c = let done = rw (c.in_default.ensures, append-nil) at c.loop-token.invariant.0 in rw done (are_tokens_of c.args.line.now)
 
 pub returns-clause-only : goal.returns-clause-only
-returns-clause-only g c = λ tokens others a b. one_list 0 c.args.line.now tokens others a b
+returns-clause-only g c = one_list 0 c.args.line.now
+
+pub returns-clause-pieces : goal.returns-clause-pieces
+returns-clause-pieces g c =
+    let done = rw (c.in_default.ensures, append-nil) at c.loop-token.invariant.0 in
+    rw (← without_places c.loop-token.tokens.items, done) refl

@@ -1,10 +1,10 @@
--- The bodies so far are linked, and with those that are left they are all.
-use Rattle.std.proofs.Common.{length}
-use Rattle.redcode_names.proofs.Linked.{BodiesSoFar}
+-- The bodies so far are linked.
+use Rattle.std.proofs.Common.{◌≡◌, map, take, All}
+use Rattle.redcode_text.specs.Tokens.{pieces}
+use Rattle.redcode_names.specs.Link.{AreLinked, tokens_of}
 use Rattle.redcode_names.proofs.link.LinkedEqus.new.Given as goal
 
-abbrev pub invariant-loop-rest : goal.invariant-loop-rest
-invariant-loop-rest g l = BodiesSoFar (λ body. body.items) (λ body. body.items) l.equs l.bodies.items l.rest
-
-abbrev pub decreases-loop-rest : goal.decreases-loop-rest
-decreases-loop-rest g l = length l.rest
+abbrev pub invariant-loop-body : goal.invariant-loop-body
+invariant-loop-body g l =
+    (map (λ body. tokens_of body.items) l.bodies.items ≡ map (λ body. pieces body.items) (take l.body-index l.all))
+    × All (λ body. AreLinked l.equs body.items) l.bodies.items

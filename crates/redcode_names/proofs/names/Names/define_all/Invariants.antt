@@ -1,13 +1,11 @@
 -- The names so far, and the labels of what is left.
-use Rattle.std.proofs.Common.{◌≡◌, length}
-use Rattle.redcode_lines.specs.Word.{may_label, names_among, taken_while}
+use Rattle.std.proofs.Common.{◌≡◌, drop}
+use Rattle.redcode_text.specs.Tokens.{pieces}
+use Rattle.redcode_lines.specs.Line.{names_among}
 use Rattle.redcode_names.specs.Name.{all_defined}
 use Rattle.redcode_names.proofs.names.Names.define_all.Given as goal
 
-abbrev pub invariant-loop-rest : goal.invariant-loop-rest
-invariant-loop-rest g l =
-    all_defined l.settings l.number l.address (names_among (taken_while (may_label l.word) l.rest)) l.self
-    ≡ all_defined l.settings l.number l.address (names_among (taken_while (may_label l.word) l.tokens)) l.initial.self
-
-abbrev pub decreases-loop-rest : goal.decreases-loop-rest
-decreases-loop-rest g l = length l.rest
+abbrev pub invariant-loop-label : goal.invariant-loop-label
+invariant-loop-label g l =
+    all_defined l.settings l.number l.address (names_among (pieces (drop l.label-index l.labels))) l.self
+    ≡ all_defined l.settings l.number l.address (names_among (pieces l.labels)) l.initial.self

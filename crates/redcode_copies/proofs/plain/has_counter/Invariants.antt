@@ -1,0 +1,11 @@
+-- A counter is among the tokens that are left where one is among all.
+use Rattle.std.proofs.Common.{◌≡◌, length}
+use Rattle.redcode_text.specs.Tokens.{pieces}
+use Rattle.redcode_copies.specs.Plain.{has_number}
+use Rattle.redcode_copies.proofs.plain.has_counter.Given as goal
+
+abbrev pub invariant-loop-rest : goal.invariant-loop-rest
+invariant-loop-rest g l = has_number (g.C.Counters.counters l.counters) (pieces l.rest) ≡ has_number (g.C.Counters.counters l.counters) (pieces l.tokens)
+
+abbrev pub decreases-loop-rest : goal.decreases-loop-rest
+decreases-loop-rest g l = length l.rest

@@ -1,0 +1,125 @@
+//! Lines without an `&`: in them no name is joined, so all counters are replaced at once.
+
+ghost use Rattle.std.specs.Prelude.{◌≡◌, ◌≤◌, ◌++◌, false, length, map, take, drop, Some, None, IfOk, OnOk, MatchOption};
+ghost use Rattle.redcode_text.specs.Tokens.{piece_of, pieces};
+ghost use Rattle.redcode_lines.specs.Capped.{has_and};
+ghost use Rattle.redcode_lines.specs.Views.{line_read};
+ghost use Rattle.redcode_copies.specs.Counter.{in_copies};
+ghost use Rattle.redcode_copies.specs.Plain.{changed_from, has_number, kept_behind, kept_count, modifier_count, number_by};
+ghost use Rattle.redcode_copies.specs.Views.{with_tokens};
+
+use crate::counter::number_token;
+use crate::line_copy::LineCopy;
+use bumpalo::Bump;
+use redcode_lines::{LineForm, Reading, behind_names, has_text, is_name};
+use redcode_text::{Token, Word};
+use std::alloc::{AllocError, Allocator};
+
+/// The counters of blocks within each other, the outermost first.
+pub trait Counters {
+    ghost use Rattle.std.specs.Prelude.{◌≡◌, List};
+    ghost use Rattle.redcode_copies.specs.Counter.{Counter};
+    ghost use Rattle.redcode_copies.specs.Plain.{number_of};
+
+    /// The counters.
+    ghost counters: { Self → List Counter };
+
+    /// The number of the first counter of this name.
+    fn number_of(&self, name: &[u8]) -> Option<u64>
+        ensures { result ≡ number_of (counters self.now) name.now };
+}
+
+/// Whether a counter is among the tokens.
+pub fn has_counter<C: Counters>(counters: &C, tokens: &[Token<'_>]) -> bool
+    ensures { result ≡ has_number (C.counters counters.now) (pieces tokens.now) }
+{
+    let mut rest = tokens;
+    while let [first, behind @ ..] = rest {
+        if is_name(first) && counters.number_of(first.text).is_some() {
+            return true;
+        }
+        rest = behind;
+    }
+    false
+}
+
+/// A line without an `&` within copies; nothing where it names no counter, and so reads as it stands.
+pub fn plain_copy<'s, A: Allocator + Copy, C: Counters>(
+    alloc: A,
+    region: &'s Bump<A>,
+    counters: &C,
+    line: Reading<'_, 's>,
+) -> Result<Option<LineCopy<'s, A>>, AllocError>
+    requires front { has_and (pieces line.front.now) ≡ false }
+    requires tokens { has_and (pieces line.tokens.now) ≡ false }
+    ensures { IfOk result (λ copy. MatchOption copy (in_copies (C.counters counters.now) (line_read line.entry) ≡ line_read line.entry)
+        (λ copy. with_tokens (line_read line.entry) copy ≡ in_copies (C.counters counters.now) (line_read line.entry))) }
+{
+    if !has_counter(counters, line.tokens) {
+        return Ok(None);
+    }
+    let (kept, changed) = line.tokens.split_at(kept_count(line));
+    let mut tokens = Vec::with_capacity(alloc, line.tokens.len())?;
+    tokens.extend_from_slice(kept)?;
+    append_numbered(region, counters, changed, &mut tokens)?;
+    let front = Vec::from_slice(alloc, line.front)?;
+    Ok(Some(LineCopy { front, tokens }))
+}
+
+/// Appends tokens with its number for each that is a counter.
+fn append_numbered<'s, A: Allocator, C: Counters>(
+    region: &'s Bump<A>,
+    counters: &C,
+    tokens: &[Token<'s>],
+    out: &mut Vec<Token<'s>, A>,
+) -> Result<(), AllocError>
+    ensures { OnOk result (pieces out.new.items ≡ pieces out.old.items ++ map (number_by (C.counters counters.now)) (pieces tokens.now)) }
+{
+    for token in tokens {
+        out.push(numbered(region, counters, token)?)?;
+    }
+    Ok(())
+}
+
+/// The number of the first counter that a token is, or the token.
+fn numbered<'s, A: Allocator, C: Counters>(
+    region: &'s Bump<A>,
+    counters: &C,
+    token: &Token<'s>,
+) -> Result<Token<'s>, AllocError>
+    ensures { IfOk result (λ new. piece_of new ≡ number_by (C.counters counters.now) (piece_of token.now)) }
+{
+    if !is_name(token) {
+        return Ok(*token);
+    }
+    match counters.number_of(token.text) {
+        Some(number) => number_token(region, number, token.at),
+        None => Ok(*token),
+    }
+}
+
+/// How many tokens at the front stay whatever they are: the word and a modifier's name, or the labels of a line without a word.
+fn kept_count(line: Reading<'_, '_>) -> usize
+    ensures count { result ≡ kept_count line.entry.form line.entry.word (pieces line.entry.tokens.now) }
+    ensures within { result ≤ length line.entry.tokens.now }
+{
+    match (line.form, line.word) {
+        (LineForm::Statement, None) => line.tokens.len() - behind_names(line.tokens).len(),
+        (LineForm::Statement, Some(word)) => match line.tokens {
+            [] => 0,
+            [_, behind @ ..] => 1 + kept_behind(word, behind),
+        },
+        _ => 0,
+    }
+}
+
+/// How many tokens behind this word stay.
+fn kept_behind(word: Word, tokens: &[Token<'_>]) -> usize
+    ensures count { result ≡ kept_behind word (pieces tokens.now) }
+    ensures within { result ≤ length tokens.now }
+{
+    match (word, tokens) {
+        (Word::Operation(_) | Word::Pspace, [dot, _, ..]) if has_text(dot, b".") => 2,
+        _ => 0,
+    }
+}

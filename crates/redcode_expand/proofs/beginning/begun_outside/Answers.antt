@@ -1,0 +1,45 @@
+use Rattle.std.proofs.lemmas.Grind.{common_steps}
+use Rattle.std.proofs.Common.{arith, ◌<◌, ◌^◌, ℕ, List, Ok, sym, ap, subst, ◌∙◌}
+use Rattle.redcode_text.specs.declared.token.Token.{Token}
+use Rattle.redcode_text.specs.declared.vocabulary.Word.TheVariants as words
+use Rattle.redcode_text.specs.Tokens.{pieces}
+use Rattle.redcode_lines.specs.Views.{line_read}
+use Rattle.redcode_lines.specs.Capped.{has_and}
+use Rattle.redcode_copies.proofs.WrittenLines.{plain-unchanged}
+use Rattle.redcode_names.proofs.Residuals.{err-from}
+use Rattle.redcode_expand.specs.Rest.{counters_of}
+use Rattle.redcode_expand.specs.Walk.{begun_as}
+use Rattle.redcode_expand.proofs.AddedEqus.{begun_of-equs}
+use Rattle.redcode_expand.proofs.Keeping.{all-learned, begun-kept}
+use Rattle.redcode_expand.proofs.PlainCounts.{front-labels}
+use Rattle.redcode_expand.proofs.beginning.begun_outside.Goals as goal
+
+pub returns-in-Some-clause-begun : goal.returns-in-Some-clause-begun
+returns-in-Some-clause-begun g c =
+    let line = line_read c.args.line in
+    let same = plain-unchanged (counters_of c.args.blocks.now) line (ap (λ (ts : List Token). has_and (pieces ts)) c.requires.front) c.requires.plain c.requires.unnamed in
+    let n = c.in-Some.copies in
+    begun-kept c.args.settings.now (counters_of c.args.blocks.now) line c.args.walk.now n same
+    (c.requires.kept.kept c.args.at line n c.requires.some c.requires.line (sym c.at.ensures ∙ c.in-Some.is))
+    ∙ ap (λ (name : List ℕ). Ok (begun_as c.args.walk.now name n)) (sym c.begun_by.ensures.counter)
+    ∙ ap (λ (k : ℕ). Ok (begun_as c.args.walk.now c.begun_by.result.counter.now k)) (sym c.begun_by.ensures.copies)
+
+pub returns-in-Some-clause-few : goal.returns-in-Some-clause-few
+returns-in-Some-clause-few g c =
+    let kept = c.requires.kept.kept c.args.at (line_read c.args.line) c.in-Some.copies c.requires.some c.requires.line (sym c.at.ensures ∙ c.in-Some.is) in
+    subst (λ (n : ℕ). n < 2 ^ 63) (sym c.begun_by.ensures.copies) kept.few
+
+pub returns-in_err-begun-clause-begun : goal.returns-in_err-begun-clause-begun
+returns-in_err-begun-clause-begun g c = grind (arith, common_steps, plain-unchanged, err-from)
+
+pub returns-clause-begun : goal.returns-clause-begun
+returns-clause-begun g c = grind (arith, common_steps, plain-unchanged)
+
+pub returns-clause-kept : goal.returns-clause-kept
+returns-clause-kept g c =
+    let line = line_read c.args.line in
+    let b = c.in_ok-begun.begun in
+    all-learned c.args.settings.now c.args.lines.now c.args.walk.now.names.equs c.begin_as.new.self.names.equs c.args.counts.now c.learn.new.self c.args.at line b.copies b.is_fixed
+    (begun_of-equs c.args.settings.now line c.args.walk.now (begun_as c.begin_as.new.self b.counter.now b.copies) c.in_ok-begun.ensures.begun)
+    c.requires.some c.requires.line c.requires.kept (front-labels line words.For c.requires.word (ap (λ (ts : List Token). pieces ts) c.requires.front))
+    c.in_ok-begun.ensures.fixed c.in_ok-begun.ensures.few c.learn.ensures

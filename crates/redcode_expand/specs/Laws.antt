@@ -1,0 +1,56 @@
+-- What holds of every walk and of every expansion: a block is its body written out, and addresses count instructions.
+use Rattle.std.specs.Prelude.{◌≡◌, ◌<◌, ◌≤◌, ℕ, ◌+◌, zero, suc, List, [], ◌∷◌, length, take, Some}
+use Rattle.war_types.specs.declared.settings.RawSettings.{RawSettings}
+use Rattle.redcode_lines.specs.declared.line.LineKind.{LineKind}
+use Rattle.redcode_lines.specs.declared.line.LineKind.TheVariants as lines
+use Rattle.redcode_lines.specs.Line.{SourceLine, labels_of}
+use Rattle.redcode_lines.specs.Block.{Blocks, finish, one_line, block, open_for}
+use Rattle.redcode_copies.specs.Counter.{Counter, counter_of, in_copy}
+use Rattle.redcode_names.specs.Gives.{◌>>=◌}
+use Rattle.redcode_names.specs.Name.{address_of}
+use Rattle.redcode_expand.specs.Walk.{ExpandedLine, WalkState, begun_of, copies, labelled, until_end, walk}
+use Rattle.redcode_expand.specs.Expansion.{Expansion}
+
+-- ---- blocks
+
+-- what is left of a source, with each line as it reads in a copy
+abbrev pub written_out : Counter → Blocks → Blocks
+written_out c finish = finish
+written_out c (one_line line rest) = one_line (in_copy c line) (written_out c rest)
+written_out c (block for body rof rest) = block (in_copy c for) (written_out c body) (in_copy c rof) (written_out c rest)
+written_out c (open_for for) = open_for (in_copy c for)
+
+-- a block is its body written out copy by copy, in each the tokens of its counter replaced, and each copy walked over in its turn
+abbrev pub BlocksAreWrittenOut : RawSettings → Type 0
+BlocksAreWrittenOut s =
+    (for : SourceLine) (body : Blocks) (rof : SourceLine) (rest : Blocks) (st : WalkState) → walk s [] (block for body rof rest) st
+    ≡ until_end (λ st. begun_of s for st >>= λ b. copies (λ number. walk s [] (written_out (counter_of b.counter number) body)) for.number b.copies 1 b.state) st
+    >>= until_end (labelled s rof.number (labels_of rof)) >>= walk s [] rest
+
+-- ---- addresses
+
+abbrev pub instruction_of : LineKind → ℕ
+instruction_of lines.Operation = 1
+instruction_of _ = 0
+
+-- how many of these lines are instructions
+abbrev pub instructions : List ExpandedLine → ℕ
+instructions [] = 0
+instructions (line ∷ lines) = instruction_of line.kind + instructions lines
+
+-- how many instructions stand before the line at this place, as it says
+abbrev pub before_at : List ExpandedLine → ℕ → ℕ
+before_at [] i = 0
+before_at (line ∷ others) zero = line.before
+before_at (line ∷ others) (suc i) = before_at others i
+
+-- so many instructions stand among the first lines, so many of them
+pub record IsPlace (lines : List ExpandedLine) (address : ℕ) : Type 0 where
+  pub behind : ℕ
+  pub within : behind ≤ length lines
+  pub counts : address ≡ instructions (take behind lines)
+
+-- each line says how many instructions stand before it, and each label's address is such a number
+pub record AreCounted (expanded : Expansion) : Type 0 where
+  pub before : (i : ℕ) → i < length expanded.lines → before_at expanded.lines i ≡ instructions (take i expanded.lines)
+  pub labels : (name : List ℕ) (address : ℕ) → address_of expanded.labels name ≡ Some address → IsPlace expanded.lines address

@@ -1,0 +1,187 @@
+//! How a block begins.
+
+ghost use Rattle.std.specs.Prelude.{◌≡◌, ◌+◌, ◌<◌, ◌∷◌, ◌^◌, [], true, false, Some, drop, length, IfOk, OnOk};
+ghost use Rattle.redcode_text.specs.Tokens.{pieces};
+ghost use Rattle.redcode_text.specs.declared.vocabulary.Word.TheVariants.{For};
+ghost use Rattle.redcode_names.specs.Gives.{Gives};
+ghost use Rattle.redcode_lines.specs.Views.{line_read};
+ghost use Rattle.redcode_lines.specs.Capped.{has_and};
+ghost use Rattle.redcode_copies.specs.Plain.{has_number};
+ghost use Rattle.redcode_expand.specs.Rest.{counters_of, AreFew};
+ghost use Rattle.redcode_expand.specs.Walk.{begun, begun_as, begun_of};
+ghost use Rattle.redcode_expand.specs.Kept.{AreKept, CountIsFixed};
+
+use crate::count::copies_of;
+use crate::counts::Counts;
+use crate::open_blocks::OpenBlocks;
+use crate::values::count_within;
+use crate::walk::Walk;
+use redcode_lines::{Reading, SourceLine, behind_first, has_and};
+use redcode_names::TOKEN_LIMIT;
+use std::alloc::Allocator;
+use war_types::{AsmFault, Settings};
+
+/// How a block begins.
+#[derive(Clone, Copy, Debug)]
+pub(crate) struct Begun<'s> {
+    /// The counter's name, empty where there is none.
+    pub counter: &'s [u8],
+    pub copies: u64,
+    /// Whether the count asks for so many on every line, and whatever EQUs there are later.
+    pub is_fixed: bool,
+}
+
+impl<'s, A: Allocator + Copy> Walk<'s, A> {
+    /// Walks over the `FOR` of a block: its labels and its count.
+    pub(crate) fn begin(
+        &mut self,
+        settings: &Settings,
+        blocks: &OpenBlocks<'s, A>,
+        line: Reading<'_, 's>,
+    ) -> Result<Begun<'s>, AsmFault>
+        ensures begun { Gives (λ b. begun_as self.new b.counter.now b.copies) result (begun settings.now (counters_of blocks.now) (line_read line.entry) self.old) }
+        ensures goes_on { OnOk result (self.new.ended ≡ self.old.ended) }
+        ensures counted { OnOk result (self.new.counted ≡ self.old.counted) }
+        ensures few { IfOk result (λ b. b.copies < 2 ^ 63) }
+    {
+        match blocks.copy_of(line)? {
+            Some(copy) => self.begin_as(settings, copy.reading(line)),
+            None => self.begin_as(settings, line),
+        }
+    }
+
+    /// Walks over the `FOR` of a block as it reads.
+    pub(crate) fn begin_as(
+        &mut self,
+        settings: &Settings,
+        line: Reading<'_, 's>,
+    ) -> Result<Begun<'s>, AsmFault>
+        ensures begun { Gives (λ b. begun_as self.new b.counter.now b.copies) result (begun_of settings.now (line_read line.entry) self.old) }
+        ensures goes_on { OnOk result (self.new.ended ≡ self.old.ended) }
+        ensures counted { OnOk result (self.new.counted ≡ self.old.counted) }
+        ensures few { IfOk result (λ b. b.copies < 2 ^ 63) }
+        ensures fixed { IfOk result (λ b. CountIsFixed settings.now line.entry.number self.new.names.equs (drop 1 (pieces line.entry.tokens.now)) b.is_fixed b.copies) }
+    {
+        let number = line.number;
+        let before = self.before;
+        let counter = self
+            .names
+            .define_earlier(settings, number, before, line.labels())?;
+        let count = behind_first(line.tokens);
+        let copies = copies_of(
+            self.alloc,
+            settings,
+            number,
+            before,
+            &self.names.equs,
+            count,
+        )?;
+        Ok(Begun {
+            counter,
+            copies: copies.count,
+            is_fixed: copies.is_fixed,
+        })
+    }
+}
+
+/// How a block begins: by its labels and its count, or by its count alone where it has no labels.
+pub(crate) fn begun_at<'s, A: Allocator + Copy>(
+    settings: &Settings,
+    walk: &mut Walk<'s, A>,
+    blocks: &OpenBlocks<'s, A>,
+    counts: &mut Counts<A>,
+    lines: &[SourceLine<'s, A>],
+    at: usize,
+    line: Reading<'_, 's>,
+) -> Result<Begun<'s>, AsmFault>
+    requires some { at < length lines.now }
+    requires line { drop at lines.now ≡ line_read line ∷ drop (at + 1) lines.now }
+    requires word { line.word ≡ Some For }
+    requires kept { AreKept settings.now lines.now walk.old.names.equs counts.old }
+    ensures begun { Gives (λ b. begun_as walk.new b.counter.now b.copies) result (begun settings.now (counters_of blocks.now) (line_read line.entry) walk.old) }
+    ensures goes_on { OnOk result (walk.new.ended ≡ walk.old.ended) }
+    ensures counted { OnOk result (walk.new.counted ≡ walk.old.counted) }
+    ensures few { IfOk result (λ b. b.copies < 2 ^ 63) }
+    ensures kept { OnOk result (AreKept settings.now lines.now walk.new.names.equs counts.new) }
+{
+    if !line.front.is_empty() || has_and(line.tokens) {
+        let begun = walk.begin(settings, blocks, line)?;
+        return Ok(begun);
+    }
+    if blocks.are_among(line.tokens) {
+        let begun = begun_within(settings, walk, blocks, line)?;
+        return Ok(begun);
+    }
+    begun_outside(settings, walk, blocks, counts, lines, at, line)
+}
+
+/// How a block without labels begins whose line names no counter: by the count that is kept, or by one that is worked out, and
+/// kept where it stays the same.
+fn begun_outside<'s, A: Allocator + Copy>(
+    settings: &Settings,
+    walk: &mut Walk<'s, A>,
+    blocks: &OpenBlocks<'s, A>,
+    counts: &mut Counts<A>,
+    lines: &[SourceLine<'s, A>],
+    at: usize,
+    line: Reading<'_, 's>,
+) -> Result<Begun<'s>, AsmFault>
+    requires some { at < length lines.now }
+    requires line { drop at lines.now ≡ line_read line ∷ drop (at + 1) lines.now }
+    requires word { line.word ≡ Some For }
+    requires front { line.front.now ≡ [] }
+    requires plain { has_and (pieces line.tokens.now) ≡ false }
+    requires unnamed { has_number (counters_of blocks.now) (pieces line.tokens.now) ≡ false }
+    requires kept { AreKept settings.now lines.now walk.old.names.equs counts.old }
+    ensures begun { Gives (λ b. begun_as walk.new b.counter.now b.copies) result (begun settings.now (counters_of blocks.now) (line_read line.entry) walk.old) }
+    ensures goes_on { OnOk result (walk.new.ended ≡ walk.old.ended) }
+    ensures counted { OnOk result (walk.new.counted ≡ walk.old.counted) }
+    ensures few { IfOk result (λ b. b.copies < 2 ^ 63) }
+    ensures kept { OnOk result (AreKept settings.now lines.now walk.new.names.equs counts.new) }
+{
+    if let Some(copies) = counts.at(at) {
+        return Ok(begun_by(copies));
+    }
+    let begun = walk.begin_as(settings, line)?;
+    counts.learn(at, begun.copies, begun.is_fixed);
+    Ok(begun)
+}
+
+/// How a block without labels begins whose count may hang on counters: by its tokens as they stand in the source, where that
+/// gives the same.
+fn begun_within<'s, A: Allocator + Copy>(
+    settings: &Settings,
+    walk: &mut Walk<'s, A>,
+    blocks: &OpenBlocks<'s, A>,
+    line: Reading<'_, 's>,
+) -> Result<Begun<'s>, AsmFault>
+    requires word { line.word ≡ Some For }
+    requires front { line.front.now ≡ [] }
+    requires plain { has_and (pieces line.tokens.now) ≡ false }
+    requires few { AreFew (counters_of blocks.now) }
+    ensures begun { Gives (λ b. begun_as walk.new b.counter.now b.copies) result (begun settings.now (counters_of blocks.now) (line_read line.entry) walk.old) }
+    ensures goes_on { OnOk result (walk.new.ended ≡ walk.old.ended) }
+    ensures counted { OnOk result (walk.new.counted ≡ walk.old.counted) }
+    ensures few { IfOk result (λ b. b.copies < 2 ^ 63) }
+    ensures equs { OnOk result (walk.new.names.equs ≡ walk.old.names.equs) }
+{
+    let count = behind_first(line.tokens);
+    if count.len() > TOKEN_LIMIT || walk.equs().are_among(count) {
+        let begun = walk.begin(settings, blocks, line)?;
+        return Ok(begun);
+    }
+    let copies = count_within(settings, line.number, walk.before(), blocks, count)?;
+    Ok(begun_by(copies))
+}
+
+/// How a block begins that has no counter's name, and so many copies.
+fn begun_by<'s>(copies: u64) -> Begun<'s>
+    ensures counter { result.counter.now ≡ [] }
+    ensures copies { result.copies ≡ copies }
+{
+    Begun {
+        counter: b"",
+        copies,
+        is_fixed: true,
+    }
+}

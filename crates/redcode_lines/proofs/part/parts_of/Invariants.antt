@@ -1,7 +1,0 @@
--- The tokens so far.
-use Rattle.std.proofs.Common.{◌≡◌, take}
-use Rattle.redcode_text.specs.Tokens.{pieces}
-use Rattle.redcode_lines.proofs.part.parts_of.Given as goal
-
-abbrev pub invariant-loop-token : goal.invariant-loop-token
-invariant-loop-token g l = l.parts.items ≡ pieces (take l.token-index l.tokens)

@@ -1,0 +1,90 @@
+-- The blocks of a source.
+use Rattle.std.specs.Prelude.{◌≡◌, ℕ, ◌+◌, ◌-◌, Bool, false, nat_eq, List, [], ◌∷◌, ◌++◌, Option, Some, None, ⊤}
+use Rattle.redcode_text.specs.Tokens.{Piece}
+use Rattle.redcode_lines.specs.declared.directive.Directive.{Directive}
+use Rattle.redcode_lines.specs.declared.directive.Directive.TheVariants as directives
+use Rattle.redcode_lines.specs.declared.reading.LineForm.TheVariants as forms
+use Rattle.redcode_text.specs.declared.vocabulary.Word.{Word}
+use Rattle.redcode_text.specs.declared.vocabulary.Word.TheVariants as words
+use Rattle.redcode_lines.specs.Source.{NumberedLine, directive_of}
+use Rattle.redcode_lines.specs.Line.{SourceLine, source_line, statement, statement_tokens}
+
+-- ---- the lines that are not skipped
+
+abbrev pub statement_line : ℕ → List Piece → List SourceLine
+statement_line number [] = []
+statement_line number (token ∷ tokens) = statement number (token ∷ tokens) ∷ []
+
+abbrev pub directive_line : ℕ → Directive → List ℕ → List SourceLine
+directive_line number directives.Redcode text = []
+directive_line number directives.Remark text = []
+directive_line number directives.Name text = source_line number forms.Name None text [] [] ∷ []
+directive_line number directives.Author text = source_line number forms.Author None text [] [] ∷ []
+directive_line number directives.Assert text = source_line number forms.Assert None [] [] (statement_tokens text) ∷ []
+
+abbrev pub line_by : ℕ → List ℕ → Option (Directive × List ℕ) → List SourceLine
+line_by number line (Some (directive, text)) = directive_line number directive text
+line_by number line None = statement_line number (statement_tokens line)
+
+-- blank lines, ;redcode lines and other comments are skipped
+abbrev pub source_lines : List NumberedLine → List SourceLine
+source_lines [] = []
+source_lines (line ∷ lines) = line_by line.number line.text (directive_of line.text) ++ source_lines lines
+
+-- ---- the blocks that they make
+
+-- what is left of a source
+pub data Blocks : Type 0 where
+  -- nothing
+  finish : Blocks
+  -- a line that is no FOR and no ROF, and the rest
+  one_line : SourceLine → Blocks → Blocks
+  -- a block by its FOR line, its body and its ROF line, and the rest
+  block : SourceLine → Blocks → SourceLine → Blocks → Blocks
+  -- a FOR without its ROF
+  open_for : SourceLine → Blocks
+
+-- what is left up to the first ROF whose FOR stands before, and each such ROF with what is left behind it
+abbrev pub Parsed : Type 0
+Parsed = Blocks × List (SourceLine × Blocks)
+
+-- a FOR belongs to the first ROF that is open behind it
+abbrev pub with_body : SourceLine → Blocks → List (SourceLine × Blocks) → Parsed
+with_body line body [] = (open_for line, [])
+with_body line body (rof ∷ rofs) = (block line body rof.0 rof.1, rofs)
+
+abbrev pub behind_for : SourceLine → Parsed → Parsed
+behind_for line behind = with_body line behind.0 behind.1
+
+abbrev pub behind_rof : SourceLine → Parsed → Parsed
+behind_rof rof behind = (finish, (rof, behind.0) ∷ behind.1)
+
+abbrev pub behind_line : SourceLine → Parsed → Parsed
+behind_line line behind = (one_line line behind.0, behind.1)
+
+abbrev pub behind_by : Option Word → SourceLine → Parsed → Parsed
+behind_by (Some words.For) line behind = behind_for line behind
+behind_by (Some words.Rof) line behind = behind_rof line behind
+behind_by _ line behind = behind_line line behind
+
+abbrev pub parsed : List SourceLine → Parsed
+parsed [] = (finish, [])
+parsed (line ∷ lines) = behind_by line.word line (parsed lines)
+
+-- ---- how a ROF is found: no part of the definition
+
+-- these lines are none, or the first is a ROF
+abbrev pub AreFromRof : List SourceLine → Type 0
+AreFromRof [] = ⊤
+AreFromRof (line ∷ lines) = line.word ≡ Some words.Rof
+
+-- whether a line with this word, within so many inner blocks, ends the block
+abbrev pub ends_block : ℕ → Option Word → Bool
+ends_block depth (Some words.Rof) = nat_eq depth 0
+ends_block depth _ = false
+
+-- within how many inner blocks the line behind one with this word stands
+abbrev pub depth_behind : ℕ → Option Word → ℕ
+depth_behind depth (Some words.For) = depth + 1
+depth_behind depth (Some words.Rof) = depth - 1
+depth_behind depth _ = depth

@@ -1,0 +1,34 @@
+-- What the code keeps of a line with more operands than a line may have: as many tokens as tell that it is refused. No part of the definition.
+use Rattle.std.specs.Prelude.{Bool, true, false, not, ◌&&◌, ◌||◌, if◌then◌else◌, List, [], ◌∷◌, take, Option, Some, None, codes}
+use Rattle.redcode_text.specs.declared.vocabulary.Word.{Word}
+use Rattle.redcode_text.specs.declared.vocabulary.Word.TheVariants as words
+use Rattle.redcode_text.specs.Tokens.{Piece}
+use Rattle.redcode_lines.specs.declared.reading.LineForm.{LineForm}
+use Rattle.redcode_lines.specs.declared.reading.LineForm.TheVariants as forms
+use Rattle.redcode_lines.specs.Line.{SourceLine, has_text}
+
+-- an & is among the tokens
+abbrev pub has_and : List Piece → Bool
+has_and [] = false
+has_and (token ∷ tokens) = has_text (codes "&") token || has_and tokens
+
+abbrev pub has_operands : Word → Bool
+has_operands (words.Operation op) = true
+has_operands words.Pspace = true
+has_operands words.Org = true
+has_operands words.End = true
+has_operands _ = false
+
+-- the lines whose operands may be 512 tokens at most
+abbrev pub is_limited : LineForm → Option Word → Bool
+is_limited form (Some word) = has_operands word
+is_limited forms.Assert None = true
+is_limited _ None = false
+
+-- without an & a line has as many tokens in each copy
+abbrev pub is_capped : SourceLine → Bool
+is_capped line = is_limited line.form line.word && not (has_and line.front || has_and line.tokens)
+
+-- 516 tokens are a word, a dot, a modifier's name and one operand more than a line may have
+abbrev pub capped : SourceLine → SourceLine
+capped line = if is_capped line then record line { tokens = take 516 line.tokens } else line

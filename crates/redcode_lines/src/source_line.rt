@@ -1,0 +1,290 @@
+//! The lines of a source that are not skipped.
+
+ghost use Rattle.std.specs.Prelude.{◌≡◌, ◌+◌, ◌≤◌, ◌<◌, ◌++◌, ◌∷◌, [], None, length, drop, map, false, OnOk, IfOk};
+ghost use Rattle.redcode_text.specs.Tokens.{pieces};
+ghost use Rattle.redcode_lines.specs.Source.{directive_of, lines_of, numbered_from};
+ghost use Rattle.redcode_lines.specs.Line.{source_line, statement, statement_tokens};
+ghost use Rattle.redcode_lines.specs.Capped.{capped, is_limited};
+ghost use Rattle.redcode_lines.specs.Block.{depth_behind, directive_line, ends_block, line_by, parsed, source_lines, AreFromRof};
+ghost use Rattle.redcode_lines.specs.declared.reading.LineForm.TheVariants.{Assert};
+
+use crate::directive::{Directive, directive_of};
+use crate::reading::{LineForm, Reading, comment_at_end, from_word, has_and};
+use crate::source::first_line;
+use redcode_text::{Token, Word, scan};
+use std::alloc::{AllocError, Allocator};
+use std::marker::Model;
+
+/// A word, a dot, a modifier's name, and one operand more than a line may have.
+const MOST_TOKENS: usize = 516;
+
+/// A line of the source that is not skipped, without its comment.
+#[derive(Drop)]
+pub struct SourceLine<'s, A: Allocator> {
+    number: u32,
+    form: LineForm,
+    word: Option<Word>,
+    title: &'s [u8],
+    tokens: Vec<Token<'s>, A>,
+    /// Tokens before its word; none where it has no word.
+    front: usize,
+}
+
+impl<'s, A: Allocator> Model for SourceLine<'s, A> {
+    ghost use Rattle.std.specs.Prelude.{◌≤◌, length, take, drop};
+    ghost use Rattle.redcode_text.specs.Tokens.{pieces};
+    ghost use Rattle.redcode_lines.specs.Line.{SourceLine, source_line};
+
+    ghost Value = { SourceLine };
+
+    ghost view = { λ l. source_line l.number l.form l.word l.title.now (pieces (take l.front l.tokens.items)) (pieces (drop l.front l.tokens.items)) };
+
+    ghost invariant = { λ l. l.front ≤ length l.tokens.items };
+}
+
+impl<'s, A: Allocator> SourceLine<'s, A> {
+    ghost use Rattle.std.specs.Prelude.{◌≡◌};
+    ghost use Rattle.redcode_lines.specs.Capped.{capped, is_capped};
+    ghost use Rattle.redcode_lines.specs.Views.{line_read};
+
+    /// Its number in the source, counted from 1.
+    pub fn number(&self) -> u32
+        ensures { result ≡ self.now.number }
+    {
+        self.number
+    }
+
+    /// The word of a statement.
+    pub fn word(&self) -> Option<Word>
+        ensures { result ≡ self.now.word }
+    {
+        self.word
+    }
+
+    /// Whether it has as many operands in each copy, of which there may be 512 at most.
+    fn is_capped(&self) -> bool
+        ensures { result ≡ is_capped self.now }
+    {
+        let line = self.reading();
+        is_limited(line.form, line.word) && !has_and(line.front) && !has_and(line.tokens)
+    }
+
+    /// As much of the line as tells whether it has more operands than it may have.
+    fn capped(mut self) -> Self
+        ensures { result ≡ capped self.entry }
+    {
+        if self.is_capped() {
+            let most = self.front.saturating_add(MOST_TOKENS);
+            self.tokens.truncate(most);
+        }
+        self
+    }
+
+    /// How it reads in the source.
+    pub fn reading(&self) -> Reading<'_, 's>
+        ensures { line_read result ≡ self.now }
+    {
+        let (front, tokens) = self.tokens.as_slice().split_at(self.front);
+        Reading {
+            number: self.number,
+            form: self.form,
+            word: self.word,
+            title: self.title,
+            front,
+            tokens,
+        }
+    }
+}
+
+/// Whether the operands of such a line may be 512 tokens at most.
+fn is_limited(form: LineForm, word: Option<Word>) -> bool
+    ensures { result ≡ is_limited form word }
+{
+    match (form, word) {
+        (_, Some(Word::Operation(_) | Word::Pspace | Word::Org | Word::End)) => true,
+        (LineForm::Assert, None) => true,
+        _ => false,
+    }
+}
+
+/// The lines of a source whose first line has this number, but for those that are skipped, each as much as tells whether it is too long.
+pub fn source_lines<'s, A: Allocator + Copy>(
+    alloc: A,
+    first: u32,
+    source: &'s [u8],
+) -> Result<Vec<SourceLine<'s, A>, A>, AllocError>
+    requires counted { 1 ≤ first }
+    requires short { first + length source.now ≤ 65537 }
+    ensures lines { IfOk result (λ lines. lines.items ≡ map capped (source_lines (numbered_from first (lines_of source.entry.now)))) }
+    ensures few { IfOk result (λ lines. length lines.items ≤ length source.entry.now) }
+{
+    let mut lines = Vec::new(alloc);
+    let mut rest = source;
+    let mut number = first;
+    while !rest.is_empty() {
+        let (line, behind) = first_line(rest);
+        append_line(alloc, number, line, &mut lines)?;
+        rest = behind;
+        number += 1;
+    }
+    Ok(lines)
+}
+
+/// Appends a line of this number, if it is not skipped.
+fn append_line<'s, A: Allocator + Copy>(
+    alloc: A,
+    number: u32,
+    line: &'s [u8],
+    lines: &mut Vec<SourceLine<'s, A>, A>,
+) -> Result<(), AllocError>
+    requires { length line.now ≤ 65536 }
+    ensures { OnOk result (lines.new.items ≡ lines.old.items ++ map capped (line_by number line.entry.now (directive_of line.entry.now))) }
+{
+    match directive_of(line) {
+        Some((directive, text)) => append_directive(alloc, number, directive, text, lines),
+        None => {
+            let tokens = statement_tokens(alloc, line)?;
+            if tokens.is_empty() {
+                return Ok(());
+            }
+            lines.push(statement(number, tokens).capped())?;
+            Ok(())
+        }
+    }
+}
+
+/// Appends a line that begins with a semicolon, if it is not skipped.
+fn append_directive<'s, A: Allocator + Copy>(
+    alloc: A,
+    number: u32,
+    directive: Directive,
+    text: &'s [u8],
+    lines: &mut Vec<SourceLine<'s, A>, A>,
+) -> Result<(), AllocError>
+    requires { length text.now ≤ 65536 }
+    ensures { OnOk result (lines.new.items ≡ lines.old.items ++ map capped (directive_line number directive text.entry.now)) }
+{
+    match directive {
+        Directive::Redcode | Directive::Remark => {}
+        Directive::Name => lines.push(titled(alloc, number, LineForm::Name, text))?,
+        Directive::Author => lines.push(titled(alloc, number, LineForm::Author, text))?,
+        Directive::Assert => {
+            let tokens = statement_tokens(alloc, text)?;
+            lines.push(assertion(number, tokens).capped())?;
+        }
+    }
+    Ok(())
+}
+
+/// The tokens of a line without the comment at its end.
+fn statement_tokens<'s, A: Allocator + Copy>(
+    alloc: A,
+    line: &'s [u8],
+) -> Result<Vec<Token<'s>, A>, AllocError>
+    requires { length line.now ≤ 65536 }
+    ensures { IfOk result (λ tokens. pieces tokens.items ≡ statement_tokens line.entry.now) }
+{
+    let mut tokens = scan(alloc, line)?;
+    let comment = comment_at_end(tokens.as_slice()).len();
+    tokens.truncate(tokens.len() - comment);
+    Ok(tokens)
+}
+
+fn statement<'s, A: Allocator>(number: u32, tokens: Vec<Token<'s>, A>) -> SourceLine<'s, A>
+    ensures { result ≡ statement number (pieces tokens.entry.items) }
+{
+    let (word, rest) = from_word(tokens.as_slice());
+    let front = tokens.len() - rest.len();
+    SourceLine {
+        number,
+        form: LineForm::Statement,
+        word,
+        title: b"",
+        tokens,
+        front,
+    }
+}
+
+fn assertion<'s, A: Allocator>(number: u32, tokens: Vec<Token<'s>, A>) -> SourceLine<'s, A>
+    ensures { result ≡ source_line number Assert None [] [] (pieces tokens.entry.items) }
+{
+    SourceLine {
+        number,
+        form: LineForm::Assert,
+        word: None,
+        title: b"",
+        tokens,
+        front: 0,
+    }
+}
+
+fn titled<'s, A: Allocator>(
+    alloc: A,
+    number: u32,
+    form: LineForm,
+    title: &'s [u8],
+) -> SourceLine<'s, A>
+    ensures { result ≡ source_line number form None title.entry.now [] [] }
+{
+    SourceLine {
+        number,
+        form,
+        word: None,
+        title,
+        tokens: Vec::new(alloc),
+        front: 0,
+    }
+}
+
+/// A line, behind so many others.
+pub fn line_at<'l, 's, A: Allocator>(
+    lines: &'l [SourceLine<'s, A>],
+    at: usize,
+) -> &'l SourceLine<'s, A>
+    requires { at < length lines.now }
+    ensures { drop at lines.entry.now ≡ result.now ∷ drop (at + 1) lines.entry.now }
+{
+    &lines[at]
+}
+
+/// How many lines stand before the `ROF` that belongs to a `FOR` with so many lines up to it; all where there is no such
+/// `ROF`.
+pub fn rof_behind<A: Allocator>(lines: &[SourceLine<'_, A>], body: usize) -> usize
+    requires few { length lines.now ≤ 65536 }
+    ensures rofs { (parsed (drop result lines.now)).1 ≡ (parsed (drop body lines.now)).1 }
+    ensures from { AreFromRof (drop result lines.now) }
+    ensures later { body ≤ result }
+{
+    let mut depth: u32 = 0;
+    let mut at = body;
+    while at < lines.len() {
+        let word = line_at(lines, at).word();
+        if ends_block(depth, word) {
+            return at;
+        }
+        depth = depth_behind(depth, word);
+        at += 1;
+    }
+    at
+}
+
+/// Whether a line with this word, within so many inner blocks, ends the block.
+fn ends_block(depth: u32, word: Option<Word>) -> bool
+    ensures { result ≡ ends_block depth word }
+{
+    depth == 0 && matches!(word, Some(Word::Rof))
+}
+
+/// Within how many inner blocks the line behind one with this word stands.
+fn depth_behind(depth: u32, word: Option<Word>) -> u32
+    requires few { depth ≤ 65536 }
+    requires within { ends_block depth word ≡ false }
+    ensures depth { result ≡ depth_behind depth word }
+    ensures few { result ≤ depth + 1 }
+{
+    match word {
+        Some(Word::For) => depth + 1,
+        Some(Word::Rof) => depth - 1,
+        _ => depth,
+    }
+}
