@@ -11,7 +11,7 @@ use std::process::Abort;
 use std::test::Fail;
 
 /// The calls since they were forgotten are these.
-fn expect_calls(rt: &impl Abort, calls: &Cell<Calls>, expected: &[u8]) {
+pub(crate) fn expect_calls(rt: &impl Abort, calls: &Cell<Calls>, expected: &[u8]) {
     let so_far = calls.get();
     assert_eq!(rt; so_far.letters.get(..so_far.count), Some(expected));
 }

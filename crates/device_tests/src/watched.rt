@@ -1,5 +1,6 @@
 //! A file system that writes down which calls reach a file, in place of the real one, and hands them on to it.
 
+use hill_file::{OpenFault, TryLock};
 use std::alloc::Allocator;
 use std::cell::Cell;
 use std::fs::{Files, Metadata, OpenFile, OpenOptions};
@@ -10,8 +11,8 @@ use std::path::PathBuf;
 /// Calls that are written down at most.
 pub(crate) const MOST: usize = 16;
 
-/// The calls on files since the last time that they were read, each a letter: `o`pened, `m`easured, `l`engthened, `s`ought, `r`ead, `w`ritten
-/// whole, written in `p`art, s`y`nced. The call of this number fails, counted from 0.
+/// The calls on files since the last time that they were read, each a letter: `o`pened, loc`k`ed, `m`easured, `l`engthened, `s`ought,
+/// `r`ead, `w`ritten whole, written in `p`art, s`y`nced. The call of this number fails, counted from 0.
 #[derive(Clone, Copy)]
 pub(crate) struct Calls {
     pub letters: [u8; MOST],
@@ -166,5 +167,12 @@ impl<F: Seek> Seek for WatchedFile<'_, F> {
     fn seek(&mut self, to: SeekFrom) -> io::Result<u64> {
         note(self.calls, b's')?;
         self.file.seek(to)
+    }
+}
+
+impl<F: TryLock> TryLock for WatchedFile<'_, F> {
+    fn lock_now(&self) -> Result<(), OpenFault> {
+        note(self.calls, b'k')?;
+        self.file.lock_now()
     }
 }

@@ -1,9 +1,9 @@
 //! The program `koth`.
 #![tactic(auto)]
 
-use koth_server::{Failure, run};
+use koth_server::{Failure, View, run};
 use std::env::Env;
-use std::io::ErrorKind;
+use std::io::{ErrorKind, IsTerminal};
 use std::process::ExitCode;
 use std::rt::Files;
 use std::{env, fs, io};
@@ -25,17 +25,27 @@ fn held_places<R: Files>(rt: &R) -> [io::Result<R::File>; 3] {
 fn status_of(rt: &HostRuntime) -> ExitCode {
     let words = match words_given(rt) {
         Ok(words) => words,
-        Err(failure) => return ExitCode::from(failure.tell(&mut rt.stderr()).code()),
+        Err(failure) => return ExitCode::from(failure.tell_alone(&mut rt.stderr()).code()),
     };
     ExitCode::from(run(
         rt,
         rt.alloc(),
         rt.alloc(),
         words.as_slice(),
+        usual_view(rt),
         &mut rt.reader(),
         &mut io::writer(rt),
         &mut rt.stderr(),
     ))
+}
+
+/// Columns for people if standard output is a terminal, and else lines for programs.
+fn usual_view(rt: &HostRuntime) -> View {
+    if rt.stdout().is_terminal() {
+        View::Table
+    } else {
+        View::Plain
+    }
 }
 
 /// The words of the command line, the program's name first.

@@ -1,55 +1,128 @@
--- From an attempt to how `asm` ends, with the third stream.
-use Rattle.std.proofs.Common.{◌≡◌, ℕ, List, Option, None, Result, Ok, Err, sym, subst}
+-- How `asm` ends, from how the answer to a source does.
+use Rattle.std.proofs.Common.{◌≡◌, ℕ, List, Option, None, IfSome, Result, Ok, Err, inl, inr, refl, sym, subst}
+use Rattle.std.specs.Io.KnownBytes.{Appends, Consumes}
 use Rattle.std.proofs.KnownBytes.{Keeps-refl}
 use Rattle.war_types.specs.Warrior.{WarriorParts}
 use Rattle.war_types.specs.declared.fault.AsmFault.{AsmFault}
 use Rattle.war_types.specs.declared.settings.RawSettings.{RawSettings}
-use Rattle.koth_commands.specs.Asm.{Answers, Attempts, EndsUnder, status_of}
-use Rattle.koth_commands.specs.Failure.{failure_line, failure_status}
+use Rattle.redcode_asm.specs.Assembly.{assembly}
+use Rattle.redcode_asm.specs.LoadText.{load_text}
 use Rattle.koth_protocol.specs.Written.{WritesPart}
-use Rattle.koth_commands.specs.Streams.{streams}
-use Rattle.koth_commands.specs.declared.failure.Failure.{Failure}
-use Rattle.koth_commands.specs.declared.failure.Failure.TheVariants.{Stream, Memory}
+use Rattle.koth_commands.specs.Answer.{EndsRefusal, EndsText}
+use Rattle.koth_commands.specs.Asm.{Answers, EndsSource, EndsUnder, Explains, answer_of}
+use Rattle.koth_commands.specs.Failure.{failure_word}
+use Rattle.koth_commands.specs.Streams.{Takes, streams}
+use Rattle.koth_commands.specs.Told.{TellsWord}
+use Rattle.koth_commands.specs.declared.failure.Failure.TheVariants as failures
 use Rattle.koth_commands.specs.declared.status.Status.{Status}
+use Rattle.koth_commands.specs.declared.status.Status.TheVariants as statuses
+use Rattle.koth_commands.proofs.Sources.{whole_input}
+use Rattle.koth_commands.proofs.Told.{none_yet}
 
-module _ (s : RawSettings) (i j o p : Option (List ℕ)) where
-  with_errors : (outcome : Result WarriorParts AsmFault) (e : Option (List ℕ))
-      → Answers s outcome (streams i o None) (streams j p None) → Answers s outcome (streams i o e) (streams j p e)
-  with_errors outcome e answers = record {
-    source = answers.source;
-    taken = answers.taken;
-    comes = answers.comes;
-    whole = answers.whole;
-    written = answers.written;
-    silent = Keeps-refl e;
+-- ---- the answer to a source
+
+module _ (s : RawSettings) (source : List ℕ) (o p e f : Option (List ℕ)) where
+  part_of : (outcome : Result WarriorParts AsmFault) → assembly s source ≡ outcome → WritesPart o p (answer_of s outcome)
+      → WritesPart o p (answer_of s (assembly s source))
+  part_of outcome is part = subst (λ r. WritesPart o p (answer_of s r)) (sym is) part
+
+  -- that of a warrior
+  pub loaded_ends : (warrior : WarriorParts) (status : Status) → assembly s source ≡ Ok warrior → EndsText (load_text s.core warrior) status o p e f
+      → EndsSource s source status o p e f
+  loaded_ends warrior statuses.Done is ends = (warrior, is, ends.0, ends.1)
+  loaded_ends warrior statuses.Refused is ends = absurd ends
+  loaded_ends warrior statuses.WordFault is ends = absurd ends
+  loaded_ends warrior statuses.StreamFault is ends = (part_of (Ok warrior) is ends.0, ends.1)
+  loaded_ends warrior statuses.NoMemory is ends = ends
+
+  -- that of a refusal
+  pub refused_ends : (fault : AsmFault) (status : Status) → assembly s source ≡ Err fault → EndsRefusal fault status o p e f
+      → EndsSource s source status o p e f
+  refused_ends fault statuses.Done is ends = absurd ends
+  refused_ends fault statuses.Refused is ends = (fault, is, ends.0, ends.1)
+  refused_ends fault statuses.WordFault is ends = absurd ends
+  refused_ends fault statuses.StreamFault is ends = (part_of (Err fault) is ends.0, ends.1)
+  refused_ends fault statuses.NoMemory is ends = absurd ends
+
+-- memory ran out before anything was written
+pub no_memory_source : (s : RawSettings) (source : List ℕ) (o e f : Option (List ℕ)) (status : Status) → status ≡ statuses.NoMemory
+    → TellsWord (failure_word failures.Memory) e f → EndsSource s source status o o e f
+no_memory_source s source o e f status is told = subst (λ t. EndsSource s source t o o e f) (sym is) (Keeps-refl o, told)
+
+-- ---- what is read from a stream
+
+module _ (s : RawSettings) (i j o p e f : Option (List ℕ)) where
+  answered : (source : List ℕ) (outcome : Result WarriorParts AsmFault) → Takes i j source → assembly s source ≡ outcome
+      → Appends o p (answer_of s outcome) → Explains outcome e f → Answers s outcome (streams i o e) (streams j p f)
+  answered source outcome taken comes written explained = record {
+    source = source;
+    taken = taken;
+    comes = comes;
+    whole = subst (λ r. IfSome i (λ input. assembly s input ≡ r)) comes (whole_input s i j source taken);
+    written = written;
+    explained = explained;
   }
 
-  answered : (outcome : Result WarriorParts AsmFault) (e : Option (List ℕ))
-      → Answers s outcome (streams i o None) (streams j p None) → EndsUnder s (status_of outcome) (streams i o e) (streams j p e)
-  answered (Ok warrior) e answers = (warrior, with_errors (Ok warrior) e answers)
-  answered (Err fault) e answers = (fault, with_errors (Err fault) e answers)
-
-  -- an attempt that answered is how `asm` ends
-  pub ends_answered : (status : Status) (e : Option (List ℕ))
-      → Attempts s (Ok status) (streams i o None) (streams j p None) → EndsUnder s status (streams i o e) (streams j p e)
-  ends_answered status e attempt =
-      subst (λ t. EndsUnder s t (streams i o e) (streams j p e)) (sym attempt.1) (answered attempt.0 e attempt.2)
-
-  failed : (failure : Failure) (e f : Option (List ℕ)) → Attempts s (Err failure) (streams i o None) (streams j p None)
-      → WritesPart e f (failure_line failure) → EndsUnder s (failure_status failure) (streams i o e) (streams j p f)
-  failed Stream e f part told = (
+  -- a source that was taken, and its answer
+  pub taken_ends : (source : List ℕ) (status : Status) → Takes i j source → EndsSource s source status o p e f
+      → EndsUnder s status (streams i o e) (streams j p f)
+  taken_ends source statuses.Done taken ends = (ends.0, answered source (Ok ends.0) taken ends.1 ends.2 ends.3)
+  taken_ends source statuses.Refused taken ends = (ends.0, answered source (Err ends.0) taken ends.1 ends.2 ends.3)
+  taken_ends source statuses.WordFault taken ends = absurd ends
+  taken_ends source statuses.StreamFault taken ends = (
     record {
-      source = part.source;
-      taken = part.taken;
-      written = part.written;
-      first = part.first;
+      source = source;
+      taken = taken.bytes;
+      written = ends.0;
+      first = inr taken;
     },
-    told,
+    ends.1,
   )
-  failed Memory e f kept told = (kept, told)
+  taken_ends source statuses.NoMemory taken ends = ends
 
-  -- a failure that was told is how `asm` ends
-  pub ends_failed : (failure : Failure) (status : Status) (e f : Option (List ℕ)) → Attempts s (Err failure) (streams i o None) (streams j p None)
-      → WritesPart e f (failure_line failure) → status ≡ failure_status failure → EndsUnder s status (streams i o e) (streams j p f)
-  ends_failed failure status e f attempt told is =
-      subst (λ t. EndsUnder s t (streams i o e) (streams j p f)) (sym is) (failed failure e f attempt told)
+-- a stream that failed before its source was taken
+pub lost_ends : (s : RawSettings) (i j o e f : Option (List ℕ)) (source : List ℕ) (status : Status) → status ≡ statuses.StreamFault
+    → Consumes i j source → TellsWord (failure_word failures.Stream) e f → EndsUnder s status (streams i o e) (streams j o f)
+lost_ends s i j o e f source status is taken told = subst (λ t. EndsUnder s t (streams i o e) (streams j o f)) (sym is) (
+  record {
+    source = source;
+    taken = taken;
+    written = none_yet o (answer_of s (assembly s source));
+    first = inl refl;
+  },
+  told,
+)
+
+-- memory ran out before anything was read
+pub no_memory_under : (s : RawSettings) (i o e f : Option (List ℕ)) (status : Status) → status ≡ statuses.NoMemory
+    → TellsWord (failure_word failures.Memory) e f → EndsUnder s status (streams i o e) (streams i o f)
+no_memory_under s i o e f status is told = subst (λ t. EndsUnder s t (streams i o e) (streams i o f)) (sym is) (Keeps-refl o, told)
+
+-- ---- what was read from a file is of no stream
+
+module _ (s : RawSettings) (i j o p e f : Option (List ℕ)) where
+  forgotten : (outcome : Result WarriorParts AsmFault) → Answers s outcome (streams i o e) (streams j p f)
+      → Answers s outcome (streams None o e) (streams None p f)
+  forgotten outcome answers = record {
+    source = answers.source;
+    taken = record { bytes = tt; most = answers.taken.most; whole = λ short. tt };
+    comes = answers.comes;
+    whole = tt;
+    written = answers.written;
+    explained = answers.explained;
+  }
+
+  pub unread_ends : (status : Status) → EndsUnder s status (streams i o e) (streams j p f) → EndsUnder s status (streams None o e) (streams None p f)
+  unread_ends statuses.Done ends = (ends.0, forgotten (Ok ends.0) ends.1)
+  unread_ends statuses.Refused ends = (ends.0, forgotten (Err ends.0) ends.1)
+  unread_ends statuses.WordFault ends = absurd ends
+  unread_ends statuses.StreamFault ends = (
+    record {
+      source = ends.0.source;
+      taken = tt;
+      written = ends.0.written;
+      first = elim ends.0.first [ inl none ↦ inl none | inr taken ↦ inr (record { bytes = tt; most = taken.most; whole = λ short. tt }) ];
+    },
+    ends.1,
+  )
+  unread_ends statuses.NoMemory ends = ends

@@ -1,37 +1,60 @@
--- What is written of settings that are refused, and of a command that failed.
-use Rattle.std.specs.Prelude.{ℕ, List, codes}
-use Rattle.std.specs.Io.KnownBytes.{Keeps}
+-- What is written of an answer, of settings that are refused, and of a command that failed.
+use Rattle.std.specs.Prelude.{ℕ, Option, List, codes}
+use Rattle.std.specs.Io.KnownBytes.{Appends, Keeps}
+use Rattle.war_types.specs.declared.fault.AsmFault.{AsmFault}
 use Rattle.war_types.specs.declared.settings.SettingsFault.{SettingsFault}
 use Rattle.war_types.specs.declared.settings.SettingsFault.TheVariants as faults
+use Rattle.koth_protocol.specs.Refusal.{refusal_line}
 use Rattle.koth_protocol.specs.Written.{WritesPart}
-use Rattle.koth_commands.specs.Failure.{failure_line}
+use Rattle.koth_commands.specs.Failure.{failure_word}
 use Rattle.koth_commands.specs.Streams.{Streams}
+use Rattle.koth_commands.specs.Told.{TellsWord, WritesSome}
 use Rattle.koth_commands.specs.declared.failure.Failure.{Failure}
+use Rattle.koth_commands.specs.declared.failure.Failure.TheVariants as failures
+use Rattle.koth_commands.specs.declared.status.Status.{Status}
+use Rattle.koth_commands.specs.declared.status.Status.TheVariants as statuses
 
--- the line of settings that are refused: the first field that is out of its range
-abbrev pub settings_line : SettingsFault → List ℕ
-settings_line faults.Core = codes "BadSettings Core\n"
-settings_line faults.Cycles = codes "BadSettings Cycles\n"
-settings_line faults.Processes = codes "BadSettings Processes\n"
-settings_line faults.Length = codes "BadSettings Length\n"
-settings_line faults.Distance = codes "BadSettings Distance\n"
-settings_line faults.Rounds = codes "BadSettings Rounds\n"
-settings_line faults.Seed = codes "BadSettings Seed\n"
-settings_line faults.Capacity = codes "BadSettings Capacity\n"
-settings_line faults.ReadLimit = codes "BadSettings ReadLimit\n"
-settings_line faults.WriteLimit = codes "BadSettings WriteLimit\n"
+-- the word of settings that are refused: the first field that is out of its range
+abbrev pub settings_word : SettingsFault → List ℕ
+settings_word faults.Core = codes "BadSettings Core"
+settings_word faults.Cycles = codes "BadSettings Cycles"
+settings_word faults.Processes = codes "BadSettings Processes"
+settings_word faults.Length = codes "BadSettings Length"
+settings_word faults.Distance = codes "BadSettings Distance"
+settings_word faults.Rounds = codes "BadSettings Rounds"
+settings_word faults.Seed = codes "BadSettings Seed"
+settings_word faults.Capacity = codes "BadSettings Capacity"
+settings_word faults.ReadLimit = codes "BadSettings ReadLimit"
+settings_word faults.WriteLimit = codes "BadSettings WriteLimit"
 
--- the line was written on the errors, or a part of it where the errors failed, and nothing else was read or written
+-- that was told on the errors, and nothing was read, and nothing written on the output
 pub record RefusesSettings (fault : SettingsFault) (before after : Streams) : Type 0 where
   pub input : Keeps before.input after.input
   pub output : Keeps before.output after.output
-  pub told : WritesPart before.errors after.errors (settings_line fault)
+  pub told : TellsWord (settings_word fault) before.errors after.errors
 
--- the failure's line was written, or a part of it, where the errors failed too
+-- the failure was told on the errors
 abbrev pub Tells : Failure → Streams → Streams → Type 0
-Tells failure before after = WritesPart before.errors after.errors (failure_line failure)
+Tells failure before after = TellsWord (failure_word failure) before.errors after.errors
 
 -- nothing was read, and nothing was written on the output
 pub record KeepsAll (before after : Streams) : Type 0 where
   pub input : Keeps before.input after.input
   pub output : Keeps before.output after.output
+
+-- how a command ends whose answer is this text, by what the output and then the errors hold before and after: it is written and nothing is
+-- told, or a part of it is written and the failed stream is told, or nothing is written for want of memory
+abbrev pub EndsText : List ℕ → Status → Option (List ℕ) → Option (List ℕ) → Option (List ℕ) → Option (List ℕ) → Type 0
+EndsText text statuses.Done o p e f = Appends o p text × Keeps e f
+EndsText text statuses.Refused o p e f = ⊥
+EndsText text statuses.WordFault o p e f = ⊥
+EndsText text statuses.StreamFault o p e f = WritesPart o p text × TellsWord (failure_word failures.Stream) e f
+EndsText text statuses.NoMemory o p e f = Keeps o p × TellsWord (failure_word failures.Memory) e f
+
+-- how a command ends whose source is refused: the refusal's line is written, and on the errors some text that explains it
+abbrev pub EndsRefusal : AsmFault → Status → Option (List ℕ) → Option (List ℕ) → Option (List ℕ) → Option (List ℕ) → Type 0
+EndsRefusal fault statuses.Done o p e f = ⊥
+EndsRefusal fault statuses.Refused o p e f = Appends o p (refusal_line fault) × WritesSome e f
+EndsRefusal fault statuses.WordFault o p e f = ⊥
+EndsRefusal fault statuses.StreamFault o p e f = WritesPart o p (refusal_line fault) × TellsWord (failure_word failures.Stream) e f
+EndsRefusal fault statuses.NoMemory o p e f = ⊥

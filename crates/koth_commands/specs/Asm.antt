@@ -1,5 +1,5 @@
 -- What the command `asm` writes, and how it ends.
-use Rattle.std.specs.Prelude.{◌≡◌, ◌⊎◌, ℕ, IfSome, List, [], Result, Ok, Err}
+use Rattle.std.specs.Prelude.{◌≡◌, ◌⊎◌, ℕ, Bool, true, false, Option, IfSome, List, [], Result, Ok, Err}
 use Rattle.std.specs.Io.KnownBytes.{Appends, Consumes, Keeps}
 use Rattle.war_types.specs.Warrior.{WarriorParts}
 use Rattle.war_types.specs.declared.fault.AsmFault.{AsmFault}
@@ -9,9 +9,12 @@ use Rattle.redcode_asm.specs.Assembly.{assembly}
 use Rattle.redcode_asm.specs.LoadText.{load_text}
 use Rattle.koth_protocol.specs.Refusal.{refusal_line}
 use Rattle.koth_protocol.specs.Written.{WritesPart}
+use Rattle.koth_words.specs.declared.words.Source.{Source}
+use Rattle.koth_words.specs.declared.words.Source.TheVariants as sources
 use Rattle.koth_commands.specs.Answer.{KeepsAll, RefusesSettings, Tells}
-use Rattle.koth_commands.specs.Streams.{Streams, Takes}
-use Rattle.koth_commands.specs.declared.failure.Failure.{Failure}
+use Rattle.koth_commands.specs.Streams.{Streams, Takes, unread}
+use Rattle.koth_commands.specs.Told.{TellsWord, WritesSome}
+use Rattle.koth_commands.specs.Failure.{failure_word}
 use Rattle.koth_commands.specs.declared.failure.Failure.TheVariants as failures
 use Rattle.koth_commands.specs.declared.status.Status.{Status}
 use Rattle.koth_commands.specs.declared.status.Status.TheVariants as statuses
@@ -21,20 +24,32 @@ abbrev pub answer_of : RawSettings → Result WarriorParts AsmFault → List ℕ
 answer_of s (Ok warrior) = load_text s.core warrior
 answer_of s (Err fault) = refusal_line fault
 
--- how `asm` ends with such an answer
-abbrev pub status_of : Result WarriorParts AsmFault → Status
-status_of (Ok warrior) = statuses.Done
-status_of (Err fault) = statuses.Refused
+-- what is told besides: nothing of a warrior, and some text that explains a refusal
+abbrev pub Explains : Result WarriorParts AsmFault → Option (List ℕ) → Option (List ℕ) → Type 0
+Explains (Ok warrior) old new = Keeps old new
+Explains (Err fault) old new = WritesSome old new
 
--- a source was taken from the input and comes to this, as the whole input does, and the answer to it was
--- written whole, and nothing else
+-- how the answer to this source ends, by what the output and then the errors hold before and after: with a warrior's load text, with a
+-- refusal, with a failed stream, or for want of memory
+abbrev pub EndsSource : RawSettings → List ℕ → Status → Option (List ℕ) → Option (List ℕ) → Option (List ℕ) → Option (List ℕ) → Type 0
+EndsSource s source statuses.Done o p e f =
+    (warrior : WarriorParts) × (assembly s source ≡ Ok warrior) × Appends o p (load_text s.core warrior) × Keeps e f
+EndsSource s source statuses.Refused o p e f =
+    (fault : AsmFault) × (assembly s source ≡ Err fault) × Appends o p (refusal_line fault) × WritesSome e f
+EndsSource s source statuses.WordFault o p e f = ⊥
+EndsSource s source statuses.StreamFault o p e f =
+    WritesPart o p (answer_of s (assembly s source)) × TellsWord (failure_word failures.Stream) e f
+EndsSource s source statuses.NoMemory o p e f = Keeps o p × TellsWord (failure_word failures.Memory) e f
+
+-- a source was taken from the input and comes to this, as the whole input does, and the answer to it was written whole, and nothing else on
+-- the output
 pub record Answers (s : RawSettings) (outcome : Result WarriorParts AsmFault) (before after : Streams) : Type 0 where
   pub source : List ℕ
   pub taken : Takes before.input after.input source
   pub comes : assembly s source ≡ outcome
   pub whole : IfSome before.input (λ input. assembly s input ≡ outcome)
   pub written : Appends before.output after.output (answer_of s outcome)
-  pub silent : Keeps before.errors after.errors
+  pub explained : Explains outcome before.errors after.errors
 
 -- a stream failed: a part of the answer was written, and none of it before the source was taken
 pub record AnswersPart (s : RawSettings) (before after : Streams) : Type 0 where
@@ -43,8 +58,7 @@ pub record AnswersPart (s : RawSettings) (before after : Streams) : Type 0 where
   pub written : WritesPart before.output after.output (answer_of s (assembly s source))
   pub first : (written.part ≡ []) ⊎ Takes before.input after.input source
 
--- how `asm` ends under settings: with a warrior's load text, with a refusal, with a failed stream, or for want of
--- memory
+-- how `asm` ends under settings: with a warrior's load text, with a refusal, with a failed stream, or for want of memory
 abbrev pub EndsUnder : RawSettings → Status → Streams → Streams → Type 0
 EndsUnder s statuses.Done before after = (warrior : WarriorParts) × Answers s (Ok warrior) before after
 EndsUnder s statuses.Refused before after = (fault : AsmFault) × Answers s (Err fault) before after
@@ -61,9 +75,15 @@ EndsAsm (Err fault) statuses.WordFault before after = ⊥
 EndsAsm (Err fault) statuses.StreamFault before after = ⊥
 EndsAsm (Err fault) statuses.NoMemory before after = KeepsAll before after × Tells failures.Memory before after
 
--- the same before a failure is told
-abbrev pub Attempts : RawSettings → Result Status Failure → Streams → Streams → Type 0
-Attempts s (Ok status) before after =
-    (outcome : Result WarriorParts AsmFault) × (status ≡ status_of outcome) × Answers s outcome before after
-Attempts s (Err failures.Stream) before after = AnswersPart s before after
-Attempts s (Err failures.Memory) before after = Keeps before.output after.output
+-- the same for a source that is read from the input or else from a file, and then nothing is read from the input
+abbrev pub EndsAsmOf : Bool → Result RawSettings SettingsFault → Status → Streams → Streams → Type 0
+EndsAsmOf true settings status before after = EndsAsm settings status before after
+EndsAsmOf false settings status before after = EndsAsm settings status (unread before) (unread after) × Keeps before.input after.input
+
+-- whether it is read from the input
+abbrev pub is_of_input : Source → Bool
+is_of_input sources.Input = true
+is_of_input (sources.File path) = false
+
+abbrev pub EndsAsmFrom : Source → Result RawSettings SettingsFault → Status → Streams → Streams → Type 0
+EndsAsmFrom source settings status before after = EndsAsmOf (is_of_input source) settings status before after

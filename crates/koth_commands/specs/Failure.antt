@@ -2,13 +2,20 @@
 use Rattle.std.specs.Prelude.{ℕ, List, codes}
 use Rattle.koth_commands.specs.declared.failure.Failure.{Failure}
 use Rattle.koth_commands.specs.declared.failure.Failure.TheVariants.{Stream, Memory}
+use Rattle.koth_commands.specs.declared.failure.Trouble.{Trouble}
+use Rattle.koth_commands.specs.declared.failure.Trouble.TheVariants as troubles
 use Rattle.koth_commands.specs.declared.status.Status.{Status}
 use Rattle.koth_commands.specs.declared.status.Status.TheVariants as statuses
 
--- the line on the standard error
-abbrev pub failure_line : Failure → List ℕ
-failure_line Stream = codes "DISK\n"
-failure_line Memory = codes "MEMORY\n"
+-- what a failure with its cause is
+abbrev pub failure_of : Trouble → Failure
+failure_of (troubles.Failed cause) = Stream
+failure_of troubles.Memory = Memory
+
+-- the word on the standard error, behind which what failed and why may stand
+abbrev pub failure_word : Failure → List ℕ
+failure_word Stream = codes "DISK"
+failure_word Memory = codes "MEMORY"
 
 -- how the program ends
 abbrev pub failure_status : Failure → Status

@@ -9,10 +9,14 @@ use Rattle.redcode_asm.specs.Assembly.{assembly}
 use Rattle.koth_match.specs.Match.{match_of}
 use Rattle.koth_match.specs.declared.bout.Bout.{Bout}
 use Rattle.koth_protocol.specs.Refusal.{refusal_line}
+use Rattle.koth_views.specs.Bout.{bout_view}
+use Rattle.koth_words.specs.declared.words.View.{View}
+use Rattle.koth_words.specs.declared.words.View.TheVariants as views
 use Rattle.koth_protocol.specs.Written.{WritesPart}
 use Rattle.koth_commands.specs.Answer.{KeepsAll, RefusesSettings, Tells}
+use Rattle.koth_commands.specs.Failure.{failure_word}
 use Rattle.koth_commands.specs.Streams.{Streams}
-use Rattle.koth_commands.specs.declared.failure.Failure.{Failure}
+use Rattle.koth_commands.specs.Told.{TellsWord, WritesSome}
 use Rattle.koth_commands.specs.declared.failure.Failure.TheVariants as failures
 use Rattle.koth_commands.specs.declared.fight.NoMatch.{NoMatch}
 use Rattle.koth_commands.specs.declared.fight.NoMatch.TheVariants as reasons
@@ -30,13 +34,18 @@ pub record IsWarriorOf (s : RawSettings) (warrior : WarriorParts) : Type 0 where
   pub comes : assembly s source ≡ Ok warrior
   pub fits : Fits s warrior
 
--- the counts are those of the match of two such warriors
-pub record IsBoutOf (s : RawSettings) (bout : Bout) : Type 0 where
+-- how the counts of a match of two warriors are told
+abbrev pub bout_text : View → WarriorParts → WarriorParts → Bout → List ℕ
+bout_text views.Plain older younger b = bout_line b
+bout_text views.Table older younger b = bout_view older younger b
+
+-- the text tells the match of two such warriors
+pub record IsFought (s : RawSettings) (view : View) (text : List ℕ) : Type 0 where
   pub older : WarriorParts
   pub younger : WarriorParts
   pub older_comes : IsWarriorOf s older
   pub younger_comes : IsWarriorOf s younger
-  pub counts : bout ≡ match_of s older younger
+  pub tells : text ≡ bout_text view older younger (match_of s older younger)
 
 -- some source is refused so
 pub record IsFaultOf (s : RawSettings) (fault : AsmFault) : Type 0 where
@@ -44,56 +53,39 @@ pub record IsFaultOf (s : RawSettings) (fault : AsmFault) : Type 0 where
   pub comes : assembly s source ≡ Err fault
 
 -- where there is no match for a refusal's sake, some source is refused so
-abbrev pub IsRefusedOf : RawSettings → NoMatch → Type 0
-IsRefusedOf s (reasons.Refused fault) = IsFaultOf s fault
-IsRefusedOf s (reasons.Failed failure) = ⊤
+abbrev pub IsRefusedOf : {A : Type 0} → RawSettings → NoMatch A → Type 0
+IsRefusedOf s (reasons.Refused path text fault) = assembly s text.items ≡ Err fault
+IsRefusedOf s (reasons.Failed trouble) = ⊤
 
--- the answer is the line of a match, or that of a refusal
-abbrev pub AnswersFight : RawSettings → Status → List ℕ → Type 0
-AnswersFight s statuses.Done text = (bout : Bout) × IsBoutOf s bout × (text ≡ bout_line bout)
-AnswersFight s statuses.Refused text = (fault : AsmFault) × IsFaultOf s fault × (text ≡ refusal_line fault)
-AnswersFight s statuses.WordFault text = ⊥
-AnswersFight s statuses.StreamFault text = ⊥
-AnswersFight s statuses.NoMemory text = ⊥
+-- a part of the answer was written: of the counts of a match, or of a refusal's line
+abbrev pub AnswersPartly : RawSettings → View → Option (List ℕ) → Option (List ℕ) → Type 0
+AnswersPartly s view old new =
+    ((text : List ℕ) × IsFought s view text × WritesPart old new text) ⊎ ((fault : AsmFault) × IsFaultOf s fault × WritesPart old new (refusal_line fault))
 
--- such an answer was written whole, and nothing else
-pub record AnswersWhole (s : RawSettings) (status : Status) (before after : Streams) : Type 0 where
-  pub text : List ℕ
-  pub answer : AnswersFight s status text
-  pub written : Appends before.output after.output text
-  pub silent : Keeps before.errors after.errors
+-- how `fight` ends where there is no match, by what the output and then the errors hold before and after: with the refusal of a source, with a
+-- file or a stream that failed, or for want of memory
+abbrev pub EndsNoMatch : RawSettings → Status → Option (List ℕ) → Option (List ℕ) → Option (List ℕ) → Option (List ℕ) → Type 0
+EndsNoMatch s statuses.Done o p e f = ⊥
+EndsNoMatch s statuses.Refused o p e f = (fault : AsmFault) × IsFaultOf s fault × Appends o p (refusal_line fault) × WritesSome e f
+EndsNoMatch s statuses.WordFault o p e f = ⊥
+EndsNoMatch s statuses.StreamFault o p e f =
+    (Keeps o p ⊎ ((fault : AsmFault) × IsFaultOf s fault × WritesPart o p (refusal_line fault))) × TellsWord (failure_word failures.Stream) e f
+EndsNoMatch s statuses.NoMemory o p e f = Keeps o p × TellsWord (failure_word failures.Memory) e f
 
--- a part of such an answer was written
-pub record AnswersPartly (s : RawSettings) (old new : Option (List ℕ)) : Type 0 where
-  pub status : Status
-  pub text : List ℕ
-  pub answer : AnswersFight s status text
-  pub written : WritesPart old new text
-
--- where a file or a stream failed, nothing was written, or such a part
-abbrev pub AnswersNoMore : RawSettings → Option (List ℕ) → Option (List ℕ) → Type 0
-AnswersNoMore s old new = Keeps old new ⊎ AnswersPartly s old new
-
--- how `fight` ends under settings: with an answer, with a file or a stream that failed, or for want of memory
-abbrev pub EndsFightUnder : RawSettings → Status → Streams → Streams → Type 0
-EndsFightUnder s statuses.Done before after = AnswersWhole s statuses.Done before after
-EndsFightUnder s statuses.Refused before after = AnswersWhole s statuses.Refused before after
-EndsFightUnder s statuses.WordFault before after = ⊥
-EndsFightUnder s statuses.StreamFault before after =
-    AnswersNoMore s before.output after.output × Tells failures.Stream before after
-EndsFightUnder s statuses.NoMemory before after = Keeps before.output after.output × Tells failures.Memory before after
+-- how `fight` ends under settings: with the counts of a match of two warriors and nothing told, or as where there is none, or with a stream
+-- that failed, and then a part of the answer may have been written
+abbrev pub EndsFightUnder : RawSettings → View → Status → Option (List ℕ) → Option (List ℕ) → Option (List ℕ) → Option (List ℕ) → Type 0
+EndsFightUnder s view statuses.Done o p e f = (text : List ℕ) × IsFought s view text × Appends o p text × Keeps e f
+EndsFightUnder s view statuses.Refused o p e f = EndsNoMatch s statuses.Refused o p e f
+EndsFightUnder s view statuses.WordFault o p e f = ⊥
+EndsFightUnder s view statuses.StreamFault o p e f = (Keeps o p ⊎ AnswersPartly s view o p) × TellsWord (failure_word failures.Stream) e f
+EndsFightUnder s view statuses.NoMemory o p e f = Keeps o p × TellsWord (failure_word failures.Memory) e f
 
 -- how `fight` ends: as under the settings that are given, with their refusal, or for want of memory
-abbrev pub EndsFight : Result RawSettings SettingsFault → Status → Streams → Streams → Type 0
-EndsFight (Ok s) status before after = EndsFightUnder s status before after
-EndsFight (Err fault) statuses.Done before after = ⊥
-EndsFight (Err fault) statuses.Refused before after = RefusesSettings fault before after
-EndsFight (Err fault) statuses.WordFault before after = ⊥
-EndsFight (Err fault) statuses.StreamFault before after = ⊥
-EndsFight (Err fault) statuses.NoMemory before after = KeepsAll before after × Tells failures.Memory before after
-
--- the same before a failure is told
-abbrev pub AttemptsFight : RawSettings → Result Status Failure → Streams → Streams → Type 0
-AttemptsFight s (Ok status) before after = AnswersWhole s status before after
-AttemptsFight s (Err failures.Stream) before after = AnswersNoMore s before.output after.output
-AttemptsFight s (Err failures.Memory) before after = Keeps before.output after.output
+abbrev pub EndsFight : View → Result RawSettings SettingsFault → Status → Streams → Streams → Type 0
+EndsFight view (Ok s) status before after = EndsFightUnder s view status before.output after.output before.errors after.errors
+EndsFight view (Err fault) statuses.Done before after = ⊥
+EndsFight view (Err fault) statuses.Refused before after = RefusesSettings fault before after
+EndsFight view (Err fault) statuses.WordFault before after = ⊥
+EndsFight view (Err fault) statuses.StreamFault before after = ⊥
+EndsFight view (Err fault) statuses.NoMemory before after = KeepsAll before after × Tells failures.Memory before after

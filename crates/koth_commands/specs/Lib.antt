@@ -1,8 +1,10 @@
 -- The three streams, how the program ends, and what it tells of a failure.
 pub mod Streams
 pub mod Status
+pub mod Told
 pub mod Failure
 pub mod Answer
--- What each command writes and how it ends: `asm`, and `fight`.
+-- What each command writes and how it ends: `asm`, `fight` and `check`.
 pub mod Asm
 pub mod Fight
+pub mod Check

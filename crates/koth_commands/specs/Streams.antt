@@ -1,5 +1,5 @@
 -- What a command takes from its input, and its three streams.
-use Rattle.std.specs.Prelude.{ℕ, ◌<◌, ◌≤◌, Option, List, length}
+use Rattle.std.specs.Prelude.{ℕ, ◌<◌, ◌≤◌, Option, None, List, length}
 use Rattle.std.specs.Io.KnownBytes.{Consumes, IsAtEnd}
 
 -- bytes of a source that are read: one more than a source may have
@@ -20,3 +20,7 @@ pub record Streams : Type 0 where
 
 abbrev pub streams : Option (List ℕ) → Option (List ℕ) → Option (List ℕ) → Streams
 streams input output errors = record { input = input; output = output; errors = errors }
+
+-- the streams of a command that reads nothing from the input
+abbrev pub unread : Streams → Streams
+unread s = streams None s.output s.errors

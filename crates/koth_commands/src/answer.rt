@@ -1,63 +1,59 @@
-//! What a command answers to a source.
+//! Texts that a command answers with, and what is told where they can't be written.
 
-ghost use Rattle.std.specs.Prelude.{◌≡◌, IfOk};
-ghost use Rattle.koth_protocol.specs.Refusal.{refusal_line};
-ghost use Rattle.koth_protocol.specs.Written.{WritesPart};
-ghost use Rattle.koth_commands.specs.Answer.{settings_line};
+ghost use Rattle.std.specs.Prelude.{◌≡◌};
+ghost use Rattle.koth_commands.specs.Answer.{EndsRefusal, EndsText};
 
+use crate::cause::Cause;
+use crate::explanation::explain;
+use crate::failure::Failure;
 use crate::status::Status;
 use crate::stream::write_whole;
 use koth_protocol::refusal_line;
-use std::alloc::{AllocError, Allocator};
+use std::alloc::Allocator;
 use std::io::Write;
-use war_types::{AsmFault, SettingsFault};
+use war_types::{AsmFault, Settings};
 
-/// What is written, and how the program ends with it.
-#[derive(Drop)]
-pub(crate) struct Answer<A: Allocator> {
-    pub status: Status,
-    pub text: Vec<u8, A>,
-}
-
-/// The answer to a source that is refused.
-pub(crate) fn refusal<A: Allocator + Copy>(
+/// Writes an answer whole, and ends as done; or tells that the output failed.
+pub fn write_answer<A: Allocator, O: Write, E: Write>(
     alloc: A,
-    fault: AsmFault,
-) -> Result<Answer<A>, AllocError>
-    ensures status { IfOk result (λ answer. answer.status ≡ Status.Refused) }
-    ensures text { IfOk result (λ answer. answer.text.items ≡ refusal_line fault) }
+    text: &[u8],
+    output: &mut O,
+    errors: &mut E,
+) -> Status
+    ensures { EndsText text.now result
+        (O.contents output.old) (O.contents output.new) (E.contents errors.old) (E.contents errors.new) }
 {
-    let line = refusal_line(fault);
-    let mut text = Vec::new(alloc);
-    text.extend_from_slice(line.as_slice())?;
-    Ok(Answer {
-        status: Status::Refused,
-        text,
-    })
+    match write_whole(output, text) {
+        Ok(()) => Status::Done,
+        Err(fault) => Failure::Stream.tell(alloc, Some(Cause::output(fault.reason)), errors),
+    }
 }
 
-/// Tells of settings that are refused. Where the line can't be written, the status alone tells.
-pub fn refuse_settings<E: Write>(fault: SettingsFault, errors: &mut E) -> Status
-    ensures status { result ≡ Status.Refused }
-    ensures told { WritesPart (E.contents errors.old) (E.contents errors.new) (settings_line fault) }
-{
-    let _ = write_whole(errors, settings_line(fault).as_bytes());
-    Status::Refused
+/// A source that is refused, and where it was read.
+#[derive(Clone, Copy, Debug)]
+pub struct RefusedSource<'s> {
+    /// The path of its file, or another name of where it comes from.
+    pub path: &'s str,
+    pub text: &'s [u8],
+    pub fault: AsmFault,
 }
 
-fn settings_line(fault: SettingsFault) -> &'static str
-    ensures { result.now ≡ settings_line fault }
+/// Writes the line of a refusal, and tells on the errors where in the source and why; or tells that the output failed.
+pub fn write_refusal<A: Allocator + Copy, O: Write, E: Write>(
+    alloc: A,
+    settings: &Settings,
+    refused: RefusedSource<'_>,
+    output: &mut O,
+    errors: &mut E,
+) -> Status
+    ensures { EndsRefusal refused.entry.fault result
+        (O.contents output.old) (O.contents output.new) (E.contents errors.old) (E.contents errors.new) }
 {
-    match fault {
-        SettingsFault::Core => "BadSettings Core\n",
-        SettingsFault::Cycles => "BadSettings Cycles\n",
-        SettingsFault::Processes => "BadSettings Processes\n",
-        SettingsFault::Length => "BadSettings Length\n",
-        SettingsFault::Distance => "BadSettings Distance\n",
-        SettingsFault::Rounds => "BadSettings Rounds\n",
-        SettingsFault::Seed => "BadSettings Seed\n",
-        SettingsFault::Capacity => "BadSettings Capacity\n",
-        SettingsFault::ReadLimit => "BadSettings ReadLimit\n",
-        SettingsFault::WriteLimit => "BadSettings WriteLimit\n",
+    match write_whole(output, refusal_line(refused.fault).as_slice()) {
+        Ok(()) => {
+            explain(alloc, refused.path, refused.text, settings, errors);
+            Status::Refused
+        }
+        Err(fault) => Failure::Stream.tell(alloc, Some(Cause::output(fault.reason)), errors),
     }
 }

@@ -1,45 +1,86 @@
 //! The command `asm`: from a source to load text.
 
-ghost use Rattle.std.specs.Prelude.{◌≡◌, None, length, IfOk};
+ghost use Rattle.std.specs.Prelude.{◌≡◌, None, length};
 ghost use Rattle.war_types.specs.Settings.{settings_of};
 ghost use Rattle.war_types.specs.Warrior.{Fits};
-ghost use Rattle.redcode_asm.specs.Assembly.{assembly};
 ghost use Rattle.redcode_asm.specs.LoadText.{load_text};
-ghost use Rattle.koth_commands.specs.Asm.{answer_of, status_of, Attempts, EndsAsm, EndsUnder};
+ghost use Rattle.koth_commands.specs.Answer.{EndsText};
+ghost use Rattle.koth_commands.specs.Asm.{EndsAsmFrom, EndsSource, EndsUnder};
 ghost use Rattle.koth_commands.specs.Streams.{read_limit, streams};
 
-use crate::answer::{Answer, refusal, refuse_settings};
+use crate::answer::{RefusedSource, write_answer, write_refusal};
+use crate::cause::{Cause, Subject, reason_of};
 use crate::failure::Failure;
+use crate::settings::refuse_settings;
 use crate::source::source_buffer;
 use crate::status::Status;
-use crate::stream::{StreamFault, fill, write_whole};
+use crate::stream::fill;
+use koth_words::Source;
 use redcode_asm::{assemble, load_text};
 use std::alloc::{AllocError, Allocator};
+use std::fs;
 use std::io::{Read, Write};
+use std::rt::Files;
 use war_types::{AsmKind, RawSettings, Settings, Warrior};
 
-/// Assembles the source that the input has, under the settings that are given, and writes its load text, or its
-/// refusal. Settings that are out of their ranges are refused before anything is read.
-pub fn asm<A: Allocator + Copy, I: Read, O: Write, E: Write>(
+/// Assembles the source that the input or a file has, under the settings that are given, and writes its load text, or its refusal. Settings
+/// that are out of their ranges are refused before anything is read.
+pub fn asm<R: Files, A: Allocator + Copy, I: Read, O: Write, E: Write>(
+    rt: &R,
     alloc: A,
     given: RawSettings,
+    source: Source<'_>,
     input: &mut I,
     output: &mut O,
     errors: &mut E,
 ) -> Status
-    ensures { EndsAsm (settings_of given) result
+    ensures { EndsAsmFrom source.entry (settings_of given) result
         (streams (I.remaining input.old) (O.contents output.old) (E.contents errors.old))
         (streams (I.remaining input.new) (O.contents output.new) (E.contents errors.new)) }
 {
     match Settings::new(given) {
-        Ok(settings) => asm_under(alloc, &settings, input, output, errors),
-        Err(fault) => refuse_settings(fault, errors),
+        Ok(settings) => match source {
+            Source::Input => asm_from(alloc, &settings, Subject::Input, input, output, errors),
+            Source::File(path) => asm_file(rt, alloc, &settings, path, output, errors),
+        },
+        Err(fault) => refuse_settings(alloc, given, fault, errors),
     }
 }
 
-fn asm_under<A: Allocator + Copy, I: Read, O: Write, E: Write>(
+/// Assembles what a file has.
+fn asm_file<R: Files, A: Allocator + Copy, O: Write, E: Write>(
+    rt: &R,
     alloc: A,
     settings: &Settings,
+    path: &str,
+    output: &mut O,
+    errors: &mut E,
+) -> Status
+    ensures { EndsUnder settings.now result
+        (streams None (O.contents output.old) (E.contents errors.old))
+        (streams None (O.contents output.new) (E.contents errors.new)) }
+{
+    match fs::open(rt, path) {
+        Ok(mut file) => asm_from(
+            alloc,
+            settings,
+            Subject::File(path),
+            &mut file,
+            output,
+            errors,
+        ),
+        Err(error) => {
+            let cause = Cause::file(path, reason_of(error.kind()));
+            Failure::Stream.tell(alloc, Some(cause), errors)
+        }
+    }
+}
+
+/// Assembles what a stream has, which is told by this name.
+fn asm_from<A: Allocator + Copy, I: Read, O: Write, E: Write>(
+    alloc: A,
+    settings: &Settings,
+    subject: Subject<'_>,
     input: &mut I,
     output: &mut O,
     errors: &mut E,
@@ -48,69 +89,78 @@ fn asm_under<A: Allocator + Copy, I: Read, O: Write, E: Write>(
         (streams (I.remaining input.old) (O.contents output.old) (E.contents errors.old))
         (streams (I.remaining input.new) (O.contents output.new) (E.contents errors.new)) }
 {
-    let Ok(mut buffer) = source_buffer(alloc) else {
-        return Failure::Memory.tell(errors);
-    };
-    match answer_input(alloc, settings, input, output, buffer.as_mut_slice()) {
-        Ok(status) => status,
-        Err(failure) => failure.tell(errors),
+    match source_buffer(alloc) {
+        Ok(mut buffer) => {
+            let buffer = buffer.as_mut_slice();
+            asm_within(alloc, settings, subject, input, output, errors, buffer)
+        }
+        Err(AllocError) => Failure::Memory.tell_alone(errors),
     }
 }
 
-fn answer_input<A: Allocator + Copy, I: Read, O: Write>(
+/// Assembles what a stream has, which is read into this buffer.
+fn asm_within<A: Allocator + Copy, I: Read, O: Write, E: Write>(
     alloc: A,
     settings: &Settings,
+    subject: Subject<'_>,
     input: &mut I,
     output: &mut O,
+    errors: &mut E,
     buffer: &mut [u8],
-) -> Result<Status, Failure>
+) -> Status
     requires { length buffer.old ≡ read_limit }
-    ensures { Attempts settings.now result
-        (streams (I.remaining input.old) (O.contents output.old) None)
-        (streams (I.remaining input.new) (O.contents output.new) None) }
+    ensures { EndsUnder settings.now result
+        (streams (I.remaining input.old) (O.contents output.old) (E.contents errors.old))
+        (streams (I.remaining input.new) (O.contents output.new) (E.contents errors.new)) }
 {
-    let count = match fill(input, buffer) {
-        Ok(count) => count,
-        Err(StreamFault) => return Err(Failure::Stream),
-    };
-    let answer = match answer_to(alloc, settings, &buffer[..count]) {
-        Ok(answer) => answer,
-        Err(AllocError) => return Err(Failure::Memory),
-    };
-    match write_whole(output, answer.text.as_slice()) {
-        Ok(()) => Ok(answer.status),
-        Err(StreamFault) => Err(Failure::Stream),
+    match fill(input, buffer) {
+        Ok(count) => {
+            let text = &buffer[..count];
+            answer_source(alloc, settings, subject.name(), text, output, errors)
+        }
+        Err(fault) => {
+            let reason = fault.reason;
+            Failure::Stream.tell(alloc, Some(Cause { subject, reason }), errors)
+        }
     }
 }
 
-/// What is answered to a source.
-fn answer_to<A: Allocator + Copy>(
+/// Writes what a source comes to.
+fn answer_source<A: Allocator + Copy, O: Write, E: Write>(
     alloc: A,
     settings: &Settings,
-    source: &[u8],
-) -> Result<Answer<A>, AllocError>
-    ensures status { IfOk result (λ answer. answer.status ≡ status_of (assembly settings.now source.now)) }
-    ensures text { IfOk result (λ answer. answer.text.items ≡ answer_of settings.now (assembly settings.now source.now)) }
+    path: &str,
+    text: &[u8],
+    output: &mut O,
+    errors: &mut E,
+) -> Status
+    ensures { EndsSource settings.now text.now result
+        (O.contents output.old) (O.contents output.new) (E.contents errors.old) (E.contents errors.new) }
 {
-    match assemble(alloc, source, settings) {
-        Ok(warrior) => loaded(alloc, &warrior, settings),
-        Err(fault) if matches!(fault.kind, AsmKind::Memory) => Err(AllocError),
-        Err(fault) => refusal(alloc, fault),
+    match assemble(alloc, text, settings) {
+        Ok(warrior) => answer_warrior(alloc, &warrior, settings, output, errors),
+        Err(fault) if matches!(fault.kind, AsmKind::Memory) => Failure::Memory.tell_alone(errors),
+        Err(fault) => {
+            let refused = RefusedSource { path, text, fault };
+            write_refusal(alloc, settings, refused, output, errors)
+        }
     }
 }
 
-/// The answer that tells the code of a warrior.
-fn loaded<A: Allocator + Copy>(
+/// Writes the load text of a warrior.
+fn answer_warrior<A: Allocator + Copy, O: Write, E: Write>(
     alloc: A,
     warrior: &Warrior<A>,
     settings: &Settings,
-) -> Result<Answer<A>, AllocError>
+    output: &mut O,
+    errors: &mut E,
+) -> Status
     requires { Fits settings.now warrior.now }
-    ensures status { IfOk result (λ answer. answer.status ≡ Status.Done) }
-    ensures text { IfOk result (λ answer. answer.text.items ≡ load_text settings.now.core warrior.now) }
+    ensures { EndsText (load_text settings.now.core warrior.now) result
+        (O.contents output.old) (O.contents output.new) (E.contents errors.old) (E.contents errors.new) }
 {
-    Ok(Answer {
-        status: Status::Done,
-        text: load_text(alloc, warrior, settings.core())?,
-    })
+    match load_text(alloc, warrior, settings.core()) {
+        Ok(text) => write_answer(alloc, text.as_slice(), output, errors),
+        Err(AllocError) => Failure::Memory.tell_alone(errors),
+    }
 }

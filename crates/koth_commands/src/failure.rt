@@ -1,10 +1,12 @@
 //! Why a command was not carried out.
 
 ghost use Rattle.std.specs.Prelude.{◌≡◌};
-ghost use Rattle.koth_protocol.specs.Written.{WritesPart};
+ghost use Rattle.koth_commands.specs.Told.{TellsWord};
 
+use crate::cause::Cause;
 use crate::status::Status;
-use crate::stream::write_whole;
+use crate::telling::{Apart, tell_text, tell_word};
+use std::alloc::Allocator;
 use std::io::Write;
 
 /// Why a command was not carried out.
@@ -16,28 +18,74 @@ pub enum Failure {
     Memory,
 }
 
-impl Failure {
-    ghost use Rattle.koth_commands.specs.Failure.{failure_line, failure_status};
+/// A failure, with what failed and why if that is known.
+#[derive(Clone, Copy, Debug)]
+pub enum Trouble<'t> {
+    /// A stream or a file failed.
+    Failed(Cause<'t>),
+    /// A growth of memory was refused.
+    Memory,
+}
 
-    /// Writes the failure's line, and says how the program ends. Where the line can't be written either, the
-    /// status alone tells.
-    pub fn tell<E: Write>(self, errors: &mut E) -> Status
-        ensures status { result ≡ failure_status self }
-        ensures told { WritesPart (E.contents errors.old) (E.contents errors.new) (failure_line self) }
+impl Trouble<'_> {
+    ghost use Rattle.koth_commands.specs.Failure.{failure_of, failure_status, failure_word};
+
+    /// Writes the failure's word, and behind it what failed and why, and says how the program ends.
+    pub fn tell<A: Allocator, E: Write>(self, alloc: A, errors: &mut E) -> Status
+        ensures status { result ≡ failure_status (failure_of self.entry) }
+        ensures told { TellsWord (failure_word (failure_of self.entry)) (E.contents errors.old) (E.contents errors.new) }
     {
-        let _ = write_whole(errors, self.line().as_bytes());
         match self {
-            Failure::Stream => Status::StreamFault,
-            Failure::Memory => Status::NoMemory,
+            Trouble::Failed(cause) => Failure::Stream.tell(alloc, Some(cause), errors),
+            Trouble::Memory => Failure::Memory.tell_alone(errors),
+        }
+    }
+}
+
+impl Failure {
+    ghost use Rattle.koth_commands.specs.Failure.{failure_status, failure_word};
+
+    /// Writes the failure's word, and behind it what failed and why, where that is known, and says how the program ends. Where the line
+    /// can't be written either, the status alone tells.
+    pub fn tell<A: Allocator, E: Write>(
+        self,
+        alloc: A,
+        cause: Option<Cause<'_>>,
+        errors: &mut E,
+    ) -> Status
+        ensures status { result ≡ failure_status self }
+        ensures told { TellsWord (failure_word self) (E.contents errors.old) (E.contents errors.new) }
+    {
+        tell_word(alloc, self.word(), cause, errors);
+        self.status()
+    }
+
+    /// Writes the failure's word alone, and says how the program ends.
+    pub fn tell_alone<E: Write>(self, errors: &mut E) -> Status
+        ensures status { result ≡ failure_status self }
+        ensures told { TellsWord (failure_word self) (E.contents errors.old) (E.contents errors.new) }
+    {
+        tell_text(self.word(), Apart::Line, b"", errors);
+        self.status()
+    }
+
+    /// The word that programs know it by.
+    pub fn word(self) -> &'static str
+        ensures { result.now ≡ failure_word self }
+    {
+        match self {
+            Failure::Stream => "DISK",
+            Failure::Memory => "MEMORY",
         }
     }
 
-    fn line(self) -> &'static str
-        ensures { result.now ≡ failure_line self }
+    /// How the program ends with it.
+    pub fn status(self) -> Status
+        ensures { result ≡ failure_status self }
     {
         match self {
-            Failure::Stream => "DISK\n",
-            Failure::Memory => "MEMORY\n",
+            Failure::Stream => Status::StreamFault,
+            Failure::Memory => Status::NoMemory,
         }
     }
 }

@@ -15,14 +15,23 @@
 
 mod answer;
 pub mod asm;
+mod cause;
+pub mod check;
+mod explanation;
 mod failure;
 pub mod fight;
+mod settings;
 mod source;
 mod status;
 mod stream;
+mod telling;
 
-pub use answer::refuse_settings;
-pub use failure::Failure;
-pub use source::{read_file, source_buffer};
+pub use answer::{RefusedSource, write_answer, write_refusal};
+pub use cause::{Cause, Reason, Subject, reason_of};
+pub use explanation::explain;
+pub use failure::{Failure, Trouble};
+pub use settings::refuse_settings;
+pub use source::read_source;
 pub use status::Status;
 pub use stream::{StreamFault, write_whole};
+pub use telling::{Apart, tell_text, tell_word, write_both};

@@ -4,12 +4,22 @@ ghost use Rattle.std.specs.Prelude.{◌≡◌, ◌<◌, ◌≤◌, ℕ, List, le
 ghost use Rattle.std.specs.Io.KnownBytes.{Appends, Consumes, IsAtEnd};
 ghost use Rattle.koth_protocol.specs.Written.{WritesPart};
 
+use crate::cause::{Reason, reason_of};
 use koth_protocol::{read_uninterrupted, write_uninterrupted};
-use std::io::{Read, Write};
+use std::io;
+use std::io::{ErrorKind, Read, Write};
 
 /// A stream failed: a read or a write gave an error, or a write took no byte.
 #[derive(Clone, Copy, Debug, PartialEq, Eq)]
-pub struct StreamFault;
+pub struct StreamFault {
+    pub reason: Reason,
+}
+
+fn fault_of(error: &io::Error) -> StreamFault {
+    StreamFault {
+        reason: reason_of(error.kind()),
+    }
+}
 
 /// Reads until the buffer is full or the input is at its end, and says how many bytes came.
 pub(crate) fn fill<I: Read>(input: &mut I, buffer: &mut [u8]) -> Result<usize, StreamFault>
@@ -26,7 +36,7 @@ pub(crate) fn fill<I: Read>(input: &mut I, buffer: &mut [u8]) -> Result<usize, S
         match read_uninterrupted(input, &mut buffer[filled..]) {
             Ok(0) => return Ok(filled),
             Ok(count) => filled += count,
-            Err(_) => return Err(StreamFault),
+            Err(error) => return Err(fault_of(&error)),
         }
     }
     Ok(filled)
@@ -41,11 +51,12 @@ pub fn write_whole<W: Write>(output: &mut W, text: &[u8]) -> Result<(), StreamFa
     while !rest.is_empty() {
         match write_uninterrupted(output, rest) {
             Ok(count) if count > 0 => rest = &rest[count..],
-            _ => return Err(StreamFault),
+            Ok(_) => return Err(fault_of(&io::Error::from(ErrorKind::WriteZero))),
+            Err(error) => return Err(fault_of(&error)),
         }
     }
     match output.flush() {
         Ok(()) => Ok(()),
-        Err(_) => Err(StreamFault),
+        Err(error) => Err(fault_of(&error)),
     }
 }

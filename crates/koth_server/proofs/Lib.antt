@@ -3,6 +3,7 @@ mod Carried
 mod Listening
 mod OldHeaders
 mod Parts
+mod Replies
 mod Said
 mod Shown
 mod StillOpen

@@ -7,8 +7,8 @@ use Rattle.koth_hill.specs.Kept.{Kept}
 use Rattle.hill_store.specs.Seen.{Seen, Submits}
 use Rattle.hill_store.specs.declared.reply.Reply.{Reply}
 use Rattle.hill_store.specs.declared.reply.Reply.TheVariants as replies
-use Rattle.koth_session.specs.Reply.{reply_line}
-use Rattle.koth_server.specs.Hills.{Said, SaysPart, SaysReply, SaysTable, ShowsOf, SubmitsTo, Tries, WritesAt}
+use Rattle.koth_commands.specs.Streams.{Streams}
+use Rattle.koth_server.specs.Hills.{EndsSubmission, EndsSubmit, Said, SaysPart, SaysShown, ShowsOf, Tries, WritesAt}
 use Rattle.koth_server.specs.Migration.{SaysMigrated, TellsMigrated, migrated_line}
 use Rattle.koth_server.specs.ReplyStatus.{reply_status}
 use Rattle.koth_commands.specs.declared.failure.Failure.TheVariants as kinds
@@ -16,6 +16,8 @@ use Rattle.koth_commands.specs.declared.status.Status.{Status}
 use Rattle.koth_commands.specs.declared.status.Status.TheVariants as statuses
 use Rattle.koth_server.specs.declared.hill_fault.HillFault.{HillFault}
 use Rattle.koth_server.specs.declared.hill_fault.HillFault.TheVariants as faults
+use Rattle.koth_server.specs.declared.trouble.HillTrouble.{HillTrouble}
+use Rattle.koth_words.specs.declared.words.View.{View}
 
 -- nothing was
 pub nothing_new : (said : Said) (fault : HillFault) (o p : Option (List ℕ)) → Keeps o p → WritesAt said fault o p
@@ -31,24 +33,27 @@ pub nothing : (said : Said) (fault : HillFault) (o : Option (List ℕ)) → Writ
 nothing said fault o = nothing_new said fault o o (Keeps-refl o)
 
 -- a hill that was open answers no `REOPEN`
-module _ {D : Type 0} (facts : DeviceFacts D) (before after : Seen D) (source : List ℕ) (o p : Option (List ℕ)) where
+module _ {D : Type 0} (facts : DeviceFacts D) (before after : Seen D) (source : List ℕ) where
   never_reopen : (reply : Reply) → Submits facts before source reply after → before.reopen ≡ false → reply ≢ replies.Reopen
   never_reopen reply submits is_open is =
       let reopened : Submits facts before source replies.Reopen after = subst (λ r. Submits facts before source r after) is submits in
       true≢false (sym reopened.0 ∙ is_open)
 
-  -- the line of its reply was written, or a part of it
-  pub says_reply : (r : Result Status HillFault) → before.reopen ≡ false → SubmitsTo facts before source r after o p → Tries SaysReply r o p
-  says_reply (Ok status) is_open (reply, submits, is, written) =
-      record { text = reply_line reply; answer = (reply, never_reopen reply submits is_open, is, refl); written = written }
-  says_reply (Err fault) is_open (reply, submits, is, written) =
-      let part : SaysPart SaysReply o p = record {
-        status = reply_status reply;
-        text = reply_line reply;
-        answer = (reply, never_reopen reply submits is_open, refl, refl);
-        written = written;
-      } in
-      subst (λ f. WritesAt SaysReply f o p) (sym is) (inr part)
+  -- the submission to a hill that was open ends as `submit` does
+  pub says_submission : (view : View) (status : Status) (u v : Streams) → before.reopen ≡ false → EndsSubmission facts before source after view status u v
+      → EndsSubmit view status u v
+  says_submission view status u v is_open (reply, submits, inl said) = inl (reply, never_reopen reply submits is_open, said)
+  says_submission view status u v is_open (reply, submits, inr (is, (text, tells, written), told)) = inr record {
+    fault = faults.Failed kinds.Stream;
+    ends = is;
+    output = inr record {
+      status = reply_status reply;
+      text = text;
+      answer = (reply, never_reopen reply submits is_open, refl, tells);
+      written = written;
+    };
+    told = told;
+  }
 
 -- what may be said of one hill may be said of some
 pub said_of_some : (one some : Said) → ((status : Status) (text : List ℕ) → one status text → some status text) → (fault : HillFault) (o p : Option (List ℕ))
@@ -65,18 +70,20 @@ said_of_some one some holds faults.OldHill o p said = said
 said_of_some one some holds faults.Damaged o p said = said
 
 -- the table of a hill is that of some hill
-pub shows_some : (matches : Bool) (hill : Kept) (r : Result Status HillFault) (o p : Option (List ℕ)) → Tries (ShowsOf matches hill) r o p → Tries (SaysTable matches) r o p
-shows_some matches hill (Ok status) o p said = record { text = said.text; answer = (hill, said.answer); written = said.written }
-shows_some matches hill (Err fault) o p said = said_of_some (ShowsOf matches hill) (SaysTable matches) (λ status text answer. (hill, answer)) fault o p said
+pub shows_some : (view : View) (matches : Bool) (hill : Kept) (r : Result Status HillTrouble) (o p : Option (List ℕ))
+    → Tries (ShowsOf view matches hill) r o p → Tries (SaysShown view matches) r o p
+shows_some view matches hill (Ok status) o p said = record { text = said.text; answer = (hill, said.answer); written = said.written }
+shows_some view matches hill (Err trouble) o p said =
+    said_of_some (ShowsOf view matches hill) (SaysShown view matches) (λ status text answer. (hill, answer)) trouble.fault o p said
 
 -- a hill was moved, and the line that says so was written, or a part of it
-pub says_migrated : (r : Result Status HillFault) (o p : Option (List ℕ)) → TellsMigrated r o p → Tries SaysMigrated r o p
+pub says_migrated : (r : Result Status HillTrouble) (o p : Option (List ℕ)) → TellsMigrated r o p → Tries SaysMigrated r o p
 says_migrated (Ok status) o p said = record { text = migrated_line; answer = (said.0, refl); written = said.1 }
-says_migrated (Err fault) o p said =
+says_migrated (Err trouble) o p said =
     let part : SaysPart SaysMigrated o p = record { status = statuses.Done; text = migrated_line; answer = (refl, refl); written = said.1 } in
     subst (λ f. WritesAt SaysMigrated f o p) (sym said.0) (inr part)
 
 -- or it was not, and nothing was written
-pub says_refused : (r : Result Status HillFault) (why : HillFault → Type 0) (o p : Option (List ℕ)) → IsErrAnd r why → Keeps o p → Tries SaysMigrated r o p
+pub says_refused : (r : Result Status HillTrouble) (why : HillTrouble → Type 0) (o p : Option (List ℕ)) → IsErrAnd r why → Keeps o p → Tries SaysMigrated r o p
 says_refused (Ok status) why o p refused kept = absurd refused
-says_refused (Err fault) why o p refused kept = nothing_new SaysMigrated fault o p kept
+says_refused (Err trouble) why o p refused kept = nothing_new SaysMigrated trouble.fault o p kept

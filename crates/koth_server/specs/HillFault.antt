@@ -1,24 +1,24 @@
 -- What is told of a command on a hill that was not carried out.
 use Rattle.std.specs.Prelude.{ℕ, List, codes}
-use Rattle.sector_disk.specs.declared.file_device.FileFault.{FileFault}
-use Rattle.sector_disk.specs.declared.file_device.FileFault.TheVariants as files
+use Rattle.hill_file.specs.declared.open_fault.OpenFault.{OpenFault}
+use Rattle.hill_file.specs.declared.open_fault.OpenFault.TheVariants as files
 use Rattle.hill_images.specs.declared.refusal.Refusal.{Refusal}
 use Rattle.hill_images.specs.declared.refusal.Refusal.TheVariants as refusals
-use Rattle.koth_commands.specs.Failure.{failure_line, failure_status}
+use Rattle.koth_commands.specs.Failure.{failure_status, failure_word}
 use Rattle.koth_commands.specs.declared.failure.Failure.TheVariants as failures
 use Rattle.koth_server.specs.declared.hill_fault.HillFault.{HillFault}
 use Rattle.koth_server.specs.declared.hill_fault.HillFault.TheVariants.{TooSmall, Occupied, NotAHill, OldHill, Damaged, Failed}
 use Rattle.koth_commands.specs.declared.status.Status.{Status}
 use Rattle.koth_commands.specs.declared.status.Status.TheVariants as statuses
 
--- the line on the standard error
-abbrev pub fault_line : HillFault → List ℕ
-fault_line TooSmall = codes "TooSmall\n"
-fault_line Occupied = codes "Occupied\n"
-fault_line NotAHill = codes "NotAHill\n"
-fault_line OldHill = codes "NotAHill\nA hill of the old format: koth migrate FILE NEW moves it to a new file\n"
-fault_line Damaged = codes "Damaged\n"
-fault_line (Failed failure) = failure_line failure
+-- the word on the standard error
+abbrev pub fault_word : HillFault → List ℕ
+fault_word TooSmall = codes "TooSmall"
+fault_word Occupied = codes "Occupied"
+fault_word NotAHill = codes "NotAHill"
+fault_word OldHill = codes "NotAHill"
+fault_word Damaged = codes "Damaged"
+fault_word (Failed failure) = failure_word failure
 
 -- how the program ends
 abbrev pub fault_status : HillFault → Status
@@ -38,7 +38,13 @@ fault_of_refusal refusals.Memory = Failed failures.Memory
 fault_of_refusal refusals.NotAHill = NotAHill
 fault_of_refusal refusals.Damaged = Damaged
 
--- a file gives no device
-abbrev pub fault_of_file : FileFault → HillFault
+-- a stream, a port or a file failed
+abbrev pub stream_failed : HillFault
+stream_failed = Failed failures.Stream
+
+-- a hill's file can't be worked on
+abbrev pub fault_of_file : OpenFault → HillFault
 fault_of_file files.Memory = Failed failures.Memory
-fault_of_file files.Failed = Failed failures.Stream
+fault_of_file files.Locked = stream_failed
+fault_of_file files.Occupied = Occupied
+fault_of_file (files.Failed kind) = stream_failed

@@ -14,18 +14,40 @@ use Rattle.koth_protocol.specs.Table.{show_text}
 use Rattle.koth_session.specs.Reply.{reply_line}
 use Rattle.koth_protocol.specs.Written.{WritesPart}
 use Rattle.koth_commands.specs.Answer.{KeepsAll, RefusesSettings, Tells}
-use Rattle.koth_server.specs.HillFault.{fault_line, fault_status}
+use Rattle.koth_commands.specs.Failure.{failure_word}
+use Rattle.koth_commands.specs.Told.{TellsWord, WritesSome}
+use Rattle.koth_views.specs.Standing.{hill_view}
+use Rattle.koth_views.specs.Matrix.{matches_view}
+use Rattle.koth_words.specs.declared.words.View.{View}
+use Rattle.koth_words.specs.declared.words.View.TheVariants as views
+use Rattle.koth_server.specs.HillFault.{fault_status, fault_word}
 use Rattle.koth_server.specs.ReplyStatus.{reply_status}
 use Rattle.koth_commands.specs.Streams.{Streams}
 use Rattle.koth_commands.specs.declared.failure.Failure.TheVariants as kinds
 use Rattle.koth_server.specs.declared.hill_fault.HillFault.{HillFault}
 use Rattle.koth_server.specs.declared.hill_fault.HillFault.TheVariants as faults
+use Rattle.koth_server.specs.declared.trouble.HillTrouble.{HillTrouble}
 use Rattle.koth_commands.specs.declared.status.Status.{Status}
 use Rattle.koth_commands.specs.declared.status.Status.TheVariants as statuses
 
 -- the line that tells the port
 abbrev pub listening_line : ℕ → List ℕ
 listening_line port = codes "LISTENING " ++ decimal port ++ codes "\n"
+
+-- the text that tells a reply
+abbrev pub IsReplyText : View → Reply → List ℕ → Type 0
+IsReplyText views.Plain reply text = text ≡ reply_line reply
+IsReplyText views.Table reply text = (more : List ℕ) × (text ≡ reply_line reply ++ more)
+
+-- what is told on the errors besides: some text that explains a refusal, and else nothing
+abbrev pub ExplainsReply : Reply → Option (List ℕ) → Option (List ℕ) → Type 0
+ExplainsReply (replies.Refused fault) old new = WritesSome old new
+ExplainsReply (replies.Placed entry rank score) old new = Keeps old new
+ExplainsReply (replies.Fell entry score) old new = Keeps old new
+ExplainsReply replies.Worn old new = Keeps old new
+ExplainsReply replies.Memory old new = Keeps old new
+ExplainsReply replies.Disk old new = Keeps old new
+ExplainsReply replies.Reopen old new = Keeps old new
 
 -- what a command that is carried out writes on the output, by the status with which it ends
 
@@ -35,20 +57,29 @@ Said = Status → List ℕ → Type 0
 abbrev pub SaysCreated : Said
 SaysCreated status text = (status ≡ statuses.Done) × (text ≡ codes "CREATED\n")
 
--- the line of a reply, which a hill that was just opened gives
-abbrev pub SaysReply : Said
-SaysReply status text = (reply : Reply) × (reply ≢ replies.Reopen) × (status ≡ reply_status reply) × (text ≡ reply_line reply)
+-- the line of a reply, which a hill that was just opened gives, and in the view for people some text behind it
+abbrev pub SaysReply : View → Said
+SaysReply view status text =
+    (reply : Reply) × (reply ≢ replies.Reopen) × (status ≡ reply_status reply) × IsReplyText view reply text
 
--- the table of this hill, by the results that it keeps, and behind it the matrix of these, where it is asked for
-abbrev pub shown_text : Bool → Kept → List ℕ
-shown_text matches hill = if matches then show_text (table_kept hill) ++ matches_text hill else show_text (table_kept hill)
+-- the table of this hill, by the results that it keeps, and behind it the matrix of these, where it is asked for: for programs
+abbrev pub shown_lines : Bool → Kept → List ℕ
+shown_lines matches hill = if matches then show_text (table_kept hill) ++ matches_text hill else show_text (table_kept hill)
 
-abbrev pub ShowsOf : Bool → Kept → Said
-ShowsOf matches hill status text = (status ≡ statuses.Done) × (text ≡ shown_text matches hill)
+-- the same for people
+abbrev pub shown_table : Bool → Kept → List ℕ
+shown_table matches hill = if matches then hill_view hill ++ (codes "\n" ++ matches_view hill) else hill_view hill
+
+abbrev pub shown_text : View → Bool → Kept → List ℕ
+shown_text views.Plain matches hill = shown_lines matches hill
+shown_text views.Table matches hill = shown_table matches hill
+
+abbrev pub ShowsOf : View → Bool → Kept → Said
+ShowsOf view matches hill status text = (status ≡ statuses.Done) × (text ≡ shown_text view matches hill)
 
 -- the same of some hill
-abbrev pub SaysTable : Bool → Said
-SaysTable matches status text = (hill : Kept) × ShowsOf matches hill status text
+abbrev pub SaysShown : View → Bool → Said
+SaysShown view matches status text = (hill : Kept) × ShowsOf view matches hill status text
 
 -- a port
 abbrev pub SaysPort : Said
@@ -78,16 +109,16 @@ WritesAt said faults.OldHill old new = Keeps old new
 WritesAt said faults.Damaged old new = Keeps old new
 
 -- before a fault is told
-abbrev pub Tries : Said → Result Status HillFault → Option (List ℕ) → Option (List ℕ) → Type 0
+abbrev pub Tries : Said → Result Status HillTrouble → Option (List ℕ) → Option (List ℕ) → Type 0
 Tries said (Ok status) old new = SaysWhole said status old new
-Tries said (Err fault) old new = WritesAt said fault old new
+Tries said (Err trouble) old new = WritesAt said trouble.fault old new
 
--- a fault was told on the errors, or a part of its line where they failed
+-- a fault was told on the errors
 pub record TellsFault (said : Said) (status : Status) (before after : Streams) : Type 0 where
   pub fault : HillFault
   pub ends : status ≡ fault_status fault
   pub output : WritesAt said fault before.output after.output
-  pub told : WritesPart before.errors after.errors (fault_line fault)
+  pub told : TellsWord (fault_word fault) before.errors after.errors
 
 -- how such a command ends: carried out, with nothing on the errors, or with a fault
 abbrev pub EndsHill : Said → Status → Streams → Streams → Type 0
@@ -103,17 +134,45 @@ EndsCreate (Err fault) statuses.WordFault before after = ⊥
 EndsCreate (Err fault) statuses.StreamFault before after = ⊥
 EndsCreate (Err fault) statuses.NoMemory before after = KeepsAll before after × Tells kinds.Memory before after
 
--- how `serve` ends: behind its line, or with a fault, and then a part of that line may stand on the output
+-- a submission that a store answered: the text that tells the reply was written, and a refusal explained
+pub record SaysSubmitted (view : View) (reply : Reply) (status : Status) (before after : Streams) : Type 0 where
+  pub text : List ℕ
+  pub tells : IsReplyText view reply text
+  pub ends : status ≡ reply_status reply
+  pub written : Appends before.output after.output text
+  pub explained : ExplainsReply reply before.errors after.errors
+
+-- how `submit` ends: with the reply of a hill that was just opened, or with a fault
+abbrev pub EndsSubmit : View → Status → Streams → Streams → Type 0
+EndsSubmit view status before after =
+    ((reply : Reply) × (reply ≢ replies.Reopen) × SaysSubmitted view reply status before after) ⊎ TellsFault (SaysReply view) status before after
+
+-- how it ends that a reply is written and a text behind it, by what the output and then the errors hold before and after
+abbrev pub EndsReply : Reply → List ℕ → Status → Option (List ℕ) → Option (List ℕ) → Option (List ℕ) → Option (List ℕ) → Type 0
+EndsReply reply more status o p e f =
+    ((status ≡ reply_status reply) × Appends o p (reply_line reply ++ more) × ExplainsReply reply e f)
+    ⊎ ((status ≡ statuses.StreamFault) × WritesPart o p (reply_line reply ++ more) × TellsWord (failure_word kinds.Stream) e f)
+
+-- how the submission of a source to a store ends: with its reply, or where the output failed with a part of what tells the reply
+abbrev pub EndsSubmission : {D : Type 0} → DeviceFacts D → Seen D → List ℕ → Seen D → View → Status → Streams → Streams → Type 0
+EndsSubmission facts old source new view status before after = (reply : Reply) × Submits facts old source reply new
+    × (SaysSubmitted view reply status before after
+    ⊎ ((status ≡ statuses.StreamFault) × ((text : List ℕ) × IsReplyText view reply text × WritesPart before.output after.output text)
+    × Tells kinds.Stream before after))
+
+-- how `serve` ends: behind its line, or with a fault, and then a part of that line may stand on the output; the log stands on the errors
 pub record TellsServeFault (status : Status) (before after : Streams) : Type 0 where
   pub fault : HillFault
   pub ends : status ≡ fault_status fault
   pub port : ℕ
   pub output : WritesPart before.output after.output (listening_line port)
-  pub told : WritesPart before.errors after.errors (fault_line fault)
+  pub logged : Option (List ℕ)
+  pub log : WritesSome before.errors logged
+  pub told : TellsWord (fault_word fault) logged after.errors
 
 abbrev pub EndsServe : Status → Streams → Streams → Type 0
 EndsServe status before after =
-    (SaysWhole SaysPort status before.output after.output × Keeps before.errors after.errors) ⊎ TellsServeFault status before after
+    (SaysWhole SaysPort status before.output after.output × WritesSome before.errors after.errors) ⊎ TellsServeFault status before after
 
 -- the line of a port was written, or a part of one
 abbrev pub Announces : Option (List ℕ) → Option (List ℕ) → Type 0
@@ -121,19 +180,6 @@ Announces old new = (port : ℕ) × Appends old new (listening_line port)
 
 abbrev pub AnnouncesPart : Option (List ℕ) → Option (List ℕ) → Type 0
 AnnouncesPart old new = (port : ℕ) × WritesPart old new (listening_line port)
-
-abbrev pub TriesServe : Result Status HillFault → Option (List ℕ) → Option (List ℕ) → Type 0
-TriesServe (Ok status) old new = SaysWhole SaysPort status old new
-TriesServe (Err fault) old new = AnnouncesPart old new
-
--- a source was submitted to a store, and the reply's line written, or a part of it where the output failed
-abbrev pub SubmitsTo : {D : Type 0} → DeviceFacts D → Seen D → List ℕ → Result Status HillFault → Seen D
-    → Option (List ℕ) → Option (List ℕ) → Type 0
-SubmitsTo facts before source (Ok status) after old new =
-    (reply : Reply) × Submits facts before source reply after × (status ≡ reply_status reply) × Appends old new (reply_line reply)
-SubmitsTo facts before source (Err fault) after old new =
-    (reply : Reply) × Submits facts before source reply after × (fault ≡ faults.Failed kinds.Stream)
-    × WritesPart old new (reply_line reply)
 
 -- a hill was created on a device
 abbrev pub CreatesOn : {D : Type 0} → DeviceFacts D → D → RawSettings → Type 0

@@ -6,13 +6,11 @@ use Rattle.hill_store.specs.Opened.{IsMigrated, IsNotMigrated}
 use Rattle.hill_store.specs.Seen.{Seen}
 use Rattle.hill_store.specs.declared.migration.MigrateFault.{MigrateFault}
 use Rattle.koth_protocol.specs.Written.{WritesPart}
-use Rattle.koth_commands.specs.declared.failure.Failure.TheVariants as kinds
 use Rattle.koth_commands.specs.declared.status.Status.{Status}
 use Rattle.koth_commands.specs.declared.status.Status.TheVariants as statuses
-use Rattle.koth_server.specs.HillFault.{fault_of_refusal}
+use Rattle.koth_server.specs.HillFault.{fault_of_refusal, stream_failed}
 use Rattle.koth_server.specs.Hills.{Said}
-use Rattle.koth_server.specs.declared.hill_fault.HillFault.{HillFault}
-use Rattle.koth_server.specs.declared.hill_fault.HillFault.TheVariants as faults
+use Rattle.koth_server.specs.declared.trouble.HillTrouble.{HillTrouble}
 
 abbrev pub migrated_line : List ℕ
 migrated_line = codes "MIGRATED\n"
@@ -27,20 +25,20 @@ pub record Migrates {D : Type 0} (facts : DeviceFacts D) (old new : D) : Type 0 
   pub migrated : IsMigrated facts facts old after new store
 
 -- it was not, and this is told of it
-pub record RefusesToMigrate {D : Type 0} (facts : DeviceFacts D) (old new : D) (fault : HillFault) : Type 0 where
+pub record RefusesToMigrate {D : Type 0} (facts : DeviceFacts D) (old new : D) (trouble : HillTrouble) : Type 0 where
   pub old_after : D
   pub new_after : D
   pub why : MigrateFault
   pub refused : IsNotMigrated facts facts old old_after new new_after why
-  pub told : fault ≡ fault_of_refusal why.refusal
+  pub told : trouble.fault ≡ fault_of_refusal why.refusal
 
 -- the line that says so was written, or a part of it where the output failed
-abbrev pub TellsMigrated : Result Status HillFault → Option (List ℕ) → Option (List ℕ) → Type 0
+abbrev pub TellsMigrated : Result Status HillTrouble → Option (List ℕ) → Option (List ℕ) → Type 0
 TellsMigrated (Ok status) before after = (status ≡ statuses.Done) × Appends before after migrated_line
-TellsMigrated (Err fault) before after = (fault ≡ faults.Failed kinds.Stream) × WritesPart before after migrated_line
+TellsMigrated (Err trouble) before after = (trouble.fault ≡ stream_failed) × WritesPart before after migrated_line
 
 -- what moving a hill from one device to another answers and writes: nothing where it was not moved
-abbrev pub MigratesTo : {D : Type 0} → DeviceFacts D → D → D → Result Status HillFault → Option (List ℕ) → Option (List ℕ) → Type 0
+abbrev pub MigratesTo : {D : Type 0} → DeviceFacts D → D → D → Result Status HillTrouble → Option (List ℕ) → Option (List ℕ) → Type 0
 MigratesTo facts old new result before after =
     (Migrates facts old new × TellsMigrated result before after)
     ⊎ (IsErrAnd result (RefusesToMigrate facts old new) × Keeps before after)

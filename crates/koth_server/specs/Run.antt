@@ -1,47 +1,53 @@
 -- How a run ends.
-use Rattle.std.specs.Prelude.{◌≡◌, ◌≢◌, ◌⊎◌, ℕ, true, List, None, codes}
+use Rattle.std.specs.Prelude.{◌≡◌, ◌≢◌, ◌⊎◌, ℕ, true, List, [], length, Option, codes, unwrap_or}
 use Rattle.std.specs.Io.KnownBytes.{Keeps}
-use Rattle.clap.specs.Words.{takes}
+use Rattle.clap.specs.Words.{Text, all_of}
 use Rattle.war_types.specs.Settings.{settings_of}
 use Rattle.koth_commands.specs.Answer.{Tells}
-use Rattle.koth_commands.specs.Asm.{EndsAsm}
+use Rattle.koth_commands.specs.Asm.{EndsAsmFrom, EndsAsmOf}
+use Rattle.koth_commands.specs.Check.{EndsCheck}
 use Rattle.koth_commands.specs.Fight.{EndsFight}
-use Rattle.koth_server.specs.Hills.{EndsCreate, EndsHill, EndsServe, SaysReply, SaysTable}
+use Rattle.koth_server.specs.Hills.{EndsCreate, EndsHill, EndsServe, EndsSubmit, SaysShown}
 use Rattle.koth_server.specs.Audit.{EndsAudit}
 use Rattle.koth_server.specs.Migration.{SaysMigrated}
 use Rattle.koth_commands.specs.Status.{status_code}
-use Rattle.koth_commands.specs.Streams.{Streams, streams}
+use Rattle.koth_commands.specs.Streams.{Streams, unread}
 use Rattle.koth_commands.specs.declared.failure.Failure.TheVariants as failures
 use Rattle.koth_commands.specs.declared.status.Status.{Status}
 use Rattle.koth_commands.specs.declared.status.Status.TheVariants as statuses
-use Rattle.koth_words.specs.Words.{koth_app, matches_named, settings_named, AreWrong, AsksFor}
+use Rattle.koth_words.specs.Words.{given_by, is_taken, matches_named, reads_input, settings_named, view_named, AreWrong, AsksFor}
 use Rattle.koth_words.specs.declared.words.NoRequest.{NoRequest}
 use Rattle.koth_words.specs.declared.words.NoRequest.TheVariants as reasons
 use Rattle.koth_words.specs.declared.words.Request.{Request}
-use Rattle.koth_words.specs.declared.words.Request.TheVariants.{Asm, Fight, Create, Submit, Show, Serve, Audit, Migrate}
+use Rattle.koth_words.specs.declared.words.Request.TheVariants.{Asm, Check, Fight, Create, Submit, Show, Serve, Audit, Migrate}
+use Rattle.koth_words.specs.declared.words.View.{View}
 
 -- the code is that of a status of which this holds
 abbrev pub Leaves : ℕ → (Status → Type 0) → Type 0
 Leaves code holds = (status : Status) × (code ≡ status_code status) × holds status
 
--- the streams of a command that reads nothing from the input
-abbrev pub unread : Streams → Streams
-unread s = streams None s.output s.errors
+-- the view that the words ask for, and else this one
+abbrev pub viewed : Option View → View → View
+viewed asked usual = unwrap_or asked usual
 
--- how a request's command ends
-abbrev pub CommandEnds : Request → Status → Streams → Streams → Type 0
-CommandEnds (Asm given) status before after = EndsAsm (settings_of given) status before after
-CommandEnds (Fight given files) status before after = EndsFight (settings_of given) status (unread before) (unread after)
-CommandEnds (Create given file) status before after = EndsCreate (settings_of given) status (unread before) (unread after)
-CommandEnds (Submit files) status before after = EndsHill SaysReply status (unread before) (unread after)
-CommandEnds (Show shown) status before after = EndsHill (SaysTable shown.matches) status (unread before) (unread after)
-CommandEnds (Audit file) status before after = EndsAudit status (unread before) (unread after)
-CommandEnds (Migrate files) status before after = EndsHill SaysMigrated status (unread before) (unread after)
-CommandEnds (Serve service) status before after = EndsServe status (unread before) (unread after)
+-- how a request's command ends where tables are in this view unless it asks for one
+abbrev pub CommandEnds : View → Request → Status → Streams → Streams → Type 0
+CommandEnds view (Asm given source) status before after = EndsAsmFrom source (settings_of given) status before after
+CommandEnds view (Check given checked) status before after =
+    EndsCheck (length checked.files.items) (settings_of given) status (unread before) (unread after)
+CommandEnds view (Fight given files) status before after =
+    EndsFight (viewed files.view view) (settings_of given) status (unread before) (unread after)
+CommandEnds view (Create given creation) status before after = EndsCreate (settings_of given) status (unread before) (unread after)
+CommandEnds view (Submit files) status before after = EndsSubmit (viewed files.view view) status (unread before) (unread after)
+CommandEnds view (Show shown) status before after =
+    EndsHill (SaysShown (viewed shown.view view) shown.matches) status (unread before) (unread after)
+CommandEnds view (Audit file) status before after = EndsAudit status (unread before) (unread after)
+CommandEnds view (Migrate files) status before after = EndsHill SaysMigrated status (unread before) (unread after)
+CommandEnds view (Serve service) status before after = EndsServe status (unread before) (unread after)
 
 -- how a run ends that carried a request out: as its command does, and never as at a fault of the words
-abbrev pub EndsRequest : Request → Status → Streams → Streams → Type 0
-EndsRequest request status before after = CommandEnds request status before after × (status ≢ statuses.WordFault)
+abbrev pub EndsRequest : View → Request → Status → Streams → Streams → Type 0
+EndsRequest view request status before after = CommandEnds view request status before after × (status ≢ statuses.WordFault)
 
 -- how a run ends at words that ask for nothing that is done; the input is not read
 abbrev pub EndsWithout : NoRequest → Status → Streams → Streams → Type 0
@@ -50,17 +56,25 @@ EndsWithout (reasons.WordFault text) status before after = (status ≡ statuses.
 EndsWithout reasons.Memory status before after =
     (status ≡ statuses.NoMemory) × Keeps before.output after.output × Tells failures.Memory before after
 
--- How a run with these words ends: as the command that they name does, under the settings that they give; only words that are wrong end as a
--- fault of the words, and then nothing is read, and nothing written on the output.
-pub record EndsRun (given : List (List ℕ)) (status : Status) (before after : Streams) : Type 0 where
-  pub asm : AsksFor (codes "asm") given → EndsAsm (settings_of (settings_named given)) status before after
-  pub fight : AsksFor (codes "fight") given → EndsFight (settings_of (settings_named given)) status (unread before) (unread after)
+-- the files that the words name for `check`
+abbrev pub files_named : List (List ℕ) → List Text
+files_named given = unwrap_or (all_of (codes "FILE") (given_by given)) []
+
+-- How a run with these words ends, where tables are in this view unless the words ask for one: as the command that they name does, under the
+-- settings that they give; only words that are wrong end as a fault of the words, and then nothing is read, and nothing written on the output.
+pub record EndsRun (view : View) (given : List (List ℕ)) (status : Status) (before after : Streams) : Type 0 where
+  pub asm : AsksFor (codes "asm") given → EndsAsmOf (reads_input given) (settings_of (settings_named given)) status before after
+  pub check : AsksFor (codes "check") given
+      → EndsCheck (length (files_named given)) (settings_of (settings_named given)) status (unread before) (unread after)
+  pub fight : AsksFor (codes "fight") given
+      → EndsFight (viewed (view_named given) view) (settings_of (settings_named given)) status (unread before) (unread after)
   pub create : AsksFor (codes "create") given → EndsCreate (settings_of (settings_named given)) status (unread before) (unread after)
-  pub submit : AsksFor (codes "submit") given → EndsHill SaysReply status (unread before) (unread after)
-  pub show : AsksFor (codes "show") given → EndsHill (SaysTable (matches_named given)) status (unread before) (unread after)
+  pub submit : AsksFor (codes "submit") given → EndsSubmit (viewed (view_named given) view) status (unread before) (unread after)
+  pub show : AsksFor (codes "show") given
+      → EndsHill (SaysShown (viewed (view_named given) view) (matches_named given)) status (unread before) (unread after)
   pub audit : AsksFor (codes "audit") given → EndsAudit status (unread before) (unread after)
   pub migrate : AsksFor (codes "migrate") given → EndsHill SaysMigrated status (unread before) (unread after)
   pub serve : AsksFor (codes "serve") given → EndsServe status (unread before) (unread after)
-  pub words : takes koth_app given ≡ true → status ≢ statuses.WordFault
+  pub words : is_taken given ≡ true → status ≢ statuses.WordFault
   pub wrong : AreWrong given → (status ≡ statuses.WordFault) ⊎ (status ≡ statuses.NoMemory)
   pub word_fault : status ≡ statuses.WordFault → Keeps before.input after.input × Keeps before.output after.output

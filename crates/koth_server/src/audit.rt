@@ -7,9 +7,10 @@ ghost use Rattle.koth_protocol.specs.Written.{WritesPart};
 ghost use Rattle.koth_server.specs.Audit.{EndsAudit, EndsAuditOf, audit_answer, audit_status, counts_line, pair_line, told_of, untrue_text};
 
 use crate::files::open_hill;
-use crate::hill_fault::HillFault;
+use crate::trouble::tell_output;
+use hill_file::{Sharing, TryLock};
 use hill_store::{Store, Untrue};
-use koth_commands::{Failure, Status, StreamFault, write_whole};
+use koth_commands::{Status, StreamFault, write_whole};
 use koth_match::Bout;
 use koth_protocol::Line;
 use sector_disk::Device;
@@ -20,26 +21,33 @@ use std::rt::Files;
 /// Fights every pair of the hill in a file anew, and writes `true` where each result that is kept is what its match comes to, else `false`.
 /// Then it tells on the errors the first pair of which it isn't, by the younger warrior's entry and then the older's: their entries, what is
 /// kept of them, and what their match comes to, each as the rounds that the older won, that the younger won, and ties.
-pub(crate) fn audit<R: Files, A: Allocator + Copy, O: Write, E: Write>(
+pub(crate) fn audit<R, A, O, E>(
     rt: &R,
     alloc: A,
     path: &str,
     output: &mut O,
     errors: &mut E,
 ) -> Status
+where
+    R: Files,
+    R::File: TryLock,
+    A: Allocator + Copy,
+    O: Write,
+    E: Write,
     ensures ends { EndsAudit result
         (streams None (O.contents output.old) (E.contents errors.old))
         (streams None (O.contents output.new) (E.contents errors.new)) }
     ensures words { result ≢ Status.WordFault }
 {
-    match open_hill(rt, alloc, path) {
-        Ok(mut store) => audit_store(&mut store, output, errors),
-        Err(fault) => fault.tell(errors),
+    match open_hill(rt, alloc, path, Sharing::Alone) {
+        Ok(mut store) => audit_store(alloc, &mut store, output, errors),
+        Err(trouble) => trouble.tell(alloc, errors),
     }
 }
 
 /// Audits a store's hill.
 fn audit_store<D: Device, A: Allocator + Copy, O: Write, E: Write>(
+    alloc: A,
     store: &mut Store<D, A>,
     output: &mut O,
     errors: &mut E,
@@ -52,7 +60,7 @@ fn audit_store<D: Device, A: Allocator + Copy, O: Write, E: Write>(
     let found = store.first_untrue();
     match write_whole(output, answer(found)) {
         Ok(()) => finish(found, errors),
-        Err(StreamFault) => HillFault::Failed(Failure::Stream).tell(errors),
+        Err(fault) => tell_output(alloc, fault, errors),
     }
 }
 

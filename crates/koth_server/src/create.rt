@@ -1,76 +1,102 @@
 //! The command `create`: a hill without warriors in a file.
 
 ghost use Rattle.std.specs.Prelude.{◌≡◌, ◌≢◌, None, OnOk};
-ghost use Rattle.std.specs.Io.KnownBytes.{Keeps};
 ghost use Rattle.war_types.specs.Settings.{settings_of};
 ghost use Rattle.koth_server.specs.Hills.{CreatesOn, EndsCreate, EndsHill, SaysCreated, Tries};
 ghost use Rattle.koth_commands.specs.Streams.{streams};
 
-use crate::hill_fault::{HillFault, fault_of_file, fault_of_refusal};
+use crate::hill_fault::HillFault;
+use crate::trouble::{HillTrouble, fault_of_refusal};
+use hill_file::{Existing, HillFile, TryLock};
 use hill_store::{Store, sectors_for};
-use koth_commands::{Failure, Status, StreamFault, refuse_settings, write_whole};
-use sector_disk::{Device, FileDevice};
+use koth_commands::{Status, refuse_settings, write_whole};
+use koth_words::Creation;
+use sector_disk::Device;
 use std::alloc::Allocator;
 use std::io::Write;
 use std::rt::Files;
 use war_types::{RawSettings, Settings};
 
 /// Makes the file where it is missing, just large enough for the hill, and creates the hill in it. Settings that are out of
-/// their ranges are refused before the file is touched. A file that is there is never shortened, and a hill in it stays.
-pub(crate) fn create<R: Files, A: Allocator + Copy, O: Write, E: Write>(
+/// their ranges are refused before the file is touched. A file that holds anything but zeros is refused as `Occupied` and stays as it is,
+/// unless the words say that it is to be overwritten.
+pub(crate) fn create<R, A, O, E>(
     rt: &R,
     alloc: A,
     given: RawSettings,
-    path: &str,
+    creation: Creation<'_>,
     output: &mut O,
     errors: &mut E,
 ) -> Status
+where
+    R: Files,
+    R::File: TryLock,
+    A: Allocator + Copy,
+    O: Write,
+    E: Write,
     ensures ends { EndsCreate (settings_of given) result
         (streams None (O.contents output.old) (E.contents errors.old))
         (streams None (O.contents output.new) (E.contents errors.new)) }
     ensures words { result ≢ Status.WordFault }
 {
     match Settings::new(given) {
-        Ok(settings) => create_under(rt, alloc, settings, path, output, errors),
-        Err(fault) => refuse_settings(fault, errors),
+        Ok(settings) => create_under(rt, alloc, settings, creation, output, errors),
+        Err(fault) => refuse_settings(alloc, given, fault, errors),
     }
 }
 
-fn create_under<R: Files, A: Allocator + Copy, O: Write, E: Write>(
+fn create_under<R, A, O, E>(
     rt: &R,
     alloc: A,
     settings: Settings,
-    path: &str,
+    creation: Creation<'_>,
     output: &mut O,
     errors: &mut E,
 ) -> Status
+where
+    R: Files,
+    R::File: TryLock,
+    A: Allocator + Copy,
+    O: Write,
+    E: Write,
     ensures ends { EndsHill SaysCreated result
         (streams None (O.contents output.old) (E.contents errors.old))
         (streams None (O.contents output.new) (E.contents errors.new)) }
     ensures words { result ≢ Status.WordFault }
 {
-    match create_file(rt, alloc, settings, path, output) {
+    match create_file(rt, alloc, settings, creation, output) {
         Ok(status) => status,
-        Err(fault) => fault.tell(errors),
+        Err(trouble) => trouble.tell(alloc, errors),
     }
 }
 
-fn create_file<R: Files, A: Allocator + Copy, O: Write>(
-    rt: &R,
+fn create_file<'c, R, A, O>(
+    rt: &'c R,
     alloc: A,
     settings: Settings,
-    path: &str,
+    creation: Creation<'c>,
     output: &mut O,
-) -> Result<Status, HillFault>
+) -> Result<Status, HillTrouble<'c>>
+where
+    R: Files,
+    R::File: TryLock,
+    A: Allocator + Copy,
+    O: Write,
     ensures { Tries SaysCreated result (O.contents output.old) (O.contents output.new) }
 {
-    let device = match FileDevice::make(rt, alloc, path, sectors_for(settings.capacity())) {
+    let existing = if creation.overwrite {
+        Existing::Overwritten
+    } else {
+        Existing::Kept
+    };
+    let sectors = sectors_for(settings.capacity());
+    let device = match HillFile::make(rt, alloc, creation.hill, sectors, existing) {
         Ok(device) => device,
-        Err(fault) => return Err(fault_of_file(fault)),
+        Err(fault) => return Err(HillTrouble::unopened(creation.hill, fault)),
     };
     match create_on(alloc, settings, device) {
         Ok(()) => say_created(output),
-        Err(fault) => Err(fault),
+        Err(fault) => Err(HillTrouble::of(creation.hill, fault)),
     }
 }
 
@@ -88,11 +114,11 @@ fn create_on<D: Device + Drop, A: Allocator + Copy>(
     }
 }
 
-fn say_created<O: Write>(output: &mut O) -> Result<Status, HillFault>
+fn say_created<'c, O: Write>(output: &mut O) -> Result<Status, HillTrouble<'c>>
     ensures { Tries SaysCreated result (O.contents output.old) (O.contents output.new) }
 {
     match write_whole(output, b"CREATED\n") {
         Ok(()) => Ok(Status::Done),
-        Err(StreamFault) => Err(HillFault::Failed(Failure::Stream)),
+        Err(fault) => Err(HillTrouble::output(fault)),
     }
 }

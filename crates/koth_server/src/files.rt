@@ -4,27 +4,37 @@ ghost use Rattle.std.specs.Prelude.{◌≡◌, ◌≤◌, false, IfErr, IfOk};
 ghost use Rattle.hill_store.specs.Opened.{IsOpened};
 ghost use Rattle.koth_server.specs.OldHill.{IsUnopened, TellsNoHill, TellsRefusal};
 
-use crate::hill_fault::{HillFault, fault_of_file, fault_of_refusal};
+use crate::hill_fault::HillFault;
 use crate::old_hill::holds_old_hill;
+use crate::trouble::{HillTrouble, fault_of_refusal};
+use hill_file::{HillFile, Sharing, TryLock};
 use hill_store::{Refusal, Store};
-use sector_disk::{Device, Fault, FileDevice};
+use sector_disk::{Device, Fault};
 use std::alloc::Allocator;
 use std::rt::Files;
 
 /// A hill in a file.
-pub(crate) type HillStore<R, A> = Store<FileDevice<<R as Files>::File>, A>;
+pub(crate) type HillStore<'f, R, A> = Store<HillFile<'f, R>, A>;
 
 /// Opens the hill in a file.
-pub(crate) fn open_hill<R: Files, A: Allocator + Copy>(
-    rt: &R,
+pub(crate) fn open_hill<'f, R, A>(
+    rt: &'f R,
     alloc: A,
-    path: &str,
-) -> Result<HillStore<R, A>, HillFault>
+    path: &'f str,
+    sharing: Sharing,
+) -> Result<HillStore<'f, R, A>, HillTrouble<'f>>
+where
+    R: Files,
+    R::File: TryLock,
+    A: Allocator + Copy,
     ensures { IfOk result (λ store. store.reopen ≡ false) }
 {
-    match FileDevice::open(rt, path) {
-        Ok(device) => open_on(alloc, device),
-        Err(fault) => Err(fault_of_file(fault)),
+    match HillFile::open(rt, path, sharing) {
+        Ok(device) => match open_on(alloc, device) {
+            Ok(store) => Ok(store),
+            Err(fault) => Err(HillTrouble::of(path, fault)),
+        },
+        Err(fault) => Err(HillTrouble::unopened(path, fault)),
     }
 }
 

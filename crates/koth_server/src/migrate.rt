@@ -5,11 +5,12 @@ ghost use Rattle.koth_server.specs.Hills.{EndsHill, Tries};
 ghost use Rattle.koth_server.specs.Migration.{MigratesTo, SaysMigrated, TellsMigrated};
 ghost use Rattle.koth_commands.specs.Streams.{streams};
 
-use crate::hill_fault::{HillFault, fault_of_file, fault_of_refusal};
-use hill_store::{Store, sectors_for};
-use koth_commands::{Failure, Status, StreamFault, write_whole};
+use crate::trouble::HillTrouble;
+use hill_file::{Existing, HillFile, Sharing, TryLock};
+use hill_store::{MigrateSide, Store, sectors_for};
+use koth_commands::{Status, write_whole};
 use koth_words::Migration;
-use sector_disk::{Device, FileDevice};
+use sector_disk::Device;
 use std::alloc::Allocator;
 use std::io::Write;
 use std::rt::Files;
@@ -17,16 +18,22 @@ use std::rt::Files;
 /// Warriors that a hill holds at most, whatever its settings are.
 const GREATEST_CAPACITY: u16 = 20;
 
-/// Moves the hill in a file of the old format to another file, in the new one. Nothing is written to the old file, unless it is the new one too,
-/// which is then extended with zeros and refused. The new one is made where it is missing, large enough for any hill, before it is known whether
-/// the old one holds a hill, and stays where the hill is not moved. A file that is there is never shortened, and a hill in it stays.
-pub(crate) fn migrate<R: Files, A: Allocator + Copy, O: Write, E: Write>(
+/// Moves the hill in a file of the old format to another file, in the new one. Nothing is written to the old file. The new one is made if it
+/// is missing, large enough for any hill, before it is known whether the old one holds a hill, and stays if the hill is not moved. A new file
+/// that holds anything but zeros is refused as `Occupied` and stays as it is.
+pub(crate) fn migrate<R, A, O, E>(
     rt: &R,
     alloc: A,
     files: Migration<'_>,
     output: &mut O,
     errors: &mut E,
 ) -> Status
+where
+    R: Files,
+    R::File: TryLock,
+    A: Allocator + Copy,
+    O: Write,
+    E: Write,
     ensures ends { EndsHill SaysMigrated result
         (streams None (O.contents output.old) (E.contents errors.old))
         (streams None (O.contents output.new) (E.contents errors.new)) }
@@ -34,49 +41,62 @@ pub(crate) fn migrate<R: Files, A: Allocator + Copy, O: Write, E: Write>(
 {
     match migrate_files(rt, alloc, files, output) {
         Ok(status) => status,
-        Err(fault) => fault.tell(errors),
+        Err(trouble) => trouble.tell(alloc, errors),
     }
 }
 
-fn migrate_files<R: Files, A: Allocator + Copy, O: Write>(
-    rt: &R,
+fn migrate_files<'m, R, A, O>(
+    rt: &'m R,
     alloc: A,
-    files: Migration<'_>,
+    files: Migration<'m>,
     output: &mut O,
-) -> Result<Status, HillFault>
+) -> Result<Status, HillTrouble<'m>>
+where
+    R: Files,
+    R::File: TryLock,
+    A: Allocator + Copy,
+    O: Write,
     ensures { Tries SaysMigrated result (O.contents output.old) (O.contents output.new) }
 {
-    let old = match FileDevice::open(rt, files.old) {
+    let old = match HillFile::open(rt, files.old, Sharing::Alone) {
         Ok(device) => device,
-        Err(fault) => return Err(fault_of_file(fault)),
+        Err(fault) => return Err(HillTrouble::unopened(files.old, fault)),
     };
-    let new = match FileDevice::make(rt, alloc, files.new, sectors_for(GREATEST_CAPACITY)) {
+    let sectors = sectors_for(GREATEST_CAPACITY);
+    let new = match HillFile::make(rt, alloc, files.new, sectors, Existing::Kept) {
         Ok(device) => device,
-        Err(fault) => return Err(fault_of_file(fault)),
+        Err(fault) => return Err(HillTrouble::unopened(files.new, fault)),
     };
-    migrate_between(alloc, old, new, output)
+    migrate_between(alloc, files, old, new, output)
 }
 
-/// Moves the hill on one device to another, and then writes that it is done.
-fn migrate_between<D: Device + Drop, A: Allocator + Copy, O: Write>(
+/// Moves the hill on one device to another, and then writes that it is done. The devices are those of these files.
+fn migrate_between<'m, D: Device + Drop, A: Allocator + Copy, O: Write>(
     alloc: A,
+    files: Migration<'m>,
     old: D,
     new: D,
     output: &mut O,
-) -> Result<Status, HillFault>
+) -> Result<Status, HillTrouble<'m>>
     ensures { MigratesTo D.facts old new result (O.contents output.old) (O.contents output.new) }
 {
     match Store::migrate(alloc, old, new) {
         Ok(_) => say_migrated(output),
-        Err((_old, _new, fault)) => Err(fault_of_refusal(fault.refusal)),
+        Err((_old, _new, fault)) => {
+            let path = match fault.side {
+                MigrateSide::Old => files.old,
+                MigrateSide::New => files.new,
+            };
+            Err(HillTrouble::refused(path, fault.refusal))
+        }
     }
 }
 
-fn say_migrated<O: Write>(output: &mut O) -> Result<Status, HillFault>
+fn say_migrated<'m, O: Write>(output: &mut O) -> Result<Status, HillTrouble<'m>>
     ensures { TellsMigrated result (O.contents output.old) (O.contents output.new) }
 {
     match write_whole(output, b"MIGRATED\n") {
         Ok(()) => Ok(Status::Done),
-        Err(StreamFault) => Err(HillFault::Failed(Failure::Stream)),
+        Err(fault) => Err(HillTrouble::output(fault)),
     }
 }

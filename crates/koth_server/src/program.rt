@@ -1,7 +1,7 @@
 //! A run of the program, from its words to its status.
 
-ghost use Rattle.std.specs.Prelude.{None, map, string_bytes};
-ghost use Rattle.koth_server.specs.Run.{EndsRequest, EndsRun, EndsWithout, Leaves};
+ghost use Rattle.std.specs.Prelude.{◌≡◌, None, map, string_bytes};
+ghost use Rattle.koth_server.specs.Run.{viewed, EndsRequest, EndsRun, EndsWithout, Leaves};
 ghost use Rattle.koth_commands.specs.Streams.{streams};
 
 use crate::audit::audit;
@@ -10,72 +10,115 @@ use crate::migrate::migrate;
 use crate::serve::serve;
 use crate::show::show;
 use crate::submit::submit;
+use hill_file::TryLock;
 use koth_commands::asm::asm;
+use koth_commands::check::check;
 use koth_commands::fight::fight;
-use koth_commands::{Failure, Status, StreamFault, write_whole};
-use koth_words::{NoRequest, Request, parse};
+use koth_commands::{Cause, Failure, Status, write_whole};
+use koth_words::{NoRequest, Request, View, parse};
 use std::alloc::{Allocator, Global};
 use std::io::{Read, Write};
 use std::net::Net;
-use std::rt::Files;
+use std::rt::{Clock, Files};
 
 /// Does what the words ask for, and says which status to leave with: 0 where it is done, 1 where it is refused, 2
 /// for a fault of the words, 3 where a stream or a file fails, 4 for want of memory. The first word is the program's name.
-/// The words are parsed on `heap`, and all other memory comes from `alloc`.
-pub fn run<R: Files + Net, A: Allocator + Copy, I: Read, O: Write, E: Write>(
+/// The words are parsed on `heap`, and all other memory comes from `alloc`. Where the words don't say how tables are laid out, it is in this
+/// view: columns for a terminal, and else lines for programs.
+pub fn run<R, A, I, O, E>(
     rt: &R,
     heap: Global,
     alloc: A,
     words: &[String],
+    view: View,
     input: &mut I,
     output: &mut O,
     errors: &mut E,
 ) -> u8
-    ensures ends { Leaves result (λ status. EndsRun (map (λ w. string_bytes w) words.now) status
+where
+    R: Files + Net + Clock,
+    R::File: TryLock,
+    A: Allocator + Copy,
+    I: Read,
+    O: Write,
+    E: Write,
+    ensures ends { Leaves result (λ status. EndsRun view (map (λ w. string_bytes w) words.now) status
         (streams (I.remaining input.old) (O.contents output.old) (E.contents errors.old))
         (streams (I.remaining input.new) (O.contents output.new) (E.contents errors.new))) }
 {
-    carry_out(rt, heap, alloc, words, input, output, errors).code()
+    carry_out(rt, heap, alloc, words, view, input, output, errors).code()
 }
 
-fn carry_out<R: Files + Net, A: Allocator + Copy, I: Read, O: Write, E: Write>(
+fn carry_out<R, A, I, O, E>(
     rt: &R,
     heap: Global,
     alloc: A,
     words: &[String],
+    view: View,
     input: &mut I,
     output: &mut O,
     errors: &mut E,
 ) -> Status
-    ensures ends { EndsRun (map (λ w. string_bytes w) words.now) result
+where
+    R: Files + Net + Clock,
+    R::File: TryLock,
+    A: Allocator + Copy,
+    I: Read,
+    O: Write,
+    E: Write,
+    ensures ends { EndsRun view (map (λ w. string_bytes w) words.now) result
         (streams (I.remaining input.old) (O.contents output.old) (E.contents errors.old))
         (streams (I.remaining input.new) (O.contents output.new) (E.contents errors.new)) }
 {
     match parse(heap, words) {
-        Ok(request) => fulfil(rt, alloc, request, input, output, errors),
-        Err(none) => explain(none, output, errors),
+        Ok(request) => fulfil(rt, alloc, request, view, input, output, errors),
+        Err(none) => answer_without(alloc, none, output, errors),
     }
 }
 
 /// Carries out a request.
-fn fulfil<R: Files + Net, A: Allocator + Copy, I: Read, O: Write, E: Write>(
+fn fulfil<R, A, I, O, E>(
     rt: &R,
     alloc: A,
     request: Request<'_>,
+    view: View,
     input: &mut I,
     output: &mut O,
     errors: &mut E,
 ) -> Status
-    ensures { EndsRequest request.entry result
+where
+    R: Files + Net + Clock,
+    R::File: TryLock,
+    A: Allocator + Copy,
+    I: Read,
+    O: Write,
+    E: Write,
+    ensures { EndsRequest view request.entry result
         (streams (I.remaining input.old) (O.contents output.old) (E.contents errors.old))
         (streams (I.remaining input.new) (O.contents output.new) (E.contents errors.new)) }
 {
     match request {
-        Request::Asm(given) => asm(alloc, given, input, output, errors),
-        Request::Fight(given, files) => fight(rt, alloc, given, files, output, errors),
-        Request::Create(given, file) => create(rt, alloc, given, file, output, errors),
-        Request::Submit(files) => submit(rt, alloc, files, output, errors),
-        Request::Show(shown) => show(rt, alloc, shown, output, errors),
+        Request::Asm(given, source) => asm(rt, alloc, given, source, input, output, errors),
+        Request::Check(given, checked) => check(rt, alloc, given, &checked, output, errors),
+        Request::Fight(given, files) => fight(
+            rt,
+            alloc,
+            given,
+            files,
+            viewed(files.view, view),
+            output,
+            errors,
+        ),
+        Request::Create(given, creation) => create(rt, alloc, given, creation, output, errors),
+        Request::Submit(files) => submit(
+            rt,
+            alloc,
+            files,
+            viewed(files.view, view),
+            output,
+            errors,
+        ),
+        Request::Show(shown) => show(rt, alloc, shown, viewed(shown.view, view), output, errors),
         Request::Audit(file) => audit(rt, alloc, file, output, errors),
         Request::Migrate(files) => migrate(rt, alloc, files, output, errors),
         Request::Serve(service) => serve(rt, alloc, service, output, errors),
@@ -83,7 +126,12 @@ fn fulfil<R: Files + Net, A: Allocator + Copy, I: Read, O: Write, E: Write>(
 }
 
 /// Tells why the words ask for nothing that is done: help on the output, a fault on the errors.
-fn explain<O: Write, E: Write>(none: NoRequest, output: &mut O, errors: &mut E) -> Status
+fn answer_without<A: Allocator, O: Write, E: Write>(
+    alloc: A,
+    none: NoRequest,
+    output: &mut O,
+    errors: &mut E,
+) -> Status
     ensures { EndsWithout none result
         (streams None (O.contents output.old) (E.contents errors.old))
         (streams None (O.contents output.new) (E.contents errors.new)) }
@@ -91,12 +139,19 @@ fn explain<O: Write, E: Write>(none: NoRequest, output: &mut O, errors: &mut E) 
     match none {
         NoRequest::Help(text) => match write_whole(output, text.as_bytes()) {
             Ok(()) => Status::Done,
-            Err(StreamFault) => Failure::Stream.tell(errors),
+            Err(fault) => Failure::Stream.tell(alloc, Some(Cause::output(fault.reason)), errors),
         },
         NoRequest::WordFault(text) => {
             let _ = write_whole(errors, text.as_bytes());
             Status::WordFault
         }
-        NoRequest::Memory => Failure::Memory.tell(errors),
+        NoRequest::Memory => Failure::Memory.tell_alone(errors),
     }
+}
+
+/// The view that the words ask for, and else this one.
+fn viewed(asked: Option<View>, usual: View) -> View
+    ensures { result ≡ viewed asked usual }
+{
+    asked.unwrap_or(usual)
 }

@@ -1,6 +1,6 @@
 //! How the program ends with a reply.
 
-ghost use Rattle.std.specs.Prelude.{◌≡◌};
+ghost use Rattle.std.specs.Prelude.{◌≡◌, ◌≢◌};
 ghost use Rattle.koth_server.specs.ReplyStatus.{reply_status};
 
 use hill_store::Reply;
@@ -8,7 +8,8 @@ use koth_commands::Status;
 
 /// How the program ends with a reply.
 pub(crate) fn status_of(reply: &Reply) -> Status
-    ensures { result ≡ reply_status reply.now }
+    ensures status { result ≡ reply_status reply.now }
+    ensures words { result ≢ Status.WordFault }
 {
     match *reply {
         Reply::Placed { .. } | Reply::Fell { .. } => Status::Done,

@@ -1,71 +1,87 @@
 //! The command `show`: the table of the hill in a file, and the matrix of its matches.
 
-ghost use Rattle.std.specs.Prelude.{◌≡◌, ◌≢◌, IfOk, None};
-ghost use Rattle.koth_server.specs.Hills.{EndsHill, SaysTable, ShowsOf, Tries, shown_text};
+ghost use Rattle.std.specs.Prelude.{◌≡◌, ◌≢◌, IfOk, None, true};
+ghost use Rattle.koth_server.specs.Hills.{EndsHill, SaysShown, ShowsOf, Tries, shown_lines, shown_table, shown_text};
 ghost use Rattle.koth_commands.specs.Streams.{streams};
 
 use crate::files::open_hill;
-use crate::hill_fault::HillFault;
+use crate::trouble::HillTrouble;
+use hill_file::{Sharing, TryLock};
 use hill_store::Store;
-use koth_commands::{Failure, Status, StreamFault, write_whole};
+use koth_commands::{Status, write_whole};
 use koth_protocol::matches_text;
 use koth_session::table_of;
-use koth_words::Shown;
+use koth_views::{hill_view, matches_view};
+use koth_words::{Shown, View};
 use sector_disk::Device;
 use std::alloc::{AllocError, Allocator};
 use std::io::Write;
 use std::rt::Files;
 
-/// Writes the table of the hill in a file, as a session answers `SHOW`, and behind it, where that is asked for, who won how many rounds
-/// against whom.
-pub(crate) fn show<R: Files, A: Allocator + Copy, O: Write, E: Write>(
+/// Writes the table of the hill in a file, and behind it, where that is asked for, who won how many rounds against whom: as a session
+/// answers `SHOW`, or in columns for people. The file's lock is not taken: it shows a hill beside the service that works on it.
+pub(crate) fn show<R, A, O, E>(
     rt: &R,
     alloc: A,
     shown: Shown<'_>,
+    view: View,
     output: &mut O,
     errors: &mut E,
 ) -> Status
-    ensures ends { EndsHill (SaysTable shown.entry.matches) result
+where
+    R: Files,
+    R::File: TryLock,
+    A: Allocator + Copy,
+    O: Write,
+    E: Write,
+    ensures ends { EndsHill (SaysShown view shown.entry.matches) result
         (streams None (O.contents output.old) (E.contents errors.old))
         (streams None (O.contents output.new) (E.contents errors.new)) }
     ensures words { result ≢ Status.WordFault }
 {
-    match show_file(rt, alloc, shown, output) {
+    match show_file(rt, alloc, shown, view, output) {
         Ok(status) => status,
-        Err(fault) => fault.tell(errors),
+        Err(trouble) => trouble.tell(alloc, errors),
     }
 }
 
-fn show_file<R: Files, A: Allocator + Copy, O: Write>(
-    rt: &R,
+fn show_file<'s, R, A, O>(
+    rt: &'s R,
     alloc: A,
-    shown: Shown<'_>,
+    shown: Shown<'s>,
+    view: View,
     output: &mut O,
-) -> Result<Status, HillFault>
-    ensures { Tries (SaysTable shown.entry.matches) result (O.contents output.old) (O.contents output.new) }
+) -> Result<Status, HillTrouble<'s>>
+where
+    R: Files,
+    R::File: TryLock,
+    A: Allocator + Copy,
+    O: Write,
+    ensures { Tries (SaysShown view shown.entry.matches) result (O.contents output.old) (O.contents output.new) }
 {
-    match open_hill(rt, alloc, shown.hill) {
-        Ok(store) => show_store(alloc, &store, shown.matches, output),
-        Err(fault) => Err(fault),
+    match open_hill(rt, alloc, shown.hill, Sharing::Shared) {
+        Ok(store) => show_store(alloc, &store, shown.matches, view, output),
+        Err(trouble) => Err(trouble),
     }
 }
 
 /// Writes the table of a store's hill, and the matrix of its matches where that is asked for.
-fn show_store<D: Device, A: Allocator + Copy, O: Write>(
+fn show_store<'s, D: Device, A: Allocator + Copy, O: Write>(
     alloc: A,
     store: &Store<D, A>,
     matches: bool,
+    view: View,
     output: &mut O,
-) -> Result<Status, HillFault>
-    ensures { Tries (ShowsOf matches store.now.hill) result (O.contents output.old) (O.contents output.new) }
+) -> Result<Status, HillTrouble<'s>>
+    ensures { Tries (ShowsOf view matches store.now.hill) result (O.contents output.old) (O.contents output.new) }
 {
-    let text = match shown_text(alloc, store, matches) {
+    let text = match shown_text(alloc, store, matches, view) {
         Ok(text) => text,
-        Err(AllocError) => return Err(HillFault::Failed(Failure::Memory)),
+        Err(AllocError) => return Err(HillTrouble::memory()),
     };
     match write_whole(output, text.as_slice()) {
         Ok(()) => Ok(Status::Done),
-        Err(StreamFault) => Err(HillFault::Failed(Failure::Stream)),
+        Err(fault) => Err(HillTrouble::output(fault)),
     }
 }
 
@@ -73,13 +89,55 @@ fn shown_text<D: Device, A: Allocator + Copy>(
     alloc: A,
     store: &Store<D, A>,
     matches: bool,
+    view: View,
 ) -> Result<Vec<u8, A>, AllocError>
-    ensures { IfOk result (λ text. text.items ≡ shown_text matches store.now.hill) }
+    ensures { IfOk result (λ text. text.items ≡ shown_text view matches store.now.hill) }
+{
+    match view {
+        View::Plain => shown_lines(alloc, store, matches),
+        View::Table => shown_table(alloc, store, matches),
+    }
+}
+
+/// The lines for programs.
+fn shown_lines<D: Device, A: Allocator + Copy>(
+    alloc: A,
+    store: &Store<D, A>,
+    matches: bool,
+) -> Result<Vec<u8, A>, AllocError>
+    ensures { IfOk result (λ text. text.items ≡ shown_lines matches store.now.hill) }
 {
     let mut text = table_of(alloc, store)?;
     if matches {
         let matrix = matches_text(alloc, store.hill())?;
         text.extend_from_slice(matrix.as_slice())?;
     }
+    Ok(text)
+}
+
+/// The columns for people.
+fn shown_table<D: Device, A: Allocator + Copy>(
+    alloc: A,
+    store: &Store<D, A>,
+    matches: bool,
+) -> Result<Vec<u8, A>, AllocError>
+    ensures { IfOk result (λ text. text.items ≡ shown_table matches store.now.hill) }
+{
+    if matches {
+        return table_with_matches(alloc, store);
+    }
+    hill_view(alloc, store.hill())
+}
+
+fn table_with_matches<D: Device, A: Allocator + Copy>(
+    alloc: A,
+    store: &Store<D, A>,
+) -> Result<Vec<u8, A>, AllocError>
+    ensures { IfOk result (λ text. text.items ≡ shown_table true store.now.hill) }
+{
+    let mut text = hill_view(alloc, store.hill())?;
+    let matrix = matches_view(alloc, store.hill())?;
+    text.extend_from_slice(b"\n")?;
+    text.extend_from_slice(matrix.as_slice())?;
     Ok(text)
 }

@@ -1,89 +1,179 @@
 //! The command `submit`: one submission to the hill in a file.
 
-ghost use Rattle.std.specs.Prelude.{◌≡◌, ◌≢◌, false, None};
-ghost use Rattle.koth_server.specs.Hills.{EndsHill, SaysReply, SubmitsTo, Tries};
+ghost use Rattle.std.specs.Prelude.{◌≡◌, ◌≢◌, [], false, None};
+ghost use Rattle.koth_server.specs.Hills.{EndsReply, EndsSubmission, EndsSubmit, ExplainsReply};
 ghost use Rattle.koth_commands.specs.Streams.{streams};
 
 use crate::files::open_hill;
-use crate::hill_fault::HillFault;
 use crate::reply_status::status_of;
-use hill_store::Store;
-use koth_commands::{Failure, Status, StreamFault, read_file, source_buffer, write_whole};
+use crate::trouble::{HillTrouble, tell_output};
+use hill_file::{Sharing, TryLock};
+use hill_store::{Reply, Store};
+use koth_commands::{Status, explain, read_source, write_both};
+use koth_hill::Hill;
 use koth_session::line_of;
-use koth_words::Submission;
+use koth_views::{Entered, placing_view, roster};
+use koth_words::{Submission, View};
 use sector_disk::Device;
-use std::alloc::Allocator;
+use std::alloc::{AllocError, Allocator};
 use std::io::Write;
 use std::rt::Files;
+use war_types::Settings;
 
-/// Submits the source in a file to the hill in another, and writes the reply's line. The hill is opened before the source is
-/// read. The reply to a warrior that is placed or falls is written once that is durable.
-pub(crate) fn submit<R: Files, A: Allocator + Copy, O: Write, E: Write>(
+/// Submits the source in a file to the hill in another, and writes the reply. The hill is opened before the source is
+/// read. The reply to a warrior that is placed or falls is written once that is durable. Behind a refusal's line it is told on the errors
+/// where in the source and why.
+pub(crate) fn submit<R, A, O, E>(
     rt: &R,
     alloc: A,
     files: Submission<'_>,
+    view: View,
     output: &mut O,
     errors: &mut E,
 ) -> Status
-    ensures ends { EndsHill SaysReply result
+where
+    R: Files,
+    R::File: TryLock,
+    A: Allocator + Copy,
+    O: Write,
+    E: Write,
+    ensures ends { EndsSubmit view result
         (streams None (O.contents output.old) (E.contents errors.old))
         (streams None (O.contents output.new) (E.contents errors.new)) }
     ensures words { result ≢ Status.WordFault }
 {
-    match submit_file(rt, alloc, files, output) {
-        Ok(status) => status,
-        Err(fault) => fault.tell(errors),
+    let mut store = match open_hill(rt, alloc, files.hill, Sharing::Alone) {
+        Ok(store) => store,
+        Err(trouble) => return trouble.tell(alloc, errors),
+    };
+    let text = match read_source(rt, alloc, files.source) {
+        Ok(text) => text,
+        Err(trouble) => return HillTrouble::from_source(trouble).tell(alloc, errors),
+    };
+    let source = Source {
+        path: files.source,
+        text: text.as_slice(),
+    };
+    submit_opened(alloc, &mut store, source, view, output, errors)
+}
+
+/// A source, and the path of its file.
+#[derive(Clone, Copy)]
+struct Source<'s> {
+    path: &'s str,
+    text: &'s [u8],
+}
+
+/// Submits a source to a store that was just opened, and then writes the reply.
+fn submit_opened<D: Device, A: Allocator + Copy, O: Write, E: Write>(
+    alloc: A,
+    store: &mut Store<D, A>,
+    source: Source<'_>,
+    view: View,
+    output: &mut O,
+    errors: &mut E,
+) -> Status
+    requires { store.old.reopen ≡ false }
+    ensures ends { EndsSubmit view result
+        (streams None (O.contents output.old) (E.contents errors.old))
+        (streams None (O.contents output.new) (E.contents errors.new)) }
+    ensures words { result ≢ Status.WordFault }
+{
+    submit_source(alloc, store, source, view, output, errors)
+}
+
+/// Submits a source to a store, and then writes the reply: its line, and in the view for people behind it where the warrior stands.
+fn submit_source<D: Device, A: Allocator + Copy, O: Write, E: Write>(
+    alloc: A,
+    store: &mut Store<D, A>,
+    source: Source<'_>,
+    view: View,
+    output: &mut O,
+    errors: &mut E,
+) -> Status
+    requires { store.old.reopen ≡ false }
+    ensures ends { EndsSubmission D.facts store.old source.entry.text.now store.new view result
+        (streams None (O.contents output.old) (E.contents errors.old))
+        (streams None (O.contents output.new) (E.contents errors.new)) }
+    ensures words { result ≢ Status.WordFault }
+{
+    let before = roster_for(alloc, view, store.hill());
+    let reply = store.submit(source.text);
+    let placing = placing_text(alloc, &before, store.hill(), &reply);
+    let settings = store.hill().settings();
+    answer_reply(
+        alloc,
+        settings,
+        source,
+        &reply,
+        placing.as_slice(),
+        output,
+        errors,
+    )
+}
+
+/// Writes the line of a reply and this text behind it, and tells on the errors where in the source and why, if it is refused.
+fn answer_reply<A: Allocator + Copy, O: Write, E: Write>(
+    alloc: A,
+    settings: &Settings,
+    source: Source<'_>,
+    reply: &Reply,
+    placing: &[u8],
+    output: &mut O,
+    errors: &mut E,
+) -> Status
+    ensures ends { EndsReply reply.now placing.now result
+        (O.contents output.old) (O.contents output.new) (E.contents errors.old) (E.contents errors.new) }
+    ensures words { result ≢ Status.WordFault }
+{
+    match write_both(output, line_of(reply).as_slice(), placing) {
+        Ok(()) => {
+            explain_refusal(alloc, settings, source, reply, errors);
+            status_of(reply)
+        }
+        Err(fault) => tell_output(alloc, fault, errors),
     }
 }
 
-fn submit_file<R: Files, A: Allocator + Copy, O: Write>(
-    rt: &R,
-    alloc: A,
-    files: Submission<'_>,
-    output: &mut O,
-) -> Result<Status, HillFault>
-    ensures { Tries SaysReply result (O.contents output.old) (O.contents output.new) }
+/// Who stands on the hill before a submission, if people are to be told what becomes of it and there is memory for that.
+fn roster_for<A: Allocator + Copy>(alloc: A, view: View, hill: &Hill<A>) -> Option<Vec<Entered, A>>
+    ensures { view ≡ View.Plain → result ≡ None }
 {
-    let mut store = match open_hill(rt, alloc, files.hill) {
-        Ok(store) => store,
-        Err(fault) => return Err(fault),
-    };
-    submit_read(rt, alloc, files.source, &mut store, output)
+    match view {
+        View::Plain => None,
+        View::Table => roster(alloc, hill).ok(),
+    }
 }
 
-/// Submits the source in a file to a store, and then writes the reply's line.
-fn submit_read<R: Files, D: Device, A: Allocator + Copy, O: Write>(
-    rt: &R,
+/// Where a warrior stands behind its submission, if it was asked for and there is memory for that; else nothing.
+fn placing_text<A: Allocator + Copy>(
     alloc: A,
-    path: &str,
-    store: &mut Store<D, A>,
-    output: &mut O,
-) -> Result<Status, HillFault>
-    requires { store.old.reopen ≡ false }
-    ensures { Tries SaysReply result (O.contents output.old) (O.contents output.new) }
+    before: &Option<Vec<Entered, A>>,
+    hill: &Hill<A>,
+    reply: &Reply,
+) -> Vec<u8, A>
+    ensures { before.now ≡ None → result.items ≡ [] }
 {
-    let Ok(mut buffer) = source_buffer(alloc) else {
-        return Err(HillFault::Failed(Failure::Memory));
-    };
-    let count = match read_file(rt, path, buffer.as_mut_slice()) {
-        Ok(count) => count,
-        Err(StreamFault) => return Err(HillFault::Failed(Failure::Stream)),
-    };
-    submit_source(store, &buffer.as_slice()[..count], output)
+    match before {
+        Some(before) => match placing_view(alloc, before.as_slice(), hill, reply) {
+            Ok(text) => text,
+            Err(AllocError) => Vec::new(alloc),
+        },
+        None => Vec::new(alloc),
+    }
 }
 
-/// Submits a source to a store, and then writes the reply's line.
-fn submit_source<D: Device, A: Allocator + Copy, O: Write>(
-    store: &mut Store<D, A>,
-    source: &[u8],
-    output: &mut O,
-) -> Result<Status, HillFault>
-    ensures { SubmitsTo D.facts store.old source.now result store.new
-        (O.contents output.old) (O.contents output.new) }
+/// Tells on the errors where in a source and why, if it is refused.
+fn explain_refusal<A: Allocator + Copy, E: Write>(
+    alloc: A,
+    settings: &Settings,
+    source: Source<'_>,
+    reply: &Reply,
+    errors: &mut E,
+)
+    ensures { ExplainsReply reply.now (E.contents errors.old) (E.contents errors.new) }
 {
-    let reply = store.submit(source);
-    match write_whole(output, line_of(&reply).as_slice()) {
-        Ok(()) => Ok(status_of(&reply)),
-        Err(StreamFault) => Err(HillFault::Failed(Failure::Stream)),
+    if let Reply::Refused(_) = *reply {
+        explain(alloc, source.path, source.text, settings, errors);
     }
 }

@@ -1,4 +1,4 @@
-mod Commands
+mod Build
 mod Entered
 mod Flags
 mod Named

@@ -1,5 +1,5 @@
 -- What a parse of the program's words met.
-use Rattle.std.proofs.Common.{◌≡◌, ◌≢◌, ◌⊎◌, inl, inr, subst, ◌∙◌, ◌||◌, Bool, true, false, List, Option, None, Some, Box, is_some, IfSome, if◌then◌else◌, sym, ap, refl, codes, [], option_map}
+use Rattle.std.proofs.Common.{◌≡◌, ◌≢◌, inl, inr, subst, ◌∙◌, ◌||◌, Bool, true, false, List, Option, None, Some, Box, is_some, IfSome, if◌then◌else◌, sym, ap, refl, codes, [], option_map}
 use Rattle.std.specs.Box.{box_value}
 use Rattle.std.specs.List.{find}
 use Rattle.clap.specs.Faults.{entered_fault, fault_of, is_simple_and_free, other_fault}
@@ -17,7 +17,8 @@ use Rattle.clap.specs.declared.parser.matches.ArgMatches.TheViews.{out-ArgMatche
 use Rattle.clap.specs.declared.parser.matches.SubCommand.{SubCommand}
 use Rattle.clap.proofs.OnLiterals.{clap_on_literals}
 use Rattle.koth_words.proofs.Entered.{OnNames, level_has, level_walks, walk_stops}
-use Rattle.koth_words.specs.Words.{AreWrong, NamesCommand, koth_app}
+use Rattle.koth_words.specs.Words.{are_clear, given_by, given_in, is_taken, koth_app, AreWrong, HaveFault, IsCommandName, NamesCommand}
+use Rattle.koth_words.proofs.Numbers.{both}
 
 koth_is_simple : (is_simple koth_app ≡ true) × (is_simple_and_free koth_app ≡ true)
 unfolding clap_on_literals koth_app
@@ -40,37 +41,33 @@ named app m words is has =
 
 -- ---- words without fault name a command
 
-abbrev IsCommand : Text → Type 0
-IsCommand name = (name ≡ codes "asm") ⊎ (name ≡ codes "fight") ⊎ (name ≡ codes "create")
-    ⊎ (name ≡ codes "submit") ⊎ (name ≡ codes "show") ⊎ (name ≡ codes "serve") ⊎ (name ≡ codes "audit")
-    ⊎ (name ≡ codes "migrate")
+abbrev met_by : Bool → Bool → Bool → Bool → Bool → Bool → Bool → Bool → Bool → Bool → Option Text
+met_by asm check fight create submit show serve audit migrate help = option_map (λ (s : Text × List Text). s.0) (
+    if asm || false then Some (codes "asm", []) else if check || false then Some (codes "check", [])
+    else if fight || false then Some (codes "fight", []) else if create || false then Some (codes "create", [])
+    else if submit || false then Some (codes "submit", []) else if show || false then Some (codes "show", [])
+    else if serve || false then Some (codes "serve", []) else if audit || false then Some (codes "audit", [])
+    else if migrate || false then Some (codes "migrate", []) else if help || false then Some (codes "help", []) else None)
 
-abbrev met_by : Bool → Bool → Bool → Bool → Bool → Bool → Bool → Bool → Bool → Option Text
-met_by asm fight create submit show serve audit migrate help = option_map (λ (s : Text × List Text). s.0) (
-    if asm || false then Some (codes "asm", []) else if fight || false then Some (codes "fight", [])
-    else if create || false then Some (codes "create", []) else if submit || false then Some (codes "submit", [])
-    else if show || false then Some (codes "show", []) else if serve || false then Some (codes "serve", [])
-    else if audit || false then Some (codes "audit", []) else if migrate || false then Some (codes "migrate", [])
-    else if help || false then Some (codes "help", []) else None)
-
-met_is_command : (asm fight create submit show serve audit migrate help : Bool) (word : Text) (h : Held)
-    → other_fault (built koth_app).top (met_by asm fight create submit show serve audit migrate help) word h ≡ []
-    → IfSome (met_by asm fight create submit show serve audit migrate help) IsCommand
+met_is_command : (asm check fight create submit show serve audit migrate help : Bool) (word : Text) (h : Held)
+    → other_fault (built koth_app).top (met_by asm check fight create submit show serve audit migrate help) word h ≡ []
+    → IfSome (met_by asm check fight create submit show serve audit migrate help) IsCommandName
 unfolding clap_on_literals koth_app
-met_is_command true fight create submit show serve audit migrate help word h none = inl refl
-met_is_command false true create submit show serve audit migrate help word h none = inr (inl refl)
-met_is_command false false true submit show serve audit migrate help word h none = inr (inr (inl refl))
-met_is_command false false false true show serve audit migrate help word h none = inr (inr (inr (inl refl)))
-met_is_command false false false false true serve audit migrate help word h none = inr (inr (inr (inr (inl refl))))
-met_is_command false false false false false true audit migrate help word h none = inr (inr (inr (inr (inr (inl refl)))))
-met_is_command false false false false false false true migrate help word h none = inr (inr (inr (inr (inr (inr (inl refl))))))
-met_is_command false false false false false false false true help word h none = inr (inr (inr (inr (inr (inr (inr refl))))))
-met_is_command false false false false false false false false true word h none = absurd (cc)
-met_is_command false false false false false false false false false word h none = tt
+met_is_command true check fight create submit show serve audit migrate help word h none = inl refl
+met_is_command false true fight create submit show serve audit migrate help word h none = inr (inl refl)
+met_is_command false false true create submit show serve audit migrate help word h none = inr (inr (inl refl))
+met_is_command false false false true submit show serve audit migrate help word h none = inr (inr (inr (inl refl)))
+met_is_command false false false false true show serve audit migrate help word h none = inr (inr (inr (inr (inl refl))))
+met_is_command false false false false false true serve audit migrate help word h none = inr (inr (inr (inr (inr (inl refl)))))
+met_is_command false false false false false false true audit migrate help word h none = inr (inr (inr (inr (inr (inr (inl refl))))))
+met_is_command false false false false false false false true migrate help word h none = inr (inr (inr (inr (inr (inr (inr (inl refl)))))))
+met_is_command false false false false false false false false true help word h none = inr (inr (inr (inr (inr (inr (inr (inr refl)))))))
+met_is_command false false false false false false false false false true word h none = absurd (cc)
+met_is_command false false false false false false false false false false word h none = tt
 
-each_is_command : OnNames (built koth_app).top (names_of (built koth_app)) IsCommand
+each_is_command : OnNames (built koth_app).top (names_of (built koth_app)) IsCommandName
 unfolding clap_on_literals koth_app
-each_is_command idle word h none = met_is_command _ _ _ _ _ _ _ _ _ word h none
+each_is_command idle word h none = met_is_command _ _ _ _ _ _ _ _ _ _ word h none
 each_is_command (option id) word h none = tt
 each_is_command positional word h none = tt
 
@@ -82,18 +79,23 @@ is_required = refl
 abbrev entered_at : Text → List Text → Option Text
 entered_at name words = option_map (λ r. r.0) (option_map (λ s. rows_at s words) (find (λ s. answers_to name (label_of s)) (built koth_app).subs))
 
-enters_command : (stop : Option (Text × List Text)) → IfSome stop (λ p. IsCommand p.0) → is_some (entered (built koth_app) stop) ≡ true
+-- where a command's name is met, that command is entered
+named_at : (p : Text × List Text) (name : Text) → p.0 ≡ name → NamesCommand (entered_at name p.1) → NamesCommand (entered_at p.0 p.1)
+named_at p name is named = subst (λ n. NamesCommand (entered_at n p.1)) (sym is) named
+
+enters_command : (stop : Option (Text × List Text)) → IfSome stop (λ p. IsCommandName p.0) → is_some (entered (built koth_app) stop) ≡ true
     → NamesCommand (option_map (λ p. p.0) (entered (built koth_app) stop))
 unfolding clap_on_literals koth_app
 enters_command None met has = absurd (cc)
-enters_command (Some p) (inl is) has = inl (ap (λ n. entered_at n p.1) is)
-enters_command (Some p) (inr (inl is)) has = inr (inl (ap (λ n. entered_at n p.1) is))
-enters_command (Some p) (inr (inr (inl is))) has = inr (inr (inl (ap (λ n. entered_at n p.1) is)))
-enters_command (Some p) (inr (inr (inr (inl is)))) has = inr (inr (inr (inl (ap (λ n. entered_at n p.1) is))))
-enters_command (Some p) (inr (inr (inr (inr (inl is))))) has = inr (inr (inr (inr (inl (ap (λ n. entered_at n p.1) is)))))
-enters_command (Some p) (inr (inr (inr (inr (inr (inl is)))))) has = inr (inr (inr (inr (inr (inl (ap (λ n. entered_at n p.1) is))))))
-enters_command (Some p) (inr (inr (inr (inr (inr (inr (inl is))))))) has = inr (inr (inr (inr (inr (inr (inl (ap (λ n. entered_at n p.1) is)))))))
-enters_command (Some p) (inr (inr (inr (inr (inr (inr (inr is))))))) has = inr (inr (inr (inr (inr (inr (inr (ap (λ n. entered_at n p.1) is)))))))
+enters_command (Some p) (inl is) has = named_at p (codes "asm") is (inl refl)
+enters_command (Some p) (inr (inl is)) has = named_at p (codes "check") is (inr (inl refl))
+enters_command (Some p) (inr (inr (inl is))) has = named_at p (codes "fight") is (inr (inr (inl refl)))
+enters_command (Some p) (inr (inr (inr (inl is)))) has = named_at p (codes "create") is (inr (inr (inr (inl refl))))
+enters_command (Some p) (inr (inr (inr (inr (inl is))))) has = named_at p (codes "submit") is (inr (inr (inr (inr (inl refl)))))
+enters_command (Some p) (inr (inr (inr (inr (inr (inl is)))))) has = named_at p (codes "show") is (inr (inr (inr (inr (inr (inl refl))))))
+enters_command (Some p) (inr (inr (inr (inr (inr (inr (inl is))))))) has = named_at p (codes "serve") is (inr (inr (inr (inr (inr (inr (inl refl)))))))
+enters_command (Some p) (inr (inr (inr (inr (inr (inr (inr (inl is)))))))) has = named_at p (codes "audit") is (inr (inr (inr (inr (inr (inr (inr (inl refl))))))))
+enters_command (Some p) (inr (inr (inr (inr (inr (inr (inr (inr is)))))))) has = named_at p (codes "migrate") is (inr (inr (inr (inr (inr (inr (inr (inr refl))))))))
 
 -- words in which clap finds no fault name a command
 names_command : (words : List Text) → fault_of koth_app words ≡ [] → NamesCommand (option_map (λ p. p.0) (subcommand_of koth_app words))
@@ -103,7 +105,7 @@ names_command words none =
     let stop = stop_after app.top.rules (names_of app) rest in
     let has = is_some (entered app stop) in
     let walks = level_walks app.top (names_of app) rest has (entered_fault app stop) none in
-    let met = walk_stops app.top (names_of app) IsCommand each_is_command rest (walk_from nothing_held) walks tt in
+    let met = walk_stops app.top (names_of app) IsCommandName each_is_command rest (walk_from nothing_held) walks tt in
     enters_command stop met (level_has app.top (names_of app) rest has (entered_fault app stop) is_required none)
 
 -- what holds of a command's faults holds of those of the program's words
@@ -116,20 +118,28 @@ pub gives_command : (app : App) (m : ArgMatches) (words : List Text) → app ≡
 gives_command app m words is has none =
     subst NamesCommand (named app m words is has) (names_command words (on_faults app words (λ faults. faults ≡ []) is none))
 
-pub not_wrong : (app : App) (words : List Text) → app ≡ koth_app → (is_simple_and_free app ≡ true → fault_of app words ≡ []) → AreWrong words → ⊥
+pub not_wrong : (app : App) (words : List Text) → app ≡ koth_app → (is_simple_and_free app ≡ true → fault_of app words ≡ []) → HaveFault words → ⊥
 not_wrong app words is none wrong = wrong.0 (on_faults app words (λ faults. faults ≡ []) is none)
 
 -- where the words are taken, an error is a refused growth
 pub memory_kind : (app : App) (words : List Text) (e : Error) → app ≡ koth_app → (takes app words ≡ true → kind_of e ≡ kinds.OutOfMemory)
-    → takes koth_app words ≡ true → kind_of e ≡ kinds.OutOfMemory
-memory_kind app words e is passes taken = passes (ap (λ a. takes a words) is ∙ taken)
+    → is_taken words ≡ true → kind_of e ≡ kinds.OutOfMemory
+memory_kind app words e is passes taken = passes (ap (λ a. takes a words) is ∙ (both _ _ taken).0)
 
 -- an error at wrong words is no request for help
 pub wrong_kind : (app : App) (words : List Text) (e : Error) → app ≡ koth_app → (is_simple_and_free app ≡ true → HasKind (fault_of app words) e) → AreWrong words
     → (kind_of e ≢ kinds.DisplayHelp) × (kind_of e ≢ kinds.DisplayVersion)
-wrong_kind app words e is has wrong =
-    let IsKind : ErrorKind → Type 0 = λ k. IsAmong k (fault_of koth_app words) in
-    elim (on_faults app words (λ faults. HasKind faults e) is has) [
-      | inl memory ↦ (λ help. absurd (cc), λ version. absurd (cc))
-      | inr among ↦ (λ help. wrong.1 (subst IsKind help among), λ version. wrong.2 (subst IsKind version among))
-    ]
+wrong_kind app words e is has wrong = by_kind (on_faults app words (λ faults. HasKind faults e) is has) wrong
+  where
+    IsKind : ErrorKind → Type 0
+    IsKind k = IsAmong k (fault_of koth_app words)
+
+    by_kind : HasKind (fault_of koth_app words) e → AreWrong words → (kind_of e ≢ kinds.DisplayHelp) × (kind_of e ≢ kinds.DisplayVersion)
+    by_kind (inl memory) wrong = (λ help. absurd (cc), λ version. absurd (cc))
+    by_kind (inr among) (inl fault) = (λ help. fault.1 (subst IsKind help among), λ version. fault.2 (subst IsKind version among))
+    by_kind (inr among) (inr unclear) = absurd (subst (λ faults. IsAmong (kind_of e) faults) unclear.0 among)
+
+-- what the words give a command that is clear, or isn't, is so in what the parse gives
+pub clear_found : (app : App) (m : ArgMatches) (words : List Text) (b : Bool) → app ≡ koth_app → HasMatchesOf app words m
+    → are_clear (given_by words) ≡ b → are_clear (given_in (subcommand_rows_of m)) ≡ b
+clear_found app m words b is has clear = ap (λ e. are_clear (given_in e)) (found app m words is has) ∙ clear

@@ -1,11 +1,13 @@
 -- Rows of the definitions, computed.
-use Rattle.std.proofs.Common.{◌≡◌, true, false, List, [], ◌∷◌, Some, Ok, codes, refl}
+use Rattle.std.proofs.Common.{◌≡◌, true, false, List, [], ◌∷◌, Some, None, Ok, codes, refl, inr}
 use Rattle.war_types.specs.Settings.{settings_of}
-use Rattle.clap.specs.Words.{Row, fault_of, first_of, subcommand_of, takes}
+use Rattle.clap.specs.Words.{Row, all_of, fault_of, first_of, one_of, subcommand_of, takes}
 use Rattle.clap.specs.declared.error.kind.ErrorKind.TheVariants as errors
 use Rattle.clap.proofs.OnLiterals.{clap_on_literals}
-use Rattle.koth_words.specs.Options.{default_settings}
-use Rattle.koth_words.specs.Words.{AsksFor, given_in, koth_app, matches_named, settings_named}
+use Rattle.koth_words.specs.Options.{default_settings, number_given}
+use Rattle.koth_words.specs.Words.{AreWrong, AsksFor, form_named, given_by, given_in, is_taken, koth_app, matches_named, overwrite_named, reads_input, settings_named, view_named}
+use Rattle.koth_words.specs.declared.words.Form.TheVariants as forms
+use Rattle.koth_words.specs.declared.words.View.TheVariants as views
 
 -- the premise of `asm` is met by these words
 asm_asks : AsksFor (codes "asm") (codes "koth" ∷ codes "asm" ∷ [])
@@ -50,15 +52,14 @@ flags_not_taken : (takes koth_app (codes "koth" ∷ codes "show" ∷ codes "h.hi
 unfolding clap_on_literals koth_app
 flags_not_taken = (refl, refl, refl, refl)
 
--- a source, a port, a number of connections or a new file too few, a file too many, and a port past 16 bits are not taken
+-- a source, a port or a new file too few, a file too many, and a port past 16 bits are not taken
 hills_not_taken : (takes koth_app (codes "koth" ∷ codes "submit" ∷ codes "a.hill" ∷ []) ≡ false)
     × (takes koth_app (codes "koth" ∷ codes "serve" ∷ codes "a.hill" ∷ codes "--connections=1" ∷ []) ≡ false)
-    × (takes koth_app (codes "koth" ∷ codes "serve" ∷ codes "a.hill" ∷ codes "--port=1" ∷ []) ≡ false)
     × (takes koth_app (codes "koth" ∷ codes "serve" ∷ codes "a.hill" ∷ codes "--port=65536" ∷ codes "--connections=1" ∷ []) ≡ false)
     × (takes koth_app (codes "koth" ∷ codes "migrate" ∷ codes "a.hill" ∷ []) ≡ false)
     × (takes koth_app (codes "koth" ∷ codes "migrate" ∷ codes "a.hill" ∷ codes "b.hill" ∷ codes "c.hill" ∷ []) ≡ false)
 unfolding clap_on_literals koth_app
-hills_not_taken = (refl, refl, refl, refl, refl, refl)
+hills_not_taken = (refl, refl, refl, refl, refl)
 
 -- the settings that words give, by one word or by two, with a plus sign or without
 given_settings : (settings_named (codes "koth" ∷ codes "asm" ∷ []) ≡ default_settings)
@@ -71,7 +72,7 @@ given_settings = (refl, refl)
 not_taken : (takes koth_app (codes "koth" ∷ []) ≡ false)
     × (takes koth_app (codes "koth" ∷ codes "help" ∷ []) ≡ false)
     × (takes koth_app (codes "koth" ∷ codes "asm" ∷ codes "--help" ∷ []) ≡ false)
-    × (takes koth_app (codes "koth" ∷ codes "asm" ∷ codes "extra" ∷ []) ≡ false)
+    × (takes koth_app (codes "koth" ∷ codes "asm" ∷ codes "a.red" ∷ codes "extra" ∷ []) ≡ false)
     × (takes koth_app (codes "koth" ∷ codes "fight" ∷ codes "a.red" ∷ []) ≡ false)
     × (takes koth_app (codes "koth" ∷ codes "asm" ∷ codes "--size=64" ∷ []) ≡ false)
     × (takes koth_app (codes "koth" ∷ codes "asm" ∷ codes "--core=x" ∷ []) ≡ false)
@@ -84,7 +85,7 @@ not_taken = (refl, refl, refl, refl, refl, refl, refl, refl, refl)
 faults : (fault_of koth_app (codes "koth" ∷ []) ≡ errors.MissingSubcommand ∷ [])
     × (fault_of koth_app (codes "koth" ∷ codes "fly" ∷ []) ≡ errors.UnknownArgument ∷ errors.InvalidSubcommand ∷ [])
     × (fault_of koth_app (codes "koth" ∷ codes "fight" ∷ []) ≡ errors.MissingRequiredArgument ∷ [])
-    × (fault_of koth_app (codes "koth" ∷ codes "asm" ∷ codes "extra" ∷ []) ≡ errors.UnknownArgument ∷ [])
+    × (fault_of koth_app (codes "koth" ∷ codes "asm" ∷ codes "a.red" ∷ codes "extra" ∷ []) ≡ errors.UnknownArgument ∷ [])
     × (fault_of koth_app (codes "koth" ∷ codes "asm" ∷ codes "--core=x" ∷ []) ≡ errors.ValueValidation ∷ [])
     × (fault_of koth_app (codes "koth" ∷ codes "asm" ∷ codes "--help" ∷ []) ≡ errors.DisplayHelp ∷ [])
 unfolding clap_on_literals koth_app
@@ -93,3 +94,63 @@ faults = (refl, refl, refl, refl, refl, refl)
 -- no limit is one of the core size
 defaults_are_settings : settings_of default_settings ≡ Ok (record default_settings { read_limit = 8000; write_limit = 8000 })
 defaults_are_settings = refl
+
+-- ---- sources, layouts, forms, and words that `clap` takes and the program refuses
+
+checks_ask : AsksFor (codes "check") (codes "koth" ∷ codes "check" ∷ codes "a.red" ∷ codes "-s64" ∷ codes "b.red" ∷ codes "--format" ∷ codes "json" ∷ [])
+    × AsksFor (codes "asm") (codes "koth" ∷ codes "asm" ∷ codes "a.red" ∷ [])
+    × AsksFor (codes "create") (codes "koth" ∷ codes "create" ∷ codes "a.hill" ∷ codes "--overwrite" ∷ [])
+    × AsksFor (codes "serve") (codes "koth" ∷ codes "serve" ∷ codes "a.hill" ∷ codes "--port=0" ∷ codes "--quiet" ∷ [])
+unfolding clap_on_literals koth_app
+checks_ask = ((refl, refl), (refl, refl), (refl, refl), (refl, refl))
+
+-- the files in their order, and the form and the setting among them
+checked_files : (all_of (codes "FILE") (given_by (codes "koth" ∷ codes "check" ∷ codes "a.red" ∷ codes "-s64" ∷ codes "b.red" ∷ codes "--format=json" ∷ [])) ≡ Some (codes "a.red" ∷ codes "b.red" ∷ []))
+    × (form_named (codes "koth" ∷ codes "check" ∷ codes "a.red" ∷ codes "--format=json" ∷ []) ≡ forms.Json)
+    × (form_named (codes "koth" ∷ codes "check" ∷ codes "a.red" ∷ []) ≡ forms.Text)
+    × (settings_named (codes "koth" ∷ codes "check" ∷ codes "a.red" ∷ codes "-s64" ∷ codes "b.red" ∷ []) ≡ record default_settings { core = 64 })
+unfolding clap_on_literals koth_app
+checked_files = (refl, refl, refl, refl)
+
+-- the letters that pMARS has for the settings
+letters : settings_named (codes "koth" ∷ codes "fight" ∷ codes "a" ∷ codes "b" ∷ codes "-s" ∷ codes "80" ∷ codes "-c" ∷ codes "5" ∷ codes "-p" ∷ codes "4" ∷ codes "-l" ∷ codes "3" ∷ codes "-d" ∷ codes "20" ∷ codes "-r1" ∷ [])
+    ≡ record default_settings { core = 80; cycles = 5; processes = 4; length = 3; distance = 20; rounds = 1 }
+unfolding clap_on_literals koth_app
+letters = refl
+
+inputs : (reads_input (codes "koth" ∷ codes "asm" ∷ []) ≡ true) × (reads_input (codes "koth" ∷ codes "asm" ∷ codes "-" ∷ []) ≡ true)
+    × (reads_input (codes "koth" ∷ codes "asm" ∷ codes "a.red" ∷ []) ≡ false)
+unfolding clap_on_literals koth_app
+inputs = (refl, refl, refl)
+
+layouts : (view_named (codes "koth" ∷ codes "show" ∷ codes "h.hill" ∷ codes "--plain" ∷ []) ≡ Some views.Plain)
+    × (view_named (codes "koth" ∷ codes "fight" ∷ codes "a" ∷ codes "--table" ∷ codes "b" ∷ []) ≡ Some views.Table)
+    × (view_named (codes "koth" ∷ codes "submit" ∷ codes "h.hill" ∷ codes "a.red" ∷ []) ≡ None)
+unfolding clap_on_literals koth_app
+layouts = (refl, refl, refl)
+
+flags : (overwrite_named (codes "koth" ∷ codes "create" ∷ codes "h.hill" ∷ codes "--overwrite" ∷ []) ≡ true)
+    × (overwrite_named (codes "koth" ∷ codes "create" ∷ codes "h.hill" ∷ []) ≡ false)
+    × (number_given 4294967296 (one_of (codes "connections") (given_by (codes "koth" ∷ codes "serve" ∷ codes "h.hill" ∷ codes "--port=0" ∷ []))) ≡ None)
+unfolding clap_on_literals koth_app
+flags = (refl, refl, refl)
+
+-- two layouts, a form that isn't there and no file to check are not taken
+unclear : (is_taken (codes "koth" ∷ codes "show" ∷ codes "h.hill" ∷ codes "--plain" ∷ codes "--table" ∷ []) ≡ false)
+    × (is_taken (codes "koth" ∷ codes "check" ∷ codes "a.red" ∷ codes "--format=xml" ∷ []) ≡ false)
+    × (is_taken (codes "koth" ∷ codes "check" ∷ []) ≡ false)
+unfolding clap_on_literals koth_app
+unclear = (refl, refl, refl)
+
+-- and the first two are wrong
+two_layouts_wrong : AreWrong (codes "koth" ∷ codes "show" ∷ codes "h.hill" ∷ codes "--plain" ∷ codes "--table" ∷ [])
+    × AreWrong (codes "koth" ∷ codes "check" ∷ codes "a.red" ∷ codes "--format=xml" ∷ [])
+unfolding clap_on_literals koth_app
+two_layouts_wrong = (inr (refl, refl), inr (refl, refl))
+
+-- the version is asked for by a word or a letter, and of the program alone
+versions : (fault_of koth_app (codes "koth" ∷ codes "--version" ∷ []) ≡ errors.DisplayVersion ∷ [])
+    × (fault_of koth_app (codes "koth" ∷ codes "-V" ∷ []) ≡ errors.DisplayVersion ∷ [])
+    × (fault_of koth_app (codes "koth" ∷ codes "asm" ∷ codes "--version" ∷ []) ≡ errors.UnknownArgument ∷ [])
+unfolding clap_on_literals koth_app
+versions = (refl, refl, refl)

@@ -1,16 +1,19 @@
--- The text of a file's name.
-use Rattle.std.proofs.Common.{◌≡◌, [], Option, None, Some, Bor, ◌∙◌, ap, option_map}
+-- The names of files, as texts.
+use Rattle.std.proofs.Common.{◌≡◌, List, [], map, Option, None, Some, Bor, ◌∙◌, ap, option_map}
 use Rattle.std.specs.Prelude.{unwrap_or}
-use Rattle.clap.proofs.WalkLemmas.{first_value-rows}
-use Rattle.clap.specs.Matches.{first_value}
-use Rattle.clap.specs.Walk.{Text, first_of, rows_of}
+use Rattle.clap.specs.Walk.{Text}
 use Rattle.koth_words.specs.Words.{text_or_none}
-use Rattle.clap.specs.declared.parser.matches.Found.{Found}
 
 -- the text of a file's name
-pub text_given : (r : Option (Bor Text)) (empty x : Bor Text) (found : Found) (id : Text) → x ≡ unwrap_or r empty → empty.now ≡ []
-    → option_map (λ s. s.now) r ≡ first_value found id → x.now ≡ text_or_none (first_of id (rows_of found))
-text_given None empty x found id is none named =
-    ap (λ (b : Bor Text). b.now) is ∙ none ∙ ap text_or_none (named ∙ first_value-rows found id)
-text_given (Some s) empty x found id is none named =
-    ap (λ (b : Bor Text). b.now) is ∙ ap text_or_none (named ∙ first_value-rows found id)
+pub file_text : (r : Option (Bor Text)) (empty x : Bor Text) (text : Option Text) → x ≡ unwrap_or r empty → empty.now ≡ []
+    → option_map (λ s. s.now) r ≡ text → x.now ≡ text_or_none text
+file_text None empty x text is none named = ap (λ (b : Bor Text). b.now) is ∙ none ∙ ap text_or_none named
+file_text (Some s) empty x text is none named = ap (λ (b : Bor Text). b.now) is ∙ ap text_or_none named
+
+-- the texts of files' names
+pub file_texts : (r : Option (Bor (List (Bor Text)))) (empty x : Bor (List (Bor Text))) (texts : Option (List Text)) → x ≡ unwrap_or r empty → empty.now ≡ []
+    → option_map (λ s. map (λ v. v.now) s.now) r ≡ texts → map (λ v. v.now) x.now ≡ unwrap_or texts []
+file_texts None empty x texts is none named =
+    ap (λ (b : Bor (List (Bor Text))). map (λ v. v.now) b.now) is ∙ ap (map (λ (v : Bor Text). v.now)) none ∙ ap (λ (t : Option (List Text)). unwrap_or t []) named
+file_texts (Some s) empty x texts is none named =
+    ap (λ (b : Bor (List (Bor Text))). map (λ v. v.now) b.now) is ∙ ap (λ (t : Option (List Text)). unwrap_or t []) named

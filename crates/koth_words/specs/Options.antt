@@ -1,5 +1,5 @@
 -- The options that give settings, and the settings that they give.
-use Rattle.std.specs.Prelude.{ℕ, ◌&&◌, Bool, true, nat_lt, if◌then◌else◌, List, length, Option, Some, None, codes, pos}
+use Rattle.std.specs.Prelude.{ℕ, ◌&&◌, Bool, true, nat_lt, if◌then◌else◌, List, length, Option, Some, None, codes, option_and_then, pos, unwrap_or}
 use Rattle.std.specs.Char.{digit_value}
 use Rattle.std.specs.List.{list_all}
 use Rattle.std.specs.Str.Parse.{digits_value, without_leading_plus}
@@ -22,30 +22,47 @@ required_rule name greatest = record (option_rule name) {
   required = true;
 }
 
+-- an option that a letter names too
+abbrev pub lettered_rule : Text → ℕ → Rule
+lettered_rule name letter = record (option_rule name) { short = Some letter }
+
 abbrev pub with_option : App → Text → App
 with_option app name = with_rule app (option_rule name)
 
+abbrev pub with_lettered : App → Text → ℕ → App
+with_lettered app name letter = with_rule app (lettered_rule name letter)
+
+-- the sizes of a match, with the letters s, p, l and d
+abbrev pub with_sizes : App → App
+with_sizes app = with_lettered (with_lettered (with_lettered (with_lettered app
+    (codes "core") 115) (codes "processes") 112) (codes "length") 108) (codes "distance") 100
+
+-- how long a match is, with the letters c and r, and how far its operands reach
+abbrev pub with_bounds : App → App
+with_bounds app = with_option (with_option (with_lettered (with_lettered app
+    (codes "cycles") 99) (codes "rounds") 114) (codes "read-limit")) (codes "write-limit")
+
 -- the command with an option for each setting
 abbrev pub with_settings : App → App
-with_settings app =
-    with_option (with_option (with_option (with_option (with_option (with_option (with_option (with_option (with_option (with_option app
-    (codes "core")) (codes "cycles")) (codes "processes")) (codes "length")) (codes "distance")) (codes "rounds"))
-    (codes "seed")) (codes "capacity")) (codes "read-limit")) (codes "write-limit")
+with_settings app = with_option (with_option (with_bounds (with_sizes app)) (codes "seed")) (codes "capacity")
 
 -- one decimal digit or more, which write a number below the limit
 abbrev pub is_number : ℕ → Text → Bool
 is_number limit digits =
     nat_lt 0 (length digits) && list_all (λ d. nat_lt (digit_value d) 10) digits && nat_lt (digits_value 10 digits) limit
 
--- the number below the limit that a text writes, a plus sign before it or not; another number where it writes none
-abbrev pub number_in : ℕ → ℕ → Text → ℕ
-number_in limit default text =
-    if is_number limit (without_leading_plus text) then digits_value 10 (without_leading_plus text) else default
+-- the number below the limit that a text writes, a plus sign before it or not
+abbrev pub number_in : ℕ → Text → Option ℕ
+number_in limit text =
+    if is_number limit (without_leading_plus text) then Some (digits_value 10 (without_leading_plus text)) else None
 
--- the number that an option's text writes, and the default where the option isn't given (no other text is taken)
+-- the number that an option's text writes, if the option is given (no other text is taken)
+abbrev pub number_given : ℕ → Option Text → Option ℕ
+number_given limit text = option_and_then (number_in limit) text
+
+-- the same, with a default where the option is left out
 abbrev pub number_below : ℕ → ℕ → Option Text → ℕ
-number_below limit default None = default
-number_below limit default (Some text) = number_in limit default text
+number_below limit default text = unwrap_or (number_given limit text) default
 
 -- the same of 32 bits
 abbrev pub number_or : ℕ → Option Text → ℕ

@@ -1,112 +1,167 @@
 -- What the words of the command line ask for.
-use Rattle.std.specs.Prelude.{◌≡◌, ◌≢◌, ◌⊎◌, ⊤, ℕ, Bool, true, false, List, [], codes, Option, None, Some, Result, Ok, Err, option_map, unwrap_or}
+use Rattle.std.specs.Prelude.{◌≡◌, ◌≢◌, ◌⊎◌, ◌&&◌, ◌||◌, ⊤, ℕ, Bool, true, false, not, List, [], codes, map, Option, None, Some, option_map, unwrap_or, if◌then◌else◌}
 use Rattle.std.specs.Option.{option_map_or}
 use Rattle.std.specs.Str.{bytes_eq}
-use Rattle.clap.specs.Words.{App, IsAmong, Row, Rule, Text, app_of, fault_of, first_of, new_app, new_rule, one_of, subcommand_of, takes, with_rule, with_subcommand}
-use Rattle.clap.specs.declared.builder.action.ArgAction.TheVariants as actions
-use Rattle.clap.specs.declared.builder.command.Command.{Command}
+use Rattle.clap.specs.Words.{IsAmong, Row, Text, all_of, fault_of, first_of, one_of, subcommand_of, takes}
 use Rattle.clap.specs.declared.error.kind.ErrorKind.TheVariants as kinds
 use Rattle.war_types.specs.declared.settings.RawSettings.{RawSettings}
-use Rattle.koth_words.specs.Options.{number_below, number_or, required_rule, settings_in, with_settings}
+use Rattle.koth_words.specs.Options.{number_below, number_given, settings_in}
+unfoldable pub use Rattle.koth_words.specs.Commands.{koth_app}
+use Rattle.koth_words.specs.declared.words.Form.{Form}
+use Rattle.koth_words.specs.declared.words.Form.TheVariants as forms
 use Rattle.koth_words.specs.declared.words.NoRequest.{NoRequest}
 use Rattle.koth_words.specs.declared.words.NoRequest.TheVariants as reasons
 use Rattle.koth_words.specs.declared.words.Request.{Request}
-use Rattle.koth_words.specs.declared.words.Request.TheVariants.{Asm, Fight, Create, Submit, Show, Serve, Audit, Migrate}
-
--- a command that wants the name of one of its subcommands
-abbrev pub wants_subcommand : App → App
-wants_subcommand app = record app { top = record app.top { subcommand_required = true } }
-
--- a file that has to be named
-abbrev pub file_rule : Text → Rule
-file_rule name = record (new_rule name) { required = true }
-
--- a flag, which takes no value
-abbrev pub flag_rule : Text → Rule
-flag_rule name = record (new_rule name) { long = Some name; action = Some actions.SetTrue }
-
-abbrev pub asm_app : App
-asm_app = with_settings (new_app (codes "asm"))
-
-abbrev pub fight_app : App
-fight_app = with_settings (with_rule (with_rule (new_app (codes "fight")) (file_rule (codes "A"))) (file_rule (codes "B")))
-
-abbrev pub create_app : App
-create_app = with_settings (with_rule (new_app (codes "create")) (file_rule (codes "FILE")))
-
-abbrev pub submit_app : App
-submit_app = with_rule (with_rule (new_app (codes "submit")) (file_rule (codes "FILE"))) (file_rule (codes "SOURCE"))
-
-abbrev pub show_app : App
-show_app = with_rule (with_rule (new_app (codes "show")) (file_rule (codes "FILE"))) (flag_rule (codes "matches"))
-
-abbrev pub serve_app : App
-serve_app = with_rule (with_rule (with_rule (new_app (codes "serve")) (file_rule (codes "FILE")))
-    (required_rule (codes "port") 65535)) (required_rule (codes "connections") 4294967295)
-
-abbrev pub audit_app : App
-audit_app = with_rule (new_app (codes "audit")) (file_rule (codes "FILE"))
-
-abbrev pub migrate_app : App
-migrate_app = with_rule (with_rule (new_app (codes "migrate")) (file_rule (codes "FILE"))) (file_rule (codes "NEW"))
-
--- the program's words: `koth`, and a command's name with its files and options
-unfoldable pub koth_app : App
-koth_app = with_subcommand (with_subcommand (with_subcommand (with_subcommand (with_subcommand (with_subcommand (with_subcommand (with_subcommand
-    (wants_subcommand (new_app (codes "koth"))) asm_app.top) fight_app.top) create_app.top) submit_app.top) show_app.top) serve_app.top)
-    audit_app.top) migrate_app.top
-
--- a command has a further one among its own, which was made
-abbrev pub HasCommand : {E : Type 0} → App → Result Command E → Command → Type 0
-HasCommand app (Ok made) command = app_of command ≡ with_subcommand app (app_of made).top
-HasCommand app (Err e) command = ⊥
-
--- the words are taken, and name this command
-abbrev pub AsksFor : List ℕ → List (List ℕ) → Type 0
-AsksFor verb words = (takes koth_app words ≡ true)
-    × (option_map (λ entered. entered.0) (subcommand_of koth_app words) ≡ Some verb)
+use Rattle.koth_words.specs.declared.words.Request.TheVariants.{Asm, Check, Fight, Create, Submit, Show, Serve, Audit, Migrate}
+use Rattle.koth_words.specs.declared.words.Source.{Source}
+use Rattle.koth_words.specs.declared.words.Source.TheVariants as sources
+use Rattle.koth_words.specs.declared.words.View.{View}
+use Rattle.koth_words.specs.declared.words.View.TheVariants as views
 
 -- what the words give a command
 abbrev pub given_in : Option (Text × List Row) → List Row
 given_in entered = option_map_or (λ e. e.1) entered []
 
--- the settings that the words give
-abbrev pub settings_named : List (List ℕ) → RawSettings
-settings_named words = settings_in (given_in (subcommand_of koth_app words))
+-- the same of the program's words
+abbrev pub given_by : List (List ℕ) → List Row
+given_by words = given_in (subcommand_of koth_app words)
 
 abbrev pub text_or_none : Option Text → Text
 text_or_none text = unwrap_or text []
+
+-- the settings that the words give
+abbrev pub settings_named : List (List ℕ) → RawSettings
+settings_named words = settings_in (given_by words)
+
+-- ---- flags
 
 -- a flag is given: the words give it the text `true` where it is among them, and `false` where it isn't
 abbrev pub is_true : Option Text → Bool
 is_true None = false
 is_true (Some text) = bytes_eq text (codes "true")
 
+abbrev pub has_flag : Text → List Row → Bool
+has_flag name given = is_true (one_of name given)
+
 abbrev pub matches_in : List Row → Bool
-matches_in given = is_true (one_of (codes "matches") given)
+matches_in given = has_flag (codes "matches") given
 
 -- whether the words give the flag of `show`
 abbrev pub matches_named : List (List ℕ) → Bool
-matches_named words = matches_in (given_in (subcommand_of koth_app words))
+matches_named words = matches_in (given_by words)
+
+-- whether the words give the flag of `create`
+abbrev pub overwrite_named : List (List ℕ) → Bool
+overwrite_named words = has_flag (codes "overwrite") (given_by words)
+
+-- ---- layouts
+
+abbrev pub view_in : List Row → Option View
+view_in given =
+    if has_flag (codes "plain") given then Some views.Plain
+    else (if has_flag (codes "table") given then Some views.Table else None)
+
+-- the layout that the words ask for
+abbrev pub view_named : List (List ℕ) → Option View
+view_named words = view_in (given_by words)
+
+-- not both layouts are asked for
+abbrev pub has_one_view : List Row → Bool
+has_one_view given = not (has_flag (codes "plain") given && has_flag (codes "table") given)
+
+-- ---- sources
+
+-- no file, or `-`
+abbrev pub is_input : Option Text → Bool
+is_input None = true
+is_input (Some name) = bytes_eq name (codes "-")
+
+-- whether `asm` reads the input, and no file
+abbrev pub reads_input : List (List ℕ) → Bool
+reads_input words = is_input (first_of (codes "FILE") (given_by words))
+
+-- the source is the input, or the file of this name
+abbrev pub IsSource : Option Text → Source → Type 0
+IsSource name sources.Input = is_input name ≡ true
+IsSource name (sources.File file) = (is_input name ≡ false) × (file.now ≡ text_or_none name)
+
+-- ---- forms
+
+abbrev pub is_json : Option Text → Bool
+is_json name = option_map_or (λ text. bytes_eq text (codes "json")) name false
+
+abbrev pub form_in : List Row → Form
+form_in given = if is_json (first_of (codes "format") given) then forms.Json else forms.Text
+
+-- the form that the words ask `check` for
+abbrev pub form_named : List (List ℕ) → Form
+form_named words = form_in (given_by words)
+
+abbrev pub is_form : Option Text → Bool
+is_form name = option_map_or (λ text. bytes_eq text (codes "text") || bytes_eq text (codes "json")) name true
+
+-- no form is asked for but `text` and `json`
+abbrev pub has_known_form : List Row → Bool
+has_known_form given = is_form (first_of (codes "format") given)
+
+-- ---- words that are taken, and words that are wrong
+
+-- what the program refuses beside `clap`: two layouts, and a form that it doesn't know
+abbrev pub are_clear : List Row → Bool
+are_clear given = has_one_view given && has_known_form given
+
+-- the words are taken, by `clap`'s own definition and by the one above
+abbrev pub is_taken : List (List ℕ) → Bool
+is_taken words = takes koth_app words && are_clear (given_by words)
+
+-- the words are taken, and name this command
+abbrev pub AsksFor : List ℕ → List (List ℕ) → Type 0
+AsksFor verb words = (is_taken words ≡ true)
+    × (option_map (λ entered. entered.0) (subcommand_of koth_app words) ≡ Some verb)
+
+-- `clap` finds a fault in the words, and they ask neither for help nor for the version
+abbrev pub HaveFault : List (List ℕ) → Type 0
+HaveFault words = (fault_of koth_app words ≢ [])
+    × ¬ IsAmong kinds.DisplayHelp (fault_of koth_app words)
+    × ¬ IsAmong kinds.DisplayVersion (fault_of koth_app words)
+
+-- `clap` finds no fault in the words, but they are not clear
+abbrev pub AreUnclear : List (List ℕ) → Type 0
+AreUnclear words = (fault_of koth_app words ≡ []) × (are_clear (given_by words) ≡ false)
+
+-- the words are refused
+abbrev pub AreWrong : List (List ℕ) → Type 0
+AreWrong words = HaveFault words ⊎ AreUnclear words
+
+-- ---- requests
 
 -- the request is that of a command with what the words give it
 abbrev pub Asks : Text × List Row → Request → Type 0
-Asks entered (Asm settings) = (entered.0 ≡ codes "asm") × (settings ≡ settings_in entered.1)
+Asks entered (Asm settings source) = (entered.0 ≡ codes "asm") × (settings ≡ settings_in entered.1)
+    × IsSource (first_of (codes "FILE") entered.1) source
+Asks entered (Check settings checked) = (entered.0 ≡ codes "check") × (settings ≡ settings_in entered.1)
+    × (map (λ file. file.now) checked.files.items ≡ unwrap_or (all_of (codes "FILE") entered.1) [])
+    × (checked.form ≡ form_in entered.1)
 Asks entered (Fight settings files) = (entered.0 ≡ codes "fight") × (settings ≡ settings_in entered.1)
     × (files.older.now ≡ text_or_none (first_of (codes "A") entered.1))
     × (files.younger.now ≡ text_or_none (first_of (codes "B") entered.1))
-Asks entered (Create settings file) = (entered.0 ≡ codes "create") × (settings ≡ settings_in entered.1)
-    × (file.now ≡ text_or_none (first_of (codes "FILE") entered.1))
+    × (files.view ≡ view_in entered.1)
+Asks entered (Create settings creation) = (entered.0 ≡ codes "create") × (settings ≡ settings_in entered.1)
+    × (creation.hill.now ≡ text_or_none (first_of (codes "FILE") entered.1))
+    × (creation.overwrite ≡ has_flag (codes "overwrite") entered.1)
 Asks entered (Submit files) = (entered.0 ≡ codes "submit")
     × (files.hill.now ≡ text_or_none (first_of (codes "FILE") entered.1))
     × (files.source.now ≡ text_or_none (first_of (codes "SOURCE") entered.1))
+    × (files.view ≡ view_in entered.1)
 Asks entered (Show shown) = (entered.0 ≡ codes "show")
     × (shown.hill.now ≡ text_or_none (first_of (codes "FILE") entered.1))
     × (shown.matches ≡ matches_in entered.1)
+    × (shown.view ≡ view_in entered.1)
 Asks entered (Serve service) = (entered.0 ≡ codes "serve")
     × (service.hill.now ≡ text_or_none (first_of (codes "FILE") entered.1))
     × (service.port ≡ number_below 65536 0 (one_of (codes "port") entered.1))
-    × (service.connections ≡ number_or 0 (one_of (codes "connections") entered.1))
+    × (service.connections ≡ number_given 4294967296 (one_of (codes "connections") entered.1))
+    × (service.quiet ≡ has_flag (codes "quiet") entered.1)
 Asks entered (Audit file) = (entered.0 ≡ codes "audit")
     × (file.now ≡ text_or_none (first_of (codes "FILE") entered.1))
 Asks entered (Migrate files) = (entered.0 ≡ codes "migrate")
@@ -118,17 +173,16 @@ abbrev pub AsksBy : Option (Text × List Row) → Request → Type 0
 AsksBy None request = ⊥
 AsksBy (Some entered) request = Asks entered request
 
+-- the name of a command
+abbrev pub IsCommandName : Text → Type 0
+IsCommandName name = (name ≡ codes "asm") ⊎ (name ≡ codes "check") ⊎ (name ≡ codes "fight")
+    ⊎ (name ≡ codes "create") ⊎ (name ≡ codes "submit") ⊎ (name ≡ codes "show")
+    ⊎ (name ≡ codes "serve") ⊎ (name ≡ codes "audit") ⊎ (name ≡ codes "migrate")
+
 -- a command is named
 abbrev pub NamesCommand : Option Text → Type 0
-NamesCommand name = (name ≡ Some (codes "asm")) ⊎ (name ≡ Some (codes "fight")) ⊎ (name ≡ Some (codes "create"))
-    ⊎ (name ≡ Some (codes "submit")) ⊎ (name ≡ Some (codes "show")) ⊎ (name ≡ Some (codes "serve"))
-    ⊎ (name ≡ Some (codes "audit")) ⊎ (name ≡ Some (codes "migrate"))
-
--- the words have a fault, and ask for no help
-abbrev pub AreWrong : List (List ℕ) → Type 0
-AreWrong words = (fault_of koth_app words ≢ [])
-    × ¬ IsAmong kinds.DisplayHelp (fault_of koth_app words)
-    × ¬ IsAmong kinds.DisplayVersion (fault_of koth_app words)
+NamesCommand None = ⊥
+NamesCommand (Some name) = IsCommandName name
 
 -- there is no request, and none for help either
 abbrev pub IsRefusal : NoRequest → Type 0

@@ -1,10 +1,18 @@
 //! The words of the command line: what the program `koth` may be asked for.
 //!
 //! - `options`: the options that give settings, and the settings that they give;
-//! - `words`: the commands with their files and options, read by `clap`, as a request.
+//! - `commands`: the commands with their files and options, as `clap` reads them;
+//! - `given`: what words that `clap` took give a command;
+//! - `words`: the requests, and the words as one of them.
 #![tactic(auto)]
 
+mod commands;
+mod given;
 mod options;
 mod words;
 
-pub use words::{Fighters, Migration, NoRequest, Request, Service, Shown, Submission, parse};
+pub use options::DEFAULTS;
+pub use words::{
+    Checked, Creation, Fighters, Form, Migration, NoRequest, Request, Service, Shown, Source,
+    Submission, View, parse,
+};

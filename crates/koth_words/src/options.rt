@@ -1,16 +1,16 @@
 //! The options that give settings.
 
 ghost use Rattle.std.specs.Prelude.{◌≡◌, IfOk, false};
-ghost use Rattle.clap.specs.Words.{app_of, found_of, one_of, rows_of, rule_of};
-ghost use Rattle.clap.specs.declared.builder.command.Command.TheViews.{out-Command};
-ghost use Rattle.koth_words.specs.Options.{number_or, option_rule, settings_in, with_option, with_settings};
+ghost use Rattle.clap.specs.Words.{App, found_of, one_of, rows_of, rule_of};
+ghost use Rattle.koth_words.specs.Commands.{IsReadAs};
+ghost use Rattle.koth_words.specs.Options.{lettered_rule, number_given, number_or, option_rule, settings_in, with_bounds, with_settings, with_sizes};
 
 use clap::{Arg, ArgMatches, Command, value_parser};
 use std::alloc::{AllocError, Global};
 use war_types::RawSettings;
 
 /// The settings where the words give none.
-const DEFAULTS: RawSettings = RawSettings {
+pub const DEFAULTS: RawSettings = RawSettings {
     core: 8000,
     cycles: 80_000,
     processes: 8000,
@@ -28,84 +28,91 @@ pub(crate) fn with_settings<'a>(
     heap: Global,
     command: Command<'a>,
 ) -> Result<Command<'a>, AllocError>
-    ensures app { IfOk result (λ c. app_of c ≡ with_settings (app_of command.entry)) }
-    ensures globals { IfOk result (λ c. (out-Command c).has_globals ≡ (out-Command command.entry).has_globals) }
+    ensures { (app : App) → IsReadAs app command.entry → IfOk result (IsReadAs (with_settings app)) }
 {
-    let core = with_option(
-        heap,
-        command,
-        "core",
-        "Cells of the core, 64 to 65535 [default: 8000]",
-    )?;
-    let cycles = with_option(
-        heap,
-        core,
-        "cycles",
-        "Turns of each side in a round, 1 to 1000000 [default: 80000]",
-    )?;
-    let processes = with_option(
-        heap,
-        cycles,
-        "processes",
-        "Processes of each side, 1 to 65535 [default: 8000]",
-    )?;
-    let length = with_option(
-        heap,
-        processes,
-        "length",
-        "Instructions of a warrior at most, 1 to 200 [default: 100]",
-    )?;
-    let distance = with_option(
-        heap,
-        length,
-        "distance",
-        "Cells from warrior to warrior at least, the length to half the core [default: 100]",
-    )?;
-    let rounds = with_option(
-        heap,
-        distance,
-        "rounds",
-        "Rounds of a match, 1 to 1000 [default: 10]",
-    )?;
-    let seed = with_option(
-        heap,
-        rounds,
-        "seed",
-        "Seed of the positions, 1 to 2147483646; give a hill one of its own, 1 is known to all [default: 1]",
-    )?;
-    let capacity = with_option(
-        heap,
-        seed,
-        "capacity",
-        "Warriors on the hill at most, 1 to 20 [default: 20]",
-    )?;
-    let read_limit = with_option(
-        heap,
-        capacity,
-        "read-limit",
-        "Cells within which an operand reads, a divisor of the core, 0 for all of it [default: 0]",
-    )?;
-    with_option(
-        heap,
-        read_limit,
-        "write-limit",
-        "Cells within which an operand writes, a divisor of the core, 0 for all of it [default: 0]",
-    )
+    let sizes = with_sizes(heap, command.next_help_heading("Match"))?;
+    let bounds = with_bounds(heap, sizes)?;
+    bounds
+        .next_help_heading("Hill")
+        .arg(option(
+            heap,
+            "seed",
+            "Seed of the positions, 1 to 2147483646; give a hill one of its own, 1 is known to all [default: 1]",
+        ))?
+        .arg(option(
+            heap,
+            "capacity",
+            "Most warriors on the hill, 1 to 20 [default: 20]",
+        ))
 }
 
-fn with_option<'a>(
-    heap: Global,
-    command: Command<'a>,
-    name: &'a str,
-    help: &'a str,
-) -> Result<Command<'a>, AllocError>
-    ensures app { IfOk result (λ c. app_of c ≡ with_option (app_of command.entry) name.entry.now) }
-    ensures globals { IfOk result (λ c. (out-Command c).has_globals ≡ (out-Command command.entry).has_globals) }
+fn with_sizes<'a>(heap: Global, command: Command<'a>) -> Result<Command<'a>, AllocError>
+    ensures { (app : App) → IsReadAs app command.entry → IfOk result (IsReadAs (with_sizes app)) }
 {
-    command.arg(option(heap, name, help))
+    command
+        .arg(lettered(
+            heap,
+            "core",
+            's',
+            "Cells of the core, 64 to 65535 [default: 8000]",
+        ))?
+        .arg(lettered(
+            heap,
+            "processes",
+            'p',
+            "Most processes of each side, 1 to 65535 [default: 8000]",
+        ))?
+        .arg(lettered(
+            heap,
+            "length",
+            'l',
+            "Most instructions of a warrior, 1 to 200 [default: 100]",
+        ))?
+        .arg(lettered(
+            heap,
+            "distance",
+            'd',
+            "Minimum distance between warriors, from --length to half of --core [default: 100]",
+        ))
 }
 
-fn option<'a>(heap: Global, name: &'a str, help: &'a str) -> Arg<'a>
+fn with_bounds<'a>(heap: Global, command: Command<'a>) -> Result<Command<'a>, AllocError>
+    ensures { (app : App) → IsReadAs app command.entry → IfOk result (IsReadAs (with_bounds app)) }
+{
+    command
+        .arg(lettered(
+            heap,
+            "cycles",
+            'c',
+            "Turns of each side in a round, 1 to 1000000 [default: 80000]",
+        ))?
+        .arg(lettered(
+            heap,
+            "rounds",
+            'r',
+            "Rounds of a match, 1 to 1000 [default: 10]",
+        ))?
+        .arg(option(
+            heap,
+            "read-limit",
+            "Cells within which an operand reads, a divisor of --core; 0 is all of it [default: 0]",
+        ))?
+        .arg(option(
+            heap,
+            "write-limit",
+            "Cells within which an operand writes, a divisor of --core; 0 is all of it [default: 0]",
+        ))
+}
+
+fn lettered<'a>(heap: Global, name: &'a str, letter: char, help: &'a str) -> Arg<'a>
+    ensures rule { rule_of result ≡ lettered_rule name.entry.now letter }
+    ensures global { result.global ≡ false }
+{
+    option(heap, name, help).short(letter)
+}
+
+/// An option with a whole number of 32 bits.
+pub(crate) fn option<'a>(heap: Global, name: &'a str, help: &'a str) -> Arg<'a>
     ensures rule { rule_of result ≡ option_rule name.entry.now }
     ensures global { result.global ≡ false }
 {
@@ -134,9 +141,15 @@ pub(crate) fn settings_given(matches: &ArgMatches<'_>) -> RawSettings
     }
 }
 
-/// The number that an option has, or the default.
-pub(crate) fn number_given(matches: &ArgMatches<'_>, name: &str, default: u32) -> u32
+fn number_given(matches: &ArgMatches<'_>, name: &str, default: u32) -> u32
     ensures { result ≡ number_or default (one_of name.now (rows_of (found_of matches.now))) }
 {
-    matches.get_one(name).unwrap_or(default)
+    number_if_given(matches, name).unwrap_or(default)
+}
+
+/// The number that an option has, if it is given.
+pub(crate) fn number_if_given(matches: &ArgMatches<'_>, name: &str) -> Option<u32>
+    ensures { result ≡ number_given 4294967296 (one_of name.now (rows_of (found_of matches.now))) }
+{
+    matches.get_one(name)
 }

@@ -1,8 +1,9 @@
-//! Tests of the public calls of `mars_core`, `koth_match` and `koth_hill`.
+//! Tests of the public calls of `mars_core`, `koth_match`, `koth_hill` and `koth_views`.
 //!
-//! No crate stands on this one, so those three are proved once, without tests, and the tests are proved over them.
-//! `machine` tries single turns and whole rounds, `matches` the seeds, places and counts of matches, and `hill` what a hill
-//! of few places and a full hill make of a warrior, and `growths` which calls take memory. What they expect was worked by hand, or is counted again in another way.
+//! No crate stands on this one, so those four are proved once, without tests, and the tests are proved over them.
+//! `machine` tries single turns and whole rounds, `matches` the seeds, places and counts of matches, `hill` what a hill
+//! of few places and a full hill make of a warrior, `growths` which calls take memory, and `views` what people are shown of a
+//! hill. What they expect was worked by hand, or is counted again in another way.
 //! A test here calls only what those crates offer to all others. It must not show what a contract could say instead.
 #![tactic(auto)]
 
@@ -14,5 +15,7 @@ mod hill;
 mod machine;
 #[cfg(test)]
 mod matches;
+#[cfg(test)]
+mod views;
 #[cfg(test)]
 mod warriors;

@@ -1,9 +1,10 @@
 use crate::program::{check_on, run_on, words_of};
 use crate::streams::{FULL, Full, reader, writer};
-use koth_server::run;
+use koth_server::{View, run};
+use std::fs::File;
 use std::net::Net;
 use std::process::Abort;
-use std::rt::Files;
+use std::rt::{Clock, Files};
 use std::test::Fail;
 
 #[test]
@@ -37,7 +38,7 @@ fn a_source_is_read_so_far_and_no_further(rt: HostRuntime) -> Result<(), Fail> {
 
 /// A source of six bytes that is read so many at a time, where one of the reads fails. How many reads there were is the answer.
 fn check_read(
-    rt: &(impl Abort + Files + Net + AllocGlobal),
+    rt: &(impl Abort + Files<File = File> + Net + Clock + AllocGlobal),
     most: usize,
     fails_at: u64,
     output: &str,
@@ -47,7 +48,7 @@ fn check_read(
     let mut input = reader(b"\n\n\n\n\n\n", most, fails_at);
     let ran = run_on(rt, rt.alloc(), "koth asm", &mut input)?;
     assert_eq!(rt; ran.output.as_slice(), output.as_bytes());
-    assert_eq!(rt; ran.errors.as_slice(), errors.as_bytes());
+    assert!(rt; ran.errors.as_slice().starts_with(errors.as_bytes()));
     assert_eq!(rt; ran.status, status, "at read {fails_at}");
     Ok(input.reads)
 }
@@ -57,7 +58,7 @@ fn check_read(
 fn a_read_that_fails(rt: HostRuntime) -> Result<(), Fail> {
     for (most, reads) in [(4, 3), (1, 7)] {
         for fails_at in 1..=reads {
-            let made = check_read(&rt, most, fails_at, "", "DISK\n", 3)?;
+            let made = check_read(&rt, most, fails_at, "", "DISK standard input: ", 3)?;
             assert_eq!(rt; made, fails_at);
         }
         let made = check_read(&rt, most, 0, "REFUSED 0 Empty\n", "", 1)?;
@@ -68,7 +69,7 @@ fn a_read_that_fails(rt: HostRuntime) -> Result<(), Fail> {
 
 /// A run whose output takes so many bytes, so many at a time, and then is full. What it took is the answer.
 fn check_write(
-    rt: &(impl Abort + Files + Net + AllocGlobal),
+    rt: &(impl Abort + Files<File = File> + Net + Clock + AllocGlobal),
     line: &str,
     most: usize,
     room: usize,
@@ -82,11 +83,12 @@ fn check_write(
         rt.alloc(),
         rt.alloc(),
         words.as_slice(),
+        View::Plain,
         &mut b"".as_slice(),
         &mut output,
         &mut errors,
     );
-    assert_eq!(rt; errors.as_slice(), b"DISK\n".as_slice());
+    assert!(rt; errors.as_slice().starts_with(b"DISK standard output: "));
     assert_eq!(rt; status, 3);
     assert_eq!(rt; output.taken.len(), room);
     Ok(output.taken)

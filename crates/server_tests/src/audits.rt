@@ -2,13 +2,17 @@
 
 use crate::program::check;
 use std::fs;
+use std::fs::File;
 use std::net::Net;
 use std::process::Abort;
-use std::rt::Files;
+use std::rt::{Clock, Files};
 use std::test::Fail;
 
 /// A hill of two, on which two warriors that lose at once stand: of their two rounds each won one.
-fn create_two(rt: &(impl Abort + Files + Net + AllocGlobal), file: &str) -> Result<(), Fail> {
+fn create_two(
+    rt: &(impl Abort + Files<File = File> + Net + Clock + AllocGlobal),
+    file: &str,
+) -> Result<(), Fail> {
     let create = format!(in rt.alloc();
         "koth create {file} --core=64 --cycles=100 --processes=8 --length=10 --distance=10 --rounds=2 --capacity=2"
     )?;
@@ -24,7 +28,7 @@ fn create_two(rt: &(impl Abort + Files + Net + AllocGlobal), file: &str) -> Resu
 
 /// Puts another result into the file, in the last sector of the younger warrior's slot: so many rounds that the older won, and the younger.
 fn put_result(
-    rt: &(impl Abort + Files + Net + AllocGlobal),
+    rt: &(impl Abort + Files<File = File> + Net + Clock + AllocGlobal),
     file: &str,
     older: u8,
     younger: u8,

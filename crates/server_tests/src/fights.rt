@@ -1,8 +1,9 @@
 use crate::program::{Ran, run_on};
 use std::fs;
+use std::fs::File;
 use std::net::Net;
 use std::process::Abort;
-use std::rt::Files;
+use std::rt::{Clock, Files};
 use std::test::Fail;
 
 /// A fight of two files under small settings.
@@ -27,7 +28,7 @@ fn remove(rt: &(impl Files + AllocGlobal), file: &str, source: Option<&str>) -> 
 
 /// Runs `koth fight` under small settings on two files.
 fn fight_of(
-    rt: &(impl Files + Net + AllocGlobal),
+    rt: &(impl Abort + Files<File = File> + Net + Clock + AllocGlobal),
     files: [&str; 2],
     sources: [Option<&str>; 2],
 ) -> Result<Ran, Fail> {
@@ -42,7 +43,7 @@ fn fight_of(
 
 /// What `koth fight` writes and leaves with, for two sources.
 fn check_fight(
-    rt: &(impl Abort + Files + Net + AllocGlobal),
+    rt: &(impl Abort + Files<File = File> + Net + Clock + AllocGlobal),
     older: &str,
     younger: Option<&str>,
     text: &str,
@@ -50,7 +51,7 @@ fn check_fight(
 ) -> Result<(), Fail> {
     let ran = fight_of(rt, ["older.red", "younger.red"], [Some(older), younger])?;
     assert_eq!(rt; ran.output.as_slice(), text.as_bytes());
-    assert_eq!(rt; ran.errors.len(), 0);
+    assert_eq!(rt; ran.errors.is_empty(), status == 0);
     assert_eq!(rt; ran.status, status, "{text}");
     Ok(())
 }
@@ -98,13 +99,18 @@ fn the_older_source_is_refused_first(rt: HostRuntime) -> Result<(), Fail> {
 
 /// A fight of which a file is missing.
 fn check_missing(
-    rt: &(impl Abort + Files + Net + AllocGlobal),
+    rt: &(impl Abort + Files<File = File> + Net + Clock + AllocGlobal),
     older: Option<&str>,
     younger: Option<&str>,
 ) -> Result<(), Fail> {
     let ran = fight_of(rt, ["first.red", "second.red"], [older, younger])?;
     assert_eq!(rt; ran.output.len(), 0);
-    assert_eq!(rt; ran.errors.as_slice(), b"DISK\n".as_slice());
+    assert!(rt; ran.errors.as_slice().starts_with(b"DISK "));
+    assert!(rt;
+        ran.errors
+            .as_slice()
+            .ends_with(b".red: no such file or folder\n")
+    );
     assert_eq!(rt; ran.status, 3);
     Ok(())
 }

@@ -1,8 +1,9 @@
 use crate::program::{check, run_on};
 use std::fs;
+use std::fs::File;
 use std::net::{Ipv4Addr, Net, SocketAddr, TcpListener};
 use std::process::Abort;
-use std::rt::Files;
+use std::rt::{Clock, Files};
 use std::test::Fail;
 
 /// A hill of two.
@@ -11,7 +12,7 @@ const SMALL: &str =
 
 /// Creates a hill of two in this file.
 fn create_small(
-    rt: &(impl Abort + Files + Net + AllocGlobal),
+    rt: &(impl Abort + Files<File = File> + Net + Clock + AllocGlobal),
     file: &str,
     output: &str,
     errors: &str,
@@ -40,7 +41,7 @@ fn a_hill_that_cannot_be_created(rt: HostRuntime) -> Result<(), Fail> {
 
 /// Submits a source to the hill of the next test.
 fn check_submitted(
-    rt: &(impl Abort + Files + Net + AllocGlobal),
+    rt: &(impl Abort + Files<File = File> + Net + Clock + AllocGlobal),
     source: &str,
     reply: &str,
     status: u8,
@@ -83,7 +84,7 @@ fn sources_that_cannot_be_read(rt: HostRuntime) -> Result<(), Fail> {
 
 /// Each command on a file without a hill, which is tried before the source is read or the port is bound.
 pub(crate) fn check_no_hill(
-    rt: &(impl Abort + Files + Net + AllocGlobal),
+    rt: &(impl Abort + Files<File = File> + Net + Clock + AllocGlobal),
     file: &str,
     errors: &str,
     status: u8,

@@ -11,6 +11,7 @@
 //! - `sessions` and `session_faults`: what a session answers, and how it ends where a stream or the device fails;
 //! - `growths`: sessions and commands with each growth of memory refused in turn;
 //! - `peers`: peers that wait for an answer, and streams that signals interrupt;
+//! - `told`: what people are told of each likely mistake, and output in columns;
 //! - `service`: sessions over sockets, one after the other.
 //!
 //! What a contract says is proved there and not tried here.
@@ -44,5 +45,7 @@ mod sessions;
 mod stores;
 #[cfg(test)]
 mod streams;
+#[cfg(test)]
+mod told;
 #[cfg(test)]
 mod words;

@@ -3,16 +3,20 @@
 use crate::earlier;
 use crate::earlier::SECTOR;
 use crate::hills::check_no_hill;
-use crate::program::check;
+use crate::program::{check, check_told};
+use koth_server::View;
 use std::fs;
+use std::fs::File;
 use std::net::Net;
 use std::process::Abort;
-use std::rt::Files;
+use std::rt::{Clock, Files};
 use std::test::Fail;
 
-/// What is told of a hill of the old format.
+/// What is told of a hill of the old format, and of no hill.
 const OLD_HILL: &str =
-    "NotAHill\nA hill of the old format: koth migrate FILE NEW moves it to a new file\n";
+    "NotAHill known.hill: a hill of the old format; koth migrate FILE NEW moves it to a new file\n";
+
+const NO_HILL: &str = "NotAHill known.hill: it holds no hill\n";
 
 /// Bytes of a file that has room for any hill: sectors of the headers, and four for each of 21 slots.
 const LARGEST: u64 = (2 + 4 * 21) * 512;
@@ -43,7 +47,7 @@ fn a_hill_is_moved(rt: HostRuntime) -> Result<(), Fail> {
 fn an_old_hill_is_no_hill_before_it_is_moved(rt: HostRuntime) -> Result<(), Fail> {
     let file = "unmoved.hill";
     earlier::put(&rt, file)?;
-    check_no_hill(&rt, file, OLD_HILL, 1)?;
+    check_no_hill(&rt, file, "NotAHill\n", 1)?;
     let create = "koth create unmoved.hill --capacity=3";
     check(&rt, create, "", "Occupied\n", 1)?;
     fs::remove_file(&rt, file)?;
@@ -60,14 +64,14 @@ fn an_old_hill_is_known_by_a_header(rt: HostRuntime) -> Result<(), Fail> {
     for (first, second, told) in [
         (even, none.as_slice(), OLD_HILL),
         (none.as_slice(), odd, OLD_HILL),
-        (odd, even, "NotAHill\n"),
+        (odd, even, NO_HILL),
         (even, even, OLD_HILL),
         (odd, odd, OLD_HILL),
     ] {
         let mut file_bytes = Vec::from_slice(rt.alloc(), first)?;
         file_bytes.extend_from_slice(second)?;
         fs::write(&rt, file, file_bytes.as_slice())?;
-        check(&rt, "koth show known.hill", "", told, 1)?;
+        check_told(&rt, "koth show known.hill", View::Plain, "", told, 1)?;
     }
     fs::remove_file(&rt, file)?;
     Ok(())
@@ -75,7 +79,7 @@ fn an_old_hill_is_known_by_a_header(rt: HostRuntime) -> Result<(), Fail> {
 
 /// Moving the hill from a file with these bytes is refused so, and the file stays as it is. A file for it is made, and holds none.
 fn check_unmoved(
-    rt: &(impl Abort + Files + Net + AllocGlobal),
+    rt: &(impl Abort + Files<File = File> + Net + Clock + AllocGlobal),
     bytes: &[u8],
     errors: &str,
 ) -> Result<(), Fail> {
@@ -109,7 +113,10 @@ fn files_from_which_no_hill_is_moved(rt: HostRuntime) -> Result<(), Fail> {
 }
 
 /// A file that holds a hill already, of either format: it stays as it is.
-fn check_occupied(rt: &(impl Abort + Files + Net + AllocGlobal), bytes: &[u8]) -> Result<(), Fail> {
+fn check_occupied(
+    rt: &(impl Abort + Files<File = File> + Net + Clock + AllocGlobal),
+    bytes: &[u8],
+) -> Result<(), Fail> {
     let (old, new) = ("leaving.hill", "occupied.hill");
     earlier::put(rt, old)?;
     fs::write(rt, new, bytes)?;
@@ -132,17 +139,11 @@ fn files_that_hold_a_hill_already(rt: HostRuntime) -> Result<(), Fail> {
     Ok(())
 }
 
-/// Where both files are one, it holds a hill already, and that can be moved as before.
+/// If both files are one, its lock is taken already, and the hill can be moved as before.
 #[test]
 fn a_file_onto_itself(rt: HostRuntime) -> Result<(), Fail> {
     earlier::put(&rt, "itself.hill")?;
-    check(
-        &rt,
-        "koth migrate itself.hill itself.hill",
-        "",
-        "Occupied\n",
-        1,
-    )?;
+    check(&rt, "koth migrate itself.hill itself.hill", "", "DISK\n", 3)?;
     let elsewhere = "koth migrate itself.hill elsewhere.hill";
     check(&rt, elsewhere, "MIGRATED\n", "", 0)?;
     check(&rt, "koth show elsewhere.hill", earlier::TABLE, "", 0)?;

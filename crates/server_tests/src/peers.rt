@@ -2,7 +2,7 @@
 
 use crate::program::words_of;
 use crate::stores::empty_hill;
-use koth_server::run;
+use koth_server::{View, run};
 use koth_session::{Counted, SessionEnd, session};
 use std::cell::Cell;
 use std::io;
@@ -156,6 +156,7 @@ fn signals_end_no_command(rt: HostRuntime) -> Result<(), Fail> {
         rt.alloc(),
         rt.alloc(),
         words.as_slice(),
+        View::Plain,
         &mut input,
         &mut output,
         &mut Vec::new(rt.alloc()),

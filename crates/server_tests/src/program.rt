@@ -1,9 +1,10 @@
-use koth_server::run;
+use koth_server::{View, run};
 use std::alloc::{AllocError, Allocator, Global};
+use std::fs::File;
 use std::io::Read;
 use std::net::Net;
 use std::process::Abort;
-use std::rt::Files;
+use std::rt::{Clock, Files};
 use std::test::Fail;
 
 /// What a run left behind.
@@ -25,7 +26,7 @@ pub(crate) fn words_of(alloc: Global, line: &str) -> Result<Vec<String>, AllocEr
 
 /// A run of the program with these words.
 pub(crate) fn run_on(
-    rt: &(impl Files + Net),
+    rt: &(impl Files<File = File> + Net + Clock),
     alloc: Global,
     line: &str,
     input: &mut impl Read,
@@ -35,10 +36,22 @@ pub(crate) fn run_on(
 
 /// The same where what the program takes besides its words is taken from another allocator.
 pub(crate) fn run_within<A: Allocator + Copy>(
-    rt: &(impl Files + Net),
+    rt: &(impl Files<File = File> + Net + Clock),
     heap: Global,
     alloc: A,
     line: &str,
+    input: &mut impl Read,
+) -> Result<Ran, AllocError> {
+    run_viewed(rt, heap, alloc, line, View::Plain, input)
+}
+
+/// The same where tables are in this view, unless the words ask for one.
+pub(crate) fn run_viewed<A: Allocator + Copy>(
+    rt: &(impl Files<File = File> + Net + Clock),
+    heap: Global,
+    alloc: A,
+    line: &str,
+    view: View,
     input: &mut impl Read,
 ) -> Result<Ran, AllocError> {
     let words = words_of(heap, line)?;
@@ -49,6 +62,7 @@ pub(crate) fn run_within<A: Allocator + Copy>(
         heap,
         alloc,
         words.as_slice(),
+        view,
         input,
         &mut output,
         &mut errors,
@@ -60,32 +74,62 @@ pub(crate) fn run_within<A: Allocator + Copy>(
     })
 }
 
-/// A run with these words and this input writes this on its output and on its errors, and leaves with this status. How much
+/// A run with these words and this input writes this on its output, tells this word on its errors, and leaves with this status. How much
 /// of the input is left then is the answer.
 pub(crate) fn check_on(
-    rt: &(impl Abort + Files + Net + AllocGlobal),
+    rt: &(impl Abort + Files<File = File> + Net + Clock + AllocGlobal),
     line: &str,
     input: &[u8],
     output: &str,
-    errors: &str,
+    word: &str,
     status: u8,
 ) -> Result<usize, Fail> {
     let mut left = input;
     let ran = run_on(rt, rt.alloc(), line, &mut left)?;
     assert_eq!(rt; str::from_utf8(ran.output.as_slice())?, output, "{line}");
-    assert_eq!(rt; str::from_utf8(ran.errors.as_slice())?, errors, "{line}");
+    let errors = str::from_utf8(ran.errors.as_slice())?;
+    assert!(rt; is_told(errors, output, word), "{line}: {errors}");
     assert_eq!(rt; ran.status, status, "{line}");
     Ok(left.len())
 }
 
+/// The errors begin with this word, and behind it stands a text for people or nothing. Where no word is due they are empty, but for the
+/// explanation of a refusal that is on the output.
+fn is_told(errors: &str, output: &str, word: &str) -> bool {
+    if output.starts_with("REFUSED") {
+        return errors.contains(": ");
+    }
+    match errors.strip_prefix(word.trim_end()) {
+        Some(rest) if word.is_empty() => rest.is_empty(),
+        Some(rest) => rest.starts_with('\n') || rest.starts_with(' ') || rest.starts_with(": "),
+        None => false,
+    }
+}
+
 /// The same without an input.
 pub(crate) fn check(
-    rt: &(impl Abort + Files + Net + AllocGlobal),
+    rt: &(impl Abort + Files<File = File> + Net + Clock + AllocGlobal),
     line: &str,
+    output: &str,
+    word: &str,
+    status: u8,
+) -> Result<(), Fail> {
+    check_on(rt, line, b"", output, word, status)?;
+    Ok(())
+}
+
+/// A run with these words writes this on its output and exactly this on its errors, and leaves with this status.
+pub(crate) fn check_told(
+    rt: &(impl Abort + Files<File = File> + Net + Clock + AllocGlobal),
+    line: &str,
+    view: View,
     output: &str,
     errors: &str,
     status: u8,
 ) -> Result<(), Fail> {
-    check_on(rt, line, b"", output, errors, status)?;
+    let ran = run_viewed(rt, rt.alloc(), rt.alloc(), line, view, &mut b"".as_slice())?;
+    assert_eq!(rt; str::from_utf8(ran.output.as_slice())?, output, "{line}");
+    assert_eq!(rt; str::from_utf8(ran.errors.as_slice())?, errors, "{line}");
+    assert_eq!(rt; ran.status, status, "{line}");
     Ok(())
 }

@@ -1,12 +1,14 @@
+ghost use Rattle.std.specs.Prelude.{◌≡◌, false};
+
 use crate::stores::{empty_hill, failing_hill};
 use hill_store::Store;
-use koth_server::{Failure, HillFault, HillPlace, serve_connections};
+use koth_server::{Failure, HillFault, HillPlace, HillTrouble, Log, serve_connections};
 use koth_session::{Counted, SessionEnd, session};
-use sector_disk::{FuseDevice, MemoryDevice};
+use sector_disk::{Device, FuseDevice, MemoryDevice};
 use std::alloc::Global;
 use std::io;
-use std::io::{ErrorKind, Write};
-use std::net::{Ipv4Addr, OpenListener, Shutdown, SocketAddr, TcpListener, TcpStream};
+use std::io::{ErrorKind, Read, Write};
+use std::net::{Ipv4Addr, OpenListener, OpenStream, Shutdown, SocketAddr, TcpListener, TcpStream};
 use std::process::Abort;
 use std::test::Fail;
 
@@ -47,12 +49,49 @@ fn a_session_over_a_socket(rt: HostRuntime) -> Result<(), Fail> {
     expect(&rt, peer, "PLACED 1 1 0\nBAD\n")
 }
 
+/// A hill that can't be opened.
+fn no_hill<'t>() -> HillTrouble<'t> {
+    HillTrouble {
+        fault: HillFault::NotAHill,
+        cause: None,
+    }
+}
+
+/// Serves as many connections on a hill, and answers the fault that ended it, and what was told on the errors.
+fn serve<S, L, D, P>(
+    rt: &HostRuntime,
+    listener: &L,
+    connections: u32,
+    store: Store<D, Global>,
+    place: &P,
+) -> (Option<HillFault>, Vec<u8>)
+where
+    S: Read + Write + OpenStream + Drop,
+    L: OpenListener<Stream = S>,
+    D: Device + Drop,
+    P: HillPlace<D, Global>,
+    requires { store.reopen ≡ false }
+{
+    let mut errors = Vec::new(rt.alloc());
+    let log = Log::new(rt, false);
+    let served = serve_connections(
+        rt.alloc(),
+        listener,
+        Some(connections),
+        store,
+        place,
+        &log,
+        &mut errors,
+    );
+    (served.err().map(|trouble| trouble.fault), errors)
+}
+
 /// A place at which no hill is.
 struct Nowhere;
 
 impl HillPlace<MemoryDevice<Global>, Global> for Nowhere {
-    fn open(&self) -> Result<Store<MemoryDevice<Global>, Global>, HillFault> {
-        Err(HillFault::NotAHill)
+    fn open(&self) -> Result<Store<MemoryDevice<Global>, Global>, HillTrouble<'_>> {
+        Err(no_hill())
     }
 }
 
@@ -65,8 +104,11 @@ fn peers_that_go_away_stop_nobody(rt: HostRuntime) -> Result<(), Fail> {
     let cut = send(&rt, &listener, b"SHOW\nSUBMIT\nMOV 0,1")?;
     let last = send(&rt, &listener, b"SUBMIT\nMOV 0,1\n.\n")?;
     let store = empty_hill(rt.alloc())?;
-    let served = serve_connections(rt.alloc(), &listener, 5, store, &Nowhere);
-    assert_eq!(rt; served, Ok(()));
+    let (fault, log) = serve(&rt, &listener, 5, store, &Nowhere);
+    assert_eq!(rt; fault, None);
+    let log = str::from_utf8(log.as_slice())?;
+    assert_eq!(rt; log.matches(": connected\n").count(), 5, "{log}");
+    assert_eq!(rt; log.matches(": entry 1 stays\n").count(), 1, "{log}");
     expect(&rt, silent, "")?;
     expect(&rt, cut, ".\n")?;
     expect(&rt, last, "PLACED 1 1 0\n")
@@ -85,10 +127,10 @@ impl OpenListener for Deaf {
 
 #[test]
 fn an_accept_that_fails(rt: HostRuntime) -> Result<(), Fail> {
-    for (connections, answer) in [(0, Ok(())), (1, Err(HillFault::Failed(Failure::Stream)))] {
+    for (connections, answer) in [(0, None), (1, Some(HillFault::Failed(Failure::Stream)))] {
         let store = empty_hill(rt.alloc())?;
-        let served = serve_connections(rt.alloc(), &Deaf, connections, store, &Nowhere);
-        assert_eq!(rt; served, answer);
+        let (fault, _) = serve(&rt, &Deaf, connections, store, &Nowhere);
+        assert_eq!(rt; fault, answer);
     }
     Ok(())
 }
@@ -100,8 +142,8 @@ struct Anew {
 }
 
 impl HillPlace<FuseDevice<MemoryDevice<Global>>, Global> for Anew {
-    fn open(&self) -> Result<Store<FuseDevice<MemoryDevice<Global>>, Global>, HillFault> {
-        failing_hill(self.alloc, u64::MAX).ok_or(HillFault::NotAHill)
+    fn open(&self) -> Result<Store<FuseDevice<MemoryDevice<Global>>, Global>, HillTrouble<'_>> {
+        failing_hill(self.alloc, u64::MAX).ok_or(no_hill())
     }
 }
 
@@ -114,8 +156,10 @@ fn a_store_that_failed_is_opened_again(rt: HostRuntime) -> Result<(), Fail> {
         return Err("no hill is created".into());
     };
     let place = Anew { alloc: rt.alloc() };
-    let served = serve_connections(rt.alloc(), &listener, 2, store, &place);
-    assert_eq!(rt; served, Ok(()));
+    let (fault, log) = serve(&rt, &listener, 2, store, &place);
+    assert_eq!(rt; fault, None);
+    let log = str::from_utf8(log.as_slice())?;
+    assert_eq!(rt; log.matches(": DISK the device failed").count(), 1, "{log}");
     expect(&rt, first, "")?;
     expect(&rt, second, "PLACED 1 1 0\n")
 }
@@ -127,8 +171,8 @@ fn a_hill_that_is_not_opened_again(rt: HostRuntime) -> Result<(), Fail> {
     let Some(store) = failing_hill(rt.alloc(), 8) else {
         return Err("no hill is created".into());
     };
-    let served = serve_connections(rt.alloc(), &listener, 2, store, &Gone);
-    assert_eq!(rt; served, Err(HillFault::NotAHill));
+    let (fault, _) = serve(&rt, &listener, 2, store, &Gone);
+    assert_eq!(rt; fault, Some(HillFault::NotAHill));
     expect(&rt, peer, "")
 }
 
@@ -136,7 +180,7 @@ fn a_hill_that_is_not_opened_again(rt: HostRuntime) -> Result<(), Fail> {
 struct Gone;
 
 impl HillPlace<FuseDevice<MemoryDevice<Global>>, Global> for Gone {
-    fn open(&self) -> Result<Store<FuseDevice<MemoryDevice<Global>>, Global>, HillFault> {
-        Err(HillFault::NotAHill)
+    fn open(&self) -> Result<Store<FuseDevice<MemoryDevice<Global>>, Global>, HillTrouble<'_>> {
+        Err(no_hill())
     }
 }

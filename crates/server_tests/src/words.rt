@@ -1,13 +1,14 @@
 use crate::program::{check_on, run_on};
 use std::fs;
+use std::fs::File;
 use std::net::Net;
 use std::process::Abort;
-use std::rt::Files;
+use std::rt::{Clock, Files};
 use std::test::Fail;
 
 /// Words that have a fault: its message is written on the errors, and nothing is read.
 fn check_fault(
-    rt: &(impl Abort + Files + Net + AllocGlobal),
+    rt: &(impl Abort + Files<File = File> + Net + Clock + AllocGlobal),
     line: &str,
     part: &str,
 ) -> Result<(), Fail> {
@@ -23,11 +24,14 @@ fn check_fault(
 }
 
 /// Words with a fault, and a part of what is told of it.
-const FAULTS: [(&str, &str); 24] = [
+const FAULTS: [(&str, &str); 26] = [
     ("koth", "requires a subcommand"),
     ("koth fly", "unrecognized subcommand 'fly'"),
     ("koth ASM", "unrecognized subcommand 'ASM'"),
-    ("koth asm extra", "unexpected argument 'extra'"),
+    ("koth asm a extra", "unexpected argument 'extra'"),
+    ("koth check", "<FILE>"),
+    ("koth check a --format xml", "takes 'text' or 'json'"),
+    ("koth show f --plain --table", "--table"),
     ("koth asm --size 64", "unexpected argument '--size'"),
     ("koth asm --core", "a value is required for"),
     ("koth asm --core x", "invalid value 'x'"),
@@ -51,8 +55,7 @@ const FAULTS: [(&str, &str); 24] = [
         "unexpected value 'true' for '--matches'",
     ),
     ("koth audit", "<FILE>"),
-    ("koth serve f --port 0", "--connections <N>"),
-    ("koth serve f --connections 0", "--port <P>"),
+    ("koth serve f --connections 0", "--port <NUMBER>"),
     (
         "koth serve f --port=65536 --connections=0",
         "invalid value '65536'",
@@ -72,7 +75,7 @@ fn faults_of_the_words(rt: HostRuntime) -> Result<(), Fail> {
 
 /// Words that ask for help: it is written on the output.
 fn check_help(
-    rt: &(impl Abort + Files + Net + AllocGlobal),
+    rt: &(impl Abort + Files<File = File> + Net + Clock + AllocGlobal),
     line: &str,
     part: &str,
 ) -> Result<(), Fail> {
@@ -143,7 +146,7 @@ const OUT_OF_RANGE: [(&str, &str); 14] = [
 
 /// A command with these options is refused for this field before anything is read.
 fn check_refused(
-    rt: &(impl Abort + Files + Net + AllocGlobal),
+    rt: &(impl Abort + Files<File = File> + Net + Clock + AllocGlobal),
     command: &str,
     options: &str,
     field: &str,

@@ -4,7 +4,7 @@
 #![tactic(auto)]
 
 use hill_store::{Store, sectors_for};
-use koth_server::{Counted, SessionEnd, run, session};
+use koth_server::{Counted, SessionEnd, View, run, session};
 use sector_disk::MemoryDevice;
 use std::{fs, io};
 use war_types::{RawSettings, Settings};
@@ -62,6 +62,7 @@ fn print_load_text(rt: &HostRuntime, source: &[u8]) -> io::Result<()> {
         rt.alloc(),
         rt.alloc(),
         words.as_slice(),
+        View::Plain,
         &mut input,
         &mut io::writer(rt),
         &mut rt.stderr(),

@@ -10,4 +10,4 @@ returns-in-Ok-clause-ends g c = some_audit c.in-Ok.store.hill c.audit_store.resu
 
 pub returns-in-Err-clause-ends : goal.returns-in-Err-clause-ends
 returns-in-Err-clause-ends g c =
-    inr record { fault = c.in-Err.fault; ends = c.tell.ensures.status; output = nothing SaysAudit c.in-Err.fault _; told = c.tell.ensures.told }
+    inr record { fault = c.in-Err.trouble.fault; ends = c.tell.ensures.status; output = nothing SaysAudit c.in-Err.trouble.fault _; told = c.tell.ensures.told }

@@ -25,12 +25,12 @@ returns-in-Err-clause-ends g c =
     let said = c.first_untrue-found.ensures in
     inr record {
       fault = Failed Stream;
-      ends = c.tell.ensures.status;
+      ends = c.tell_output.ensures.status;
       output = inr record {
         status = audit_status found;
         text = audit_answer found;
         answer = (found, is_audited c.args.store.now.hill found said.none said.some said.first, refl, refl);
         written = subst (WritesPart (g.O.Write.contents c.args.output.now) (g.O.Write.contents c.write_whole.new.output)) c.answer.ensures c.in-Err.ensures.part;
       };
-      told = c.tell.ensures.told;
+      told = c.tell_output.ensures.told;
     }

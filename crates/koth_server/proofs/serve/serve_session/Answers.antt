@@ -3,6 +3,5 @@ use Rattle.std.proofs.Common.{◌∙◌}
 use Rattle.koth_server.proofs.StillOpen.{session_still}
 use Rattle.koth_server.proofs.serve.serve_session.Goals as goal
 
-pub returns-in_default : goal.returns-in_default
-returns-in_default g c =
-    session_still g.D.Device.facts c.session.result _ _ _ _ c.session.ensures.ends c.in_default.not-StoreFailed ∙ c.requires
+pub returns : goal.returns
+returns g c = λ other. session_still g.D.Device.facts c.session.result _ _ _ _ c.session.ensures.ends other ∙ c.requires

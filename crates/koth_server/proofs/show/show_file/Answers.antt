@@ -2,4 +2,4 @@ use Rattle.koth_server.proofs.Said.{shows_some}
 use Rattle.koth_server.proofs.show.show_file.Goals as goal
 
 pub returns-in-Ok : goal.returns-in-Ok
-returns-in-Ok g c = shows_some c.args.shown.matches c.in-Ok.store.hill c.show_store.result _ _ c.show_store.ensures
+returns-in-Ok g c = shows_some c.args.view c.args.shown.matches c.in-Ok.store.hill c.show_store.result _ _ c.show_store.ensures

@@ -1,17 +1,7 @@
--- The number is read from the text that the matches have.
-use Rattle.std.proofs.Common.{◌∙◌, ap, refl}
-use Rattle.std.specs.Str.Parse.{ExplainsUnsignedError, HasUnsignedDigitsIfOk, ParsesUnsigned}
-use Rattle.clap.proofs.WalkLemmas.{one_text-rows}
-use Rattle.clap.specs.Matches.{found_of, one_text}
-use Rattle.koth_words.specs.Options.{number_or}
-use Rattle.koth_words.proofs.Numbers.{reads_number}
+-- The number that is given, or the default.
+use Rattle.std.proofs.Common.{◌∙◌, ℕ, Option, ap}
+use Rattle.std.specs.Prelude.{unwrap_or}
 use Rattle.koth_words.proofs.options.number_given.Goals as goal
 
 pub returns : goal.returns
-returns c =
-    let found = found_of c.args.matches.now in
-    let id = c.args.name.now in
-    c.unwrap_or.ensures
-    ∙ reads_number 32 4294967296 refl (λ bs r. ParsesUnsigned 32 10 bs r × ExplainsUnsignedError 10 bs r × HasUnsignedDigitsIfOk bs r) (λ u x g. g.0)
-    c.args.default (one_text found id) c.get_one.result c.get_one.ensures.none c.get_one.ensures.value
-    ∙ ap (number_or c.args.default) (one_text-rows found id)
+returns c = c.unwrap_or.ensures ∙ ap (λ (given : Option ℕ). unwrap_or given c.args.default) c.number_if_given.ensures

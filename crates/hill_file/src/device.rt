@@ -1,0 +1,234 @@
+//! The device over a hill's file.
+#![tactic(auto, using(crate::proofs::OfSystem::fault_of_system, crate::proofs::OfSystem::whatever_held))]
+
+ghost use Rattle.std.specs.Prelude.{◌≡◌, ◌≤◌, IfErr, IfOk};
+ghost use Rattle.sector_disk.specs.File.{IsFileServed};
+ghost use Rattle.hill_file.specs.OpenFault.{IsOfSystem, IsWhateverHeld};
+
+use crate::lock::TryLock;
+use crate::open_fault::OpenFault;
+use crate::zeros::{require_zeros, write_zeros};
+use sector_disk::{Device, Fault, FileDevice, FileFault};
+use std::alloc::Allocator;
+use std::fs::{File, Files, Metadata, OpenFile};
+use std::io::ErrorKind;
+use std::marker::Model;
+use std::os::unix::fs::{MetadataExt, OpenOptionsExt};
+use std::path::Path;
+use std::{fs, io};
+
+/// Bytes of a sector.
+const SECTOR_BYTES: u64 = 512;
+
+/// Who may read and write a file that is made: its owner.
+const OWNER_ONLY: u32 = 0o600;
+
+/// Whether the file is locked for this program alone.
+#[derive(Clone, Copy, Debug, PartialEq, Eq)]
+pub enum Sharing {
+    /// Its lock is taken, so no other program that takes it works on the file.
+    Alone,
+    /// Its lock is neither taken nor looked at.
+    Shared,
+}
+
+/// What becomes of a file that is there and holds something.
+#[derive(Clone, Copy, Debug, PartialEq, Eq)]
+pub enum Existing {
+    /// It stays as it is, and is refused unless it holds zeros alone.
+    Kept,
+    /// It is emptied.
+    Overwritten,
+}
+
+/// A device over the file at a path, sector by sector as `FileDevice` has them. It keeps the file's lock, if it took it, until it is
+/// dropped.
+///
+/// Before each sync it looks whether the path still leads to the file that is open and the file still has each of the device's sectors,
+/// and once more after it, as a sync takes its time. If not, or if the system doesn't tell, the sync is a fault: a hill whose file was
+/// removed, replaced or cut is never said to be synced. It is lawful in no contract, as `FileDevice`.
+#[derive(Drop)]
+pub struct HillFile<'f, R: Files> {
+    rt: &'f R,
+    path: &'f str,
+    handle: R::File,
+    device: FileDevice<R::File>,
+    refused: u64,
+}
+
+impl<'f, R: Files> Model for HillFile<'f, R> {
+    ghost use Rattle.std.specs.Prelude.{◌+◌, ◌-◌, ◌^◌, min};
+    ghost use Rattle.sector_disk.specs.File.{FileState};
+
+    ghost Value = { FileState };
+
+    ghost view = { λ hill. record { sectors = hill.device.sectors; faults = min (hill.device.faults + hill.refused) (2 ^ 64 - 1) } };
+}
+
+impl<'f, R: Files> HillFile<'f, R>
+where
+    R::File: TryLock,
+{
+    /// The device over the file at this path, which has to be there. It has counted no fault. `Locked` if `sharing` is `Alone` and another
+    /// program holds the lock. `Failed` with `NotFound` if there is no file, or another by the time that it is locked, with the system's
+    /// reason if the file can't be read and written, as a folder, and with `Other` if it can't be opened once more. Never `Occupied`.
+    pub fn open(rt: &'f R, path: &'f str, sharing: Sharing) -> Result<HillFile<'f, R>, OpenFault>
+        ensures faults { IfOk result (λ hill. hill.faults ≡ 0) }
+        ensures shared { sharing ≡ Sharing.Shared → IfErr result IsOfSystem }
+        ensures held { IfErr result IsWhateverHeld }
+    {
+        let mut options = File::options();
+        options.read(true).write(true);
+        let handle = options.open(rt, path)?;
+        match sharing {
+            Sharing::Alone => handle.lock_now()?,
+            Sharing::Shared => {}
+        }
+        HillFile::over(rt, path, handle)
+    }
+
+    /// A device of at least this many sectors, which all hold zeros, over the file at this path, locked for this program alone. It has
+    /// counted no fault.
+    ///
+    /// If there is no file, one is created that only its owner may read and write. A longer file of zeros is not shortened. The zeros have
+    /// been written, and they and the file's name have reached the disk, also if an earlier call that made the file was cut short; the
+    /// name in the file's own folder, if the path is a link.
+    ///
+    /// `Locked` if another program holds the lock, and `Occupied` if `existing` is `Kept` and one byte of the file isn't zero: the file is
+    /// as it was then. `Failed` as `open` says, with the system's reason if the file can't be created, read, written or synced, as with
+    /// `StorageFull`, with `InvalidInput` if the path leads to what is no file, as a pipe, and with `ResourceBusy` if the file grows while
+    /// it is read. After a failed write, what was written of the zeros stays.
+    pub fn make<A: Allocator>(
+        rt: &'f R,
+        alloc: A,
+        path: &'f str,
+        sectors: u32,
+        existing: Existing,
+    ) -> Result<HillFile<'f, R>, OpenFault>
+        ensures enough { IfOk result (λ hill. sectors ≤ hill.sectors) }
+        ensures faults { IfOk result (λ hill. hill.faults ≡ 0) }
+        ensures overwritten { existing ≡ Existing.Overwritten → IfErr result IsWhateverHeld }
+    {
+        let mut options = File::options();
+        options.read(true).write(true).create(true);
+        options.mode(OWNER_ONLY);
+        let mut handle = options.open(rt, path)?;
+        handle.lock_now()?;
+        clear(&mut handle, existing)?;
+        write_zeros(&mut handle, sectors)?;
+        handle.sync_all()?;
+        sync_name(rt, alloc, path)?;
+        let hill = HillFile::over(rt, path, handle)?;
+        if hill.sectors() < sectors {
+            return Err(OpenFault::Failed(ErrorKind::UnexpectedEof));
+        }
+        Ok(hill)
+    }
+}
+
+impl<'f, R: Files> HillFile<'f, R> {
+    /// The device over the file of this handle. `Failed` with `NotFound` if the path leads elsewhere by now, and with `Other` if the file can't
+    /// be opened once more.
+    fn over(rt: &'f R, path: &'f str, handle: R::File) -> Result<HillFile<'f, R>, OpenFault>
+        ensures faults { IfOk result (λ hill. hill.faults ≡ 0) }
+        ensures system { IfErr result IsOfSystem }
+    {
+        let device = match FileDevice::open(rt, path) {
+            Ok(device) => device,
+            Err(FileFault::Memory) => return Err(OpenFault::Memory),
+            Err(FileFault::Failed) => return Err(OpenFault::Failed(ErrorKind::Other)),
+        };
+        let hill = HillFile {
+            rt,
+            path,
+            handle,
+            device,
+            refused: 0,
+        };
+        if !hill.is_in_place()? {
+            return Err(OpenFault::Failed(ErrorKind::NotFound));
+        }
+        Ok(hill)
+    }
+
+    /// Counts a fault if the file isn't in place, or if the system doesn't tell.
+    fn look(&mut self) -> Result<(), Fault>
+        ensures { IsFileServed self.old self.new result }
+    {
+        if self.is_in_place().unwrap_or(false) {
+            return Ok(());
+        }
+        self.refused = self.refused.saturating_add(1);
+        Err(Fault)
+    }
+
+    /// The path leads to the file that is open, and the file has each of the device's sectors.
+    fn is_in_place(&self) -> io::Result<bool> {
+        let open = self.handle.metadata()?;
+        let found = self.rt.metadata(self.path)?;
+        let bytes = u64::from(self.device.sectors()) * SECTOR_BYTES;
+        Ok(is_same_file(&open, &found) && bytes <= open.len())
+    }
+}
+
+impl<R: Files> Device for HillFile<'_, R> {
+    ghost use Rattle.sector_disk.specs.File.{file_facts};
+
+    ghost facts = { file_facts };
+
+    fn sectors(&self) -> u32 {
+        self.device.sectors()
+    }
+
+    fn faults(&self) -> u64 {
+        self.device.faults().saturating_add(self.refused)
+    }
+
+    fn read(&mut self, n: u32, to: &mut [u8; 512]) -> Result<(), Fault> {
+        self.device.read(n, to)
+    }
+
+    fn write(&mut self, n: u32, from: &[u8; 512]) -> Result<(), Fault> {
+        self.device.write(n, from)
+    }
+
+    /// What was written has reached the disk, as far as the system tells, in the file to which the path led.
+    fn sync(&mut self) -> Result<(), Fault> {
+        self.look()?;
+        self.device.sync()?;
+        self.look()
+    }
+}
+
+/// Makes a file ready for zeros: one that is kept holds nothing else, and one that is overwritten is emptied.
+fn clear<F: OpenFile + io::Read>(file: &mut F, existing: Existing) -> Result<(), OpenFault>
+    ensures { existing ≡ Existing.Overwritten → IfErr result IsOfSystem }
+{
+    if !file.metadata()?.is_file() {
+        return Err(OpenFault::Failed(ErrorKind::InvalidInput));
+    }
+    match existing {
+        Existing::Kept => require_zeros(file),
+        Existing::Overwritten => Ok(file.set_len(0)?),
+    }
+}
+
+/// They are of one file, by its device and its number there.
+fn is_same_file(one: &Metadata, other: &Metadata) -> bool {
+    one.dev() == other.dev() && one.ino() == other.ino()
+}
+
+/// Makes the file's own name reach the disk, in the folder of the file to which this path leads.
+fn sync_name<R: Files, A: Allocator>(rt: &R, alloc: A, path: &str) -> io::Result<()> {
+    let own = rt.canonicalize(alloc, path)?;
+    sync_folder(rt, own.as_path())
+}
+
+/// Makes the names in the folder of this path reach the disk.
+fn sync_folder<R: Files>(rt: &R, path: Path<'_>) -> io::Result<()> {
+    let folder = match path.parent() {
+        Some(folder) if !folder.as_os_str().is_empty() => folder,
+        _ => Path::new("."),
+    };
+    fs::open(rt, folder)?.sync_all()
+}

@@ -1,0 +1,45 @@
+//! Zeros: that a file holds nothing else, and that it really holds them.
+
+ghost use Rattle.std.specs.Prelude.{◌≡◌, ◌↔◌, All, IsTrue};
+
+use crate::open_fault::OpenFault;
+use std::fs::OpenFile;
+use std::io;
+use std::io::{ErrorKind, Read, Seek, SeekFrom, Write};
+
+/// Bytes that are read at once.
+const CHUNK_BYTES: usize = 4096;
+
+/// Reads the file to its end. `Occupied` at the first byte that isn't zero, and `Failed` with `ResourceBusy` if the file grows meanwhile.
+pub(crate) fn require_zeros<F: Read + OpenFile>(file: &mut F) -> Result<(), OpenFault> {
+    let mut bytes = [0; CHUNK_BYTES];
+    let length = file.metadata()?.len();
+    // Each read but the one at the end gives a byte at least.
+    for _ in 0..=length {
+        let count = file.read(&mut bytes)?;
+        if count == 0 {
+            return Ok(());
+        }
+        if !are_zeros(&bytes[..count]) {
+            return Err(OpenFault::Occupied);
+        }
+    }
+    Err(OpenFault::Failed(ErrorKind::ResourceBusy))
+}
+
+/// Each of these bytes is zero.
+fn are_zeros(bytes: &[u8]) -> bool
+    ensures { IsTrue result ↔ All (λ byte. byte ≡ 0) bytes.now }
+{
+    bytes.iter().all(|byte| *byte == 0)
+}
+
+/// Writes this many sectors of zeros at the front of the file. They are written and not only counted in its length, so that a full disk
+/// shows here.
+pub(crate) fn write_zeros<F: Write + Seek>(file: &mut F, sectors: u32) -> io::Result<()> {
+    file.seek(SeekFrom::Start(0))?;
+    for _ in 0..sectors {
+        file.write_all(&[0; 512])?;
+    }
+    Ok(())
+}

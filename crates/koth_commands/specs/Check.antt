@@ -1,0 +1,57 @@
+-- What the command `check` writes, and how it ends.
+use Rattle.std.specs.Prelude.{◌≡◌, ℕ, Bool, true, false, if◌then◌else◌, Option, List, length, All, Result, Ok, Err}
+use Rattle.std.specs.Io.KnownBytes.{Keeps}
+use Rattle.war_types.specs.Warrior.{WarriorParts}
+use Rattle.war_types.specs.declared.fault.AsmFault.{AsmFault}
+use Rattle.war_types.specs.declared.settings.RawSettings.{RawSettings}
+use Rattle.war_types.specs.declared.settings.SettingsFault.{SettingsFault}
+use Rattle.redcode_asm.specs.Assembly.{assembly}
+use Rattle.koth_commands.specs.Answer.{KeepsAll, RefusesSettings, Tells}
+use Rattle.koth_commands.specs.Failure.{failure_word}
+use Rattle.koth_commands.specs.Fight.{IsFaultOf}
+use Rattle.koth_commands.specs.Streams.{Streams}
+use Rattle.koth_commands.specs.Told.{TellsWord, WritesSome}
+use Rattle.koth_commands.specs.declared.failure.Failure.TheVariants as failures
+use Rattle.koth_commands.specs.declared.status.Status.{Status}
+use Rattle.koth_commands.specs.declared.status.Status.TheVariants as statuses
+
+-- the source assembles
+abbrev pub IsTaken : RawSettings → List ℕ → Type 0
+IsTaken s source = (warrior : WarriorParts) × (assembly s source ≡ Ok warrior)
+
+-- this source is refused, and something is written, or it assembles, and nothing is
+abbrev pub Finds : RawSettings → List ℕ → Bool → Option (List ℕ) → Option (List ℕ) → Type 0
+Finds s source true old new = ((fault : AsmFault) × (assembly s source ≡ Err fault)) × WritesSome old new
+Finds s source false old new = IsTaken s source × Keeps old new
+
+-- the same of some source
+abbrev pub Checks : RawSettings → Bool → Option (List ℕ) → Option (List ℕ) → Type 0
+Checks s is_refused old new = (source : List ℕ) × Finds s source is_refused old new
+
+-- how it ends behind one file more
+abbrev pub status_behind : Status → Bool → Status
+status_behind status is_refused = if is_refused then statuses.Refused else status
+
+-- so many sources assemble
+pub record AreTaken (s : RawSettings) (count : ℕ) : Type 0 where
+  pub sources : List (List ℕ)
+  pub taken : All (IsTaken s) sources
+  pub all : length sources ≡ count
+
+-- how `check` of so many files ends, by what the output and then the errors hold before and after: silently where the source in each of them
+-- assembles, as refused where one of them doesn't, and then something is written, or where a file or a stream failed, or for want of memory
+abbrev pub EndsCheckUnder : RawSettings → ℕ → Status → Option (List ℕ) → Option (List ℕ) → Option (List ℕ) → Option (List ℕ) → Type 0
+EndsCheckUnder s count statuses.Done o p e f = AreTaken s count × Keeps o p × Keeps e f
+EndsCheckUnder s count statuses.Refused o p e f = ((fault : AsmFault) × IsFaultOf s fault) × WritesSome o p × Keeps e f
+EndsCheckUnder s count statuses.WordFault o p e f = ⊥
+EndsCheckUnder s count statuses.StreamFault o p e f = WritesSome o p × TellsWord (failure_word failures.Stream) e f
+EndsCheckUnder s count statuses.NoMemory o p e f = WritesSome o p × TellsWord (failure_word failures.Memory) e f
+
+-- how `check` ends: as under the settings that are given, with their refusal, or for want of memory
+abbrev pub EndsCheck : ℕ → Result RawSettings SettingsFault → Status → Streams → Streams → Type 0
+EndsCheck count (Ok s) status before after = EndsCheckUnder s count status before.output after.output before.errors after.errors
+EndsCheck count (Err fault) statuses.Done before after = ⊥
+EndsCheck count (Err fault) statuses.Refused before after = RefusesSettings fault before after
+EndsCheck count (Err fault) statuses.WordFault before after = ⊥
+EndsCheck count (Err fault) statuses.StreamFault before after = ⊥
+EndsCheck count (Err fault) statuses.NoMemory before after = KeepsAll before after × Tells failures.Memory before after

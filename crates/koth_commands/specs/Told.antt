@@ -1,0 +1,21 @@
+-- What is told on the standard error.
+use Rattle.std.specs.Prelude.{ℕ, Option, List, ◌++◌, codes}
+use Rattle.koth_protocol.specs.Written.{WritesPart}
+use Rattle.koth_commands.specs.declared.telling.Apart.{Apart}
+use Rattle.koth_commands.specs.declared.telling.Apart.TheVariants.{Line, Blank, Colon}
+
+-- some text was written, from its beginning on
+abbrev pub WritesSome : Option (List ℕ) → Option (List ℕ) → Type 0
+WritesSome old new = (text : List ℕ) × WritesPart old new text
+
+-- what stands between a word and the text behind it
+abbrev pub apart_text : Apart → List ℕ
+apart_text Line = codes "\n"
+apart_text Blank = codes " "
+apart_text Colon = codes ": "
+
+-- a word was written, and behind it a line feed, a blank or a colon, and a text, or a part of these where the errors failed
+pub record TellsWord (word : List ℕ) (old new : Option (List ℕ)) : Type 0 where
+  pub apart : Apart
+  pub text : List ℕ
+  pub written : WritesPart old new (word ++ (apart_text apart ++ text))

@@ -1,0 +1,178 @@
+//! What failed, and why, as people are told it.
+
+use std::alloc::{AllocError, Allocator};
+use std::io::ErrorKind;
+
+/// Why something failed.
+#[derive(Clone, Copy, Debug, PartialEq, Eq)]
+pub enum Reason {
+    /// There is no such file or folder.
+    Missing,
+    /// The system doesn't permit it.
+    NotPermitted,
+    /// A part of the path is no folder.
+    NoFolder,
+    /// It is a folder, and not a file.
+    Folder,
+    /// The file system is read-only.
+    ReadOnly,
+    /// The links of the path go in a circle.
+    Circle,
+    /// The name is too long.
+    LongName,
+    /// The disk is full.
+    Full,
+    /// The file would be too large, or is too short.
+    Size,
+    /// It is no file that a hill can be in.
+    NoFile,
+    /// Another program uses it.
+    InUse,
+    /// The address is not of this machine.
+    Elsewhere,
+    /// Nobody reads what is written.
+    ReaderGone,
+    /// No more can be written.
+    NoRoom,
+    /// There was no answer in time.
+    Late,
+    /// The file is too short for its hill.
+    TooShort,
+    /// The file isn't empty.
+    NotEmpty,
+    /// The file holds no hill.
+    NoHill,
+    /// The file holds a hill of the old format.
+    OldHill,
+    /// A warrior in the file can't be read.
+    Damaged,
+    /// Reading or writing failed.
+    Device,
+    /// Memory ran out.
+    Memory,
+    /// The system reports another error.
+    Other,
+}
+
+impl Reason {
+    /// The reason in a few words.
+    pub(crate) fn text(self) -> &'static str {
+        match self {
+            Reason::Missing => "no such file or folder",
+            Reason::NotPermitted => "no permission",
+            Reason::NoFolder => "a part of the path is no folder",
+            Reason::Folder => "it is a folder",
+            Reason::ReadOnly => "the file system is read-only",
+            Reason::Circle => "its links go in a circle",
+            Reason::LongName => "the name is too long",
+            Reason::Full => "the disk is full",
+            Reason::Size => "the file would be too large",
+            Reason::NoFile => "it is no plain file",
+            Reason::InUse => "another program uses it",
+            Reason::Elsewhere => "it is not of this machine",
+            Reason::ReaderGone => "its reader is gone",
+            Reason::NoRoom => "no more can be written",
+            Reason::Late => "there was no answer in time",
+            Reason::TooShort => "it is too short for its hill",
+            Reason::NotEmpty => "it isn't empty; --overwrite makes a hill of it all the same",
+            Reason::NoHill => "it holds no hill",
+            Reason::OldHill => {
+                "a hill of the old format; koth migrate FILE NEW moves it to a new file"
+            }
+            Reason::Damaged => "a warrior in it can't be read; go back to a copy",
+            Reason::Device => "reading or writing it failed",
+            Reason::Memory => "memory ran out",
+            Reason::Other => "the system reports an error",
+        }
+    }
+}
+
+/// The reason for an error of the system.
+pub fn reason_of(kind: ErrorKind) -> Reason {
+    match kind {
+        ErrorKind::NotFound => Reason::Missing,
+        ErrorKind::PermissionDenied => Reason::NotPermitted,
+        ErrorKind::NotADirectory => Reason::NoFolder,
+        ErrorKind::IsADirectory => Reason::Folder,
+        ErrorKind::ReadOnlyFilesystem => Reason::ReadOnly,
+        ErrorKind::FilesystemLoop => Reason::Circle,
+        ErrorKind::InvalidFilename => Reason::LongName,
+        ErrorKind::StorageFull | ErrorKind::QuotaExceeded => Reason::Full,
+        ErrorKind::FileTooLarge => Reason::Size,
+        ErrorKind::InvalidInput => Reason::NoFile,
+        ErrorKind::AddrInUse | ErrorKind::ResourceBusy => Reason::InUse,
+        ErrorKind::AddrNotAvailable => Reason::Elsewhere,
+        ErrorKind::BrokenPipe => Reason::ReaderGone,
+        ErrorKind::WriteZero => Reason::NoRoom,
+        ErrorKind::UnexpectedEof => Reason::TooShort,
+        ErrorKind::TimedOut => Reason::Late,
+        _ => Reason::Other,
+    }
+}
+
+/// What a command worked on when it failed.
+#[derive(Clone, Copy, Debug)]
+pub enum Subject<'s> {
+    /// The file at this path.
+    File(&'s str),
+    /// A port of this machine.
+    Port(u16),
+    /// A connection to a peer.
+    Connection,
+    /// Standard input.
+    Input,
+    /// Standard output.
+    Output,
+}
+
+impl<'s> Subject<'s> {
+    /// What diagnostics call a source that comes from it.
+    pub(crate) fn name(self) -> &'s str {
+        match self {
+            Subject::File(path) => path,
+            Subject::Port(_) | Subject::Connection => "a peer",
+            Subject::Input => "standard input",
+            Subject::Output => "standard output",
+        }
+    }
+}
+
+/// What failed, and why.
+#[derive(Clone, Copy, Debug)]
+pub struct Cause<'s> {
+    pub subject: Subject<'s>,
+    pub reason: Reason,
+}
+
+impl<'s> Cause<'s> {
+    /// A file, and why it failed.
+    pub fn file(path: &'s str, reason: Reason) -> Cause<'s> {
+        Cause {
+            subject: Subject::File(path),
+            reason,
+        }
+    }
+
+    /// Standard output, and why it failed.
+    pub fn output(reason: Reason) -> Cause<'s> {
+        Cause {
+            subject: Subject::Output,
+            reason,
+        }
+    }
+}
+
+/// What is told of a cause: what failed, and why.
+pub(crate) fn cause_text<A: Allocator>(
+    alloc: A,
+    cause: Cause<'_>,
+) -> Result<String<A>, AllocError> {
+    let why = cause.reason.text();
+    match cause.subject {
+        Subject::File(path) => format!(in alloc; "{}: {}\n", path, why),
+        Subject::Port(port) => format!(in alloc; "port {}: {}\n", port, why),
+        Subject::Connection => format!(in alloc; "a connection: {}\n", why),
+        Subject::Input => format!(in alloc; "standard input: {}\n", why),
+        Subject::Output => format!(in alloc; "standard output: {}\n", why),
+    }
+}

@@ -1,0 +1,104 @@
+//! What is told of settings that are refused.
+
+ghost use Rattle.std.specs.Prelude.{◌≡◌};
+ghost use Rattle.koth_commands.specs.Answer.{settings_word};
+ghost use Rattle.koth_commands.specs.Told.{TellsWord};
+
+use crate::status::Status;
+use crate::telling::{Apart, tell_text};
+use koth_words::DEFAULTS;
+use std::alloc::{AllocError, Allocator};
+use std::io::Write;
+use war_types::{RawSettings, SettingsFault};
+
+/// Tells of settings that are refused: which one, and behind it its value and what it may be. Where that can't be written, the status alone
+/// tells.
+pub fn refuse_settings<A: Allocator, E: Write>(
+    alloc: A,
+    given: RawSettings,
+    fault: SettingsFault,
+    errors: &mut E,
+) -> Status
+    ensures status { result ≡ Status.Refused }
+    ensures told { TellsWord (settings_word fault) (E.contents errors.old) (E.contents errors.new) }
+{
+    let word = settings_word(fault);
+    match range_text(alloc, given, fault) {
+        Ok(text) => tell_text(word, Apart::Colon, text.as_bytes(), errors),
+        Err(AllocError) => tell_text(word, Apart::Line, b"", errors),
+    }
+    Status::Refused
+}
+
+fn settings_word(fault: SettingsFault) -> &'static str
+    ensures { result.now ≡ settings_word fault }
+{
+    match fault {
+        SettingsFault::Core => "BadSettings Core",
+        SettingsFault::Cycles => "BadSettings Cycles",
+        SettingsFault::Processes => "BadSettings Processes",
+        SettingsFault::Length => "BadSettings Length",
+        SettingsFault::Distance => "BadSettings Distance",
+        SettingsFault::Rounds => "BadSettings Rounds",
+        SettingsFault::Seed => "BadSettings Seed",
+        SettingsFault::Capacity => "BadSettings Capacity",
+        SettingsFault::ReadLimit => "BadSettings ReadLimit",
+        SettingsFault::WriteLimit => "BadSettings WriteLimit",
+    }
+}
+
+/// The value of the setting that is refused, and what it may be.
+fn range_text<A: Allocator>(
+    alloc: A,
+    given: RawSettings,
+    fault: SettingsFault,
+) -> Result<String<A>, AllocError> {
+    match fault {
+        SettingsFault::Core => between(alloc, "core", given.core, "64 to 65535"),
+        SettingsFault::Cycles => between(alloc, "cycles", given.cycles, "1 to 1000000"),
+        SettingsFault::Processes => between(alloc, "processes", given.processes, "1 to 65535"),
+        SettingsFault::Length => between(alloc, "length", given.length, "1 to 200"),
+        SettingsFault::Distance => distance_text(alloc, given),
+        SettingsFault::Rounds => between(alloc, "rounds", given.rounds, "1 to 1000"),
+        SettingsFault::Seed => between(alloc, "seed", given.seed, "1 to 2147483646"),
+        SettingsFault::Capacity => between(alloc, "capacity", given.capacity, "1 to 20"),
+        SettingsFault::ReadLimit => limit_text(alloc, "read-limit", given.read_limit, given),
+        SettingsFault::WriteLimit => limit_text(alloc, "write-limit", given.write_limit, given),
+    }
+}
+
+fn between<A: Allocator>(
+    alloc: A,
+    name: &str,
+    value: u32,
+    range: &str,
+) -> Result<String<A>, AllocError> {
+    format!(in alloc; "--{} is {}, and must be {}\n", name, value, range)
+}
+
+/// The distance goes with two other settings: each that nobody gave is told as what it is by default.
+fn distance_text<A: Allocator>(alloc: A, given: RawSettings) -> Result<String<A>, AllocError> {
+    let distance = if_default(given.distance == DEFAULTS.distance);
+    let length = if_default(given.length == DEFAULTS.length);
+    let core = if_default(given.core == DEFAULTS.core);
+    format!(in alloc;
+        "--distance is {}{}, and must be --length {}{} to half of --core {}{}\n",
+        given.distance, distance, given.length, length, given.core, core
+    )
+}
+
+fn if_default(is_default: bool) -> &'static str {
+    if is_default { " (its default)" } else { "" }
+}
+
+fn limit_text<A: Allocator>(
+    alloc: A,
+    name: &str,
+    value: u32,
+    given: RawSettings,
+) -> Result<String<A>, AllocError> {
+    format!(in alloc;
+        "--{} is {}, and must be 0 or a divisor of --core {}\n",
+        name, value, given.core
+    )
+}

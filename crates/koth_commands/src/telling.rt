@@ -1,0 +1,84 @@
+//! What is told on the errors: a word that programs know, and behind it a text for people.
+
+ghost use Rattle.std.specs.Prelude.{◌≡◌, ◌++◌, OnErr, OnOk};
+ghost use Rattle.std.specs.Io.KnownBytes.{Appends};
+ghost use Rattle.koth_commands.specs.Told.{apart_text, TellsWord};
+ghost use Rattle.koth_protocol.specs.Written.{WritesPart};
+
+use crate::cause::{Cause, cause_text};
+use crate::stream::{StreamFault, write_whole};
+use std::alloc::{AllocError, Allocator};
+use std::io::Write;
+
+/// What stands between a word and the text behind it.
+#[derive(Clone, Copy, Debug, PartialEq, Eq)]
+pub enum Apart {
+    /// The word ends its line.
+    Line,
+    /// A blank.
+    Blank,
+    /// A colon and a blank.
+    Colon,
+}
+
+impl Apart {
+    fn text(self) -> &'static [u8]
+        ensures { result.now ≡ apart_text self }
+    {
+        match self {
+            Apart::Line => b"\n",
+            Apart::Blank => b" ",
+            Apart::Colon => b": ",
+        }
+    }
+}
+
+/// Writes a word, and behind it what failed and why, where that is known and there is memory for it. Where the errors fail, a part of it is
+/// written.
+pub fn tell_word<A: Allocator, E: Write>(
+    alloc: A,
+    word: &str,
+    cause: Option<Cause<'_>>,
+    errors: &mut E,
+)
+    ensures { TellsWord word.now (E.contents errors.old) (E.contents errors.new) }
+{
+    match cause {
+        Some(cause) => match cause_text(alloc, cause) {
+            Ok(text) => tell_text(word, Apart::Blank, text.as_bytes(), errors),
+            Err(AllocError) => tell_text(word, Apart::Line, b"", errors),
+        },
+        None => tell_text(word, Apart::Line, b"", errors),
+    }
+}
+
+/// Writes a word and a text behind it, or a part of them where the errors fail.
+pub fn tell_text<E: Write>(word: &str, apart: Apart, text: &[u8], errors: &mut E)
+    ensures { TellsWord word.now (E.contents errors.old) (E.contents errors.new) }
+{
+    let _ = write_told(word, apart, text, errors);
+}
+
+fn write_told<E: Write>(
+    word: &str,
+    apart: Apart,
+    text: &[u8],
+    errors: &mut E,
+) -> Result<(), StreamFault>
+    ensures whole { OnOk result (Appends (E.contents errors.old) (E.contents errors.new)
+        (word.now ++ (apart_text apart ++ text.now))) }
+    ensures part { OnErr result (WritesPart (E.contents errors.old) (E.contents errors.new)
+        (word.now ++ (apart_text apart ++ text.now))) }
+{
+    write_whole(errors, word.as_bytes())?;
+    write_both(errors, apart.text(), text)
+}
+
+/// Writes two texts whole, one behind the other. Where the output fails, a part of them is written.
+pub fn write_both<W: Write>(output: &mut W, first: &[u8], second: &[u8]) -> Result<(), StreamFault>
+    ensures whole { OnOk result (Appends (W.contents output.old) (W.contents output.new) (first.now ++ second.now)) }
+    ensures part { OnErr result (WritesPart (W.contents output.old) (W.contents output.new) (first.now ++ second.now)) }
+{
+    write_whole(output, first)?;
+    write_whole(output, second)
+}

@@ -1,0 +1,137 @@
+//! Why a command on a hill was not carried out, what it worked on, and what is told of it.
+
+ghost use Rattle.std.specs.Prelude.{◌≡◌};
+ghost use Rattle.koth_commands.specs.Failure.{failure_of, failure_word};
+ghost use Rattle.koth_commands.specs.Told.{TellsWord};
+ghost use Rattle.koth_server.specs.HillFault.{fault_of_file, fault_of_refusal, stream_failed};
+
+use crate::hill_fault::HillFault;
+use hill_file::OpenFault;
+use hill_store::Refusal;
+use koth_commands::{Cause, Failure, Reason, Status, StreamFault, Trouble, reason_of, tell_word};
+use std::alloc::Allocator;
+use std::io::Write;
+
+/// Why a command on a hill was not carried out, and what it worked on then.
+#[derive(Clone, Copy, Debug)]
+pub struct HillTrouble<'t> {
+    pub fault: HillFault,
+    /// What failed, and why, where that is known.
+    pub cause: Option<Cause<'t>>,
+}
+
+impl<'t> HillTrouble<'t> {
+    ghost use Rattle.koth_server.specs.HillFault.{fault_status, fault_word};
+
+    /// Writes the fault's word, and behind it what failed and why, and says how the program ends. Where that can't be written, the status
+    /// alone tells.
+    pub(crate) fn tell<A: Allocator, E: Write>(self, alloc: A, errors: &mut E) -> Status
+        ensures status { result ≡ fault_status self.entry.fault }
+        ensures told { TellsWord (fault_word self.entry.fault) (E.contents errors.old) (E.contents errors.new) }
+    {
+        tell_word(alloc, self.fault.word(), self.cause, errors);
+        self.fault.status()
+    }
+
+    /// This fault of the hill in a file.
+    pub(crate) fn of(path: &'t str, fault: HillFault) -> HillTrouble<'t>
+        ensures { result.fault ≡ fault }
+    {
+        HillTrouble {
+            fault,
+            cause: Some(Cause::file(path, fault.reason())),
+        }
+    }
+
+    /// A file that failed for this reason.
+    pub(crate) fn file(path: &'t str, reason: Reason) -> HillTrouble<'t>
+        ensures { result.fault ≡ stream_failed }
+    {
+        HillTrouble {
+            fault: HillFault::Failed(Failure::Stream),
+            cause: Some(Cause::file(path, reason)),
+        }
+    }
+
+    /// A stream or a port that failed.
+    pub(crate) fn stream(cause: Cause<'t>) -> HillTrouble<'t>
+        ensures { result.fault ≡ stream_failed }
+    {
+        HillTrouble {
+            fault: HillFault::Failed(Failure::Stream),
+            cause: Some(cause),
+        }
+    }
+
+    /// Standard output failed.
+    pub(crate) fn output(fault: StreamFault) -> HillTrouble<'t>
+        ensures { result.fault ≡ stream_failed }
+    {
+        HillTrouble::stream(Cause::output(fault.reason))
+    }
+
+    /// Memory ran out.
+    pub(crate) fn memory() -> HillTrouble<'t>
+        ensures { result.fault ≡ HillFault.Failed Failure.Memory }
+    {
+        HillTrouble {
+            fault: HillFault::Failed(Failure::Memory),
+            cause: None,
+        }
+    }
+
+    /// A source's file can't be read, or memory ran out.
+    pub(crate) fn from_source(trouble: Trouble<'t>) -> HillTrouble<'t>
+        ensures { result.fault ≡ HillFault.Failed (failure_of trouble.entry) }
+    {
+        match trouble {
+            Trouble::Failed(cause) => HillTrouble::stream(cause),
+            Trouble::Memory => HillTrouble::memory(),
+        }
+    }
+
+    /// A store refused the hill in a file.
+    pub(crate) fn refused(path: &'t str, refusal: Refusal) -> HillTrouble<'t>
+        ensures { result.fault ≡ fault_of_refusal refusal }
+    {
+        HillTrouble::of(path, fault_of_refusal(refusal))
+    }
+
+    /// A hill's file can't be worked on.
+    pub(crate) fn unopened(path: &'t str, fault: OpenFault) -> HillTrouble<'t>
+        ensures { result.fault ≡ fault_of_file fault }
+    {
+        match fault {
+            OpenFault::Memory => HillTrouble::memory(),
+            OpenFault::Locked => HillTrouble::file(path, Reason::InUse),
+            OpenFault::Occupied => HillTrouble::of(path, HillFault::Occupied),
+            OpenFault::Failed(kind) => HillTrouble::file(path, reason_of(kind)),
+        }
+    }
+}
+
+/// What a store's refusal comes to.
+pub(crate) fn fault_of_refusal(refusal: Refusal) -> HillFault
+    ensures { result ≡ fault_of_refusal refusal }
+{
+    match refusal {
+        Refusal::Disk => HillFault::Failed(Failure::Stream),
+        Refusal::TooSmall => HillFault::TooSmall,
+        Refusal::Occupied => HillFault::Occupied,
+        Refusal::Memory => HillFault::Failed(Failure::Memory),
+        Refusal::NotAHill => HillFault::NotAHill,
+        Refusal::Damaged => HillFault::Damaged,
+    }
+}
+
+/// Tells that standard output failed, and says how the program ends.
+pub(crate) fn tell_output<A: Allocator, E: Write>(
+    alloc: A,
+    fault: StreamFault,
+    errors: &mut E,
+) -> Status
+    ensures status { result ≡ Status.StreamFault }
+    ensures told { TellsWord (failure_word Failure.Stream) (E.contents errors.old) (E.contents errors.new) }
+{
+    Failure::Stream.tell(alloc, Some(Cause::output(fault.reason)), errors)
+}

@@ -1,0 +1,87 @@
+-- Texts of small hills, computed.
+use Rattle.std.proofs.Common.{◌≡◌, ℕ, List, [], ◌∷◌, ◌++◌, codes, refl}
+use Rattle.std.specs.Fmt.{digits}
+use Rattle.war_types.specs.declared.settings.RawSettings.{RawSettings}
+use Rattle.war_types.specs.Warrior.{warrior_parts}
+use Rattle.koth_match.specs.declared.bout.Bout.{Bout}
+use Rattle.koth_hill.specs.Hill.{Member, member_of}
+use Rattle.koth_hill.specs.Kept.{Kept, kept_of}
+use Rattle.koth_views.specs.declared.columns.Alignment.TheVariants as sides
+use Rattle.koth_views.specs.Bout.{bout_view}
+use Rattle.koth_views.specs.Columns.{columns_text}
+use Rattle.koth_views.specs.Matrix.{matches_view}
+use Rattle.koth_views.specs.Placed.{fell_text, placed_text}
+use Rattle.koth_views.specs.Roster.{roster}
+use Rattle.koth_views.specs.Standing.{hill_view}
+
+-- a column past the sides that are given, a cell that is missing, and a row whose cells behind the first are blanks
+columns : columns_text (sides.Left ∷ sides.Right ∷ []) ((codes "a" ∷ codes "bb" ∷ codes "c" ∷ []) ∷ (codes "dd" ∷ codes "e" ∷ []) ∷ (codes "f" ∷ codes " " ∷ codes " " ∷ []) ∷ [])
+    ≡ codes "a   bb  c\ndd   e\nf\n"
+columns = refl
+
+abbrev settings : RawSettings
+settings =
+    record { core = 8000; cycles = 80000; processes = 8000; length = 100; distance = 100; rounds = 10; seed = 1; capacity = 20; read_limit = 8000; write_limit = 8000 }
+
+abbrev entered : ℕ → ℕ → List ℕ → Member
+entered entry age name = member_of entry age (warrior_parts [] 0 name (codes "koth"))
+
+abbrev rounds : ℕ → ℕ → ℕ → Bout
+rounds older younger ties = record { older_wins = older; younger_wins = younger; ties = ties }
+
+abbrev none : Kept
+none = kept_of settings 0 [] []
+
+-- the first, the second and the third by rank entered as 3, 1 and 2
+abbrev three : Kept
+three =
+    kept_of settings 3 (entered 1 2 (codes "Imp") ∷ entered 2 1 (codes "Dwarf") ∷ entered 3 0 (codes "Scanner") ∷ [])
+    ([] ∷ (rounds 6 3 1 ∷ []) ∷ (rounds 1 9 0 ∷ rounds 2 7 1 ∷ []) ∷ [])
+
+table_of_three : hill_view three
+    ≡ codes "rank  entry  points  won  lost  tied  age  warrior  author\n"
+    ++ codes "   1      3      49   16     3     1    0  Scanner  koth\n"
+    ++ codes "   2      1      22    7    12     1    2  Imp      koth\n"
+    ++ codes "   3      2      17    5    13     2    1  Dwarf    koth\n"
+unfolding digits
+table_of_three = refl
+
+table_of_none : hill_view none ≡ codes "rank  entry  points  won  lost  tied  age  warrior  author\nno warriors yet\n"
+unfolding digits
+table_of_none = refl
+
+matches_of_three : matches_view three
+    ≡ codes "rank  warrior      1      2      3\n"
+    ++ codes "   1  Scanner      .  9-1-0  7-2-1\n"
+    ++ codes "   2  Imp      1-9-0      .  6-3-1\n"
+    ++ codes "   3  Dwarf    2-7-1  3-6-1      .\n"
+unfolding digits
+matches_of_three = refl
+
+counts : bout_view (warrior_parts [] 0 (codes "Imp") (codes "A. K. Dewdney")) (warrior_parts [] 0 (codes "Scanner") (codes "koth")) (rounds 1 9 0)
+    ≡ codes "warrior  author         won  lost  tied\n"
+    ++ codes "Imp      A. K. Dewdney    1     9     0\n"
+    ++ codes "Scanner  koth             9     1     0\n"
+unfolding digits
+counts = refl
+
+-- a hill of two: the one that had entered first fell as the third came
+abbrev two_left : Kept
+two_left = kept_of settings 3 (entered 2 1 (codes "Dwarf") ∷ entered 3 0 (codes "Scanner") ∷ []) ([] ∷ (rounds 2 7 1 ∷ []) ∷ [])
+
+abbrev two_before : Kept
+two_before = kept_of settings 2 (entered 1 1 (codes "Imp") ∷ entered 2 0 (codes "Dwarf") ∷ []) ([] ∷ (rounds 3 6 1 ∷ []) ∷ [])
+
+placed : placed_text (roster two_before) two_left (record { entry = 3; rank = 1; score = 22 })
+    ≡ codes "Scanner by koth is warrior 3 of this hill: rank 1 of 2, 22 points\n"
+    ++ codes "Imp by koth (entry 1) fell\n"
+    ++ codes "warrior  author  won  lost  tied\n"
+    ++ codes "Dwarf    koth      7     2     1\n"
+unfolding digits
+placed = refl
+
+-- an entry that fell, with one point and with more
+fell : (fell_text 21 1 ≡ codes "entry 21 with 1 point fell: it is not on the hill\n")
+    × (fell_text 21 12 ≡ codes "entry 21 with 12 points fell: it is not on the hill\n")
+unfolding digits
+fell = (refl, refl)

@@ -1,0 +1,9 @@
+-- The lines so far are those of the ones so far.
+use Rattle.std.proofs.Common.{◌≡◌, ◌++◌, take}
+use Rattle.std.specs.List.{flat_map}
+use Rattle.koth_hill.specs.Rows.{rows_parts}
+use Rattle.koth_views.specs.Placed.{fallen_line}
+use Rattle.koth_views.proofs.placed.put_fallen_lines.Given as goal
+
+abbrev pub invariant-loop-i : goal.invariant-loop-i
+invariant-loop-i g l = l.text.items ≡ l.fn.text.items ++ flat_map (fallen_line (rows_parts l.rows)) (take l.i l.before)

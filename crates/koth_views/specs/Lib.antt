@@ -1,0 +1,12 @@
+-- Rows of cells, laid out in columns.
+pub mod Columns
+-- Rounds that one entry won, lost and tied against others.
+pub mod Tally
+-- The table of a hill, its matches, and the counts of one match.
+pub mod Standing
+pub mod Matrix
+pub mod Bout
+-- What became of a submission.
+pub mod Roster
+pub mod Placed
+pub mod Placing

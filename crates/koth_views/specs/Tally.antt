@@ -1,0 +1,36 @@
+-- Rounds that one entry won, lost and tied.
+use Rattle.std.specs.Prelude.{ℕ, nat_lt, if◌then◌else◌, List}
+use Rattle.std.specs.List.{sum_by}
+use Rattle.koth_match.specs.declared.bout.Bout.{Bout}
+use Rattle.koth_hill.specs.Kept.{Kept, entries_of, or_no_rounds, result_of}
+use Rattle.koth_views.specs.declared.tally.Tally.{Tally}
+
+-- a result from the side of the older warrior
+abbrev pub of_older : Bout → Tally
+of_older b = record { won = b.older_wins; lost = b.younger_wins; tied = b.ties }
+
+-- and from the side of the younger
+abbrev pub of_younger : Bout → Tally
+of_younger b = record { won = b.younger_wins; lost = b.older_wins; tied = b.ties }
+
+abbrev pub no_tally : Tally
+no_tally = record { won = 0; lost = 0; tied = 0 }
+
+-- the result that a hill keeps of two entries
+abbrev pub kept_of_two : Kept → ℕ → ℕ → Bout
+kept_of_two k older younger = or_no_rounds (result_of (entries_of k.members) k.results older younger)
+
+-- what one entry came to in its match against another: the earlier entry is the older warrior, and nobody fights itself
+abbrev pub between : Kept → ℕ → ℕ → Tally
+between k one other =
+    if nat_lt one other then of_older (kept_of_two k one other) else (
+    if nat_lt other one then of_younger (kept_of_two k other one) else no_tally)
+
+-- and against all of these
+abbrev pub against : Kept → ℕ → List ℕ → Tally
+against k one entries =
+    record { won = sum_by (λ other. (between k one other).won) entries; lost = sum_by (λ other. (between k one other).lost) entries; tied = sum_by (λ other. (between k one other).tied) entries }
+
+-- and against all on the hill
+abbrev pub against_all : Kept → ℕ → Tally
+against_all k one = against k one (entries_of k.members)

@@ -1,0 +1,110 @@
+//! The table of a hill.
+
+ghost use Rattle.std.specs.Prelude.{◌≡◌, ◌+◌, ◌<◌, ◌^◌, ◌++◌, ◌∷◌, [], length, IfOk};
+ghost use Rattle.koth_hill.specs.Rows.{row_parts, rows_parts};
+ghost use Rattle.koth_views.specs.Standing.{hill_cells, hill_heading, hill_rows, hill_view, note_of_none};
+ghost use Rattle.koth_views.specs.Tally.{against_all};
+
+use crate::cells::{Cells, named, number, word};
+use crate::columns::{Alignment, columns_text};
+use crate::tally::against_all;
+use koth_hill::{Hill, Row};
+use std::alloc::{AllocError, Allocator};
+
+const SIDES: [Alignment; 9] = [
+    Alignment::Right,
+    Alignment::Right,
+    Alignment::Right,
+    Alignment::Right,
+    Alignment::Right,
+    Alignment::Right,
+    Alignment::Right,
+    Alignment::Left,
+    Alignment::Left,
+];
+
+/// The table of a hill with headings: a line for each warrior by rank, with its entry, its points, the rounds that it won, lost
+/// and tied against all others on the hill, its age, its name and its author. A hill without warriors has the headings and
+/// the line `no warriors yet`. No match is fought. The error is want of memory.
+pub fn hill_view<A: Allocator + Copy, B: Allocator>(
+    alloc: A,
+    hill: &Hill<B>,
+) -> Result<Vec<u8, A>, AllocError>
+    ensures { IfOk result (λ text. text.items ≡ hill_view hill.now) }
+{
+    let rows = hill.rows(alloc)?;
+    let lines = lines_of(alloc, hill, rows.as_slice())?;
+    let mut text = columns_text(alloc, &SIDES, lines.as_slice())?;
+    text.extend_from_slice(note_of_none(rows.as_slice()))?;
+    Ok(text)
+}
+
+/// What stands under the table of these rows.
+pub(crate) fn note_of_none(rows: &[Row<'_>]) -> &'static [u8]
+    ensures { result.now ≡ note_of_none (rows_parts rows.now) }
+{
+    match rows {
+        [] => b"no warriors yet\n",
+        [_, ..] => b"",
+    }
+}
+
+/// The headings, and the cells of each of these rows.
+fn lines_of<A: Allocator + Copy, B: Allocator>(
+    alloc: A,
+    hill: &Hill<B>,
+    rows: &[Row<'_>],
+) -> Result<Vec<Cells<A>, A>, AllocError>
+    ensures { IfOk result (λ lines. lines.items ≡ hill_heading ∷ hill_rows hill.now (rows_parts rows.now)) }
+{
+    let mut lines = Vec::new(alloc);
+    lines.push(heading(alloc)?)?;
+    for place in 0..rows.len() {
+        lines.push(cells_of(alloc, hill, place as u64 + 1, &rows[place])?)?;
+    }
+    Ok(lines)
+}
+
+fn heading<A: Allocator>(alloc: A) -> Result<Cells<A>, AllocError>
+    ensures { IfOk result (λ cells. cells ≡ hill_heading) }
+{
+    Cells::of(
+        alloc,
+        [
+            word(b"rank"),
+            word(b"entry"),
+            word(b"points"),
+            word(b"won"),
+            word(b"lost"),
+            word(b"tied"),
+            word(b"age"),
+            word(b"warrior"),
+            word(b"author"),
+        ],
+    )
+}
+
+fn cells_of<A: Allocator, B: Allocator>(
+    alloc: A,
+    hill: &Hill<B>,
+    rank: u64,
+    row: &Row<'_>,
+) -> Result<Cells<A>, AllocError>
+    ensures { IfOk result (λ cells. cells ≡ hill_cells rank (row_parts row.now) (against_all hill.now row.now.entry)) }
+{
+    let rounds = against_all(hill, row.entry);
+    Cells::of(
+        alloc,
+        [
+            number(rank),
+            number(row.entry),
+            number(u64::from(row.score)),
+            number(rounds.won),
+            number(rounds.lost),
+            number(rounds.tied),
+            number(row.age),
+            named(row.name),
+            named(row.author),
+        ],
+    )
+}

@@ -1,9 +1,0 @@
--- An option that is not global leaves the command's globals as they are.
-use Rattle.std.proofs.Common.{◌∙◌}
-use Rattle.std.proofs.lemmas.Result.{IfOk-weaker}
-use Rattle.koth_words.proofs.Commands.{keeps_globals}
-use Rattle.koth_words.proofs.options.with_option.Goals as goal
-
-pub returns-clause-globals : goal.returns-clause-globals
-returns-clause-globals c =
-    IfOk-weaker c.arg.result _ _ (λ r adds. adds.globals ∙ keeps_globals _ _ c.option.ensures.global) c.arg.ensures

@@ -1,0 +1,80 @@
+-- The commands of `koth`, as `clap` reads them.
+use Rattle.std.specs.Prelude.{◌≡◌, true, false, codes, Some}
+use Rattle.clap.specs.Words.{App, Rule, Text, app_of, new_app, new_rule, with_rule, with_subcommand}
+use Rattle.clap.specs.declared.builder.action.ArgAction.TheVariants as actions
+use Rattle.clap.specs.declared.builder.command.Command.{Command}
+use Rattle.clap.specs.declared.builder.command.Command.TheViews.{out-Command}
+use Rattle.koth_words.specs.Options.{option_rule, required_rule, with_settings}
+
+-- a command that `clap` reads as this one, with no argument that its subcommands take too
+abbrev pub IsReadAs : App → Command → Type 0
+IsReadAs app command = (app_of command ≡ app) × ((out-Command command).has_globals ≡ false)
+
+-- a command that wants the name of one of its subcommands
+abbrev pub wants_subcommand : App → App
+wants_subcommand app = record app { top = record app.top { subcommand_required = true } }
+
+-- a command that tells its version at `--version` and `-V`
+abbrev pub with_version : App → App
+with_version app = record app { top = record app.top { has_version = true } }
+
+-- a file that has to be named
+abbrev pub file_rule : Text → Rule
+file_rule name = record (new_rule name) { required = true }
+
+-- one file or more
+abbrev pub files_rule : Text → Rule
+files_rule name = record (file_rule name) { action = Some actions.Append }
+
+-- an option with a text
+abbrev pub text_rule : Text → Rule
+text_rule name = record (new_rule name) { long = Some name; value_names = 1 }
+
+-- a flag, which takes no value
+abbrev pub flag_rule : Text → Rule
+flag_rule name = record (new_rule name) { long = Some name; action = Some actions.SetTrue }
+
+abbrev pub with_file : App → Text → App
+with_file app name = with_rule app (file_rule name)
+
+abbrev pub with_flag : App → Text → App
+with_flag app name = with_rule app (flag_rule name)
+
+-- the flags that say how output for people is laid out
+abbrev pub with_view : App → App
+with_view app = with_flag (with_flag app (codes "plain")) (codes "table")
+
+abbrev pub asm_app : App
+asm_app = with_settings (with_rule (new_app (codes "asm")) (new_rule (codes "FILE")))
+
+abbrev pub check_app : App
+check_app =
+    with_settings (with_rule (with_rule (new_app (codes "check")) (files_rule (codes "FILE"))) (text_rule (codes "format")))
+
+abbrev pub fight_app : App
+fight_app = with_settings (with_view (with_file (with_file (new_app (codes "fight")) (codes "A")) (codes "B")))
+
+abbrev pub create_app : App
+create_app = with_settings (with_flag (with_file (new_app (codes "create")) (codes "FILE")) (codes "overwrite"))
+
+abbrev pub submit_app : App
+submit_app = with_view (with_file (with_file (new_app (codes "submit")) (codes "FILE")) (codes "SOURCE"))
+
+abbrev pub show_app : App
+show_app = with_view (with_flag (with_file (new_app (codes "show")) (codes "FILE")) (codes "matches"))
+
+abbrev pub serve_app : App
+serve_app = with_flag (with_rule (with_rule (with_file (new_app (codes "serve")) (codes "FILE"))
+    (required_rule (codes "port") 65535)) (option_rule (codes "connections"))) (codes "quiet")
+
+abbrev pub audit_app : App
+audit_app = with_file (new_app (codes "audit")) (codes "FILE")
+
+abbrev pub migrate_app : App
+migrate_app = with_file (with_file (new_app (codes "migrate")) (codes "FILE")) (codes "NEW")
+
+-- the program's words: `koth`, and a command's name with its files and options
+unfoldable pub koth_app : App
+koth_app = with_subcommand (with_subcommand (with_subcommand (with_subcommand (with_subcommand (with_subcommand (with_subcommand (with_subcommand (with_subcommand
+    (wants_subcommand (with_version (new_app (codes "koth")))) asm_app.top) check_app.top) fight_app.top) create_app.top) submit_app.top) show_app.top)
+    serve_app.top) audit_app.top) migrate_app.top

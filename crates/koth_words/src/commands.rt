@@ -1,0 +1,233 @@
+//! The commands with their files and options, as `clap` reads them.
+
+ghost use Rattle.std.specs.Prelude.{◌≡◌, codes, false, IfOk};
+ghost use Rattle.clap.specs.Words.{App, new_app, new_rule, rule_of, with_subcommand};
+ghost use Rattle.koth_words.specs.Commands.{asm_app, audit_app, check_app, create_app, fight_app, file_rule, files_rule, flag_rule, koth_app, migrate_app, serve_app, show_app, submit_app, text_rule, wants_subcommand, with_version, with_view, IsReadAs};
+ghost use Rattle.koth_words.specs.Options.{required_rule};
+
+use crate::options::{option, with_settings};
+use clap::{Arg, ArgAction, Command, value_parser};
+use std::alloc::{AllocError, Global};
+
+/// The program with its commands.
+pub(crate) fn koth_command<'a>(heap: Global) -> Result<Command<'a>, AllocError>
+    ensures { IfOk result (IsReadAs koth_app) }
+{
+    let command = with_command(program(heap), asm_command(heap))?;
+    let command = with_command(command, check_command(heap))?;
+    let command = with_command(command, fight_command(heap))?;
+    let command = with_command(command, create_command(heap))?;
+    let command = with_command(command, submit_command(heap))?;
+    let command = with_command(command, show_command(heap))?;
+    let command = with_command(command, serve_command(heap))?;
+    let command = with_command(command, audit_command(heap))?;
+    with_command(command, migrate_command(heap))
+}
+
+fn program<'a>(heap: Global) -> Command<'a>
+    ensures { IsReadAs (wants_subcommand (with_version (new_app (codes "koth")))) result }
+{
+    described(heap, "koth", "A King of the Hill server for Core War")
+        .version("1.0.0")
+        .after_help(
+            "Status: 0 done; 1 refused; 2 usage; 3 a file or stream failed; 4 out of memory",
+        )
+        .subcommand_required(true)
+}
+
+fn asm_command<'a>(heap: Global) -> Result<Command<'a>, AllocError>
+    ensures { IfOk result (IsReadAs asm_app) }
+{
+    let command = described(heap, "asm", "Assembles a source, and writes its load text");
+    with_settings(heap, command.arg(source(heap))?)
+}
+
+fn check_command<'a>(heap: Global) -> Result<Command<'a>, AllocError>
+    ensures { IfOk result (IsReadAs check_app) }
+{
+    let command = described(
+        heap,
+        "check",
+        "Assembles sources, and writes what is wrong with them",
+    )
+    .arg(files(heap))?
+    .arg(form(heap))?;
+    with_settings(heap, command)
+}
+
+fn fight_command<'a>(heap: Global) -> Result<Command<'a>, AllocError>
+    ensures { IfOk result (IsReadAs fight_app) }
+{
+    let command = described(
+        heap,
+        "fight",
+        "Plays a match, and writes the rounds that A won, those that B won, and the ties",
+    )
+    .arg(file(heap, "A", "File of the older warrior"))?
+    .arg(file(heap, "B", "File of the younger warrior"))?;
+    with_settings(heap, with_view(heap, command)?)
+}
+
+fn create_command<'a>(heap: Global) -> Result<Command<'a>, AllocError>
+    ensures { IfOk result (IsReadAs create_app) }
+{
+    let command = described(
+        heap,
+        "create",
+        "Creates a hill without warriors in a file, and writes CREATED",
+    )
+    .arg(file(heap, "FILE", "Hill file; created if missing"))?
+    .arg(flag(heap, "overwrite", "Replace what the file has"))?;
+    with_settings(heap, command)
+}
+
+fn submit_command<'a>(heap: Global) -> Result<Command<'a>, AllocError>
+    ensures { IfOk result (IsReadAs submit_app) }
+{
+    let command = described(
+        heap,
+        "submit",
+        "Submits a warrior to a hill, and writes its place, its points or its refusal",
+    )
+    .arg(file(heap, "FILE", "Hill file"))?
+    .arg(file(heap, "SOURCE", "File of the warrior's source"))?;
+    with_view(heap, command)
+}
+
+fn show_command<'a>(heap: Global) -> Result<Command<'a>, AllocError>
+    ensures { IfOk result (IsReadAs show_app) }
+{
+    let command = described(
+        heap,
+        "show",
+        "Writes a hill's table: rank, entry, score, age, name and author of each warrior",
+    )
+    .arg(file(heap, "FILE", "Hill file"))?
+    .arg(flag(
+        heap,
+        "matches",
+        "Write after the table who won how many rounds against whom",
+    ))?;
+    with_view(heap, command)
+}
+
+fn serve_command<'a>(heap: Global) -> Result<Command<'a>, AllocError>
+    ensures { IfOk result (IsReadAs serve_app) }
+{
+    described(
+        heap,
+        "serve",
+        "Serves sessions on a hill over connections to 127.0.0.1, one after the other",
+    )
+    .arg(file(heap, "FILE", "Hill file"))?
+    .arg(port(heap))?
+    .arg(option(
+        heap,
+        "connections",
+        "Connections to serve before the program ends, 0 to 4294967295 [default: no limit]",
+    ))?
+    .arg(flag(heap, "quiet", "Write no line for each connection"))
+}
+
+fn audit_command<'a>(heap: Global) -> Result<Command<'a>, AllocError>
+    ensures { IfOk result (IsReadAs audit_app) }
+{
+    described(
+        heap,
+        "audit",
+        "Fights every pair on a hill again, and writes whether each kept result is what its match gives",
+    )
+    .arg(file(heap, "FILE", "Hill file"))
+}
+
+fn migrate_command<'a>(heap: Global) -> Result<Command<'a>, AllocError>
+    ensures { IfOk result (IsReadAs migrate_app) }
+{
+    described(
+        heap,
+        "migrate",
+        "Moves a hill of the layout before this one to a new file, and writes MIGRATED",
+    )
+    .arg(file(heap, "FILE", "Hill file, which stays as it is"))?
+    .arg(file(heap, "NEW", "New hill file; created if missing"))
+}
+
+/// The command with this one among its own, if that was made.
+fn with_command<'a>(
+    command: Command<'a>,
+    made: Result<Command<'a>, AllocError>,
+) -> Result<Command<'a>, AllocError>
+    ensures { (app sub : App) → IsReadAs app command.entry → IfOk made.entry (IsReadAs sub)
+        → IfOk result (IsReadAs (with_subcommand app sub.top)) }
+{
+    command.subcommand(made?)
+}
+
+/// The command of this name, with what help says of it.
+fn described<'a>(heap: Global, name: &'a str, about: &'a str) -> Command<'a>
+    ensures { IsReadAs (new_app name.entry.now) result }
+{
+    Command::new(heap, name).about(about)
+}
+
+/// The command with the flags that say how output is laid out.
+fn with_view<'a>(heap: Global, command: Command<'a>) -> Result<Command<'a>, AllocError>
+    ensures { (app : App) → IsReadAs app command.entry → IfOk result (IsReadAs (with_view app)) }
+{
+    command
+        .arg(flag(heap, "plain", "Write lines for programs; not with --table"))?
+        .arg(flag(heap, "table", "Write a table for people; not with --plain"))
+}
+
+fn file<'a>(heap: Global, name: &'a str, help: &'a str) -> Arg<'a>
+    ensures rule { rule_of result ≡ file_rule name.entry.now }
+    ensures global { result.global ≡ false }
+{
+    Arg::new(heap, name).required(true).help(help)
+}
+
+fn source<'a>(heap: Global) -> Arg<'a>
+    ensures rule { rule_of result ≡ new_rule (codes "FILE") }
+    ensures global { result.global ≡ false }
+{
+    Arg::new(heap, "FILE").help("File of the source; standard input if left out, or if -")
+}
+
+fn files<'a>(heap: Global) -> Arg<'a>
+    ensures rule { rule_of result ≡ files_rule (codes "FILE") }
+    ensures global { result.global ≡ false }
+{
+    file(heap, "FILE", "Files of the sources, one or more").action(ArgAction::Append)
+}
+
+fn form<'a>(heap: Global) -> Arg<'a>
+    ensures rule { rule_of result ≡ text_rule (codes "format") }
+    ensures global { result.global ≡ false }
+{
+    Arg::new(heap, "format")
+        .long("format")
+        .value_name("FORM")
+        .help("Form of what is written, text or json [default: text]")
+}
+
+fn port<'a>(heap: Global) -> Arg<'a>
+    ensures rule { rule_of result ≡ required_rule (codes "port") 65535 }
+    ensures global { result.global ≡ false }
+{
+    Arg::new(heap, "port")
+        .long("port")
+        .value_name("NUMBER")
+        .value_parser(value_parser!(u16))
+        .required(true)
+        .help("Port to listen at, 0 to 65535; at 0 the system chooses one")
+}
+
+fn flag<'a>(heap: Global, name: &'a str, help: &'a str) -> Arg<'a>
+    ensures rule { rule_of result ≡ flag_rule name.entry.now }
+    ensures global { result.global ≡ false }
+{
+    Arg::new(heap, name)
+        .long(name)
+        .action(ArgAction::SetTrue)
+        .help(help)
+}

@@ -1,0 +1,178 @@
+//! What words that `clap` took give a command.
+
+ghost use Rattle.std.specs.Prelude.{◌≡◌, [], codes, map, option_map, unwrap_or, IfOk};
+ghost use Rattle.clap.specs.Words.{all_of, first_of, found_of, one_of, rows_of};
+ghost use Rattle.koth_words.specs.Options.{number_below, number_given};
+ghost use Rattle.koth_words.specs.Words.{form_in, has_flag, has_known_form, has_one_view, matches_in, text_or_none, view_in, IsSource};
+
+use crate::options::number_if_given;
+use crate::words::{
+    Checked, Creation, Fighters, Form, Migration, Service, Shown, Source, Submission, View,
+};
+use clap::ArgMatches;
+use std::alloc::{AllocError, Global};
+
+/// The source that `asm` reads.
+pub(crate) fn source_named<'w>(matches: &ArgMatches<'w>) -> Source<'w>
+    ensures { IsSource (first_of (codes "FILE") (rows_of (found_of matches.now))) result }
+{
+    match text_given(matches, "FILE") {
+        None | Some("-") => Source::Input,
+        Some(file) => Source::File(file),
+    }
+}
+
+/// The sources that are checked, and the form of what is written of them.
+pub(crate) fn checked_named<'w>(
+    heap: Global,
+    matches: &ArgMatches<'w>,
+) -> Result<Checked<'w>, AllocError>
+    ensures files { IfOk result (λ checked. map (λ file. file.now) checked.files.items
+        ≡ unwrap_or (all_of (codes "FILE") (rows_of (found_of matches.now))) []) }
+    ensures form { IfOk result (λ checked. checked.form ≡ form_in (rows_of (found_of matches.now))) }
+{
+    let mut files = Vec::new(heap);
+    files.extend_from_slice(matches.get_strs("FILE").unwrap_or(&[]))?;
+    Ok(Checked {
+        files,
+        form: form_given(matches),
+    })
+}
+
+fn form_given(matches: &ArgMatches<'_>) -> Form
+    ensures { result ≡ form_in (rows_of (found_of matches.now)) }
+{
+    match text_given(matches, "format") {
+        Some("json") => Form::Json,
+        _ => Form::Text,
+    }
+}
+
+/// Whether the form that is asked for, if there is one, is `text` or `json`.
+pub(crate) fn has_known_form(matches: &ArgMatches<'_>) -> bool
+    ensures { result ≡ has_known_form (rows_of (found_of matches.now)) }
+{
+    match text_given(matches, "format") {
+        Some(form) => form == "text" || form == "json",
+        None => true,
+    }
+}
+
+/// The layout that is asked for.
+fn view_given(matches: &ArgMatches<'_>) -> Option<View>
+    ensures { result ≡ view_in (rows_of (found_of matches.now)) }
+{
+    if flag_given(matches, "plain") {
+        Some(View::Plain)
+    } else if flag_given(matches, "table") {
+        Some(View::Table)
+    } else {
+        None
+    }
+}
+
+/// Whether at most one layout is asked for.
+pub(crate) fn has_one_view(matches: &ArgMatches<'_>) -> bool
+    ensures { result ≡ has_one_view (rows_of (found_of matches.now)) }
+{
+    !(flag_given(matches, "plain") && flag_given(matches, "table"))
+}
+
+pub(crate) fn fighters_named<'w>(matches: &ArgMatches<'w>) -> Fighters<'w>
+    ensures older { result.older.now ≡ text_or_none (first_of (codes "A") (rows_of (found_of matches.now))) }
+    ensures younger { result.younger.now ≡ text_or_none (first_of (codes "B") (rows_of (found_of matches.now))) }
+    ensures view { result.view ≡ view_in (rows_of (found_of matches.now)) }
+{
+    Fighters {
+        older: file_named(matches, "A"),
+        younger: file_named(matches, "B"),
+        view: view_given(matches),
+    }
+}
+
+pub(crate) fn creation_named<'w>(matches: &ArgMatches<'w>) -> Creation<'w>
+    ensures hill { result.hill.now ≡ text_or_none (first_of (codes "FILE") (rows_of (found_of matches.now))) }
+    ensures overwrite { result.overwrite ≡ has_flag (codes "overwrite") (rows_of (found_of matches.now)) }
+{
+    Creation {
+        hill: file_named(matches, "FILE"),
+        overwrite: flag_given(matches, "overwrite"),
+    }
+}
+
+pub(crate) fn submission_named<'w>(matches: &ArgMatches<'w>) -> Submission<'w>
+    ensures hill { result.hill.now ≡ text_or_none (first_of (codes "FILE") (rows_of (found_of matches.now))) }
+    ensures source { result.source.now ≡ text_or_none (first_of (codes "SOURCE") (rows_of (found_of matches.now))) }
+    ensures view { result.view ≡ view_in (rows_of (found_of matches.now)) }
+{
+    Submission {
+        hill: file_named(matches, "FILE"),
+        source: file_named(matches, "SOURCE"),
+        view: view_given(matches),
+    }
+}
+
+pub(crate) fn shown_named<'w>(matches: &ArgMatches<'w>) -> Shown<'w>
+    ensures hill { result.hill.now ≡ text_or_none (first_of (codes "FILE") (rows_of (found_of matches.now))) }
+    ensures matches { result.matches ≡ matches_in (rows_of (found_of matches.now)) }
+    ensures view { result.view ≡ view_in (rows_of (found_of matches.now)) }
+{
+    Shown {
+        hill: file_named(matches, "FILE"),
+        matches: flag_given(matches, "matches"),
+        view: view_given(matches),
+    }
+}
+
+pub(crate) fn service_named<'w>(matches: &ArgMatches<'w>) -> Service<'w>
+    ensures hill { result.hill.now ≡ text_or_none (first_of (codes "FILE") (rows_of (found_of matches.now))) }
+    ensures port { result.port ≡ number_below 65536 0 (one_of (codes "port") (rows_of (found_of matches.now))) }
+    ensures connections { result.connections
+        ≡ number_given 4294967296 (one_of (codes "connections") (rows_of (found_of matches.now))) }
+    ensures quiet { result.quiet ≡ has_flag (codes "quiet") (rows_of (found_of matches.now)) }
+{
+    Service {
+        hill: file_named(matches, "FILE"),
+        port: port_given(matches),
+        connections: number_if_given(matches, "connections"),
+        quiet: flag_given(matches, "quiet"),
+    }
+}
+
+pub(crate) fn migration_named<'w>(matches: &ArgMatches<'w>) -> Migration<'w>
+    ensures old { result.old.now ≡ text_or_none (first_of (codes "FILE") (rows_of (found_of matches.now))) }
+    ensures new { result.new.now ≡ text_or_none (first_of (codes "NEW") (rows_of (found_of matches.now))) }
+{
+    Migration {
+        old: file_named(matches, "FILE"),
+        new: file_named(matches, "NEW"),
+    }
+}
+
+/// The file that is named so. Words without it are refused.
+pub(crate) fn file_named<'w>(matches: &ArgMatches<'w>, name: &str) -> &'w str
+    ensures { result.now ≡ text_or_none (first_of name.now (rows_of (found_of matches.now))) }
+{
+    text_given(matches, name).unwrap_or("")
+}
+
+/// The text that is given under this name, if one is.
+fn text_given<'w>(matches: &ArgMatches<'w>, name: &str) -> Option<&'w str>
+    ensures { option_map (λ text. text.now) result ≡ first_of name.now (rows_of (found_of matches.now)) }
+{
+    matches.get_str(name)
+}
+
+/// The port. Words without it are refused.
+fn port_given(matches: &ArgMatches<'_>) -> u16
+    ensures { result ≡ number_below 65536 0 (one_of (codes "port") (rows_of (found_of matches.now))) }
+{
+    matches.get_one("port").unwrap_or(0)
+}
+
+/// Whether the flag is given. `clap` has the text `true` for a flag that is, and `false` for one that isn't.
+fn flag_given(matches: &ArgMatches<'_>, name: &str) -> bool
+    ensures { result ≡ has_flag name.now (rows_of (found_of matches.now)) }
+{
+    matches.get_one(name).unwrap_or(false)
+}

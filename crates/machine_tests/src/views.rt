@@ -1,0 +1,208 @@
+//! Texts for people, of small hills whose results were made up.
+
+ghost use Rattle.std.specs.Prelude.{◌≡◌, ◌+◌, IfOk};
+ghost use Rattle.koth_match.specs.Match.{rounds_in};
+ghost use Rattle.war_types.specs.Warrior.{Fits};
+
+use crate::warriors::{SMALL, imp};
+use hill_store::Reply;
+use koth_hill::Hill;
+use koth_match::Bout;
+use koth_views::{bout_view, hill_view, matches_view, placing_view, roster};
+use refusing::{Refusing, refuse_each};
+use std::alloc::{AllocError, Global};
+use std::process::Abort;
+use std::test::Fail;
+use war_types::{Settings, Title, Warrior};
+
+/// Settings of ten rounds, with room for three.
+fn ten_rounds() -> Result<Settings, Fail> {
+    let mut raw = SMALL;
+    raw.capacity = 3;
+    raw.rounds = 10;
+    Ok(Settings::new(raw)?)
+}
+
+fn bout(older_wins: u16, younger_wins: u16, ties: u16) -> Bout
+    ensures { rounds_in result ≡ older_wins + younger_wins + ties }
+{
+    Bout {
+        older_wins,
+        younger_wins,
+        ties,
+    }
+}
+
+fn entrant(
+    alloc: Global,
+    name: &[u8],
+    author: &[u8],
+    settings: &Settings,
+) -> Result<Warrior<Global>, Fail>
+    ensures { IfOk result (λ w. Fits settings.now w) }
+{
+    let code = Vec::from_slice(alloc, &[imp()])?;
+    let name = Title::new(name, "Unnamed");
+    let author = Title::new(author, "Anonymous");
+    Ok(Warrior::new(code, 0, name, author, settings).ok_or("it fits")?)
+}
+
+/// The entries 1, 2 and 3, of which the last is the first by rank, and the first the second.
+fn hill_of_three(alloc: Global) -> Result<Hill<Global>, Fail> {
+    let settings = ten_rounds()?;
+    if settings.capacity() != 3 || settings.rounds() != 10 {
+        return Err("a hill of three".into());
+    }
+    let first = entrant(alloc, b"Imp", b"koth", &settings)?;
+    let second = entrant(alloc, b"Dwarf", b"koth", &settings)?;
+    let third = entrant(alloc, b"Scanner", b"koth", &settings)?;
+    let mut hill = Hill::with_counter(alloc, settings, 3)?;
+    hill.put_back(1, 2, first, &[]);
+    hill.put_back(2, 1, second, &[bout(6, 3, 1)]);
+    hill.put_back(3, 0, third, &[bout(1, 9, 0), bout(2, 7, 1)]);
+    Ok(hill)
+}
+
+/// The entries 2 and 3 of such a hill.
+fn hill_of_two(alloc: Global) -> Result<Hill<Global>, Fail> {
+    let settings = ten_rounds()?;
+    if settings.capacity() != 3 || settings.rounds() != 10 {
+        return Err("a hill of two".into());
+    }
+    let second = entrant(alloc, b"Dwarf", b"koth", &settings)?;
+    let third = entrant(alloc, b"Scanner", b"koth", &settings)?;
+    let mut hill = Hill::with_counter(alloc, settings, 3)?;
+    hill.put_back(2, 1, second, &[]);
+    hill.put_back(3, 0, third, &[bout(2, 7, 1)]);
+    Ok(hill)
+}
+
+/// A warrior whose author's name is cut behind a blank, in its 48th byte.
+fn hill_of_one(alloc: Global) -> Result<Hill<Global>, Fail> {
+    let settings = ten_rounds()?;
+    if settings.capacity() != 3 || settings.rounds() != 10 {
+        return Err("a hill of one".into());
+    }
+    let author = b"one whose name has some forty-seven characters, and more";
+    let only = entrant(alloc, b"Imp", author, &settings)?;
+    let mut hill = Hill::with_counter(alloc, settings, 1)?;
+    hill.put_back(1, 0, only, &[]);
+    Ok(hill)
+}
+
+/// The text has these lines, each with a line feed.
+fn check_lines(rt: &(impl Abort + AllocGlobal), text: &[u8], due: &[&str]) -> Result<(), Fail> {
+    let mut whole = Vec::new(rt.alloc());
+    for line in due {
+        whole.extend_from_slice(line.as_bytes())?;
+        whole.push(b'\n')?;
+    }
+    assert_eq!(rt; text, whole.as_slice());
+    Ok(())
+}
+
+#[test]
+fn tables(rt: HostRuntime) -> Result<(), Fail> {
+    let text = hill_view(rt.alloc(), &hill_of_three(rt.alloc())?)?;
+    let due = [
+        "rank  entry  points  won  lost  tied  age  warrior  author",
+        "   1      3      49   16     3     1    0  Scanner  koth",
+        "   2      1      22    7    12     1    2  Imp      koth",
+        "   3      2      17    5    13     2    1  Dwarf    koth",
+    ];
+    check_lines(&rt, text.as_slice(), &due)?;
+    let text = hill_view(rt.alloc(), &hill_of_one(rt.alloc())?)?;
+    let due = [
+        "rank  entry  points  won  lost  tied  age  warrior  author",
+        "   1      1       0    0     0     0    0  Imp      one whose name has some forty-seven characters,",
+    ];
+    check_lines(&rt, text.as_slice(), &due)
+}
+
+#[test]
+fn matrices(rt: HostRuntime) -> Result<(), Fail> {
+    let text = matches_view(rt.alloc(), &hill_of_three(rt.alloc())?)?;
+    let due = [
+        "rank  warrior      1      2      3",
+        "   1  Scanner      .  9-1-0  7-2-1",
+        "   2  Imp      1-9-0      .  6-3-1",
+        "   3  Dwarf    2-7-1  3-6-1      .",
+    ];
+    check_lines(&rt, text.as_slice(), &due)
+}
+
+#[test]
+fn hills_without_warriors(rt: HostRuntime) -> Result<(), Fail> {
+    let hill = Hill::new(rt.alloc(), ten_rounds()?)?;
+    let table = hill_view(rt.alloc(), &hill)?;
+    let due = [
+        "rank  entry  points  won  lost  tied  age  warrior  author",
+        "no warriors yet",
+    ];
+    check_lines(&rt, table.as_slice(), &due)?;
+    let matrix = matches_view(rt.alloc(), &hill)?;
+    check_lines(
+        &rt,
+        matrix.as_slice(),
+        &["rank  warrior", "no warriors yet"],
+    )
+}
+
+#[test]
+fn counts_of_a_match(rt: HostRuntime) -> Result<(), Fail> {
+    let settings = ten_rounds()?;
+    let older = entrant(rt.alloc(), b"Imp", b"A. K. Dewdney", &settings)?;
+    let younger = entrant(rt.alloc(), b"Scanner", b"koth", &settings)?;
+    let text = bout_view(rt.alloc(), &older, &younger, bout(1, 109, 0))?;
+    let due = [
+        "warrior  author         won  lost  tied",
+        "Imp      A. K. Dewdney    1   109     0",
+        "Scanner  koth           109     1     0",
+    ];
+    check_lines(&rt, text.as_slice(), &due)
+}
+
+/// The entry 1 fell as the entry 3 came.
+#[test]
+fn placings(rt: HostRuntime) -> Result<(), Fail> {
+    let before = roster(rt.alloc(), &hill_of_three(rt.alloc())?)?;
+    let hill = hill_of_two(rt.alloc())?;
+    let reply = Reply::Placed {
+        entry: 3,
+        rank: 1,
+        score: 22,
+    };
+    let text = placing_view(rt.alloc(), before.as_slice(), &hill, &reply)?;
+    let due = [
+        "Scanner by koth is warrior 3 of this hill: rank 1 of 2, 22 points",
+        "Imp by koth (entry 1) fell",
+        "warrior  author  won  lost  tied",
+        "Dwarf    koth      7     2     1",
+    ];
+    check_lines(&rt, text.as_slice(), &due)?;
+    let reply = Reply::Fell {
+        entry: 21,
+        score: 1,
+    };
+    let text = placing_view(rt.alloc(), before.as_slice(), &hill, &reply)?;
+    let due = ["entry 21 with 1 point fell: it is not on the hill"];
+    check_lines(&rt, text.as_slice(), &due)?;
+    let text = placing_view(rt.alloc(), before.as_slice(), &hill, &Reply::Worn)?;
+    check_lines(&rt, text.as_slice(), &[])
+}
+
+/// Each growth that is refused is the error.
+#[test]
+fn growths_of_a_table(rt: HostRuntime) -> Result<(), Fail> {
+    let memory = Refusing::new(rt.alloc());
+    let hill = hill_of_three(rt.alloc())?;
+    let runs = refuse_each(&memory, |_k| match hill_view(&memory, &hill) {
+        Ok(text) => {
+            assert_eq!(rt; memory.refused(), 0);
+            assert!(rt; !text.is_empty());
+        }
+        Err(AllocError) => assert_eq!(rt; memory.refused(), 1),
+    });
+    assert!(rt; runs > 1);
+    Ok(())
+}

@@ -1,0 +1,131 @@
+//! The refusals of a source.
+
+ghost use Rattle.std.specs.Prelude.{◌≡◌, All, IfOk, map};
+ghost use Rattle.redcode_asm.specs.Assembly.{assembly};
+ghost use Rattle.redcode_diagnosis.specs.Line.{IsPlaceIn, line_text};
+ghost use Rattle.redcode_diagnosis.specs.Told.{AreToldFrom, IsFirst, Tells, is_memory};
+
+use crate::blame::blame_of;
+use crate::copies::{Copied, copy_of};
+use crate::judge::further_faults;
+use crate::line::line_text;
+use crate::place::place_in;
+use crate::scene::Scene;
+use bumpalo::Bump;
+use redcode_asm::assemble;
+use std::alloc::{AllocError, Allocator};
+use war_types::{AsmFault, AsmKind, Settings};
+
+/// One refusal, as people are told it.
+#[derive(Drop)]
+pub struct Diagnosis<A: Allocator> {
+    /// The line of the source, counted from 1, or 0 where none is to blame, and the kind.
+    pub fault: AsmFault,
+    /// Of the first byte to blame in the text of that line, counted from 1.
+    pub column: u32,
+    /// Bytes to blame: 1 at least, but for an empty text.
+    pub width: u32,
+    /// What is wrong, and what was probably meant.
+    pub sentence: Vec<u8, A>,
+    /// Of a line in a block the copy that is refused.
+    pub copy: Option<Copied<A>>,
+}
+
+/// All refusals that are due to a source under these settings, none where it gives a warrior.
+///
+/// The first is the assembler's. Behind it stand those of the other lines that have a fault by themselves, a false assertion included,
+/// each line of the source once, in the order in which they are written out, up to 100 in all; none where the source can't be written out.
+/// An error is want of memory.
+pub fn diagnose<A: Allocator + Copy>(
+    alloc: A,
+    source: &[u8],
+    settings: &Settings,
+) -> Result<Vec<Diagnosis<A>, A>, AllocError>
+    ensures told { IfOk result (λ all. Tells (map (λ d. d.fault) all.items) (assembly settings.now source.now)) }
+    ensures placed { IfOk result (λ all. All (λ d. IsPlaceIn (line_text source.now d.fault.line) d.column d.width) all.items) }
+{
+    match assemble(alloc, source, settings) {
+        Ok(_) => Ok(Vec::new(alloc)),
+        Err(fault) => {
+            let all = diagnose_refused(alloc, source, settings, fault)?;
+            Ok(all)
+        }
+    }
+}
+
+/// The refusals of a source that the assembler refuses so. An error is want of memory, be it the assembler's.
+fn diagnose_refused<A: Allocator + Copy>(
+    alloc: A,
+    source: &[u8],
+    settings: &Settings,
+    first: AsmFault,
+) -> Result<Vec<Diagnosis<A>, A>, AllocError>
+    ensures told { IfOk result (λ all. AreToldFrom first (map (λ d. d.fault) all.items)) }
+    ensures placed { IfOk result (λ all. All (λ d. IsPlaceIn (line_text source.now d.fault.line) d.column d.width) all.items) }
+{
+    if is_memory(first.kind) {
+        return Err(AllocError);
+    }
+    let region = Bump::new(alloc);
+    let scene = Scene::new(alloc, &region, source, settings)?;
+    let faults = faults_from(&scene, first)?;
+    let all = told_all(&scene, source, faults.as_slice())?;
+    Ok(all)
+}
+
+/// Whether a fault is want of memory.
+fn is_memory(kind: AsmKind) -> bool
+    ensures { result ≡ is_memory kind }
+{
+    matches!(kind, AsmKind::Memory)
+}
+
+/// The first fault, and those of the other lines.
+fn faults_from<A: Allocator + Copy>(
+    scene: &Scene<'_, A>,
+    first: AsmFault,
+) -> Result<Vec<AsmFault, A>, AllocError>
+    ensures { IfOk result (λ all. IsFirst first all.items) }
+{
+    let others = further_faults(scene, first)?;
+    let mut all = Vec::new(scene.alloc);
+    all.push(first)?;
+    all.extend_from_slice(others.as_slice())?;
+    Ok(all)
+}
+
+/// These faults, as people are told them.
+fn told_all<A: Allocator + Copy>(
+    scene: &Scene<'_, A>,
+    source: &[u8],
+    faults: &[AsmFault],
+) -> Result<Vec<Diagnosis<A>, A>, AllocError>
+    ensures faults { IfOk result (λ all. map (λ d. d.fault) all.items ≡ faults.now) }
+    ensures placed { IfOk result (λ all. All (λ d. IsPlaceIn (line_text source.now d.fault.line) d.column d.width) all.items) }
+{
+    let mut all = Vec::new(scene.alloc);
+    for fault in faults {
+        all.push(told(scene, source, *fault)?)?;
+    }
+    Ok(all)
+}
+
+/// A fault, as people are told it.
+fn told<A: Allocator + Copy>(
+    scene: &Scene<'_, A>,
+    source: &[u8],
+    fault: AsmFault,
+) -> Result<Diagnosis<A>, AllocError>
+    ensures fault { IfOk result (λ d. d.fault ≡ fault) }
+    ensures placed { IfOk result (λ d. IsPlaceIn (line_text source.now d.fault.line) d.column d.width) }
+{
+    let blame = blame_of(scene, fault)?;
+    let (column, width) = place_in(line_text(source, fault.line), blame.span);
+    Ok(Diagnosis {
+        fault,
+        column,
+        width,
+        sentence: blame.sentence,
+        copy: copy_of(scene, fault)?,
+    })
+}

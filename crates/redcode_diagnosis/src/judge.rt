@@ -1,0 +1,171 @@
+//! The faults of a source's lines, each line judged by itself.
+
+ghost use Rattle.std.specs.Prelude.{◌≡◌, ◌<◌, length};
+
+use crate::scene::Scene;
+use redcode_expand::{Expanded, Line, LineKind, predefined};
+use redcode_lines::behind_first;
+use redcode_statement::{
+    Statement, assert_said, end_said, has_bad_token, instruction_of, org_said, other_said,
+};
+use redcode_text::{Names, Token};
+use std::alloc::{AllocError, Allocator};
+use war_types::{AsmFault, AsmKind, Settings};
+
+/// Refusals that are told at most.
+const FAULT_LIMIT: usize = 100;
+
+/// What names stand for on a line.
+#[derive(Clone, Copy)]
+pub(crate) struct Labels<'e, 's, A: Allocator + Copy> {
+    pub expanded: &'e Expanded<'s, A>,
+    pub settings: &'e Settings,
+    /// Instructions before the line.
+    pub before: u32,
+    /// The instruction's own address in an operand, and 0 in `ORG`, `END` and `;assert`.
+    pub origin: u32,
+}
+
+impl<'e, 's, A: Allocator + Copy> Names for Labels<'e, 's, A> {
+    ghost use Rattle.redcode_asm.specs.Names.{values_of};
+
+    ghost values = { λ it. values_of it.settings.now it.expanded.now.labels it.before it.origin };
+
+    fn value_of(&self, name: &[u8]) -> Option<i64> {
+        match self.expanded.label(name) {
+            Some(address) => Some(i64::from(address) - i64::from(self.origin)),
+            None => predefined(self.settings, self.before, name),
+        }
+    }
+}
+
+/// What names stand for on a line.
+pub(crate) fn labels_on<'e, 's, A: Allocator + Copy>(
+    expanded: &'e Expanded<'s, A>,
+    settings: &'e Settings,
+    line: Line,
+) -> Labels<'e, 's, A> {
+    let before = line.before;
+    let origin = match line.kind {
+        LineKind::Operation => before,
+        _ => 0,
+    };
+    Labels {
+        expanded,
+        settings,
+        before,
+        origin,
+    }
+}
+
+/// What the line at this place says, or the first of its faults.
+pub(crate) fn said_at<A: Allocator + Copy>(
+    expanded: &Expanded<'_, A>,
+    settings: &Settings,
+    place: usize,
+    line: Line,
+) -> Result<Statement, AsmKind>
+    requires { place < length expanded.now.lines }
+{
+    let tokens = expanded.line_tokens(place);
+    if has_bad_token(tokens) {
+        return Err(AsmKind::BadToken);
+    }
+    let word = expanded.word(place);
+    let names = labels_on(expanded, settings, line);
+    match line.kind {
+        LineKind::Operation => {
+            let instr = instruction_of(settings.core(), word, behind_first(tokens), &names)?;
+            Ok(Statement::Instruction(instr))
+        }
+        LineKind::Org => org_said(behind_first(tokens), &names),
+        LineKind::End => end_said(behind_first(tokens), &names),
+        LineKind::Assert => assert_said(tokens, &names),
+        LineKind::Name | LineKind::Author => Ok(Statement::Nothing),
+        LineKind::Other => other_said(word),
+    }
+}
+
+/// The fault of the line at this place, a false assertion included.
+pub(crate) fn fault_at<A: Allocator + Copy>(
+    expanded: &Expanded<'_, A>,
+    settings: &Settings,
+    place: usize,
+    line: Line,
+) -> Option<AsmKind>
+    requires { place < length expanded.now.lines }
+{
+    match said_at(expanded, settings, place, line) {
+        Ok(Statement::Assert(0)) => Some(AsmKind::AssertFalse),
+        Ok(_) => None,
+        Err(kind) => Some(kind),
+    }
+}
+
+/// The faults of the lines other than the first one, each line of the source once, in the order in which they are written out.
+pub(crate) fn further_faults<A: Allocator + Copy>(
+    scene: &Scene<'_, A>,
+    first: AsmFault,
+) -> Result<Vec<AsmFault, A>, AllocError> {
+    let mut faults = Vec::new(scene.alloc);
+    let Some(expanded) = &scene.expanded else {
+        return Ok(faults);
+    };
+    for (i, line) in expanded.lines().iter().enumerate() {
+        let number = line.source_line;
+        if number == first.line || is_told(faults.as_slice(), number) {
+            continue;
+        }
+        if faults.len() + 1 >= FAULT_LIMIT {
+            break;
+        }
+        if let Some(kind) = fault_at(expanded, scene.settings, i, *line) {
+            faults.push(AsmFault { line: number, kind })?;
+        }
+    }
+    Ok(faults)
+}
+
+/// Whether a fault of this line is among those.
+fn is_told(faults: &[AsmFault], line: u32) -> bool {
+    for fault in faults {
+        if fault.line == line {
+            return true;
+        }
+    }
+    false
+}
+
+/// A line of the expanded source with a fault.
+#[derive(Clone, Copy, Debug)]
+pub(crate) struct Faulty<'e, 's> {
+    pub line: Line,
+    /// As they stand in `Expanded`.
+    pub tokens: &'e [Token<'s>],
+    /// How often the line of the source has been written out, this time included.
+    pub times: u32,
+}
+
+/// The first line of the expanded source that has this fault.
+pub(crate) fn faulty_line<'e, 's, A: Allocator + Copy>(
+    expanded: &'e Expanded<'s, A>,
+    settings: &Settings,
+    fault: AsmFault,
+) -> Option<Faulty<'e, 's>> {
+    let mut times: u32 = 0;
+    for (i, line) in expanded.lines().iter().enumerate() {
+        if line.source_line != fault.line {
+            continue;
+        }
+        times = times.saturating_add(1);
+        if fault_at(expanded, settings, i, *line) == Some(fault.kind) {
+            let tokens = expanded.line_tokens(i);
+            return Some(Faulty {
+                line: *line,
+                tokens,
+                times,
+            });
+        }
+    }
+    None
+}

@@ -1,0 +1,101 @@
+//! The nearest name to one that is misspelt.
+
+use redcode_text::{Word, word_of};
+use std::alloc::{AllocError, Allocator};
+use std::str::from_utf8;
+use strsim::osa_distance;
+
+/// Bytes of a name that a nearest one is looked for.
+const NAME_LIMIT: usize = 32;
+
+/// How many edits are too many.
+const TOO_FAR: usize = 3;
+
+/// The reserved words.
+const WORDS: [&str; 25] = [
+    "DAT", "MOV", "ADD", "SUB", "MUL", "DIV", "MOD", "JMP", "JMZ", "JMN", "DJN", "CMP", "SEQ",
+    "SNE", "SLT", "SPL", "NOP", "LDP", "STP", "EQU", "FOR", "ROF", "ORG", "END", "PIN",
+];
+
+/// The search for the name that is nearest to a misspelt one: at most two letters may be put in, left out, replaced or exchanged with their
+/// neighbour, and less than half of its letters. Of two that are as near the first counts.
+#[derive(Clone, Copy, Debug)]
+pub(crate) struct Nearest<'n> {
+    word: &'n [u8],
+    found: Option<&'n [u8]>,
+    distance: usize,
+}
+
+impl<'n> Nearest<'n> {
+    pub(crate) fn new(word: &'n [u8]) -> Nearest<'n> {
+        Nearest {
+            word,
+            found: None,
+            distance: TOO_FAR,
+        }
+    }
+
+    /// The nearest name so far.
+    pub(crate) fn found(&self) -> Option<&'n [u8]> {
+        self.found
+    }
+
+    /// Looks at a further name.
+    pub(crate) fn offer<A: Allocator + Copy>(
+        &mut self,
+        alloc: A,
+        name: &'n [u8],
+    ) -> Result<(), AllocError> {
+        let distance = edits(alloc, self.word, name)?;
+        if distance < self.distance && 2 * distance.min(TOO_FAR) < self.word.len() {
+            self.found = Some(name);
+            self.distance = distance;
+        }
+        Ok(())
+    }
+}
+
+/// How many edits lead from one name to the other, none if they differ in letter case alone; or a number that is too many.
+fn edits<A: Allocator + Copy>(alloc: A, from: &[u8], to: &[u8]) -> Result<usize, AllocError> {
+    if from.eq_ignore_ascii_case(to) {
+        return Ok(0);
+    }
+    if from.len().max(to.len()) > NAME_LIMIT || from.len().abs_diff(to.len()) >= TOO_FAR {
+        return Ok(TOO_FAR);
+    }
+    match (from_utf8(from), from_utf8(to)) {
+        (Ok(from), Ok(to)) => osa_distance(alloc, from, to),
+        _ => Ok(TOO_FAR),
+    }
+}
+
+/// The reserved word that is nearest to one that is none.
+pub(crate) fn nearest_word<A: Allocator + Copy>(
+    alloc: A,
+    text: &[u8],
+) -> Result<Option<&'static str>, AllocError> {
+    let mut upper = Vec::from_slice(alloc, text)?;
+    for byte in upper.iter_mut() {
+        *byte = byte.to_ascii_uppercase();
+    }
+    let mut found = None;
+    let mut least = TOO_FAR;
+    for word in WORDS {
+        let distance = edits(alloc, upper.as_slice(), word.as_bytes())?;
+        if distance < least && 2 * distance.min(TOO_FAR) < text.len() {
+            found = Some(word);
+            least = distance;
+        }
+    }
+    Ok(found)
+}
+
+/// Whether a name is an operation.
+pub(crate) fn is_operation(name: &str) -> bool {
+    matches!(word_of(name.as_bytes()), Some(Word::Operation(_)))
+}
+
+/// Whether a name is a reserved word.
+pub(crate) fn is_reserved(name: &[u8]) -> bool {
+    word_of(name).is_some()
+}

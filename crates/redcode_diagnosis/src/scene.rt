@@ -1,0 +1,139 @@
+//! What is known of a source that is refused.
+
+use crate::line::line_text;
+use crate::place::{Span, blanks_before, span_of, spans_of, whole};
+use bumpalo::Bump;
+use redcode_expand::{Expanded, SOURCE_LIMIT, expand};
+use redcode_lines::{LineForm, Reading, SourceLine, live_source, source_lines};
+use redcode_text::Token;
+use std::alloc::{AllocError, Allocator};
+use war_types::{AsmFault, AsmKind, Settings};
+
+/// Bytes of the word `;assert`.
+const ASSERT_BYTES: u32 = 7;
+
+/// What is known of a source that is refused.
+#[derive(Drop)]
+pub(crate) struct Scene<'s, A: Allocator + Copy> {
+    pub alloc: A,
+    pub source: &'s [u8],
+    pub settings: &'s Settings,
+    /// Its lines as they stand, none where it is too long.
+    pub lines: Vec<SourceLine<'s, A>, A>,
+    /// Its lines written out, where that was not refused.
+    pub expanded: Option<Expanded<'s, A>>,
+}
+
+impl<'s, A: Allocator + Copy> Scene<'s, A> {
+    /// What is known of a source. An error is want of memory.
+    pub(crate) fn new(
+        alloc: A,
+        region: &'s Bump<A>,
+        source: &'s [u8],
+        settings: &'s Settings,
+    ) -> Result<Scene<'s, A>, AllocError> {
+        Ok(Scene {
+            alloc,
+            source,
+            settings,
+            lines: lines_of(alloc, source)?,
+            expanded: expanded_of(alloc, region, source, settings)?,
+        })
+    }
+
+    /// How the line of this number stands in the source, if it says something.
+    pub(crate) fn row(&self, number: u32) -> Option<Row<'_, 's>> {
+        for line in &self.lines {
+            if line.number() == number {
+                let reading = line.reading();
+                let shift = shift_of(line_text(self.source, number), reading.form);
+                return Some(Row { reading, shift });
+            }
+        }
+        None
+    }
+
+    /// The whole of a line.
+    pub(crate) fn whole(&self, number: u32) -> Span {
+        match self.row(number) {
+            Some(row) => row.whole(),
+            None => whole(line_text(self.source, number)),
+        }
+    }
+}
+
+/// A line as it stands in the source.
+#[derive(Clone, Copy, Debug)]
+pub(crate) struct Row<'l, 's> {
+    pub reading: Reading<'l, 's>,
+    /// Bytes of the line before the text that its tokens come from.
+    pub shift: u32,
+}
+
+impl<'l, 's> Row<'l, 's> {
+    /// The place of one of its tokens.
+    pub(crate) fn span(&self, token: &Token<'_>) -> Span {
+        span_of(self.shift, token)
+    }
+
+    /// From the first of some of its tokens to the last; the whole statement where there are none.
+    pub(crate) fn spans(&self, tokens: &[Token<'_>]) -> Span {
+        match spans_of(self.shift, tokens) {
+            Some(span) => span,
+            None => self.whole(),
+        }
+    }
+
+    /// From its first token to its last; all of the line where it has none.
+    pub(crate) fn whole(&self) -> Span {
+        let front = spans_of(self.shift, self.reading.front);
+        let others = spans_of(self.shift, self.reading.tokens);
+        match (front, others) {
+            (Some(front), Some(others)) => front.to(others),
+            (Some(span), None) | (None, Some(span)) => span,
+            (None, None) => Span {
+                from: 0,
+                width: u32::MAX,
+            },
+        }
+    }
+}
+
+/// The lines of a source that say something, none where it is too long.
+fn lines_of<'s, A: Allocator + Copy>(
+    alloc: A,
+    source: &'s [u8],
+) -> Result<Vec<SourceLine<'s, A>, A>, AllocError> {
+    if source.len() > SOURCE_LIMIT {
+        return Ok(Vec::new(alloc));
+    }
+    let (number, live) = live_source(source);
+    source_lines(alloc, number, live)
+}
+
+/// The source written out, where that is not refused.
+fn expanded_of<'s, A: Allocator + Copy>(
+    alloc: A,
+    region: &'s Bump<A>,
+    source: &'s [u8],
+    settings: &Settings,
+) -> Result<Option<Expanded<'s, A>>, AllocError> {
+    match expand(alloc, region, source, settings) {
+        Ok(expanded) => Ok(Some(expanded)),
+        Err(
+            AsmFault {
+                kind: AsmKind::Memory,
+                ..
+            },
+        ) => Err(AllocError),
+        Err(_) => Ok(None),
+    }
+}
+
+/// How many bytes of a line stand before the text that its tokens come from: those up to the end of the word `;assert`.
+fn shift_of(text: &[u8], form: LineForm) -> u32 {
+    match form {
+        LineForm::Assert => blanks_before(text).saturating_add(ASSERT_BYTES),
+        LineForm::Statement | LineForm::Name | LineForm::Author => 0,
+    }
+}

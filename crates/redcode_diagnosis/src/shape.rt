@@ -1,0 +1,243 @@
+//! Tokens that make no expression.
+
+use crate::blame::{Blame, blamed};
+use crate::equs::first_equ;
+use crate::line::line_text;
+use crate::place::{Span, part_of};
+use crate::said::Part;
+use crate::scene::{Row, Scene};
+use redcode_lines::has_text;
+use redcode_text::{Token, TokenKind, mode_named};
+use std::alloc::{AllocError, Allocator};
+
+/// Tokens of a line that make no expression.
+#[derive(Clone, Copy, Debug)]
+pub(crate) struct Shaped<'l, 's> {
+    /// With the mode in front, if there is one.
+    pub operand: &'l [Token<'s>],
+    /// Without it.
+    pub tokens: &'l [Token<'s>],
+    /// Whether a comma may still stand in them.
+    pub may_part: bool,
+}
+
+/// What a token is in an expression.
+#[derive(Clone, Copy, Debug)]
+enum Role {
+    /// A number or a name.
+    Value,
+    Open,
+    Close,
+    Not,
+    Sign,
+    Operator,
+    /// No part of any expression.
+    Stranger,
+}
+
+/// Why tokens make no expression.
+#[derive(Clone, Copy, Debug)]
+enum Flaw<'l, 's> {
+    SideBySide(&'l Token<'s>, &'l Token<'s>),
+    Stranger(&'l Token<'s>),
+    /// A `!` behind a value.
+    Behind(&'l Token<'s>),
+    /// A `)` without its `(`.
+    Unopened(&'l Token<'s>),
+    /// A `(` without its `)`.
+    Unclosed(&'l Token<'s>),
+    /// Something else where a value is due.
+    NoValue(&'l Token<'s>),
+    /// The last token, behind which a value is due.
+    NoEnd(&'l Token<'s>),
+}
+
+/// How far an expression is read.
+#[derive(Clone, Copy, Debug)]
+struct Reader<'l, 's> {
+    last: Option<&'l Token<'s>>,
+    /// Whether a value ends with the last token.
+    is_value: bool,
+    /// Parentheses that are open.
+    open: u32,
+}
+
+fn role_of(token: &Token<'_>) -> Role {
+    match token.kind {
+        TokenKind::Name | TokenKind::Number => Role::Value,
+        TokenKind::Comment | TokenKind::Bad => Role::Stranger,
+        TokenKind::Symbol => match token.text {
+            b"(" => Role::Open,
+            b")" => Role::Close,
+            b"!" => Role::Not,
+            b"+" | b"-" => Role::Sign,
+            b"*" | b"/" | b"%" | b"<" | b">" => Role::Operator,
+            b"<=" | b">=" | b"==" | b"!=" | b"&&" | b"||" => Role::Operator,
+            _ => Role::Stranger,
+        },
+    }
+}
+
+impl<'l, 's> Reader<'l, 's> {
+    /// The flaw that a further token shows.
+    fn flaw_at(&self, token: &'l Token<'s>) -> Option<Flaw<'l, 's>> {
+        match (role_of(token), self.is_value, self.last) {
+            (Role::Stranger, _, _) => Some(Flaw::Stranger(token)),
+            (Role::Value | Role::Open, true, Some(last)) => Some(Flaw::SideBySide(last, token)),
+            (Role::Not, true, _) => Some(Flaw::Behind(token)),
+            (Role::Close, _, _) if self.open == 0 => Some(Flaw::Unopened(token)),
+            (Role::Close | Role::Operator, false, _) => Some(Flaw::NoValue(token)),
+            _ => None,
+        }
+    }
+
+    /// The reader behind a further token.
+    fn behind(self, token: &'l Token<'s>) -> Reader<'l, 's> {
+        let role = role_of(token);
+        Reader {
+            last: Some(token),
+            is_value: matches!(role, Role::Value | Role::Close),
+            open: match role {
+                Role::Open => self.open.saturating_add(1),
+                Role::Close => self.open.saturating_sub(1),
+                _ => self.open,
+            },
+        }
+    }
+}
+
+/// The first flaw of some tokens, where their order shows one.
+fn flaw_of<'l, 's>(tokens: &'l [Token<'s>]) -> Option<Flaw<'l, 's>> {
+    let mut reader = Reader {
+        last: None,
+        is_value: false,
+        open: 0,
+    };
+    for token in tokens {
+        if let Some(flaw) = reader.flaw_at(token) {
+            return Some(flaw);
+        }
+        reader = reader.behind(token);
+    }
+    match reader.last {
+        Some(last) if !reader.is_value => Some(Flaw::NoEnd(last)),
+        _ => unclosed(tokens),
+    }
+}
+
+/// The last `(` without its `)`.
+fn unclosed<'l, 's>(tokens: &'l [Token<'s>]) -> Option<Flaw<'l, 's>> {
+    let mut closed: u32 = 0;
+    for token in tokens.iter().rev() {
+        match role_of(token) {
+            Role::Close => closed = closed.saturating_add(1),
+            Role::Open if closed == 0 => return Some(Flaw::Unclosed(token)),
+            Role::Open => closed = closed.saturating_sub(1),
+            _ => {}
+        }
+    }
+    None
+}
+
+/// Tokens that make no expression.
+pub(crate) fn no_expression<A: Allocator + Copy>(
+    scene: &Scene<'_, A>,
+    row: &Row<'_, '_>,
+    shaped: Shaped<'_, '_>,
+) -> Result<Blame<A>, AllocError> {
+    let span = row.spans(shaped.operand);
+    if let [mode, ..] = shaped.operand
+        && shaped.tokens.is_empty()
+    {
+        let parts = [
+            Part::Text("an expression is due behind "),
+            Part::Word(mode.text),
+        ];
+        return blamed(scene.alloc, span, &parts);
+    }
+    if let Some(flaw) = flaw_of(shaped.tokens) {
+        return flawed(scene, row, flaw, shaped.may_part);
+    }
+    let said = if first_equ(scene, shaped.tokens).is_some() {
+        "this is no expression once the names of `EQU` lines are replaced"
+    } else {
+        "more than 64 parentheses, signs and `!` stand around a value"
+    };
+    blamed(scene.alloc, span, &[Part::Text(said)])
+}
+
+/// A flaw of an expression.
+fn flawed<A: Allocator + Copy>(
+    scene: &Scene<'_, A>,
+    row: &Row<'_, '_>,
+    flaw: Flaw<'_, '_>,
+    may_part: bool,
+) -> Result<Blame<A>, AllocError> {
+    let alloc = scene.alloc;
+    match flaw {
+        Flaw::SideBySide(first, second) => side_by_side(scene, row, first, second, may_part),
+        Flaw::Stranger(token) => stranger(alloc, row.span(token), token, may_part),
+        Flaw::Behind(token) => {
+            let said = "`!` stands behind a value, and belongs before one";
+            blamed(alloc, row.span(token), &[Part::Text(said)])
+        }
+        Flaw::Unopened(token) => {
+            blamed(alloc, row.span(token), &[Part::Text("no `(` is open here")])
+        }
+        Flaw::Unclosed(token) => {
+            let said = "no `)` closes this within the expression";
+            blamed(alloc, row.span(token), &[Part::Text(said)])
+        }
+        Flaw::NoValue(token) => {
+            let parts = [
+                Part::Word(token.text),
+                Part::Text(" stands where a value is due"),
+            ];
+            blamed(alloc, row.span(token), &parts)
+        }
+        Flaw::NoEnd(token) => {
+            let parts = [Part::Text("a value is due behind "), Part::Word(token.text)];
+            blamed(alloc, row.span(token), &parts)
+        }
+    }
+}
+
+/// Two values without an operator between them.
+fn side_by_side<A: Allocator + Copy>(
+    scene: &Scene<'_, A>,
+    row: &Row<'_, '_>,
+    first: &Token<'_>,
+    second: &Token<'_>,
+    may_part: bool,
+) -> Result<Blame<A>, AllocError> {
+    let span = row.span(first).to(row.span(second));
+    let both = part_of(line_text(scene.source, row.reading.number), span);
+    let said = match (first.kind, second.kind) {
+        (TokenKind::Number, TokenKind::Name)
+            if both.len() == first.text.len().saturating_add(second.text.len()) => {
+            " is neither a number nor a name; names begin with a letter or `_`"
+        }
+        _ if may_part => ": two values side by side; a comma between operands?",
+        _ => ": two values side by side; an operator between them?",
+    };
+    blamed(scene.alloc, span, &[Part::Word(both), Part::Text(said)])
+}
+
+/// A token that is no part of any expression.
+fn stranger<A: Allocator + Copy>(
+    alloc: A,
+    span: Span,
+    token: &Token<'_>,
+    may_part: bool,
+) -> Result<Blame<A>, AllocError> {
+    let said = if has_text(token, b"&") {
+        " joins a name to the counter of a block, and there is none here; `and` is `&&`"
+    } else if mode_named(token.text).is_some() && may_part {
+        " is no part of an expression; a comma before it?"
+    } else if mode_named(token.text).is_some() {
+        " is no part of an expression; a mode is the first of an operand of an instruction"
+    } else {
+        " is no part of an expression"
+    };
+    blamed(alloc, span, &[Part::Word(token.text), Part::Text(said)])
+}

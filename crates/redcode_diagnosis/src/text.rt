@@ -1,0 +1,171 @@
+//! A refusal as text for people.
+
+ghost use Rattle.std.specs.Prelude.{◌≡◌, ◌++◌, IfOk, OnOk};
+ghost use Rattle.redcode_diagnosis.specs.Text.{Begins, heading};
+
+use crate::copies::Copied;
+use crate::diagnosis::Diagnosis;
+use crate::line::line_text;
+use crate::place::{Span, part_of};
+use crate::said::{Part, append_shown, say};
+use itoa::Buffer;
+use std::alloc::{AllocError, Allocator};
+use war_types::AsmFault;
+
+/// Places for the number of a line.
+const NUMBER_PLACES: usize = 5;
+
+/// A refusal of a source as text: `PATH:LINE:COLUMN: Kind: sentence`, and where a line is to blame its text, a caret under each byte to
+/// blame, and of a line in a block how it reads in the copy that is refused. Each line ends with a line feed. Bytes of control are shown as
+/// question marks but for the tab, and those of the path as they are. An error is want of memory.
+pub fn text_of<A: Allocator + Copy>(
+    alloc: A,
+    path: &[u8],
+    source: &[u8],
+    diagnosis: &Diagnosis<A>,
+) -> Result<Vec<u8, A>, AllocError>
+    ensures { IfOk result (λ text. Begins (heading path.now diagnosis.now.fault diagnosis.now.column) text.items) }
+{
+    let rest = behind_heading(alloc, source, diagnosis)?;
+    let mut text = Vec::from_slice(alloc, path)?;
+    append_heading(&mut text, diagnosis.fault, diagnosis.column)?;
+    text.extend_from_slice(rest.as_slice())?;
+    Ok(text)
+}
+
+/// Appends what stands between the path and the sentence.
+#[tactic(auto, unfolding(crate::specs::Text::heading))]
+fn append_heading<A: Allocator>(
+    text: &mut Vec<u8, A>,
+    fault: AsmFault,
+    column: u32,
+) -> Result<(), AllocError>
+    ensures { OnOk result (text.new.items ≡ heading text.old.items fault column) }
+{
+    text.extend_from_slice(b":")?;
+    text.extend_from_slice(Buffer::new().format(fault.line).as_bytes())?;
+    text.extend_from_slice(b":")?;
+    text.extend_from_slice(Buffer::new().format(column).as_bytes())?;
+    text.extend_from_slice(b": ")?;
+    text.extend_from_slice(fault.kind.name().as_bytes())?;
+    text.extend_from_slice(b": ")
+}
+
+/// The sentence, and the lines under it.
+fn behind_heading<A: Allocator + Copy>(
+    alloc: A,
+    source: &[u8],
+    diagnosis: &Diagnosis<A>,
+) -> Result<Vec<u8, A>, AllocError> {
+    let mut text = Vec::from_slice(alloc, diagnosis.sentence.as_slice())?;
+    text.push(b'\n')?;
+    if diagnosis.fault.line != 0 {
+        append_line(
+            &mut text,
+            line_text(source, diagnosis.fault.line),
+            diagnosis,
+        )?;
+    }
+    if let Some(copy) = &diagnosis.copy {
+        append_copy(&mut text, copy)?;
+    }
+    Ok(text)
+}
+
+/// Appends a line with its number, and the carets under it.
+fn append_line<A: Allocator>(
+    text: &mut Vec<u8, A>,
+    line: &[u8],
+    diagnosis: &Diagnosis<A>,
+) -> Result<(), AllocError> {
+    append_number(text, diagnosis.fault.line)?;
+    append_shown(text, line)?;
+    text.extend_from_slice(b"\n      | ")?;
+    let from = diagnosis.column.saturating_sub(1);
+    let width = diagnosis.width;
+    append_blanks(
+        text,
+        part_of(
+            line,
+            Span {
+                from: 0,
+                width: from,
+            },
+        ),
+    )?;
+    append_carets(text, part_of(line, Span { from, width }))?;
+    text.extend_from_slice(b"\n")
+}
+
+/// Appends the number of a line at the right of its places, and a bar.
+fn append_number<A: Allocator>(text: &mut Vec<u8, A>, number: u32) -> Result<(), AllocError> {
+    let mut buffer = Buffer::new();
+    let digits = buffer.format(number).as_bytes();
+    for _ in 0..NUMBER_PLACES.saturating_sub(digits.len()) {
+        text.push(b' ')?;
+    }
+    text.extend_from_slice(digits)?;
+    text.extend_from_slice(b" | ")
+}
+
+/// Appends blanks as wide as a text: its tabs, and a space for each other character.
+fn append_blanks<A: Allocator>(text: &mut Vec<u8, A>, front: &[u8]) -> Result<(), AllocError> {
+    for byte in front {
+        if *byte == b'\t' {
+            text.push(b'\t')?;
+        } else if begins_character(*byte) {
+            text.push(b' ')?;
+        }
+    }
+    Ok(())
+}
+
+/// Appends a caret for each character of a text, one at least.
+fn append_carets<A: Allocator>(text: &mut Vec<u8, A>, part: &[u8]) -> Result<(), AllocError> {
+    text.push(b'^')?;
+    for byte in behind_first(part) {
+        if begins_character(*byte) {
+            text.push(b'^')?;
+        }
+    }
+    Ok(())
+}
+
+fn behind_first(part: &[u8]) -> &[u8] {
+    match part {
+        [] => &[],
+        [_, behind @ ..] => behind,
+    }
+}
+
+/// Whether a byte is the first of a character's UTF-8.
+fn begins_character(byte: u8) -> bool {
+    byte & 0xc0 != 0x80
+}
+
+/// Appends how a line reads in a copy.
+fn append_copy<A: Allocator, B: Allocator>(
+    text: &mut Vec<u8, A>,
+    copy: &Copied<B>,
+) -> Result<(), AllocError> {
+    let of = if copy.is_nested {
+        " of this line, in the block of line "
+    } else {
+        " of the block of line "
+    };
+    let around = if copy.is_nested {
+        " and those around it, where it reads: "
+    } else {
+        ", where it reads: "
+    };
+    let parts = [
+        Part::Text("      | in copy "),
+        Part::Number(i64::from(copy.times)),
+        Part::Text(of),
+        Part::Number(i64::from(copy.block)),
+        Part::Text(around),
+        Part::Bytes(copy.text.as_slice()),
+        Part::Text("\n"),
+    ];
+    say(text, &parts)
+}

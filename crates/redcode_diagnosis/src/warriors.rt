@@ -1,0 +1,171 @@
+//! What is wrong with a warrior, or with a source as a whole.
+
+use crate::blame::{Blame, blamed};
+use crate::judge::{faulty_line, said_at};
+use crate::operands::operands_in;
+use crate::place::Span;
+use crate::said::{Part, say, sentence};
+use crate::scene::{Row, Scene};
+use redcode_expand::{LineKind, SOURCE_LIMIT, predefined};
+use redcode_lines::{has_text, is_name};
+use redcode_statement::Statement;
+use redcode_text::Token;
+use std::alloc::{AllocError, Allocator};
+use war_types::{AsmFault, Settings};
+
+/// No place of a line.
+const NOWHERE: Span = Span { from: 0, width: 0 };
+
+/// A source of too many bytes.
+pub(crate) fn source_too_long<A: Allocator + Copy>(
+    scene: &Scene<'_, A>,
+) -> Result<Blame<A>, AllocError> {
+    let parts = [
+        Part::Text("the source has "),
+        Part::Number(count_of(scene.source.len())),
+        Part::Text(" bytes, and may have "),
+        Part::Number(count_of(SOURCE_LIMIT)),
+    ];
+    blamed(scene.alloc, NOWHERE, &parts)
+}
+
+/// A source without an instruction.
+pub(crate) fn empty<A: Allocator + Copy>(scene: &Scene<'_, A>) -> Result<Blame<A>, AllocError> {
+    let sentence = if scene.source.is_empty() {
+        "the source is empty"
+    } else {
+        "no line of the source gives an instruction"
+    };
+    blamed(scene.alloc, NOWHERE, &[Part::Text(sentence)])
+}
+
+/// A warrior of too many instructions.
+pub(crate) fn too_long<A: Allocator + Copy>(scene: &Scene<'_, A>) -> Result<Blame<A>, AllocError> {
+    let parts = [
+        Part::Text("the warrior has "),
+        Part::Number(instructions(scene)),
+        Part::Text(" instructions, and may have "),
+        Part::Number(i64::from(scene.settings.length())),
+    ];
+    blamed(scene.alloc, NOWHERE, &parts)
+}
+
+/// A start that is no instruction.
+pub(crate) fn bad_start<A: Allocator + Copy>(
+    scene: &Scene<'_, A>,
+    row: &Row<'_, '_>,
+) -> Result<Blame<A>, AllocError> {
+    let span = row.spans(operands_in(&row.reading));
+    let Some(start) = start_on(scene, row.reading.number) else {
+        let parts = [Part::Text("the start is no instruction of the warrior")];
+        return blamed(scene.alloc, span, &parts);
+    };
+    let last = instructions(scene).saturating_sub(1);
+    let others = if last == 0 {
+        ", and the only instruction is "
+    } else {
+        ", and the instructions are 0 to "
+    };
+    let parts = [
+        Part::Text("the start is "),
+        Part::Number(start),
+        Part::Text(others),
+        Part::Number(last),
+    ];
+    blamed(scene.alloc, span, &parts)
+}
+
+/// An assertion that doesn't hold.
+pub(crate) fn assert_false<A: Allocator + Copy>(
+    scene: &Scene<'_, A>,
+    row: &Row<'_, '_>,
+    fault: AsmFault,
+) -> Result<Blame<A>, AllocError> {
+    let span = row.spans(row.reading.tokens);
+    let mut said = sentence(scene.alloc, &[Part::Text("the assertion doesn't hold")])?;
+    if let Some(expanded) = &scene.expanded
+        && let Some(faulty) = faulty_line(expanded, scene.settings, fault)
+    {
+        say_values(&mut said, scene.settings, faulty.line.before, faulty.tokens)?;
+    }
+    Ok(Blame {
+        span,
+        sentence: said,
+    })
+}
+
+/// Says the values of the predefined names among these tokens.
+fn say_values<A: Allocator>(
+    said: &mut Vec<u8, A>,
+    settings: &Settings,
+    before: u32,
+    tokens: &[Token<'_>],
+) -> Result<(), AllocError> {
+    let mut mark = ": ";
+    for (i, token) in tokens.iter().enumerate() {
+        if !is_name(token) || stands_in(&tokens[..i], token.text) {
+            continue;
+        }
+        if let Some(value) = predefined(settings, before, token.text) {
+            let parts = [
+                Part::Text(mark),
+                Part::Bytes(token.text),
+                Part::Text(" is "),
+                Part::Number(value),
+            ];
+            say(said, &parts)?;
+            mark = ", ";
+        }
+    }
+    Ok(())
+}
+
+/// Whether a token of this text is among those.
+fn stands_in(tokens: &[Token<'_>], text: &[u8]) -> bool {
+    for token in tokens {
+        if has_text(token, text) {
+            return true;
+        }
+    }
+    false
+}
+
+/// The start that a line gives.
+fn start_on<A: Allocator + Copy>(scene: &Scene<'_, A>, number: u32) -> Option<i64> {
+    let Some(expanded) = &scene.expanded else {
+        return None;
+    };
+    let mut start = None;
+    for (i, line) in expanded.lines().iter().enumerate() {
+        if line.source_line != number {
+            continue;
+        }
+        if let Ok(Statement::Org(value) | Statement::End(value)) = said_at(
+            expanded,
+            scene.settings,
+            i,
+            *line,
+        ) {
+            start = Some(value);
+        }
+    }
+    start
+}
+
+/// How many instructions the warrior has.
+fn instructions<A: Allocator + Copy>(scene: &Scene<'_, A>) -> i64 {
+    let mut count: i64 = 0;
+    if let Some(expanded) = &scene.expanded {
+        for line in expanded.lines() {
+            if let LineKind::Operation = line.kind {
+                count = count.saturating_add(1);
+            }
+        }
+    }
+    count
+}
+
+/// A number of things that are in memory.
+fn count_of(count: usize) -> i64 {
+    i64::try_from(count).unwrap_or(i64::MAX)
+}

@@ -1,0 +1,133 @@
+//! The text and the JSON of refusals, and sources with several faults.
+
+use crate::sources::{defaults, repeated};
+use redcode_diagnosis::{diagnose, json_of, text_of};
+use std::alloc::Global;
+use std::test::Fail;
+
+/// The refusals of a source as text.
+fn texts(alloc: Global, source: &[u8]) -> Result<Vec<u8>, Fail> {
+    let mut texts = Vec::new(alloc);
+    for told in &diagnose(alloc, source, &defaults()?)? {
+        texts.extend_from_slice(text_of(alloc, b"a.red", source, told)?.as_slice())?;
+    }
+    Ok(texts)
+}
+
+/// The refusals of a source as JSON.
+fn objects(alloc: Global, source: &[u8]) -> Result<Vec<u8>, Fail> {
+    let mut objects = Vec::new(alloc);
+    for told in &diagnose(alloc, source, &defaults()?)? {
+        objects.extend_from_slice(json_of(alloc, b"a.red", source, told)?.as_slice())?;
+    }
+    Ok(objects)
+}
+
+/// Sources, with the text of their refusals.
+const TEXTS: [(&[u8], &[u8]); 7] = [
+    (b"MOV 0, 1\n", b""),
+    (b"", b"a.red:0:1: Empty: the source is empty\n"),
+    (
+        b"start\nMOV 0, 1\n      JMP strat\n",
+        b"a.red:3:11: UnknownName: nothing is called `strat`; did you mean `start`?\n    3 |       JMP strat\n      |           ^^^^^\n",
+    ),
+    (
+        b"\tDAT\t1/0\r\n",
+        b"a.red:1:6: DivideByZero: a division by zero\n    1 | \tDAT\t1/0\n      | \t   \t^^^\n",
+    ),
+    (
+        b"i FOR 3\n    DAT 1/(i-2)\nROF\n",
+        b"a.red:2:9: DivideByZero: a division by zero\n    2 |     DAT 1/(i-2)\n      |         ^^^^^^^\n      | in copy 2 of the block of line 1, where it reads: DAT 1 / ( 2 - 2 )\n",
+    ),
+    (
+        b"i FOR 2\nj FOR 2\nDAT 1/(i+j-4)\nROF\nROF",
+        b"a.red:3:5: DivideByZero: a division by zero\n    3 | DAT 1/(i+j-4)\n      |     ^^^^^^^^^\n      | in copy 4 of this line, in the block of line 2 and those around it, where it reads: DAT 1 / ( 2 + 2 - 4 )\n",
+    ),
+    // a caret for a character of two bytes, and no byte of control
+    (
+        b"DAT 0 \x01\xc3\xa4",
+        b"a.red:1:7: BadToken: the byte 1 is no symbol; it may stand in a comment\n    1 | DAT 0 ?\xc3\xa4\n      |       ^\n",
+    ),
+];
+
+#[test]
+fn texts_of_refusals(rt: HostRuntime) -> Result<(), Fail> {
+    for (source, want) in TEXTS {
+        let found = texts(rt.alloc(), source)?;
+        assert_eq!(rt; found.as_slice(), want, "{source:?}");
+    }
+    Ok(())
+}
+
+/// Sources, with the JSON of their refusals.
+const OBJECTS: [(&[u8], &[u8]); 3] = [
+    (
+        b"DAT x ; \"\\\"\n",
+        br#"{"file":"a.red","line":1,"column":5,"width":1,"kind":"UnknownName","message":"nothing is called `x`","text":"DAT x ; \"\\\""}
+"#,
+    ),
+    (
+        b"\tDAT x ; \xc3\xa4 \xff",
+        b"{\"file\":\"a.red\",\"line\":1,\"column\":6,\"width\":1,\"kind\":\"UnknownName\",\"message\":\"nothing is called `x`\",\"text\":\"\\u0009DAT x ; \xc3\xa4 \xef\xbf\xbd\"}\n",
+    ),
+    (
+        b"i FOR 1\nDAT 1/0\nROF",
+        b"{\"file\":\"a.red\",\"line\":2,\"column\":5,\"width\":3,\"kind\":\"DivideByZero\",\"message\":\"a division by zero\",\"text\":\"DAT 1/0\",\"copy\":1,\"block\":1,\"reads\":\"DAT 1 / 0\"}\n",
+    ),
+];
+
+#[test]
+fn json_of_refusals(rt: HostRuntime) -> Result<(), Fail> {
+    for (source, want) in OBJECTS {
+        let found = objects(rt.alloc(), source)?;
+        assert_eq!(rt; found.as_slice(), want, "{source:?}");
+    }
+    Ok(())
+}
+
+/// The lines to blame for a source's faults.
+fn lines(alloc: Global, source: &[u8]) -> Result<Vec<u32>, Fail> {
+    let mut lines = Vec::new(alloc);
+    for told in &diagnose(alloc, source, &defaults()?)? {
+        lines.push(told.fault.line)?;
+    }
+    Ok(lines)
+}
+
+/// Each faulty line is told once, the assembler's first, where the source can be written out.
+#[test]
+fn several_faults(rt: HostRuntime) -> Result<(), Fail> {
+    for (source, want) in [
+        (
+            "DAT foo\nDAT ok\nok\nDAT 1/0\n;assert 0\nJMP\n",
+            [1, 4, 5, 6].as_slice(),
+        ),
+        (";assert 0\nDAT 0\nEND 1", &[3, 1]),
+        ("i FOR 3\nDAT 1/(i-2)\nDAT x\nROF", &[3, 2]),
+        ("DAT foo\nx\nx", &[3]),
+    ] {
+        let found = lines(rt.alloc(), source.as_bytes())?;
+        assert_eq!(rt; found.as_slice(), want, "{source:?}");
+    }
+    Ok(())
+}
+
+/// No more than 100 refusals are told, and the numbers of a source or a warrior that is too long.
+#[test]
+fn long_sources(rt: HostRuntime) -> Result<(), Fail> {
+    let faults = repeated(rt.alloc(), b"DAT x\n", 150)?;
+    assert_eq!(rt; lines(rt.alloc(), faults.as_slice())?.len(), 100);
+    let warrior = repeated(rt.alloc(), b"DAT 0\n", 101)?;
+    let want = b"a.red:0:1: TooLong: the warrior has 101 instructions, and may have 100\n";
+    assert_eq!(rt;
+        texts(rt.alloc(), warrior.as_slice())?.as_slice(),
+        want.as_slice()
+    );
+    let source = repeated(rt.alloc(), b"\n", 65_537)?;
+    let want = b"a.red:0:1: SourceTooLong: the source has 65537 bytes, and may have 65536\n";
+    assert_eq!(rt;
+        texts(rt.alloc(), source.as_slice())?.as_slice(),
+        want.as_slice()
+    );
+    Ok(())
+}

@@ -1,0 +1,219 @@
+//! What people are told of each likely mistake, word for word.
+
+use crate::program::{check, check_told, run_viewed};
+use koth_server::View;
+use std::fs;
+use std::fs::File;
+use std::net::Net;
+use std::process::Abort;
+use std::rt::{Clock, Files};
+use std::test::Fail;
+
+/// These words end with this text on the errors, nothing on the output, and this status.
+fn tells(
+    rt: &(impl Abort + Files<File = File> + Net + Clock + AllocGlobal),
+    line: &str,
+    errors: &str,
+    status: u8,
+) -> Result<(), Fail> {
+    check_told(rt, line, View::Table, "", errors, status)
+}
+
+#[test]
+fn files_that_fail(rt: HostRuntime) -> Result<(), Fail> {
+    let missing = "DISK told_missing: no such file or folder\n";
+    tells(&rt, "koth show told_missing", missing, 3)?;
+    tells(&rt, "koth submit told_missing x", missing, 3)?;
+    tells(&rt, "koth asm told_missing", missing, 3)?;
+    tells(&rt, "koth check told_missing", missing, 3)?;
+    tells(&rt, "koth fight told_missing x", missing, 3)?;
+    tells(
+        &rt,
+        "koth create no_folder/x",
+        "DISK no_folder/x: no such file or folder\n",
+        3,
+    )
+}
+
+#[test]
+fn files_that_hold_something_else(rt: HostRuntime) -> Result<(), Fail> {
+    let text = "MOV 0, 1 ; a warrior, and no hill at all\n";
+    fs::write(&rt, "told.red", text)?;
+    let occupied =
+        "Occupied told.red: it isn't empty; --overwrite makes a hill of it all the same\n";
+    tells(&rt, "koth create told.red", occupied, 1)?;
+    assert_eq!(rt; fs::read(&rt, "told.red")?.as_slice(), text.as_bytes());
+    tells(
+        &rt,
+        "koth show told.red",
+        "TooSmall told.red: it is too short for its hill\n",
+        1,
+    )?;
+    check(
+        &rt,
+        "koth create told.red --overwrite --capacity 1",
+        "CREATED\n",
+        "",
+        0,
+    )?;
+    check(&rt, "koth show told.red", ".\n", "", 0)?;
+    check(
+        &rt,
+        "koth create told.red --overwrite --capacity 2",
+        "CREATED\n",
+        "",
+        0,
+    )?;
+    assert_eq!(rt; fs::metadata(&rt, "told.red")?.len(), 14 * 512);
+    fs::remove_file(&rt, "told.red")?;
+    Ok(())
+}
+
+#[test]
+fn settings_out_of_range(rt: HostRuntime) -> Result<(), Fail> {
+    for (line, errors) in [
+        (
+            "koth create x --rounds 2000",
+            "BadSettings Rounds: --rounds is 2000, and must be 1 to 1000\n",
+        ),
+        (
+            "koth create x --core 100",
+            "BadSettings Distance: --distance is 100 (its default), and must be --length 100 (its default) to half of --core 100\n",
+        ),
+        (
+            "koth create x --length 200",
+            "BadSettings Distance: --distance is 100 (its default), and must be --length 200 to half of --core 8000 (its default)\n",
+        ),
+        (
+            "koth create x --read-limit 3000",
+            "BadSettings ReadLimit: --read-limit is 3000, and must be 0 or a divisor of --core 8000\n",
+        ),
+    ] {
+        tells(&rt, line, errors, 1)?;
+    }
+    Ok(())
+}
+
+/// A refusal names the file that it is of.
+#[test]
+fn refusals(rt: HostRuntime) -> Result<(), Fail> {
+    fs::write(&rt, "told_good.red", "MOV 0, 1\n")?;
+    fs::write(&rt, "told_typo.red", "start SPL 0\n      JMP strat\n")?;
+    let told =
+        "told_typo.red:2:11: UnknownName: nothing is called `strat`; did you mean `start`?\n    2 |       JMP strat\n      |           ^^^^^\n";
+    let output = "REFUSED 2 UnknownName\n";
+    for line in [
+        "koth fight told_good.red told_typo.red",
+        "koth fight told_typo.red told_good.red",
+        "koth asm told_typo.red",
+    ] {
+        check_told(&rt, line, View::Table, output, told, 1)?;
+    }
+    check_told(
+        &rt,
+        "koth check told_good.red told_typo.red",
+        View::Plain,
+        told,
+        "",
+        1,
+    )?;
+    check_told(&rt, "koth check told_good.red", View::Plain, "", "", 0)?;
+    fs::remove_file(&rt, "told_good.red")?;
+    fs::remove_file(&rt, "told_typo.red")?;
+    Ok(())
+}
+
+#[test]
+fn columns_for_people(rt: HostRuntime) -> Result<(), Fail> {
+    let small =
+        "--core=64 --cycles=100 --processes=8 --length=10 --distance=10 --rounds=2 --capacity=2";
+    let create = format!(in rt.alloc(); "koth create told.hill {small}")?;
+    check(&rt, create.as_str(), "CREATED\n", "", 0)?;
+    fs::write(&rt, "told_dat.red", ";name Dat\nDAT 0\n")?;
+    fs::write(&rt, "told_jmp.red", ";name Jmp\nJMP 0\n")?;
+    check(
+        &rt,
+        "koth submit told.hill told_dat.red",
+        "PLACED 1 1 0\n",
+        "",
+        0,
+    )?;
+    let placed =
+        "PLACED 2 1 6\nJmp by Anonymous is warrior 2 of this hill: rank 1 of 2, 6 points\nwarrior  author     won  lost  tied\nDat      Anonymous    2     0     0\n";
+    check_told(
+        &rt,
+        "koth submit told.hill told_jmp.red",
+        View::Table,
+        placed,
+        "",
+        0,
+    )?;
+    let table =
+        "rank  entry  points  won  lost  tied  age  warrior  author\n   1      2       6    2     0     0    0  Jmp      Anonymous\n   2      1       0    0     2     0    1  Dat      Anonymous\n";
+    check_told(
+        &rt,
+        "koth show told.hill --table",
+        View::Plain,
+        table,
+        "",
+        0,
+    )?;
+    check_told(
+        &rt,
+        "koth show told.hill --plain",
+        View::Table,
+        "1 2 6 0 Jmp by Anonymous\n2 1 0 1 Dat by Anonymous\n.\n",
+        "",
+        0,
+    )?;
+    let fight = format!(in rt.alloc();
+        "koth fight told_dat.red told_jmp.red --core=64 --cycles=100 --processes=8 --length=10 --distance=10 --rounds=2"
+    )?;
+    let counts =
+        "warrior  author     won  lost  tied\nDat      Anonymous    0     2     0\nJmp      Anonymous    2     0     0\n";
+    check_told(&rt, fight.as_str(), View::Table, counts, "", 0)?;
+    for file in ["told.hill", "told_dat.red", "told_jmp.red"] {
+        fs::remove_file(&rt, file)?;
+    }
+    Ok(())
+}
+
+/// Two programs don't work on one hill, but it can be shown.
+#[test]
+fn a_hill_that_is_worked_on(rt: HostRuntime) -> Result<(), Fail> {
+    check(
+        &rt,
+        "koth create told_lock.hill --capacity 1",
+        "CREATED\n",
+        "",
+        0,
+    )?;
+    let held = fs::open(&rt, "told_lock.hill")?;
+    assert!(rt; held.try_lock().is_ok());
+    let in_use = "DISK told_lock.hill: another program uses it\n";
+    tells(&rt, "koth audit told_lock.hill", in_use, 3)?;
+    tells(&rt, "koth submit told_lock.hill x", in_use, 3)?;
+    tells(&rt, "koth create told_lock.hill --overwrite", in_use, 3)?;
+    tells(&rt, "koth serve told_lock.hill --port 0", in_use, 3)?;
+    check(&rt, "koth show told_lock.hill", ".\n", "", 0)?;
+    drop(held);
+    check(&rt, "koth audit told_lock.hill", "true\n", "", 0)?;
+    fs::remove_file(&rt, "told_lock.hill")?;
+    Ok(())
+}
+
+#[test]
+fn the_version(rt: HostRuntime) -> Result<(), Fail> {
+    let mut none = b"".as_slice();
+    let ran = run_viewed(
+        &rt,
+        rt.alloc(),
+        rt.alloc(),
+        "koth --version",
+        View::Plain,
+        &mut none,
+    )?;
+    assert_eq!(rt; str::from_utf8(ran.output.as_slice())?, "koth 1.0.0\n");
+    assert_eq!(rt; ran.status, 0);
+    Ok(())
+}
