@@ -1,0 +1,6 @@
+pub mod Drawing
+pub mod Endings
+pub mod Histories
+mod Rows
+mod Sequence
+mod Steps

@@ -1,0 +1,27 @@
+-- Of the code alone: the turns that it keeps, and what it keeps of a round that has begun. No definition names a word of this file.
+use Rattle.std.specs.Prelude.{◌≡◌, ℕ, ◌*◌, ◌<◌, ◌≤◌, min, nat_lt, List, [], length, map, replicate, slice_index_or, Vec}
+use Rattle.mars_core.specs.Cells.{blank}
+use Rattle.mars_core.specs.Round.{Round, after_turns, outcome}
+use Rattle.koth_replay.specs.declared.event.Event.{Event}
+use Rattle.koth_replay.specs.declared.opening.Opening.{Opening}
+use Rattle.koth_replay.specs.Picture.{picture_of, drawn}
+use Rattle.koth_replay.specs.Turn.{core_events, turn_events}
+use Rattle.koth_replay.specs.Replay.{ReplayParts, events_before}
+
+-- the events of each of these turns
+abbrev pub turns_of : {A : Type 0} → List (Vec Event A) → List (List Event)
+turns_of {A} turns = map (λ (t : Vec Event A). t.items) turns
+
+-- these are the turns of a round from this one on: their events draw it as it stands after each of them, and no others are told
+pub record AreTurns (start : Round) (turns : List (List Event)) : Type 0 where
+  pub draw : (n : ℕ) → n ≤ length turns → drawn (picture_of start) (events_before n turns) ≡ picture_of (after_turns n start)
+  pub tell : (n : ℕ) → n < length turns → slice_index_or turns n [] ≡ turn_events (after_turns n start)
+
+-- what is kept of a round from this start on, which begins as this opening says, with so many turns at most
+pub record IsReplayOf (start : Round) (begins : Opening) (most : ℕ) (replay : ReplayParts) : Type 0 where
+  pub opening : replay.opening ≡ begins
+  pub loaded : replay.loaded ≡ core_events start.settings.core (replicate start.settings.core blank) start.core
+  pub turns : AreTurns start replay.turns
+  pub count : length replay.turns ≡ min most (after_turns (2 * start.settings.cycles) start).used
+  pub cut : replay.is_cut ≡ nat_lt most (after_turns (2 * start.settings.cycles) start).used
+  pub ends : replay.outcome ≡ outcome (after_turns (2 * start.settings.cycles) start)

@@ -1,0 +1,7 @@
+-- Pictures of a round, and how events change them.
+pub mod Picture
+-- The events of a turn; a round of a match as a replay has it.
+pub mod Turn
+pub mod Replay
+-- Of the code alone, for private contracts.
+pub mod Code

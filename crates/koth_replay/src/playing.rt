@@ -1,0 +1,111 @@
+//! Playing a round of a match, and keeping its events.
+
+ghost use Rattle.std.specs.Prelude.{◌≡◌, ◌<◌, replicate, IfOk};
+ghost use Rattle.war_types.specs.Warrior.{Fits};
+ghost use Rattle.mars_core.specs.Cells.{blank};
+ghost use Rattle.mars_core.specs.Round.{IsRound};
+ghost use Rattle.koth_match.specs.Match.{first_in};
+ghost use Rattle.koth_match.specs.Seeds.{seed_of_round, IsSeed};
+ghost use Rattle.koth_replay.specs.Replay.{IsReplay};
+ghost use Rattle.koth_replay.specs.Code.{IsReplayOf};
+
+use crate::changes::push_changes;
+use crate::kept::Replay;
+use crate::opening::Opening;
+use crate::turns::{goes_on, kept_turns};
+use koth_match::{next_seed, position};
+use mars_core::{Arena, Side};
+use std::alloc::{AllocError, Allocator};
+use war_types::{Instr, Mode, Modifier, Op, Settings, Warrior};
+
+/// What a cell holds that nothing was loaded into.
+const BLANK: Instr = Instr {
+    op: Op::Dat,
+    modifier: Modifier::F,
+    a_mode: Mode::Direct,
+    a: 0,
+    b_mode: Mode::Direct,
+    b: 0,
+};
+
+/// Plays a round of a match, counted from 0, as the match does, and keeps the events of its first turns, `most` of them at most.
+pub fn replay<A: Allocator + Copy, B: Allocator, C: Allocator, D: Allocator>(
+    alloc: A,
+    arena: &mut Arena<B>,
+    older: &Warrior<C>,
+    younger: &Warrior<D>,
+    settings: &Settings,
+    round: u16,
+    most: u32,
+) -> Result<Replay<A>, AllocError>
+    requires settings { arena.old.settings ≡ settings.now }
+    requires older { Fits settings.now older.now }
+    requires younger { Fits settings.now younger.now }
+    requires round { round < settings.now.rounds }
+    ensures replay { IfOk result (IsReplay settings.now older.now younger.now round most) }
+    ensures settings { arena.new.settings ≡ arena.old.settings }
+{
+    let place = position(seed_of_round(settings, round), settings);
+    let opening = Opening {
+        core: settings.core(),
+        position: place,
+        older: older.start(),
+        younger: place + younger.start(),
+        first: first_in(round),
+    };
+    arena.begin(older, younger, place, opening.first);
+    let mut cells = Vec::from_elem(alloc, BLANK, usize::from(opening.core))?;
+    played(alloc, arena, cells.as_mut_slice(), opening, most)
+}
+
+/// Plays a round that has begun, and keeps its events. `cells` are those of a core with nothing in it.
+fn played<A: Allocator + Copy, B: Allocator>(
+    alloc: A,
+    arena: &mut Arena<B>,
+    cells: &mut [Instr],
+    opening: Opening,
+    most: u32,
+) -> Result<Replay<A>, AllocError>
+    requires round { IsRound arena.old }
+    requires core { opening.core ≡ arena.old.settings.core }
+    requires cells { cells.old ≡ replicate opening.core blank }
+    requires first { opening.first ≡ arena.old.to_move }
+    requires used { arena.old.used ≡ 0 }
+    ensures replay { IfOk result (IsReplayOf arena.old opening most) }
+    ensures settings { arena.new.settings ≡ arena.old.settings }
+{
+    let mut loaded = Vec::new(alloc);
+    push_changes(&mut loaded, cells, arena, opening.core)?;
+    let turns = kept_turns(alloc, arena, cells, opening.core, most, opening.first)?;
+    let is_cut = goes_on(arena);
+    Ok(Replay {
+        opening,
+        loaded,
+        turns,
+        outcome: arena.play(),
+        is_cut,
+    })
+}
+
+/// The seed of a round, counted from 0.
+fn seed_of_round(settings: &Settings, round: u16) -> u32
+    ensures value { result ≡ seed_of_round settings.now round }
+    ensures seed { IsSeed result }
+{
+    let mut seed = settings.seed();
+    for _round in 0..round {
+        seed = next_seed(seed);
+    }
+    seed
+}
+
+/// The side that moves first in a round, counted from 0: the older warrior in every second one.
+fn first_in(round: u16) -> Side
+    ensures { result ≡ first_in round }
+{
+    if round % 2 == 0 {
+        Side::First
+    } else {
+        Side::Second
+    }
+}
