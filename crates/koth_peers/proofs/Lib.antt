@@ -1,0 +1,11 @@
+mod Answering
+mod Exchanges
+mod Holding
+mod Lengths
+mod Past
+mod PeerRows
+mod Readings
+mod Serving
+mod Slots
+mod Standing
+mod Submissions

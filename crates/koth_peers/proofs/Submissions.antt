@@ -1,0 +1,60 @@
+-- What a submission makes of the store.
+use Rattle.std.proofs.Common.{◌≡◌, ℕ, ◌+◌, ◌-◌, ◌^◌, false, arith, List, [], ◌∷◌, refl, sym, ap, subst, ◌∙◌}
+use Rattle.sector_disk.specs.Facts.{DeviceFacts}
+use Rattle.sector_disk.specs.Served.{IsKept}
+use Rattle.sector_disk.specs.Image.{Images}
+use Rattle.hill_store.specs.Seen.{IsAnswered, Seen, Submits}
+use Rattle.hill_images.specs.Stands.{Reads}
+use Rattle.koth_hill.specs.Kept.{Kept}
+use Rattle.hill_store.specs.Earned.{kept_next}
+use Rattle.hill_store.proofs.Counting.{source_counts}
+use Rattle.hill_store.specs.declared.reply.Reply.{Reply}
+use Rattle.hill_store.specs.declared.reply.Reply.TheVariants as replies
+use Rattle.koth_session.specs.Reply.{reply_line}
+use Rattle.koth_session.specs.Sessions.{AreServed, HasWorn, has_failed}
+use Rattle.koth_session.specs.Transcript.{Exchange, Mark, answer, hill_after}
+use Rattle.koth_peers.proofs.Exchanges.{after_one, served_same}
+
+module _ {D : Type 0} (facts : DeviceFacts D) where
+  left : (old new : Seen D) (e : Exchange) → new ≡ old → hill_after old.hill (e ∷ []) ≡ old.hill → (HasWorn (e ∷ []) → old.generation ≡ 2 ^ 64 - 1)
+      → old.reopen ≡ false → AreServed facts old new (e ∷ [])
+  left old new e same hill worn is_open = subst (λ s. AreServed facts old s (e ∷ [])) (sym same) (served_same facts old e hill worn (λ has. is_open))
+
+  moved : (old new : Seen D) (source : List ℕ) → IsAnswered facts old (kept_next old.hill source) new
+      → (kept_next old.hill source).counter ≡ old.hill.counter + 1 → IsKept facts old.device new.device → (old.generation ≡ 2 ^ 64 - 1 → new ≡ old)
+      → AreServed facts old new (Exchange.Submission source Mark.Taken ∷ [])
+  moved old new source is counted kept full = record {
+    hill = is.hill;
+    generation =
+        let written : new.generation ≡ old.generation + 1 = is.generation in
+        let one_more : new.hill.counter ≡ old.hill.counter + 1 = ap (λ (k : Kept). k.counter) is.hill ∙ counted in
+        omega (arith, written, one_more);
+    still = is.open_still ∙ sym is.was_open;
+    open_at = λ has. is.was_open;
+    kept = kept;
+    worn = λ worn. absurd worn;
+    full = λ most. ap (λ (s : Seen D). s.generation) (full most) ∙ most;
+    reads = λ lawful open_still reads. subst (λ k. Images (facts.disk new.device) (λ image. Reads (facts.size new.device) image k)) (sym is.hill) (is.reads lawful);
+    anew = after_one old.hill new.hill (Exchange.Submission source Mark.Taken) is.hill (λ was. is.kept.hill);
+  }
+
+  -- the exchange that a submission is, where the device did not fail
+  abbrev pub IsExchanged : Seen D → Seen D → List ℕ → Reply → Type 0
+  IsExchanged old new source reply = (mark : Mark) × (reply_line reply ≡ answer old.hill (Exchange.Submission source mark))
+      × AreServed facts old new (Exchange.Submission source mark ∷ [])
+
+  pub exchanged : (old new : Seen D) (source : List ℕ) (reply : Reply) → Submits facts old source reply new
+      → IsKept facts old.device new.device → (old.generation ≡ 2 ^ 64 - 1 → new ≡ old)
+      → has_failed reply ≡ false → IsExchanged old new source reply
+  exchanged old new source (replies.Placed entry rank score) s kept full sound =
+      (Mark.Taken, ap reply_line s.0, moved old new source s.1 (source_counts old.hill source _ s.0 refl) kept full)
+  exchanged old new source (replies.Fell entry score) s kept full sound =
+      (Mark.Taken, ap reply_line s.0, moved old new source s.1 (source_counts old.hill source _ s.0 refl) kept full)
+  exchanged old new source (replies.Refused fault) s kept full sound =
+      (Mark.Taken, ap reply_line s.0, left old new (Exchange.Submission source Mark.Taken) s.2.same s.1 (λ worn. absurd worn) s.2.was_open)
+  exchanged old new source replies.Memory s kept full sound =
+      (Mark.NoMemory, refl, left old new (Exchange.Submission source Mark.NoMemory) s.same refl (λ worn. absurd worn) s.was_open)
+  exchanged old new source replies.Worn s kept full sound =
+      (Mark.Worn, refl, left old new (Exchange.Submission source Mark.Worn) s.2.same refl (λ worn. s.0) s.2.was_open)
+  exchanged old new source replies.Disk s kept full sound = absurd (cc)
+  exchanged old new source replies.Reopen s kept full sound = absurd (cc)

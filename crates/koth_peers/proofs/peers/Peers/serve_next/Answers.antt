@@ -1,0 +1,37 @@
+-- One peer is served, or nobody is.
+use Rattle.std.proofs.Common.{◌+◌, refl, set, subst}
+use Rattle.koth_peers.specs.Peer.{Serves}
+use Rattle.koth_peers.specs.Peers.{IsFirstDue}
+use Rattle.koth_peers.proofs.Serving.{goes_on, serves_next}
+use Rattle.koth_peers.proofs.Slots.{moves_written}
+use Rattle.koth_peers.proofs.peers.Peers.serve_next.Goals as goal
+
+pub returns-in_default-clause-goes_on : goal.returns-in_default-clause-goes_on
+returns-in_default-clause-goes_on g c = λ history on. on
+
+pub returns-clause-serves : goal.returns-clause-serves
+returns-clause-serves g c =
+    let slots = c.args.self.now.slots.items in
+    let n = c.in-Some.number in
+    let outcome = c.serve_at-outcome.result in
+    let slot = c.serve_at-outcome.new.slot in
+    let now = c.serve_at-outcome.new.store in
+    let first : IsFirstDue slots c.args.self.now.next n = subst (λ s. IsFirstDue s c.args.self.now.next n) c.as_slice.ensures.value c.in-Some.ensures in
+    rw c.step_after.ensures (serves_next g.D.Device.facts outcome n slots c.args.self.now.next c.args.store.now (set slots n slot) (n + 1) now (record {
+      first = first;
+      moves = moves_written (λ p q. Serves g.D.Device.facts outcome p c.args.store.now q now) n slots c.index_mut.result.now slot first.within
+          c.index_mut.ensures.value c.serve_at-outcome.ensures;
+      next_is = refl;
+    }))
+
+pub returns-clause-goes_on : goal.returns-clause-goes_on
+returns-clause-goes_on g c = λ history on.
+    let slots = c.args.self.now.slots.items in
+    let n = c.in-Some.number in
+    let outcome = c.serve_at-outcome.result in
+    let slot = c.serve_at-outcome.new.slot in
+    let now = c.serve_at-outcome.new.store in
+    let first : IsFirstDue slots c.args.self.now.next n = subst (λ s. IsFirstDue s c.args.self.now.next n) c.as_slice.ensures.value c.in-Some.ensures in
+    rw c.step_after.ensures (goes_on g.D.Device.facts outcome n slots (set slots n slot) c.args.store.now now first.due
+    (moves_written (λ p q. Serves g.D.Device.facts outcome p c.args.store.now q now) n slots c.index_mut.result.now slot first.within
+    c.index_mut.ensures.value c.serve_at-outcome.ensures) history on)

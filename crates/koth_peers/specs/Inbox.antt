@@ -1,0 +1,40 @@
+-- What came from a peer, and which commands of it are due.
+use Rattle.std.specs.Prelude.{◌≡◌, ℕ, ◌-◌, ◌≤◌, min, Bool, true, false, List, [], ◌∷◌, ◌++◌, length, Option}
+use Rattle.koth_protocol.specs.Commands.{Command, commands_from, commands_of}
+use Rattle.koth_protocol.specs.Lines.{lines_from}
+use Rattle.koth_protocol.specs.Reading.{IsReading, commands_met}
+use Rattle.koth_protocol.specs.declared.script.Met.{Met}
+use Rattle.koth_protocol.specs.declared.script.Met.TheVariants as met
+use Rattle.koth_peers.specs.declared.inbox.Inbox.{Inbox}
+
+-- a command was met
+abbrev pub is_met : Met → Bool
+is_met met.Nothing = false
+is_met met.Submit = true
+is_met met.Show = true
+is_met met.Quit = true
+is_met met.Bad = true
+
+-- bytes that may come now
+abbrev pub room_of : {A : Type 0} → Inbox A → ℕ
+room_of inbox = min (4096 - length inbox.waiting) (16777216 - inbox.taken)
+
+-- These bytes came, and these commands of theirs were carried out. The commands of whatever comes next are those, the one that was met, and
+-- the commands of the bytes that wait.
+pub record IsFollowed {A : Type 0} (inbox : Inbox A) (came : List ℕ) (done : List Command) : Type 0 where
+  pub line : List ℕ
+  pub source : Option (List ℕ)
+  pub reading : IsReading inbox.script line source
+  pub commands : (more : List ℕ) → commands_of (came ++ more)
+      ≡ done ++ commands_met inbox.due inbox.script.source (commands_from source (lines_from line (inbox.waiting ++ more)))
+  pub taken : inbox.taken ≡ length came
+  pub few : length came ≤ 16777216
+
+-- and they were read up to the next command: where none was met, none waits
+pub record IsReadTo {A : Type 0} (inbox : Inbox A) (came : List ℕ) (done : List Command) : Type 0 where
+  pub followed : IsFollowed inbox came done
+  pub read : is_met inbox.due ≡ false → inbox.waiting ≡ []
+
+-- what was met is this command, whatever is behind it
+abbrev pub IsNext : Met → List ℕ → Command → Type 0
+IsNext met bytes command = (others : List Command) → commands_met met bytes others ≡ command ∷ others

@@ -1,0 +1,147 @@
+-- One session as a value: what came of it, what was carried out, and what is to be sent.
+use Rattle.std.specs.Prelude.{◌≡◌, ℕ, ◌+◌, ◌<◌, ◌≤◌, nat_le, Bool, true, false, if◌then◌else◌, List, [], ◌∷◌, ◌++◌, drop, length, Option, None, Some}
+use Rattle.sector_disk.specs.Facts.{DeviceFacts}
+use Rattle.koth_hill.specs.Kept.{Kept, table_kept}
+use Rattle.hill_store.specs.Seen.{Seen}
+use Rattle.koth_protocol.specs.Commands.{Command, commands_of, kept_source}
+use Rattle.koth_protocol.specs.Table.{show_text}
+use Rattle.koth_protocol.specs.declared.script.Met.{Met}
+use Rattle.koth_protocol.specs.declared.script.Met.TheVariants as met
+use Rattle.koth_session.specs.Sessions.{AreServed, IsLeftOff}
+use Rattle.koth_session.specs.Transcript.{Exchange, answer, command_in}
+use Rattle.koth_peers.specs.Inbox.{IsReadTo, is_met, room_of}
+use Rattle.koth_peers.specs.declared.end.PeerEnd.{PeerEnd}
+use Rattle.koth_peers.specs.declared.end.PeerEnd.TheVariants as ends
+use Rattle.koth_peers.specs.declared.inbox.Inbox.{Inbox}
+use Rattle.koth_peers.specs.declared.peer.Peer.{Peer}
+
+-- ---- how a session stands
+
+-- how it stands after what came: it goes on while a command is due, or while more bytes may come
+abbrev pub settled : Option PeerEnd → Bool → ℕ → Bool → Option PeerEnd
+settled (Some end) due taken closed = Some end
+settled None true taken closed = None
+settled None false taken closed = if nat_le 16777216 taken then Some ends.Limit else (if closed then Some ends.EndOfInput else None)
+
+abbrev pub settled_now : {A : Type 0} → Option PeerEnd → Peer A → Option PeerEnd
+settled_now end peer = settled end (is_met peer.inbox.due) peer.inbox.taken peer.closed
+
+-- a session that has not ended has a command that is due
+abbrev pub is_due : Option PeerEnd → Bool → Bool
+is_due None met = met
+is_due (Some end) met = false
+
+abbrev pub is_due_now : {A : Type 0} → Peer A → Bool
+is_due_now peer = is_due peer.end (is_met peer.inbox.due)
+
+-- bytes that may come: none once the peer's bytes are at their end, or the session has ended
+abbrev pub may_come : Option PeerEnd → Bool → ℕ → ℕ
+may_come (Some end) closed room = 0
+may_come None true room = 0
+may_come None false room = room
+
+abbrev pub may_come_now : {A : Type 0} → Peer A → ℕ
+may_come_now peer = may_come peer.end peer.closed (room_of peer.inbox)
+
+-- what a session that stands so made of what came: these of its commands were carried out and answered, and as long as it goes on, the next one is due or
+-- more bytes may come
+abbrev pub HasRead : {A : Type 0} → Option PeerEnd → Inbox A → Bool → List ℕ → List Command → Type 0
+HasRead None inbox closed came done = IsReadTo inbox came done × (is_met inbox.due ≡ false → (closed ≡ false) × (length came < 16777216))
+HasRead (Some ends.Quit) inbox closed came done = commands_of came ≡ done ++ Command.Quit ∷ []
+HasRead (Some ends.EndOfInput) inbox closed came done = (commands_of came ≡ done) × (closed ≡ true)
+HasRead (Some ends.Limit) inbox closed came done = (commands_of came ≡ done) × (length came ≡ 16777216)
+HasRead (Some ends.Unread) inbox closed came done = (command : Command) × (behind : List Command) × (commands_of came ≡ done ++ command ∷ behind)
+HasRead (Some ends.StoreFailed) inbox closed came done = (source : List ℕ) × (behind : List Command) × (commands_of came ≡ done ++ Command.Submit source ∷ behind)
+HasRead (Some ends.Memory) inbox closed came done = (command : Command) × (behind : List Command) × (commands_of came ≡ done ++ command ∷ behind)
+
+-- these bytes came, and these commands of theirs were carried out and answered
+pub record IsPeer {A : Type 0} (peer : Peer A) (came : List ℕ) (done : List Command) : Type 0 where
+  pub has_read : HasRead peer.end peer.inbox peer.closed came done
+  pub few : length came ≤ 16777216
+
+-- a session of which nothing came yet
+pub record IsNew {A : Type 0} (peer : Peer A) : Type 0 where
+  pub begins : IsPeer peer [] []
+  pub unsent : peer.outbox.unsent ≡ []
+  pub open_still : peer.closed ≡ false
+  pub goes_on : peer.end ≡ None
+
+-- ---- what each call makes of it
+
+-- these bytes came
+pub record Takes {A : Type 0} (old : Peer A) (bytes : List ℕ) (new : Peer A) : Type 0 where
+  pub reads : (came : List ℕ) (done : List Command) → IsPeer old came done → IsPeer new (came ++ bytes) done
+  pub unsent : new.outbox.unsent ≡ old.outbox.unsent
+  pub closed : new.closed ≡ old.closed
+  pub end : new.end ≡ settled_now old.end new
+
+-- no more bytes come
+pub record Closes {A : Type 0} (old new : Peer A) : Type 0 where
+  pub reads : (came : List ℕ) (done : List Command) → IsPeer old came done → IsPeer new came done
+  pub unsent : new.outbox.unsent ≡ old.outbox.unsent
+  pub closed : new.closed ≡ true
+  pub end : new.end ≡ settled_now old.end new
+  pub inbox : new.inbox ≡ old.inbox
+
+-- so many bytes of its answers were sent
+pub record Sends {A : Type 0} (old : Peer A) (count : ℕ) (new : Peer A) : Type 0 where
+  pub unsent : new.outbox.unsent ≡ drop count old.outbox.unsent
+  pub inbox : new.inbox ≡ old.inbox
+  pub closed : new.closed ≡ old.closed
+  pub end : new.end ≡ old.end
+
+-- the command that is due, with the bytes of a source
+abbrev pub command_due : Met → List ℕ → Command
+command_due met.Nothing bytes = Command.Bad
+command_due met.Submit bytes = Command.Submit bytes
+command_due met.Show bytes = Command.Show
+command_due met.Quit bytes = Command.Quit
+command_due met.Bad bytes = Command.Bad
+
+-- the answer to this command has no room behind the answers that are unsent; a reply takes 96 bytes at most
+abbrev pub IsFull : Kept → Command → List ℕ → Type 0
+IsFull hill (Command.Submit source) unsent = 1048576 < length unsent + 96
+IsFull hill Command.Show unsent = 1048576 < length unsent + length (show_text (table_kept hill))
+IsFull hill Command.Quit unsent = ⊥
+IsFull hill Command.Bad unsent = 1048576 < length unsent + 4
+
+-- a text was put behind those that are unsent, or the session ends: it has no room, or no memory
+abbrev pub Says : List ℕ → Option PeerEnd → List ℕ → List ℕ → Type 0
+Says text None unsent new = new ≡ unsent ++ text
+Says text (Some ends.Unread) unsent new = (1048576 < length unsent + length text) × (new ≡ unsent)
+Says text (Some ends.Memory) unsent new = new ≡ unsent
+Says text (Some ends.Quit) unsent new = ⊥
+Says text (Some ends.EndOfInput) unsent new = ⊥
+Says text (Some ends.Limit) unsent new = ⊥
+Says text (Some ends.StoreFailed) unsent new = ⊥
+
+-- What came of a command: it was carried out on the store, and its answer stands behind those that are unsent; or the session ends.
+abbrev pub AnswersPeer : {D : Type 0} → DeviceFacts D → Command → Option PeerEnd → List ℕ → Seen D → List ℕ → Seen D → Type 0
+AnswersPeer facts command None unsent old unsent_new new =
+    (e : Exchange) × (command ≡ command_in e) × AreServed facts old new (e ∷ []) × (unsent_new ≡ unsent ++ answer old.hill e)
+AnswersPeer facts command (Some ends.Quit) unsent old unsent_new new = (command ≡ Command.Quit) × (new ≡ old) × (unsent_new ≡ unsent)
+AnswersPeer facts command (Some ends.EndOfInput) unsent old unsent_new new = ⊥
+AnswersPeer facts command (Some ends.Limit) unsent old unsent_new new = ⊥
+AnswersPeer facts command (Some ends.Unread) unsent old unsent_new new = IsFull old.hill command unsent × (new ≡ old) × (unsent_new ≡ unsent)
+AnswersPeer facts command (Some ends.StoreFailed) unsent old unsent_new new =
+    (source : List ℕ) × (command ≡ Command.Submit source) × IsLeftOff facts old new source × (unsent_new ≡ unsent)
+AnswersPeer facts command (Some ends.Memory) unsent old unsent_new new = (new ≡ old) × (unsent_new ≡ unsent)
+
+-- the commands that were carried out, behind this one
+abbrev pub done_after : Option PeerEnd → List Command → Command → List Command
+done_after None done command = done ++ command ∷ []
+done_after (Some end) done command = done
+
+abbrev pub end_after : Option PeerEnd → Option PeerEnd → Option PeerEnd
+end_after None otherwise = otherwise
+end_after (Some end) otherwise = Some end
+
+abbrev pub command_of : {A : Type 0} → Peer A → Command
+command_of peer = command_due peer.inbox.due (kept_source peer.inbox.script.source)
+
+-- the command that was due was carried out, or it ended the session
+pub record Serves {D A : Type 0} (facts : DeviceFacts D) (outcome : Option PeerEnd) (old_peer : Peer A) (old : Seen D) (new_peer : Peer A) (new : Seen D) : Type 0 where
+  pub answers : AnswersPeer facts (command_of old_peer) outcome old_peer.outbox.unsent old new_peer.outbox.unsent new
+  pub reads : (came : List ℕ) (done : List Command) → IsPeer old_peer came done → IsPeer new_peer came (done_after outcome done (command_of old_peer))
+  pub closed : new_peer.closed ≡ old_peer.closed
+  pub end : new_peer.end ≡ end_after outcome (settled_now None new_peer)

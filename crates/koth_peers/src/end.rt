@@ -1,0 +1,18 @@
+//! How a session ends.
+
+/// How a session ended.
+#[derive(Clone, Copy, Debug, PartialEq, Eq)]
+pub enum PeerEnd {
+    /// A line `QUIT` came.
+    Quit,
+    /// The peer's bytes are at their end, and each of its commands was answered.
+    EndOfInput,
+    /// 16,777,216 bytes came, and each command in them was answered.
+    Limit,
+    /// 1,048,576 bytes of answers are unsent, or so many that the next answer may have no room: the command was not carried out.
+    Unread,
+    /// The device failed in a submission, now or earlier, which is not answered: close the store, and open it again.
+    StoreFailed,
+    /// A growth of memory was refused for an answer: the command was not carried out.
+    Memory,
+}

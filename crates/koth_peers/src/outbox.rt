@@ -1,0 +1,88 @@
+//! The answers of a peer that aren't sent yet.
+
+ghost use Rattle.std.specs.Prelude.{◌≡◌, ◌+◌, ◌≤◌, ◌++◌, [], drop, length, OnOk, OnErr};
+
+use crate::waiting::drop_front;
+use std::alloc::{AllocError, Allocator};
+use std::marker::Model;
+
+/// Bytes of answers that may be unsent at most.
+pub(crate) const UNSENT_MOST: usize = 1_048_576;
+
+/// The answers in their order, 1,048,576 bytes at most.
+#[derive(Drop)]
+pub(crate) struct Outbox<A: Allocator> {
+    bytes: Vec<u8, A>,
+    sent: usize,
+}
+
+impl<A: Allocator> Model for Outbox<A> {
+    ghost use Rattle.std.specs.Prelude.{◌-◌, ◌≤◌, length, drop, vec_capacity};
+    ghost use Rattle.koth_peers.specs.Outbox.{Outgoing};
+
+    ghost Value = { Outgoing };
+
+    ghost view = { λ o. record { unsent = drop o.sent o.bytes.items; spare = vec_capacity o.bytes - length o.bytes.items } };
+
+    ghost invariant = { λ o. (o.sent ≤ length o.bytes.items) × (length o.bytes.items - o.sent ≤ 1048576) };
+}
+
+impl<A: Allocator> Outbox<A> {
+    /// No answers. It needs no memory.
+    pub(crate) fn new(alloc: A) -> Outbox<A>
+        ensures { result.unsent ≡ [] }
+    {
+        Outbox {
+            bytes: Vec::new(alloc),
+            sent: 0,
+        }
+    }
+
+    /// How many bytes more may be unsent.
+    pub(crate) fn room(&self) -> usize
+        ensures { result + length self.now.unsent ≡ 1048576 }
+    {
+        UNSENT_MOST - (self.bytes.len() - self.sent)
+    }
+
+    /// Takes memory for an answer of so many bytes. `AllocError` comes if a growth of memory is refused.
+    pub(crate) fn reserve(&mut self, count: usize) -> Result<(), AllocError>
+        ensures same { self.new.unsent ≡ self.old.unsent }
+        ensures spare { OnOk result (count ≤ self.new.spare) }
+    {
+        match self.bytes.reserve(count) {
+            Ok(()) => Ok(()),
+            Err(AllocError) => Err(AllocError),
+        }
+    }
+
+    /// Puts an answer behind the others. It needs no memory.
+    pub(crate) fn put(&mut self, answer: &[u8])
+        requires spare { length answer.now ≤ self.old.spare }
+        requires room { length self.old.unsent + length answer.now ≤ 1048576 }
+        ensures { self.new.unsent ≡ self.old.unsent ++ answer.now }
+    {
+        let _ = self.bytes.extend_from_slice(answer);
+    }
+
+    /// The answers that are unsent.
+    pub(crate) fn as_slice(&self) -> &[u8]
+        ensures value { result.now ≡ self.now.unsent }
+        ensures most { length result.now ≤ 1048576 }
+    {
+        &self.bytes.as_slice()[self.sent..]
+    }
+
+    /// So many bytes were sent. They are let go once they are as many as those that aren't, so a byte is moved for one that was
+    /// sent at most.
+    pub(crate) fn pass(&mut self, count: usize)
+        requires { count ≤ length self.old.unsent }
+        ensures { self.new.unsent ≡ drop count self.old.unsent }
+    {
+        self.sent += count;
+        if self.sent >= self.bytes.len() - self.sent {
+            drop_front(&mut self.bytes, self.sent);
+            self.sent = 0;
+        }
+    }
+}
