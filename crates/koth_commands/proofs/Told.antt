@@ -1,22 +1,33 @@
 -- A text of which a part was written.
-use Rattle.std.proofs.Common.{◌≡◌, ℕ, List, [], ◌++◌, Option, None, Some, Result, Ok, Err, OnOk, OnErr, refl, sym, ap, subst, ◌∙◌, append-nil, append_assoc}
+use Rattle.std.proofs.Common.{◌≡◌, inl, inr, ℕ, List, [], ◌++◌, Option, None, Some, Result, Ok, Err, OnOk, OnErr, refl, sym, ap, subst, ◌∙◌, append-nil, append_assoc}
 use Rattle.std.specs.Io.KnownBytes.{Appends, Keeps}
 use Rattle.std.proofs.KnownBytes.{Appends-nil, Appends-trans}
 use Rattle.koth_protocol.specs.Written.{WritesPart}
-use Rattle.koth_commands.specs.Told.{WritesSome}
+use Rattle.koth_commands.specs.Cause.{cause_told}
+use Rattle.koth_commands.specs.Told.{TellsAlone, TellsCause, TellsWord, WritesSome}
+use Rattle.koth_commands.specs.declared.cause.Cause.{Cause}
+use Rattle.koth_commands.specs.declared.telling.Apart.TheVariants.{Line, Blank}
+
+-- all of it was
+pub whole_part : (old new : Option (List ℕ)) (text line : List ℕ) → text ≡ line → Appends old new text → WritesPart old new line
+whole_part old new text line is whole = record { part = text; rest = []; split = sym is ∙ sym (append-nil text); written = whole }
 
 -- whole, or as far as the output took it
 pub in_part : {T E : Type 0} (r : Result T E) (old new : Option (List ℕ)) (text line : List ℕ) → text ≡ line
     → OnOk r (Appends old new text) → OnErr r (WritesPart old new text) → WritesPart old new line
-in_part (Ok done) old new text line is whole part = record { part = text; rest = []; split = sym is ∙ sym (append-nil text); written = whole }
-in_part (Err fault) old new text line is whole part = record {
-  part = part.part;
-  rest = part.rest;
-  split = sym is ∙ part.split;
-  written = part.written;
-}
+in_part (Ok done) old new text line is whole part = whole_part old new text line is whole
+in_part (Err fault) old new text line is whole part = subst (WritesPart old new) is part
+
+-- bytes that stay grow by nothing
+pub nothing_more : (a b : Option (List ℕ)) → Keeps a b → Appends a b []
+nothing_more None b kept = tt
+nothing_more (Some xs) None kept = kept
+nothing_more (Some xs) (Some ys) kept = kept ∙ sym (append-nil xs)
 
 -- nothing was
+pub kept_part : (old new : Option (List ℕ)) (text : List ℕ) → Keeps old new → WritesPart old new text
+kept_part old new text kept = record { part = []; rest = text; split = refl; written = nothing_more old new kept }
+
 abbrev pub none_yet : (old : Option (List ℕ)) (text : List ℕ) → WritesPart old old text
 none_yet old text = record { part = []; rest = text; split = refl; written = Appends-nil old }
 
@@ -38,30 +49,19 @@ behind o p q whole text before w = record {
   written = Appends-trans o p q whole w.part before w.written;
 }
 
--- where the second text failed, a part of both was written
-pub behind_err : {T E : Type 0} (r : Result T E) (o p q : Option (List ℕ)) (whole text : List ℕ) → Appends o p whole → OnErr r (WritesPart p q text)
-    → OnErr r (WritesPart o q (whole ++ text))
-behind_err (Ok done) o p q whole text before part = tt
-behind_err (Err fault) o p q whole text before part = behind o p q whole text before part
-
 -- ---- some text
 
 pub writes_nothing : (a : Option (List ℕ)) → WritesSome a a
 writes_nothing a = ([], none_yet a [])
 
--- what was written of a text is some text
-pub writes_part : (a b : Option (List ℕ)) (text : List ℕ) → WritesPart a b text → WritesSome a b
-writes_part a b text part = (text, part)
+-- bytes that stay are some text, which is empty
+pub keeps_some : (a b : Option (List ℕ)) → Keeps a b → WritesSome a b
+keeps_some a b kept = ([], kept_part a b [] kept)
 
 pub writes_more : (a b c : Option (List ℕ)) → WritesSome a b → WritesSome b c → WritesSome a c
 writes_more a b c (first, one) (second, other) = (
   one.part ++ other.part,
-  record {
-    part = one.part ++ other.part;
-    rest = [];
-    split = sym (append-nil (one.part ++ other.part));
-    written = Appends-trans a b c one.part other.part one.written other.written;
-  },
+  whole_part a c (one.part ++ other.part) (one.part ++ other.part) refl (Appends-trans a b c one.part other.part one.written other.written),
 )
 
 -- ---- a text behind another, where the first one's bytes are those of a text
@@ -77,11 +77,20 @@ both_err (Ok done) o p q bytes first text more is more_is whole part = tt
 both_err (Err fault) o p q bytes first text more is more_is whole part =
     behind o p q first more (subst (Appends o p) is whole) (subst (WritesPart p q) more_is part)
 
-nothing_more : (a b : Option (List ℕ)) → Keeps a b → Appends a b []
-nothing_more None b kept = tt
-nothing_more (Some xs) None kept = kept
-nothing_more (Some xs) (Some ys) kept = kept ∙ sym (append-nil xs)
+pub both_ok : {T E : Type 0} (r : Result T E) (o p q : Option (List ℕ)) (bytes first text more : List ℕ) → bytes ≡ first → text ≡ more
+    → Appends o p bytes → OnOk r (Appends p q text) → OnOk r (Appends o q (first ++ more))
+both_ok (Ok done) o p q bytes first text more is more_is whole both =
+    Appends-trans o p q first more (subst (Appends o p) is whole) (subst (Appends p q) more_is both)
+both_ok (Err fault) o p q bytes first text more is more_is whole both = tt
 
--- bytes that stay are some text, which is empty
-pub keeps_some : (a b : Option (List ℕ)) → Keeps a b → WritesSome a b
-keeps_some a b kept = ([], record { part = []; rest = []; split = refl; written = nothing_more a b kept })
+-- ---- a word with its cause is a word with some text behind it
+
+pub alone_word : (word : List ℕ) (a b : Option (List ℕ)) → TellsAlone word a b → TellsWord word a b
+alone_word word a b part = record { apart = Line; text = []; written = part }
+
+pub cause_word : (word : List ℕ) (cause : Option Cause) (a b : Option (List ℕ)) → TellsCause word cause a b → TellsWord word a b
+cause_word word None a b told = alone_word word a b told
+cause_word word (Some cause) a b told = elim told [
+  | inl alone ↦ alone_word word a b alone
+  | inr both ↦ record { apart = Blank; text = cause_told cause; written = both }
+]

@@ -1,7 +1,8 @@
 -- What is written of an answer, of settings that are refused, and of a command that failed.
-use Rattle.std.specs.Prelude.{ℕ, Option, List, codes}
+use Rattle.std.specs.Prelude.{ℕ, Option, List, Result, Ok, Err, codes}
 use Rattle.std.specs.Io.KnownBytes.{Appends, Keeps}
 use Rattle.war_types.specs.declared.fault.AsmFault.{AsmFault}
+use Rattle.war_types.specs.declared.settings.RawSettings.{RawSettings}
 use Rattle.war_types.specs.declared.settings.SettingsFault.{SettingsFault}
 use Rattle.war_types.specs.declared.settings.SettingsFault.TheVariants as faults
 use Rattle.koth_protocol.specs.Refusal.{refusal_line}
@@ -41,6 +42,15 @@ Tells failure before after = TellsWord (failure_word failure) before.errors afte
 pub record KeepsAll (before after : Streams) : Type 0 where
   pub input : Keeps before.input after.input
   pub output : Keeps before.output after.output
+
+-- how a command ends that settings are given: as it does under these, with their refusal, or for want of memory
+abbrev pub EndsGiven : (RawSettings → Status → Streams → Streams → Type 0) → Result RawSettings SettingsFault → Status → Streams → Streams → Type 0
+EndsGiven ends (Ok s) status before after = ends s status before after
+EndsGiven ends (Err fault) statuses.Done before after = ⊥
+EndsGiven ends (Err fault) statuses.Refused before after = RefusesSettings fault before after
+EndsGiven ends (Err fault) statuses.WordFault before after = ⊥
+EndsGiven ends (Err fault) statuses.StreamFault before after = ⊥
+EndsGiven ends (Err fault) statuses.NoMemory before after = KeepsAll before after × Tells failures.Memory before after
 
 -- how a command ends whose answer is this text, by what the output and then the errors hold before and after: it is written and nothing is
 -- told, or a part of it is written and the failed stream is told, or nothing is written for want of memory

@@ -11,7 +11,7 @@ use Rattle.koth_protocol.specs.Refusal.{refusal_line}
 use Rattle.koth_protocol.specs.Written.{WritesPart}
 use Rattle.koth_words.specs.declared.words.Source.{Source}
 use Rattle.koth_words.specs.declared.words.Source.TheVariants as sources
-use Rattle.koth_commands.specs.Answer.{KeepsAll, RefusesSettings, Tells}
+use Rattle.koth_commands.specs.Answer.{EndsGiven, Tells}
 use Rattle.koth_commands.specs.Streams.{Streams, Takes, unread}
 use Rattle.koth_commands.specs.Told.{TellsWord, WritesSome}
 use Rattle.koth_commands.specs.Failure.{failure_word}
@@ -68,12 +68,7 @@ EndsUnder s statuses.NoMemory before after = Keeps before.output after.output ×
 
 -- how `asm` ends: as under the settings that are given, with their refusal, or for want of memory
 abbrev pub EndsAsm : Result RawSettings SettingsFault → Status → Streams → Streams → Type 0
-EndsAsm (Ok s) status before after = EndsUnder s status before after
-EndsAsm (Err fault) statuses.Done before after = ⊥
-EndsAsm (Err fault) statuses.Refused before after = RefusesSettings fault before after
-EndsAsm (Err fault) statuses.WordFault before after = ⊥
-EndsAsm (Err fault) statuses.StreamFault before after = ⊥
-EndsAsm (Err fault) statuses.NoMemory before after = KeepsAll before after × Tells failures.Memory before after
+EndsAsm settings status before after = EndsGiven EndsUnder settings status before after
 
 -- the same for a source that is read from the input or else from a file, and then nothing is read from the input
 abbrev pub EndsAsmOf : Bool → Result RawSettings SettingsFault → Status → Streams → Streams → Type 0

@@ -6,7 +6,7 @@ use Rattle.war_types.specs.declared.fault.AsmFault.{AsmFault}
 use Rattle.war_types.specs.declared.settings.RawSettings.{RawSettings}
 use Rattle.war_types.specs.declared.settings.SettingsFault.{SettingsFault}
 use Rattle.redcode_asm.specs.Assembly.{assembly}
-use Rattle.koth_commands.specs.Answer.{KeepsAll, RefusesSettings, Tells}
+use Rattle.koth_commands.specs.Answer.{EndsGiven}
 use Rattle.koth_commands.specs.Failure.{failure_word}
 use Rattle.koth_commands.specs.Fight.{IsFaultOf}
 use Rattle.koth_commands.specs.Streams.{Streams}
@@ -49,9 +49,5 @@ EndsCheckUnder s count statuses.NoMemory o p e f = WritesSome o p × TellsWord (
 
 -- how `check` ends: as under the settings that are given, with their refusal, or for want of memory
 abbrev pub EndsCheck : ℕ → Result RawSettings SettingsFault → Status → Streams → Streams → Type 0
-EndsCheck count (Ok s) status before after = EndsCheckUnder s count status before.output after.output before.errors after.errors
-EndsCheck count (Err fault) statuses.Done before after = ⊥
-EndsCheck count (Err fault) statuses.Refused before after = RefusesSettings fault before after
-EndsCheck count (Err fault) statuses.WordFault before after = ⊥
-EndsCheck count (Err fault) statuses.StreamFault before after = ⊥
-EndsCheck count (Err fault) statuses.NoMemory before after = KeepsAll before after × Tells failures.Memory before after
+EndsCheck count settings status before after =
+    EndsGiven (λ s end u v. EndsCheckUnder s count end u.output v.output u.errors v.errors) settings status before after

@@ -1,5 +1,6 @@
 -- What is told of a command that was not carried out.
-use Rattle.std.specs.Prelude.{ℕ, List, codes}
+use Rattle.std.specs.Prelude.{ℕ, Option, None, Some, List, codes}
+use Rattle.koth_commands.specs.declared.cause.Cause.{Cause}
 use Rattle.koth_commands.specs.declared.failure.Failure.{Failure}
 use Rattle.koth_commands.specs.declared.failure.Failure.TheVariants.{Stream, Memory}
 use Rattle.koth_commands.specs.declared.failure.Trouble.{Trouble}
@@ -11,6 +12,11 @@ use Rattle.koth_commands.specs.declared.status.Status.TheVariants as statuses
 abbrev pub failure_of : Trouble → Failure
 failure_of (troubles.Failed cause) = Stream
 failure_of troubles.Memory = Memory
+
+-- what it failed at, and why
+abbrev pub cause_of : Trouble → Option Cause
+cause_of (troubles.Failed cause) = Some cause
+cause_of troubles.Memory = None
 
 -- the word on the standard error, behind which what failed and why may stand
 abbrev pub failure_word : Failure → List ℕ

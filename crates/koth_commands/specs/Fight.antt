@@ -13,7 +13,7 @@ use Rattle.koth_views.specs.Bout.{bout_view}
 use Rattle.koth_words.specs.declared.words.View.{View}
 use Rattle.koth_words.specs.declared.words.View.TheVariants as views
 use Rattle.koth_protocol.specs.Written.{WritesPart}
-use Rattle.koth_commands.specs.Answer.{KeepsAll, RefusesSettings, Tells}
+use Rattle.koth_commands.specs.Answer.{EndsGiven}
 use Rattle.koth_commands.specs.Failure.{failure_word}
 use Rattle.koth_commands.specs.Streams.{Streams}
 use Rattle.koth_commands.specs.Told.{TellsWord, WritesSome}
@@ -83,9 +83,5 @@ EndsFightUnder s view statuses.NoMemory o p e f = Keeps o p × TellsWord (failur
 
 -- how `fight` ends: as under the settings that are given, with their refusal, or for want of memory
 abbrev pub EndsFight : View → Result RawSettings SettingsFault → Status → Streams → Streams → Type 0
-EndsFight view (Ok s) status before after = EndsFightUnder s view status before.output after.output before.errors after.errors
-EndsFight view (Err fault) statuses.Done before after = ⊥
-EndsFight view (Err fault) statuses.Refused before after = RefusesSettings fault before after
-EndsFight view (Err fault) statuses.WordFault before after = ⊥
-EndsFight view (Err fault) statuses.StreamFault before after = ⊥
-EndsFight view (Err fault) statuses.NoMemory before after = KeepsAll before after × Tells failures.Memory before after
+EndsFight view settings status before after =
+    EndsGiven (λ s end u v. EndsFightUnder s view end u.output v.output u.errors v.errors) settings status before after

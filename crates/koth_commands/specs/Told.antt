@@ -1,6 +1,8 @@
 -- What is told on the standard error.
-use Rattle.std.specs.Prelude.{ℕ, Option, List, ◌++◌, codes}
+use Rattle.std.specs.Prelude.{◌⊎◌, ℕ, Option, None, Some, List, ◌++◌, codes}
 use Rattle.koth_protocol.specs.Written.{WritesPart}
+use Rattle.koth_commands.specs.Cause.{cause_told}
+use Rattle.koth_commands.specs.declared.cause.Cause.{Cause}
 use Rattle.koth_commands.specs.declared.telling.Apart.{Apart}
 use Rattle.koth_commands.specs.declared.telling.Apart.TheVariants.{Line, Blank, Colon}
 
@@ -19,3 +21,12 @@ pub record TellsWord (word : List ℕ) (old new : Option (List ℕ)) : Type 0 wh
   pub apart : Apart
   pub text : List ℕ
   pub written : WritesPart old new (word ++ (apart_text apart ++ text))
+
+-- a word was written alone on its line, or a part of that where the errors failed
+abbrev pub TellsAlone : List ℕ → Option (List ℕ) → Option (List ℕ) → Type 0
+TellsAlone word old new = WritesPart old new (word ++ codes "\n")
+
+-- a word was written, and behind it a blank and what failed and why, where that is known; alone where it isn't, and where memory ran out
+abbrev pub TellsCause : List ℕ → Option Cause → Option (List ℕ) → Option (List ℕ) → Type 0
+TellsCause word None old new = TellsAlone word old new
+TellsCause word (Some cause) old new = TellsAlone word old new ⊎ WritesPart old new (word ++ (codes " " ++ cause_told cause))

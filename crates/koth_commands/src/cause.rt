@@ -1,5 +1,8 @@
 //! What failed, and why, as people are told it.
 
+ghost use Rattle.std.specs.Prelude.{◌≡◌, codes, string_bytes, IfOk};
+ghost use Rattle.koth_commands.specs.Cause.{cause_told, error_reason, reason_text, reason_told, source_name};
+
 use std::alloc::{AllocError, Allocator};
 use std::io::ErrorKind;
 
@@ -46,6 +49,8 @@ pub enum Reason {
     OldHill,
     /// A warrior in the file can't be read.
     Damaged,
+    /// It can't be read.
+    Unreadable,
     /// Reading or writing failed.
     Device,
     /// Memory ran out.
@@ -56,7 +61,9 @@ pub enum Reason {
 
 impl Reason {
     /// The reason in a few words.
-    pub(crate) fn text(self) -> &'static str {
+    pub(crate) fn text(self) -> &'static str
+        ensures { result.now ≡ reason_text self }
+    {
         match self {
             Reason::Missing => "no such file or folder",
             Reason::NotPermitted => "no permission",
@@ -80,6 +87,7 @@ impl Reason {
                 "a hill of the old format; koth migrate FILE NEW moves it to a new file"
             }
             Reason::Damaged => "a warrior in it can't be read; go back to a copy",
+            Reason::Unreadable => "it can't be read; go back to a copy",
             Reason::Device => "reading or writing it failed",
             Reason::Memory => "memory ran out",
             Reason::Other => "the system reports an error",
@@ -88,7 +96,9 @@ impl Reason {
 }
 
 /// The reason for an error of the system.
-pub fn reason_of(kind: ErrorKind) -> Reason {
+pub fn reason_of(kind: ErrorKind) -> Reason
+    ensures { result ≡ error_reason kind }
+{
     match kind {
         ErrorKind::NotFound => Reason::Missing,
         ErrorKind::PermissionDenied => Reason::NotPermitted,
@@ -115,6 +125,8 @@ pub fn reason_of(kind: ErrorKind) -> Reason {
 pub enum Subject<'s> {
     /// The file at this path.
     File(&'s str),
+    /// The warrior with this entry, of the hill in the file at this path.
+    Warrior(&'s str, u64),
     /// A port of this machine.
     Port(u16),
     /// A connection to a peer.
@@ -127,9 +139,11 @@ pub enum Subject<'s> {
 
 impl<'s> Subject<'s> {
     /// What diagnostics call a source that comes from it.
-    pub(crate) fn name(self) -> &'s str {
+    pub(crate) fn name(self) -> &'s str
+        ensures { result.now ≡ source_name self.entry }
+    {
         match self {
-            Subject::File(path) => path,
+            Subject::File(path) | Subject::Warrior(path, _) => path,
             Subject::Port(_) | Subject::Connection => "a peer",
             Subject::Input => "standard input",
             Subject::Output => "standard output",
@@ -146,7 +160,9 @@ pub struct Cause<'s> {
 
 impl<'s> Cause<'s> {
     /// A file, and why it failed.
-    pub fn file(path: &'s str, reason: Reason) -> Cause<'s> {
+    pub fn file(path: &'s str, reason: Reason) -> Cause<'s>
+        ensures { cause_told result ≡ reason_told path.now reason }
+    {
         Cause {
             subject: Subject::File(path),
             reason,
@@ -154,7 +170,9 @@ impl<'s> Cause<'s> {
     }
 
     /// Standard output, and why it failed.
-    pub fn output(reason: Reason) -> Cause<'s> {
+    pub fn output(reason: Reason) -> Cause<'s>
+        ensures { cause_told result ≡ reason_told (codes "standard output") reason }
+    {
         Cause {
             subject: Subject::Output,
             reason,
@@ -162,14 +180,16 @@ impl<'s> Cause<'s> {
     }
 }
 
-/// What is told of a cause: what failed, and why.
-pub(crate) fn cause_text<A: Allocator>(
-    alloc: A,
-    cause: Cause<'_>,
-) -> Result<String<A>, AllocError> {
+/// The line that tells a cause: what failed, and why.
+pub(crate) fn cause_text<A: Allocator>(alloc: A, cause: Cause<'_>) -> Result<String<A>, AllocError>
+    ensures { IfOk result (λ text. string_bytes text ≡ cause_told cause.entry) }
+{
     let why = cause.reason.text();
     match cause.subject {
         Subject::File(path) => format!(in alloc; "{}: {}\n", path, why),
+        Subject::Warrior(path, entry) => {
+            format!(in alloc; "{}, warrior {}: {}\n", path, entry, why)
+        }
         Subject::Port(port) => format!(in alloc; "port {}: {}\n", port, why),
         Subject::Connection => format!(in alloc; "a connection: {}\n", why),
         Subject::Input => format!(in alloc; "standard input: {}\n", why),

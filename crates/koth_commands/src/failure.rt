@@ -1,7 +1,7 @@
 //! Why a command was not carried out.
 
 ghost use Rattle.std.specs.Prelude.{◌≡◌};
-ghost use Rattle.koth_commands.specs.Told.{TellsWord};
+ghost use Rattle.koth_commands.specs.Told.{TellsAlone, TellsCause, TellsWord};
 
 use crate::cause::Cause;
 use crate::status::Status;
@@ -28,12 +28,14 @@ pub enum Trouble<'t> {
 }
 
 impl Trouble<'_> {
-    ghost use Rattle.koth_commands.specs.Failure.{failure_of, failure_status, failure_word};
+    ghost use Rattle.koth_commands.specs.Failure.{cause_of, failure_of, failure_status, failure_word};
 
     /// Writes the failure's word, and behind it what failed and why, and says how the program ends.
     pub fn tell<A: Allocator, E: Write>(self, alloc: A, errors: &mut E) -> Status
         ensures status { result ≡ failure_status (failure_of self.entry) }
         ensures told { TellsWord (failure_word (failure_of self.entry)) (E.contents errors.old) (E.contents errors.new) }
+        ensures cause { TellsCause (failure_word (failure_of self.entry)) (cause_of self.entry)
+            (E.contents errors.old) (E.contents errors.new) }
     {
         match self {
             Trouble::Failed(cause) => Failure::Stream.tell(alloc, Some(cause), errors),
@@ -55,6 +57,7 @@ impl Failure {
     ) -> Status
         ensures status { result ≡ failure_status self }
         ensures told { TellsWord (failure_word self) (E.contents errors.old) (E.contents errors.new) }
+        ensures cause { TellsCause (failure_word self) cause.entry (E.contents errors.old) (E.contents errors.new) }
     {
         tell_word(alloc, self.word(), cause, errors);
         self.status()
@@ -64,6 +67,7 @@ impl Failure {
     pub fn tell_alone<E: Write>(self, errors: &mut E) -> Status
         ensures status { result ≡ failure_status self }
         ensures told { TellsWord (failure_word self) (E.contents errors.old) (E.contents errors.new) }
+        ensures alone { TellsAlone (failure_word self) (E.contents errors.old) (E.contents errors.new) }
     {
         tell_text(self.word(), Apart::Line, b"", errors);
         self.status()

@@ -2,7 +2,7 @@
 
 ghost use Rattle.std.specs.Prelude.{◌≡◌, ◌++◌, OnErr, OnOk};
 ghost use Rattle.std.specs.Io.KnownBytes.{Appends};
-ghost use Rattle.koth_commands.specs.Told.{apart_text, TellsWord};
+ghost use Rattle.koth_commands.specs.Told.{apart_text, TellsCause, TellsWord};
 ghost use Rattle.koth_protocol.specs.Written.{WritesPart};
 
 use crate::cause::{Cause, cause_text};
@@ -41,7 +41,7 @@ pub fn tell_word<A: Allocator, E: Write>(
     cause: Option<Cause<'_>>,
     errors: &mut E,
 )
-    ensures { TellsWord word.now (E.contents errors.old) (E.contents errors.new) }
+    ensures { TellsCause word.now cause.entry (E.contents errors.old) (E.contents errors.new) }
 {
     match cause {
         Some(cause) => match cause_text(alloc, cause) {
@@ -54,7 +54,8 @@ pub fn tell_word<A: Allocator, E: Write>(
 
 /// Writes a word and a text behind it, or a part of them where the errors fail.
 pub fn tell_text<E: Write>(word: &str, apart: Apart, text: &[u8], errors: &mut E)
-    ensures { TellsWord word.now (E.contents errors.old) (E.contents errors.new) }
+    ensures told { TellsWord word.now (E.contents errors.old) (E.contents errors.new) }
+    ensures part { WritesPart (E.contents errors.old) (E.contents errors.new) (word.now ++ (apart_text apart ++ text.now)) }
 {
     let _ = write_told(word, apart, text, errors);
 }

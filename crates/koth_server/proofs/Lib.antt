@@ -1,8 +1,6 @@
 mod Audited
 mod Carried
-mod Listening
 mod OldHeaders
-mod Parts
 mod Replies
 mod Said
 mod Shown

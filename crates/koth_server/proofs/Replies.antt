@@ -1,35 +1,45 @@
 -- The text that tells a reply.
-use Rattle.std.proofs.Common.{◌≡◌, ◌∙◌, ℕ, List, [], ◌++◌, Option, None, ap, append-nil, inl, inr, refl}
+use Rattle.std.proofs.Common.{◌≡◌, ◌⊎◌, ℕ, List, [], Option, None, Some, IfSome, ◌++◌, inl, inr, refl, subst}
 use Rattle.sector_disk.specs.Facts.{DeviceFacts}
 use Rattle.hill_store.specs.Seen.{Seen, Submits}
 use Rattle.hill_store.specs.declared.reply.Reply.{Reply}
+use Rattle.koth_hill.specs.Kept.{Kept}
 use Rattle.koth_session.specs.Reply.{reply_line}
 use Rattle.koth_commands.specs.Streams.{streams}
 use Rattle.koth_commands.specs.declared.status.Status.{Status}
-use Rattle.koth_server.specs.Hills.{EndsReply, EndsSubmission, IsReplyText}
+use Rattle.koth_server.specs.Hills.{EndsReply, EndsSubmission, IsPlacing}
+use Rattle.koth_views.specs.Placing.{placing_view}
+use Rattle.koth_views.specs.Roster.{roster}
+use Rattle.koth_views.specs.declared.entrants.Entered.{Entered}
 use Rattle.koth_words.specs.declared.words.View.{View}
 use Rattle.koth_words.specs.declared.words.View.TheVariants as views
 
--- for programs its line alone, for people some text behind it
-pub tells_reply : (view : View) (reply : Reply) (more : List ℕ) → (view ≡ views.Plain → more ≡ []) → IsReplyText view reply (reply_line reply ++ more)
-tells_reply views.Plain reply more none = ap (λ l. reply_line reply ++ l) (none refl) ∙ append-nil (reply_line reply)
-tells_reply views.Table reply more none = (more, refl)
+-- what became of the warrior is told if it is known who stood on the hill
+pub is_placing : {V : Type 0} (items : V → List Entered) (view : View) (old new : Kept) (reply : Reply) (stood : Option V) (more : List ℕ)
+    → (view ≡ views.Plain → stood ≡ None) → IfSome stood (λ v. items v ≡ roster old) → (stood ≡ None → more ≡ [])
+    → IfSome stood (λ v. (more ≡ []) ⊎ (more ≡ placing_view (items v) new reply)) → IsPlacing view old new reply more
+is_placing items views.Plain old new reply stood more plain known none some = none (plain refl)
+is_placing items views.Table old new reply None more plain known none some = inl (none refl)
+is_placing items views.Table old new reply (Some v) more plain known none some = elim some [
+  | inl is ↦ inl is
+  | inr is ↦ inr (subst (λ r. more ≡ placing_view r new reply) known is)
+]
 
 -- how a submission ends, from how its reply is told
 pub submitted : {D : Type 0} (facts : DeviceFacts D) (old new : Seen D) (source : List ℕ) (view : View) (reply : Reply) (more : List ℕ) (status : Status)
-    (o p e f : Option (List ℕ)) → Submits facts old source reply new → (view ≡ views.Plain → more ≡ []) → EndsReply reply more status o p e f
+    (o p e f : Option (List ℕ)) → Submits facts old source reply new → IsPlacing view old.hill new.hill reply more → EndsReply reply more status o p e f
     → EndsSubmission facts old source new view status (streams None o e) (streams None p f)
-submitted facts old new source view reply more status o p e f submits none ends = (
+submitted facts old new source view reply more status o p e f submits placing ends = (
   reply,
   submits,
   elim ends [
     | inl said ↦ inl (record {
       text = reply_line reply ++ more;
-      tells = tells_reply view reply more none;
+      tells = (more, placing, refl);
       ends = said.0;
       written = said.1;
       explained = said.2;
     })
-    | inr failed ↦ inr (failed.0, (reply_line reply ++ more, tells_reply view reply more none, failed.1), failed.2)
+    | inr failed ↦ inr (failed.0, (reply_line reply ++ more, (more, placing, refl), failed.1), failed.2)
   ],
 )

@@ -1,5 +1,5 @@
 -- What was written of a command's answer.
-use Rattle.std.proofs.Common.{◌≡◌, ◌≢◌, ◌∙◌, ℕ, List, Option, Result, Ok, Err, IsErrAnd, Bool, false, true≢false, inl, inr, refl, sym, subst}
+use Rattle.std.proofs.Common.{◌≡◌, ◌≢◌, ◌∙◌, ℕ, List, Option, Result, Ok, Err, IsErrAnd, false, true≢false, inl, inr, refl, sym, subst}
 use Rattle.std.specs.Io.KnownBytes.{Keeps}
 use Rattle.std.proofs.KnownBytes.{Keeps-refl}
 use Rattle.sector_disk.specs.Facts.{DeviceFacts}
@@ -8,7 +8,7 @@ use Rattle.hill_store.specs.Seen.{Seen, Submits}
 use Rattle.hill_store.specs.declared.reply.Reply.{Reply}
 use Rattle.hill_store.specs.declared.reply.Reply.TheVariants as replies
 use Rattle.koth_commands.specs.Streams.{Streams}
-use Rattle.koth_server.specs.Hills.{EndsSubmission, EndsSubmit, Said, SaysPart, SaysShown, ShowsOf, Tries, WritesAt}
+use Rattle.koth_server.specs.Hills.{EndsSubmission, EndsSubmit, Said, SaysPart, Tries, WritesAt}
 use Rattle.koth_server.specs.Migration.{SaysMigrated, TellsMigrated, migrated_line}
 use Rattle.koth_server.specs.ReplyStatus.{reply_status}
 use Rattle.koth_commands.specs.declared.failure.Failure.TheVariants as kinds
@@ -42,14 +42,15 @@ module _ {D : Type 0} (facts : DeviceFacts D) (before after : Seen D) (source : 
   -- the submission to a hill that was open ends as `submit` does
   pub says_submission : (view : View) (status : Status) (u v : Streams) → before.reopen ≡ false → EndsSubmission facts before source after view status u v
       → EndsSubmit view status u v
-  says_submission view status u v is_open (reply, submits, inl said) = inl (reply, never_reopen reply submits is_open, said)
+  says_submission view status u v is_open (reply, submits, inl said) =
+      inl (before.hill, after.hill, reply, never_reopen reply submits is_open, said)
   says_submission view status u v is_open (reply, submits, inr (is, (text, tells, written), told)) = inr record {
     fault = faults.Failed kinds.Stream;
     ends = is;
     output = inr record {
       status = reply_status reply;
       text = text;
-      answer = (reply, never_reopen reply submits is_open, refl, tells);
+      answer = (before.hill, after.hill, reply, never_reopen reply submits is_open, refl, tells);
       written = written;
     };
     told = told;
@@ -69,12 +70,12 @@ said_of_some one some holds faults.NotAHill o p said = said
 said_of_some one some holds faults.OldHill o p said = said
 said_of_some one some holds faults.Damaged o p said = said
 
--- the table of a hill is that of some hill
-pub shows_some : (view : View) (matches : Bool) (hill : Kept) (r : Result Status HillTrouble) (o p : Option (List ℕ))
-    → Tries (ShowsOf view matches hill) r o p → Tries (SaysShown view matches) r o p
-shows_some view matches hill (Ok status) o p said = record { text = said.text; answer = (hill, said.answer); written = said.written }
-shows_some view matches hill (Err trouble) o p said =
-    said_of_some (ShowsOf view matches hill) (SaysShown view matches) (λ status text answer. (hill, answer)) trouble.fault o p said
+-- what is said of a hill is said of some hill
+pub of_some_hill : (says : Kept → Said) (hill : Kept) (r : Result Status HillTrouble) (o p : Option (List ℕ))
+    → Tries (says hill) r o p → Tries (λ status text. (hill : Kept) × says hill status text) r o p
+of_some_hill says hill (Ok status) o p said = record { text = said.text; answer = (hill, said.answer); written = said.written }
+of_some_hill says hill (Err trouble) o p said =
+    said_of_some (says hill) (λ status text. (hill : Kept) × says hill status text) (λ status text answer. (hill, answer)) trouble.fault o p said
 
 -- a hill was moved, and the line that says so was written, or a part of it
 pub says_migrated : (r : Result Status HillTrouble) (o p : Option (List ℕ)) → TellsMigrated r o p → Tries SaysMigrated r o p

@@ -1,5 +1,5 @@
 -- What the commands on a hill in a file write, and how they end.
-use Rattle.std.specs.Prelude.{◌≡◌, ◌≢◌, ◌⊎◌, ℕ, Bool, if◌then◌else◌, List, Option, ◌++◌, Result, Ok, Err, codes, decimal}
+use Rattle.std.specs.Prelude.{◌≡◌, ◌≢◌, ◌⊎◌, ℕ, Bool, if◌then◌else◌, List, [], Option, ◌++◌, Result, Ok, Err, codes, decimal}
 use Rattle.std.specs.Io.KnownBytes.{Appends, Keeps}
 use Rattle.war_types.specs.declared.settings.RawSettings.{RawSettings}
 use Rattle.war_types.specs.declared.settings.SettingsFault.{SettingsFault}
@@ -13,11 +13,13 @@ use Rattle.koth_protocol.specs.Matches.{matches_text}
 use Rattle.koth_protocol.specs.Table.{show_text}
 use Rattle.koth_session.specs.Reply.{reply_line}
 use Rattle.koth_protocol.specs.Written.{WritesPart}
-use Rattle.koth_commands.specs.Answer.{KeepsAll, RefusesSettings, Tells}
+use Rattle.koth_commands.specs.Answer.{EndsGiven, Tells}
 use Rattle.koth_commands.specs.Failure.{failure_word}
 use Rattle.koth_commands.specs.Told.{TellsWord, WritesSome}
 use Rattle.koth_views.specs.Standing.{hill_view}
 use Rattle.koth_views.specs.Matrix.{matches_view}
+use Rattle.koth_views.specs.Placing.{placing_view}
+use Rattle.koth_views.specs.Roster.{roster}
 use Rattle.koth_words.specs.declared.words.View.{View}
 use Rattle.koth_words.specs.declared.words.View.TheVariants as views
 use Rattle.koth_server.specs.HillFault.{fault_status, fault_word}
@@ -34,10 +36,15 @@ use Rattle.koth_commands.specs.declared.status.Status.TheVariants as statuses
 abbrev pub listening_line : ℕ → List ℕ
 listening_line port = codes "LISTENING " ++ decimal port ++ codes "\n"
 
+-- what stands behind the line of a reply that made of the one hill the other: for people what became of the warrior, unless there was no
+-- memory for that
+abbrev pub IsPlacing : View → Kept → Kept → Reply → List ℕ → Type 0
+IsPlacing views.Plain old new reply more = more ≡ []
+IsPlacing views.Table old new reply more = (more ≡ []) ⊎ (more ≡ placing_view (roster old) new reply)
+
 -- the text that tells a reply
-abbrev pub IsReplyText : View → Reply → List ℕ → Type 0
-IsReplyText views.Plain reply text = text ≡ reply_line reply
-IsReplyText views.Table reply text = (more : List ℕ) × (text ≡ reply_line reply ++ more)
+abbrev pub IsReplyText : View → Kept → Kept → Reply → List ℕ → Type 0
+IsReplyText view old new reply text = (more : List ℕ) × IsPlacing view old new reply more × (text ≡ reply_line reply ++ more)
 
 -- what is told on the errors besides: some text that explains a refusal, and else nothing
 abbrev pub ExplainsReply : Reply → Option (List ℕ) → Option (List ℕ) → Type 0
@@ -57,10 +64,10 @@ Said = Status → List ℕ → Type 0
 abbrev pub SaysCreated : Said
 SaysCreated status text = (status ≡ statuses.Done) × (text ≡ codes "CREATED\n")
 
--- the line of a reply, which a hill that was just opened gives, and in the view for people some text behind it
+-- the text that tells a reply, which a hill that was just opened gives
 abbrev pub SaysReply : View → Said
-SaysReply view status text =
-    (reply : Reply) × (reply ≢ replies.Reopen) × (status ≡ reply_status reply) × IsReplyText view reply text
+SaysReply view status text = (old : Kept) × (new : Kept) × (reply : Reply)
+    × (reply ≢ replies.Reopen) × (status ≡ reply_status reply) × IsReplyText view old new reply text
 
 -- the table of this hill, by the results that it keeps, and behind it the matrix of these, where it is asked for: for programs
 abbrev pub shown_lines : Bool → Kept → List ℕ
@@ -127,17 +134,13 @@ EndsHill said status before after =
 
 -- how `create` ends: as such a command under the settings that are given, with their refusal, or for want of memory
 abbrev pub EndsCreate : Result RawSettings SettingsFault → Status → Streams → Streams → Type 0
-EndsCreate (Ok s) status before after = EndsHill SaysCreated status before after
-EndsCreate (Err fault) statuses.Done before after = ⊥
-EndsCreate (Err fault) statuses.Refused before after = RefusesSettings fault before after
-EndsCreate (Err fault) statuses.WordFault before after = ⊥
-EndsCreate (Err fault) statuses.StreamFault before after = ⊥
-EndsCreate (Err fault) statuses.NoMemory before after = KeepsAll before after × Tells kinds.Memory before after
+EndsCreate settings status before after = EndsGiven (λ s. EndsHill SaysCreated) settings status before after
 
--- a submission that a store answered: the text that tells the reply was written, and a refusal explained
-pub record SaysSubmitted (view : View) (reply : Reply) (status : Status) (before after : Streams) : Type 0 where
+-- a submission that a store answered, which made of the one hill the other: the text that tells the reply was written, and a refusal
+-- explained
+pub record SaysSubmitted (view : View) (old new : Kept) (reply : Reply) (status : Status) (before after : Streams) : Type 0 where
   pub text : List ℕ
-  pub tells : IsReplyText view reply text
+  pub tells : IsReplyText view old new reply text
   pub ends : status ≡ reply_status reply
   pub written : Appends before.output after.output text
   pub explained : ExplainsReply reply before.errors after.errors
@@ -145,7 +148,8 @@ pub record SaysSubmitted (view : View) (reply : Reply) (status : Status) (before
 -- how `submit` ends: with the reply of a hill that was just opened, or with a fault
 abbrev pub EndsSubmit : View → Status → Streams → Streams → Type 0
 EndsSubmit view status before after =
-    ((reply : Reply) × (reply ≢ replies.Reopen) × SaysSubmitted view reply status before after) ⊎ TellsFault (SaysReply view) status before after
+    ((old : Kept) × (new : Kept) × (reply : Reply) × (reply ≢ replies.Reopen) × SaysSubmitted view old new reply status before after)
+    ⊎ TellsFault (SaysReply view) status before after
 
 -- how it ends that a reply is written and a text behind it, by what the output and then the errors hold before and after
 abbrev pub EndsReply : Reply → List ℕ → Status → Option (List ℕ) → Option (List ℕ) → Option (List ℕ) → Option (List ℕ) → Type 0
@@ -156,8 +160,8 @@ EndsReply reply more status o p e f =
 -- how the submission of a source to a store ends: with its reply, or where the output failed with a part of what tells the reply
 abbrev pub EndsSubmission : {D : Type 0} → DeviceFacts D → Seen D → List ℕ → Seen D → View → Status → Streams → Streams → Type 0
 EndsSubmission facts old source new view status before after = (reply : Reply) × Submits facts old source reply new
-    × (SaysSubmitted view reply status before after
-    ⊎ ((status ≡ statuses.StreamFault) × ((text : List ℕ) × IsReplyText view reply text × WritesPart before.output after.output text)
+    × (SaysSubmitted view old.hill new.hill reply status before after
+    ⊎ ((status ≡ statuses.StreamFault) × ((text : List ℕ) × IsReplyText view old.hill new.hill reply text × WritesPart before.output after.output text)
     × Tells kinds.Stream before after))
 
 -- how `serve` ends: behind its line, or with a fault, and then a part of that line may stand on the output; the log stands on the errors

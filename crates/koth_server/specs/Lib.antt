@@ -7,5 +7,6 @@ pub mod OldHill
 pub mod Hills
 pub mod Audit
 pub mod Migration
+pub mod Page
 -- The number that a run leaves with.
 pub mod Run

@@ -10,6 +10,7 @@ use Rattle.koth_commands.specs.Fight.{EndsFight}
 use Rattle.koth_server.specs.Hills.{EndsCreate, EndsHill, EndsServe, EndsSubmit, SaysShown}
 use Rattle.koth_server.specs.Audit.{EndsAudit}
 use Rattle.koth_server.specs.Migration.{SaysMigrated}
+use Rattle.koth_server.specs.Page.{SaysPage}
 use Rattle.koth_commands.specs.Status.{status_code}
 use Rattle.koth_commands.specs.Streams.{Streams, unread}
 use Rattle.koth_commands.specs.declared.failure.Failure.TheVariants as failures
@@ -19,7 +20,7 @@ use Rattle.koth_words.specs.Words.{given_by, is_taken, matches_named, reads_inpu
 use Rattle.koth_words.specs.declared.words.NoRequest.{NoRequest}
 use Rattle.koth_words.specs.declared.words.NoRequest.TheVariants as reasons
 use Rattle.koth_words.specs.declared.words.Request.{Request}
-use Rattle.koth_words.specs.declared.words.Request.TheVariants.{Asm, Check, Fight, Create, Submit, Show, Serve, Audit, Migrate}
+use Rattle.koth_words.specs.declared.words.Request.TheVariants.{Asm, Check, Fight, Create, Submit, Show, Serve, Audit, Migrate, Page}
 use Rattle.koth_words.specs.declared.words.View.{View}
 
 -- the code is that of a status of which this holds
@@ -43,6 +44,7 @@ CommandEnds view (Show shown) status before after =
     EndsHill (SaysShown (viewed shown.view view) shown.matches) status (unread before) (unread after)
 CommandEnds view (Audit file) status before after = EndsAudit status (unread before) (unread after)
 CommandEnds view (Migrate files) status before after = EndsHill SaysMigrated status (unread before) (unread after)
+CommandEnds view (Page file) status before after = EndsHill SaysPage status (unread before) (unread after)
 CommandEnds view (Serve service) status before after = EndsServe status (unread before) (unread after)
 
 -- how a run ends that carried a request out: as its command does, and never as at a fault of the words
@@ -74,6 +76,7 @@ pub record EndsRun (view : View) (given : List (List ℕ)) (status : Status) (be
       → EndsHill (SaysShown (viewed (view_named given) view) (matches_named given)) status (unread before) (unread after)
   pub audit : AsksFor (codes "audit") given → EndsAudit status (unread before) (unread after)
   pub migrate : AsksFor (codes "migrate") given → EndsHill SaysMigrated status (unread before) (unread after)
+  pub page : AsksFor (codes "page") given → EndsHill SaysPage status (unread before) (unread after)
   pub serve : AsksFor (codes "serve") given → EndsServe status (unread before) (unread after)
   pub words : is_taken given ≡ true → status ≢ statuses.WordFault
   pub wrong : AreWrong given → (status ≡ statuses.WordFault) ⊎ (status ≡ statuses.NoMemory)

@@ -10,7 +10,7 @@ use crate::files::open_hill;
 use crate::trouble::tell_output;
 use hill_file::{Sharing, TryLock};
 use hill_store::{Store, Untrue};
-use koth_commands::{Status, StreamFault, write_whole};
+use koth_commands::{Status, StreamFault, write_both, write_whole};
 use koth_match::Bout;
 use koth_protocol::Line;
 use sector_disk::Device;
@@ -96,8 +96,7 @@ fn write_untrue<E: Write>(untrue: &Untrue, errors: &mut E) -> Result<(), StreamF
     let kept = counts_line(b"KEPT ", untrue.kept);
     let fought = counts_line(b"FOUGHT ", untrue.fought);
     write_whole(errors, pair.as_slice())?;
-    write_whole(errors, kept.as_slice())?;
-    write_whole(errors, fought.as_slice())
+    write_both(errors, kept.as_slice(), fought.as_slice())
 }
 
 fn pair_line(older: u64, younger: u64) -> Line

@@ -4,6 +4,7 @@ ghost use Rattle.std.specs.Prelude.{◌≡◌, ◌≤◌, false, IfErr, IfOk};
 ghost use Rattle.hill_store.specs.Opened.{IsOpened};
 ghost use Rattle.koth_server.specs.OldHill.{IsUnopened, TellsNoHill, TellsRefusal};
 
+use crate::damage::damaged_entry;
 use crate::hill_fault::HillFault;
 use crate::old_hill::holds_old_hill;
 use crate::trouble::{HillTrouble, fault_of_refusal};
@@ -32,9 +33,44 @@ where
     match HillFile::open(rt, path, sharing) {
         Ok(device) => match open_on(alloc, device) {
             Ok(store) => Ok(store),
-            Err(fault) => Err(HillTrouble::of(path, fault)),
+            Err(fault) => Err(trouble_of_opening(rt, alloc, path, fault)),
         },
         Err(fault) => Err(HillTrouble::unopened(path, fault)),
+    }
+}
+
+/// Why the hill in a file isn't opened. If a warrior in it can't be read, the file is read once more for which one it is.
+fn trouble_of_opening<'f, R, A>(
+    rt: &'f R,
+    alloc: A,
+    path: &'f str,
+    fault: HillFault,
+) -> HillTrouble<'f>
+where
+    R: Files,
+    R::File: TryLock,
+    A: Allocator + Copy,
+    ensures { result.fault ≡ fault }
+{
+    match fault {
+        HillFault::Damaged => match damaged_in(rt, alloc, path) {
+            Some(entry) => HillTrouble::damaged(path, entry),
+            None => HillTrouble::of(path, fault),
+        },
+        fault => HillTrouble::of(path, fault),
+    }
+}
+
+/// The entry of the first warrior of the hill in a file that can't be read, if that can be known.
+fn damaged_in<R, A>(rt: &R, alloc: A, path: &str) -> Option<u64>
+where
+    R: Files,
+    R::File: TryLock,
+    A: Allocator + Copy,
+{
+    match HillFile::open(rt, path, Sharing::Shared) {
+        Ok(mut device) => damaged_entry(alloc, &mut device),
+        Err(_) => None,
     }
 }
 

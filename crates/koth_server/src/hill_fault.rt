@@ -21,7 +21,7 @@ pub enum HillFault {
 
 impl HillFault {
     ghost use Rattle.std.specs.Prelude.{◌≡◌};
-    ghost use Rattle.koth_server.specs.HillFault.{fault_status, fault_word};
+    ghost use Rattle.koth_server.specs.HillFault.{fault_reason, fault_status, fault_word};
 
     /// The word that programs know it by.
     pub(crate) fn word(self) -> &'static str
@@ -47,7 +47,9 @@ impl HillFault {
     }
 
     /// What people are told of it.
-    pub(crate) fn reason(self) -> Reason {
+    pub(crate) fn reason(self) -> Reason
+        ensures { result ≡ fault_reason self }
+    {
         match self {
             HillFault::TooSmall => Reason::TooShort,
             HillFault::Occupied => Reason::NotEmpty,

@@ -4,13 +4,13 @@
 //! which the data pass:
 //!
 //! - `program`: `run`, which carries out what the words of the command line ask for, by `koth_words`, and ends with a status;
-//! - `create`, `submit`, `show`, `audit`, `migrate`, `serve`: a command on a hill each;
-//! - `files`: the hill in a file, opened, and `old_hill`: how one of the old format is known;
+//! - `create`, `submit`, `show`, `page`, `audit`, `migrate`, `serve`: a command on a hill each, and `peers`: a connection of `serve`;
+//! - `files`: the hill in a file, opened, `old_hill`: how one of the old format is known, and `damage`: which warrior can't be read;
 //! - `hill_fault`, `reply_status`: what is told of a hill that can't be worked on, and how the program ends then, and with a
 //!   reply.
 //!
 //! `run` says what is written and how it ends as a function of the words and of what was read (`asm`, `fight`, `create`,
-//! `submit`, `show`, `audit`, `migrate`, `serve`); at words with a fault nothing is read, and nothing is written on the output (`word_fault`).
+//! `submit`, `show`, `page`, `audit`, `migrate`, `serve`); at words with a fault nothing is read, and nothing is written on the output (`word_fault`).
 //! `serve_connections` goes on with no store whose device failed, and opens the hill again first.
 //!
 //! Settings must be checked before anything is read, and a hill opened before a source is. `asm`, `fight` and the statuses
@@ -19,11 +19,14 @@
 
 mod audit;
 mod create;
+mod damage;
 mod files;
 mod hill_fault;
 mod log;
 mod migrate;
 mod old_hill;
+mod page;
+mod peers;
 mod program;
 mod reply_status;
 mod serve;

@@ -7,6 +7,7 @@ ghost use Rattle.koth_commands.specs.Streams.{streams};
 use crate::audit::audit;
 use crate::create::create;
 use crate::migrate::migrate;
+use crate::page::page;
 use crate::serve::serve;
 use crate::show::show;
 use crate::submit::submit;
@@ -121,6 +122,7 @@ where
         Request::Show(shown) => show(rt, alloc, shown, viewed(shown.view, view), output, errors),
         Request::Audit(file) => audit(rt, alloc, file, output, errors),
         Request::Migrate(files) => migrate(rt, alloc, files, output, errors),
+        Request::Page(file) => page(rt, alloc, file, output, errors),
         Request::Serve(service) => serve(rt, alloc, service, output, errors),
     }
 }

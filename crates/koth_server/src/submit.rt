@@ -1,6 +1,8 @@
 //! The command `submit`: one submission to the hill in a file.
 
-ghost use Rattle.std.specs.Prelude.{◌≡◌, ◌≢◌, [], false, None};
+ghost use Rattle.std.specs.Prelude.{◌≡◌, ◌≢◌, ◌⊎◌, [], false, None, IfSome};
+ghost use Rattle.koth_views.specs.Placing.{placing_view};
+ghost use Rattle.koth_views.specs.Roster.{roster};
 ghost use Rattle.koth_server.specs.Hills.{EndsReply, EndsSubmission, EndsSubmit, ExplainsReply};
 ghost use Rattle.koth_commands.specs.Streams.{streams};
 
@@ -137,7 +139,8 @@ fn answer_reply<A: Allocator + Copy, O: Write, E: Write>(
 
 /// Who stands on the hill before a submission, if people are to be told what becomes of it and there is memory for that.
 fn roster_for<A: Allocator + Copy>(alloc: A, view: View, hill: &Hill<A>) -> Option<Vec<Entered, A>>
-    ensures { view ≡ View.Plain → result ≡ None }
+    ensures plain { view ≡ View.Plain → result ≡ None }
+    ensures roster { IfSome result (λ stood. stood.items ≡ roster hill.now) }
 {
     match view {
         View::Plain => None,
@@ -152,7 +155,8 @@ fn placing_text<A: Allocator + Copy>(
     hill: &Hill<A>,
     reply: &Reply,
 ) -> Vec<u8, A>
-    ensures { before.now ≡ None → result.items ≡ [] }
+    ensures none { before.now ≡ None → result.items ≡ [] }
+    ensures some { IfSome before.now (λ stood. (result.items ≡ []) ⊎ (result.items ≡ placing_view stood.items hill.now reply.now)) }
 {
     match before {
         Some(before) => match placing_view(alloc, before.as_slice(), hill, reply) {

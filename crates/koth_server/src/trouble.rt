@@ -1,14 +1,17 @@
 //! Why a command on a hill was not carried out, what it worked on, and what is told of it.
 
-ghost use Rattle.std.specs.Prelude.{◌≡◌};
-ghost use Rattle.koth_commands.specs.Failure.{failure_of, failure_word};
-ghost use Rattle.koth_commands.specs.Told.{TellsWord};
-ghost use Rattle.koth_server.specs.HillFault.{fault_of_file, fault_of_refusal, stream_failed};
+ghost use Rattle.std.specs.Prelude.{◌≡◌, codes, option_map};
+ghost use Rattle.koth_commands.specs.Cause.{reason_told};
+ghost use Rattle.koth_commands.specs.Failure.{cause_of, failure_of, failure_word};
+ghost use Rattle.koth_commands.specs.Told.{TellsCause, TellsWord};
+ghost use Rattle.koth_server.specs.HillFault.{damage_told, fault_of_file, fault_of_refusal, fault_reason, open_reason, stream_failed, trouble_told};
 
 use crate::hill_fault::HillFault;
 use hill_file::OpenFault;
 use hill_store::Refusal;
-use koth_commands::{Cause, Failure, Reason, Status, StreamFault, Trouble, reason_of, tell_word};
+use koth_commands::{
+    Cause, Failure, Reason, Status, StreamFault, Subject, Trouble, reason_of, tell_word,
+};
 use std::alloc::Allocator;
 use std::io::Write;
 
@@ -28,6 +31,7 @@ impl<'t> HillTrouble<'t> {
     pub(crate) fn tell<A: Allocator, E: Write>(self, alloc: A, errors: &mut E) -> Status
         ensures status { result ≡ fault_status self.entry.fault }
         ensures told { TellsWord (fault_word self.entry.fault) (E.contents errors.old) (E.contents errors.new) }
+        ensures cause { TellsCause (fault_word self.entry.fault) self.entry.cause (E.contents errors.old) (E.contents errors.new) }
     {
         tell_word(alloc, self.fault.word(), self.cause, errors);
         self.fault.status()
@@ -35,7 +39,8 @@ impl<'t> HillTrouble<'t> {
 
     /// This fault of the hill in a file.
     pub(crate) fn of(path: &'t str, fault: HillFault) -> HillTrouble<'t>
-        ensures { result.fault ≡ fault }
+        ensures fault { result.fault ≡ fault }
+        ensures cause { trouble_told result ≡ Some (reason_told path.now (fault_reason fault)) }
     {
         HillTrouble {
             fault,
@@ -43,9 +48,24 @@ impl<'t> HillTrouble<'t> {
         }
     }
 
+    /// The warrior with this entry can't be read, of the hill in a file.
+    pub(crate) fn damaged(path: &'t str, entry: u64) -> HillTrouble<'t>
+        ensures fault { result.fault ≡ HillFault.Damaged }
+        ensures cause { trouble_told result ≡ Some (damage_told path.now entry) }
+    {
+        HillTrouble {
+            fault: HillFault::Damaged,
+            cause: Some(Cause {
+                subject: Subject::Warrior(path, entry),
+                reason: Reason::Unreadable,
+            }),
+        }
+    }
+
     /// A file that failed for this reason.
     pub(crate) fn file(path: &'t str, reason: Reason) -> HillTrouble<'t>
-        ensures { result.fault ≡ stream_failed }
+        ensures fault { result.fault ≡ stream_failed }
+        ensures cause { trouble_told result ≡ Some (reason_told path.now reason) }
     {
         HillTrouble {
             fault: HillFault::Failed(Failure::Stream),
@@ -55,7 +75,8 @@ impl<'t> HillTrouble<'t> {
 
     /// A stream or a port that failed.
     pub(crate) fn stream(cause: Cause<'t>) -> HillTrouble<'t>
-        ensures { result.fault ≡ stream_failed }
+        ensures fault { result.fault ≡ stream_failed }
+        ensures cause { result.cause ≡ Some cause.entry }
     {
         HillTrouble {
             fault: HillFault::Failed(Failure::Stream),
@@ -65,14 +86,16 @@ impl<'t> HillTrouble<'t> {
 
     /// Standard output failed.
     pub(crate) fn output(fault: StreamFault) -> HillTrouble<'t>
-        ensures { result.fault ≡ stream_failed }
+        ensures fault { result.fault ≡ stream_failed }
+        ensures cause { trouble_told result ≡ Some (reason_told (codes "standard output") fault.reason) }
     {
         HillTrouble::stream(Cause::output(fault.reason))
     }
 
     /// Memory ran out.
     pub(crate) fn memory() -> HillTrouble<'t>
-        ensures { result.fault ≡ HillFault.Failed Failure.Memory }
+        ensures fault { result.fault ≡ HillFault.Failed Failure.Memory }
+        ensures cause { result.cause ≡ None }
     {
         HillTrouble {
             fault: HillFault::Failed(Failure::Memory),
@@ -82,7 +105,8 @@ impl<'t> HillTrouble<'t> {
 
     /// A source's file can't be read, or memory ran out.
     pub(crate) fn from_source(trouble: Trouble<'t>) -> HillTrouble<'t>
-        ensures { result.fault ≡ HillFault.Failed (failure_of trouble.entry) }
+        ensures fault { result.fault ≡ HillFault.Failed (failure_of trouble.entry) }
+        ensures cause { result.cause ≡ cause_of trouble.entry }
     {
         match trouble {
             Trouble::Failed(cause) => HillTrouble::stream(cause),
@@ -92,14 +116,16 @@ impl<'t> HillTrouble<'t> {
 
     /// A store refused the hill in a file.
     pub(crate) fn refused(path: &'t str, refusal: Refusal) -> HillTrouble<'t>
-        ensures { result.fault ≡ fault_of_refusal refusal }
+        ensures fault { result.fault ≡ fault_of_refusal refusal }
+        ensures cause { trouble_told result ≡ Some (reason_told path.now (fault_reason (fault_of_refusal refusal))) }
     {
         HillTrouble::of(path, fault_of_refusal(refusal))
     }
 
     /// A hill's file can't be worked on.
     pub(crate) fn unopened(path: &'t str, fault: OpenFault) -> HillTrouble<'t>
-        ensures { result.fault ≡ fault_of_file fault }
+        ensures fault { result.fault ≡ fault_of_file fault }
+        ensures cause { trouble_told result ≡ option_map (λ reason. reason_told path.now reason) (open_reason fault) }
     {
         match fault {
             OpenFault::Memory => HillTrouble::memory(),

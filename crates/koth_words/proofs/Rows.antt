@@ -25,8 +25,9 @@ hills_ask : AsksFor (codes "create") (codes "koth" ∷ codes "create" ∷ codes 
     × AsksFor (codes "show") (codes "koth" ∷ codes "show" ∷ codes "h.hill" ∷ codes "--matches" ∷ [])
     × AsksFor (codes "audit") (codes "koth" ∷ codes "audit" ∷ codes "h.hill" ∷ [])
     × AsksFor (codes "migrate") (codes "koth" ∷ codes "migrate" ∷ codes "a.hill" ∷ codes "b.hill" ∷ [])
+    × AsksFor (codes "page") (codes "koth" ∷ codes "page" ∷ codes "a.hill" ∷ [])
 unfolding clap_on_literals koth_app
-hills_ask = ((refl, refl), (refl, refl), (refl, refl), (refl, refl), (refl, refl), (refl, refl), (refl, refl))
+hills_ask = ((refl, refl), (refl, refl), (refl, refl), (refl, refl), (refl, refl), (refl, refl), (refl, refl), (refl, refl))
 
 -- the flag is given where the words have it, behind the file or before it, and else not
 matches_given : (matches_named (codes "koth" ∷ codes "show" ∷ codes "h.hill" ∷ codes "--matches" ∷ []) ≡ true)

@@ -73,8 +73,11 @@ audit_app = with_file (new_app (codes "audit")) (codes "FILE")
 abbrev pub migrate_app : App
 migrate_app = with_file (with_file (new_app (codes "migrate")) (codes "FILE")) (codes "NEW")
 
+abbrev pub page_app : App
+page_app = with_file (new_app (codes "page")) (codes "FILE")
+
 -- the program's words: `koth`, and a command's name with its files and options
 unfoldable pub koth_app : App
-koth_app = with_subcommand (with_subcommand (with_subcommand (with_subcommand (with_subcommand (with_subcommand (with_subcommand (with_subcommand (with_subcommand
+koth_app = with_subcommand (with_subcommand (with_subcommand (with_subcommand (with_subcommand (with_subcommand (with_subcommand (with_subcommand (with_subcommand (with_subcommand
     (wants_subcommand (with_version (new_app (codes "koth")))) asm_app.top) check_app.top) fight_app.top) create_app.top) submit_app.top) show_app.top)
-    serve_app.top) audit_app.top) migrate_app.top
+    serve_app.top) audit_app.top) migrate_app.top) page_app.top

@@ -12,7 +12,7 @@ use Rattle.koth_words.specs.declared.words.Form.TheVariants as forms
 use Rattle.koth_words.specs.declared.words.NoRequest.{NoRequest}
 use Rattle.koth_words.specs.declared.words.NoRequest.TheVariants as reasons
 use Rattle.koth_words.specs.declared.words.Request.{Request}
-use Rattle.koth_words.specs.declared.words.Request.TheVariants.{Asm, Check, Fight, Create, Submit, Show, Serve, Audit, Migrate}
+use Rattle.koth_words.specs.declared.words.Request.TheVariants.{Asm, Check, Fight, Create, Submit, Show, Serve, Audit, Migrate, Page}
 use Rattle.koth_words.specs.declared.words.Source.{Source}
 use Rattle.koth_words.specs.declared.words.Source.TheVariants as sources
 use Rattle.koth_words.specs.declared.words.View.{View}
@@ -167,6 +167,8 @@ Asks entered (Audit file) = (entered.0 ≡ codes "audit")
 Asks entered (Migrate files) = (entered.0 ≡ codes "migrate")
     × (files.old.now ≡ text_or_none (first_of (codes "FILE") entered.1))
     × (files.new.now ≡ text_or_none (first_of (codes "NEW") entered.1))
+Asks entered (Page file) = (entered.0 ≡ codes "page")
+    × (file.now ≡ text_or_none (first_of (codes "FILE") entered.1))
 
 -- the same where a command is named
 abbrev pub AsksBy : Option (Text × List Row) → Request → Type 0
@@ -177,7 +179,7 @@ AsksBy (Some entered) request = Asks entered request
 abbrev pub IsCommandName : Text → Type 0
 IsCommandName name = (name ≡ codes "asm") ⊎ (name ≡ codes "check") ⊎ (name ≡ codes "fight")
     ⊎ (name ≡ codes "create") ⊎ (name ≡ codes "submit") ⊎ (name ≡ codes "show")
-    ⊎ (name ≡ codes "serve") ⊎ (name ≡ codes "audit") ⊎ (name ≡ codes "migrate")
+    ⊎ (name ≡ codes "serve") ⊎ (name ≡ codes "audit") ⊎ (name ≡ codes "migrate") ⊎ (name ≡ codes "page")
 
 -- a command is named
 abbrev pub NamesCommand : Option Text → Type 0

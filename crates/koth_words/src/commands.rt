@@ -2,7 +2,7 @@
 
 ghost use Rattle.std.specs.Prelude.{◌≡◌, codes, false, IfOk};
 ghost use Rattle.clap.specs.Words.{App, new_app, new_rule, rule_of, with_subcommand};
-ghost use Rattle.koth_words.specs.Commands.{asm_app, audit_app, check_app, create_app, fight_app, file_rule, files_rule, flag_rule, koth_app, migrate_app, serve_app, show_app, submit_app, text_rule, wants_subcommand, with_version, with_view, IsReadAs};
+ghost use Rattle.koth_words.specs.Commands.{asm_app, audit_app, check_app, create_app, fight_app, file_rule, files_rule, flag_rule, koth_app, migrate_app, page_app, serve_app, show_app, submit_app, text_rule, wants_subcommand, with_version, with_view, IsReadAs};
 ghost use Rattle.koth_words.specs.Options.{required_rule};
 
 use crate::options::{option, with_settings};
@@ -21,7 +21,8 @@ pub(crate) fn koth_command<'a>(heap: Global) -> Result<Command<'a>, AllocError>
     let command = with_command(command, show_command(heap))?;
     let command = with_command(command, serve_command(heap))?;
     let command = with_command(command, audit_command(heap))?;
-    with_command(command, migrate_command(heap))
+    let command = with_command(command, migrate_command(heap))?;
+    with_command(command, page_command(heap))
 }
 
 fn program<'a>(heap: Global) -> Command<'a>
@@ -150,6 +151,17 @@ fn migrate_command<'a>(heap: Global) -> Result<Command<'a>, AllocError>
     )
     .arg(file(heap, "FILE", "Hill file, which stays as it is"))?
     .arg(file(heap, "NEW", "New hill file; created if missing"))
+}
+
+fn page_command<'a>(heap: Global) -> Result<Command<'a>, AllocError>
+    ensures { IfOk result (IsReadAs page_app) }
+{
+    described(
+        heap,
+        "page",
+        "Writes the page of a hill: its table and its matches, as one file for a browser",
+    )
+    .arg(file(heap, "FILE", "Hill file"))
 }
 
 /// The command with this one among its own, if that was made.

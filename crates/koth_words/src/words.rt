@@ -36,6 +36,8 @@ pub enum Request<'w> {
     Audit(&'w str),
     /// `migrate`: move a hill of the layout before this one to a new file.
     Migrate(Migration<'w>),
+    /// `page`: write the page of the hill in this file.
+    Page(&'w str),
 }
 
 /// Where a source is read from.
@@ -213,6 +215,7 @@ fn asked<'w>(heap: Global, name: &str, given: &ArgMatches<'w>) -> Result<Request
         "serve" => Request::Serve(service_named(given)),
         "audit" => Request::Audit(file_named(given, "FILE")),
         "migrate" => Request::Migrate(migration_named(given)),
+        "page" => Request::Page(file_named(given, "FILE")),
         _ => unreachable!(),
     };
     Ok(request)

@@ -1,6 +1,7 @@
 //! The results that a hill keeps, shown, audited, and changed in its file.
 
-use crate::program::check;
+use crate::program::{check, check_told};
+use koth_server::View;
 use std::fs;
 use std::fs::File;
 use std::net::Net;
@@ -58,6 +59,8 @@ fn a_hill_is_audited(rt: HostRuntime) -> Result<(), Fail> {
     check(&rt, "koth show audited.hill", table, "", 0)?;
     put_result(&rt, file, 2, 1)?;
     check(&rt, "koth audit audited.hill", "", "Damaged\n", 1)?;
+    let damaged = "Damaged audited.hill, warrior 2: it can't be read; go back to a copy\n";
+    check_told(&rt, "koth show audited.hill", View::Plain, "", damaged, 1)?;
     put_result(&rt, file, 1, 1)?;
     check(&rt, "koth audit audited.hill", "true\n", "", 0)?;
     check(&rt, "koth show audited.hill", TABLE, "", 0)?;

@@ -7,6 +7,7 @@
 //! - `words`: which words are faults, ask for help, or give settings;
 //! - `assembling`, `fights` and `hills`: what the commands write, how they end, and what they do to files;
 //! - `audits`: the results that a hill keeps, shown, audited, and changed in its file;
+//! - `pages`: the page of a hill;
 //! - `earlier` and `migrations`: a hill of the old format, and how it is moved to the new one;
 //! - `sessions` and `session_faults`: what a session answers, and how it ends where a stream or the device fails;
 //! - `growths`: sessions and commands with each growth of memory refused in turn;
@@ -31,6 +32,8 @@ mod growths;
 mod hills;
 #[cfg(test)]
 mod migrations;
+#[cfg(test)]
+mod pages;
 #[cfg(test)]
 mod peers;
 #[cfg(test)]

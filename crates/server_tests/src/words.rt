@@ -24,7 +24,7 @@ fn check_fault(
 }
 
 /// Words with a fault, and a part of what is told of it.
-const FAULTS: [(&str, &str); 26] = [
+const FAULTS: [(&str, &str); 27] = [
     ("koth", "requires a subcommand"),
     ("koth fly", "unrecognized subcommand 'fly'"),
     ("koth ASM", "unrecognized subcommand 'ASM'"),
@@ -62,6 +62,7 @@ const FAULTS: [(&str, &str); 26] = [
     ),
     ("koth audit f --matches", "unexpected argument '--matches'"),
     ("koth migrate f", "<NEW>"),
+    ("koth page", "<FILE>"),
     ("koth migrate f g h", "unexpected argument 'h'"),
 ];
 

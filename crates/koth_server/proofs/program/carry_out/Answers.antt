@@ -1,22 +1,22 @@
 -- What a run says of its words, from how its request ended, or from why there is none.
-use Rattle.koth_server.proofs.Carried.{asm_carried, asm_without, audit_carried, audit_without, check_carried, check_without, create_carried, create_without, fault_without, fight_carried, fight_without, hill_without, migrate_carried, serve_carried, serve_without, show_carried, submit_carried, submit_without, words_without, wrong_without}
-use Rattle.std.proofs.Common.{None}
-use Rattle.koth_server.specs.Hills.{SaysShown}
-use Rattle.koth_server.specs.Migration.{SaysMigrated}
+use Rattle.std.proofs.Common.{None, codes, map, string_bytes}
+use Rattle.koth_words.specs.Words.{given_by}
+use Rattle.koth_server.proofs.Carried.{carried, fault_without, without, words_without, wrong_without}
 use Rattle.koth_server.proofs.program.carry_out.Goals as goal
 
 pub returns-in-Ok : goal.returns-in-Ok
 returns-in-Ok g c = record {
   ends = record {
-    asm = λ asks. asm_carried _ _ _ _ _ _ c.in-Ok.ensures.request c.fulfil.ensures asks.1;
-    check = λ asks. check_carried _ _ _ _ _ _ c.in-Ok.ensures.request c.fulfil.ensures asks.1;
-    fight = λ asks. fight_carried _ _ _ _ _ _ c.in-Ok.ensures.request c.fulfil.ensures asks.1;
-    create = λ asks. create_carried _ _ _ _ _ _ c.in-Ok.ensures.request c.fulfil.ensures asks.1;
-    submit = λ asks. submit_carried _ _ _ _ _ _ c.in-Ok.ensures.request c.fulfil.ensures asks.1;
-    show = λ asks. show_carried _ _ _ _ _ _ c.in-Ok.ensures.request c.fulfil.ensures asks.1;
-    audit = λ asks. audit_carried _ _ _ _ _ _ c.in-Ok.ensures.request c.fulfil.ensures asks.1;
-    migrate = λ asks. migrate_carried _ _ _ _ _ _ c.in-Ok.ensures.request c.fulfil.ensures asks.1;
-    serve = λ asks. serve_carried _ _ _ _ _ _ c.in-Ok.ensures.request c.fulfil.ensures asks.1;
+    asm = λ asks. carried _ _ _ _ _ _ (codes "asm") c.in-Ok.ensures.request c.fulfil.ensures asks.1;
+    check = λ asks. carried _ _ _ _ _ _ (codes "check") c.in-Ok.ensures.request c.fulfil.ensures asks.1;
+    fight = λ asks. carried _ _ _ _ _ _ (codes "fight") c.in-Ok.ensures.request c.fulfil.ensures asks.1;
+    create = λ asks. carried _ _ _ _ _ _ (codes "create") c.in-Ok.ensures.request c.fulfil.ensures asks.1;
+    submit = λ asks. carried _ _ _ _ _ _ (codes "submit") c.in-Ok.ensures.request c.fulfil.ensures asks.1;
+    show = λ asks. carried _ _ _ _ _ _ (codes "show") c.in-Ok.ensures.request c.fulfil.ensures asks.1;
+    audit = λ asks. carried _ _ _ _ _ _ (codes "audit") c.in-Ok.ensures.request c.fulfil.ensures asks.1;
+    migrate = λ asks. carried _ _ _ _ _ _ (codes "migrate") c.in-Ok.ensures.request c.fulfil.ensures asks.1;
+    page = λ asks. carried _ _ _ _ _ _ (codes "page") c.in-Ok.ensures.request c.fulfil.ensures asks.1;
+    serve = λ asks. carried _ _ _ _ _ _ (codes "serve") c.in-Ok.ensures.request c.fulfil.ensures asks.1;
     words = λ taken. c.fulfil.ensures.1;
     wrong = λ wrong. absurd (c.in-Ok.ensures.wrong wrong);
     word_fault = λ is. absurd (c.fulfil.ensures.1 is);
@@ -24,19 +24,30 @@ returns-in-Ok g c = record {
 }
 
 pub returns-in-Err : goal.returns-in-Err
-returns-in-Err g c = record {
-  ends = record {
-    asm = λ asks. asm_without _ _ _ _ _ _ _ _ _ (c.in-Err.ensures.taken asks.0) c.answer_without.ensures;
-    check = λ asks. check_without None _ _ _ _ _ _ _ _ (c.in-Err.ensures.taken asks.0) c.answer_without.ensures;
-    fight = λ asks. fight_without None _ _ _ _ _ _ _ _ (c.in-Err.ensures.taken asks.0) c.answer_without.ensures;
-    create = λ asks. create_without None _ _ _ _ _ _ _ (c.in-Err.ensures.taken asks.0) c.answer_without.ensures;
-    submit = λ asks. submit_without None _ _ _ _ _ _ _ (c.in-Err.ensures.taken asks.0) c.answer_without.ensures;
-    show = λ asks. hill_without None _ _ _ _ _ (SaysShown _ _) _ (c.in-Err.ensures.taken asks.0) c.answer_without.ensures;
-    audit = λ asks. audit_without None _ _ _ _ _ _ (c.in-Err.ensures.taken asks.0) c.answer_without.ensures;
-    migrate = λ asks. hill_without None _ _ _ _ _ SaysMigrated _ (c.in-Err.ensures.taken asks.0) c.answer_without.ensures;
-    serve = λ asks. serve_without None _ _ _ _ _ _ (c.in-Err.ensures.taken asks.0) c.answer_without.ensures;
-    words = λ taken. words_without None _ _ _ _ _ _ (c.in-Err.ensures.taken taken) c.answer_without.ensures;
-    wrong = λ wrong. wrong_without None _ _ _ _ _ _ (c.in-Err.ensures.wrong wrong) c.answer_without.ensures;
-    word_fault = λ is. fault_without _ _ _ _ _ _ _ c.answer_without.ensures is;
-  };
-}
+returns-in-Err g c =
+    let input = g.I.Read.remaining c.args.input.now in
+    let o = g.O.Write.contents c.args.output.now in
+    let p = g.O.Write.contents c.answer_without.new.output in
+    let e = g.E.Write.contents c.args.errors.now in
+    let f = g.E.Write.contents c.answer_without.new.errors in
+    let status = c.answer_without.result in
+    let none = c.in-Err.none in
+    let view = c.args.view in
+    let given = given_by (map (λ w. string_bytes w) c.args.words.now) in
+    record {
+      ends = record {
+        asm = λ asks. without input o p e f status (codes "asm") view given none (c.in-Err.ensures.taken asks.0) c.answer_without.ensures;
+        check = λ asks. without None o p e f status (codes "check") view given none (c.in-Err.ensures.taken asks.0) c.answer_without.ensures;
+        fight = λ asks. without None o p e f status (codes "fight") view given none (c.in-Err.ensures.taken asks.0) c.answer_without.ensures;
+        create = λ asks. without None o p e f status (codes "create") view given none (c.in-Err.ensures.taken asks.0) c.answer_without.ensures;
+        submit = λ asks. without None o p e f status (codes "submit") view given none (c.in-Err.ensures.taken asks.0) c.answer_without.ensures;
+        show = λ asks. without None o p e f status (codes "show") view given none (c.in-Err.ensures.taken asks.0) c.answer_without.ensures;
+        audit = λ asks. without None o p e f status (codes "audit") view given none (c.in-Err.ensures.taken asks.0) c.answer_without.ensures;
+        migrate = λ asks. without None o p e f status (codes "migrate") view given none (c.in-Err.ensures.taken asks.0) c.answer_without.ensures;
+        page = λ asks. without None o p e f status (codes "page") view given none (c.in-Err.ensures.taken asks.0) c.answer_without.ensures;
+        serve = λ asks. without None o p e f status (codes "serve") view given none (c.in-Err.ensures.taken asks.0) c.answer_without.ensures;
+        words = λ taken. words_without None o p e f status none (c.in-Err.ensures.taken taken) c.answer_without.ensures;
+        wrong = λ wrong. wrong_without None o p e f status none (c.in-Err.ensures.wrong wrong) c.answer_without.ensures;
+        word_fault = λ is. fault_without input o p e f status none c.answer_without.ensures is;
+      };
+    }

@@ -1,7 +1,7 @@
 -- A service ends behind its line and its log, or with a fault.
 use Rattle.std.proofs.Common.{inr, refl}
-use Rattle.koth_commands.proofs.Told.{writes_nothing}
-use Rattle.koth_server.proofs.Listening.{whole_line}
+use Rattle.koth_commands.proofs.Told.{whole_part, writes_nothing}
+use Rattle.koth_server.specs.Hills.{listening_line}
 use Rattle.koth_server.proofs.serve.serve.Goals as goal
 
 pub returns-in-Err-clause-ends : goal.returns-in-Err-clause-ends
@@ -24,7 +24,7 @@ returns-clause-ends g c =
       fault = c.in-Err-serve_connections.trouble.fault;
       ends = c.tell-in-Err-serve_connections.ensures.status;
       port = port;
-      output = whole_line _ _ port _ refl whole;
+      output = whole_part _ _ _ (listening_line port) refl whole;
       logged = g.E.Write.contents c.serve_connections.new.errors;
       log = c.serve_connections.ensures;
       told = c.tell-in-Err-serve_connections.ensures.told;

@@ -13,4 +13,5 @@ returns c =
     let show = c.in_ok-command-6.ensures _ _ submit c.show_command.ensures in
     let serve = c.in_ok-command-7.ensures _ _ show c.serve_command.ensures in
     let audit = c.in_ok-command-8.ensures _ _ serve c.audit_command.ensures in
-    c.with_command-9.ensures _ _ audit c.migrate_command.ensures
+    let migrate = c.in_ok-command-9.ensures _ _ audit c.migrate_command.ensures in
+    c.with_command-10.ensures _ _ migrate c.page_command.ensures

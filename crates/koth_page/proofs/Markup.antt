@@ -1,0 +1,207 @@
+-- The tags and the attributes of a page are those of the same hill without names, for `hill_page`.
+use Rattle.std.proofs.Common.{◌≡◌, ℕ, ◌+◌, Bool, true, false, not, cond, eqb, ltb, List, [], ◌∷◌, ◌++◌, codes, decimal, map, refl, sym, ap, ap₂, ◌∙◌}
+use Rattle.std.specs.List.{enumerate_from, flat_map, list_all, sum_by}
+use Rattle.std.proofs.lemmas.Bool.{and_parts, not-true}
+use Rattle.std.proofs.lemmas.List.Elements.{filter-append}
+use Rattle.koth_match.specs.declared.bout.Bout.{Bout}
+use Rattle.koth_hill.specs.Kept.{Kept, or_no_rounds, result_of, table_kept}
+use Rattle.koth_hill.specs.Table.{RowParts}
+use Rattle.koth_views.specs.Tally.{no_tally, of_older, of_younger}
+use Rattle.koth_page.specs.declared.parts.TheConstants.{END, HEAD, MATCHES_START, STANDING_START, TABLE_END}
+use Rattle.koth_page.specs.declared.rounds.Rounds.{Rounds}
+use Rattle.koth_page.specs.Cells.{name_cell, number_cell, number_cells}
+use Rattle.koth_page.specs.Escape.{escaped}
+use Rattle.koth_page.specs.Laws.{is_harmless, is_markup, is_printable, markup_of, nameless}
+use Rattle.koth_page.specs.Matches.{fought_cell, match_cell, matches_heading, matches_row, matches_rows, matches_text, rank_heading, rounds_text, sides_text}
+use Rattle.koth_page.specs.Page.{hill_page, page_of, tables_text}
+use Rattle.koth_page.specs.Rounds.{rounds_against_all, rounds_between}
+use Rattle.koth_page.specs.Settings.{settings_text}
+use Rattle.koth_page.specs.Standing.{standing_heading, standing_row, standing_rows, standing_text}
+use Rattle.koth_page.proofs.Ascii.{harmless}
+use Rattle.koth_page.proofs.Nameless.{entries_of-nameless, nameless_row, table_kept-nameless}
+
+-- ---- texts with the same markup
+
+abbrev Alike : List ℕ → List ℕ → Type 0
+Alike a b = markup_of a ≡ markup_of b
+
+both : (a b c d : List ℕ) → Alike a b → Alike c d → Alike (a ++ c) (b ++ d)
+both a b c d first second = filter-append is_markup a c ∙ ap₂ (λ (x y : List ℕ). x ++ y) first second ∙ sym (filter-append is_markup b d)
+
+each : {X : Type 0} (f g : X → List ℕ) (h : X → X) → ((x : X) → Alike (f x) (g (h x))) → (xs : List X) → Alike (flat_map f xs) (flat_map g (map h xs))
+each f g h same [] = refl
+each f g h same (x ∷ xs) = both (f x) (g (h x)) (flat_map f xs) (flat_map g (map h xs)) (same x) (each f g h same xs)
+
+each_ranked : (f g : ℕ × RowParts → List ℕ) → ((n : ℕ) (row : RowParts) → Alike (f (n, row)) (g (n, nameless_row row))) → (n : ℕ) (rows : List RowParts)
+    → Alike (flat_map f (enumerate_from n rows)) (flat_map g (enumerate_from n (map nameless_row rows)))
+each_ranked f g same n [] = refl
+each_ranked f g same n (row ∷ rows) =
+    both (f (n, row)) (g (n, nameless_row row)) (flat_map f (enumerate_from (n + 1) rows)) (flat_map g (enumerate_from (n + 1) (map nameless_row rows)))
+    (same n row) (each_ranked f g same (n + 1) rows)
+
+markup_of-harmless : (text : List ℕ) → list_all is_harmless text ≡ true → markup_of text ≡ []
+markup_of-harmless [] h = refl
+markup_of-harmless (b ∷ text) h =
+    let parts = and_parts (is_harmless b) (list_all is_harmless text) h in
+    let none : is_markup b ≡ false = not-true (is_markup b) (and_parts (is_printable b) (not (is_markup b)) parts.0).1 in
+    ap (λ t. cond t (b ∷ markup_of text) (markup_of text)) none ∙ markup_of-harmless text parts.1
+
+markup_of-escaped : (text : List ℕ) → markup_of (escaped text) ≡ []
+markup_of-escaped text = markup_of-harmless (escaped text) (harmless text)
+
+-- ---- rounds ask for no name
+
+abbrev between_by : List ℕ → List (List Bout) → ℕ → ℕ → Rounds
+between_by entries results one other =
+    let t = cond (ltb one other) (of_older (or_no_rounds (result_of entries results one other)))
+    (cond (ltb other one) (of_younger (or_no_rounds (result_of entries results other one))) no_tally) in
+    record { won = t.won; lost = t.lost; tied = t.tied }
+
+abbrev against_by : List ℕ → List (List Bout) → ℕ → Rounds
+against_by entries results one =
+    record { won = sum_by (λ other. (between_by entries results one other).won) entries; lost = sum_by (λ other. (between_by entries results one other).lost) entries; tied = sum_by (λ other. (between_by entries results one other).tied) entries }
+
+rounds_between-nameless : (k : Kept) (one other : ℕ) → rounds_between k one other ≡ rounds_between (nameless k) one other
+rounds_between-nameless k one other = ap (λ es. between_by es k.results one other) (sym (entries_of-nameless k.members))
+
+rounds_against_all-nameless : (k : Kept) (one : ℕ) → rounds_against_all k one ≡ rounds_against_all (nameless k) one
+rounds_against_all-nameless k one = ap (λ es. against_by es k.results one) (sym (entries_of-nameless k.members))
+
+-- ---- the parts of a page
+
+-- two names have no markup, either of them
+names : (name other : List ℕ) → Alike (escaped name) (escaped other)
+names name other = markup_of-escaped name ∙ sym (markup_of-escaped other)
+
+name_cells : (name other : List ℕ) → Alike (name_cell name) (name_cell other)
+unfolding name_cell
+name_cells name other =
+    let start = codes "<td class=\"name\">" in
+    let end = codes "</td>" in
+    both (start ++ escaped name) (start ++ escaped other) end end (both start start (escaped name) (escaped other) refl (names name other)) refl
+
+standing_row-nameless : (rank : ℕ) (row : RowParts) (rounds : Rounds) → Alike (standing_row rank row rounds) (standing_row rank (nameless_row row) rounds)
+unfolding standing_row
+standing_row-nameless rank row rounds =
+    let start = codes "<tr>" ++ number_cells (rank ∷ row.entry ∷ row.score ∷ rounds.won ∷ rounds.lost ∷ rounds.tied ∷ row.age ∷ []) in
+    let end = codes "</tr>\n" in
+    let none = name_cell [] in
+    both (start ++ name_cell row.name ++ name_cell row.author) (start ++ none ++ none) end end
+    (both (start ++ name_cell row.name) (start ++ none) (name_cell row.author) none
+    (both start start (name_cell row.name) none refl (name_cells row.name [])) (name_cells row.author []))
+    refl
+
+standing_rows-nameless : (k : Kept) (rows : List RowParts) → Alike (standing_rows k rows) (standing_rows (nameless k) (map nameless_row rows))
+standing_rows-nameless k rows =
+    each_ranked (λ (p : ℕ × RowParts). standing_row p.0 p.1 (rounds_against_all k p.1.entry)) (λ (p : ℕ × RowParts). standing_row p.0 p.1 (rounds_against_all (nameless k) p.1.entry))
+    (λ n row. standing_row-nameless n row (rounds_against_all k row.entry)
+    ∙ ap (λ (rounds : Rounds). markup_of (standing_row n (nameless_row row) rounds)) (rounds_against_all-nameless k row.entry))
+    1 rows
+
+standing-nameless : (k : Kept) (rows : List RowParts) → Alike (standing_text k rows) (standing_text (nameless k) (map nameless_row rows))
+unfolding standing_text
+standing-nameless k rows =
+    let start = STANDING_START.now ++ standing_heading in
+    let unnamed = map nameless_row rows in
+    both (start ++ standing_rows k rows) (start ++ standing_rows (nameless k) unnamed) TABLE_END.now TABLE_END.now
+    (both start start (standing_rows k rows) (standing_rows (nameless k) unnamed) refl (standing_rows-nameless k rows)) refl
+
+rank_heading-nameless : (rank : ℕ) (row : RowParts) → Alike (rank_heading rank row) (rank_heading rank (nameless_row row))
+unfolding rank_heading
+rank_heading-nameless rank row =
+    let start = codes "<th title=\"" in
+    let middle = codes "\">" in
+    let end = codes "</th>" in
+    let none = escaped [] in
+    both (start ++ escaped row.name ++ middle ++ decimal rank) (start ++ none ++ middle ++ decimal rank) end end
+    (both (start ++ escaped row.name ++ middle) (start ++ none ++ middle) (decimal rank) (decimal rank)
+    (both (start ++ escaped row.name) (start ++ none) middle middle (both start start (escaped row.name) none refl (names row.name [])) refl) refl)
+    refl
+
+matches_heading-nameless : (rows : List RowParts) → Alike (matches_heading rows) (matches_heading (map nameless_row rows))
+unfolding matches_heading
+matches_heading-nameless rows =
+    let f = λ (p : ℕ × RowParts). rank_heading p.0 p.1 in
+    let start = codes "<thead><tr><th>rank</th><th class=\"name\">warrior</th>" in
+    let end = codes "</tr></thead>\n" in
+    let ranks = flat_map f (enumerate_from 1 rows) in
+    let unnamed = flat_map f (enumerate_from 1 (map nameless_row rows)) in
+    both (start ++ ranks) (start ++ unnamed) end end (both start start ranks unnamed refl (each_ranked f f rank_heading-nameless 1 rows)) refl
+
+sides-nameless : (row other : RowParts) → Alike (sides_text row other) (sides_text (nameless_row row) (nameless_row other))
+unfolding sides_text
+sides-nameless row other =
+    let middle = codes " against " in
+    let none = escaped [] in
+    both (escaped row.name ++ middle) (none ++ middle) (escaped other.name) none (both (escaped row.name) none middle middle (names row.name []) refl) (names other.name [])
+
+fought_cell-nameless : (rounds : Rounds) (row other : RowParts) → Alike (fought_cell rounds row other) (fought_cell rounds (nameless_row row) (nameless_row other))
+unfolding fought_cell
+fought_cell-nameless rounds row other =
+    let start = codes "<td title=\"" in
+    let named = sides_text row other in
+    let none = sides_text (nameless_row row) (nameless_row other) in
+    let middle = codes "\">" in
+    let last = codes "</td>" in
+    both (start ++ named ++ middle ++ rounds_text rounds) (start ++ none ++ middle ++ rounds_text rounds) last last
+    (both (start ++ named ++ middle) (start ++ none ++ middle) (rounds_text rounds) (rounds_text rounds)
+    (both (start ++ named) (start ++ none) middle middle (both start start named none refl (sides-nameless row other)) refl) refl)
+    refl
+
+either : (b : Bool) (own some others : List ℕ) → Alike some others → Alike (cond b own some) (cond b own others)
+either true own some others same = refl
+either false own some others same = same
+
+match_cell-nameless : (k : Kept) (row other : RowParts) → Alike (match_cell k row other) (match_cell (nameless k) (nameless_row row) (nameless_row other))
+match_cell-nameless k row other =
+    let rounds = rounds_between k row.entry other.entry in
+    let others = rounds_between (nameless k) row.entry other.entry in
+    let a = nameless_row row in
+    let b = nameless_row other in
+    either (eqb row.entry other.entry) (codes "<td class=\"self\">&middot;</td>") (fought_cell rounds row other) (fought_cell others a b)
+    (fought_cell-nameless rounds row other ∙ ap (λ (r : Rounds). markup_of (fought_cell r a b)) (rounds_between-nameless k row.entry other.entry))
+
+matches_row-nameless : (k : Kept) (rows : List RowParts) (rank : ℕ) (row : RowParts)
+    → Alike (matches_row k rows rank row) (matches_row (nameless k) (map nameless_row rows) rank (nameless_row row))
+unfolding matches_row
+matches_row-nameless k rows rank row =
+    let unnamed = nameless_row row in
+    let start = codes "<tr>" ++ number_cell rank in
+    let end = codes "</tr>\n" in
+    let cells = flat_map (match_cell k row) rows in
+    let others = flat_map (match_cell (nameless k) unnamed) (map nameless_row rows) in
+    let named : Alike (start ++ name_cell row.name) (start ++ name_cell []) = both start start (name_cell row.name) (name_cell []) refl (name_cells row.name []) in
+    both (start ++ name_cell row.name ++ cells) (start ++ name_cell [] ++ others) end end
+    (both (start ++ name_cell row.name) (start ++ name_cell []) cells others named
+    (each (match_cell k row) (match_cell (nameless k) unnamed) nameless_row (match_cell-nameless k row) rows))
+    refl
+
+matches-nameless : (k : Kept) (rows : List RowParts) → Alike (matches_text k rows) (matches_text (nameless k) (map nameless_row rows))
+unfolding matches_text
+matches-nameless k rows =
+    let unnamed = map nameless_row rows in
+    let start = MATCHES_START.now ++ matches_heading rows in
+    let others = MATCHES_START.now ++ matches_heading unnamed in
+    both (start ++ matches_rows k rows rows) (others ++ matches_rows (nameless k) unnamed unnamed) TABLE_END.now TABLE_END.now
+    (both start others (matches_rows k rows rows) (matches_rows (nameless k) unnamed unnamed)
+    (both MATCHES_START.now MATCHES_START.now (matches_heading rows) (matches_heading unnamed) refl (matches_heading-nameless rows))
+    (each_ranked (λ (p : ℕ × RowParts). matches_row k rows p.0 p.1) (λ (p : ℕ × RowParts). matches_row (nameless k) unnamed p.0 p.1) (matches_row-nameless k rows) 1 rows))
+    refl
+
+tables-nameless : (k : Kept) (rows : List RowParts) → Alike (tables_text k rows) (tables_text (nameless k) (map nameless_row rows))
+tables-nameless k [] = refl
+tables-nameless k (row ∷ rows) =
+    let all = row ∷ rows in
+    let unnamed = map nameless_row all in
+    both (standing_text k all) (standing_text (nameless k) unnamed) (matches_text k all) (matches_text (nameless k) unnamed) (standing-nameless k all) (matches-nameless k all)
+
+page-nameless : (k : Kept) (rows : List RowParts) → Alike (page_of k rows) (page_of (nameless k) (map nameless_row rows))
+unfolding page_of
+page-nameless k rows =
+    let start = HEAD.now ++ settings_text k.settings in
+    let tables = tables_text k rows in
+    let unnamed = tables_text (nameless k) (map nameless_row rows) in
+    both (start ++ tables) (start ++ unnamed) END.now END.now (both start start tables unnamed refl (tables-nameless k rows)) refl
+
+pub markup : (k : Kept) → markup_of (hill_page k) ≡ markup_of (hill_page (nameless k))
+markup k = page-nameless k (table_kept k) ∙ ap (λ (rows : List RowParts). markup_of (page_of (nameless k) rows)) (sym (table_kept-nameless k))

@@ -1,0 +1,31 @@
+-- What holds of every page holds of this one.
+use Rattle.std.proofs.Common.{◌≡◌, true, ap, ◌∙◌}
+use Rattle.std.specs.List.{list_all}
+use Rattle.std.proofs.lemmas.Result.{IfOk-weaker}
+use Rattle.koth_page.specs.Laws.{is_page_byte, markup_of, nameless, with_seed}
+use Rattle.koth_page.specs.Page.{hill_page}
+use Rattle.koth_page.proofs.Ascii.{ascii, harmless}
+use Rattle.koth_page.proofs.Markup.{markup}
+use Rattle.koth_page.proofs.Seed.{page-seed}
+use Rattle.koth_page.proofs.page.hill_page.Goals as goal
+
+pub returns-clause-harmless : goal.returns-clause-harmless
+returns-clause-harmless g c = harmless
+
+pub returns-clause-markup : goal.returns-clause-markup
+returns-clause-markup g c =
+    let k = c.args.hill.now in
+    IfOk-weaker c.page_of.result (λ page. page.items ≡ hill_page k) (λ page. markup_of page.items ≡ markup_of (hill_page (nameless k)))
+    (λ page is. ap markup_of is ∙ markup k) c.page_of.ensures
+
+pub returns-clause-ascii : goal.returns-clause-ascii
+returns-clause-ascii g c =
+    let k = c.args.hill.now in
+    IfOk-weaker c.page_of.result (λ page. page.items ≡ hill_page k) (λ page. list_all is_page_byte page.items ≡ true)
+    (λ page is. ap (list_all is_page_byte) is ∙ ascii k) c.page_of.ensures
+
+pub returns-clause-seed : goal.returns-clause-seed
+returns-clause-seed g c =
+    let k = c.args.hill.now in
+    λ seed. IfOk-weaker c.page_of.result (λ page. page.items ≡ hill_page k) (λ page. page.items ≡ hill_page (with_seed seed k))
+    (λ page is. is ∙ page-seed k seed) c.page_of.ensures

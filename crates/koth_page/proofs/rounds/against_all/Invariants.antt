@@ -1,0 +1,16 @@
+-- The rounds so far are those against the entries so far.
+use Rattle.std.proofs.Common.{◌≡◌, ◌≤◌, ◌*◌, take}
+use Rattle.std.specs.List.{sum_by}
+use Rattle.koth_hill.specs.Kept.{entries_of}
+use Rattle.koth_views.specs.Tally.{between}
+use Rattle.koth_page.proofs.rounds.against_all.Given as goal
+
+abbrev pub invariant-loop-place : goal.invariant-loop-place
+invariant-loop-place g l = record {
+  won : l.won ≡ sum_by (λ other. (between l.hill l.one other).won) (take l.place (entries_of l.hill.members));
+  lost : l.lost ≡ sum_by (λ other. (between l.hill l.one other).lost) (take l.place (entries_of l.hill.members));
+  tied : l.tied ≡ sum_by (λ other. (between l.hill l.one other).tied) (take l.place (entries_of l.hill.members));
+  small_won : l.won ≤ 65535 * l.place;
+  small_lost : l.lost ≤ 65535 * l.place;
+  small_tied : l.tied ≤ 65535 * l.place;
+}

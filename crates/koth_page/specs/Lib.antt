@@ -1,0 +1,13 @@
+-- What others wrote, as it stands in a page.
+pub mod Escape
+-- Numbers and names in the cells of a table.
+pub mod Cells
+-- Rounds that one entry won, lost and tied against others.
+pub mod Rounds
+-- The settings of a hill, its table, and its matches.
+pub mod Settings
+pub mod Standing
+pub mod Matches
+-- The page, and what holds of every page.
+pub mod Page
+pub mod Laws

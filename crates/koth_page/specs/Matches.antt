@@ -1,0 +1,49 @@
+-- The matches on a hill: who won, lost and tied how many rounds against whom.
+use Rattle.std.specs.Prelude.{ℕ, ◌==◌, if◌then◌else◌, List, ◌++◌, codes, decimal}
+use Rattle.std.specs.List.{enumerate_from, flat_map}
+use Rattle.koth_hill.specs.Kept.{Kept}
+use Rattle.koth_hill.specs.Table.{RowParts}
+use Rattle.koth_page.specs.declared.rounds.Rounds.{Rounds}
+use Rattle.koth_page.specs.declared.parts.TheConstants.{MATCHES_START, TABLE_END}
+use Rattle.koth_page.specs.Cells.{name_cell, number_cell}
+use Rattle.koth_page.specs.Escape.{escaped}
+use Rattle.koth_page.specs.Rounds.{rounds_between}
+
+-- the heading of the column of a rank, which names the warrior
+unfoldable pub rank_heading : ℕ → RowParts → List ℕ
+rank_heading rank row = codes "<th title=\"" ++ escaped row.name ++ codes "\">" ++ decimal rank ++ codes "</th>"
+
+-- rank and name, and a column for each of these rows, by rank from 1 on
+unfoldable pub matches_heading : List RowParts → List ℕ
+matches_heading rows =
+    codes "<thead><tr><th>rank</th><th class=\"name\">warrior</th>" ++ flat_map (λ (rank, row). rank_heading rank row) (enumerate_from 1 rows)
+    ++ codes "</tr></thead>\n"
+
+-- rounds won, lost and tied
+unfoldable pub rounds_text : Rounds → List ℕ
+rounds_text r = decimal r.won ++ codes "/" ++ decimal r.lost ++ codes "/" ++ decimal r.tied
+
+-- who fought whom
+unfoldable pub sides_text : RowParts → RowParts → List ℕ
+sides_text row other = escaped row.name ++ codes " against " ++ escaped other.name
+
+-- the rounds of two that fought, from the side of the first
+unfoldable pub fought_cell : Rounds → RowParts → RowParts → List ℕ
+fought_cell rounds row other = codes "<td title=\"" ++ sides_text row other ++ codes "\">" ++ rounds_text rounds ++ codes "</td>"
+
+-- what the row of one warrior tells of another, and of itself
+abbrev pub match_cell : Kept → RowParts → RowParts → List ℕ
+match_cell k row other =
+    if row.entry == other.entry then codes "<td class=\"self\">&middot;</td>" else fought_cell (rounds_between k row.entry other.entry) row other
+
+-- the row of a warrior with its rank: a cell for each of these rows
+unfoldable pub matches_row : Kept → List RowParts → ℕ → RowParts → List ℕ
+matches_row k rows rank row = codes "<tr>" ++ number_cell rank ++ name_cell row.name ++ flat_map (match_cell k row) rows ++ codes "</tr>\n"
+
+-- the rows of these warriors, by rank from 1 on
+abbrev pub matches_rows : Kept → List RowParts → List RowParts → List ℕ
+matches_rows k rows shown = flat_map (λ (rank, row). matches_row k rows rank row) (enumerate_from 1 shown)
+
+-- the matches of these rows
+unfoldable pub matches_text : Kept → List RowParts → List ℕ
+matches_text k rows = MATCHES_START.now ++ matches_heading rows ++ matches_rows k rows rows ++ TABLE_END.now

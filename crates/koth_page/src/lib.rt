@@ -1,0 +1,24 @@
+//! The page of a hill: one file of HTML that needs nothing from outside.
+//!
+//! It knows a hill with the results that it keeps, and no store, files or sockets. The modules, in the order in which the data pass:
+//!
+//! - `escape`: what others wrote, as it stands in a page;
+//! - `cells`: numbers and names in the cells of a table; `rounds`: rounds that one entry won, lost and tied;
+//! - `parts`: what is the same on every page, with the style sheet;
+//! - `settings`, `standing` and `matches`: the settings of a hill, its table, and its matches;
+//! - `page`: all of these.
+//!
+//! The page is exactly what its definition in `specs` makes of the hill. Whatever a warrior or its author is called, no tag and no value
+//! of an attribute begins or ends with that; each byte is ASCII; and the seed is not told. No page has a script.
+#![tactic(auto)]
+
+mod cells;
+mod escape;
+mod matches;
+mod page;
+mod parts;
+mod rounds;
+mod settings;
+mod standing;
+
+pub use page::hill_page;

@@ -1,0 +1,168 @@
+//! The matches on a hill: who won, lost and tied how many rounds against whom.
+
+ghost use Rattle.std.specs.Prelude.{◌≡◌, ◌+◌, ◌<◌, ◌^◌, ◌++◌, length, codes, decimal, OnOk};
+ghost use Rattle.std.specs.List.{enumerate_from, flat_map};
+ghost use Rattle.koth_hill.specs.Rows.{row_parts, rows_parts};
+ghost use Rattle.koth_page.specs.Matches.{fought_cell, match_cell, matches_heading, matches_row, matches_rows, matches_text, rank_heading, rounds_text, sides_text};
+
+use crate::cells::{put_name_cell, put_number, put_number_cell};
+use crate::escape::put_escaped;
+use crate::parts::{MATCHES_START, TABLE_END};
+use crate::rounds::{Rounds, between};
+use koth_hill::{Hill, Row};
+use std::alloc::{AllocError, Allocator};
+
+/// Puts the matches of these rows: a row for each warrior by rank, and a column for each other by rank.
+pub(crate) fn put_matches<A: Allocator, B: Allocator>(
+    page: &mut Vec<u8, A>,
+    hill: &Hill<B>,
+    rows: &[Row<'_>],
+) -> Result<(), AllocError>
+    ensures { OnOk result (page.new.items ≡ page.old.items ++ matches_text hill.now (rows_parts rows.now)) }
+{
+    page.extend_from_slice(MATCHES_START)?;
+    put_heading(page, rows)?;
+    put_rows(page, hill, rows)?;
+    page.extend_from_slice(TABLE_END)?;
+    Ok(())
+}
+
+fn put_heading<A: Allocator>(page: &mut Vec<u8, A>, rows: &[Row<'_>]) -> Result<(), AllocError>
+    ensures { OnOk result (page.new.items ≡ page.old.items ++ matches_heading (rows_parts rows.now)) }
+{
+    page.extend_from_slice(b"<thead><tr><th>rank</th><th class=\"name\">warrior</th>")?;
+    put_rank_headings(page, rows)?;
+    page.extend_from_slice(b"</tr></thead>\n")?;
+    Ok(())
+}
+
+fn put_rank_headings<A: Allocator>(
+    page: &mut Vec<u8, A>,
+    rows: &[Row<'_>],
+) -> Result<(), AllocError>
+    ensures { OnOk result (page.new.items ≡ page.old.items ++ flat_map (λ (rank, row). rank_heading rank row) (enumerate_from 1 (rows_parts rows.now))) }
+{
+    for place in 0..rows.len() {
+        put_rank_heading(page, place as u64 + 1, &rows[place])?;
+    }
+    Ok(())
+}
+
+/// Puts the heading of the column of a rank, which names the warrior.
+fn put_rank_heading<A: Allocator>(
+    page: &mut Vec<u8, A>,
+    rank: u64,
+    row: &Row<'_>,
+) -> Result<(), AllocError>
+    ensures { OnOk result (page.new.items ≡ page.old.items ++ rank_heading rank (row_parts row.now)) }
+{
+    page.extend_from_slice(b"<th title=\"")?;
+    put_escaped(page, row.name.bytes())?;
+    page.extend_from_slice(b"\">")?;
+    put_number(page, rank)?;
+    page.extend_from_slice(b"</th>")?;
+    Ok(())
+}
+
+fn put_rows<A: Allocator, B: Allocator>(
+    page: &mut Vec<u8, A>,
+    hill: &Hill<B>,
+    rows: &[Row<'_>],
+) -> Result<(), AllocError>
+    ensures { OnOk result (page.new.items ≡ page.old.items ++ matches_rows hill.now (rows_parts rows.now) (rows_parts rows.now)) }
+{
+    for place in 0..rows.len() {
+        put_row(page, hill, rows, place as u64 + 1, &rows[place])?;
+    }
+    Ok(())
+}
+
+/// Puts the row of a warrior with its rank: a cell for each of these rows.
+#[tactic(auto, unfolding(crate::specs::Matches::matches_row))]
+fn put_row<A: Allocator, B: Allocator>(
+    page: &mut Vec<u8, A>,
+    hill: &Hill<B>,
+    rows: &[Row<'_>],
+    rank: u64,
+    row: &Row<'_>,
+) -> Result<(), AllocError>
+    ensures { OnOk result (page.new.items ≡ page.old.items ++ matches_row hill.now (rows_parts rows.now) rank (row_parts row.now)) }
+{
+    page.extend_from_slice(b"<tr>")?;
+    put_number_cell(page, rank)?;
+    put_name_cell(page, row.name.bytes())?;
+    put_cells(page, hill, row, rows)?;
+    page.extend_from_slice(b"</tr>\n")
+}
+
+fn put_cells<A: Allocator, B: Allocator>(
+    page: &mut Vec<u8, A>,
+    hill: &Hill<B>,
+    row: &Row<'_>,
+    rows: &[Row<'_>],
+) -> Result<(), AllocError>
+    ensures { OnOk result (page.new.items ≡ page.old.items ++ flat_map (match_cell hill.now (row_parts row.now)) (rows_parts rows.now)) }
+{
+    for place in 0..rows.len() {
+        put_cell(page, hill, row, &rows[place])?;
+    }
+    Ok(())
+}
+
+/// Puts what the row of one warrior tells of another, or of itself.
+fn put_cell<A: Allocator, B: Allocator>(
+    page: &mut Vec<u8, A>,
+    hill: &Hill<B>,
+    row: &Row<'_>,
+    other: &Row<'_>,
+) -> Result<(), AllocError>
+    ensures { OnOk result (page.new.items ≡ page.old.items ++ match_cell hill.now (row_parts row.now) (row_parts other.now)) }
+{
+    if row.entry == other.entry {
+        page.extend_from_slice(b"<td class=\"self\">&middot;</td>")
+    } else {
+        put_fought_cell(page, between(hill, row.entry, other.entry), row, other)
+    }
+}
+
+/// Puts the rounds of two that fought, from the side of the first.
+fn put_fought_cell<A: Allocator>(
+    page: &mut Vec<u8, A>,
+    rounds: Rounds,
+    row: &Row<'_>,
+    other: &Row<'_>,
+) -> Result<(), AllocError>
+    ensures { OnOk result (page.new.items ≡ page.old.items ++ fought_cell rounds (row_parts row.now) (row_parts other.now)) }
+{
+    page.extend_from_slice(b"<td title=\"")?;
+    put_sides(page, row, other)?;
+    page.extend_from_slice(b"\">")?;
+    put_rounds(page, rounds)?;
+    page.extend_from_slice(b"</td>")?;
+    Ok(())
+}
+
+/// Puts who fought whom.
+#[tactic(auto, unfolding(crate::specs::Matches::sides_text))]
+fn put_sides<A: Allocator>(
+    page: &mut Vec<u8, A>,
+    row: &Row<'_>,
+    other: &Row<'_>,
+) -> Result<(), AllocError>
+    ensures { OnOk result (page.new.items ≡ page.old.items ++ sides_text (row_parts row.now) (row_parts other.now)) }
+{
+    put_escaped(page, row.name.bytes())?;
+    page.extend_from_slice(b" against ")?;
+    put_escaped(page, other.name.bytes())
+}
+
+#[tactic(auto, unfolding(crate::specs::Matches::rounds_text))]
+fn put_rounds<A: Allocator>(page: &mut Vec<u8, A>, rounds: Rounds) -> Result<(), AllocError>
+    ensures { OnOk result (page.new.items ≡ page.old.items ++ rounds_text rounds) }
+{
+    put_number(page, rounds.won)?;
+    page.extend_from_slice(b"/")?;
+    put_number(page, rounds.lost)?;
+    page.extend_from_slice(b"/")?;
+    put_number(page, rounds.tied)
+}

@@ -1,0 +1,149 @@
+//! Pages of small hills whose results were made up.
+
+ghost use Rattle.std.specs.Prelude.{◌≡◌, ◌+◌, IfOk};
+ghost use Rattle.koth_match.specs.Match.{rounds_in};
+ghost use Rattle.war_types.specs.Warrior.{Fits};
+
+use crate::warriors::{SMALL, imp};
+use koth_hill::Hill;
+use koth_match::Bout;
+use koth_page::hill_page;
+use refusing::{Refusing, refuse_each};
+use std::alloc::{AllocError, Global};
+use std::process::Abort;
+use std::test::Fail;
+use war_types::{Settings, Title, Warrior};
+
+/// Settings of ten rounds, with room for three.
+fn ten_rounds() -> Result<Settings, Fail> {
+    let mut raw = SMALL;
+    raw.capacity = 3;
+    raw.rounds = 10;
+    raw.seed = 271_828;
+    raw.write_limit = 16;
+    Ok(Settings::new(raw)?)
+}
+
+fn bout(older_wins: u16, younger_wins: u16, ties: u16) -> Bout
+    ensures { rounds_in result ≡ older_wins + younger_wins + ties }
+{
+    Bout {
+        older_wins,
+        younger_wins,
+        ties,
+    }
+}
+
+fn entrant(
+    alloc: Global,
+    name: &[u8],
+    author: &[u8],
+    settings: &Settings,
+) -> Result<Warrior<Global>, Fail>
+    ensures { IfOk result (λ w. Fits settings.now w) }
+{
+    let code = Vec::from_slice(alloc, &[imp()])?;
+    let name = Title::new(name, "Unnamed");
+    let author = Title::new(author, "Anonymous");
+    Ok(Warrior::new(code, 0, name, author, settings).ok_or("it fits")?)
+}
+
+/// The entries 1, 2 and 3, of which the last is the first by rank, and the first the second.
+fn hill_of_three(
+    alloc: Global,
+    third_name: &[u8],
+    third_author: &[u8],
+) -> Result<Hill<Global>, Fail> {
+    let settings = ten_rounds()?;
+    if settings.capacity() != 3 || settings.rounds() != 10 {
+        return Err("a hill of three".into());
+    }
+    let first = entrant(alloc, b"Imp", b"koth", &settings)?;
+    let second = entrant(alloc, b"Dwarf", b"koth", &settings)?;
+    let third = entrant(alloc, third_name, third_author, &settings)?;
+    let mut hill = Hill::with_counter(alloc, settings, 3)?;
+    hill.put_back(1, 2, first, &[]);
+    hill.put_back(2, 1, second, &[bout(6, 3, 1)]);
+    hill.put_back(3, 0, third, &[bout(1, 9, 0), bout(2, 7, 1)]);
+    Ok(hill)
+}
+
+/// Each of these stands in the page, and what isn't due doesn't.
+fn check_page(rt: &impl Abort, page: &[u8], due: &[&str], not_due: &[&str]) -> Result<(), Fail> {
+    let text = str::from_utf8(page)?;
+    assert!(rt; text.starts_with("<!DOCTYPE html>\n<html lang=\"en\">\n"));
+    assert!(rt; text.ends_with("</main>\n</body>\n</html>\n"));
+    for part in due {
+        assert!(rt; text.contains(*part), "{part}");
+    }
+    for part in not_due {
+        assert!(rt; !text.contains(*part), "{part}");
+    }
+    Ok(())
+}
+
+#[test]
+fn page_of_an_empty_hill(rt: HostRuntime) -> Result<(), Fail> {
+    let hill = Hill::new(rt.alloc(), ten_rounds()?)?;
+    let page = hill_page(rt.alloc(), &hill)?;
+    let due = [
+        "<dl>\n<div><dt>core size</dt><dd>64</dd></div>\n<div><dt>cycles</dt><dd>100</dd></div>\n",
+        "<div><dt>processes</dt><dd>8</dd></div>\n<div><dt>read limit</dt><dd>64</dd></div>\n",
+        "<div><dt>write limit</dt><dd>16</dd></div>\n<div><dt>length</dt><dd>10</dd></div>\n",
+        "<div><dt>distance</dt><dd>10</dd></div>\n<div><dt>rounds</dt><dd>10</dd></div>\n",
+        "<div><dt>places</dt><dd>3</dd></div>\n</dl>\n<p>No warrior stands on this hill yet.</p>\n</main>\n",
+    ];
+    check_page(&rt, page.as_slice(), &due, &["<table", "271828", "<script"])
+}
+
+#[test]
+fn page_of_three_warriors(rt: HostRuntime) -> Result<(), Fail> {
+    let hill = hill_of_three(rt.alloc(), b"Scanner", b"A. K. Dewdney")?;
+    let page = hill_page(rt.alloc(), &hill)?;
+    let due = [
+        "<tr><td>1</td><td>3</td><td>49</td><td>16</td><td>3</td><td>1</td><td>0</td><td class=\"name\">Scanner</td><td class=\"name\">A. K. Dewdney</td></tr>\n\
+        <tr><td>2</td><td>1</td><td>22</td><td>7</td><td>12</td><td>1</td><td>2</td><td class=\"name\">Imp</td><td class=\"name\">koth</td></tr>\n\
+        <tr><td>3</td><td>2</td><td>17</td><td>5</td><td>13</td><td>2</td><td>1</td><td class=\"name\">Dwarf</td><td class=\"name\">koth</td></tr>\n",
+        "<th title=\"Scanner\">1</th><th title=\"Imp\">2</th><th title=\"Dwarf\">3</th></tr></thead>\n",
+        "<tr><td>2</td><td class=\"name\">Imp</td><td title=\"Imp against Scanner\">1/9/0</td><td class=\"self\">&middot;</td><td title=\"Imp against Dwarf\">6/3/1</td></tr>\n",
+        "<tr><td>3</td><td class=\"name\">Dwarf</td><td title=\"Dwarf against Scanner\">2/7/1</td><td title=\"Dwarf against Imp\">3/6/1</td><td class=\"self\">&middot;</td></tr>\n",
+    ];
+    check_page(
+        &rt,
+        page.as_slice(),
+        &due,
+        &["No warrior", "271828", "<script"],
+    )
+}
+
+/// A name is cut to printable ASCII before it comes to a hill, so its letter of two bytes is two question marks.
+#[test]
+fn page_with_hostile_names(rt: HostRuntime) -> Result<(), Fail> {
+    let hill = hill_of_three(
+        rt.alloc(),
+        b"\"><script>alert('\xC3\xA9')</script>",
+        b"</td>&amp;",
+    )?;
+    let page = hill_page(rt.alloc(), &hill)?;
+    let due = [
+        "<td class=\"name\">&quot;&gt;&lt;script&gt;alert(&#39;??&#39;)&lt;/script&gt;</td><td class=\"name\">&lt;/td&gt;&amp;amp;</td></tr>\n",
+        "<td title=\"Imp against &quot;&gt;&lt;script&gt;alert(&#39;??&#39;)&lt;/script&gt;\">1/9/0</td>",
+    ];
+    check_page(&rt, page.as_slice(), &due, &["<script", "</td></td>"])
+}
+
+/// Each growth that is refused is the error.
+#[test]
+fn growths_of_a_page(rt: HostRuntime) -> Result<(), Fail> {
+    let memory = Refusing::new(rt.alloc());
+    let hill = hill_of_three(rt.alloc(), b"Scanner", b"koth")?;
+    let runs = refuse_each(&memory, |_k| match hill_page(&memory, &hill) {
+        Ok(page) => {
+            assert_eq!(rt; memory.refused(), 0);
+            assert!(rt; !page.is_empty());
+        }
+        Err(AllocError) => assert_eq!(rt; memory.refused(), 1),
+    });
+    assert!(rt; runs > 1);
+    Ok(())
+}
