@@ -35,6 +35,42 @@ fn hill_on<D: Device + Drop, A: Allocator + Copy>(
     }
 }
 
+/// A session begins with this number, or none does for this reason.
+fn connect<A: Allocator + Copy>(
+    rt: &impl Abort,
+    peers: &mut Peers<A>,
+    number: Result<usize, NotConnected>,
+) {
+    assert_eq!(rt; peers.connect(), number);
+}
+
+/// A step serves this.
+fn serve<D: Device, A: Allocator + Copy>(
+    rt: &impl Abort,
+    peers: &mut Peers<A>,
+    store: &mut Store<D, A>,
+    step: Step,
+) {
+    assert_eq!(rt; peers.serve_next(store), step);
+}
+
+/// A peer's session has ended so, or goes on.
+fn ended<A: Allocator>(rt: &impl Abort, peers: &Peers<A>, number: usize, end: Option<PeerEnd>) {
+    assert_eq!(rt; peers.end(number), end);
+}
+
+/// So many bytes of answers wait for a peer.
+fn waits<A: Allocator>(rt: &impl Abort, peers: &Peers<A>, number: usize, count: usize) {
+    assert_eq!(rt; peers.unsent(number).len(), count);
+}
+
+/// A peer has sent all of its bytes, and nothing more of it may come.
+fn close<A: Allocator>(rt: &impl Abort, peers: &mut Peers<A>, number: usize) {
+    peers.close(number);
+    assert!(rt; !peers.is_finished(number));
+    assert_eq!(rt; peers.room(number), 0);
+}
+
 /// These bytes of a peer come.
 fn come<A: Allocator>(rt: &impl Abort, peers: &mut Peers<A>, number: usize, text: &str) {
     let room = peers.room(number);
@@ -56,21 +92,21 @@ fn in_turn(rt: HostRuntime) -> Result<(), Fail> {
     let mut store = hill_on(rt.alloc(), MemoryDevice::new(rt.alloc(), SECTORS)?)?;
     let mut peers = Peers::new(rt.alloc(), 3)?;
     for number in 0..3 {
-        assert_eq!(rt; peers.connect()?, number);
+        connect(&rt, &mut peers, Ok(number));
     }
-    assert_eq!(rt; peers.connect(), Err(NotConnected::Full));
-    assert_eq!(rt; peers.serve_next(&mut store), Step::Nobody);
+    connect(&rt, &mut peers, Err(NotConnected::Full));
+    serve(&rt, &mut peers, &mut store, Step::Nobody);
     come(&rt, &mut peers, 0, "a\nb\nc\nd");
     come(&rt, &mut peers, 2, "SHOW\nSH");
     for number in [0, 2, 0] {
-        assert_eq!(rt; peers.serve_next(&mut store), Step::Served(number));
+        serve(&rt, &mut peers, &mut store, Step::Served(number));
     }
     come(&rt, &mut peers, 1, "\n");
     come(&rt, &mut peers, 2, "OW\n");
     for number in [1, 2, 0] {
-        assert_eq!(rt; peers.serve_next(&mut store), Step::Served(number));
+        serve(&rt, &mut peers, &mut store, Step::Served(number));
     }
-    assert_eq!(rt; peers.serve_next(&mut store), Step::Nobody);
+    serve(&rt, &mut peers, &mut store, Step::Nobody);
     send(&rt, &mut peers, 0, "BAD\nBAD\nBAD\n");
     send(&rt, &mut peers, 1, "BAD\n");
     send(&rt, &mut peers, 2, ".\n.\n");
@@ -83,25 +119,23 @@ fn one_hill(rt: HostRuntime) -> Result<(), Fail> {
     let mut store = hill_on(rt.alloc(), MemoryDevice::new(rt.alloc(), SECTORS)?)?;
     let mut peers = Peers::new(rt.alloc(), 4)?;
     for number in 0..4 {
-        assert_eq!(rt; peers.connect()?, number);
+        connect(&rt, &mut peers, Ok(number));
     }
     for byte in ["S", "U", "B", "M", "I", "T", "\r", "\n", "MOV 0,1\n", "."] {
         come(&rt, &mut peers, 0, byte);
-        assert_eq!(rt; peers.serve_next(&mut store), Step::Nobody);
+        serve(&rt, &mut peers, &mut store, Step::Nobody);
     }
     come(&rt, &mut peers, 0, "\n");
     come(&rt, &mut peers, 1, "SUBMIT\nJMP 0\n.\n");
     come(&rt, &mut peers, 2, "SUBMIT\nDAT 0,0\n.\nSUBMIT\nDAT 0,0\n");
     come(&rt, &mut peers, 3, "SHOW\nQUIT\nSHOW\n");
     for number in 0..4 {
-        peers.close(number);
-        assert!(rt; !peers.is_finished(number));
-        assert_eq!(rt; peers.room(number), 0);
-        assert_eq!(rt; peers.serve_next(&mut store), Step::Served(number));
+        close(&rt, &mut peers, number);
+        serve(&rt, &mut peers, &mut store, Step::Served(number));
     }
-    assert_eq!(rt; peers.end(3), None);
-    assert_eq!(rt; peers.serve_next(&mut store), Step::Served(3));
-    assert_eq!(rt; peers.serve_next(&mut store), Step::Nobody);
+    ended(&rt, &peers, 3, None);
+    serve(&rt, &mut peers, &mut store, Step::Served(3));
+    serve(&rt, &mut peers, &mut store, Step::Nobody);
     send(&rt, &mut peers, 0, "PLACED 1 1 0\n");
     send(&rt, &mut peers, 1, "PLACED 2 2 2\n");
     send(&rt, &mut peers, 2, "FELL 3 0\n");
@@ -118,11 +152,11 @@ fn one_hill(rt: HostRuntime) -> Result<(), Fail> {
         PeerEnd::Quit,
     ];
     for (number, end) in ends.iter().enumerate() {
-        assert_eq!(rt; peers.end(number), Some(*end));
+        ended(&rt, &peers, number, Some(*end));
         assert!(rt; peers.is_finished(number));
     }
     peers.leave(1);
-    assert_eq!(rt; peers.connect()?, 1);
+    connect(&rt, &mut peers, Ok(1));
     Ok(())
 }
 
@@ -131,20 +165,20 @@ fn one_hill(rt: HostRuntime) -> Result<(), Fail> {
 fn unread(rt: HostRuntime) -> Result<(), Fail> {
     let mut store = hill_on(rt.alloc(), MemoryDevice::new(rt.alloc(), SECTORS)?)?;
     let mut peers = Peers::new(rt.alloc(), 2)?;
-    assert_eq!(rt; peers.connect()?, 0);
-    assert_eq!(rt; peers.connect()?, 1);
+    connect(&rt, &mut peers, Ok(0));
+    connect(&rt, &mut peers, Ok(1));
     for _ in 0..262_144 {
         come(&rt, &mut peers, 0, "\n");
-        assert_eq!(rt; peers.serve_next(&mut store), Step::Served(0));
+        serve(&rt, &mut peers, &mut store, Step::Served(0));
     }
-    assert_eq!(rt; peers.unsent(0).len(), 1_048_576);
-    assert_eq!(rt; peers.end(0), None);
+    waits(&rt, &peers, 0, 1_048_576);
+    ended(&rt, &peers, 0, None);
     come(&rt, &mut peers, 0, "\n");
     come(&rt, &mut peers, 1, "\n");
-    assert_eq!(rt; peers.serve_next(&mut store), Step::Served(1));
-    assert_eq!(rt; peers.serve_next(&mut store), Step::Served(0));
-    assert_eq!(rt; peers.end(0), Some(PeerEnd::Unread));
-    assert_eq!(rt; peers.unsent(0).len(), 1_048_576);
+    serve(&rt, &mut peers, &mut store, Step::Served(1));
+    serve(&rt, &mut peers, &mut store, Step::Served(0));
+    ended(&rt, &peers, 0, Some(PeerEnd::Unread));
+    waits(&rt, &peers, 0, 1_048_576);
     assert!(rt; !peers.is_finished(0));
     send(&rt, &mut peers, 1, "BAD\n");
     Ok(())
@@ -157,20 +191,20 @@ fn a_device_that_fails(rt: HostRuntime) -> Result<(), Fail> {
     let memory = MemoryDevice::new(rt.alloc(), SECTORS)?;
     let mut store = hill_on(rt.alloc(), FuseDevice::new(memory, 10, FuseKind::FailKept))?;
     let mut peers = Peers::new(rt.alloc(), 2)?;
-    assert_eq!(rt; peers.connect()?, 0);
-    assert_eq!(rt; peers.connect()?, 1);
+    connect(&rt, &mut peers, Ok(0));
+    connect(&rt, &mut peers, Ok(1));
     come(&rt, &mut peers, 0, "SUBMIT\nMOV 0,1\n.\nSHOW\n");
     come(&rt, &mut peers, 1, "SHOW\n");
-    assert_eq!(rt; peers.serve_next(&mut store), Step::StoreFailed(0));
-    assert_eq!(rt; peers.unsent(0).len(), 0);
-    assert_eq!(rt; peers.end(0), Some(PeerEnd::StoreFailed));
+    serve(&rt, &mut peers, &mut store, Step::StoreFailed(0));
+    waits(&rt, &peers, 0, 0);
+    ended(&rt, &peers, 0, Some(PeerEnd::StoreFailed));
     assert!(rt; peers.is_finished(0));
     let Ok(mut store) = Store::open(rt.alloc(), store.close()) else {
         return Err("it opens".into());
     };
-    assert_eq!(rt; peers.serve_next(&mut store), Step::Served(1));
+    serve(&rt, &mut peers, &mut store, Step::Served(1));
     send(&rt, &mut peers, 1, "1 1 0 0 Unnamed by Anonymous\n.\n");
-    assert_eq!(rt; peers.serve_next(&mut store), Step::Nobody);
+    serve(&rt, &mut peers, &mut store, Step::Nobody);
     Ok(())
 }
 
@@ -182,16 +216,16 @@ fn growths(rt: HostRuntime) -> Result<(), Fail> {
     let mut peers = Peers::new(&memory, 1)?;
     for passed in 0..3 {
         memory.refuse(passed, 1);
-        assert_eq!(rt; peers.connect(), Err(NotConnected::Memory));
+        connect(&rt, &mut peers, Err(NotConnected::Memory));
         assert_eq!(rt; memory.refused(), 1);
     }
     memory.refuse(3, 1);
-    assert_eq!(rt; peers.connect()?, 0);
+    connect(&rt, &mut peers, Ok(0));
     assert_eq!(rt; memory.refused(), 0);
     come(&rt, &mut peers, 0, "\n");
-    assert_eq!(rt; peers.serve_next(&mut store), Step::Served(0));
+    serve(&rt, &mut peers, &mut store, Step::Served(0));
     assert_eq!(rt; memory.refused(), 1);
-    assert_eq!(rt; peers.end(0), Some(PeerEnd::Memory));
-    assert_eq!(rt; peers.unsent(0).len(), 0);
+    ended(&rt, &peers, 0, Some(PeerEnd::Memory));
+    waits(&rt, &peers, 0, 0);
     Ok(())
 }
