@@ -1,5 +1,4 @@
 pub mod Rows
-pub mod Steps
 pub mod Bounds
 pub mod Fitting
 pub mod LoadLemmas

@@ -3,20 +3,17 @@
 ghost use Rattle.std.specs.Prelude.{◌≡◌, ◌^◌, ◌<◌, length, IfOk, Ok, Err, unwrap_or, []};
 ghost use Rattle.war_types.specs.Warrior.{Fits};
 ghost use Rattle.war_types.specs.declared.fault.AsmKind.TheVariants.{SourceTooLong};
-ghost use Rattle.redcode_text.specs.Tokens.{pieces};
-ghost use Rattle.redcode_expand.specs.Expansion.{line_word_at, tokens_at};
 ghost use Rattle.redcode_names.specs.Gives.{Gives, fault_at};
-ghost use Rattle.redcode_asm.specs.Said.{said_by};
-ghost use Rattle.redcode_asm.specs.Assembly.{Assembles, assembly, checked_start, warrior_said, said_at, all_said, code_of, given_start, start_of, of_length, all_hold, last_text, is_name, is_author};
+ghost use Rattle.redcode_asm.specs.Said.{statement_of};
+ghost use Rattle.redcode_asm.specs.Assembly.{Assembles, assembly, checked_start, warrior_said, all_said, code_of, given_start, start_of, all_hold, last_text, is_name, is_author};
 
 use crate::names::Labels;
 use bumpalo::Bump;
-use redcode_expand::{Expanded, Line, LineKind, expand};
+use redcode_expand::{Entry, Expanded, LineKind, expand};
 use redcode_lines::behind_first;
 use redcode_statement::{
     Statement, assert_said, end_said, has_bad_token, instruction_of, org_said, other_said,
 };
-use redcode_text::{Token, Word};
 use std::alloc::Allocator;
 use war_types::{AsmFault, AsmKind, Instr, Settings, Title, Warrior};
 
@@ -69,8 +66,13 @@ fn checked_start(code: &[Instr], said: &[Said], limit: u16) -> Result<u16, AsmFa
     requires code { code.now ≡ code_of said.now }
     ensures { result ≡ checked_start limit said.now }
 {
-    check_length(code, limit)?;
-    let start = start_of(code, given_start(said))?;
+    if code.is_empty() {
+        return Err(fault(0, AsmKind::Empty));
+    }
+    if code.len() > usize::from(limit) {
+        return Err(fault(0, AsmKind::TooLong));
+    }
+    let start = start_of(said, code.len())?;
     check_assertions(said)?;
     Ok(start)
 }
@@ -90,28 +92,14 @@ fn all_said<A: Allocator + Copy>(
     ensures { Gives (λ all. all.items) result (all_said settings.now expanded.now.labels expanded.now.lines) }
 {
     let mut all = Vec::new(alloc);
-    for (i, line) in expanded.lines().iter().enumerate() {
-        all.push(said_on(expanded, settings, i, *line)?)?;
+    for entry in expanded.entries() {
+        let line = entry.line.source_line;
+        match said_by(expanded, settings, entry) {
+            Ok(statement) => all.push((line, statement))?,
+            Err(kind) => return Err(fault(line, kind)),
+        }
     }
     Ok(all)
-}
-
-/// What this line says, which is the one at this place, or its first fault.
-fn said_on<A: Allocator + Copy>(
-    expanded: &Expanded<'_, A>,
-    settings: &Settings,
-    place: usize,
-    line: Line,
-) -> Result<Said, AsmFault>
-    requires { place < length expanded.now.lines }
-    ensures { let word = line_word_at expanded.now.lines place in let tokens = tokens_at expanded.now.lines place in
-        result ≡ said_at line.source_line (said_by settings.now expanded.now.labels line.kind word line.before tokens) }
-{
-    let word = expanded.word(place);
-    match said_by(expanded, settings, line, word, expanded.line_tokens(place)) {
-        Ok(statement) => Ok((line.source_line, statement)),
-        Err(kind) => Err(fault(line.source_line, kind)),
-    }
 }
 
 /// What a line says, or the first of its faults.
@@ -119,36 +107,36 @@ fn said_on<A: Allocator + Copy>(
 fn said_by<A: Allocator + Copy>(
     expanded: &Expanded<'_, A>,
     settings: &Settings,
-    line: Line,
-    word: Option<Word>,
-    tokens: &[Token<'_>],
+    entry: &Entry<'_, A>,
 ) -> Result<Statement, AsmKind>
-    ensures { result ≡ said_by settings.now expanded.now.labels line.kind word line.before (pieces tokens.now) }
+    ensures { result ≡ statement_of settings.now expanded.now.labels entry.now }
 {
+    let tokens = entry.tokens.as_slice();
     if has_bad_token(tokens) {
         return Err(AsmKind::BadToken);
     }
-    let before = line.before;
+    let before = entry.line.before;
     let absolute = Labels {
         expanded,
         settings,
         before,
         origin: 0,
     };
-    match line.kind {
+    match entry.line.kind {
         LineKind::Operation => {
             let relative = Labels {
                 origin: before,
                 ..absolute
             };
-            let instr = instruction_of(settings.core(), word, behind_first(tokens), &relative)?;
+            let operands = behind_first(tokens);
+            let instr = instruction_of(settings.core(), entry.word, operands, &relative)?;
             Ok(Statement::Instruction(instr))
         }
         LineKind::Org => org_said(behind_first(tokens), &absolute),
         LineKind::End => end_said(behind_first(tokens), &absolute),
         LineKind::Assert => assert_said(tokens, &absolute),
         LineKind::Name | LineKind::Author => Ok(Statement::Nothing),
-        LineKind::Other => other_said(word),
+        LineKind::Other => other_said(entry.word),
     }
 }
 
@@ -165,22 +153,10 @@ fn code_of<A: Allocator>(alloc: A, said: &[Said]) -> Result<Vec<Instr, A>, AsmFa
     Ok(code)
 }
 
-/// Refuses code of no instruction, or of more than the settings allow.
-fn check_length(code: &[Instr], limit: u16) -> Result<(), AsmFault>
-    ensures { result ≡ of_length limit code.now }
-{
-    if code.is_empty() {
-        return Err(fault(0, AsmKind::Empty));
-    }
-    if code.len() > usize::from(limit) {
-        return Err(fault(0, AsmKind::TooLong));
-    }
-    Ok(())
-}
-
-/// The line and the value of the last `ORG`, else of the `END`.
-fn given_start(said: &[Said]) -> Option<(u32, i64)>
-    ensures { result ≡ given_start said.now }
+/// The start among so many instructions: that of the last `ORG`, else that of the `END`, else 0. It has to be an instruction.
+fn start_of(said: &[Said], count: usize) -> Result<u16, AsmFault>
+    requires { count < 2 ^ 16 }
+    ensures { result ≡ start_of count (given_start said.now) }
 {
     let mut org = None;
     let mut end = None;
@@ -191,18 +167,10 @@ fn given_start(said: &[Said]) -> Option<(u32, i64)>
             _ => {}
         }
     }
-    org.or(end)
-}
-
-/// The start, which has to be an instruction; 0 where none is given.
-fn start_of(code: &[Instr], given: Option<(u32, i64)>) -> Result<u16, AsmFault>
-    requires { length code.now < 2 ^ 16 }
-    ensures { result ≡ start_of (length code.now) given }
-{
-    match given {
+    match org.or(end) {
         None => Ok(0),
         Some((line, value)) => match u16::try_from(value) {
-            Ok(start) if usize::from(start) < code.len() => Ok(start),
+            Ok(start) if usize::from(start) < count => Ok(start),
             _ => Err(fault(line, AsmKind::BadStart)),
         },
     }
@@ -227,25 +195,12 @@ fn last_texts<'e, A: Allocator + Copy>(expanded: &'e Expanded<'_, A>) -> (&'e [u
 {
     let mut name: &[u8] = b"";
     let mut author: &[u8] = b"";
-    for (i, line) in expanded.lines().iter().enumerate() {
-        if is_name(line.kind) {
-            name = expanded.title(i);
-        }
-        if is_author(line.kind) {
-            author = expanded.title(i);
+    for entry in expanded.entries() {
+        match entry.line.kind {
+            LineKind::Name => name = entry.title,
+            LineKind::Author => author = entry.title,
+            _ => {}
         }
     }
     (name, author)
-}
-
-fn is_name(kind: LineKind) -> bool
-    ensures { result ≡ is_name kind }
-{
-    matches!(kind, LineKind::Name)
-}
-
-fn is_author(kind: LineKind) -> bool
-    ensures { result ≡ is_author kind }
-{
-    matches!(kind, LineKind::Author)
 }

@@ -1,9 +1,7 @@
 //! The faults of a source's lines, each line judged by itself.
 
-ghost use Rattle.std.specs.Prelude.{◌≡◌, ◌<◌, length};
-
 use crate::scene::Scene;
-use redcode_expand::{Expanded, Line, LineKind, predefined};
+use redcode_expand::{Entry, Expanded, Line, LineKind, predefined};
 use redcode_lines::behind_first;
 use redcode_statement::{
     Statement, assert_said, end_said, has_bad_token, instruction_of, org_said, other_said,
@@ -58,44 +56,38 @@ pub(crate) fn labels_on<'e, 's, A: Allocator + Copy>(
     }
 }
 
-/// What the line at this place says, or the first of its faults.
-pub(crate) fn said_at<A: Allocator + Copy>(
+/// What a line says, or the first of its faults.
+pub(crate) fn said_by<A: Allocator + Copy>(
     expanded: &Expanded<'_, A>,
     settings: &Settings,
-    place: usize,
-    line: Line,
-) -> Result<Statement, AsmKind>
-    requires { place < length expanded.now.lines }
-{
-    let tokens = expanded.line_tokens(place);
+    entry: &Entry<'_, A>,
+) -> Result<Statement, AsmKind> {
+    let tokens = entry.tokens.as_slice();
     if has_bad_token(tokens) {
         return Err(AsmKind::BadToken);
     }
-    let word = expanded.word(place);
-    let names = labels_on(expanded, settings, line);
-    match line.kind {
+    let names = labels_on(expanded, settings, entry.line);
+    match entry.line.kind {
         LineKind::Operation => {
-            let instr = instruction_of(settings.core(), word, behind_first(tokens), &names)?;
+            let operands = behind_first(tokens);
+            let instr = instruction_of(settings.core(), entry.word, operands, &names)?;
             Ok(Statement::Instruction(instr))
         }
         LineKind::Org => org_said(behind_first(tokens), &names),
         LineKind::End => end_said(behind_first(tokens), &names),
         LineKind::Assert => assert_said(tokens, &names),
         LineKind::Name | LineKind::Author => Ok(Statement::Nothing),
-        LineKind::Other => other_said(word),
+        LineKind::Other => other_said(entry.word),
     }
 }
 
-/// The fault of the line at this place, a false assertion included.
-pub(crate) fn fault_at<A: Allocator + Copy>(
+/// The fault of a line, a false assertion included.
+pub(crate) fn fault_of<A: Allocator + Copy>(
     expanded: &Expanded<'_, A>,
     settings: &Settings,
-    place: usize,
-    line: Line,
-) -> Option<AsmKind>
-    requires { place < length expanded.now.lines }
-{
-    match said_at(expanded, settings, place, line) {
+    entry: &Entry<'_, A>,
+) -> Option<AsmKind> {
+    match said_by(expanded, settings, entry) {
         Ok(Statement::Assert(0)) => Some(AsmKind::AssertFalse),
         Ok(_) => None,
         Err(kind) => Some(kind),
@@ -111,15 +103,15 @@ pub(crate) fn further_faults<A: Allocator + Copy>(
     let Some(expanded) = &scene.expanded else {
         return Ok(faults);
     };
-    for (i, line) in expanded.lines().iter().enumerate() {
-        let number = line.source_line;
+    for entry in expanded.entries() {
+        let number = entry.line.source_line;
         if number == first.line || is_told(faults.as_slice(), number) {
             continue;
         }
         if faults.len() + 1 >= FAULT_LIMIT {
             break;
         }
-        if let Some(kind) = fault_at(expanded, scene.settings, i, *line) {
+        if let Some(kind) = fault_of(expanded, scene.settings, entry) {
             faults.push(AsmFault { line: number, kind })?;
         }
     }
@@ -153,16 +145,15 @@ pub(crate) fn faulty_line<'e, 's, A: Allocator + Copy>(
     fault: AsmFault,
 ) -> Option<Faulty<'e, 's>> {
     let mut times: u32 = 0;
-    for (i, line) in expanded.lines().iter().enumerate() {
-        if line.source_line != fault.line {
+    for entry in expanded.entries() {
+        if entry.line.source_line != fault.line {
             continue;
         }
         times = times.saturating_add(1);
-        if fault_at(expanded, settings, i, *line) == Some(fault.kind) {
-            let tokens = expanded.line_tokens(i);
+        if fault_of(expanded, settings, entry) == Some(fault.kind) {
             return Some(Faulty {
-                line: *line,
-                tokens,
+                line: entry.line,
+                tokens: entry.tokens.as_slice(),
                 times,
             });
         }

@@ -1,7 +1,7 @@
 //! What is wrong with a warrior, or with a source as a whole.
 
 use crate::blame::{Blame, blamed};
-use crate::judge::{faulty_line, said_at};
+use crate::judge::{faulty_line, said_by};
 use crate::operands::operands_in;
 use crate::place::Span;
 use crate::said::{Part, say, sentence};
@@ -136,15 +136,14 @@ fn start_on<A: Allocator + Copy>(scene: &Scene<'_, A>, number: u32) -> Option<i6
         return None;
     };
     let mut start = None;
-    for (i, line) in expanded.lines().iter().enumerate() {
-        if line.source_line != number {
+    for entry in expanded.entries() {
+        if entry.line.source_line != number {
             continue;
         }
-        if let Ok(Statement::Org(value) | Statement::End(value)) = said_at(
+        if let Ok(Statement::Org(value) | Statement::End(value)) = said_by(
             expanded,
             scene.settings,
-            i,
-            *line,
+            entry,
         ) {
             start = Some(value);
         }
@@ -156,8 +155,8 @@ fn start_on<A: Allocator + Copy>(scene: &Scene<'_, A>, number: u32) -> Option<i6
 fn instructions<A: Allocator + Copy>(scene: &Scene<'_, A>) -> i64 {
     let mut count: i64 = 0;
     if let Some(expanded) = &scene.expanded {
-        for line in expanded.lines() {
-            if let LineKind::Operation = line.kind {
+        for entry in expanded.entries() {
+            if let LineKind::Operation = entry.line.kind {
                 count = count.saturating_add(1);
             }
         }

@@ -1,5 +1,4 @@
 mod Unchanged
-mod Places
 mod PlacedNames
 mod PlainCounts
 mod GoingOn

@@ -16,7 +16,7 @@ use crate::open_block::OpenBlock;
 use crate::open_blocks::OpenBlocks;
 use crate::walk::Walk;
 use bumpalo::Bump;
-use redcode_lines::{Reading, SourceLine, line_at, rof_behind};
+use redcode_lines::{Reading, SourceLine, rof_behind};
 use redcode_names::NameHash;
 use redcode_text::Word;
 use std::alloc::Allocator;
@@ -33,7 +33,9 @@ pub(crate) fn walk_all<'s, A: Allocator + Copy>(
     requires { length lines.now ≤ 65536 }
     ensures { Gives (λ walk. walk) result (walk_all settings.now (parsed lines.now) walk_begin) }
 {
-    let mut counts = Counts::new(alloc, lines.len())?;
+    let mut counts = Counts {
+        counts: vec![in alloc; None; lines.len()]?,
+    };
     let mut walk = Walk::new(alloc, hash);
     let blocks = OpenBlocks::new(alloc, region, hash);
     walk_lines(settings, &mut walk, blocks, &mut counts, lines)?;
@@ -55,7 +57,7 @@ fn walk_lines<'s, A: Allocator + Copy>(
     ensures { Gives (λ _. walk.new) result (walk_all settings.now (parsed lines.now) walk_begin) }
 {
     let mut at = 0;
-    while at < lines.len() && !walk.has_ended() {
+    while at < lines.len() && !walk.ended {
         at = step(settings, walk, &mut blocks, counts, lines, at)?;
     }
     Ok(())
@@ -81,12 +83,12 @@ fn step<'s, A: Allocator + Copy>(
         MatchResult result (λ next. GoesOn settings.now lines.now due steps blocks.new next walk.new) (λ fault. Fails fault due) }
     ensures kept { OnOk result (AreKept settings.now lines.now walk.new.names.equs counts.new) }
 {
-    let line = line_at(lines, at);
-    match line.word() {
-        Some(Word::For) => begin(settings, walk, blocks, counts, lines, at, line.reading()),
-        Some(Word::Rof) => end_copy(settings, walk, blocks, lines, at, line.reading()),
+    let line = lines[at].reading();
+    match line.word {
+        Some(Word::For) => begin(settings, walk, blocks, counts, lines, at, line),
+        Some(Word::Rof) => end_copy(settings, walk, blocks, lines, at, line),
         _ => {
-            walk.step(settings, blocks, line.reading())?;
+            walk.step(settings, blocks, line)?;
             Ok(at + 1)
         }
     }
@@ -176,7 +178,7 @@ fn pass<'s, A: Allocator + Copy>(
     if rof >= lines.len() {
         return Err(unmatched_for(number));
     }
-    close(settings, walk, blocks, line_at(lines, rof).reading())?;
+    close(settings, walk, blocks, lines[rof].reading())?;
     Ok(rof + 1)
 }
 

@@ -1,12 +1,12 @@
 //! Counts of blocks that stay the same.
 
-use std::alloc::{AllocError, Allocator};
+use std::alloc::Allocator;
 use std::marker::Model;
 
 /// For each line of a source the count of its block, where that is kept.
 #[derive(Drop)]
 pub(crate) struct Counts<A: Allocator> {
-    counts: Vec<Option<u64>, A>,
+    pub counts: Vec<Option<u64>, A>,
 }
 
 impl<A: Allocator> Model for Counts<A> {
@@ -18,17 +18,8 @@ impl<A: Allocator> Model for Counts<A> {
 }
 
 impl<A: Allocator> Counts<A> {
-    ghost use Rattle.std.specs.Prelude.{◌≡◌, ◌<◌, length, replicate, slice_set, if◌then◌else◌, IfOk};
+    ghost use Rattle.std.specs.Prelude.{◌≡◌, ◌<◌, length, slice_set, if◌then◌else◌};
     ghost use Rattle.redcode_expand.specs.Kept.{kept_at};
-
-    /// None for so many lines.
-    pub(crate) fn new(alloc: A, lines: usize) -> Result<Counts<A>, AllocError>
-        ensures { IfOk result (λ counts. counts ≡ replicate lines None) }
-    {
-        Ok(Counts {
-            counts: vec![in alloc; None; lines]?,
-        })
-    }
 
     /// The count that is kept of the line behind so many others.
     pub(crate) fn at(&self, place: usize) -> Option<u64>

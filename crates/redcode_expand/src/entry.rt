@@ -7,10 +7,16 @@ use std::marker::Model;
 
 /// A line of an expanded source, with its texts.
 #[derive(Drop)]
-pub(crate) struct Entry<'s, A: Allocator> {
+pub struct Entry<'s, A: Allocator> {
+    /// Its number in the source, its kind, and the instructions before it.
     pub line: Line,
+    /// The word of the line, where it has one.
     pub word: Option<Word>,
+    /// The text behind the word of a `;name` or an `;author` line; empty for other lines.
     pub title: &'s [u8],
+    /// The tokens of an operation, `ORG` or `END` from that word on, of an assertion all behind its word, of another line all
+    /// behind its labels, of `;name` and `;author` none. In operands and expressions the names of `EQU` lines are replaced. A
+    /// comment at the end is left out.
     pub tokens: Vec<Token<'s>, A>,
 }
 
@@ -21,34 +27,4 @@ impl<'s, A: Allocator> Model for Entry<'s, A> {
     ghost Value = { ExpandedLine };
 
     ghost view = { λ e. record { source_line = e.line.source_line; kind = e.line.kind; word = e.word; before = e.line.before; title = e.title.now; tokens = pieces e.tokens.items } };
-}
-
-impl<'s, A: Allocator> Entry<'s, A> {
-    ghost use Rattle.std.specs.Prelude.{◌≡◌};
-    ghost use Rattle.redcode_text.specs.Tokens.{pieces};
-    ghost use Rattle.redcode_expand.specs.Expansion.{line_of};
-
-    pub(crate) fn line(&self) -> Line
-        ensures { result ≡ line_of self.now }
-    {
-        self.line
-    }
-
-    pub(crate) fn word(&self) -> Option<Word>
-        ensures { result ≡ self.now.word }
-    {
-        self.word
-    }
-
-    pub(crate) fn title(&self) -> &[u8]
-        ensures { result.now ≡ self.now.title }
-    {
-        self.title
-    }
-
-    pub(crate) fn tokens(&self) -> &[Token<'s>]
-        ensures { pieces result.now ≡ self.now.tokens }
-    {
-        self.tokens.as_slice()
-    }
 }

@@ -1,19 +1,17 @@
-//! The lines of a source written out.
+//! The lines of a source written out, with the names of `EQU`s replaced in their operands.
 
-ghost use Rattle.std.specs.Prelude.{◌≡◌, ◌<◌, map, length, IfOk, Ok, Err};
-ghost use Rattle.redcode_text.specs.Tokens.{pieces};
+ghost use Rattle.std.specs.Prelude.{◌≡◌, ◌<◌, [], length, IfOk, Err};
 ghost use Rattle.redcode_names.specs.Gives.{Gives, fault_at};
 ghost use Rattle.redcode_expand.specs.Laws.{AreCounted, BlocksAreWrittenOut};
 ghost use Rattle.war_types.specs.declared.fault.AsmKind.TheVariants.{SourceTooLong};
-ghost use Rattle.redcode_expand.specs.Expansion.{expansion, address_of, line_of, line_word_at, title_at, tokens_at};
+ghost use Rattle.redcode_expand.specs.Expansion.{expansion, address_of, all_replaced, line_replaced};
 
 use crate::blocks::walk_all;
 use crate::entry::Entry;
 use bumpalo::Bump;
-use redcode_lines::{Line, live_source, source_lines};
-use redcode_names::{Labels, NameHash};
-use redcode_text::{Token, Word};
-use std::alloc::{AllocError, Allocator};
+use redcode_lines::{live_source, operands_of, source_lines};
+use redcode_names::{Equs, Labels, LinkedEqus, NameHash, TOKEN_LIMIT, too_many, written};
+use std::alloc::Allocator;
 use std::marker::Model;
 use war_types::{AsmFault, AsmKind, Settings};
 
@@ -23,21 +21,16 @@ pub const SOURCE_LIMIT: usize = 65_536;
 /// The lines of a source written out, and its labels.
 #[derive(Drop)]
 pub struct Expanded<'s, A: Allocator + Copy> {
-    alloc: A,
-    lines: Vec<Line, A>,
-    entries: Vec<Entry<'s, A>, A>,
-    labels: Labels<'s, A>,
+    pub(crate) entries: Vec<Entry<'s, A>, A>,
+    pub(crate) labels: Labels<'s, A>,
 }
 
 impl<'s, A: Allocator + Copy> Model for Expanded<'s, A> {
-    ghost use Rattle.std.specs.Prelude.{◌≡◌, map};
-    ghost use Rattle.redcode_expand.specs.Expansion.{Expansion, line_of};
+    ghost use Rattle.redcode_expand.specs.Expansion.{Expansion};
 
     ghost Value = { Expansion };
 
     ghost view = { λ e. record { lines = e.entries.items; labels = e.labels } };
-
-    ghost invariant = { λ e. e.lines.items ≡ map line_of e.entries.items };
 }
 
 /// Writes out the lines of a source: of a block from `FOR` to `ROF` its body, as often as the count says, each copy in its turn.
@@ -76,32 +69,12 @@ pub fn expand<'s, A: Allocator + Copy>(
 }
 
 impl<'s, A: Allocator + Copy> Expanded<'s, A> {
-    /// These lines and labels.
-    pub(crate) fn new(
-        alloc: A,
-        entries: Vec<Entry<'s, A>, A>,
-        labels: Labels<'s, A>,
-    ) -> Result<Expanded<'s, A>, AsmFault>
-        ensures { Gives (λ expanded. expanded) result (Ok (record { lines = entries.entry.items; labels = labels.entry })) }
-    {
-        let mut lines = Vec::new(alloc);
-        for entry in entries.as_slice() {
-            lines.push(entry.line())?;
-        }
-        Ok(Expanded {
-            alloc,
-            lines,
-            entries,
-            labels,
-        })
-    }
-
     /// The lines, up to and with the first `END`. Blank lines, comments, lines of labels alone and those of `EQU`, `FOR` and `ROF` are
     /// left out.
-    pub fn lines(&self) -> &[Line]
-        ensures { result.now ≡ map line_of self.now.lines }
+    pub fn entries(&self) -> &[Entry<'s, A>]
+        ensures { result.now ≡ self.now.lines }
     {
-        self.lines.as_slice()
+        self.entries.as_slice()
     }
 
     /// The address of a label: how many instructions stand before it.
@@ -110,38 +83,65 @@ impl<'s, A: Allocator + Copy> Expanded<'s, A> {
     {
         self.labels.address_of(name)
     }
+}
 
-    /// The text behind the word of a `;name` or an `;author` line; empty for other lines.
-    pub fn title(&self, i: usize) -> &[u8]
-        requires { i < length self.now.lines }
-        ensures { result.now ≡ title_at self.now.lines i }
-    {
-        self.entries[i].title()
+/// The lines of a source without EQUs: as they are, but for one that has too many operands.
+pub(crate) fn unchanged<'s, A: Allocator + Copy>(
+    entries: Vec<Entry<'s, A>, A>,
+) -> Result<Vec<Entry<'s, A>, A>, AsmFault>
+    ensures { Gives (λ lines. lines.items) result (all_replaced [] entries.entry.items) }
+{
+    for entry in entries.as_slice() {
+        let tokens = entry.tokens.as_slice();
+        if tokens.len() > TOKEN_LIMIT && operands_of(entry.line.kind, tokens).len() > TOKEN_LIMIT {
+            return Err(too_many(entry.line.source_line));
+        }
     }
+    Ok(entries)
+}
 
-    /// The word of a line, where it has one.
-    pub fn word(&self, i: usize) -> Option<Word>
-        requires { i < length self.now.lines }
-        ensures { result ≡ line_word_at self.now.lines i }
-    {
-        self.entries[i].word()
+/// Replaces the names of EQUs in the operands of all lines.
+pub(crate) fn replace_all<'s, A: Allocator + Copy>(
+    alloc: A,
+    equs: &Equs<'s, A>,
+    entries: Vec<Entry<'s, A>, A>,
+) -> Result<Vec<Entry<'s, A>, A>, AsmFault>
+    ensures { Gives (λ lines. lines.items) result (all_replaced equs.now entries.entry.items) }
+{
+    let linked = LinkedEqus::new(alloc, equs)?;
+    let mut lines = Vec::with_capacity(alloc, entries.len())?;
+    for entry in entries {
+        lines.push(replace_in(alloc, &linked, entry)?)?;
     }
+    Ok(lines)
+}
 
-    /// The tokens of a line: of an operation, `ORG` or `END` from that word on, of an assertion all behind its word, of
-    /// another line all behind its labels, of `;name` and `;author` none. In operands and expressions the names of `EQU`
-    /// lines are replaced. A comment at the end is left out.
-    pub fn line_tokens(&self, i: usize) -> &[Token<'s>]
-        requires { i < length self.now.lines }
-        ensures { pieces result.now ≡ tokens_at self.now.lines i }
-    {
-        self.entries[i].tokens()
+/// Replaces the names of EQUs in the operands of a line. One without such a name keeps its tokens as they are.
+fn replace_in<'s, A: Allocator + Copy>(
+    alloc: A,
+    equs: &LinkedEqus<'_, 's, A>,
+    entry: Entry<'s, A>,
+) -> Result<Entry<'s, A>, AsmFault>
+    ensures { Gives (λ line. line) result (line_replaced equs.now entry.entry) }
+{
+    let line = entry.line;
+    let tokens = entry.tokens.as_slice();
+    let operands = operands_of(line.kind, tokens);
+    if !equs.equs().are_among(operands) {
+        if operands.len() > TOKEN_LIMIT {
+            return Err(too_many(line.source_line));
+        }
+        return Ok(entry);
     }
-
-    /// The same tokens. An error is want of memory.
-    pub fn tokens(&self, i: usize) -> Result<Vec<Token<'_>, A>, AllocError>
-        requires { i < length self.now.lines }
-        ensures { IfOk result (λ tokens. pieces tokens.items ≡ tokens_at self.now.lines i) }
-    {
-        Vec::from_slice(self.alloc, self.line_tokens(i))
-    }
+    let before = &tokens[..tokens.len() - operands.len()];
+    let operands = written(alloc, equs, line.source_line, operands, operands.len())?;
+    let mut all = Vec::with_capacity(alloc, before.len().saturating_add(operands.len()))?;
+    all.extend_from_slice(before)?;
+    all.extend_from_slice(operands.as_slice())?;
+    Ok(Entry {
+        line,
+        word: entry.word,
+        title: entry.title,
+        tokens: all,
+    })
 }

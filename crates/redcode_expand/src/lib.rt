@@ -2,7 +2,7 @@
 //!
 //! `blocks` goes from line to line and from copy to copy, with the blocks that are open in `open_blocks`; `beginning` is what a `FOR`
 //! does, with the counts of blocks in `count`, `counts` and `values`; `walk` is what another line does: it counts, defines names, and is
-//! a line of the expanded source (`entry`); `replace` replaces the names of `EQU`s when all are known; `expanded` is what comes of it.
+//! a line of the expanded source (`entry`); `expanded` replaces the names of `EQU`s when all are known, and is what comes of it.
 //!
 //! The main clause: `expand` answers the definition of `Expansion` in `specs`, the lines and labels or the first refusal that is due, or
 //! lacks memory. A block without a copy counts nothing and may be met millions of times, so what such a one costs is looked after: its
@@ -17,10 +17,10 @@ mod entry;
 mod expanded;
 mod open_block;
 mod open_blocks;
-mod replace;
 mod values;
 mod walk;
 
+pub use entry::Entry;
 pub use expanded::{Expanded, SOURCE_LIMIT, expand};
 pub use redcode_lines::{Line, LineKind};
 pub use redcode_names::predefined;

@@ -10,9 +10,8 @@ ghost use Rattle.redcode_expand.specs.Rest.{counters_of};
 ghost use Rattle.redcode_expand.specs.Walk.{walk_begin, closed, copied, counted, labelled, with_line, placed, statement, lined, step, step_as, IsCopied};
 
 use crate::entry::Entry;
-use crate::expanded::Expanded;
+use crate::expanded::{Expanded, replace_all, unchanged};
 use crate::open_blocks::OpenBlocks;
-use crate::replace::replace_all;
 use redcode_lines::{Line, LineForm, LineKind, Reading, behind_first};
 use redcode_names::{Equs, NameHash, Names};
 use redcode_text::{Token, Word};
@@ -31,7 +30,8 @@ pub(crate) struct Walk<'s, A: Allocator + Copy> {
     pub before: u32,
     pub names: Names<'s, A>,
     entries: Vec<Entry<'s, A>, A>,
-    ended: bool,
+    /// Whether an `END` was met.
+    pub ended: bool,
 }
 
 impl<'s, A: Allocator + Copy> Model for Walk<'s, A> {
@@ -57,13 +57,6 @@ impl<'s, A: Allocator + Copy> Walk<'s, A> {
             entries: Vec::new(alloc),
             ended: false,
         }
-    }
-
-    /// Whether an `END` was met.
-    pub(crate) fn has_ended(&self) -> bool
-        ensures { result ≡ self.now.ended }
-    {
-        self.ended
     }
 
     /// Lines that were counted.
@@ -150,8 +143,18 @@ impl<'s, A: Allocator + Copy> Walk<'s, A> {
     {
         let entries = self.entries;
         let names = self.names;
-        let lines = replace_all(self.alloc, &names.equs, entries)?;
-        Expanded::new(self.alloc, lines, names.labels)
+        if names.has_no_equs() {
+            let entries = unchanged(entries)?;
+            return Ok(Expanded {
+                entries,
+                labels: names.labels,
+            });
+        }
+        let entries = replace_all(self.alloc, &names.equs, entries)?;
+        Ok(Expanded {
+            entries,
+            labels: names.labels,
+        })
     }
 
     /// A line that counts, without a word.
@@ -237,6 +240,9 @@ impl<'s, A: Allocator + Copy> Walk<'s, A> {
         ensures before { self.new.before ≡ self.old.before }
         ensures counted { self.new.counted ≡ self.old.counted }
     {
+        if line.word.is_some() && line.front.is_empty() {
+            return Ok(());
+        }
         let address = self.before;
         self.names
             .define_all(settings, line.number, address, line.labels())

@@ -1,4 +1,5 @@
 mod Lines
 pub mod Readings
+pub mod Comments
 pub mod SourceLines
 pub mod Pairs

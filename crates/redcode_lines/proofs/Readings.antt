@@ -1,4 +1,4 @@
--- What stands at the front of a list, and what is behind it: for `labels`, `without_comment` and `statement`.
+-- What stands at the front of a list, and what is behind it: for `labels`, `from_word` and `statement`.
 use Rattle.std.proofs.Common.{◌≡◌, ℕ, ◌-◌, ◌≤◌, Bool, true, false, if◌then◌else◌, List, [], ◌∷◌, length, get_or, take, drop, is_some, Option, Some, None, codes, not, ◌&&◌, ◌||◌, refl, sym, ap, ◌∙◌, arith, ◌++◌, length-append}
 use Rattle.std.proofs.lemmas.Bool.{false_from_ne_true}
 use Rattle.std.proofs.lemmas.List.{take-map, drop-map, length-map, take_at, drop_at}

@@ -1,12 +1,12 @@
 -- The lines of a source that are not skipped, one after another.
-use Rattle.std.proofs.Common.{◌≡◌, ℕ, ◌+◌, ◌≤◌, List, [], ◌∷◌, ◌++◌, length, length-append, map, Option, None, sym, ap, ◌∙◌, append_assoc, arith, true, false, take, drop, refl, eqb}
-use Rattle.std.proofs.lemmas.List.{length-map, map-append, take-map, take-take, drop-take}
+use Rattle.std.proofs.Common.{◌≡◌, ℕ, ◌+◌, ◌≤◌, List, [], ◌∷◌, ◌++◌, length, length-append, map, Option, None, sym, ap, ◌∙◌, append_assoc, arith, true, false, take, drop, refl, eqb, if◌then◌else◌}
+use Rattle.std.proofs.lemmas.List.{length-map, map-append, take-map, take-take, drop-take, take_all}
 use Rattle.std.proofs.lemmas.Bool.{true≢false}
 use Rattle.redcode_text.specs.declared.token.Token.{Token}
 use Rattle.redcode_text.specs.declared.vocabulary.Word.{Word}
 use Rattle.redcode_text.specs.Tokens.{piece_of, pieces}
 use Rattle.redcode_lines.specs.declared.reading.LineForm.{LineForm}
-use Rattle.redcode_lines.specs.declared.directive.Directive.{Directive}
+use Rattle.redcode_lines.specs.declared.source.Directive.{Directive}
 use Rattle.redcode_lines.specs.Source.{directive_of, lines_of, numbered_from}
 use Rattle.redcode_lines.specs.Line.{statement_tokens}
 use Rattle.redcode_lines.specs.Line.{SourceLine, source_line, statement}
@@ -46,3 +46,14 @@ pub cut-capped : (number : ℕ) (form : LineForm) (word : Option Word) (title : 
 cut-capped number form word title front most items new most-is new-is is =
     let labels : take front (take (front + 516) items) ≡ take front items = take-take front (front + 516) items (omega arith) in
     rw (new-is, most-is, labels, drop-take front 516 items, ← take-map piece_of 516 (drop front items), is) refl
+
+-- a line that is not capped
+pub capped-no : (line : SourceLine) → is_capped line ≡ false → line ≡ capped line
+capped-no line is = rw is refl
+
+-- a line with no more tokens than that
+pub capped-short : (line : SourceLine) → length line.tokens ≤ 516 → line ≡ capped line
+capped-short line short = elim (is_capped line) as (λ b. line ≡ (if b then record line { tokens = take 516 line.tokens } else line)) [
+  | true ↦ rw (take_all 516 line.tokens short) refl
+  | false ↦ refl
+]

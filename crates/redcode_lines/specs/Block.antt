@@ -1,8 +1,8 @@
 -- The blocks of a source.
 use Rattle.std.specs.Prelude.{◌≡◌, ℕ, ◌+◌, ◌-◌, Bool, false, nat_eq, List, [], ◌∷◌, ◌++◌, Option, Some, None, ⊤}
 use Rattle.redcode_text.specs.Tokens.{Piece}
-use Rattle.redcode_lines.specs.declared.directive.Directive.{Directive}
-use Rattle.redcode_lines.specs.declared.directive.Directive.TheVariants as directives
+use Rattle.redcode_lines.specs.declared.source.Directive.{Directive}
+use Rattle.redcode_lines.specs.declared.source.Directive.TheVariants as directives
 use Rattle.redcode_lines.specs.declared.reading.LineForm.TheVariants as forms
 use Rattle.redcode_text.specs.declared.vocabulary.Word.{Word}
 use Rattle.redcode_text.specs.declared.vocabulary.Word.TheVariants as words

@@ -4,8 +4,8 @@ use Rattle.std.specs.Borrow.{Bor}
 use Rattle.std.specs.Option.{unwrap_or}
 use Rattle.war_types.specs.Title.{is_blank, after_blanks}
 use Rattle.redcode_text.specs.Vocabulary.{is_word}
-use Rattle.redcode_lines.specs.declared.directive.Directive.{Directive}
-use Rattle.redcode_lines.specs.declared.directive.Directive.TheVariants as directives
+use Rattle.redcode_lines.specs.declared.source.Directive.{Directive}
+use Rattle.redcode_lines.specs.declared.source.Directive.TheVariants as directives
 
 -- a line with its number in the source, counted from 1
 pub record NumberedLine : Type 0 where

@@ -1,11 +1,13 @@
-//! How a line is read: its labels, its word, and what is behind them.
+//! How a line is read: its labels, its word, and what is behind them; and which tokens of an expanded line are operands.
 
-ghost use Rattle.std.specs.Prelude.{◌≡◌, ◌≤◌, length};
+ghost use Rattle.std.specs.Prelude.{◌≡◌, ◌≤◌, drop, length};
 ghost use Rattle.redcode_text.specs.Tokens.{piece_of, pieces};
-ghost use Rattle.redcode_lines.specs.Line.{behind_labels, dropped_while, has_text, is_name, is_name_token, is_no_comment, labels_of, line_word, names_among, tokens_from_word, word_at};
+ghost use Rattle.redcode_lines.specs.Line.{behind_labels, dropped_while, has_text, is_name, is_name_token, labels_of, line_word, names_among, tokens_from_word, word_at};
 ghost use Rattle.redcode_lines.specs.Capped.{has_and};
+ghost use Rattle.redcode_lines.specs.Operand.{operands_of, behind_modifier};
 ghost use Rattle.redcode_lines.specs.Views.{line_read};
 
+use crate::line::LineKind;
 use redcode_text::{Token, TokenKind, Word, word_of};
 
 /// What a line of the source is.
@@ -100,10 +102,9 @@ pub fn behind_names<'t, 's>(tokens: &'t [Token<'s>]) -> &'t [Token<'s>]
 pub fn word_at(token: &Token<'_>) -> Option<Word>
     ensures { result ≡ word_at (piece_of token.now) }
 {
-    if is_name(token) {
-        word_of(token.text)
-    } else {
-        None
+    match token.kind {
+        TokenKind::Name => word_of(token.text),
+        _ => None,
     }
 }
 
@@ -135,17 +136,37 @@ pub fn has_and(tokens: &[Token<'_>]) -> bool
     false
 }
 
-/// From the first comment on.
-pub(crate) fn comment_at_end<'t, 'l>(tokens: &'t [Token<'l>]) -> &'t [Token<'l>]
-    ensures comment { pieces result.now ≡ dropped_while is_no_comment (pieces tokens.entry.now) }
+/// The tokens of a line that are operands, or an expression.
+pub fn operands_of<'t, 's>(kind: LineKind, tokens: &'t [Token<'s>]) -> &'t [Token<'s>]
+    ensures operands { pieces result.now ≡ operands_of kind (pieces tokens.entry.now) }
     ensures short { length result.now ≤ length tokens.entry.now }
 {
-    let mut rest = tokens;
-    while let [first, behind @ ..] = rest {
-        if matches!(first.kind, TokenKind::Comment) {
-            break;
-        }
-        rest = behind;
+    match kind {
+        LineKind::Operation => behind_modifier(behind_first(tokens)),
+        LineKind::Org | LineKind::End => behind_first(tokens),
+        LineKind::Assert => tokens,
+        LineKind::Name | LineKind::Author | LineKind::Other => &[],
     }
-    rest
+}
+
+/// Behind an operation, a dot and the modifier's name that follows it.
+fn behind_modifier<'t, 's>(tokens: &'t [Token<'s>]) -> &'t [Token<'s>]
+    ensures behind { pieces result.now ≡ behind_modifier (pieces tokens.entry.now) }
+    ensures short { length result.now ≤ length tokens.entry.now }
+{
+    match tokens {
+        [first, behind @ ..] if has_text(first, b".") => behind_first(behind),
+        _ => tokens,
+    }
+}
+
+/// The tokens without the first.
+pub fn behind_first<'t, 's>(tokens: &'t [Token<'s>]) -> &'t [Token<'s>]
+    ensures behind { pieces result.now ≡ drop 1 (pieces tokens.entry.now) }
+    ensures short { length result.now ≤ length tokens.entry.now }
+{
+    match tokens {
+        [] => &[],
+        [_, behind @ ..] => behind,
+    }
 }

@@ -1,9 +1,21 @@
-//! The lines of a source.
+//! The lines of a source, and those that begin with a semicolon.
 
-ghost use Rattle.std.specs.Prelude.{◌≡◌, ◌+◌, ◌<◌, ◌≤◌, ◌∷◌, length};
-ghost use Rattle.redcode_lines.specs.Source.{lines_of, numbered_from, live_lines};
+ghost use Rattle.std.specs.Prelude.{◌≡◌, ◌+◌, ◌<◌, ◌≤◌, ◌∷◌, drop, length, IfSome};
+ghost use Rattle.std.specs.Option.{option_map};
+ghost use Rattle.redcode_lines.specs.Source.{begins, begins_alone, directive_of, lines_of, live_lines, numbered_from, remark_of, seen};
 
-use crate::directive::is_redcode;
+use redcode_text::{is_blank, is_word};
+
+/// What a line is that begins with a semicolon.
+#[derive(Clone, Copy, Debug, PartialEq, Eq)]
+pub enum Directive {
+    Redcode,
+    Name,
+    Author,
+    Assert,
+    /// A comment.
+    Remark,
+}
 
 /// The number of the first line that is read, and the source from there on: where there is a `;redcode` line, all
 /// before the first one is ignored.
@@ -17,7 +29,7 @@ pub fn live_source(source: &[u8]) -> (u32, &[u8])
     let mut number = 1;
     while !rest.is_empty() {
         let (line, behind) = first_line(rest);
-        if is_redcode(line) {
+        if matches!(directive_of(line), Some((Directive::Redcode, _))) {
             return (number, rest);
         }
         rest = behind;
@@ -39,4 +51,69 @@ pub fn first_line(source: &[u8]) -> (&[u8], &[u8])
         }
     }
     source.split_at(source.len())
+}
+
+/// The directive of a line that begins with a semicolon, whatever blanks stand before it, and the text behind its word.
+pub fn directive_of(line: &[u8]) -> Option<(Directive, &[u8])>
+    ensures found { option_map seen result ≡ directive_of line.entry.now }
+    ensures short { IfSome result (λ found. length found.1.now ≤ length line.entry.now) }
+{
+    let mut rest = line;
+    while let [first, behind @ ..] = rest {
+        if *first == b';' {
+            return Some(remark_of(behind));
+        }
+        if !is_blank(*first) {
+            break;
+        }
+        rest = behind;
+    }
+    None
+}
+
+/// What stands behind the semicolon: `redcode`, whatever follows, or `name`, `author` or `assert` and then a blank or
+/// the end of the line. Letter case is one.
+fn remark_of(text: &[u8]) -> (Directive, &[u8])
+    ensures found { seen result ≡ remark_of text.entry.now }
+    ensures short { length result.1.now ≤ length text.entry.now }
+{
+    if begins(b"redcode", text) {
+        (Directive::Redcode, &[])
+    } else if begins_alone(b"name", text) {
+        (Directive::Name, behind(4, text))
+    } else if begins_alone(b"author", text) {
+        (Directive::Author, behind(6, text))
+    } else if begins_alone(b"assert", text) {
+        (Directive::Assert, behind(6, text))
+    } else {
+        (Directive::Remark, &[])
+    }
+}
+
+fn begins_alone(word: &[u8], text: &[u8]) -> bool
+    ensures { result ≡ begins_alone word.now text.now }
+{
+    begins(word, text)
+        && match text.get(word.len()) {
+            Some(byte) => is_blank(*byte),
+            None => true,
+        }
+}
+
+fn begins(word: &[u8], text: &[u8]) -> bool
+    ensures { result ≡ begins word.now text.now }
+{
+    is_word(word, &text[..text.len().min(word.len())])
+}
+
+/// The text without so many bytes at its front.
+fn behind(bytes: usize, text: &[u8]) -> &[u8]
+    ensures behind { result.now ≡ drop bytes text.entry.now }
+    ensures short { length result.now ≤ length text.entry.now }
+{
+    if bytes < text.len() {
+        &text[bytes..]
+    } else {
+        &[]
+    }
 }

@@ -8,10 +8,9 @@ ghost use Rattle.redcode_lines.specs.Capped.{capped, is_limited};
 ghost use Rattle.redcode_lines.specs.Block.{depth_behind, directive_line, ends_block, line_by, parsed, source_lines, AreFromRof};
 ghost use Rattle.redcode_lines.specs.declared.reading.LineForm.TheVariants.{Assert};
 
-use crate::directive::{Directive, directive_of};
-use crate::reading::{LineForm, Reading, comment_at_end, from_word, has_and};
-use crate::source::first_line;
-use redcode_text::{Token, Word, scan};
+use crate::reading::{LineForm, Reading, from_word, has_and};
+use crate::source::{Directive, directive_of, first_line};
+use redcode_text::{Token, TokenKind, Word, scan};
 use std::alloc::{AllocError, Allocator};
 use std::marker::Model;
 
@@ -73,8 +72,8 @@ impl<'s, A: Allocator> SourceLine<'s, A> {
     fn capped(mut self) -> Self
         ensures { result ≡ capped self.entry }
     {
-        if self.is_capped() {
-            let most = self.front.saturating_add(MOST_TOKENS);
+        let most = self.front.saturating_add(MOST_TOKENS);
+        if self.tokens.len() > most && self.is_capped() {
             self.tokens.truncate(most);
         }
         self
@@ -176,7 +175,7 @@ fn append_directive<'s, A: Allocator + Copy>(
     Ok(())
 }
 
-/// The tokens of a line without the comment at its end.
+/// The tokens of a line without the comment at its end, which is its last token.
 fn statement_tokens<'s, A: Allocator + Copy>(
     alloc: A,
     line: &'s [u8],
@@ -185,8 +184,12 @@ fn statement_tokens<'s, A: Allocator + Copy>(
     ensures { IfOk result (λ tokens. pieces tokens.items ≡ statement_tokens line.entry.now) }
 {
     let mut tokens = scan(alloc, line)?;
-    let comment = comment_at_end(tokens.as_slice()).len();
-    tokens.truncate(tokens.len() - comment);
+    let Some(last) = tokens.as_slice().last() else {
+        return Ok(tokens);
+    };
+    if matches!(last.kind, TokenKind::Comment) {
+        tokens.pop();
+    }
     Ok(tokens)
 }
 

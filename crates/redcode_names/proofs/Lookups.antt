@@ -1,6 +1,6 @@
 -- The labels and the EQUs of a map.
 use Rattle.std.proofs.Common.{◌≡◌, ℕ, Vec, List, [], ◌∷◌, map, refl, arith}
-use Rattle.std.proofs.lemmas.List.{map-append}
+use Rattle.std.proofs.lemmas.List.{length-map, map-append}
 use Rattle.std.proofs.lemmas.List.Elements.{All-push}
 use Rattle.std.proofs.lemmas.Grind.{common_steps}
 use Rattle.std.specs.Map.{lookup}
@@ -41,3 +41,5 @@ bodies-seen (entry ∷ entries) = rw (bodies-seen entries) refl
 pub ruleset names = (lookup-address_of, lookup-is_equ, lookup-body_of, bodies-seen, insert_entry-new, map-append, slice_get-map)
 
 pub ruleset linking = (common_steps, map-append, All-push)
+
+pub ruleset none = (length-map)

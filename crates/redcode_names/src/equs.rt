@@ -16,8 +16,8 @@ use std::marker::Model;
 /// Names with the tokens that they stand for, in the order of their definition.
 #[derive(Drop)]
 pub struct Equs<'s, A: Allocator + Copy> {
-    alloc: A,
-    bodies: IndexMap<NameKey<'s>, Vec<Token<'s>, A>, NameHash, A>,
+    pub(crate) alloc: A,
+    pub(crate) bodies: IndexMap<NameKey<'s>, Vec<Token<'s>, A>, NameHash, A>,
 }
 
 impl<'s, A: Allocator + Copy> Model for Equs<'s, A> {
@@ -31,16 +31,6 @@ impl<'s, A: Allocator + Copy> Model for Equs<'s, A> {
 }
 
 impl<'s, A: Allocator + Copy> Equs<'s, A> {
-    /// No names.
-    pub(crate) fn new(alloc: A, hash: NameHash) -> Self
-        ensures { result ≡ [] }
-    {
-        Equs {
-            alloc,
-            bodies: IndexMap::with_hasher(alloc, hash),
-        }
-    }
-
     /// Whether a name is that of an EQU.
     pub(crate) fn is_equ(&self, name: &[u8]) -> bool
         ensures { result ≡ is_equ self.now name.now }

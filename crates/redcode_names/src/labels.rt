@@ -18,7 +18,7 @@ const GROWTH: usize = 7;
 /// Names with the addresses that they stand for, in the order of their definition.
 #[derive(Drop)]
 pub struct Labels<'s, A: Allocator + Copy> {
-    addresses: IndexMap<NameKey<'s>, u32, NameHash, A>,
+    pub(crate) addresses: IndexMap<NameKey<'s>, u32, NameHash, A>,
 }
 
 impl<'s, A: Allocator + Copy> Model for Labels<'s, A> {
@@ -30,15 +30,6 @@ impl<'s, A: Allocator + Copy> Model for Labels<'s, A> {
 }
 
 impl<'s, A: Allocator + Copy> Labels<'s, A> {
-    /// No labels.
-    pub(crate) fn new(alloc: A, hash: NameHash) -> Labels<'s, A>
-        ensures { result ≡ [] }
-    {
-        Labels {
-            addresses: IndexMap::with_hasher(alloc, hash),
-        }
-    }
-
     /// The address of the label of this name.
     pub fn address_of(&self, name: &[u8]) -> Option<u32>
         ensures { result ≡ address_of self.now name.now }

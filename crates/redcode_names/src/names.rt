@@ -1,6 +1,6 @@
 //! The names of a source, and the lines that define them.
 
-ghost use Rattle.std.specs.Prelude.{◌≡◌, [], option_map};
+ghost use Rattle.std.specs.Prelude.{◌≡◌, ◌↔◌, [], length, option_map, IsTrue};
 ghost use Rattle.redcode_names.specs.Gives.{Gives, fault_at};
 ghost use Rattle.redcode_text.specs.Tokens.{pieces};
 ghost use Rattle.redcode_lines.specs.Line.{names_among};
@@ -11,6 +11,7 @@ use crate::equs::Equs;
 use crate::labels::Labels;
 use crate::name::predefined;
 use crate::name_key::NameHash;
+use indexmap::IndexMap;
 use redcode_lines::{is_name, word_at};
 use redcode_text::Token;
 use std::alloc::Allocator;
@@ -38,9 +39,22 @@ impl<'s, A: Allocator + Copy> Names<'s, A> {
         ensures { result ≡ names_of [] [] }
     {
         Names {
-            labels: Labels::new(alloc, hash),
-            equs: Equs::new(alloc, hash),
+            labels: Labels {
+                addresses: IndexMap::with_hasher(alloc, hash),
+            },
+            equs: Equs {
+                alloc,
+                bodies: IndexMap::with_hasher(alloc, hash),
+            },
         }
+    }
+
+    /// Whether no `EQU` is among them.
+    #[tactic(auto, using(crate::proofs::Lookups::none))]
+    pub fn has_no_equs(&self) -> bool
+        ensures { IsTrue result ↔ (length self.now.equs ≡ 0) }
+    {
+        self.equs.bodies.is_empty()
     }
 
     /// Defines a label, whose name must be new.

@@ -4,7 +4,7 @@ use Rattle.std.specs.Borrow.{Bor}
 use Rattle.std.specs.Option.{option_map}
 use Rattle.redcode_text.specs.declared.token.Token.{Token}
 use Rattle.redcode_text.specs.Tokens.{Piece, pieces}
-use Rattle.redcode_statement.specs.declared.side.Sides.{Sides}
+use Rattle.redcode_statement.specs.declared.operand.Sides.{Sides}
 use Rattle.redcode_statement.specs.Sides.{SideTokens, side_tokens}
 
 -- a result with its value as a contract sees it

@@ -2,11 +2,10 @@
 
 ghost use Rattle.std.specs.Prelude.{◌≡◌, ◌<◌, IfOk};
 ghost use Rattle.redcode_text.specs.Tokens.{pieces};
-ghost use Rattle.redcode_statement.specs.Instruction.{is_immediate, by_modes, default_modifier, reduced, instr_of, modifier_named_at, modifier_at, instruction_of};
+ghost use Rattle.redcode_statement.specs.Instruction.{default_modifier, reduced, instr_of, modifier_named_at, modifier_at, instruction_of};
 ghost use Rattle.redcode_statement.specs.Views.{read, result_map};
 
-use crate::operand::{Operand, operand_of};
-use crate::side::sides_of;
+use crate::operand::{Operand, operand_of, sides_of};
 use redcode_lines::has_text;
 use redcode_text::{Names, Token, Word, modifier_named};
 use war_types::{AsmKind, Instr, Mode, Modifier, Op};
@@ -100,33 +99,15 @@ fn instr_of(
 fn default_modifier(op: Op, a: Mode, b: Mode) -> Modifier
     ensures { result ≡ default_modifier op a b }
 {
-    match op {
-        Op::Dat | Op::Nop => Modifier::F,
-        Op::Mov | Op::Seq | Op::Sne => by_modes(a, b, Modifier::AB, Modifier::B, Modifier::I),
-        Op::Add | Op::Sub | Op::Mul | Op::Div | Op::Mdl => {
-            by_modes(a, b, Modifier::AB, Modifier::B, Modifier::F)
-        }
-        Op::Slt => by_modes(a, b, Modifier::AB, Modifier::B, Modifier::B),
-        Op::Jmp | Op::Jmz | Op::Jmn | Op::Djn | Op::Spl => Modifier::B,
+    match (op, a, b) {
+        (Op::Dat | Op::Nop, _, _) => Modifier::F,
+        (Op::Jmp | Op::Jmz | Op::Jmn | Op::Djn | Op::Spl, _, _) => Modifier::B,
+        (_, Mode::Immediate, _) => Modifier::AB,
+        (_, _, Mode::Immediate) => Modifier::B,
+        (Op::Mov | Op::Seq | Op::Sne, _, _) => Modifier::I,
+        (Op::Add | Op::Sub | Op::Mul | Op::Div | Op::Mdl, _, _) => Modifier::F,
+        (Op::Slt, _, _) => Modifier::B,
     }
-}
-
-fn by_modes(a: Mode, b: Mode, at_a: Modifier, at_b: Modifier, elsewhere: Modifier) -> Modifier
-    ensures { result ≡ by_modes a b at_a at_b elsewhere }
-{
-    if is_immediate(a) {
-        at_a
-    } else if is_immediate(b) {
-        at_b
-    } else {
-        elsewhere
-    }
-}
-
-fn is_immediate(mode: Mode) -> bool
-    ensures { result ≡ is_immediate mode }
-{
-    matches!(mode, Mode::Immediate)
 }
 
 /// A number as an address of a core of so many cells.

@@ -1,8 +1,8 @@
 //! What the word of a line and the tokens behind it say, and how the line of an instruction is written.
 //!
-//! Data passes through the modules in this order: `side` parts the operands at the commas; `operand` reads a mode and the value
-//! of an expression; `instruction` puts these together, or answers the first fault; `statement` says what an `ORG`, an `END` and
-//! an assertion say. The way back is `line`, which writes an instruction.
+//! Data passes through the modules in this order: `operand` parts the operands at the commas and reads of each a mode and the
+//! value of an expression; `instruction` puts these together, or answers the first fault; `statement` says what an `ORG`, an `END`
+//! and an assertion say. The way back is `line`, which writes an instruction.
 //!
 //! The main clauses: `instruction_of` and the statements are the definitions of `Instruction` and `Statement` in `specs`, in terms
 //! of what the names stand for, and `append_line` appends the text of `InstrLine`.
@@ -11,7 +11,6 @@
 mod instruction;
 mod line;
 mod operand;
-mod side;
 mod statement;
 
 pub use instruction::instruction_of;

@@ -5,7 +5,7 @@ ghost use Rattle.std.specs.List.{list_any};
 ghost use Rattle.redcode_text.specs.Tokens.{pieces};
 ghost use Rattle.redcode_statement.specs.Statement.{is_bad, is_bad_kind, single_value, value_or_missing, org_said, end_said, assert_said, other_said};
 
-use crate::side::at_comma;
+use crate::operand::at_comma;
 use redcode_text::{Names, Token, TokenKind, Word, value};
 use war_types::{AsmKind, Instr};
 

@@ -47,13 +47,13 @@ fn is_line(
     i: usize,
     row: &Row,
 ) -> Result<bool, Fail> {
-    let Some(line) = expanded.lines().get(i) else {
+    let Some(entry) = expanded.entries().get(i) else {
         return Ok(false);
     };
-    if !is_place(line, row) || expanded.title(i) != row.3 {
+    if !is_place(&entry.line, row) || entry.title != row.3 {
         return Ok(false);
     }
-    let tokens = texts(alloc, expanded.tokens(i)?.as_slice())?;
+    let tokens = texts(alloc, entry.tokens.as_slice())?;
     Ok(tokens.as_slice() == row.4)
 }
 
@@ -62,7 +62,7 @@ fn are_lines(alloc: Global, source: &[u8], rows: &[Row]) -> Result<bool, Fail> {
     let settings = defaults()?;
     let region = Bump::new(alloc);
     let expanded = expand(alloc, &region, source, &settings)?;
-    if expanded.lines().len() != rows.len() {
+    if expanded.entries().len() != rows.len() {
         return Ok(false);
     }
     for (i, row) in rows.iter().enumerate() {

@@ -52,9 +52,11 @@ fn has_code(
 
 /// Whether these are the lines and the labels of `COPIED`.
 fn are_copies(expanded: &Expanded<'_, &Refusing<Global>>) -> bool {
-    let lines = expanded.lines();
-    lines.len() == 3
-        && lines.iter().all(|line| line.kind == LineKind::Operation)
+    let entries = expanded.entries();
+    entries.len() == 3
+        && entries
+            .iter()
+            .all(|entry| entry.line.kind == LineKind::Operation)
         && expanded.label(b"a01") == Some(0)
         && expanded.label(b"a02") == Some(1)
         && expanded.label(b"a03").is_none()
@@ -162,35 +164,18 @@ fn have_texts(tokens: &[Token<'_>], texts: &[&[u8]]) -> bool {
             .all(|(token, text)| token.text == *text)
 }
 
-/// Whether the first line has the tokens of the line of `NAMED`, or how that fails.
-fn is_replaced(expanded: &Expanded<'_, &Refusing<Global>>) -> Result<bool, AsmFault> {
-    let Some(_) = expanded.lines().get(0) else {
-        return Ok(false);
-    };
-    let tokens = expanded.tokens(0)?;
-    Ok(have_texts(tokens.as_slice(), &REPLACED))
-}
-
-/// The tokens of one line are asked for again and again: room for all of them at once.
-#[test]
-fn each_growth_of_the_tokens(rt: HostRuntime) -> Result<(), Fail> {
-    let memory = Refusing::new(rt.alloc());
-    let region = Bump::new(&memory);
-    let expanded = expand(&memory, &region, NAMED, &defaults()?)?;
-    let runs = refuse_each(&memory, |_k| {
-        let first = is_replaced(&expanded);
-        if was_refused(&rt, memory.refused(), first) {
-            assert_eq!(rt; is_replaced(&expanded), Ok(true));
-        }
-    });
-    assert_eq!(rt; runs, 2);
-    Ok(())
+/// Whether the first line has the tokens of the line of `NAMED`.
+fn is_replaced(expanded: &Expanded<'_, &Refusing<Global>>) -> bool {
+    match expanded.entries().first() {
+        Some(entry) => have_texts(entry.tokens.as_slice(), &REPLACED),
+        None => false,
+    }
 }
 
 /// Whether a line has this title.
 fn has_title(expanded: &Expanded<'_, &Refusing<Global>>, i: usize, title: &[u8]) -> bool {
-    match expanded.lines().get(i) {
-        Some(_) => expanded.title(i) == title,
+    match expanded.entries().get(i) {
+        Some(entry) => entry.title == title,
         None => false,
     }
 }
@@ -211,11 +196,13 @@ fn what_takes_no_memory(rt: HostRuntime) -> Result<(), Fail> {
     let memory = Refusing::new(rt.alloc());
     let region = Bump::new(&memory);
     let copies = expand(&memory, &region, COPIED, &settings)?;
+    let named = expand(&memory, &region, NAMED, &settings)?;
     let titled = expand(&memory, &region, TITLED, &settings)?;
     let tokens = scan(&memory, b"1+2*3==7 && !0")?;
     let code = Vec::from_slice(&memory, &[direct(Op::Mov, Modifier::I, 0, 1)])?;
     memory.refuse(0, u64::MAX);
     assert!(rt; are_copies(&copies));
+    assert!(rt; is_replaced(&named));
     assert!(rt; has_title(&copies, 0, b""));
     assert!(rt; has_title(&titled, 0, b" Imp"));
     assert!(rt; has_title(&titled, 1, b" A. K. Dewdney"));

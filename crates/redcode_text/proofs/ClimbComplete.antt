@@ -2,8 +2,8 @@
 use Rattle.std.proofs.Common.{◌≡◌, ℕ, zero, suc, ◌≤◌, true, false, List, [], ◌∷◌, ◌++◌, Some, None, refl, sym, ap, ◌∙◌, subst, arith, append_assoc, append-nil, ne_eqb, eq-eqb}
 use Rattle.std.specs.Prelude.{◌==◌}
 use Rattle.redcode_text.specs.declared.operator.Operator.{Operator}
-use Rattle.redcode_text.specs.declared.part.Part.{Part}
-use Rattle.redcode_text.specs.declared.part.Part.TheVariants as parts
+use Rattle.redcode_text.specs.declared.expression.Part.{Part}
+use Rattle.redcode_text.specs.declared.expression.Part.TheVariants as parts
 use Rattle.redcode_text.specs.Operators.{Value, rank_of, applied, negated, denied}
 use Rattle.redcode_text.specs.Climbing.{Found, Climbs, Start, Begin, Continue, next_at, behind_close, under, signed_found, with_close, enclosed, is_refused}
 use Rattle.redcode_text.specs.Climbing as climbs

@@ -1,8 +1,8 @@
 -- The steps of the code are steps of the climb.
 use Rattle.std.proofs.Common.{◌≡◌, ◌≢◌, ℕ, zero, suc, ◌-◌, ◌≤◌, true, List, [], ◌∷◌, length, Option, Some, None, ℤ, refl, arith}
 use Rattle.redcode_text.specs.declared.operator.Operator.{Operator}
-use Rattle.redcode_text.specs.declared.part.Part.{Part}
-use Rattle.redcode_text.specs.declared.part.Part.TheVariants as parts
+use Rattle.redcode_text.specs.declared.expression.Part.{Part}
+use Rattle.redcode_text.specs.declared.expression.Part.TheVariants as parts
 use Rattle.redcode_text.specs.declared.token.Token.{Token}
 use Rattle.redcode_text.specs.Operators.{Value}
 use Rattle.redcode_text.specs.Climbing.{Found, Climbs, Start, Begin, Continue, first_of, next_at, under, signed_found, enclosed, is_refused, parts_of}

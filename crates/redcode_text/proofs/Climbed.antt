@@ -2,7 +2,7 @@
 use Rattle.std.proofs.Common.{◌≡◌, ℕ, zero, ◌≤◌, false, List, [], ◌∷◌, length, Option, Some, None, Err, ℤ, refl, sym, ap, ◌∙◌, arith, append-nil}
 use Rattle.std.proofs.lemmas.List.{length-map}
 use Rattle.war_types.specs.declared.fault.ExprFault.TheVariants as faults
-use Rattle.redcode_text.specs.declared.part.Part.{Part}
+use Rattle.redcode_text.specs.declared.expression.Part.{Part}
 use Rattle.redcode_text.specs.declared.token.Token.{Token}
 use Rattle.redcode_text.specs.Tokens.{pieces}
 use Rattle.redcode_text.specs.Operators.{Value}

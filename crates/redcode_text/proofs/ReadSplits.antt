@@ -2,8 +2,8 @@
 use Rattle.std.proofs.Common.{◌≡◌, ℕ, zero, suc, ◌≤◌, true, false, List, [], ◌∷◌, ◌++◌, length, Option, Some, None, refl, sym, ap, ◌∙◌, subst, arith, append_assoc, append-nil, length-append}
 use Rattle.redcode_text.specs.declared.operator.Operator.{Operator}
 use Rattle.redcode_text.specs.declared.operator.Operator.TheVariants as operators
-use Rattle.redcode_text.specs.declared.part.Part.{Part}
-use Rattle.redcode_text.specs.declared.part.Part.TheVariants as parts
+use Rattle.redcode_text.specs.declared.expression.Part.{Part}
+use Rattle.redcode_text.specs.declared.expression.Part.TheVariants as parts
 use Rattle.redcode_text.specs.Operators.{Value, rank_of}
 use Rattle.redcode_text.specs.Value.{Split, behind, looser, split_from, onto, closed, value_within}
 use Rattle.redcode_text.proofs.Reading.{Reads}

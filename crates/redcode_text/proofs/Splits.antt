@@ -3,8 +3,8 @@ use Rattle.std.proofs.Common.{◌≡◌, ℕ, zero, suc, ◌<◌, ◌≤◌, Boo
 use Rattle.std.specs.Prelude.{pred, nat_le}
 use Rattle.std.proofs.lemmas.Bool.{cases_Bool, leb-true, leb-false}
 use Rattle.redcode_text.specs.declared.operator.Operator.{Operator}
-use Rattle.redcode_text.specs.declared.part.Part.{Part}
-use Rattle.redcode_text.specs.declared.part.Part.TheVariants as parts
+use Rattle.redcode_text.specs.declared.expression.Part.{Part}
+use Rattle.redcode_text.specs.declared.expression.Part.TheVariants as parts
 use Rattle.redcode_text.specs.Operators.{rank_of}
 use Rattle.redcode_text.specs.Value.{Split, behind, looser, split_from}
 

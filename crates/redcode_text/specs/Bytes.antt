@@ -1,5 +1,5 @@
 -- What a byte may be in a line.
-use Rattle.std.specs.Prelude.{ℕ, Bool, ◌||◌, ◌&&◌, ◌==◌, nat_le, codes}
+use Rattle.std.specs.Prelude.{ℕ, Bool, true, false, ◌||◌, ◌&&◌, ◌==◌, nat_le, codes}
 use Rattle.std.specs.List.{list_any}
 
 abbrev pub is_digit : ℕ → Bool
@@ -12,6 +12,11 @@ is_letter b = nat_le 65 b && nat_le b 90 || (nat_le 97 b && nat_le b 122 || b ==
 -- what a name goes on with
 abbrev pub is_name_byte : ℕ → Bool
 is_name_byte b = is_letter b || is_digit b
+
+-- what a name goes on with, or without letters a number
+abbrev pub goes_on : Bool → ℕ → Bool
+goes_on true b = is_name_byte b
+goes_on false b = is_digit b
 
 -- the symbols of one byte
 abbrev pub is_symbol : ℕ → Bool

@@ -4,8 +4,8 @@ use Rattle.std.specs.Option.{option_map}
 use Rattle.std.specs.Borrow.{Bor}
 use Rattle.redcode_text.specs.declared.operator.Operator.{Operator}
 use Rattle.redcode_text.specs.declared.operator.Operator.TheVariants as operators
-use Rattle.redcode_text.specs.declared.part.Part.{Part}
-use Rattle.redcode_text.specs.declared.part.Part.TheVariants as parts
+use Rattle.redcode_text.specs.declared.expression.Part.{Part}
+use Rattle.redcode_text.specs.declared.expression.Part.TheVariants as parts
 use Rattle.redcode_text.specs.declared.token.Token.{Token}
 use Rattle.redcode_text.specs.Tokens.{pieces}
 use Rattle.redcode_text.specs.Operators.{Value, rank_of, applied, negated, denied}
@@ -23,9 +23,6 @@ found names result = option_map (λ f. (f.0, parts_of names f.1.now)) result
 
 abbrev pub next : (List ℕ → Option ℤ) → Operator × Bor (List Token) → Operator × List Part
 next names f = (f.0, parts_of names f.1.now)
-
-abbrev pub first : (List ℕ → Option ℤ) → Part × Bor (List Token) → Part × List Part
-first names f = (f.0, parts_of names f.1.now)
 
 abbrev pub first_of : List Part → Option (Part × List Part)
 first_of [] = None

@@ -111,8 +111,3 @@ tokens_of line = tokens_after (length line) 0 line
 -- the same without their places
 abbrev pub pieces_of : List ℕ → List Piece
 pieces_of line = map without_place (tokens_of line)
-
--- the bytes are none, or begin with a token
-abbrev pub IsAtToken : List ℕ → Type 0
-IsAtToken [] = Unit {0}
-IsAtToken (b ∷ bs) = is_blank b ≡ false

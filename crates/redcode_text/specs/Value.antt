@@ -5,8 +5,8 @@ use Rattle.std.specs.Str.{bytes_eq}
 use Rattle.war_types.specs.declared.fault.ExprFault.TheVariants as faults
 use Rattle.redcode_text.specs.declared.operator.Operator.{Operator}
 use Rattle.redcode_text.specs.declared.operator.Operator.TheVariants as operators
-use Rattle.redcode_text.specs.declared.part.Part.{Part}
-use Rattle.redcode_text.specs.declared.part.Part.TheVariants as parts
+use Rattle.redcode_text.specs.declared.expression.Part.{Part}
+use Rattle.redcode_text.specs.declared.expression.Part.TheVariants as parts
 use Rattle.redcode_text.specs.declared.token.TokenKind.{TokenKind}
 use Rattle.redcode_text.specs.declared.token.TokenKind.TheVariants as kinds
 use Rattle.redcode_text.specs.Tokens.{Piece}

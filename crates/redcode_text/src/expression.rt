@@ -3,15 +3,31 @@
 ghost use Rattle.std.specs.Prelude.{◌≡◌, ◌≤◌, ◌<◌, ℕ, List, length, Option, IfSome, ℤ};
 ghost use Rattle.std.specs.Option.{option_map};
 ghost use Rattle.redcode_text.specs.Operators.{denied};
-ghost use Rattle.redcode_text.specs.Tokens.{pieces};
-ghost use Rattle.redcode_text.specs.Value.{value_of};
-ghost use Rattle.redcode_text.specs.Climbing.{Climbs, Begin, parts_of, found, first, first_of, next, next_at, under, signed_found, enclosed};
+ghost use Rattle.redcode_text.specs.Tokens.{piece_of, pieces};
+ghost use Rattle.redcode_text.specs.Value.{symbols, listed, known, number_value, part_of, value_of};
+ghost use Rattle.redcode_text.specs.Climbing.{Climbs, Begin, parts_of, found, next, next_at, under, signed_found, enclosed};
 
 use crate::names::Names;
 use crate::operator::{Operator, Value, applied, denied, negated, rank_of};
-use crate::part::{Part, part_of};
-use crate::token::Token;
+use crate::token::{Token, TokenKind};
 use war_types::ExprFault;
+
+/// What a token is in an expression.
+#[derive(Clone, Copy, Debug)]
+enum Part {
+    /// A number or a name, with its value.
+    Operand(Value),
+    /// `(`
+    Open,
+    /// `)`
+    Close,
+    /// `!`
+    Not,
+    /// An operator between two operands; `+` and `-` may stand before one.
+    Operator(Operator),
+    /// No part of any expression.
+    Other,
+}
 
 /// A value at the front of tokens, and the tokens behind it.
 type Found<'t, 'l> = Option<(Value, &'t [Token<'l>])>;
@@ -62,7 +78,10 @@ fn operand<'t, 'l, N: Names>(tokens: &'t [Token<'l>], names: &N, depth: u8) -> F
     ensures climbs { Climbs 0 depth (Begin (parts_of (N.values names.now) tokens.entry.now)) (found (N.values names.now) result) }
     ensures shorter { IfSome result (λ f. length f.1.now ≤ length tokens.entry.now) }
 {
-    let (part, rest) = first_part(tokens, names)?;
+    let [first, rest @ ..] = tokens else {
+        return None;
+    };
+    let part = part_of(first, names);
     if let Part::Operand(value) = part {
         return Some((value, rest));
     }
@@ -75,20 +94,6 @@ fn operand<'t, 'l, N: Names>(tokens: &'t [Token<'l>], names: &N, depth: u8) -> F
         Part::Operator(sign) => behind_sign(sign, operand(rest, names, depth - 1)),
         _ => None,
     }
-}
-
-/// What the token at the front is, and the tokens behind it.
-fn first_part<'t, 'l, N: Names>(
-    tokens: &'t [Token<'l>],
-    names: &N,
-) -> Option<(Part, &'t [Token<'l>])>
-    ensures shorter { IfSome result (λ f. length f.1.now < length tokens.entry.now) }
-    ensures first { option_map (first (N.values names.now)) result ≡ first_of (parts_of (N.values names.now) tokens.entry.now) }
-{
-    let [first, behind @ ..] = tokens else {
-        return None;
-    };
-    Some((part_of(first, names), behind))
 }
 
 /// The operator of this rank at the front, and what is behind it.
@@ -137,8 +142,68 @@ fn before_close<'t, 'l, N: Names>(inner: Found<'t, 'l>, names: &N) -> Found<'t, 
     ensures value { found (N.values names.now) result ≡ enclosed (found (N.values names.now) inner.entry) }
 {
     let (value, rest) = inner?;
-    match first_part(rest, names)? {
-        (Part::Close, behind) => Some((value, behind)),
+    let [first, behind @ ..] = rest else {
+        return None;
+    };
+    match part_of(first, names) {
+        Part::Close => Some((value, behind)),
         _ => None,
     }
+}
+
+fn part_of<N: Names>(token: &Token<'_>, names: &N) -> Part
+    ensures { result ≡ part_of (N.values names.now) (piece_of token.now) }
+{
+    match token.kind {
+        TokenKind::Name => Part::Operand(known(names.value_of(token.text))),
+        TokenKind::Number => Part::Operand(number_value(token.text)),
+        TokenKind::Symbol => symbol_part(token.text),
+        TokenKind::Comment | TokenKind::Bad => Part::Other,
+    }
+}
+
+fn known(value: Option<i64>) -> Value
+    ensures { result ≡ known value }
+{
+    value.ok_or(ExprFault::UnknownName)
+}
+
+fn symbol_part(text: &[u8]) -> Part
+    ensures { result ≡ listed symbols text.now }
+{
+    match text {
+        b"(" => Part::Open,
+        b")" => Part::Close,
+        b"!" => Part::Not,
+        b"*" => Part::Operator(Operator::Times),
+        b"/" => Part::Operator(Operator::Divide),
+        b"%" => Part::Operator(Operator::Remainder),
+        b"+" => Part::Operator(Operator::Plus),
+        b"-" => Part::Operator(Operator::Minus),
+        b"<" => Part::Operator(Operator::Less),
+        b">" => Part::Operator(Operator::Greater),
+        b"<=" => Part::Operator(Operator::AtMost),
+        b">=" => Part::Operator(Operator::AtLeast),
+        b"==" => Part::Operator(Operator::Equal),
+        b"!=" => Part::Operator(Operator::NotEqual),
+        b"&&" => Part::Operator(Operator::And),
+        b"||" => Part::Operator(Operator::Or),
+        _ => Part::Other,
+    }
+}
+
+/// The number that digits stand for, which has to fit 64 bits with a sign.
+fn number_value(digits: &[u8]) -> Value
+    ensures { result ≡ number_value digits.now }
+{
+    const LARGEST: u64 = i64::MAX as u64;
+    let mut number = 0;
+    for digit in digits {
+        let unit = u64::from(digit.saturating_sub(b'0'));
+        if number > (LARGEST - unit) / 10 {
+            return Err(ExprFault::Overflow);
+        }
+        number = 10 * number + unit;
+    }
+    Ok(number as i64)
 }

@@ -2,10 +2,10 @@
 
 ghost use Rattle.std.specs.Prelude.{◌≡◌, ◌-◌, ◌<◌, ◌≤◌, List, ◌∷◌, [], length, IfOk, MatchOption};
 ghost use Rattle.std.specs.List.{prefix_len};
-ghost use Rattle.redcode_text.specs.Bytes.{is_digit, is_name_byte};
-ghost use Rattle.redcode_text.specs.Tokens.{ScannedPiece, IsAtToken, IsTokensOf, pieces, pieces_of, scanned_piece_of, scanned_pieces, tokens_after, tokens_of, begins_symbol, kind_at, rest_of_token};
+ghost use Rattle.war_types.specs.Title.{is_blank};
+ghost use Rattle.redcode_text.specs.Bytes.{is_letter, goes_on};
+ghost use Rattle.redcode_text.specs.Tokens.{ScannedPiece, IsTokensOf, pieces, pieces_of, scanned_piece_of, scanned_pieces, tokens_after, tokens_of, begins_symbol, kind_at, rest_of_token};
 
-use crate::byte::{are_symbol, is_blank, is_digit, is_letter, is_name_byte, is_symbol};
 use crate::token::{Token, TokenKind};
 use std::alloc::{AllocError, Allocator};
 
@@ -34,89 +34,69 @@ fn first_token(bytes: usize, end: &[u8]) -> Option<(Token<'_>, &[u8])>
     ensures { MatchOption result (tokens_after bytes 0 end.entry.now ≡ [])
         (λ found. (tokens_after bytes 0 end.entry.now ≡ scanned_piece_of found.0 ∷ tokens_after bytes 0 found.1.now) × (length found.1.now < length end.entry.now)) }
 {
-    let text = after_blanks(bytes, end);
-    let [first, rest @ ..] = text else {
-        return None;
-    };
-    let kind = kind_at(*first, rest);
-    let at = (bytes - text.len()) as u32;
-    let (text, behind) = text.split_at(1 + rest_of_token(*first, rest));
-    Some((Token { kind, text, at }, behind))
-}
-
-/// The end of a line of so many bytes, without the blanks in front.
-fn after_blanks(bytes: usize, end: &[u8]) -> &[u8]
-    ensures tokens { tokens_after bytes 0 result.now ≡ tokens_after bytes 0 end.entry.now }
-    ensures front { IsAtToken result.now }
-    ensures shorter { length result.now ≤ length end.entry.now }
-{
-    let mut rest = end;
-    while let [first, behind @ ..] = rest {
+    let mut text = end;
+    while let [first, rest @ ..] = text {
         if !is_blank(*first) {
-            break;
+            let (kind, more) = kind_and_rest(*first, rest);
+            let at = (bytes - text.len()) as u32;
+            let (text, behind) = text.split_at(1 + more);
+            return Some((Token { kind, text, at }, behind));
         }
-        rest = behind;
+        text = rest;
     }
-    rest
+    None
 }
 
-fn kind_at(first: u8, rest: &[u8]) -> TokenKind
-    ensures { result ≡ kind_at first rest.now }
+/// The kind of the token that begins with `first`, and how many bytes of `rest` belong to it.
+fn kind_and_rest(first: u8, rest: &[u8]) -> (TokenKind, usize)
+    ensures kind { result.0 ≡ kind_at first rest.now }
+    ensures rest { result.1 ≡ rest_of_token first rest.now }
+    ensures within { result.1 ≤ length rest.now }
 {
     match first {
-        _ if is_letter(first) => TokenKind::Name,
-        _ if is_digit(first) => TokenKind::Number,
-        b';' => TokenKind::Comment,
-        _ if begins_symbol(first, rest) || is_symbol(first) => TokenKind::Symbol,
-        _ => TokenKind::Bad,
+        _ if is_letter(first) => (TokenKind::Name, word_length(rest, true)),
+        _ if first.is_ascii_digit() => (TokenKind::Number, word_length(rest, false)),
+        b';' => (TokenKind::Comment, rest.len()),
+        _ if begins_symbol(first, rest) => (TokenKind::Symbol, 1),
+        _ if b".,:&!<>+-*/%()#$@{}".contains(&first) => (TokenKind::Symbol, 0),
+        _ => (TokenKind::Bad, 0),
     }
 }
 
-/// How many bytes of `rest` belong to the token that begins with `first`.
-fn rest_of_token(first: u8, rest: &[u8]) -> usize
-    ensures value { result ≡ rest_of_token first rest.now }
-    ensures within { result ≤ length rest.now }
-{
-    match first {
-        _ if is_letter(first) => name_length(rest),
-        _ if is_digit(first) => number_length(rest),
-        b';' => rest.len(),
-        _ if begins_symbol(first, rest) => 1,
-        _ => 0,
-    }
-}
-
-/// How many bytes of a name there are at the front.
-fn name_length(bytes: &[u8]) -> usize
-    ensures value { result ≡ prefix_len is_name_byte bytes.now }
-    ensures within { result ≤ length bytes.now }
-{
-    for (i, byte) in bytes.iter().enumerate() {
-        if !is_name_byte(*byte) {
-            return i;
-        }
-    }
-    bytes.len()
-}
-
-/// How many digits there are at the front.
-fn number_length(bytes: &[u8]) -> usize
-    ensures value { result ≡ prefix_len is_digit bytes.now }
-    ensures within { result ≤ length bytes.now }
-{
-    for (i, byte) in bytes.iter().enumerate() {
-        if !is_digit(*byte) {
-            return i;
-        }
-    }
-    bytes.len()
-}
-
+/// Whether a symbol of two bytes is at the front: `&&`, `||`, or an `=` behind one of `!`, `<`, `=` and `>`.
 fn begins_symbol(first: u8, rest: &[u8]) -> bool
     ensures { result ≡ begins_symbol first rest.now }
 {
     match rest {
         [] => false,
-        [second, ..] => are_symbol(first, *second),
+        [b'=', ..] => b"!<=>".contains(&first),
+        [second, ..] => first == *second && (first == b'&' || first == b'|'),
     }
+}
+
+/// How many bytes at the front go on a name, or without `letters` a number.
+fn word_length(bytes: &[u8], letters: bool) -> usize
+    ensures value { result ≡ prefix_len (goes_on letters) bytes.now }
+    ensures within { result ≤ length bytes.now }
+{
+    for (i, byte) in bytes.iter().enumerate() {
+        if !(byte.is_ascii_digit() || letters && is_letter(*byte)) {
+            return i;
+        }
+    }
+    bytes.len()
+}
+
+/// What a name begins with.
+fn is_letter(byte: u8) -> bool
+    ensures { result ≡ is_letter byte }
+{
+    byte.is_ascii_alphabetic() || byte == b'_'
+}
+
+/// A space, a tab or a carriage return.
+pub fn is_blank(byte: u8) -> bool
+    ensures { result ≡ is_blank byte }
+{
+    byte == b' ' || byte == b'\t' || byte == b'\r'
 }

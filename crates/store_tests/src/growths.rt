@@ -192,11 +192,11 @@ fn growths() -> [(u64, [Reply; 4]); 5] {
     let (empty, loses) = (refused(0, AsmKind::Empty), placed(2, 2, 0));
     let (memory, disk) = (Reply::Memory, Reply::Disk);
     [
-        (9, [memory, first, empty, loses]),
+        (7, [memory, first, empty, loses]),
         (5, [disk; 4]),
-        (9, [first, memory, empty, loses]),
+        (7, [first, memory, empty, loses]),
         (4, [first, disk, disk, disk]),
-        (9, [first, second, empty, memory]),
+        (7, [first, second, empty, memory]),
     ]
 }
 

@@ -348,7 +348,7 @@ fn each_growth_of_a_submission(rt: HostRuntime) -> Result<(), Fail> {
         if memory.refused() == 0 {
             assert_eq!(rt; reply, placed(1, 1, 0));
             assert_eq!(rt; store.close().calls, 5 + 7);
-            assert_eq!(rt; k, 9);
+            assert_eq!(rt; k, 7);
             return Ok(());
         }
         assert_eq!(rt; reply, Reply::Memory);

@@ -1,8 +1,13 @@
 -- What the lines so far say, and what those left say, is what all say.
-use Rattle.std.proofs.Common.{◌≡◌, drop}
-use Rattle.redcode_asm.specs.Assembly.{all_said}
-use Rattle.redcode_asm.proofs.Steps.{with_front}
+use Rattle.std.proofs.Common.{◌≡◌, ◌++◌, List, Result, Ok, drop}
+use Rattle.war_types.specs.declared.fault.AsmFault.{AsmFault}
+use Rattle.redcode_statement.specs.Chain.{◌>>=◌}
+use Rattle.redcode_asm.specs.Assembly.{Placed, all_said}
 use Rattle.redcode_asm.proofs.assembler.all_said.Given as goal
 
-abbrev pub invariant-loop-i : goal.invariant-loop-i
-invariant-loop-i g l = with_front l.all.items (all_said l.settings l.expanded.labels (drop l.i l.expanded.lines)) ≡ all_said l.settings l.expanded.labels l.expanded.lines
+-- what was said before, and what is still said
+abbrev pub with_front : List Placed → Result (List Placed) AsmFault → Result (List Placed) AsmFault
+with_front front said = said >>= λ others. Ok (front ++ others)
+
+abbrev pub invariant-loop-entry : goal.invariant-loop-entry
+invariant-loop-entry g l = with_front l.all.items (all_said l.settings l.expanded.labels (drop l.entry-index l.expanded.lines)) ≡ all_said l.settings l.expanded.labels l.expanded.lines

@@ -1,4 +1,5 @@
-use Rattle.std.proofs.Common.{◌≡◌, sym, suc, arith, add-one}
+use Rattle.std.proofs.Common.{◌≡◌, sym, suc, drop, arith, add-one}
+use Rattle.std.proofs.lemmas.Grind.{common_steps}
 use Rattle.redcode_text.specs.Climbing.{parts_of}
 use Rattle.redcode_text.specs.Climbing as climbs
 use Rattle.redcode_text.proofs.ClimbSteps.{empty_at, refused_at, part_at, inner_at, refused_on, ended_at}
@@ -41,29 +42,31 @@ climb-returns-clause-climbs g t c = elim c.loop-climbed-test.branch [
       rw whole at c.loop-climbed.invariant.0
 ]
 
-pub operand-returns-in_err-part-clause-climbs : goal.operand-returns-in_err-part-clause-climbs
-operand-returns-in_err-part-clause-climbs g t c = rw c.from_residual.ensures (empty_at c.in_err-part.ensures.first)
+pub operand-returns-in_default-clause-climbs : goal.operand-returns-in_default-clause-climbs
+operand-returns-in_default-clause-climbs g t c = empty_at (grind (arith, common_steps))
 
 pub operand-returns-in-Operand-clause-climbs : goal.operand-returns-in-Operand-clause-climbs
-operand-returns-in-Operand-clause-climbs g t c = part_at c.in_ok-part.ensures.first c.in-Operand.is climbs.operand
+operand-returns-in-Operand-clause-climbs g t c = part_at (grind (arith, common_steps)) c.in-Operand.is climbs.operand
 
 pub operand-returns-then-depth-eq0-clause-climbs : goal.operand-returns-then-depth-eq0-clause-climbs
-operand-returns-then-depth-eq0-clause-climbs g t c = refused_at c.in_ok-part.ensures.first c.in_default.not-Operand (λ k e. absurd (omega arith))
+operand-returns-then-depth-eq0-clause-climbs g t c =
+    refused_at {qs = parts_of (g.N.Names.values c.args.names.now) (drop 1 c.args.tokens.now)} (grind (arith, common_steps)) c.in_default-part.not-Operand (λ k e. absurd (omega arith))
 
 pub operand-returns-in-Open-clause-climbs : goal.operand-returns-in-Open-clause-climbs
 operand-returns-in-Open-clause-climbs g t c =
-    rw c.before_close.ensures.value (inner_at c.if-depth-eq0.false c.in_ok-part.ensures.first c.in-Open.is (climbs.parentheses c.climb.ensures.climbs))
+    rw c.before_close.ensures.value (inner_at c.if-depth-eq0.false (grind (arith, common_steps)) c.in-Open.is (climbs.parentheses c.climb.ensures.climbs))
 
 pub operand-returns-in-Not-clause-climbs : goal.operand-returns-in-Not-clause-climbs
 operand-returns-in-Not-clause-climbs g t c =
     rw (c.behind_not.ensures.value (g.N.Names.values c.args.names.now)) (
-    inner_at c.if-depth-eq0.false c.in_ok-part.ensures.first c.in-Not.is (climbs.negation c.operand.ensures.climbs))
+    inner_at c.if-depth-eq0.false (grind (arith, common_steps)) c.in-Not.is (climbs.negation c.operand.ensures.climbs))
 
 pub operand-returns-in-Operator-clause-climbs : goal.operand-returns-in-Operator-clause-climbs
 operand-returns-in-Operator-clause-climbs g t c =
     rw (c.behind_sign.ensures.value (g.N.Names.values c.args.names.now)) (
-    inner_at c.if-depth-eq0.false c.in_ok-part.ensures.first c.in-Operator.is (climbs.sign c.in-Operator.sign c.operand-in-Operator.ensures.climbs))
+    inner_at c.if-depth-eq0.false (grind (arith, common_steps)) c.in-Operator.is (climbs.sign c.in-Operator.sign c.operand-in-Operator.ensures.climbs))
 
-pub operand-returns-in_default-part-clause-climbs : goal.operand-returns-in_default-part-clause-climbs
-operand-returns-in_default-part-clause-climbs g t c =
-    refused_at c.in_ok-part.ensures.first c.in_default.not-Operand (λ k e. (c.in_default-part.not-Open, c.in_default-part.not-Not, c.in_default-part.not-Operator))
+pub operand-returns-in_default-part-2-clause-climbs : goal.operand-returns-in_default-part-2-clause-climbs
+operand-returns-in_default-part-2-clause-climbs g t c =
+    refused_at {qs = parts_of (g.N.Names.values c.args.names.now) (drop 1 c.args.tokens.now)} (grind (arith, common_steps)) c.in_default-part.not-Operand
+    (λ k e. (c.in_default-part-2.not-Open, c.in_default-part-2.not-Not, c.in_default-part-2.not-Operator))

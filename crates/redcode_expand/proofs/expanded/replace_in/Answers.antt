@@ -1,0 +1,11 @@
+use Rattle.std.proofs.lemmas.Grind.{common_steps}
+use Rattle.std.proofs.Common.{arith}
+use Rattle.std.proofs.lemmas.List.{length-map}
+use Rattle.redcode_expand.proofs.Unchanged.{line-same, line-over}
+use Rattle.redcode_expand.proofs.expanded.replace_in.Goals as goal
+
+pub returns-then-operands-gt-TOKEN_LIMIT : goal.returns-then-operands-gt-TOKEN_LIMIT
+returns-then-operands-gt-TOKEN_LIMIT g c = grind (arith, common_steps, line-over, length-map)
+
+pub returns-then-not-are_among : goal.returns-then-not-are_among
+returns-then-not-are_among g c = grind (arith, common_steps, line-same, length-map)
