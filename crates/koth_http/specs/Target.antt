@@ -1,0 +1,55 @@
+-- Which page the target of a request names.
+use Rattle.std.specs.Prelude.{⊤, ℕ, ◌<◌, ◌^◌, ◌==◌, nat_lt, Bool, ◌&&◌, if◌then◌else◌, List, ◌++◌, take, drop, Option, None, Some, codes, decimal}
+use Rattle.std.specs.List.{before_first, after_first}
+use Rattle.std.specs.Str.{byte, bytes_eq}
+use Rattle.std.specs.Str.Parse.{digits_value}
+use Rattle.koth_http.specs.declared.target.Page.{Page}
+use Rattle.koth_http.specs.declared.target.Page.TheVariants as pages
+
+-- how the target of a page is written
+unfoldable pub target_for : Page → List ℕ
+target_for pages.Hill = codes "/"
+target_for (pages.Round older younger round) =
+    codes "/replay/" ++ (decimal older ++ (codes "/" ++ (decimal younger ++ (codes "/" ++ decimal round))))
+
+-- a page whose numbers are in their ranges
+abbrev pub IsPage : Page → Type 0
+IsPage pages.Hill = ⊤
+IsPage (pages.Round older younger round) = (older < 2 ^ 64) × (younger < 2 ^ 64) × (round < 2 ^ 32)
+
+-- the number below the limit that is written so in decimal digits, without a sign and without a zero before the others
+unfoldable pub number_of : ℕ → List ℕ → Option ℕ
+number_of limit text =
+    let n = digits_value 10 text in
+    if nat_lt n limit && bytes_eq (decimal n) text then Some n else None
+
+abbrev pub is_slash : ℕ → Bool
+is_slash b = b == byte "/"
+
+abbrev pub is_question : ℕ → Bool
+is_question b = b == byte "?"
+
+-- a round, if there are its three numbers
+abbrev pub round_by : Option ℕ → Option ℕ → Option ℕ → Option Page
+round_by (Some older) (Some younger) (Some round) = Some (pages.Round older younger round)
+round_by older younger round = None
+
+-- the round that is written so: the entry numbers of the older warrior and of the younger, and the round, with a slash between two
+unfoldable pub round_of : List ℕ → Option Page
+round_of text =
+    let rest = after_first is_slash text in
+    round_by (number_of (2 ^ 64) (before_first is_slash text)) (number_of (2 ^ 64) (before_first is_slash rest)) (number_of (2 ^ 32) (after_first is_slash rest))
+
+-- the page of a target without a query
+unfoldable pub page_of : List ℕ → Option Page
+page_of path =
+    if bytes_eq path (codes "/") then Some pages.Hill else (
+    if bytes_eq (take 8 path) (codes "/replay/") then round_of (drop 8 path) else None)
+
+-- a target without its query
+abbrev pub path_of : List ℕ → List ℕ
+path_of target = before_first is_question target
+
+-- the page that a target names
+abbrev pub page_named : List ℕ → Option Page
+page_named target = page_of (path_of target)

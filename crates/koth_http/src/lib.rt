@@ -1,0 +1,29 @@
+//! What a browser asks of a hill, and what it is answered, as values.
+//!
+//! It knows bytes, and no hill, pages or sockets. The modules, in the order in which the data pass:
+//!
+//! - `visit`: the bytes of one connection;
+//! - `asked`: what they ask, once the head of a request is there;
+//! - `target`: which page a target names;
+//! - `refusal` and `response`: why there is no page, and the bytes of an answer.
+//!
+//! What `Visit::asked` says is stated of all bytes that came, so it is the same however they were cut. A whole head with at most 64 fields
+//! is answered as what its method and its target ask, by the grammar of HTTP/1.1. Nothing is said while the bytes may still become a head
+//! of at most 8,192 bytes, and each refusal has its reason; bytes that have two of them may be refused for either. A page has one target,
+//! but for the query, and the page of a target is read back from it. An answer is exactly its definition in `specs`, which tells the
+//! length of its body.
+//!
+//! Only the room of a visit and an answer take memory.
+#![tactic(auto)]
+
+mod asked;
+mod refusal;
+mod response;
+mod target;
+mod visit;
+
+pub use asked::Asked;
+pub use refusal::Refusal;
+pub use response::{page_response, refusal_response};
+pub use target::{Page, page_named};
+pub use visit::Visit;

@@ -1,0 +1,49 @@
+//! Why a browser gets no page.
+
+ghost use Rattle.std.specs.Prelude.{◌≡◌, codes, string_bytes};
+ghost use Rattle.koth_http.specs.Response.{refusal_line, refusal_sentence};
+
+/// Why a browser gets no page.
+#[derive(Clone, Copy, Debug, PartialEq, Eq)]
+pub enum Refusal {
+    /// What came is no request.
+    BadRequest,
+    /// The target is none of those that there are.
+    NotFound,
+    /// The target is one of those that there are, but its page is only read.
+    MethodNotAllowed,
+    /// The head has more than 8,192 bytes or more than 64 fields.
+    HeadTooLarge,
+    /// There is no memory for the page. The caller finds this.
+    Unavailable,
+}
+
+impl Refusal {
+    /// The first line of the answer, with the fields that it alone has.
+    pub(crate) fn line(self) -> &'static [u8]
+        ensures { result.now ≡ refusal_line self }
+    {
+        match self {
+            Refusal::BadRequest => b"HTTP/1.1 400 Bad Request\r\n",
+            Refusal::NotFound => b"HTTP/1.1 404 Not Found\r\n",
+            Refusal::MethodNotAllowed => {
+                b"HTTP/1.1 405 Method Not Allowed\r\nAllow: GET, HEAD\r\n"
+            }
+            Refusal::HeadTooLarge => b"HTTP/1.1 431 Request Header Fields Too Large\r\n",
+            Refusal::Unavailable => b"HTTP/1.1 503 Service Unavailable\r\n",
+        }
+    }
+
+    /// The sentence that tells people of it.
+    pub(crate) fn sentence(self) -> &'static [u8]
+        ensures { result.now ≡ refusal_sentence self }
+    {
+        match self {
+            Refusal::BadRequest => b"This is no request of HTTP.",
+            Refusal::NotFound => b"There is no such page.",
+            Refusal::MethodNotAllowed => b"A page can only be read.",
+            Refusal::HeadTooLarge => b"The head of this request is too large.",
+            Refusal::Unavailable => b"There is no memory for this page now.",
+        }
+    }
+}

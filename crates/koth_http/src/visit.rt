@@ -1,0 +1,59 @@
+//! The bytes of one connection, until what they ask is known.
+
+ghost use Rattle.std.specs.Prelude.{◌≡◌, ◌+◌, ◌≤◌, ◌++◌, [], length, IfOk};
+ghost use Rattle.koth_http.specs.Asked.{FindsAsked, IsAsked, most_bytes};
+
+use crate::asked::{Asked, MOST_BYTES, asked_in};
+use std::alloc::{AllocError, Allocator};
+use std::marker::Model;
+
+/// The bytes of one connection, from its first on.
+#[derive(Drop)]
+pub struct Visit<A: Allocator> {
+    bytes: Vec<u8, A>,
+}
+
+impl<A: Allocator> Model for Visit<A> {
+    ghost use Rattle.std.specs.Prelude.{◌≤◌, ℕ, List, length, vec_capacity};
+    ghost use Rattle.koth_http.specs.Asked.{most_bytes};
+
+    ghost Value = { List ℕ };
+
+    ghost view = { λ v. v.bytes.items };
+
+    ghost invariant = { λ v. (length v.bytes.items ≤ most_bytes) × (most_bytes ≤ vec_capacity v.bytes) };
+}
+
+impl<A: Allocator> Visit<A> {
+    /// No bytes yet, with room for all that may come. The error is want of memory.
+    pub fn new(alloc: A) -> Result<Visit<A>, AllocError>
+        ensures { IfOk result (λ v. v ≡ []) }
+    {
+        Ok(Visit {
+            bytes: Vec::with_capacity(alloc, MOST_BYTES)?,
+        })
+    }
+
+    /// How many more bytes it takes.
+    pub fn room(&self) -> usize
+        ensures { result + length self.now ≡ most_bytes }
+    {
+        MOST_BYTES - self.bytes.len()
+    }
+
+    /// Takes the bytes that came next. It needs no memory.
+    pub fn take(&mut self, bytes: &[u8])
+        requires { length self.old + length bytes.now ≤ most_bytes }
+        ensures { self.new ≡ self.old ++ bytes.now }
+    {
+        let _ = self.bytes.extend_from_slice(bytes);
+    }
+
+    /// What the bytes so far ask, or nothing while they may become a request. Whatever follows the head of a request is left alone.
+    pub fn asked(&self) -> Option<Asked>
+        ensures found { FindsAsked self.now result }
+        ensures said { IsAsked self.now result }
+    {
+        asked_in(self.bytes.as_slice())
+    }
+}
