@@ -22,17 +22,17 @@ use Rattle.koth_page.specs.Standing.{standing_heading, standing_row, standing_ro
 -- ---- texts all of whose bytes pass a test
 
 -- two of them, one after the other
-abbrev Pass : (ℕ → Bool) → List ℕ → Type 0
+abbrev pub Pass : (ℕ → Bool) → List ℕ → Type 0
 Pass p text = list_all p text ≡ true
 
-both : (p : ℕ → Bool) (xs ys : List ℕ) → Pass p xs → Pass p ys → Pass p (xs ++ ys)
+pub both : (p : ℕ → Bool) (xs ys : List ℕ) → Pass p xs → Pass p ys → Pass p (xs ++ ys)
 both p xs ys a b = list_all-append p xs ys ∙ and_from (list_all p xs) (list_all p ys) a b
 
-each : {X : Type 0} (p : ℕ → Bool) (f : X → List ℕ) → ((x : X) → Pass p (f x)) → (xs : List X) → Pass p (flat_map f xs)
+pub each : {X : Type 0} (p : ℕ → Bool) (f : X → List ℕ) → ((x : X) → Pass p (f x)) → (xs : List X) → Pass p (flat_map f xs)
 each p f h [] = refl
 each p f h (x ∷ xs) = both p (f x) (flat_map f xs) (h x) (each p f h xs)
 
-weaker : (p q : ℕ → Bool) → ((b : ℕ) → p b ≡ true → q b ≡ true) → (xs : List ℕ) → Pass p xs → Pass q xs
+pub weaker : (p q : ℕ → Bool) → ((b : ℕ) → p b ≡ true → q b ≡ true) → (xs : List ℕ) → Pass p xs → Pass q xs
 weaker p q h [] a = refl
 weaker p q h (x ∷ xs) a =
     let parts = and_parts (p x) (list_all p xs) a in
@@ -50,7 +50,7 @@ digits_pass p h (suc k) n acc a =
 harmless_digit : (d : ℕ) → d < 10 → is_harmless (digit_glyph false d) ≡ true
 harmless_digit d below = agree_below_at (λ d. is_harmless (digit_glyph false d)) (λ _. true) 10 d refl below
 
-harmless_decimal : (n : ℕ) → Pass is_harmless (decimal n)
+pub harmless_decimal : (n : ℕ) → Pass is_harmless (decimal n)
 unfolding digits
 harmless_decimal n = digits_pass is_harmless harmless_digit 64 n [] refl
 
@@ -94,16 +94,16 @@ harmless text = each is_harmless character_text harmless_character (characters t
 
 -- ---- every byte of a page is of ASCII
 
-abbrev Ascii : List ℕ → Type 0
+abbrev pub Ascii : List ℕ → Type 0
 Ascii text = list_all is_page_byte text ≡ true
 
-page_byte : (b : ℕ) → is_harmless b ≡ true → is_page_byte b ≡ true
+pub page_byte : (b : ℕ) → is_harmless b ≡ true → is_page_byte b ≡ true
 page_byte b h = or_left (is_printable b) (eqb b 10) (and_parts (is_printable b) (not (is_markup b)) h).0
 
-ascii_decimal : (n : ℕ) → Ascii (decimal n)
+pub ascii_decimal : (n : ℕ) → Ascii (decimal n)
 ascii_decimal n = weaker is_harmless is_page_byte page_byte (decimal n) (harmless_decimal n)
 
-ascii_escaped : (text : List ℕ) → Ascii (escaped text)
+pub ascii_escaped : (text : List ℕ) → Ascii (escaped text)
 ascii_escaped text = weaker is_harmless is_page_byte page_byte (escaped text) (harmless text)
 
 ascii_number_cell : (n : ℕ) → Ascii (number_cell n)

@@ -1,7 +1,7 @@
 mod Rows
-mod Steps
+pub mod Steps
 mod Escapes
-mod Ascii
+pub mod Ascii
 mod Nameless
-mod Markup
+pub mod Markup
 mod Seed

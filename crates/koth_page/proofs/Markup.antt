@@ -22,10 +22,10 @@ use Rattle.koth_page.proofs.Nameless.{entries_of-nameless, nameless_row, table_k
 
 -- ---- texts with the same markup
 
-abbrev Alike : List ℕ → List ℕ → Type 0
+abbrev pub Alike : List ℕ → List ℕ → Type 0
 Alike a b = markup_of a ≡ markup_of b
 
-both : (a b c d : List ℕ) → Alike a b → Alike c d → Alike (a ++ c) (b ++ d)
+pub both : (a b c d : List ℕ) → Alike a b → Alike c d → Alike (a ++ c) (b ++ d)
 both a b c d first second = filter-append is_markup a c ∙ ap₂ (λ (x y : List ℕ). x ++ y) first second ∙ sym (filter-append is_markup b d)
 
 each : {X : Type 0} (f g : X → List ℕ) (h : X → X) → ((x : X) → Alike (f x) (g (h x))) → (xs : List X) → Alike (flat_map f xs) (flat_map g (map h xs))
@@ -70,7 +70,7 @@ rounds_against_all-nameless k one = ap (λ es. against_by es k.results one) (sym
 -- ---- the parts of a page
 
 -- two names have no markup, either of them
-names : (name other : List ℕ) → Alike (escaped name) (escaped other)
+pub names : (name other : List ℕ) → Alike (escaped name) (escaped other)
 names name other = markup_of-escaped name ∙ sym (markup_of-escaped other)
 
 name_cells : (name other : List ℕ) → Alike (name_cell name) (name_cell other)

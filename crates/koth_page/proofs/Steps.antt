@@ -8,7 +8,7 @@ use Rattle.koth_hill.specs.declared.row.Row.{Row}
 use Rattle.koth_hill.specs.Table.{RowParts}
 
 -- a part after what is put
-put_behind : (start so_far part all now new : List ℕ) → now ≡ start ++ so_far → new ≡ now ++ part → all ≡ so_far ++ part → new ≡ start ++ all
+pub put_behind : (start so_far part all now new : List ℕ) → now ≡ start ++ so_far → new ≡ now ++ part → all ≡ so_far ++ part → new ≡ start ++ all
 put_behind start so_far part all now new is put more =
     put ∙ ap (λ l. l ++ part) is ∙ append_assoc start so_far part ∙ ap (λ l. start ++ l) (sym more)
 
@@ -45,7 +45,7 @@ row_at rows i row below is = ap row_parts is ∙ sym (get_or-map row_parts rows 
 pub below_parts : (rows : List Row) (i : ℕ) → i < length rows → i < length (rows_parts rows)
 below_parts rows i below = rw length-map below
 
-next_ranked : {X : Type 0} (f : ℕ × X → List ℕ) (first : ℕ) (xs : List X) (i : ℕ) (d : X) → i < length xs
+pub next_ranked : {X : Type 0} (f : ℕ × X → List ℕ) (first : ℕ) (xs : List X) (i : ℕ) (d : X) → i < length xs
     → flat_map f (enumerate_from first (take (suc i) xs)) ≡ flat_map f (enumerate_from first (take i xs)) ++ f (first + i, get_or xs i d)
 next_ranked f first [] i d below = absurd (omega (arith, below))
 next_ranked f first (x ∷ xs) zero d below =

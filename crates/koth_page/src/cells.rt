@@ -7,7 +7,8 @@ use crate::escape::put_escaped;
 use koth_protocol::Line;
 use std::alloc::{AllocError, Allocator};
 
-pub(crate) fn put_number<A: Allocator>(page: &mut Vec<u8, A>, number: u64) -> Result<(), AllocError>
+/// Puts a number in decimal digits.
+pub fn put_number<A: Allocator>(page: &mut Vec<u8, A>, number: u64) -> Result<(), AllocError>
     ensures { OnOk result (page.new.items ≡ page.old.items ++ decimal number) }
 {
     let mut digits = Line::new();

@@ -13,10 +13,7 @@ use std::alloc::{AllocError, Allocator};
 use std::str::Utf8Chunk;
 
 /// Puts a text that is no part of the page itself.
-pub(crate) fn put_escaped<A: Allocator>(
-    page: &mut Vec<u8, A>,
-    text: &[u8],
-) -> Result<(), AllocError>
+pub fn put_escaped<A: Allocator>(page: &mut Vec<u8, A>, text: &[u8]) -> Result<(), AllocError>
     ensures { OnOk result (page.new.items ≡ page.old.items ++ escaped text.now) }
 {
     for chunk in text.utf8_chunks() {

@@ -21,4 +21,6 @@ mod rounds;
 mod settings;
 mod standing;
 
+pub use cells::put_number;
+pub use escape::put_escaped;
 pub use page::hill_page;

@@ -1,0 +1,146 @@
+//! What a page says of its round in words.
+
+ghost use Rattle.std.specs.Prelude.{◌≡◌, ◌++◌, codes, decimal, length, OnOk};
+ghost use Rattle.koth_page.specs.Escape.{escaped};
+ghost use Rattle.koth_watch.specs.Heading.{cut_told, ending_text, outcome_text, round_told, sides_text, turns_told, warrior_text, warriors_text, whole_told, winner_text};
+
+use crate::parts::{OLDER_START, WARRIORS_END, YOUNGER_START};
+use koth_page::{put_escaped, put_number};
+use koth_replay::Replay;
+use mars_core::Outcome;
+use std::alloc::{AllocError, Allocator};
+use war_types::{Title, Warrior};
+
+/// Puts who fights whom.
+#[tactic(auto, unfolding(crate::specs::Heading::sides_text))]
+pub(crate) fn put_sides<A: Allocator, B: Allocator, C: Allocator>(
+    page: &mut Vec<u8, A>,
+    older: &Warrior<B>,
+    younger: &Warrior<C>,
+) -> Result<(), AllocError>
+    ensures { OnOk result (page.new.items ≡ page.old.items ++ sides_text older.now younger.now) }
+{
+    put_title(page, older.name())?;
+    page.extend_from_slice(b" against ")?;
+    put_title(page, younger.name())
+}
+
+/// Puts which round it is, counted from 0, and how it ended.
+#[tactic(auto, unfolding(crate::specs::Heading::ending_text))]
+pub(crate) fn put_ending<A: Allocator, B: Allocator, C: Allocator, D: Allocator>(
+    page: &mut Vec<u8, A>,
+    older: &Warrior<B>,
+    younger: &Warrior<C>,
+    round: u16,
+    replay: &Replay<D>,
+) -> Result<(), AllocError>
+    ensures { OnOk result (page.new.items ≡ page.old.items ++ ending_text older.now younger.now round replay.now) }
+{
+    put_round(page, round, replay.opening().core)?;
+    put_outcome(page, older, younger, replay.outcome())?;
+    put_turns_told(page, replay.is_cut(), replay.turns() as u64)
+}
+
+#[tactic(auto, unfolding(crate::specs::Heading::round_told))]
+fn put_round<A: Allocator>(page: &mut Vec<u8, A>, round: u16, core: u16) -> Result<(), AllocError>
+    ensures { OnOk result (page.new.items ≡ page.old.items ++ round_told round core) }
+{
+    page.extend_from_slice(b"<p>Round ")?;
+    put_number(page, u64::from(round) + 1)?;
+    page.extend_from_slice(b" in a core of ")?;
+    put_number(page, u64::from(core))?;
+    page.extend_from_slice(b" cells: ")
+}
+
+fn put_outcome<A: Allocator, B: Allocator, C: Allocator>(
+    page: &mut Vec<u8, A>,
+    older: &Warrior<B>,
+    younger: &Warrior<C>,
+    outcome: Outcome,
+) -> Result<(), AllocError>
+    ensures { OnOk result (page.new.items ≡ page.old.items ++ outcome_text older.now younger.now outcome) }
+{
+    match outcome {
+        Outcome::First => put_winner(page, older),
+        Outcome::Second => put_winner(page, younger),
+        Outcome::Tie => page.extend_from_slice(b"nobody won"),
+    }
+}
+
+#[tactic(auto, unfolding(crate::specs::Heading::winner_text))]
+fn put_winner<A: Allocator, B: Allocator>(
+    page: &mut Vec<u8, A>,
+    warrior: &Warrior<B>,
+) -> Result<(), AllocError>
+    ensures { OnOk result (page.new.items ≡ page.old.items ++ winner_text warrior.now) }
+{
+    put_title(page, warrior.name())?;
+    page.extend_from_slice(b" won")
+}
+
+/// Puts how many turns there are, or how many of them the page has.
+fn put_turns_told<A: Allocator>(
+    page: &mut Vec<u8, A>,
+    is_cut: bool,
+    turns: u64,
+) -> Result<(), AllocError>
+    ensures { OnOk result (page.new.items ≡ page.old.items ++ turns_told is_cut turns) }
+{
+    if is_cut {
+        put_cut_told(page, turns)
+    } else {
+        put_whole_told(page, turns)
+    }
+}
+
+fn put_cut_told<A: Allocator>(page: &mut Vec<u8, A>, turns: u64) -> Result<(), AllocError>
+    ensures { OnOk result (page.new.items ≡ page.old.items ++ cut_told turns) }
+{
+    page.extend_from_slice(b". The first ")?;
+    put_number(page, turns)?;
+    page.extend_from_slice(b" turns are here.</p>\n")?;
+    Ok(())
+}
+
+fn put_whole_told<A: Allocator>(page: &mut Vec<u8, A>, turns: u64) -> Result<(), AllocError>
+    ensures { OnOk result (page.new.items ≡ page.old.items ++ whole_told turns) }
+{
+    page.extend_from_slice(b" after ")?;
+    put_number(page, turns)?;
+    page.extend_from_slice(b" turns.</p>\n")?;
+    Ok(())
+}
+
+/// Puts both warriors with their authors.
+#[tactic(auto, unfolding(crate::specs::Heading::warriors_text))]
+pub(crate) fn put_warriors<A: Allocator, B: Allocator, C: Allocator>(
+    page: &mut Vec<u8, A>,
+    older: &Warrior<B>,
+    younger: &Warrior<C>,
+) -> Result<(), AllocError>
+    ensures { OnOk result (page.new.items ≡ page.old.items ++ warriors_text older.now younger.now) }
+{
+    page.extend_from_slice(OLDER_START)?;
+    put_warrior(page, older)?;
+    page.extend_from_slice(YOUNGER_START)?;
+    put_warrior(page, younger)?;
+    page.extend_from_slice(WARRIORS_END)
+}
+
+#[tactic(auto, unfolding(crate::specs::Heading::warrior_text))]
+fn put_warrior<A: Allocator, B: Allocator>(
+    page: &mut Vec<u8, A>,
+    warrior: &Warrior<B>,
+) -> Result<(), AllocError>
+    ensures { OnOk result (page.new.items ≡ page.old.items ++ warrior_text warrior.now) }
+{
+    put_title(page, warrior.name())?;
+    page.extend_from_slice(b"</b> by ")?;
+    put_title(page, warrior.author())
+}
+
+fn put_title<A: Allocator>(page: &mut Vec<u8, A>, title: &Title) -> Result<(), AllocError>
+    ensures { OnOk result (page.new.items ≡ page.old.items ++ escaped title.now) }
+{
+    put_escaped(page, title.bytes())
+}
