@@ -1,0 +1,4 @@
+mod Moments
+mod Steps
+mod Servings
+pub mod Told

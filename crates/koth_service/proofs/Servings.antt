@@ -1,0 +1,228 @@
+-- How a history goes on by a command.
+use Rattle.std.proofs.Common.{◌≡◌, ◌≢◌, ℕ, Bool, true, true≢false, List, [], ◌∷◌, ◌++◌, Option, None, Some, refl, sym, ap, subst, ◌∙◌, append_assoc, append-nil}
+use Rattle.sector_disk.specs.Facts.{DeviceFacts}
+use Rattle.koth_hill.specs.Kept.{Kept}
+use Rattle.hill_store.specs.Seen.{Seen}
+use Rattle.koth_protocol.specs.Commands.{Command, commands_from, commands_of, kept_source}
+use Rattle.koth_protocol.specs.Lines.{lines_from}
+use Rattle.koth_protocol.specs.Reading.{commands_met}
+use Rattle.koth_protocol.specs.declared.script.Met.{Met}
+use Rattle.koth_protocol.specs.declared.script.Met.TheVariants as met
+use Rattle.koth_session.specs.Sessions.{AreServed, IsLeftOff}
+use Rattle.koth_session.specs.Transcript.{Exchange, answer, command_in, hill_after, hill_next}
+use Rattle.koth_peers.specs.Inbox.{is_met}
+use Rattle.koth_peers.specs.Peer.{AnswersPeer, HasRead, IsPeer, Serves, command_due, command_of, is_due}
+use Rattle.koth_peers.specs.Peers.{Moves, MovesAt, ServesNext, Slots, is_due_in, peer_at, step_after}
+use Rattle.koth_peers.specs.declared.end.PeerEnd.{PeerEnd}
+use Rattle.koth_peers.specs.declared.end.PeerEnd.TheVariants as ends
+use Rattle.koth_peers.specs.declared.inbox.Inbox.{Inbox}
+use Rattle.koth_peers.specs.declared.peer.Peer.{Peer}
+use Rattle.koth_peers.specs.declared.peers.Step.{Step}
+use Rattle.koth_peers.specs.declared.peers.Step.TheVariants as steps
+use Rattle.koth_service.specs.Noted.{Noted, Stays}
+use Rattle.koth_service.specs.History.{Answers, Begins, Breaks, Happening, IsSafe, Moment, answered, instead, moment, noted, stored}
+use Rattle.koth_service.specs.Standing.{AreStanding, GoesOn, IsCutOff, StandsAfter, StandsAt}
+use Rattle.koth_service.proofs.Steps.{stays}
+use Rattle.koth_service.proofs.Moments.{IsSame, instead_other, instead_same, same, same_stands, standing_at}
+
+hill_append : (hill : Kept) (es fs : List Exchange) → hill_after hill (es ++ fs) ≡ hill_after (hill_after hill es) fs
+hill_append hill [] fs = refl
+hill_append hill (e ∷ es) fs = hill_append (hill_next hill e) es fs
+
+-- ---- the command that is due is the next one in what came
+
+next_of : (m : Met) (bytes : List ℕ) (others : List Command) → is_met m ≡ true → Begins (command_due m (kept_source bytes) ∷ []) (commands_met m bytes others)
+next_of met.Nothing bytes others is = absurd (true≢false (sym is))
+next_of met.Submit bytes others is = (others, refl)
+next_of met.Show bytes others is = (others, refl)
+next_of met.Quit bytes others is = ([], refl)
+next_of met.Bad bytes others is = (others, refl)
+
+module _ {A : Type 0} where
+  in_turn_at : (end : Option PeerEnd) (inbox : Inbox A) (closed : Bool) (came : List ℕ) (done : List Command) → is_due end (is_met inbox.due) ≡ true
+      → HasRead end inbox closed came done → Begins (done ++ command_due inbox.due (kept_source inbox.script.source) ∷ []) (commands_of came)
+  in_turn_at (Some end) inbox closed came done due read = absurd (true≢false (sym due))
+  in_turn_at None inbox closed came done due read =
+      let f = read.0.followed in
+      let others = commands_from f.source (lines_from f.line (inbox.waiting ++ [])) in
+      let here = next_of inbox.due inbox.script.source others due in
+      let command = command_due inbox.due (kept_source inbox.script.source) in (
+        here.0,
+        ap (λ l. commands_of l) (sym (append-nil came)) ∙ f.commands [] ∙ ap (λ l. done ++ l) here.1 ∙ sym (append_assoc done (command ∷ []) here.0),
+      )
+
+  in_turn : (peer : Peer A) (came : List ℕ) (done : List Command) → is_due_in (Some peer) ≡ true → IsPeer peer came done
+      → Begins (done ++ command_of peer ∷ []) (commands_of came)
+  in_turn peer came done due is = in_turn_at peer.end peer.inbox peer.closed came done due is.has_read
+
+module _ {D : Type 0} (facts : DeviceFacts D) where
+  -- ---- what a command makes of a moment
+
+  answered_other : (n : ℕ) (e : Exchange) (new : Seen D) (m : Moment D) (p : ℕ) → p ≢ n → IsSame m (answered n e new m) p
+  answered_other n e new m p other = record {
+    there_is = refl;
+    came_is = refl;
+    done_is = instead_other m.done n (m.done n ++ command_in e ∷ []) p other;
+    owed_is = instead_other m.owed n (m.owed n ++ answer m.now.hill e) p other;
+    went_is = refl;
+  }
+
+  -- no stop loses it
+  safe_answered : (n : ℕ) (e : Exchange) (new : Seen D) (m : Moment D) → AreServed facts m.now new (e ∷ []) → IsSafe facts m → IsSafe facts (answered n e new m)
+  safe_answered n e new m served safe = record {
+    hill = served.hill ∙ ap (λ (k : Kept). hill_after k (e ∷ [])) safe.hill ∙ sym (hill_append m.first.hill m.since (e ∷ []));
+    still = served.still ∙ safe.still;
+    lawful = λ is. served.kept.same_laws.1 (safe.lawful is);
+    reads = λ is open_still reads. served.reads (safe.lawful is) (safe.still ∙ open_still) (safe.reads is open_still reads);
+  }
+
+  -- a session that ended by its command
+  same_unsent : (end : PeerEnd) (command : Command) (unsent new : List ℕ) (store now : Seen D) → AnswersPeer facts command (Some end) unsent store new now → new ≡ unsent
+  same_unsent ends.Quit command unsent new store now is = is.2
+  same_unsent ends.EndOfInput command unsent new store now is = absurd is
+  same_unsent ends.Limit command unsent new store now is = absurd is
+  same_unsent ends.Unread command unsent new store now is = is.2
+  same_unsent ends.StoreFailed command unsent new store now is = is.3
+  same_unsent ends.Memory command unsent new store now is = is.1
+
+  same_store : (end : PeerEnd) (command : Command) (unsent new : List ℕ) (store now : Seen D) → step_after (Some end) 0 ≡ step_after None 0
+      → AnswersPeer facts command (Some end) unsent store new now → now ≡ store
+  same_store ends.Quit command unsent new store now sound is = is.1
+  same_store ends.EndOfInput command unsent new store now sound is = absurd is
+  same_store ends.Limit command unsent new store now sound is = absurd is
+  same_store ends.Unread command unsent new store now sound is = is.1
+  same_store ends.StoreFailed command unsent new store now sound is = absurd (cc)
+  same_store ends.Memory command unsent new store now sound is = is.0
+
+module _ {D A : Type 0} (facts : DeviceFacts D) where
+  -- a session that ended by its command, of a moment with another store
+  ended_at : (n : ℕ) (end : PeerEnd) (m now_m : Moment D) (old new : Option (Peer A)) (store now : Seen D) → IsSame m now_m n
+      → Moves (λ p q. Serves facts (Some end) p store q now) old new → StandsAt m n old → StandsAt now_m n new
+  ended_at n end m now_m None new store now is moves stands = subst (λ slot. StandsAt now_m n slot) (sym moves) (same_stands {A = A} m now_m n None is stands)
+  ended_at n end m now_m (Some peer) new store now is moves stands =
+      let serves = moves.2 in
+      let ended : StandsAt m n (Some moves.0) = (
+        serves.reads (m.came n) (m.done n) stands.0,
+        ap (λ l. m.went n ++ l) (same_unsent facts end (command_of peer) peer.outbox.unsent moves.0.outbox.unsent store now serves.answers) ∙ stands.1,
+      ) in
+      subst (λ slot. StandsAt now_m n slot) (sym moves.1) (same_stands m now_m n (Some moves.0) is ended)
+
+  standing_ended : (n : ℕ) (end : PeerEnd) (m now_m : Moment D) (old new : Slots A) (store now : Seen D) → ((p : ℕ) → IsSame m now_m p)
+      → MovesAt (λ p q. Serves facts (Some end) p store q now) n old new → AreStanding m old → AreStanding now_m new
+  standing_ended n end m now_m old new store now is moves standing =
+      standing_at old new n m now_m moves.only (λ p other. is p) (ended_at n end m now_m (peer_at old n) (peer_at new n) store now (is n) moves.at (standing n)) standing
+
+  -- a command that was answered
+  answered_at : (n : ℕ) (m : Moment D) (peer new : Peer A) (store now : Seen D) → m.now ≡ store → (serves : Serves facts None peer store new now)
+      → StandsAt m n (Some peer) → StandsAt (answered n serves.answers.0 now m) n (Some new)
+  answered_at n m peer new store now is serves stands =
+      let e = serves.answers.0 in
+      let done : m.done n ++ command_of peer ∷ [] ≡ instead m.done n (m.done n ++ command_in e ∷ []) n =
+      ap (λ (k : Command). m.done n ++ k ∷ []) serves.answers.1 ∙ sym (instead_same m.done n (m.done n ++ command_in e ∷ [])) in
+      let more = answer store.hill e in
+      let all : m.went n ++ new.outbox.unsent ≡ instead m.owed n (m.owed n ++ answer m.now.hill e) n =
+      ap (λ l. m.went n ++ l) serves.answers.3 ∙ sym (append_assoc (m.went n) peer.outbox.unsent more) ∙ ap (λ l. l ++ more) stands.1
+      ∙ ap (λ (s : Seen D). m.owed n ++ answer s.hill e) (sym is) ∙ sym (instead_same m.owed n (m.owed n ++ answer m.now.hill e)) in
+      (subst (λ l. IsPeer new (m.came n) l) done (serves.reads (m.came n) (m.done n) stands.0), all)
+
+module _ {S D A : Type 0} (happened : S → List Noted → Type 0) (facts : DeviceFacts D) (start : Seen D) where
+  answered_by : (old_sockets sockets : S) (n : ℕ) (old new : Slots A) (store now : Seen D) (slot : Option (Peer A)) → peer_at old n ≡ slot → is_due_in slot ≡ true
+      → MovesAt (λ p q. Serves facts None p store q now) n old new → Stays happened old_sockets sockets
+      → GoesOn happened facts start old_sockets old store → GoesOn happened facts start sockets new now
+  answered_by old_sockets sockets n old new store now None is due moves kept on = absurd (true≢false (sym due))
+  answered_by old_sockets sockets n old new store now (Some peer) is due moves kept on =
+      let before = on.1 in
+      let m = moment start on.0 in
+      let moved : Moves (λ p q. Serves facts None p store q now) (Some peer) (peer_at new n) =
+      subst (λ slot. Moves (λ p q. Serves facts None p store q now) slot (peer_at new n)) is moves.at in
+      let e = moved.2.answers.0 in
+      let at : StandsAt m n (Some peer) = subst (λ slot. StandsAt m n slot) is (before.standing n) in
+      let served : AreServed facts m.now now (e ∷ []) = subst (λ (s : Seen D). AreServed facts s now (e ∷ [])) (sym before.now_is) moved.2.answers.2 in
+      let safe = safe_answered facts n e now m served on.2 in
+      let here : StandsAt (answered n e now m) n (peer_at new n) =
+      subst (λ slot. StandsAt (answered n e now m) n slot) (sym moved.1) (answered_at facts n m peer moved.0 store now before.now_is moved.2 at) in
+      let answers : Answers facts n e now m = record {
+        in_turn = subst (λ (k : Command). Begins (m.done n ++ k ∷ []) (commands_of (m.came n))) moved.2.answers.1 (in_turn peer (m.came n) (m.done n) due at.0);
+        served = served;
+        safe = safe;
+      } in (
+        Happening.Answered n e now ∷ on.0,
+        record {
+          logged = kept (noted on.0) before.logged;
+          follows = (answers, before.follows);
+          standing = standing_at old new n m (answered n e now m) moves.only (answered_other facts n e now m) here before.standing;
+          now_is = refl;
+        },
+        safe,
+      )
+
+  ended_by : (old_sockets sockets : S) (end : PeerEnd) (n : ℕ) (old new : Slots A) (store now : Seen D) (slot : Option (Peer A)) → step_after (Some end) 0 ≡ step_after None 0
+      → peer_at old n ≡ slot → is_due_in slot ≡ true → MovesAt (λ p q. Serves facts (Some end) p store q now) n old new → Stays happened old_sockets sockets
+      → GoesOn happened facts start old_sockets old store → GoesOn happened facts start sockets new now
+  ended_by old_sockets sockets end n old new store now None sound is due moves kept on = absurd (true≢false (sym due))
+  ended_by old_sockets sockets end n old new store now (Some peer) sound is due moves kept on =
+      let before = on.1 in
+      let m = moment start on.0 in
+      let moved : Moves (λ p q. Serves facts (Some end) p store q now) (Some peer) (peer_at new n) =
+      subst (λ slot. Moves (λ p q. Serves facts (Some end) p store q now) slot (peer_at new n)) is moves.at in (
+        on.0,
+        record {
+          logged = kept (noted on.0) before.logged;
+          follows = before.follows;
+          standing = standing_ended facts n end m m old new store now (same m) moves before.standing;
+          now_is = before.now_is ∙ sym (same_store facts end (command_of peer) peer.outbox.unsent moved.0.outbox.unsent store now sound moved.2.answers);
+        },
+        on.2,
+      )
+
+  cut_by : (old_sockets sockets : S) (n : ℕ) (old new : Slots A) (store now : Seen D) (slot : Option (Peer A)) → peer_at old n ≡ slot → is_due_in slot ≡ true
+      → MovesAt (λ p q. Serves facts (Some ends.StoreFailed) p store q now) n old new → Stays happened old_sockets sockets
+      → GoesOn happened facts start old_sockets old store → IsCutOff happened facts start sockets new now
+  cut_by old_sockets sockets n old new store now None is due moves kept on = absurd (true≢false (sym due))
+  cut_by old_sockets sockets n old new store now (Some peer) is due moves kept on =
+      let before = on.1 in
+      let m = moment start on.0 in
+      let moved : Moves (λ p q. Serves facts (Some ends.StoreFailed) p store q now) (Some peer) (peer_at new n) =
+      subst (λ slot. Moves (λ p q. Serves facts (Some ends.StoreFailed) p store q now) slot (peer_at new n)) is moves.at in
+      let source = moved.2.answers.0 in
+      let at : StandsAt m n (Some peer) = subst (λ slot. StandsAt m n slot) is (before.standing n) in
+      let breaks : Breaks facts n source now m = record {
+        in_turn = subst (λ (k : Command). Begins (m.done n ++ k ∷ []) (commands_of (m.came n))) moved.2.answers.1 (in_turn peer (m.came n) (m.done n) due at.0);
+        left_off = subst (λ (s : Seen D). IsLeftOff facts s now source) (sym before.now_is) moved.2.answers.2;
+        safe = on.2;
+      } in (
+        Happening.CutOff n source now ∷ on.0,
+        record {
+          logged = kept (noted on.0) before.logged;
+          follows = (breaks, before.follows);
+          standing = standing_ended facts n ends.StoreFailed m (stored now m) old new store now
+              (λ p. record { there_is = refl; came_is = refl; done_is = refl; owed_is = refl; went_is = refl }) moves before.standing;
+          now_is = refl;
+        },
+      )
+
+  served_by : (old_sockets sockets : S) (outcome : Option PeerEnd) (n : ℕ) (old new : Slots A) (store now : Seen D) → step_after outcome n ≡ steps.Served n
+      → is_due_in (peer_at old n) ≡ true → MovesAt (λ p q. Serves facts outcome p store q now) n old new → Stays happened old_sockets sockets
+      → GoesOn happened facts start old_sockets old store → GoesOn happened facts start sockets new now
+  served_by old_sockets sockets None n old new store now sound due moves kept on = answered_by old_sockets sockets n old new store now (peer_at old n) refl due moves kept on
+  served_by old_sockets sockets (Some ends.Quit) n old new store now sound due moves kept on =
+      ended_by old_sockets sockets ends.Quit n old new store now (peer_at old n) refl refl due moves kept on
+  served_by old_sockets sockets (Some ends.EndOfInput) n old new store now sound due moves kept on =
+      ended_by old_sockets sockets ends.EndOfInput n old new store now (peer_at old n) refl refl due moves kept on
+  served_by old_sockets sockets (Some ends.Limit) n old new store now sound due moves kept on =
+      ended_by old_sockets sockets ends.Limit n old new store now (peer_at old n) refl refl due moves kept on
+  served_by old_sockets sockets (Some ends.Unread) n old new store now sound due moves kept on =
+      ended_by old_sockets sockets ends.Unread n old new store now (peer_at old n) refl refl due moves kept on
+  served_by old_sockets sockets (Some ends.StoreFailed) n old new store now sound due moves kept on = absurd (cc)
+  served_by old_sockets sockets (Some ends.Memory) n old new store now sound due moves kept on =
+      ended_by old_sockets sockets ends.Memory n old new store now (peer_at old n) refl refl due moves kept on
+
+  pub served : (old_sockets sockets : S) (step : Step) (old new : Slots A) (from to : ℕ) (store now : Seen D) → ServesNext facts step old from store new to now
+      → Stays happened old_sockets sockets → GoesOn happened facts start old_sockets old store → StandsAfter happened facts step start sockets new now
+  served old_sockets sockets steps.Nobody old new from to store now serves kept on =
+      subst (λ (s : Seen D). GoesOn happened facts start sockets new s) (sym serves.3)
+      (subst (λ (slots : Slots A). GoesOn happened facts start sockets slots store) (sym serves.1) (stays happened facts start old_sockets sockets old store kept on))
+  served old_sockets sockets (steps.Served n) old new from to store now serves kept on =
+      served_by old_sockets sockets serves.0 n old new store now serves.1 serves.2.first.due serves.2.moves kept on
+  served old_sockets sockets (steps.StoreFailed n) old new from to store now serves kept on =
+      cut_by old_sockets sockets n old new store now (peer_at old n) refl serves.first.due serves.moves kept on

@@ -1,0 +1,164 @@
+-- How a history goes on by what happens on the sockets.
+use Rattle.std.proofs.Common.{◌≡◌, ◌≢◌, ◌∙◌, ◌==◌, ℕ, Bool, true≢false, false, ap, length, List, [], ◌∷◌, take, Option, None, Ok, refl, sym, subst}
+use Rattle.sector_disk.specs.Facts.{DeviceFacts}
+use Rattle.hill_store.specs.Seen.{Seen}
+use Rattle.koth_peers.specs.Peer.{Closes, Sends, Takes}
+use Rattle.koth_peers.specs.Peers.{Connects, MovesAt, OnlyAt, Slots, peer_at, unsent_at}
+use Rattle.koth_peers.specs.declared.peer.Peer.{Peer}
+use Rattle.koth_peers.specs.declared.peers.Peers.{Peers}
+use Rattle.koth_service.specs.Noted.{Noted, Stays}
+use Rattle.koth_service.specs.History.{Happening, IsHistory, beginning, moment, noted, reopened}
+use Rattle.koth_peers.specs.declared.peers.Step.{Step}
+use Rattle.koth_peers.specs.declared.peers.Step.TheVariants as steps
+use Rattle.koth_service.specs.Standing.{GoesOn, IsCutOff, IsSoundAfter, StandsAfter, StandsAt}
+use Rattle.koth_service.specs.declared.desk.Desk.{Desk}
+use Rattle.koth_service.proofs.Moments.{free_at, owed_to, same_stands, standing_came, standing_closed, standing_left, standing_new, standing_went}
+
+-- answers that there are
+pub some_unsent : (read unsent : List ℕ) (empty : Bool) → read ≡ unsent → empty ≡ (length read == 0) → empty ≡ false → unsent ≢ []
+some_unsent read unsent empty is tells there none = true≢false (sym (ap (λ (l : List ℕ). length l == 0) (is ∙ none)) ∙ sym tells ∙ there)
+
+module _ {S D A : Type 0} (happened : S → List Noted → Type 0) (facts : DeviceFacts D) (start : Seen D) where
+  -- nothing happened
+  pub stays : (old new : S) (slots : Slots A) (store : Seen D) → Stays happened old new → GoesOn happened facts start old slots store → GoesOn happened facts start new slots store
+  stays old new slots store same on =
+      let before = on.1 in
+      (on.0, record { logged = same (noted on.0) before.logged; follows = before.follows; standing = before.standing; now_is = before.now_is }, on.2)
+
+  -- a peer was seated
+  pub seated : (old_sockets sockets : S) (old new : Slots A) (store : Seen D) (n : ℕ) → Connects (Ok n) old new
+      → ((log : List Noted) → happened old_sockets log → happened sockets (Noted.Seated n ∷ log))
+      → GoesOn happened facts start old_sockets old store → GoesOn happened facts start sockets new store
+  seated old_sockets sockets old new store n connects adds on =
+      let before = on.1 in
+      let m = moment start on.0 in (
+        Happening.On (Noted.Seated n) ∷ on.0,
+        record {
+          logged = adds (noted on.0) before.logged;
+          follows = (free_at old n m connects.2 before.standing, before.follows);
+          standing = standing_new old new n connects.4 m connects.0 connects.5 connects.6 before.standing;
+          now_is = before.now_is;
+        },
+        record { hill = on.2.hill; still = on.2.still; lawful = on.2.lawful; reads = on.2.reads },
+      )
+
+  -- bytes of a peer came
+  pub came : (old_sockets sockets : S) (old new : Slots A) (store : Seen D) (n : ℕ) (bytes : List ℕ) → MovesAt (λ p q. Takes p bytes q) n old new
+      → ((log : List Noted) → happened old_sockets log → happened sockets (Noted.Heard n bytes ∷ log))
+      → GoesOn happened facts start old_sockets old store → GoesOn happened facts start sockets new store
+  came old_sockets sockets old new store n bytes moves adds on =
+      let before = on.1 in
+      let m = moment start on.0 in (
+        Happening.On (Noted.Heard n bytes) ∷ on.0,
+        record {
+          logged = adds (noted on.0) before.logged;
+          follows = (tt, before.follows);
+          standing = standing_came old new n bytes m moves before.standing;
+          now_is = before.now_is;
+        },
+        record { hill = on.2.hill; still = on.2.still; lawful = on.2.lawful; reads = on.2.reads },
+      )
+
+  -- a peer's bytes are at their end
+  pub closed : (old_sockets sockets : S) (old new : Slots A) (store : Seen D) (n : ℕ) → MovesAt Closes n old new → Stays happened old_sockets sockets
+      → GoesOn happened facts start old_sockets old store → GoesOn happened facts start sockets new store
+  closed old_sockets sockets old new store n moves same on =
+      let before = on.1 in (
+        on.0,
+        record {
+          logged = same (noted on.0) before.logged;
+          follows = before.follows;
+          standing = standing_closed old new n (moment start on.0) moves before.standing;
+          now_is = before.now_is;
+        },
+        on.2,
+      )
+
+  -- answers went out to a peer
+  pub went : (old_sockets sockets : S) (old new : Slots A) (store : Seen D) (n count : ℕ) → MovesAt (λ p q. Sends p count q) n old new → unsent_at old n ≢ []
+      → ((log : List Noted) → happened old_sockets log → happened sockets (Noted.Told n (take count (unsent_at old n)) ∷ log))
+      → GoesOn happened facts start old_sockets old store → GoesOn happened facts start sockets new store
+  went old_sockets sockets old new store n count moves some adds on =
+      let before = on.1 in
+      let m = moment start on.0 in (
+        Happening.On (Noted.Told n (take count (unsent_at old n))) ∷ on.0,
+        record {
+          logged = adds (noted on.0) before.logged;
+          follows = (owed_to old n count m some before.standing, before.follows);
+          standing = standing_went old new n count m moves before.standing;
+          now_is = before.now_is;
+        },
+        record { hill = on.2.hill; still = on.2.still; lawful = on.2.lawful; reads = on.2.reads },
+      )
+
+  -- a peer was let go
+  pub left : (old_sockets sockets : S) (old new : Slots A) (store : Seen D) (n : ℕ) → OnlyAt n old new → peer_at new n ≡ None
+      → ((log : List Noted) → happened old_sockets log → happened sockets (Noted.Closed n ∷ log))
+      → GoesOn happened facts start old_sockets old store → GoesOn happened facts start sockets new store
+  left old_sockets sockets old new store n only free adds on =
+      let before = on.1 in
+      let m = moment start on.0 in (
+        Happening.On (Noted.Closed n) ∷ on.0,
+        record {
+          logged = adds (noted on.0) before.logged;
+          follows = (tt, before.follows);
+          standing = standing_left old new n m only free before.standing;
+          now_is = before.now_is;
+        },
+        record { hill = on.2.hill; still = on.2.still; lawful = on.2.lawful; reads = on.2.reads },
+      )
+
+  -- ---- the beginning, and a hill that was opened again
+
+  pub begun : (sockets : S) (slots : Slots A) (store : Seen D) → store ≡ start → ((p : ℕ) → peer_at slots p ≡ None) → happened sockets []
+      → GoesOn happened facts start sockets slots store
+  begun sockets slots store is nobody none = (
+    [],
+    record {
+      logged = none;
+      follows = tt;
+      standing = λ p. subst (λ (slot : Option (Peer A)). StandsAt (beginning start) p slot) (sym (nobody p)) refl;
+      now_is = sym is;
+    },
+    record { hill = refl; still = refl; lawful = λ is. is; reads = λ lawful open_still reads. reads },
+  )
+
+  pub opened_again : (sockets : S) (slots : Slots A) (store now : Seen D) → now.reopen ≡ false → IsCutOff happened facts start sockets slots store
+      → GoesOn happened facts start sockets slots now
+  opened_again sockets slots store now sound cut =
+      let before = cut.1 in
+      let m = moment start cut.0 in (
+        Happening.Reopened now ∷ cut.0,
+        record {
+          logged = before.logged;
+          follows = (sound, before.follows);
+          standing = λ p. same_stands m (reopened now m) p (peer_at slots p)
+              (record { there_is = refl; came_is = refl; done_is = refl; owed_is = refl; went_is = refl }) (before.standing p);
+          now_is = refl;
+        },
+        record { hill = refl; still = refl; lawful = λ is. is; reads = λ lawful open_still reads. reads },
+      )
+
+  -- the desk that is sound again goes on
+  pub sound_after : (step : Step) (old new : Desk D A) (sockets : S) → IsSoundAfter step old new
+      → StandsAfter happened facts step start sockets old.peers.slots.items old.store → GoesOn happened facts start sockets new.peers.slots.items new.store
+  sound_after steps.Nobody old new sockets same on = subst (λ (desk : Desk D A). GoesOn happened facts start sockets desk.peers.slots.items desk.store) (sym same) on
+  sound_after (steps.Served n) old new sockets same on = subst (λ (desk : Desk D A). GoesOn happened facts start sockets desk.peers.slots.items desk.store) (sym same) on
+  sound_after (steps.StoreFailed n) old new sockets (same, sound) on =
+      subst (λ (peers : Peers A). GoesOn happened facts start sockets peers.slots.items new.store) (sym same) (opened_again sockets old.peers.slots.items old.store new.store sound on)
+
+  -- ---- what has happened so far
+
+  pub so_far : (sockets : S) (slots : Slots A) (store : Seen D) → IsCutOff happened facts start sockets slots store
+      → (history : List (Happening D)) × happened sockets (noted history) × IsHistory facts start history
+  so_far sockets slots store cut = (cut.0, cut.1.logged, cut.1.follows)
+
+  pub so_far_on : (sockets : S) (slots : Slots A) (store : Seen D) → GoesOn happened facts start sockets slots store
+      → (history : List (Happening D)) × happened sockets (noted history) × IsHistory facts start history
+  so_far_on sockets slots store on = (on.0, on.1.logged, on.1.follows)
+
+  pub so_far_after : (step : Step) (sockets : S) (slots : Slots A) (store : Seen D) → StandsAfter happened facts step start sockets slots store
+      → (history : List (Happening D)) × happened sockets (noted history) × IsHistory facts start history
+  so_far_after steps.Nobody sockets slots store on = so_far_on sockets slots store on
+  so_far_after (steps.Served n) sockets slots store on = so_far_on sockets slots store on
+  so_far_after (steps.StoreFailed n) sockets slots store cut = so_far sockets slots store cut

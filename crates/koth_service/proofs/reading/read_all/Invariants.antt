@@ -1,0 +1,8 @@
+-- It went on as it did, and what is told stands on the errors.
+use Rattle.koth_service.specs.Told.{Grows}
+use Rattle.koth_service.specs.Standing.{KeepsOn}
+use Rattle.koth_service.proofs.reading.read_all.Given as goal
+
+abbrev pub invariant-loop-number : goal.invariant-loop-number
+invariant-loop-number g l = (KeepsOn g.S.Sockets.happened g.D.Device.facts l.fn.sockets l.fn.desk l.sockets l.desk)
+    × Grows (g.E.Write.contents l.initial.errors) (g.E.Write.contents l.errors)

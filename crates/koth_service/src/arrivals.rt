@@ -1,0 +1,79 @@
+//! Peers that arrive.
+#![tactic(auto, using(crate::proofs::Told::stays))]
+
+ghost use Rattle.koth_service.specs.Standing.{KeepsOn};
+ghost use Rattle.koth_service.specs.Told.{Grows};
+
+use crate::desk::Desk;
+use crate::host::{Event, Host};
+use crate::sockets::{Arrival, Sockets};
+use koth_peers::NotConnected;
+use sector_disk::Device;
+use std::alloc::Allocator;
+use std::io::Write;
+use std::net::SocketAddr;
+
+/// How many connections are taken in a round at most.
+const ARRIVALS: usize = 16;
+
+/// Takes the connections that wait, unless as many peers are there as may be, or as many sessions have begun as are asked for: then they wait on.
+pub(crate) fn take_arrivals<S, D, A, H, E>(
+    desk: &mut Desk<D, A>,
+    sockets: &mut S,
+    host: &H,
+    errors: &mut E,
+    now: u64,
+)
+where
+    S: Sockets,
+    D: Device,
+    A: Allocator + Copy,
+    H: Host<D, A>,
+    E: Write,
+    ensures served { KeepsOn S.happened D.facts sockets.old desk.old sockets.new desk.new }
+    ensures told { Grows (E.contents errors.old) (E.contents errors.new) }
+{
+    for _arrival in 0..ARRIVALS {
+        if !desk.sessions.may_begin(desk.seats.len()) {
+            return;
+        }
+        match sockets.accept() {
+            Arrival::Peer(address) => admit(desk, sockets, host, errors, address, now),
+            Arrival::Nobody => return,
+            Arrival::Failed => {
+                desk.retries = true;
+                return;
+            }
+        }
+    }
+}
+
+/// Begins a session with the peer that was accepted. It is refused if as many are there as may be, or if there is no memory for it.
+fn admit<S, D, A, H, E>(
+    desk: &mut Desk<D, A>,
+    sockets: &mut S,
+    host: &H,
+    errors: &mut E,
+    address: SocketAddr,
+    now: u64,
+)
+where
+    S: Sockets,
+    D: Device,
+    A: Allocator + Copy,
+    H: Host<D, A>,
+    E: Write,
+    ensures served { KeepsOn S.happened D.facts sockets.old desk.old sockets.new desk.new }
+    ensures told { Grows (E.contents errors.old) (E.contents errors.new) }
+{
+    desk.is_busy = true;
+    match desk.peers.connect() {
+        Ok(number) => {
+            sockets.seat(number);
+            desk.seats.sit(number, address, now);
+            desk.sessions.begin();
+            host.tell(address, Event::Connected, errors);
+        }
+        Err(NotConnected::Full | NotConnected::Memory) => sockets.refuse(),
+    }
+}

@@ -1,0 +1,131 @@
+//! The peers, the store and the seats together, and how a peer is let go.
+#![tactic(auto, using(crate::proofs::Told::stays))]
+
+ghost use Rattle.std.specs.Prelude.{◌≡◌, ℕ, None, IfOk};
+ghost use Rattle.koth_peers.specs.Peers.{peer_at};
+ghost use Rattle.koth_service.specs.Standing.{KeepsOn};
+ghost use Rattle.koth_service.specs.Told.{Grows};
+
+use crate::host::{Event, Host, HowEnded};
+use crate::seats::Seats;
+use crate::sockets::Sockets;
+use hill_store::Store;
+use koth_peers::Peers;
+use sector_disk::Device;
+use std::alloc::{AllocError, Allocator};
+use std::io::Write;
+
+/// The sessions of peers on a store, and what the service knows of them.
+#[derive(Drop)]
+pub(crate) struct Desk<D: Device, A: Allocator + Copy> {
+    pub(crate) peers: Peers<A>,
+    pub(crate) store: Store<D, A>,
+    pub(crate) seats: Seats<A>,
+    pub(crate) sessions: Sessions,
+    /// Whether something came or went in this round: then more may, and nobody is waited for.
+    pub(crate) is_busy: bool,
+    /// Whether an accept failed in this round.
+    pub(crate) retries: bool,
+}
+
+/// How many sessions there were.
+#[derive(Clone, Copy, Drop)]
+pub(crate) struct Sessions {
+    most: Option<u64>,
+    begun: u64,
+    ended: u64,
+}
+
+impl Sessions {
+    fn new(most: Option<u64>) -> Sessions {
+        Sessions {
+            most,
+            begun: 0,
+            ended: 0,
+        }
+    }
+
+    /// Whether another one may begin, if so many may be at once.
+    pub(crate) fn may_begin(&self, at_once: usize) -> bool {
+        let there = self.begun.saturating_sub(self.ended);
+        let has_room = usize::try_from(there).is_ok_and(|there| there < at_once);
+        has_room && self.is_asked_for()
+    }
+
+    /// Whether fewer have begun than are asked for.
+    fn is_asked_for(&self) -> bool {
+        match self.most {
+            Some(most) => self.begun < most,
+            None => true,
+        }
+    }
+
+    /// Whether as many have ended as are asked for.
+    pub(crate) fn are_done(&self) -> bool {
+        match self.most {
+            Some(most) => self.ended >= most,
+            None => false,
+        }
+    }
+
+    pub(crate) fn begin(&mut self) {
+        self.begun = self.begun.saturating_add(1);
+    }
+
+    pub(crate) fn end(&mut self) {
+        self.ended = self.ended.saturating_add(1);
+    }
+}
+
+impl<D: Device, A: Allocator + Copy> Desk<D, A> {
+    /// No peers, of which so many may be at once. `AllocError` comes if a growth of memory is refused.
+    pub(crate) fn new(
+        alloc: A,
+        most: usize,
+        sessions: Option<u64>,
+        store: Store<D, A>,
+    ) -> Result<Desk<D, A>, AllocError>
+    where
+        D: Drop,
+        ensures nobody { IfOk result (λ desk. (p : ℕ) → peer_at desk.peers.slots.items p ≡ None) }
+        ensures store { IfOk result (λ desk. desk.store ≡ store) }
+    {
+        Ok(Desk {
+            peers: Peers::new(alloc, most)?,
+            store,
+            seats: Seats::new(alloc, most)?,
+            sessions: Sessions::new(sessions),
+            is_busy: false,
+            retries: false,
+        })
+    }
+}
+
+/// Lets a peer go, however its session stands: its socket is closed, and its number is free.
+pub(crate) fn let_go<S, D, A, H, E>(
+    desk: &mut Desk<D, A>,
+    sockets: &mut S,
+    host: &H,
+    errors: &mut E,
+    number: usize,
+    how: HowEnded,
+)
+where
+    S: Sockets,
+    D: Device,
+    A: Allocator + Copy,
+    H: Host<D, A>,
+    E: Write,
+    ensures served { KeepsOn S.happened D.facts sockets.old desk.old sockets.new desk.new }
+    ensures told { Grows (E.contents errors.old) (E.contents errors.new) }
+{
+    let Some(seat) = desk.seats.at(number) else {
+        return;
+    };
+    sockets.close(number);
+    desk.peers.leave(number);
+    desk.seats.leave(number);
+    desk.sessions.end();
+    desk.is_busy = true;
+    host.tell(seat.address, Event::Ended(how), errors);
+}

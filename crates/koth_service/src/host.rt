@@ -1,0 +1,47 @@
+//! Who is told what happens, and opens the hill again.
+
+ghost use Rattle.std.specs.Prelude.{◌≡◌, false, IfOk};
+ghost use Rattle.koth_service.specs.Told.{Grows};
+
+use hill_store::Store;
+use koth_peers::PeerEnd;
+use sector_disk::Device;
+use std::alloc::Allocator;
+use std::io::Write;
+use std::net::SocketAddr;
+
+/// How a peer's session ended.
+#[derive(Clone, Copy, Debug, PartialEq, Eq)]
+pub enum HowEnded {
+    /// By itself, and all its answers went out; or with `Unread`, and it was let go.
+    By(PeerEnd),
+    /// No byte of it came for 60 seconds, and none of its answers went out.
+    Silent,
+    /// The peer is gone.
+    Gone,
+}
+
+/// What happens with a peer.
+#[derive(Clone, Copy, Debug, PartialEq, Eq)]
+pub enum Event<'t> {
+    /// It has connected.
+    Connected,
+    /// It was answered this line to a submission, without the line feed at its end.
+    Answered(&'t [u8]),
+    /// Its session has ended, and its socket is closed.
+    Ended(HowEnded),
+}
+
+/// The host of a service.
+pub trait Host<D: Device, A: Allocator> {
+    /// Why the hill can't be opened again.
+    type Fault;
+
+    /// Opens the hill again, after its device failed and the store was closed.
+    fn reopen(&self) -> Result<Store<D, A>, Self::Fault>
+        ensures { IfOk result (λ store. store.reopen ≡ false) };
+
+    /// Writes of what happened with the peer of this address, as much as is to be told.
+    fn tell<E: Write>(&self, peer: SocketAddr, event: Event<'_>, errors: &mut E)
+        ensures { Grows (E.contents errors.old) (E.contents errors.new) };
+}

@@ -1,0 +1,40 @@
+//! The service of many peers at once: bytes go from sockets that don't wait to the sessions of `koth_peers`, and their answers back.
+//!
+//! It knows what sockets, a clock and a host say through two traits, and of the system only `polled` and `line`. The modules, in the order in which
+//! the data pass:
+//!
+//! - `sockets`: what sockets may say, and what happened on them; `polled` and `line`: sockets of the system, over `mio`'s poll;
+//! - `host`: who is told what happens, and opens the hill again;
+//! - `times` and `seats`: how long a peer is waited for, and what is kept of each beside its session;
+//! - `desk`: the peers, the store and the seats; `arrivals`, `reading`, `serving`, `sending` and `parting` move one peer on it;
+//! - `service`: round after round of them, until as many sessions as are asked for have ended.
+//!
+//! The main clause: whatever the sockets say, there is a history (`IsHistory`) of what happened on them and of the commands that were carried
+//! out in between. In it each peer's commands are carried out in the order in which they came, each is answered on the hill that stood
+//! then, what goes out to a peer is the next of what it was answered, and at each answer every image that a stop may leave of the device has
+//! the hill with all submissions that were answered since it was opened.
+//!
+//! A peer must not wait for another one's bytes, nor for room for another one's answers. Each peer takes a seat of some tens of bytes, beside
+//! what its session takes, and no round takes memory of its own.
+#![tactic(auto)]
+
+mod arrivals;
+mod desk;
+mod host;
+mod line;
+mod parting;
+mod polled;
+mod reading;
+mod seats;
+mod sending;
+mod service;
+mod serving;
+mod sockets;
+mod times;
+
+pub use host::{Event, Host, HowEnded};
+pub use koth_peers::PeerEnd;
+pub use polled::PolledSockets;
+pub use service::{ServiceFault, serve_peers};
+pub use sockets::{Arrival, Came, Drained, Sockets, Went};
+pub use times::{DRAIN, DRAINED_MOST, PATIENCE, RETRY};

@@ -1,0 +1,115 @@
+//! Peers whose sessions have ended, or that were silent for too long.
+#![tactic(auto, using(crate::proofs::Told::stays))]
+
+ghost use Rattle.koth_service.specs.Standing.{KeepsOn};
+ghost use Rattle.koth_service.specs.Told.{Grows};
+
+use crate::desk::{Desk, let_go};
+use crate::host::{Host, HowEnded};
+use crate::seats::Seat;
+use crate::sockets::{Drained, Sockets};
+use crate::times::{DRAIN, DRAINED_MOST};
+use koth_peers::PeerEnd;
+use sector_disk::Device;
+use std::alloc::Allocator;
+use std::io::Write;
+
+/// Lets those go of which nothing more is awaited.
+pub(crate) fn part_all<S, D, A, H, E>(
+    desk: &mut Desk<D, A>,
+    sockets: &mut S,
+    host: &H,
+    errors: &mut E,
+    now: u64,
+)
+where
+    S: Sockets,
+    D: Device,
+    A: Allocator + Copy,
+    H: Host<D, A>,
+    E: Write,
+    ensures served { KeepsOn S.happened D.facts sockets.old desk.old sockets.new desk.new }
+    ensures told { Grows (E.contents errors.old) (E.contents errors.new) }
+{
+    for number in 0..desk.seats.len() {
+        part(desk, sockets, host, errors, number, now);
+    }
+}
+
+/// Shuts a peer that is finished, and lets one go that was shut or silent for long enough, or that reads none of its answers.
+fn part<S, D, A, H, E>(
+    desk: &mut Desk<D, A>,
+    sockets: &mut S,
+    host: &H,
+    errors: &mut E,
+    number: usize,
+    now: u64,
+)
+where
+    S: Sockets,
+    D: Device,
+    A: Allocator + Copy,
+    H: Host<D, A>,
+    E: Write,
+    ensures served { KeepsOn S.happened D.facts sockets.old desk.old sockets.new desk.new }
+    ensures told { Grows (E.contents errors.old) (E.contents errors.new) }
+{
+    let Some(seat) = desk.seats.at(number) else {
+        return;
+    };
+    let end = desk.peers.end(number);
+    match (seat.drained, end) {
+        (Some(count), Some(end)) => {
+            if has_drained(desk, sockets, number, seat, count, now) {
+                let_go(desk, sockets, host, errors, number, HowEnded::By(end));
+            }
+        }
+        (_, Some(PeerEnd::Unread)) => {
+            let_go(
+                desk,
+                sockets,
+                host,
+                errors,
+                number,
+                HowEnded::By(PeerEnd::Unread),
+            );
+        }
+        _ => {
+            if desk.peers.is_finished(number) {
+                sockets.shut(number);
+                desk.seats.shut(number, now);
+                desk.is_busy = true;
+            } else if seat.is_silent(now) {
+                let_go(desk, sockets, host, errors, number, HowEnded::Silent);
+            }
+        }
+    }
+}
+
+/// Throws away what still comes from a peer that was shut, of which so many bytes were thrown away, and says whether it is at its end, or was
+/// waited for long enough.
+fn has_drained<S, D, A>(
+    desk: &mut Desk<D, A>,
+    sockets: &mut S,
+    number: usize,
+    seat: Seat,
+    count: usize,
+    now: u64,
+) -> bool
+where
+    S: Sockets,
+    D: Device,
+    A: Allocator + Copy,
+    ensures { KeepsOn S.happened D.facts sockets.old desk.old sockets.new desk.new }
+{
+    let count = match sockets.drain(number) {
+        Drained::Bytes(more) => {
+            desk.is_busy = true;
+            count.saturating_add(more)
+        }
+        Drained::Nothing => count,
+        Drained::End => return true,
+    };
+    desk.seats.drained(number, count);
+    count >= DRAINED_MOST || seat.has_passed(now, DRAIN)
+}

@@ -1,0 +1,183 @@
+//! Sockets of the system, over a poll.
+
+ghost use Rattle.std.specs.Prelude.{⊤};
+ghost use Rattle.koth_service.specs.Noted.{Noted};
+
+use crate::line::Line;
+use crate::sockets::{Arrival, Came, Drained, Sockets, Went};
+use mio::net::{TcpListener, TcpStream};
+use mio::{Events, Interest, Poll, Token};
+use std::alloc::{AllocError, Allocator};
+use std::io;
+use std::io::ErrorKind;
+use std::net::{Net, SocketAddr};
+use std::rt::Clock;
+use std::time::{Duration, Instant};
+
+/// How many events a wait gives at most.
+const EVENTS: usize = 256;
+
+/// The token of the listener: those of the peers are their numbers.
+const LISTENER: Token = Token(usize::MAX);
+
+/// A listener and the sockets of peers by their numbers, none of which waits.
+#[derive(Drop)]
+pub struct PolledSockets<'r, R, A: Allocator> {
+    clock: &'r R,
+    start: Instant,
+    latest: u64,
+    poll: Poll,
+    events: Events<A>,
+    listener: TcpListener,
+    can_accept: bool,
+    accepted: Option<TcpStream>,
+    lines: Vec<Option<Line>, A>,
+}
+
+impl<'r, R: Net + Clock, A: Allocator + Copy> PolledSockets<'r, R, A> {
+    /// A listener at this address, or at a port that the system chooses if its port is 0, with room for so many peers at once. It fails as the
+    /// system's calls do, with `AddrInUse` and `PermissionDenied` among others, and with `OutOfMemory` if a growth of memory is refused.
+    pub fn bind(
+        rt: &'r R,
+        alloc: A,
+        address: SocketAddr,
+        most: usize,
+    ) -> io::Result<PolledSockets<'r, R, A>> {
+        let start = Instant::now(rt)?;
+        let poll = Poll::new(rt)?;
+        let mut listener = TcpListener::bind(rt, address)?;
+        poll.registry()
+            .register(&mut listener, LISTENER, Interest::READABLE)?;
+        Ok(PolledSockets {
+            clock: rt,
+            start,
+            latest: 0,
+            poll,
+            events: Events::with_capacity(alloc, EVENTS)?,
+            listener,
+            can_accept: true,
+            accepted: None,
+            lines: no_lines(alloc, most)?,
+        })
+    }
+}
+
+impl<'r, R, A: Allocator> PolledSockets<'r, R, A> {
+    /// The address that peers connect to.
+    pub fn local_addr(&self) -> io::Result<SocketAddr> {
+        self.listener.local_addr()
+    }
+
+    /// Takes note of what the last wait told.
+    fn take_events(&mut self) {
+        for event in self.events.iter() {
+            if event.token() == LISTENER {
+                self.can_accept = true;
+            } else if let Some(Some(line)) = self.lines.get_mut(event.token().0) {
+                line.take_event(event);
+            }
+        }
+    }
+
+    fn put(&mut self, number: usize, line: Option<Line>) {
+        if let Some(place) = self.lines.get_mut(number) {
+            *place = line;
+        }
+    }
+}
+
+/// So many numbers, all of them free.
+fn no_lines<A: Allocator + Copy>(
+    alloc: A,
+    most: usize,
+) -> Result<Vec<Option<Line>, A>, AllocError> {
+    let mut lines = Vec::with_capacity(alloc, most)?;
+    for _number in 0..most {
+        lines.push(None)?;
+    }
+    Ok(lines)
+}
+
+impl<'r, R: Clock, A: Allocator> Sockets for PolledSockets<'r, R, A> {
+    // What the system did is not kept.
+    ghost happened = { λ _ _. ⊤ };
+
+    /// By the system's clock. Where that can't be read, it is as late as it was.
+    fn now(&mut self) -> u64 {
+        if let Ok(passed) = self.start.elapsed(self.clock) {
+            let milliseconds = u64::try_from(passed.as_millis()).unwrap_or(u64::MAX);
+            self.latest = self.latest.max(milliseconds);
+        }
+        self.latest
+    }
+
+    fn wait(&mut self, most: u64) {
+        let waited = self
+            .poll
+            .poll(&mut self.events, Some(Duration::from_millis(most)));
+        if waited.is_ok() {
+            self.take_events();
+        }
+    }
+
+    fn accept(&mut self) -> Arrival {
+        if !self.can_accept {
+            return Arrival::Nobody;
+        }
+        match self.listener.accept() {
+            Ok((stream, address)) => {
+                self.accepted = Some(stream);
+                Arrival::Peer(address)
+            }
+            Err(error) => match error.kind() {
+                ErrorKind::WouldBlock => {
+                    self.can_accept = false;
+                    Arrival::Nobody
+                }
+                _ => Arrival::Failed,
+            },
+        }
+    }
+
+    fn seat(&mut self, number: usize) {
+        if let Some(stream) = self.accepted.take() {
+            let line = Line::new(stream, self.poll.registry(), Token(number));
+            self.put(number, line);
+        }
+    }
+
+    fn refuse(&mut self) {
+        self.accepted = None;
+    }
+
+    fn read(&mut self, number: usize, bytes: &mut [u8]) -> Came {
+        match self.lines.get_mut(number) {
+            Some(Some(line)) => line.read(bytes),
+            _ => Came::Gone,
+        }
+    }
+
+    fn write(&mut self, number: usize, bytes: &[u8]) -> Went {
+        match self.lines.get_mut(number) {
+            Some(Some(line)) => line.write(bytes),
+            _ => Went::Gone,
+        }
+    }
+
+    fn shut(&mut self, number: usize) {
+        if let Some(Some(line)) = self.lines.get(number) {
+            line.shut();
+        }
+    }
+
+    fn drain(&mut self, number: usize) -> Drained {
+        match self.lines.get_mut(number) {
+            Some(Some(line)) => line.drain(),
+            _ => Drained::End,
+        }
+    }
+
+    fn close(&mut self, number: usize) {
+        self.put(number, None);
+    }
+}

@@ -1,0 +1,76 @@
+//! Bytes that come.
+#![tactic(auto, using(crate::proofs::Told::stays))]
+
+ghost use Rattle.koth_service.specs.Standing.{KeepsOn};
+ghost use Rattle.koth_service.specs.Told.{Grows};
+
+use crate::desk::{Desk, let_go};
+use crate::host::{Host, HowEnded};
+use crate::sockets::{Came, Sockets};
+use sector_disk::Device;
+use std::alloc::Allocator;
+use std::io::Write;
+
+/// Bytes that one read takes at most.
+const CHUNK: usize = 4096;
+
+/// Reads what each peer has room for, once from each.
+pub(crate) fn read_all<S, D, A, H, E>(
+    desk: &mut Desk<D, A>,
+    sockets: &mut S,
+    host: &H,
+    errors: &mut E,
+    now: u64,
+)
+where
+    S: Sockets,
+    D: Device,
+    A: Allocator + Copy,
+    H: Host<D, A>,
+    E: Write,
+    ensures served { KeepsOn S.happened D.facts sockets.old desk.old sockets.new desk.new }
+    ensures told { Grows (E.contents errors.old) (E.contents errors.new) }
+{
+    for number in 0..desk.seats.len() {
+        read_from(desk, sockets, host, errors, number, now);
+    }
+}
+
+/// Reads what a peer has room for.
+fn read_from<S, D, A, H, E>(
+    desk: &mut Desk<D, A>,
+    sockets: &mut S,
+    host: &H,
+    errors: &mut E,
+    number: usize,
+    now: u64,
+)
+where
+    S: Sockets,
+    D: Device,
+    A: Allocator + Copy,
+    H: Host<D, A>,
+    E: Write,
+    ensures served { KeepsOn S.happened D.facts sockets.old desk.old sockets.new desk.new }
+    ensures told { Grows (E.contents errors.old) (E.contents errors.new) }
+{
+    let room = desk.peers.room(number);
+    if room == 0 {
+        return;
+    }
+    let mut chunk = [0; CHUNK];
+    let bytes = &mut chunk[..room];
+    match sockets.read(number, bytes) {
+        Came::Bytes(count) => {
+            desk.peers.take(number, &bytes[..count]);
+            desk.seats.heard(number, now);
+            desk.is_busy = true;
+        }
+        Came::End => {
+            desk.peers.close(number);
+            desk.is_busy = true;
+        }
+        Came::Nothing => {}
+        Came::Gone => let_go(desk, sockets, host, errors, number, HowEnded::Gone),
+    }
+}

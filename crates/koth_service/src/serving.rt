@@ -1,0 +1,102 @@
+//! The command whose turn it is.
+#![tactic(auto, using(crate::proofs::Told::stays))]
+
+ghost use Rattle.koth_service.specs.Standing.{KeepsOnBy};
+ghost use Rattle.koth_service.specs.Told.{Grows};
+
+use crate::desk::Desk;
+use crate::host::{Event, Host};
+use crate::seats::Seats;
+use crate::sockets::Sockets;
+use koth_peers::{PeerEnd, Peers, Step};
+use sector_disk::Device;
+use std::alloc::Allocator;
+use std::io::Write;
+
+/// Carries out one command at most, and tells the host what a submission was answered.
+pub(crate) fn serve_one<S, D, A, H, E>(
+    desk: &mut Desk<D, A>,
+    sockets: &mut S,
+    host: &H,
+    errors: &mut E,
+) -> Step
+where
+    S: Sockets,
+    D: Device,
+    A: Allocator + Copy,
+    H: Host<D, A>,
+    E: Write,
+    ensures served { KeepsOnBy S.happened D.facts result sockets.old desk.old sockets.new desk.new }
+    ensures told { Grows (E.contents errors.old) (E.contents errors.new) }
+{
+    let step = desk.peers.serve_next(&mut desk.store);
+    let now = sockets.now();
+    desk.is_busy |= !matches!(step, Step::Nobody);
+    desk.seats.note(step, now);
+    tell_step::<D, A, H, E>(&desk.peers, &desk.seats, step, host, errors);
+    step
+}
+
+/// Tells the host what a submission was answered in this step, if one was.
+fn tell_step<D, A, H, E>(peers: &Peers<A>, seats: &Seats<A>, step: Step, host: &H, errors: &mut E)
+where
+    D: Device,
+    A: Allocator + Copy,
+    H: Host<D, A>,
+    E: Write,
+    ensures { Grows (E.contents errors.old) (E.contents errors.new) }
+{
+    if let Step::Served(number) = step {
+        tell_reply::<D, A, H, E>(peers, seats, number, host, errors);
+    }
+}
+
+/// Tells the host what this peer was answered last, if that was to a submission.
+fn tell_reply<D, A, H, E>(
+    peers: &Peers<A>,
+    seats: &Seats<A>,
+    number: usize,
+    host: &H,
+    errors: &mut E,
+)
+where
+    D: Device,
+    A: Allocator + Copy,
+    H: Host<D, A>,
+    E: Write,
+    ensures { Grows (E.contents errors.old) (E.contents errors.new) }
+{
+    if !is_answered(peers.end(number)) {
+        return;
+    }
+    let line = last_line(peers.unsent(number));
+    if let (true, Some(seat)) = (is_reply(line), seats.at(number)) {
+        host.tell(seat.address, Event::Answered(line), errors);
+    }
+}
+
+/// Whether the command that was carried out last was answered, if the session stands so after it.
+fn is_answered(end: Option<PeerEnd>) -> bool {
+    matches!(end, None | Some(PeerEnd::EndOfInput | PeerEnd::Limit))
+}
+
+/// The last line of a text that ends with a line feed, without that.
+fn last_line(text: &[u8]) -> &[u8] {
+    let [lines @ .., b'\n'] = text else {
+        return &[];
+    };
+    let mut from = lines.len();
+    while from > 0 && lines[from - 1] != b'\n' {
+        from -= 1;
+    }
+    &lines[from..]
+}
+
+/// Whether a line is the answer to a submission.
+fn is_reply(line: &[u8]) -> bool {
+    line.starts_with(b"MEMORY")
+        || line.starts_with(b"WORN")
+        || line.starts_with(b"PLACED ")
+        || line.starts_with(b"FELL ")
+        || line.starts_with(b"REFUSED ")
+}

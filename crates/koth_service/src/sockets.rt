@@ -1,0 +1,98 @@
+//! What sockets may say.
+
+ghost use Rattle.std.specs.Prelude.{ℕ, List, ◌∷◌};
+ghost use Rattle.koth_service.specs.Noted.{Noted, Reads, Stays, Writes};
+
+use std::net::SocketAddr;
+
+/// What came of an accept.
+#[derive(Clone, Copy, Debug, PartialEq, Eq)]
+pub enum Arrival {
+    /// A peer, with its address: it is seated or refused next.
+    Peer(SocketAddr),
+    /// Nobody waits.
+    Nobody,
+    /// It failed for now, and may be tried again.
+    Failed,
+}
+
+/// What came of a read.
+#[derive(Clone, Copy, Debug, PartialEq, Eq)]
+pub enum Came {
+    /// So many bytes; none if a signal came first, and it is tried again.
+    Bytes(usize),
+    /// The peer's bytes are at their end.
+    End,
+    /// None are there now.
+    Nothing,
+    /// The peer is gone: nothing more comes of it, or goes out to it.
+    Gone,
+}
+
+/// What came of a write.
+#[derive(Clone, Copy, Debug, PartialEq, Eq)]
+pub enum Went {
+    /// So many of the bytes went out; none if a signal came first, and it is tried again.
+    Bytes(usize),
+    /// There is no room for any now.
+    Nothing,
+    /// The peer is gone: nothing more comes of it, or goes out to it.
+    Gone,
+}
+
+/// What came of throwing away.
+#[derive(Clone, Copy, Debug, PartialEq, Eq)]
+pub enum Drained {
+    /// So many bytes were thrown away.
+    Bytes(usize),
+    /// None are there now.
+    Nothing,
+    /// The peer's bytes are at their end, or it is gone.
+    End,
+}
+
+/// Sockets of peers by their numbers, none of whose calls but `wait` waits.
+pub trait Sockets {
+    // What happened on them, the latest first, as far as they keep it: a history that is true of them stays true of them as it goes on.
+    ghost happened: { Self → List Noted → Type 0 };
+
+    /// Milliseconds since some moment in the past. They don't go back.
+    fn now(&mut self) -> u64
+        ensures { Stays Self.happened self.old self.new };
+
+    /// Waits until a peer can be accepted, read from or written to, and no longer than so many milliseconds.
+    fn wait(&mut self, most: u64)
+        ensures { Stays Self.happened self.old self.new };
+
+    /// Takes a connection that waits.
+    fn accept(&mut self) -> Arrival
+        ensures { Stays Self.happened self.old self.new };
+
+    /// Puts the one that was accepted last under this number. It sends small answers at once.
+    fn seat(&mut self, number: usize)
+        ensures { (log : List Noted) → Self.happened self.old log → Self.happened self.new (Noted.Seated number ∷ log) };
+
+    /// Closes the one that was accepted last.
+    fn refuse(&mut self)
+        ensures { Stays Self.happened self.old self.new };
+
+    /// Reads from the peer of this number.
+    fn read(&mut self, number: usize, bytes: &mut [u8]) -> Came
+        ensures { Reads Self.happened number self.old bytes.new result self.new };
+
+    /// Writes to the peer of this number.
+    fn write(&mut self, number: usize, bytes: &[u8]) -> Went
+        ensures { Writes Self.happened number self.old bytes.now result self.new };
+
+    /// Tells the peer of this number that no more will go out to it. What went out still reaches it.
+    fn shut(&mut self, number: usize)
+        ensures { Stays Self.happened self.old self.new };
+
+    /// Throws away what still comes from the peer of this number.
+    fn drain(&mut self, number: usize) -> Drained
+        ensures { Stays Self.happened self.old self.new };
+
+    /// Closes the socket of this number.
+    fn close(&mut self, number: usize)
+        ensures { (log : List Noted) → Self.happened self.old log → Self.happened self.new (Noted.Closed number ∷ log) };
+}

@@ -1,0 +1,260 @@
+//! Services whose peers act by a script.
+
+use crate::fakes::{Cue, Deed, Fakes};
+use crate::hosts::{Clerk, Shut, hill};
+use koth_service::{ServiceFault, serve_peers};
+use std::process::Abort;
+use std::test::Fail;
+
+/// All bytes of answers that a peer may be sent.
+const ALL: usize = 16_777_216;
+
+/// What came of a service.
+#[derive(Drop)]
+struct Served<'c> {
+    sockets: Fakes<'c>,
+    fault: Option<ServiceFault<Shut>>,
+    /// What the host wrote.
+    told: Vec<u8>,
+}
+
+/// Serves these peers, two of them at once, until as many sessions have ended. The device fails once, after so many calls, and the hill may be
+/// opened again so often.
+fn serve<'c>(
+    rt: &(impl Abort + AllocGlobal),
+    cues: &'c [Cue],
+    connections: u32,
+    calls: u64,
+    openings: u32,
+) -> Result<Served<'c>, Fail> {
+    let mut sockets = Fakes::new(rt.alloc(), cues);
+    let mut told = Vec::new(rt.alloc());
+    let Some(store) = hill(rt.alloc(), calls) else {
+        return Err("a hill is created".into());
+    };
+    let host = Clerk::new(rt.alloc(), openings);
+    let served = serve_peers(
+        rt.alloc(),
+        &mut sockets,
+        2,
+        Some(connections),
+        store,
+        &host,
+        &mut told,
+    );
+    Ok(Served {
+        sockets,
+        fault: served.err(),
+        told,
+    })
+}
+
+fn cue(at: u64, deed: Deed) -> Cue {
+    Cue { at, deed }
+}
+
+/// A peer heard these answers.
+fn heard(rt: &impl Abort, sockets: &Fakes<'_>, port: u16, answers: &str) {
+    let Some(caller) = sockets.caller(port) else {
+        panic!(rt; "it called");
+    };
+    assert_eq!(rt; caller.heard.as_slice(), answers.as_bytes());
+}
+
+/// Two peers speak by turns, in pieces.
+#[test]
+fn two_at_once(rt: HostRuntime) -> Result<(), Fail> {
+    let cues = [
+        cue(0, Deed::Calls(1)),
+        cue(0, Deed::Takes(1, ALL)),
+        cue(0, Deed::Says(1, "SUBMIT\nMOV ")),
+        cue(1, Deed::Calls(2)),
+        cue(1, Deed::Takes(2, ALL)),
+        cue(1, Deed::Says(2, "SHOW\nSUBMIT\nJMP 0")),
+        cue(2, Deed::Says(1, "0,1\n.")),
+        cue(3, Deed::Says(2, "\n.\nSHOW\nQUIT\n")),
+        cue(4, Deed::Says(1, "\nBOGUS\n")),
+        cue(5, Deed::Ends(1)),
+        cue(6, Deed::Ends(2)),
+    ];
+    let served = serve(&rt, &cues, 2, u64::MAX, 0)?;
+    assert_eq!(rt; served.fault, None);
+    heard(&rt, &served.sockets, 1, "PLACED 2 2 2\nBAD\n");
+    heard(
+        &rt,
+        &served.sockets,
+        2,
+        ".\nPLACED 1 1 0\n1 1 0 0 Unnamed by Anonymous\n.\n",
+    );
+    Ok(())
+}
+
+/// A peer's socket was closed at this time, and so it was told of it.
+fn closed(rt: &impl Abort, sockets: &Fakes<'_>, port: u16, time: Option<u64>) {
+    let Some(caller) = sockets.caller(port) else {
+        panic!(rt; "it called");
+    };
+    assert_eq!(rt; caller.closed, time, "{port}");
+}
+
+/// What was told of a peer, line by line.
+fn told(rt: &impl Abort, served: &Served<'_>, peer: &str, events: &[&str]) -> Result<(), Fail> {
+    let text = str::from_utf8(served.told.as_slice())?;
+    let mut rest = events.iter();
+    for line in text.lines() {
+        if let Some(event) = line.strip_prefix(peer) {
+            assert_eq!(rt; Some(&event), rest.next());
+        }
+    }
+    assert!(rt; rest.next().is_none());
+    Ok(())
+}
+
+/// A peer that sent half a command is let go 60 seconds after its last byte. Another one is answered at once.
+#[test]
+fn a_silent_peer(rt: HostRuntime) -> Result<(), Fail> {
+    let cues = [
+        cue(0, Deed::Calls(1)),
+        cue(0, Deed::Takes(1, ALL)),
+        cue(7, Deed::Says(1, "SUB")),
+        cue(9, Deed::Calls(2)),
+        cue(9, Deed::Takes(2, ALL)),
+        cue(60_006, Deed::Says(2, "BOGUS\nQUIT\n")),
+        cue(60_006, Deed::Ends(2)),
+    ];
+    let served = serve(&rt, &cues, 2, u64::MAX, 0)?;
+    assert_eq!(rt; served.fault, None);
+    heard(&rt, &served.sockets, 1, "");
+    heard(&rt, &served.sockets, 2, "BAD\n");
+    closed(&rt, &served.sockets, 1, Some(60_007));
+    closed(&rt, &served.sockets, 2, Some(60_006));
+    told(&rt, &served, "1 ", &["connected", "Silent"])?;
+    told(&rt, &served, "2 ", &["connected", "By(Quit)"])?;
+    Ok(())
+}
+
+/// While the bytes of a line without an end come, 1,048,576 of them, another one's commands are served.
+#[test]
+fn an_endless_line(rt: HostRuntime) -> Result<(), Fail> {
+    let cues = [
+        cue(0, Deed::Calls(1)),
+        cue(0, Deed::Repeats(1, "0123456789abcdef", 65_536)),
+        cue(0, Deed::Calls(2)),
+        cue(0, Deed::Takes(2, ALL)),
+        cue(0, Deed::Says(2, "BOGUS\nQUIT\n")),
+        cue(0, Deed::Ends(2)),
+        cue(9, Deed::Ends(1)),
+    ];
+    let served = serve(&rt, &cues, 2, u64::MAX, 0)?;
+    assert_eq!(rt; served.fault, None);
+    heard(&rt, &served.sockets, 2, "BAD\n");
+    told(&rt, &served, "1 ", &["connected", "By(EndOfInput)"])?;
+    let text = str::from_utf8(served.told.as_slice())?;
+    assert_eq!(rt; text.lines().nth(2), Some("2 By(Quit)"));
+    Ok(())
+}
+
+/// A warrior with a name and an author of 48 bytes each: the table of two such takes 220 bytes.
+const TITLED: &str = "SUBMIT
+;name 012345678901234567890123456789012345678901234567
+;author 012345678901234567890123456789012345678901234567
+MOV 0,1
+.
+";
+
+/// A peer that takes none of its answers is let go when 1,048,576 bytes of them wait. Another one is answered.
+#[test]
+fn a_peer_that_never_reads(rt: HostRuntime) -> Result<(), Fail> {
+    let cues = [
+        cue(0, Deed::Calls(1)),
+        cue(0, Deed::Says(1, TITLED)),
+        cue(0, Deed::Says(1, TITLED)),
+        cue(0, Deed::Repeats(1, "SHOW\n", 4_800)),
+        cue(0, Deed::Calls(2)),
+        cue(0, Deed::Takes(2, ALL)),
+        cue(0, Deed::Says(2, "BOGUS\nQUIT\n")),
+        cue(0, Deed::Ends(2)),
+    ];
+    let served = serve(&rt, &cues, 2, u64::MAX, 0)?;
+    assert_eq!(rt; served.fault, None);
+    heard(&rt, &served.sockets, 1, "");
+    heard(&rt, &served.sockets, 2, "BAD\n");
+    closed(&rt, &served.sockets, 1, Some(0));
+    let events = ["connected", "PLACED 1 1 0", "PLACED 2 2 2", "By(Unread)"];
+    told(&rt, &served, "1 ", &events)
+}
+
+/// A peer takes six bytes of its answers, and is gone: what it submitted stays.
+#[test]
+fn a_peer_that_is_reset(rt: HostRuntime) -> Result<(), Fail> {
+    let cues = [
+        cue(0, Deed::Calls(1)),
+        cue(0, Deed::Takes(1, 6)),
+        cue(0, Deed::Says(1, "SUBMIT\nMOV 0,1\n.\nSHOW\n")),
+        cue(1, Deed::Resets(1)),
+        cue(2, Deed::Calls(2)),
+        cue(2, Deed::Takes(2, ALL)),
+        cue(2, Deed::Says(2, "SHOW\n")),
+        cue(2, Deed::Ends(2)),
+    ];
+    let served = serve(&rt, &cues, 2, u64::MAX, 0)?;
+    assert_eq!(rt; served.fault, None);
+    heard(&rt, &served.sockets, 1, "PLACED");
+    heard(&rt, &served.sockets, 2, "1 1 0 0 Unnamed by Anonymous\n.\n");
+    closed(&rt, &served.sockets, 1, Some(1));
+    told(&rt, &served, "1 ", &["connected", "PLACED 1 1 0", "Gone"])?;
+    Ok(())
+}
+
+/// An accept that fails is tried again after 100 milliseconds. A third peer, of which two may be at once, waits until one of them was let go.
+#[test]
+fn arrivals(rt: HostRuntime) -> Result<(), Fail> {
+    let cues = [
+        cue(0, Deed::Fails),
+        cue(0, Deed::Calls(1)),
+        cue(0, Deed::Takes(1, ALL)),
+        cue(200, Deed::Calls(2)),
+        cue(200, Deed::Takes(2, ALL)),
+        cue(300, Deed::Calls(3)),
+        cue(300, Deed::Takes(3, ALL)),
+        cue(300, Deed::Says(3, "BOGUS\nQUIT\n")),
+        cue(400, Deed::Says(1, "QUIT\nSHOW\n")),
+        cue(1_000, Deed::Says(1, "SHOW\n")),
+        cue(1_500, Deed::Ends(3)),
+        cue(2_000, Deed::Says(2, "BOGUS\nQUIT\n")),
+        cue(2_100, Deed::Ends(2)),
+    ];
+    let served = serve(&rt, &cues, 3, u64::MAX, 0)?;
+    assert_eq!(rt; served.fault, None);
+    heard(&rt, &served.sockets, 1, "");
+    heard(&rt, &served.sockets, 2, "BAD\n");
+    heard(&rt, &served.sockets, 3, "BAD\n");
+    closed(&rt, &served.sockets, 1, Some(1_400));
+    closed(&rt, &served.sockets, 3, Some(1_500));
+    closed(&rt, &served.sockets, 2, Some(2_100));
+    told(&rt, &served, "3 ", &["connected", "By(Quit)"])
+}
+
+/// The device fails in the first submission, which isn't answered. The hill is opened again, and the other peer is served on it.
+#[test]
+fn a_device_that_fails(rt: HostRuntime) -> Result<(), Fail> {
+    let cues = [
+        cue(0, Deed::Calls(1)),
+        cue(0, Deed::Takes(1, ALL)),
+        cue(0, Deed::Calls(2)),
+        cue(0, Deed::Takes(2, ALL)),
+        cue(0, Deed::Says(1, "BOGUS\nSUBMIT\nMOV 0,1\n.\nSHOW\n")),
+        cue(0, Deed::Ends(1)),
+        cue(1, Deed::Says(2, "SUBMIT\nMOV 0,1\n.\n")),
+        cue(2, Deed::Ends(2)),
+    ];
+    let served = serve(&rt, &cues, 2, 8, 1)?;
+    assert_eq!(rt; served.fault, None);
+    heard(&rt, &served.sockets, 1, "BAD\n");
+    heard(&rt, &served.sockets, 2, "PLACED 1 1 0\n");
+    told(&rt, &served, "1 ", &["connected", "By(StoreFailed)"])?;
+    let gone = serve(&rt, &cues, 2, 8, 0)?;
+    assert_eq!(rt; gone.fault, Some(ServiceFault::Reopening(Shut)));
+    heard(&rt, &gone.sockets, 2, "");
+    Ok(())
+}
