@@ -7,7 +7,7 @@ use Rattle.war_types.specs.declared.fault.AsmFault.{AsmFault}
 use Rattle.war_types.specs.declared.settings.RawSettings.{RawSettings}
 use Rattle.koth_commands.specs.Check.{AreTaken, Checks, EndsCheckUnder, IsTaken, status_behind}
 use Rattle.koth_commands.specs.Failure.{failure_of, failure_status, failure_word}
-use Rattle.koth_commands.specs.Fight.{IsFaultOf}
+use Rattle.koth_commands.specs.Pair.{IsFaultOf}
 use Rattle.koth_commands.specs.Told.{TellsWord, WritesSome}
 use Rattle.koth_commands.specs.declared.failure.Trouble.{Trouble}
 use Rattle.koth_commands.specs.declared.failure.Trouble.TheVariants as troubles

@@ -8,7 +8,7 @@ use Rattle.war_types.specs.declared.settings.SettingsFault.{SettingsFault}
 use Rattle.redcode_asm.specs.Assembly.{assembly}
 use Rattle.koth_commands.specs.Answer.{EndsGiven}
 use Rattle.koth_commands.specs.Failure.{failure_word}
-use Rattle.koth_commands.specs.Fight.{IsFaultOf}
+use Rattle.koth_commands.specs.Pair.{IsFaultOf}
 use Rattle.koth_commands.specs.Streams.{Streams}
 use Rattle.koth_commands.specs.Told.{TellsWord, WritesSome}
 use Rattle.koth_commands.specs.declared.failure.Failure.TheVariants as failures

@@ -5,7 +5,10 @@ pub mod Cause
 pub mod Told
 pub mod Failure
 pub mod Answer
--- What each command writes and how it ends: `asm`, `fight` and `check`.
+-- Two warriors, and how a command of their match ends.
+pub mod Pair
+-- What each command writes and how it ends: `asm`, `fight`, `replay` and `check`.
 pub mod Asm
 pub mod Fight
+pub mod Replay
 pub mod Check

@@ -1,4 +1,4 @@
-//! What is told of settings that are refused.
+//! What is told of settings that are refused, and of a round that a match doesn't have.
 
 ghost use Rattle.std.specs.Prelude.{◌≡◌};
 ghost use Rattle.koth_commands.specs.Answer.{settings_word};
@@ -22,8 +22,37 @@ pub fn refuse_settings<A: Allocator, E: Write>(
     ensures status { result ≡ Status.Refused }
     ensures told { TellsWord (settings_word fault) (E.contents errors.old) (E.contents errors.new) }
 {
+    tell_settings(fault, range_text(alloc, given, fault), errors)
+}
+
+/// Tells of a round that a match of so many rounds doesn't have, as of settings that are refused. Rounds are counted from 1.
+pub(crate) fn refuse_round<A: Allocator, E: Write>(
+    alloc: A,
+    rounds: u32,
+    round: u32,
+    errors: &mut E,
+) -> Status
+    ensures status { result ≡ Status.Refused }
+    ensures told { TellsWord (settings_word SettingsFault.Rounds) (E.contents errors.old) (E.contents errors.new) }
+{
+    let told = format!(in alloc;
+        "--round is {}, and must be 1 to --rounds {}\n",
+        round, rounds
+    );
+    tell_settings(SettingsFault::Rounds, told, errors)
+}
+
+/// Tells which setting is refused, and behind it this text where there was memory for it.
+fn tell_settings<A: Allocator, E: Write>(
+    fault: SettingsFault,
+    told: Result<String<A>, AllocError>,
+    errors: &mut E,
+) -> Status
+    ensures status { result ≡ Status.Refused }
+    ensures told { TellsWord (settings_word fault) (E.contents errors.old) (E.contents errors.new) }
+{
     let word = settings_word(fault);
-    match range_text(alloc, given, fault) {
+    match told {
         Ok(text) => tell_text(word, Apart::Colon, text.as_bytes(), errors),
         Err(AllocError) => tell_text(word, Apart::Line, b"", errors),
     }

@@ -6,7 +6,7 @@ use Rattle.std.proofs.lemmas.List.{length-map}
 use Rattle.std.proofs.KnownBytes.{Keeps-refl}
 use Rattle.std.specs.Io.KnownBytes.{Keeps}
 use Rattle.clap.specs.Walk.{Row, Text}
-use Rattle.clap.specs.Words.{all_of, first_of}
+use Rattle.clap.specs.Words.{all_of, first_of, one_of}
 use Rattle.war_types.specs.declared.settings.RawSettings.{RawSettings}
 use Rattle.war_types.specs.declared.settings.SettingsFault.{SettingsFault}
 use Rattle.war_types.specs.Settings.{settings_of}
@@ -15,13 +15,14 @@ use Rattle.koth_commands.specs.Asm.{EndsAsmFrom, EndsAsmOf, EndsUnder, is_of_inp
 use Rattle.koth_commands.specs.Check.{EndsCheck, EndsCheckUnder}
 use Rattle.koth_commands.specs.Failure.{failure_word}
 use Rattle.koth_commands.specs.Fight.{EndsFight, EndsFightUnder}
+use Rattle.koth_commands.specs.Replay.{EndsReplay, EndsReplayUnder, with_round}
 use Rattle.koth_commands.specs.Streams.{Streams, streams, unread}
 use Rattle.koth_commands.specs.Told.{TellsWord}
 use Rattle.koth_server.specs.Hills.{EndsCreate, EndsHill, EndsServe, EndsSubmit, Said, SaysCreated, SaysShown, listening_line}
 use Rattle.koth_server.specs.Audit.{EndsAudit}
 use Rattle.koth_server.specs.Migration.{SaysMigrated}
 use Rattle.koth_server.specs.Page.{SaysPage}
-use Rattle.koth_words.specs.Options.{settings_in}
+use Rattle.koth_words.specs.Options.{number_or, settings_in}
 use Rattle.koth_server.specs.Run.{EndsRequest, EndsWithout, viewed}
 use Rattle.koth_words.specs.Words.{AsksBy, IsRefusal, IsSource, given_in, is_input, matches_in, view_in}
 use Rattle.koth_commands.specs.declared.failure.Failure.TheVariants as failures
@@ -31,7 +32,7 @@ use Rattle.koth_commands.specs.declared.status.Status.TheVariants.{NoMemory, Wor
 use Rattle.koth_words.specs.declared.words.NoRequest.{NoRequest}
 use Rattle.koth_words.specs.declared.words.NoRequest.TheVariants as reasons
 use Rattle.koth_words.specs.declared.words.Request.{Request}
-use Rattle.koth_words.specs.declared.words.Request.TheVariants.{Asm, Check, Fight, Create, Submit, Show, Serve, Audit, Migrate, Page}
+use Rattle.koth_words.specs.declared.words.Request.TheVariants.{Asm, Check, Fight, Create, Submit, Show, Serve, Audit, Migrate, Page, Replay}
 use Rattle.koth_words.specs.declared.words.Source.{Source}
 use Rattle.koth_words.specs.declared.words.Source.TheVariants as sources
 use Rattle.koth_words.specs.declared.words.View.{View}
@@ -62,7 +63,8 @@ EndsNamed name view given status before after =
     (Either (bytes_eq name (codes "audit")) (EndsAudit status u v)
     (Either (bytes_eq name (codes "migrate")) (EndsHill SaysMigrated status u v)
     (Either (bytes_eq name (codes "page")) (EndsHill SaysPage status u v)
-    (Either (bytes_eq name (codes "serve")) (EndsServe status u v) ⊤)))))))))
+    (Either (bytes_eq name (codes "serve")) (EndsServe status u v)
+    (Either (bytes_eq name (codes "replay")) (EndsReplay (number_or 1 (one_of (codes "round") given)) settings status u v) ⊤))))))))))
 
 -- ---- a request: the command that the words name ended so, under the settings that they give
 
@@ -96,6 +98,9 @@ module _ (view : View) (e : Text × List Row) (status : Status) (before after : 
   named (Audit file) asks ends = subst Ends (sym asks.0) ends.0
   named (Migrate files) asks ends = subst Ends (sym asks.0) ends.0
   named (Page file) asks ends = subst Ends (sym asks.0) ends.0
+  named (Replay given watched) asks ends = subst Ends (sym asks.0)
+      (subst (λ n. EndsReplay n (settings_of (settings_in e.1)) status (unread before) (unread after)) asks.4
+      (subst (λ s. EndsReplay watched.round (settings_of s) status (unread before) (unread after)) asks.1 ends.0))
 
 pub carried : (view : View) (entered : Option (Text × List Row)) (request : Request) (status : Status) (before after : Streams) (name : Text)
     → AsksBy entered request → EndsRequest view request status before after → option_map (λ e. e.0) entered ≡ Some name
@@ -160,6 +165,10 @@ module _ (i o p e f : Option (List ℕ)) (kept : Keeps o p) (told : TellsWord (f
   fight_no_memory view r = given_no_memory None o p e f kept told (λ s end u v. EndsFightUnder s view end u.output v.output u.errors v.errors) r
       (λ s. (kept, told))
 
+  replay_no_memory : (round : ℕ) (r : Result RawSettings SettingsFault) → EndsReplay round r NoMemory (streams None o e) (streams None p f)
+  replay_no_memory round r = given_no_memory None o p e f kept told (λ s end u v. EndsReplayUnder s round end u.output v.output u.errors v.errors) (with_round round r)
+      (λ s. (kept, told))
+
   create_no_memory : (r : Result RawSettings SettingsFault) → EndsCreate r NoMemory (streams None o e) (streams None p f)
   create_no_memory r = given_no_memory None o p e f kept told (λ s. EndsHill SaysCreated) r (λ s. hill_no_memory None o p e f kept told SaysCreated)
 
@@ -176,7 +185,8 @@ module _ (i o p e f : Option (List ℕ)) (kept : Keeps o p) (told : TellsWord (f
       (either (bytes_eq name (codes "audit")) _ _ (audit_no_memory None o p e f kept told)
       (either (bytes_eq name (codes "migrate")) _ _ (hill_no_memory None o p e f kept told SaysMigrated)
       (either (bytes_eq name (codes "page")) _ _ (hill_no_memory None o p e f kept told SaysPage)
-      (either (bytes_eq name (codes "serve")) _ ⊤ (serve_no_memory None o p e f kept told) tt)))))))))
+      (either (bytes_eq name (codes "serve")) _ _ (serve_no_memory None o p e f kept told)
+      (either (bytes_eq name (codes "replay")) _ ⊤ (replay_no_memory (number_or 1 (one_of (codes "round") given)) settings) tt))))))))))
 
 module _ (i o p e f : Option (List ℕ)) (status : Status) where
   pub without : (name : Text) (view : View) (given : List Row) (none : NoRequest) → none ≡ reasons.Memory

@@ -1,12 +1,13 @@
 -- How a run ends.
-use Rattle.std.specs.Prelude.{◌≡◌, ◌≢◌, ◌⊎◌, ℕ, true, List, [], length, Option, codes, unwrap_or}
+use Rattle.std.specs.Prelude.{◌≡◌, ◌≢◌, ◌⊎◌, ℕ, List, [], length, Option, codes, unwrap_or}
 use Rattle.std.specs.Io.KnownBytes.{Keeps}
-use Rattle.clap.specs.Words.{Text, all_of}
+use Rattle.clap.specs.Words.{Text, all_of, one_of}
 use Rattle.war_types.specs.Settings.{settings_of}
 use Rattle.koth_commands.specs.Answer.{Tells}
 use Rattle.koth_commands.specs.Asm.{EndsAsmFrom, EndsAsmOf}
 use Rattle.koth_commands.specs.Check.{EndsCheck}
 use Rattle.koth_commands.specs.Fight.{EndsFight}
+use Rattle.koth_commands.specs.Replay.{EndsReplay}
 use Rattle.koth_server.specs.Hills.{EndsCreate, EndsHill, EndsServe, EndsSubmit, SaysShown}
 use Rattle.koth_server.specs.Audit.{EndsAudit}
 use Rattle.koth_server.specs.Migration.{SaysMigrated}
@@ -16,11 +17,12 @@ use Rattle.koth_commands.specs.Streams.{Streams, unread}
 use Rattle.koth_commands.specs.declared.failure.Failure.TheVariants as failures
 use Rattle.koth_commands.specs.declared.status.Status.{Status}
 use Rattle.koth_commands.specs.declared.status.Status.TheVariants as statuses
-use Rattle.koth_words.specs.Words.{given_by, is_taken, matches_named, reads_input, settings_named, view_named, AreWrong, AsksFor}
+use Rattle.koth_words.specs.Options.{number_or}
+use Rattle.koth_words.specs.Words.{given_by, matches_named, reads_input, settings_named, view_named, AreTaken, AreWrong, AsksFor}
 use Rattle.koth_words.specs.declared.words.NoRequest.{NoRequest}
 use Rattle.koth_words.specs.declared.words.NoRequest.TheVariants as reasons
 use Rattle.koth_words.specs.declared.words.Request.{Request}
-use Rattle.koth_words.specs.declared.words.Request.TheVariants.{Asm, Check, Fight, Create, Submit, Show, Serve, Audit, Migrate, Page}
+use Rattle.koth_words.specs.declared.words.Request.TheVariants.{Asm, Check, Fight, Create, Submit, Show, Serve, Audit, Migrate, Page, Replay}
 use Rattle.koth_words.specs.declared.words.View.{View}
 
 -- the code is that of a status of which this holds
@@ -46,6 +48,7 @@ CommandEnds view (Audit file) status before after = EndsAudit status (unread bef
 CommandEnds view (Migrate files) status before after = EndsHill SaysMigrated status (unread before) (unread after)
 CommandEnds view (Page file) status before after = EndsHill SaysPage status (unread before) (unread after)
 CommandEnds view (Serve service) status before after = EndsServe status (unread before) (unread after)
+CommandEnds view (Replay given watched) status before after = EndsReplay watched.round (settings_of given) status (unread before) (unread after)
 
 -- how a run ends that carried a request out: as its command does, and never as at a fault of the words
 abbrev pub EndsRequest : View → Request → Status → Streams → Streams → Type 0
@@ -61,6 +64,10 @@ EndsWithout reasons.Memory status before after =
 -- the files that the words name for `check`
 abbrev pub files_named : List (List ℕ) → List Text
 files_named given = unwrap_or (all_of (codes "FILE") (given_by given)) []
+
+-- the round that the words name for `replay`, counted from 1
+abbrev pub round_named : List (List ℕ) → ℕ
+round_named given = number_or 1 (one_of (codes "round") (given_by given))
 
 -- How a run with these words ends, where tables are in this view unless the words ask for one: as the command that they name does, under the
 -- settings that they give; only words that are wrong end as a fault of the words, and then nothing is read, and nothing written on the output.
@@ -78,6 +85,8 @@ pub record EndsRun (view : View) (given : List (List ℕ)) (status : Status) (be
   pub migrate : AsksFor (codes "migrate") given → EndsHill SaysMigrated status (unread before) (unread after)
   pub page : AsksFor (codes "page") given → EndsHill SaysPage status (unread before) (unread after)
   pub serve : AsksFor (codes "serve") given → EndsServe status (unread before) (unread after)
-  pub words : is_taken given ≡ true → status ≢ statuses.WordFault
+  pub replay : AsksFor (codes "replay") given
+      → EndsReplay (round_named given) (settings_of (settings_named given)) status (unread before) (unread after)
+  pub words : AreTaken given → status ≢ statuses.WordFault
   pub wrong : AreWrong given → (status ≡ statuses.WordFault) ⊎ (status ≡ statuses.NoMemory)
   pub word_fault : status ≡ statuses.WordFault → Keeps before.input after.input × Keeps before.output after.output

@@ -4,14 +4,14 @@
 //! which the data pass:
 //!
 //! - `program`: `run`, which carries out what the words of the command line ask for, by `koth_words`, and ends with a status;
-//! - `create`, `submit`, `show`, `page`, `audit`, `migrate`, `serve`: a command on a hill each, and `peers`: a connection of `serve`;
+//! - `create`, `submit`, `show`, `page`, `audit`, `migrate`, `serve`: a command on a hill each, and `log`: what is told of a service;
 //! - `files`: the hill in a file, opened, `old_hill`: how one of the old format is known, and `damage`: which warrior can't be read;
 //! - `hill_fault`, `reply_status`: what is told of a hill that can't be worked on, and how the program ends then, and with a
 //!   reply.
 //!
 //! `run` says what is written and how it ends as a function of the words and of what was read (`asm`, `fight`, `create`,
 //! `submit`, `show`, `page`, `audit`, `migrate`, `serve`); at words with a fault nothing is read, and nothing is written on the output (`word_fault`).
-//! `serve_connections` goes on with no store whose device failed, and opens the hill again first.
+//! What a service does is `koth_service`'s.
 //!
 //! Settings must be checked before anything is read, and a hill opened before a source is. `asm`, `fight` and the statuses
 //! are `koth_commands`', a session and its lines `koth_session`'s, and this crate passes on what is public of them.
@@ -26,7 +26,6 @@ mod log;
 mod migrate;
 mod old_hill;
 mod page;
-mod peers;
 mod program;
 mod reply_status;
 mod serve;
@@ -39,7 +38,5 @@ pub use koth_commands::{Failure, Status};
 pub use koth_protocol::{Counted, ReadFault, WriteFault};
 pub use koth_session::{SessionEnd, session, write_reply};
 pub use koth_words::View;
-pub use log::Log;
 pub use program::run;
-pub use serve::{HillPlace, serve_connections};
 pub use trouble::HillTrouble;

@@ -2,27 +2,13 @@
 
 ghost use Rattle.koth_commands.specs.Told.{WritesSome};
 
-use crate::hill_fault::HillFault;
 use jiff::Timestamp;
 use koth_commands::write_whole;
-use koth_session::SessionEnd;
+use koth_service::{Event, HowEnded, PeerEnd};
 use std::alloc::{AllocError, Allocator};
 use std::io::Write;
 use std::net::SocketAddr;
 use std::rt::Clock;
-
-/// What happens while a hill is served.
-#[derive(Clone, Copy, Debug)]
-pub(crate) enum Event {
-    /// A peer has connected.
-    Connected,
-    /// A peer submitted the warrior with this entry number, and it stays on the hill.
-    Placed(u64),
-    /// A peer submitted the warrior with this entry number, and it fell at once or by a later one.
-    Fell(u64),
-    /// A peer's session has ended.
-    Ended(SessionEnd),
-}
 
 /// Who is told what happens.
 #[derive(Clone, Copy)]
@@ -42,7 +28,7 @@ impl<'r, R: Clock> Log<'r, R> {
         &self,
         alloc: A,
         peer: SocketAddr,
-        event: Event,
+        event: Event<'_>,
         errors: &mut E,
     )
         ensures { WritesSome (E.contents errors.old) (E.contents errors.new) }
@@ -60,14 +46,16 @@ impl<'r, R: Clock> Log<'r, R> {
         &self,
         alloc: A,
         peer: SocketAddr,
-        event: Event,
+        event: Event<'_>,
     ) -> Result<String<A>, AllocError> {
         let time = self.seconds();
         match event {
             Event::Connected => format!(in alloc; "{} {}: connected\n", time, peer),
-            Event::Placed(entry) => format!(in alloc; "{} {}: entry {} stays\n", time, peer, entry),
-            Event::Fell(entry) => format!(in alloc; "{} {}: entry {} fell\n", time, peer, entry),
-            Event::Ended(end) => format!(in alloc; "{} {}: {}\n", time, peer, end_text(end)),
+            Event::Answered(line) => {
+                let line = str::from_utf8(line).unwrap_or("answered");
+                format!(in alloc; "{} {}: {}\n", time, peer, line)
+            }
+            Event::Ended(how) => format!(in alloc; "{} {}: {}\n", time, peer, end_text(how)),
         }
     }
 
@@ -81,18 +69,19 @@ impl<'r, R: Clock> Log<'r, R> {
 }
 
 /// Whether it is a device that failed.
-fn is_fault(event: Event) -> bool {
-    matches!(event, Event::Ended(SessionEnd::StoreFailed))
+fn is_fault(event: Event<'_>) -> bool {
+    matches!(event, Event::Ended(HowEnded::By(PeerEnd::StoreFailed)))
 }
 
-fn end_text(end: SessionEnd) -> &'static str {
-    match end {
-        SessionEnd::Quit => "ended by QUIT",
-        SessionEnd::EndOfInput => "ended by the peer",
-        SessionEnd::ReadFault => "ended: the peer was silent for too long, or is gone",
-        SessionEnd::WriteFault => "ended: the peer takes no answer",
-        SessionEnd::Limit => "ended: 16 MiB were taken",
-        SessionEnd::StoreFailed => "DISK the device failed: the hill is opened again",
-        SessionEnd::Memory => "ended: memory ran out",
+fn end_text(how: HowEnded) -> &'static str {
+    match how {
+        HowEnded::By(PeerEnd::Quit) => "ended by QUIT",
+        HowEnded::By(PeerEnd::EndOfInput) => "ended by the peer",
+        HowEnded::By(PeerEnd::Limit) => "ended: 16 MiB were taken",
+        HowEnded::By(PeerEnd::Unread) => "ended: the peer takes no answer",
+        HowEnded::By(PeerEnd::StoreFailed) => "DISK the device failed: the hill was opened again",
+        HowEnded::By(PeerEnd::Memory) => "ended: memory ran out",
+        HowEnded::Silent => "ended: the peer was silent for too long",
+        HowEnded::Gone => "ended: the peer is gone",
     }
 }

@@ -15,6 +15,7 @@ use hill_file::TryLock;
 use koth_commands::asm::asm;
 use koth_commands::check::check;
 use koth_commands::fight::fight;
+use koth_commands::replay::replay;
 use koth_commands::{Cause, Failure, Status, write_whole};
 use koth_words::{NoRequest, Request, View, parse};
 use std::alloc::{Allocator, Global};
@@ -124,6 +125,16 @@ where
         Request::Migrate(files) => migrate(rt, alloc, files, output, errors),
         Request::Page(file) => page(rt, alloc, file, output, errors),
         Request::Serve(service) => serve(rt, alloc, service, output, errors),
+        Request::Replay(given, watched) => replay(
+            rt,
+            alloc,
+            given,
+            watched.older,
+            watched.younger,
+            watched.round,
+            output,
+            errors,
+        ),
     }
 }
 

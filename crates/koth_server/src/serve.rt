@@ -1,59 +1,60 @@
-//! The command `serve`: sessions over a socket on the hill in a file.
+//! The command `serve`: sessions of many peers over sockets on the hill in a file.
 
-ghost use Rattle.std.specs.Prelude.{◌≡◌, ◌≢◌, None, false, IfOk, IfSome, MatchResult};
+ghost use Rattle.std.specs.Prelude.{◌≡◌, ◌≢◌, None, false, IfOk, MatchResult};
 ghost use Rattle.koth_server.specs.Hills.{listening_line, Announces, AnnouncesPart, EndsServe};
 ghost use Rattle.koth_commands.specs.Streams.{streams};
-ghost use Rattle.koth_commands.specs.Told.{WritesSome};
 
 use crate::files::{HillStore, open_hill};
+use crate::hill_fault::HillFault;
 use crate::log::Log;
-use crate::peers::serve_peer;
 use crate::trouble::HillTrouble;
 use hill_file::{HillFile, Sharing, TryLock};
-use hill_store::Store;
 use koth_commands::{Cause, Status, Subject, reason_of, write_whole};
 use koth_protocol::Line;
+use koth_service::{Event, Host, PolledSockets, ServiceFault, serve_peers};
 use koth_words::Service;
-use sector_disk::Device;
 use std::alloc::Allocator;
 use std::io;
-use std::io::{Read, Write};
-use std::net::{Ipv4Addr, Net, OpenListener, OpenStream, SocketAddr, SocketAddrV4, TcpListener};
+use std::io::Write;
+use std::net::{Net, SocketAddr};
 use std::rt::{Clock, Files};
 
-/// Where a hill is, which can be opened again.
-pub trait HillPlace<D: Device, A: Allocator> {
-    /// Opens the hill, or says why it can't be.
-    fn open(&self) -> Result<Store<D, A>, HillTrouble<'_>>
-        ensures { IfOk result (λ store. store.reopen ≡ false) };
-}
-
-/// A hill in a file.
+/// The hill in a file, which is opened again where its device failed, and the log of its service.
 #[derive(Drop)]
-struct Place<'f, R, A> {
+struct Hosting<'f, R, A> {
     rt: &'f R,
     alloc: A,
     path: &'f str,
+    log: Log<'f, R>,
 }
 
-impl<'f, R, A> HillPlace<HillFile<'f, R>, A> for Place<'f, R, A>
+impl<'f, R, A> Host<HillFile<'f, R>, A> for Hosting<'f, R, A>
 where
-    R: Files,
+    R: Files + Clock,
     R::File: TryLock,
     A: Allocator + Copy,
 {
-    fn open(&self) -> Result<Store<HillFile<'f, R>, A>, HillTrouble<'_>> {
-        open_hill(self.rt, self.alloc, self.path, Sharing::Alone)
+    type Fault = HillFault;
+
+    fn reopen(&self) -> Result<HillStore<'f, R, A>, HillFault> {
+        match open_hill(self.rt, self.alloc, self.path, Sharing::Alone) {
+            Ok(store) => Ok(store),
+            Err(trouble) => Err(trouble.fault),
+        }
+    }
+
+    fn tell<E: Write>(&self, peer: SocketAddr, event: Event<'_>, errors: &mut E) {
+        self.log.tell(self.alloc, peer, event, errors);
     }
 }
 
-/// Serves sessions on the hill in a file, over connections to a port of 127.0.0.1, one after the other, and ends after as many
-/// as are asked for, if a number is. The line `LISTENING port` tells that peers may connect, and to which port if the system chooses it.
-/// What happens is told on the errors, unless it is to be quiet.
-pub(crate) fn serve<R, A, O, E>(
-    rt: &R,
+/// Serves sessions on the hill in a file, of as many peers at once as are asked for, over connections to an address and a port, and ends after
+/// as many as are asked for, if a number is. The line `LISTENING port` tells that peers may connect, and to which port if the system
+/// chooses it. What happens is told on the errors, unless it is to be quiet.
+pub(crate) fn serve<'f, R, A, O, E>(
+    rt: &'f R,
     alloc: A,
-    service: Service<'_>,
+    service: Service<'f>,
     output: &mut O,
     errors: &mut E,
 ) -> Status
@@ -68,38 +69,39 @@ where
         (streams None (O.contents output.new) (E.contents errors.new)) }
     ensures words { result ≢ Status.WordFault }
 {
-    let place = Place {
+    let host = Hosting {
         rt,
         alloc,
         path: service.hill,
+        log: Log::new(rt, service.quiet),
     };
-    let (store, listener) = match begin(&place, service.port, output) {
+    let (store, mut sockets) = match begin(&host, service, output) {
         Ok(begun) => begun,
         Err(trouble) => return trouble.tell(alloc, errors),
     };
-    let log = Log::new(rt, service.quiet);
-    match serve_connections(
+    let served = serve_peers(
         alloc,
-        &listener,
+        &mut sockets,
+        service.peers as usize,
         service.connections,
         store,
-        &place,
-        &log,
+        &host,
         errors,
-    ) {
+    );
+    match served {
         Ok(()) => Status::Done,
-        Err(trouble) => trouble.tell(alloc, errors),
+        Err(fault) => trouble_of(&host, fault).tell(alloc, errors),
     }
 }
 
 /// Opens the hill and then the port, and writes the line of the port.
-fn begin<'p, 'f, R, A, O>(
-    place: &'p Place<'f, R, A>,
-    port: u16,
+fn begin<'f, R, A, O>(
+    host: &Hosting<'f, R, A>,
+    service: Service<'f>,
     output: &mut O,
-) -> Result<(HillStore<'f, R, A>, R::Listener), HillTrouble<'p>>
+) -> Result<(HillStore<'f, R, A>, PolledSockets<'f, R, A>), HillTrouble<'f>>
 where
-    R: Files + Net,
+    R: Files + Net + Clock,
     R::File: TryLock,
     A: Allocator + Copy,
     O: Write,
@@ -107,45 +109,51 @@ where
     ensures announced { MatchResult result (λ _. Announces (O.contents output.old) (O.contents output.new))
         (λ _. AnnouncesPart (O.contents output.old) (O.contents output.new)) }
 {
-    let store = match place.open() {
+    let store = match open_hill(host.rt, host.alloc, host.path, Sharing::Alone) {
         Ok(store) => store,
         Err(trouble) => return Err(trouble),
     };
-    match announced(place.rt, port, output) {
-        Ok(listener) => Ok((store, listener)),
+    match announced(host.rt, host.alloc, service, output) {
+        Ok(sockets) => Ok((store, sockets)),
         Err(trouble) => Err(trouble),
     }
 }
 
-/// A listener at this port, whose line is written.
-fn announced<'t, R: Net, O: Write>(
-    rt: &R,
-    port: u16,
+/// Sockets at the address that is asked for, whose line is written.
+fn announced<'r, 't, R, A, O>(
+    rt: &'r R,
+    alloc: A,
+    service: Service<'_>,
     output: &mut O,
-) -> Result<R::Listener, HillTrouble<'t>>
+) -> Result<PolledSockets<'r, R, A>, HillTrouble<'t>>
+where
+    R: Net + Clock,
+    A: Allocator + Copy,
+    O: Write,
     ensures { MatchResult result (λ _. Announces (O.contents output.old) (O.contents output.new))
         (λ _. AnnouncesPart (O.contents output.old) (O.contents output.new)) }
 {
-    match listen(rt, port) {
-        Ok(listener) => match announce(&listener, port, output) {
-            Ok(()) => Ok(listener),
+    let address = SocketAddr::new(service.listen, service.port);
+    match PolledSockets::bind(rt, alloc, address, service.peers as usize) {
+        Ok(sockets) => match announce(sockets.local_addr(), service.port, output) {
+            Ok(()) => Ok(sockets),
             Err(trouble) => Err(trouble),
         },
-        Err(error) => Err(port_failed(port, &error)),
+        Err(error) => Err(port_failed(service.port, &error)),
     }
 }
 
-/// Writes the line of a listener.
-fn announce<'t, L: OpenListener, O: Write>(
-    listener: &L,
+/// Writes the line of sockets at this address.
+fn announce<'t, O: Write>(
+    address: io::Result<SocketAddr>,
     asked: u16,
     output: &mut O,
 ) -> Result<(), HillTrouble<'t>>
     ensures { MatchResult result (λ _. Announces (O.contents output.old) (O.contents output.new))
         (λ _. AnnouncesPart (O.contents output.old) (O.contents output.new)) }
 {
-    let port = match port_of(listener) {
-        Ok(port) => port,
+    let port = match address {
+        Ok(address) => address.port(),
         Err(error) => return Err(port_failed(asked, &error)),
     };
     match write_whole(output, listening_line(port).as_slice()) {
@@ -162,17 +170,30 @@ fn port_failed<'t>(port: u16, error: &io::Error) -> HillTrouble<'t> {
     })
 }
 
-/// A listener at this port of 127.0.0.1, or at one that the system chooses where 0 is asked for.
-fn listen<R: Net>(rt: &R, port: u16) -> io::Result<R::Listener> {
-    TcpListener::bind(
-        rt,
-        SocketAddr::V4(SocketAddrV4::new(Ipv4Addr::LOCALHOST, port)),
-    )
+/// Why a service has ended.
+fn trouble_of<'f, R, A>(host: &Hosting<'f, R, A>, fault: ServiceFault<HillFault>) -> HillTrouble<'f>
+where
+    R: Files + Clock,
+    R::File: TryLock,
+    A: Allocator + Copy,
+{
+    match fault {
+        ServiceFault::Memory => HillTrouble::memory(),
+        ServiceFault::Reopening(fault) => trouble_at(host, fault),
+    }
 }
 
-/// The port that peers connect to.
-fn port_of<L: OpenListener>(listener: &L) -> io::Result<u16> {
-    Ok(listener.local_addr()?.port())
+/// Why the hill can't be opened again: it is tried once more for what failed, and why.
+fn trouble_at<'f, R, A>(host: &Hosting<'f, R, A>, fault: HillFault) -> HillTrouble<'f>
+where
+    R: Files + Clock,
+    R::File: TryLock,
+    A: Allocator + Copy,
+{
+    match open_hill(host.rt, host.alloc, host.path, Sharing::Alone) {
+        Ok(_store) => HillTrouble::of(host.path, fault),
+        Err(trouble) => trouble,
+    }
 }
 
 fn listening_line(port: u16) -> Line
@@ -183,68 +204,4 @@ fn listening_line(port: u16) -> Line
     line.put_number(u64::from(port));
     line.put(b"\n");
     line
-}
-
-/// Serves as many connections, one after the other, or without end if no number is given, and tells the log what happens. After a session in
-/// which the device failed the store is closed, and the hill is opened again before the next connection. A refused opening ends the service
-/// with its fault, and a failed accept with `HillFault::Failed(Failure::Stream)`.
-pub fn serve_connections<'p, S, L, D, A, P, R, E>(
-    alloc: A,
-    listener: &L,
-    connections: Option<u32>,
-    store: Store<D, A>,
-    place: &'p P,
-    log: &Log<'_, R>,
-    errors: &mut E,
-) -> Result<(), HillTrouble<'p>>
-where
-    S: Read + Write + OpenStream + Drop,
-    L: OpenListener<Stream = S>,
-    D: Device + Drop,
-    A: Allocator + Copy,
-    P: HillPlace<D, A>,
-    R: Clock,
-    E: Write,
-    requires { store.reopen ≡ false }
-    ensures { WritesSome (E.contents errors.old) (E.contents errors.new) }
-{
-    let mut kept = Some(store);
-    for _i in 0..connections.map_or(u64::MAX, u64::from) {
-        let store = match opened(kept, place) {
-            Ok(store) => store,
-            Err(trouble) => return Err(trouble),
-        };
-        let (stream, peer) = match listener.accept() {
-            Ok(accepted) => accepted,
-            Err(error) => return Err(accept_failed(&error)),
-        };
-        kept = serve_peer(alloc, stream, peer, store, log, errors);
-    }
-    Ok(())
-}
-
-/// A connection can't be taken.
-fn accept_failed<'t>(error: &io::Error) -> HillTrouble<'t> {
-    HillTrouble::stream(Cause {
-        subject: Subject::Connection,
-        reason: reason_of(error.kind()),
-    })
-}
-
-/// The store that is kept, or else that of the hill opened again.
-fn opened<'p, D, A, P>(
-    kept: Option<Store<D, A>>,
-    place: &'p P,
-) -> Result<Store<D, A>, HillTrouble<'p>>
-where
-    D: Device + Drop,
-    A: Allocator + Copy,
-    P: HillPlace<D, A>,
-    requires { IfSome kept (λ store. store.reopen ≡ false) }
-    ensures { IfOk result (λ store. store.reopen ≡ false) }
-{
-    match kept {
-        Some(store) => Ok(store),
-        None => place.open(),
-    }
 }

@@ -1,3 +1,4 @@
+mod Addresses
 mod Build
 mod Entered
 mod Flags

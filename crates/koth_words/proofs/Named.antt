@@ -8,7 +8,7 @@ use Rattle.clap.specs.Takes.{takes}
 use Rattle.clap.specs.Kinds.{HasKind, IsAmong, Kinds}
 use Rattle.clap.specs.Matches.{subcommand_name_of}
 use Rattle.clap.specs.Values.{kind_of}
-use Rattle.clap.specs.Walk.{Held, Text, answers_to, idle, nothing_held, option, positional, stop_after, walk_from}
+use Rattle.clap.specs.Walk.{Held, Row, Text, answers_to, idle, nothing_held, option, positional, stop_after, walk_from}
 use Rattle.clap.specs.declared.error.Error.{Error}
 use Rattle.clap.specs.declared.error.kind.ErrorKind.{ErrorKind}
 use Rattle.clap.specs.declared.error.kind.ErrorKind.TheVariants as kinds
@@ -17,8 +17,7 @@ use Rattle.clap.specs.declared.parser.matches.ArgMatches.TheViews.{out-ArgMatche
 use Rattle.clap.specs.declared.parser.matches.SubCommand.{SubCommand}
 use Rattle.clap.proofs.OnLiterals.{clap_on_literals}
 use Rattle.koth_words.proofs.Entered.{OnNames, level_has, level_walks, walk_stops}
-use Rattle.koth_words.specs.Words.{are_clear, given_by, given_in, is_taken, koth_app, AreWrong, HaveFault, IsCommandName, NamesCommand}
-use Rattle.koth_words.proofs.Numbers.{both}
+use Rattle.koth_words.specs.Words.{given_by, given_in, koth_app, AreTaken, AreWrong, HaveFault, IsCommandName, NamesCommand}
 
 koth_is_simple : (is_simple koth_app ≡ true) × (is_simple_and_free koth_app ≡ true)
 unfolding clap_on_literals koth_app
@@ -41,35 +40,36 @@ named app m words is has =
 
 -- ---- words without fault name a command
 
-abbrev met_by : Bool → Bool → Bool → Bool → Bool → Bool → Bool → Bool → Bool → Bool → Bool → Option Text
-met_by asm check fight create submit show serve audit migrate page help = option_map (λ (s : Text × List Text). s.0) (
+abbrev met_by : Bool → Bool → Bool → Bool → Bool → Bool → Bool → Bool → Bool → Bool → Bool → Bool → Option Text
+met_by asm check fight create submit show serve audit migrate page replay help = option_map (λ (s : Text × List Text). s.0) (
     if asm || false then Some (codes "asm", []) else if check || false then Some (codes "check", [])
     else if fight || false then Some (codes "fight", []) else if create || false then Some (codes "create", [])
     else if submit || false then Some (codes "submit", []) else if show || false then Some (codes "show", [])
     else if serve || false then Some (codes "serve", []) else if audit || false then Some (codes "audit", [])
     else if migrate || false then Some (codes "migrate", []) else if page || false then Some (codes "page", [])
-    else if help || false then Some (codes "help", []) else None)
+    else if replay || false then Some (codes "replay", []) else if help || false then Some (codes "help", []) else None)
 
-met_is_command : (asm check fight create submit show serve audit migrate page help : Bool) (word : Text) (h : Held)
-    → other_fault (built koth_app).top (met_by asm check fight create submit show serve audit migrate page help) word h ≡ []
-    → IfSome (met_by asm check fight create submit show serve audit migrate page help) IsCommandName
+met_is_command : (asm check fight create submit show serve audit migrate page replay help : Bool) (word : Text) (h : Held)
+    → other_fault (built koth_app).top (met_by asm check fight create submit show serve audit migrate page replay help) word h ≡ []
+    → IfSome (met_by asm check fight create submit show serve audit migrate page replay help) IsCommandName
 unfolding clap_on_literals koth_app
-met_is_command true check fight create submit show serve audit migrate page help word h none = inl refl
-met_is_command false true fight create submit show serve audit migrate page help word h none = inr (inl refl)
-met_is_command false false true create submit show serve audit migrate page help word h none = inr (inr (inl refl))
-met_is_command false false false true submit show serve audit migrate page help word h none = inr (inr (inr (inl refl)))
-met_is_command false false false false true show serve audit migrate page help word h none = inr (inr (inr (inr (inl refl))))
-met_is_command false false false false false true serve audit migrate page help word h none = inr (inr (inr (inr (inr (inl refl)))))
-met_is_command false false false false false false true audit migrate page help word h none = inr (inr (inr (inr (inr (inr (inl refl))))))
-met_is_command false false false false false false false true migrate page help word h none = inr (inr (inr (inr (inr (inr (inr (inl refl)))))))
-met_is_command false false false false false false false false true page help word h none = inr (inr (inr (inr (inr (inr (inr (inr (inl refl))))))))
-met_is_command false false false false false false false false false true help word h none = inr (inr (inr (inr (inr (inr (inr (inr (inr refl))))))))
-met_is_command false false false false false false false false false false true word h none = absurd (cc)
-met_is_command false false false false false false false false false false false word h none = tt
+met_is_command true check fight create submit show serve audit migrate page replay help word h none = inl refl
+met_is_command false true fight create submit show serve audit migrate page replay help word h none = inr (inl refl)
+met_is_command false false true create submit show serve audit migrate page replay help word h none = inr (inr (inl refl))
+met_is_command false false false true submit show serve audit migrate page replay help word h none = inr (inr (inr (inl refl)))
+met_is_command false false false false true show serve audit migrate page replay help word h none = inr (inr (inr (inr (inl refl))))
+met_is_command false false false false false true serve audit migrate page replay help word h none = inr (inr (inr (inr (inr (inl refl)))))
+met_is_command false false false false false false true audit migrate page replay help word h none = inr (inr (inr (inr (inr (inr (inl refl))))))
+met_is_command false false false false false false false true migrate page replay help word h none = inr (inr (inr (inr (inr (inr (inr (inl refl)))))))
+met_is_command false false false false false false false false true page replay help word h none = inr (inr (inr (inr (inr (inr (inr (inr (inl refl))))))))
+met_is_command false false false false false false false false false true replay help word h none = inr (inr (inr (inr (inr (inr (inr (inr (inr (inl refl)))))))))
+met_is_command false false false false false false false false false false true help word h none = inr (inr (inr (inr (inr (inr (inr (inr (inr (inr refl)))))))))
+met_is_command false false false false false false false false false false false true word h none = absurd (cc)
+met_is_command false false false false false false false false false false false false word h none = tt
 
 each_is_command : OnNames (built koth_app).top (names_of (built koth_app)) IsCommandName
 unfolding clap_on_literals koth_app
-each_is_command idle word h none = met_is_command _ _ _ _ _ _ _ _ _ _ _ word h none
+each_is_command idle word h none = met_is_command _ _ _ _ _ _ _ _ _ _ _ _ word h none
 each_is_command (option id) word h none = tt
 each_is_command positional word h none = tt
 
@@ -98,7 +98,8 @@ enters_command (Some p) (inr (inr (inr (inr (inr (inl is)))))) has = named_at p 
 enters_command (Some p) (inr (inr (inr (inr (inr (inr (inl is))))))) has = named_at p (codes "serve") is (inr (inr (inr (inr (inr (inr (inl refl)))))))
 enters_command (Some p) (inr (inr (inr (inr (inr (inr (inr (inl is)))))))) has = named_at p (codes "audit") is (inr (inr (inr (inr (inr (inr (inr (inl refl))))))))
 enters_command (Some p) (inr (inr (inr (inr (inr (inr (inr (inr (inl is))))))))) has = named_at p (codes "migrate") is (inr (inr (inr (inr (inr (inr (inr (inr (inl refl)))))))))
-enters_command (Some p) (inr (inr (inr (inr (inr (inr (inr (inr (inr is))))))))) has = named_at p (codes "page") is (inr (inr (inr (inr (inr (inr (inr (inr (inr refl)))))))))
+enters_command (Some p) (inr (inr (inr (inr (inr (inr (inr (inr (inr (inl is)))))))))) has = named_at p (codes "page") is (inr (inr (inr (inr (inr (inr (inr (inr (inr (inl refl))))))))))
+enters_command (Some p) (inr (inr (inr (inr (inr (inr (inr (inr (inr (inr is)))))))))) has = named_at p (codes "replay") is (inr (inr (inr (inr (inr (inr (inr (inr (inr (inr refl))))))))))
 
 -- words in which clap finds no fault name a command
 names_command : (words : List Text) → fault_of koth_app words ≡ [] → NamesCommand (option_map (λ p. p.0) (subcommand_of koth_app words))
@@ -126,8 +127,8 @@ not_wrong app words is none wrong = wrong.0 (on_faults app words (λ faults. fau
 
 -- where the words are taken, an error is a refused growth
 pub memory_kind : (app : App) (words : List Text) (e : Error) → app ≡ koth_app → (takes app words ≡ true → kind_of e ≡ kinds.OutOfMemory)
-    → is_taken words ≡ true → kind_of e ≡ kinds.OutOfMemory
-memory_kind app words e is passes taken = passes (ap (λ a. takes a words) is ∙ (both _ _ taken).0)
+    → AreTaken words → kind_of e ≡ kinds.OutOfMemory
+memory_kind app words e is passes taken = passes (ap (λ a. takes a words) is ∙ taken.0)
 
 -- an error at wrong words is no request for help
 pub wrong_kind : (app : App) (words : List Text) (e : Error) → app ≡ koth_app → (is_simple_and_free app ≡ true → HasKind (fault_of app words) e) → AreWrong words
@@ -142,7 +143,12 @@ wrong_kind app words e is has wrong = by_kind (on_faults app words (λ faults. H
     by_kind (inr among) (inl fault) = (λ help. fault.1 (subst IsKind help among), λ version. fault.2 (subst IsKind version among))
     by_kind (inr among) (inr unclear) = absurd (subst (λ faults. IsAmong (kind_of e) faults) unclear.0 among)
 
--- what the words give a command that is clear, or isn't, is so in what the parse gives
-pub clear_found : (app : App) (m : ArgMatches) (words : List Text) (b : Bool) → app ≡ koth_app → HasMatchesOf app words m
-    → are_clear (given_by words) ≡ b → are_clear (given_in (subcommand_rows_of m)) ≡ b
-clear_found app m words b is has clear = ap (λ e. are_clear (given_in e)) (found app m words is has) ∙ clear
+-- what holds of what the words give a command holds of what the parse gives
+pub given_found : (app : App) (m : ArgMatches) (words : List Text) (P : List Row → Type 0) → app ≡ koth_app → HasMatchesOf app words m
+    → P (given_by words) → P (given_in (subcommand_rows_of m))
+given_found app m words P is has holds = subst (λ e. P (given_in e)) (sym (found app m words is has)) holds
+
+-- and the other way round
+pub given_named : (app : App) (m : ArgMatches) (words : List Text) (P : List Row → Type 0) → app ≡ koth_app → HasMatchesOf app words m
+    → P (given_in (subcommand_rows_of m)) → P (given_by words)
+given_named app m words P is has holds = subst (λ e. P (given_in e)) (found app m words is has) holds

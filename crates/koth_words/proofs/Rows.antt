@@ -1,22 +1,23 @@
 -- Rows of the definitions, computed.
-use Rattle.std.proofs.Common.{◌≡◌, true, false, List, [], ◌∷◌, Some, None, Ok, codes, refl, inr}
+use Rattle.std.proofs.Common.{◌≡◌, true, false, true≢false, List, [], ◌∷◌, Some, None, Ok, codes, refl, sym, inr}
 use Rattle.war_types.specs.Settings.{settings_of}
 use Rattle.clap.specs.Words.{Row, all_of, fault_of, first_of, one_of, subcommand_of, takes}
 use Rattle.clap.specs.declared.error.kind.ErrorKind.TheVariants as errors
 use Rattle.clap.proofs.OnLiterals.{clap_on_literals}
-use Rattle.koth_words.specs.Options.{default_settings, number_given}
-use Rattle.koth_words.specs.Words.{AreWrong, AsksFor, form_named, given_by, given_in, is_taken, koth_app, matches_named, overwrite_named, reads_input, settings_named, view_named}
+use Rattle.koth_words.specs.Options.{default_settings, number_given, number_or}
+use Rattle.koth_words.specs.Words.{AreTaken, AreWrong, AsksFor, IsAddress, form_named, given_by, given_in, koth_app, matches_named, overwrite_named, reads_input, settings_named, view_named}
+use Rattle.koth_words.proofs.Addresses.{any_address, every_address, every_long_address, four, not_here, not_with_port, this_machine}
 use Rattle.koth_words.specs.declared.words.Form.TheVariants as forms
 use Rattle.koth_words.specs.declared.words.View.TheVariants as views
 
 -- the premise of `asm` is met by these words
 asm_asks : AsksFor (codes "asm") (codes "koth" ∷ codes "asm" ∷ [])
 unfolding clap_on_literals koth_app
-asm_asks = (refl, refl)
+asm_asks = ((refl, (refl, refl, tt)), refl)
 
 fight_asks : AsksFor (codes "fight") (codes "koth" ∷ codes "fight" ∷ codes "a.red" ∷ codes "b.red" ∷ codes "--rounds=3" ∷ [])
 unfolding clap_on_literals koth_app
-fight_asks = (refl, refl)
+fight_asks = ((refl, (refl, refl, tt)), refl)
 
 hills_ask : AsksFor (codes "create") (codes "koth" ∷ codes "create" ∷ codes "a.hill" ∷ codes "--seed=7" ∷ [])
     × AsksFor (codes "submit") (codes "koth" ∷ codes "submit" ∷ codes "a.hill" ∷ codes "a.red" ∷ [])
@@ -26,8 +27,9 @@ hills_ask : AsksFor (codes "create") (codes "koth" ∷ codes "create" ∷ codes 
     × AsksFor (codes "audit") (codes "koth" ∷ codes "audit" ∷ codes "h.hill" ∷ [])
     × AsksFor (codes "migrate") (codes "koth" ∷ codes "migrate" ∷ codes "a.hill" ∷ codes "b.hill" ∷ [])
     × AsksFor (codes "page") (codes "koth" ∷ codes "page" ∷ codes "a.hill" ∷ [])
+    × AsksFor (codes "replay") (codes "koth" ∷ codes "replay" ∷ codes "a.red" ∷ codes "b.red" ∷ codes "--round=1000" ∷ codes "-r5" ∷ [])
 unfolding clap_on_literals koth_app
-hills_ask = ((refl, refl), (refl, refl), (refl, refl), (refl, refl), (refl, refl), (refl, refl), (refl, refl), (refl, refl))
+hills_ask = (((refl, (refl, refl, tt)), refl), ((refl, (refl, refl, tt)), refl), ((refl, (refl, refl, tt)), refl), ((refl, (refl, refl, tt)), refl), ((refl, (refl, refl, tt)), refl), ((refl, (refl, refl, tt)), refl), ((refl, (refl, refl, tt)), refl), ((refl, (refl, refl, tt)), refl), ((refl, (refl, refl, tt)), refl))
 
 -- the flag is given where the words have it, behind the file or before it, and else not
 matches_given : (matches_named (codes "koth" ∷ codes "show" ∷ codes "h.hill" ∷ codes "--matches" ∷ []) ≡ true)
@@ -103,7 +105,7 @@ checks_ask : AsksFor (codes "check") (codes "koth" ∷ codes "check" ∷ codes "
     × AsksFor (codes "create") (codes "koth" ∷ codes "create" ∷ codes "a.hill" ∷ codes "--overwrite" ∷ [])
     × AsksFor (codes "serve") (codes "koth" ∷ codes "serve" ∷ codes "a.hill" ∷ codes "--port=0" ∷ codes "--quiet" ∷ [])
 unfolding clap_on_literals koth_app
-checks_ask = ((refl, refl), (refl, refl), (refl, refl), (refl, refl))
+checks_ask = (((refl, (refl, refl, tt)), refl), ((refl, (refl, refl, tt)), refl), ((refl, (refl, refl, tt)), refl), ((refl, (refl, refl, tt)), refl))
 
 -- the files in their order, and the form and the setting among them
 checked_files : (all_of (codes "FILE") (given_by (codes "koth" ∷ codes "check" ∷ codes "a.red" ∷ codes "-s64" ∷ codes "b.red" ∷ codes "--format=json" ∷ [])) ≡ Some (codes "a.red" ∷ codes "b.red" ∷ []))
@@ -137,17 +139,17 @@ unfolding clap_on_literals koth_app
 flags = (refl, refl, refl)
 
 -- two layouts, a form that isn't there and no file to check are not taken
-unclear : (is_taken (codes "koth" ∷ codes "show" ∷ codes "h.hill" ∷ codes "--plain" ∷ codes "--table" ∷ []) ≡ false)
-    × (is_taken (codes "koth" ∷ codes "check" ∷ codes "a.red" ∷ codes "--format=xml" ∷ []) ≡ false)
-    × (is_taken (codes "koth" ∷ codes "check" ∷ []) ≡ false)
+unclear : ¬ AreTaken (codes "koth" ∷ codes "show" ∷ codes "h.hill" ∷ codes "--plain" ∷ codes "--table" ∷ [])
+    × ¬ AreTaken (codes "koth" ∷ codes "check" ∷ codes "a.red" ∷ codes "--format=xml" ∷ [])
+    × ¬ AreTaken (codes "koth" ∷ codes "check" ∷ [])
 unfolding clap_on_literals koth_app
-unclear = (refl, refl, refl)
+unclear = (λ taken. true≢false (sym taken.1.0), λ taken. true≢false (sym taken.1.1), λ taken. true≢false (sym taken.0))
 
 -- and the first two are wrong
 two_layouts_wrong : AreWrong (codes "koth" ∷ codes "show" ∷ codes "h.hill" ∷ codes "--plain" ∷ codes "--table" ∷ [])
     × AreWrong (codes "koth" ∷ codes "check" ∷ codes "a.red" ∷ codes "--format=xml" ∷ [])
 unfolding clap_on_literals koth_app
-two_layouts_wrong = (inr (refl, refl), inr (refl, refl))
+two_layouts_wrong = (inr (refl, λ clear. true≢false (sym clear.0)), inr (refl, λ clear. true≢false (sym clear.1)))
 
 -- the version is asked for by a word or a letter, and of the program alone
 versions : (fault_of koth_app (codes "koth" ∷ codes "--version" ∷ []) ≡ errors.DisplayVersion ∷ [])
@@ -155,3 +157,48 @@ versions : (fault_of koth_app (codes "koth" ∷ codes "--version" ∷ []) ≡ er
     × (fault_of koth_app (codes "koth" ∷ codes "asm" ∷ codes "--version" ∷ []) ≡ errors.UnknownArgument ∷ [])
 unfolding clap_on_literals koth_app
 versions = (refl, refl, refl)
+
+-- ---- a service of many, and a round that is shown
+
+-- what the words of a service give it, and what they give it where the options are left out
+abbrev many_given : List Row
+many_given = given_by (codes "koth" ∷ codes "serve" ∷ codes "a.hill" ∷ codes "--port=0" ∷ codes "--peers" ∷ codes "1024" ∷ codes "--listen=0.0.0.0" ∷ [])
+
+abbrev plain_given : List Row
+plain_given = given_by (codes "koth" ∷ codes "serve" ∷ codes "a.hill" ∷ codes "--port=0" ∷ [])
+
+services : (number_or 64 (one_of (codes "peers") many_given) ≡ 1024)
+    × (first_of (codes "listen") many_given ≡ Some (codes "0.0.0.0"))
+    × (number_or 64 (one_of (codes "peers") plain_given) ≡ 64)
+    × (first_of (codes "listen") plain_given ≡ None)
+unfolding clap_on_literals koth_app
+services = (refl, refl, refl, refl)
+
+-- an address is asked for, of either kind; and `127.0.0.1` is the one where the option is left out
+addresses_ask : AsksFor (codes "serve") (codes "koth" ∷ codes "serve" ∷ codes "a.hill" ∷ codes "--port=0" ∷ codes "--listen=0.0.0.0" ∷ [])
+    × AsksFor (codes "serve") (codes "koth" ∷ codes "serve" ∷ codes "a.hill" ∷ codes "--port=0" ∷ codes "--listen" ∷ codes "::" ∷ [])
+    × IsAddress None (four (127 ∷ 0 ∷ 0 ∷ 1 ∷ []))
+unfolding clap_on_literals koth_app
+addresses_ask = (((refl, (refl, refl, (four (0 ∷ 0 ∷ 0 ∷ 0 ∷ []), every_address))), refl), ((refl, (refl, refl, (any_address, every_long_address))), refl), this_machine)
+
+-- no name of a machine, and no address with a port
+names_wrong : AreWrong (codes "koth" ∷ codes "serve" ∷ codes "a.hill" ∷ codes "--port=0" ∷ codes "--listen=here" ∷ [])
+    × AreWrong (codes "koth" ∷ codes "serve" ∷ codes "a.hill" ∷ codes "--port=0" ∷ codes "--listen=0.0.0.0:80" ∷ [])
+unfolding clap_on_literals koth_app
+names_wrong = (inr (refl, λ clear. not_here _ clear.2.1), inr (refl, λ clear. not_with_port _ clear.2.1))
+
+-- the round that is shown, and the rounds of its match
+rounds : (number_or 1 (one_of (codes "round") (given_by (codes "koth" ∷ codes "replay" ∷ codes "a" ∷ codes "b" ∷ codes "--round" ∷ codes "7" ∷ []))) ≡ 7)
+    × (number_or 1 (one_of (codes "round") (given_by (codes "koth" ∷ codes "replay" ∷ codes "a" ∷ codes "b" ∷ codes "--rounds=7" ∷ []))) ≡ 1)
+    × (settings_named (codes "koth" ∷ codes "replay" ∷ codes "a" ∷ codes "b" ∷ codes "--round=2" ∷ codes "--rounds=7" ∷ []) ≡ record default_settings { rounds = 7 })
+unfolding clap_on_literals koth_app
+rounds = (refl, refl, refl)
+
+-- no peers, peers past the greatest, no rounds or rounds past the greatest, and a round of a command that shows none are not taken
+ranges : (takes koth_app (codes "koth" ∷ codes "serve" ∷ codes "a.hill" ∷ codes "--port=0" ∷ codes "--peers=0" ∷ []) ≡ false)
+    × (takes koth_app (codes "koth" ∷ codes "serve" ∷ codes "a.hill" ∷ codes "--port=0" ∷ codes "--peers=1025" ∷ []) ≡ false)
+    × (takes koth_app (codes "koth" ∷ codes "replay" ∷ codes "a" ∷ codes "b" ∷ codes "--round=0" ∷ []) ≡ false)
+    × (takes koth_app (codes "koth" ∷ codes "replay" ∷ codes "a" ∷ codes "b" ∷ codes "--round=1001" ∷ []) ≡ false)
+    × (takes koth_app (codes "koth" ∷ codes "fight" ∷ codes "a" ∷ codes "b" ∷ codes "--round=1" ∷ []) ≡ false)
+unfolding clap_on_literals koth_app
+ranges = (refl, refl, refl, refl, refl)

@@ -2,13 +2,12 @@
 use Rattle.std.proofs.Common.{◌≡◌, List, [], map, Option, None, Some, Bor, ◌∙◌, ap, option_map}
 use Rattle.std.specs.Prelude.{unwrap_or}
 use Rattle.clap.specs.Walk.{Text}
-use Rattle.koth_words.specs.Words.{text_or_none}
 
--- the text of a file's name
-pub file_text : (r : Option (Bor Text)) (empty x : Bor Text) (text : Option Text) → x ≡ unwrap_or r empty → empty.now ≡ []
-    → option_map (λ s. s.now) r ≡ text → x.now ≡ text_or_none text
-file_text None empty x text is none named = ap (λ (b : Bor Text). b.now) is ∙ none ∙ ap text_or_none named
-file_text (Some s) empty x text is none named = ap (λ (b : Bor Text). b.now) is ∙ ap text_or_none named
+-- the text of a file's name, or of another word, where one is given
+pub file_text : {default : Text} (r : Option (Bor Text)) (empty x : Bor Text) (text : Option Text) → x ≡ unwrap_or r empty → empty.now ≡ default
+    → option_map (λ s. s.now) r ≡ text → x.now ≡ unwrap_or text default
+file_text {default} None empty x text is none named = ap (λ (b : Bor Text). b.now) is ∙ none ∙ ap (λ (t : Option Text). unwrap_or t default) named
+file_text {default} (Some s) empty x text is none named = ap (λ (b : Bor Text). b.now) is ∙ ap (λ (t : Option Text). unwrap_or t default) named
 
 -- the texts of files' names
 pub file_texts : (r : Option (Bor (List (Bor Text)))) (empty x : Bor (List (Bor Text))) (texts : Option (List Text)) → x ≡ unwrap_or r empty → empty.now ≡ []

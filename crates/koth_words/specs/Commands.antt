@@ -4,7 +4,7 @@ use Rattle.clap.specs.Words.{App, Rule, Text, app_of, new_app, new_rule, with_ru
 use Rattle.clap.specs.declared.builder.action.ArgAction.TheVariants as actions
 use Rattle.clap.specs.declared.builder.command.Command.{Command}
 use Rattle.clap.specs.declared.builder.command.Command.TheViews.{out-Command}
-use Rattle.koth_words.specs.Options.{option_rule, required_rule, with_settings}
+use Rattle.koth_words.specs.Options.{required_rule, with_option, with_ranged, with_settings}
 
 -- a command that `clap` reads as this one, with no argument that its subcommands take too
 abbrev pub IsReadAs : App → Command → Type 0
@@ -64,8 +64,8 @@ abbrev pub show_app : App
 show_app = with_view (with_flag (with_file (new_app (codes "show")) (codes "FILE")) (codes "matches"))
 
 abbrev pub serve_app : App
-serve_app = with_flag (with_rule (with_rule (with_file (new_app (codes "serve")) (codes "FILE"))
-    (required_rule (codes "port") 65535)) (option_rule (codes "connections"))) (codes "quiet")
+serve_app = with_flag (with_option (with_rule (with_ranged (with_rule (with_file (new_app (codes "serve")) (codes "FILE"))
+    (required_rule (codes "port") 65535)) (codes "peers") 1 1024) (text_rule (codes "listen"))) (codes "connections")) (codes "quiet")
 
 abbrev pub audit_app : App
 audit_app = with_file (new_app (codes "audit")) (codes "FILE")
@@ -76,8 +76,11 @@ migrate_app = with_file (with_file (new_app (codes "migrate")) (codes "FILE")) (
 abbrev pub page_app : App
 page_app = with_file (new_app (codes "page")) (codes "FILE")
 
+abbrev pub replay_app : App
+replay_app = with_settings (with_ranged (with_file (with_file (new_app (codes "replay")) (codes "A")) (codes "B")) (codes "round") 1 1000)
+
 -- the program's words: `koth`, and a command's name with its files and options
 unfoldable pub koth_app : App
-koth_app = with_subcommand (with_subcommand (with_subcommand (with_subcommand (with_subcommand (with_subcommand (with_subcommand (with_subcommand (with_subcommand (with_subcommand
+koth_app = with_subcommand (with_subcommand (with_subcommand (with_subcommand (with_subcommand (with_subcommand (with_subcommand (with_subcommand (with_subcommand (with_subcommand (with_subcommand
     (wants_subcommand (with_version (new_app (codes "koth")))) asm_app.top) check_app.top) fight_app.top) create_app.top) submit_app.top) show_app.top)
-    serve_app.top) audit_app.top) migrate_app.top) page_app.top
+    serve_app.top) audit_app.top) migrate_app.top) page_app.top) replay_app.top

@@ -1,5 +1,5 @@
 -- The options that give settings, and the settings that they give.
-use Rattle.std.specs.Prelude.{ℕ, ◌&&◌, Bool, true, nat_lt, if◌then◌else◌, List, length, Option, Some, None, codes, option_and_then, pos, unwrap_or}
+use Rattle.std.specs.Prelude.{ℕ, ℤ, ◌&&◌, Bool, true, nat_lt, if◌then◌else◌, List, length, Option, Some, None, codes, option_and_then, pos, unwrap_or}
 use Rattle.std.specs.Char.{digit_value}
 use Rattle.std.specs.List.{list_all}
 use Rattle.std.specs.Str.Parse.{digits_value, without_leading_plus}
@@ -7,20 +7,21 @@ use Rattle.clap.specs.Words.{App, Row, Rule, Text, new_rule, one_of, with_rule}
 use Rattle.clap.specs.declared.builder.value_parser.ValueParser.TheVariants as parsers
 use Rattle.war_types.specs.declared.settings.RawSettings.{RawSettings}
 
--- an option with a whole number of 32 bits
-abbrev pub option_rule : Text → Rule
-option_rule name = record (new_rule name) {
+-- an option with a whole number from the least to the greatest
+abbrev pub ranged_rule : Text → ℤ → ℤ → Rule
+ranged_rule name least greatest = record (new_rule name) {
   long = Some name;
   value_names = 1;
-  parser = Some (parsers.Signed (pos 0) (pos 4294967295));
+  parser = Some (parsers.Signed least greatest);
 }
+
+-- an option with a whole number of 32 bits
+abbrev pub option_rule : Text → Rule
+option_rule name = ranged_rule name (pos 0) (pos 4294967295)
 
 -- an option with a whole number up to the greatest, which has to be given
 abbrev pub required_rule : Text → ℕ → Rule
-required_rule name greatest = record (option_rule name) {
-  parser = Some (parsers.Signed (pos 0) (pos greatest));
-  required = true;
-}
+required_rule name greatest = record (ranged_rule name (pos 0) (pos greatest)) { required = true }
 
 -- an option that a letter names too
 abbrev pub lettered_rule : Text → ℕ → Rule
@@ -31,6 +32,9 @@ with_option app name = with_rule app (option_rule name)
 
 abbrev pub with_lettered : App → Text → ℕ → App
 with_lettered app name letter = with_rule app (lettered_rule name letter)
+
+abbrev pub with_ranged : App → Text → ℕ → ℕ → App
+with_ranged app name least greatest = with_rule app (ranged_rule name (pos least) (pos greatest))
 
 -- the sizes of a match, with the letters s, p, l and d
 abbrev pub with_sizes : App → App

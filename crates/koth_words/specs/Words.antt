@@ -1,18 +1,20 @@
 -- What the words of the command line ask for.
-use Rattle.std.specs.Prelude.{◌≡◌, ◌≢◌, ◌⊎◌, ◌&&◌, ◌||◌, ⊤, ℕ, Bool, true, false, not, List, [], codes, map, Option, None, Some, option_map, unwrap_or, if◌then◌else◌}
+use Rattle.std.specs.Prelude.{◌≡◌, ◌≢◌, ◌⊎◌, ◌&&◌, ◌||◌, ⊤, ℕ, Bool, true, false, not, List, [], codes, map, Option, None, Some, IfSome, option_map, unwrap_or, if◌then◌else◌}
 use Rattle.std.specs.Option.{option_map_or}
+use Rattle.std.specs.Net.Grammar.{IsIpText}
 use Rattle.std.specs.Str.{bytes_eq}
+use Rattle.std.specs.declared.net.ip_addr.IpAddr.{IpAddr}
 use Rattle.clap.specs.Words.{IsAmong, Row, Text, all_of, fault_of, first_of, one_of, subcommand_of, takes}
 use Rattle.clap.specs.declared.error.kind.ErrorKind.TheVariants as kinds
 use Rattle.war_types.specs.declared.settings.RawSettings.{RawSettings}
-use Rattle.koth_words.specs.Options.{number_below, number_given, settings_in}
+use Rattle.koth_words.specs.Options.{number_below, number_given, number_or, settings_in}
 unfoldable pub use Rattle.koth_words.specs.Commands.{koth_app}
 use Rattle.koth_words.specs.declared.words.Form.{Form}
 use Rattle.koth_words.specs.declared.words.Form.TheVariants as forms
 use Rattle.koth_words.specs.declared.words.NoRequest.{NoRequest}
 use Rattle.koth_words.specs.declared.words.NoRequest.TheVariants as reasons
 use Rattle.koth_words.specs.declared.words.Request.{Request}
-use Rattle.koth_words.specs.declared.words.Request.TheVariants.{Asm, Check, Fight, Create, Submit, Show, Serve, Audit, Migrate, Page}
+use Rattle.koth_words.specs.declared.words.Request.TheVariants.{Asm, Check, Fight, Create, Submit, Show, Serve, Audit, Migrate, Page, Replay}
 use Rattle.koth_words.specs.declared.words.Source.{Source}
 use Rattle.koth_words.specs.declared.words.Source.TheVariants as sources
 use Rattle.koth_words.specs.declared.words.View.{View}
@@ -104,19 +106,32 @@ is_form name = option_map_or (λ text. bytes_eq text (codes "text") || bytes_eq 
 abbrev pub has_known_form : List Row → Bool
 has_known_form given = is_form (first_of (codes "format") given)
 
+-- ---- addresses
+
+-- the address is the one that the text writes: that of this machine where the option is left out
+abbrev pub IsAddress : Option Text → IpAddr → Type 0
+IsAddress text address = IsIpText (unwrap_or text (codes "127.0.0.1")) address
+
+-- a text that is given writes an address, with no port
+abbrev pub WritesAddress : Option Text → Type 0
+WritesAddress text = IfSome text (λ text. (address : IpAddr) × IsIpText text address)
+
+abbrev pub HasAddress : List Row → Type 0
+HasAddress given = WritesAddress (first_of (codes "listen") given)
+
 -- ---- words that are taken, and words that are wrong
 
--- what the program refuses beside `clap`: two layouts, and a form that it doesn't know
-abbrev pub are_clear : List Row → Bool
-are_clear given = has_one_view given && has_known_form given
+-- none of what the program refuses beside `clap`: two layouts, a form that it doesn't know, and no address where one is to be
+abbrev pub AreClear : List Row → Type 0
+AreClear given = (has_one_view given ≡ true) × (has_known_form given ≡ true) × HasAddress given
 
 -- the words are taken, by `clap`'s own definition and by the one above
-abbrev pub is_taken : List (List ℕ) → Bool
-is_taken words = takes koth_app words && are_clear (given_by words)
+abbrev pub AreTaken : List (List ℕ) → Type 0
+AreTaken words = (takes koth_app words ≡ true) × AreClear (given_by words)
 
 -- the words are taken, and name this command
 abbrev pub AsksFor : List ℕ → List (List ℕ) → Type 0
-AsksFor verb words = (is_taken words ≡ true)
+AsksFor verb words = AreTaken words
     × (option_map (λ entered. entered.0) (subcommand_of koth_app words) ≡ Some verb)
 
 -- `clap` finds a fault in the words, and they ask neither for help nor for the version
@@ -127,7 +142,7 @@ HaveFault words = (fault_of koth_app words ≢ [])
 
 -- `clap` finds no fault in the words, but they are not clear
 abbrev pub AreUnclear : List (List ℕ) → Type 0
-AreUnclear words = (fault_of koth_app words ≡ []) × (are_clear (given_by words) ≡ false)
+AreUnclear words = (fault_of koth_app words ≡ []) × ¬ AreClear (given_by words)
 
 -- the words are refused
 abbrev pub AreWrong : List (List ℕ) → Type 0
@@ -160,6 +175,8 @@ Asks entered (Show shown) = (entered.0 ≡ codes "show")
 Asks entered (Serve service) = (entered.0 ≡ codes "serve")
     × (service.hill.now ≡ text_or_none (first_of (codes "FILE") entered.1))
     × (service.port ≡ number_below 65536 0 (one_of (codes "port") entered.1))
+    × (service.peers ≡ number_or 64 (one_of (codes "peers") entered.1))
+    × IsAddress (first_of (codes "listen") entered.1) service.listen
     × (service.connections ≡ number_given 4294967296 (one_of (codes "connections") entered.1))
     × (service.quiet ≡ has_flag (codes "quiet") entered.1)
 Asks entered (Audit file) = (entered.0 ≡ codes "audit")
@@ -169,6 +186,10 @@ Asks entered (Migrate files) = (entered.0 ≡ codes "migrate")
     × (files.new.now ≡ text_or_none (first_of (codes "NEW") entered.1))
 Asks entered (Page file) = (entered.0 ≡ codes "page")
     × (file.now ≡ text_or_none (first_of (codes "FILE") entered.1))
+Asks entered (Replay settings watched) = (entered.0 ≡ codes "replay") × (settings ≡ settings_in entered.1)
+    × (watched.older.now ≡ text_or_none (first_of (codes "A") entered.1))
+    × (watched.younger.now ≡ text_or_none (first_of (codes "B") entered.1))
+    × (watched.round ≡ number_or 1 (one_of (codes "round") entered.1))
 
 -- the same where a command is named
 abbrev pub AsksBy : Option (Text × List Row) → Request → Type 0
@@ -180,6 +201,7 @@ abbrev pub IsCommandName : Text → Type 0
 IsCommandName name = (name ≡ codes "asm") ⊎ (name ≡ codes "check") ⊎ (name ≡ codes "fight")
     ⊎ (name ≡ codes "create") ⊎ (name ≡ codes "submit") ⊎ (name ≡ codes "show")
     ⊎ (name ≡ codes "serve") ⊎ (name ≡ codes "audit") ⊎ (name ≡ codes "migrate") ⊎ (name ≡ codes "page")
+    ⊎ (name ≡ codes "replay")
 
 -- a command is named
 abbrev pub NamesCommand : Option Text → Type 0

@@ -1,12 +1,12 @@
 //! The commands with their files and options, as `clap` reads them.
 
-ghost use Rattle.std.specs.Prelude.{◌≡◌, codes, false, IfOk};
-ghost use Rattle.clap.specs.Words.{App, new_app, new_rule, rule_of, with_subcommand};
-ghost use Rattle.koth_words.specs.Commands.{asm_app, audit_app, check_app, create_app, fight_app, file_rule, files_rule, flag_rule, koth_app, migrate_app, page_app, serve_app, show_app, submit_app, text_rule, wants_subcommand, with_version, with_view, IsReadAs};
-ghost use Rattle.koth_words.specs.Options.{required_rule};
+ghost use Rattle.std.specs.Prelude.{codes, IfOk};
+ghost use Rattle.clap.specs.Words.{App, new_app, with_subcommand};
+ghost use Rattle.koth_words.specs.Commands.{asm_app, audit_app, check_app, create_app, fight_app, koth_app, migrate_app, page_app, replay_app, serve_app, show_app, submit_app, wants_subcommand, with_version, with_view, IsReadAs};
 
+use crate::arguments::{address, file, files, flag, form, port, ranged, source};
 use crate::options::{option, with_settings};
-use clap::{Arg, ArgAction, Command, value_parser};
+use clap::Command;
 use std::alloc::{AllocError, Global};
 
 /// The program with its commands.
@@ -22,7 +22,8 @@ pub(crate) fn koth_command<'a>(heap: Global) -> Result<Command<'a>, AllocError>
     let command = with_command(command, serve_command(heap))?;
     let command = with_command(command, audit_command(heap))?;
     let command = with_command(command, migrate_command(heap))?;
-    with_command(command, page_command(heap))
+    let command = with_command(command, page_command(heap))?;
+    with_command(command, replay_command(heap))
 }
 
 fn program<'a>(heap: Global) -> Command<'a>
@@ -118,10 +119,18 @@ fn serve_command<'a>(heap: Global) -> Result<Command<'a>, AllocError>
     described(
         heap,
         "serve",
-        "Serves sessions on a hill over connections to 127.0.0.1, one after the other",
+        "Serves sessions on a hill over connections, those of many peers at once",
     )
     .arg(file(heap, "FILE", "Hill file"))?
     .arg(port(heap))?
+    .arg(ranged(
+        heap,
+        "peers",
+        1,
+        1024,
+        "Most peers served at once, 1 to 1024; with 1 it is one after the other [default: 64]",
+    ))?
+    .arg(address(heap))?
     .arg(option(
         heap,
         "connections",
@@ -164,6 +173,26 @@ fn page_command<'a>(heap: Global) -> Result<Command<'a>, AllocError>
     .arg(file(heap, "FILE", "Hill file"))
 }
 
+fn replay_command<'a>(heap: Global) -> Result<Command<'a>, AllocError>
+    ensures { IfOk result (IsReadAs replay_app) }
+{
+    let command = described(
+        heap,
+        "replay",
+        "Writes a page that shows one round of a match turn by turn",
+    )
+    .arg(file(heap, "A", "File of the older warrior"))?
+    .arg(file(heap, "B", "File of the younger warrior"))?
+    .arg(ranged(
+        heap,
+        "round",
+        1,
+        1000,
+        "Round that is shown, 1 to 1000 [default: 1]",
+    ))?;
+    with_settings(heap, command)
+}
+
 /// The command with this one among its own, if that was made.
 fn with_command<'a>(
     command: Command<'a>,
@@ -189,57 +218,4 @@ fn with_view<'a>(heap: Global, command: Command<'a>) -> Result<Command<'a>, Allo
     command
         .arg(flag(heap, "plain", "Write lines for programs; not with --table"))?
         .arg(flag(heap, "table", "Write a table for people; not with --plain"))
-}
-
-fn file<'a>(heap: Global, name: &'a str, help: &'a str) -> Arg<'a>
-    ensures rule { rule_of result ≡ file_rule name.entry.now }
-    ensures global { result.global ≡ false }
-{
-    Arg::new(heap, name).required(true).help(help)
-}
-
-fn source<'a>(heap: Global) -> Arg<'a>
-    ensures rule { rule_of result ≡ new_rule (codes "FILE") }
-    ensures global { result.global ≡ false }
-{
-    Arg::new(heap, "FILE").help("File of the source; standard input if left out, or if -")
-}
-
-fn files<'a>(heap: Global) -> Arg<'a>
-    ensures rule { rule_of result ≡ files_rule (codes "FILE") }
-    ensures global { result.global ≡ false }
-{
-    file(heap, "FILE", "Files of the sources, one or more").action(ArgAction::Append)
-}
-
-fn form<'a>(heap: Global) -> Arg<'a>
-    ensures rule { rule_of result ≡ text_rule (codes "format") }
-    ensures global { result.global ≡ false }
-{
-    Arg::new(heap, "format")
-        .long("format")
-        .value_name("FORM")
-        .help("Form of what is written, text or json [default: text]")
-}
-
-fn port<'a>(heap: Global) -> Arg<'a>
-    ensures rule { rule_of result ≡ required_rule (codes "port") 65535 }
-    ensures global { result.global ≡ false }
-{
-    Arg::new(heap, "port")
-        .long("port")
-        .value_name("NUMBER")
-        .value_parser(value_parser!(u16))
-        .required(true)
-        .help("Port to listen at, 0 to 65535; at 0 the system chooses one")
-}
-
-fn flag<'a>(heap: Global, name: &'a str, help: &'a str) -> Arg<'a>
-    ensures rule { rule_of result ≡ flag_rule name.entry.now }
-    ensures global { result.global ≡ false }
-{
-    Arg::new(heap, name)
-        .long(name)
-        .action(ArgAction::SetTrue)
-        .help(help)
 }

@@ -1,16 +1,23 @@
 //! What words that `clap` took give a command.
 
-ghost use Rattle.std.specs.Prelude.{◌≡◌, [], codes, map, option_map, unwrap_or, IfOk};
+ghost use Rattle.std.specs.Prelude.{◌≡◌, [], codes, map, option_map, unwrap_or, IfOk, MatchOption};
 ghost use Rattle.clap.specs.Words.{all_of, first_of, found_of, one_of, rows_of};
-ghost use Rattle.koth_words.specs.Options.{number_below, number_given};
-ghost use Rattle.koth_words.specs.Words.{form_in, has_flag, has_known_form, has_one_view, matches_in, text_or_none, view_in, IsSource};
+ghost use Rattle.koth_words.specs.Options.{number_below, number_given, number_or};
+ghost use Rattle.koth_words.specs.Words.{form_in, has_flag, has_known_form, has_one_view, matches_in, text_or_none, view_in, HasAddress, IsAddress, IsSource};
 
-use crate::options::number_if_given;
+use crate::options::{number_given, number_if_given};
 use crate::words::{
-    Checked, Creation, Fighters, Form, Migration, Service, Shown, Source, Submission, View,
+    Checked, Creation, Fighters, Form, Migration, Service, Shown, Source, Submission, View, Watched,
 };
 use clap::ArgMatches;
 use std::alloc::{AllocError, Global};
+use std::net::IpAddr;
+
+/// Peers that are served at once, where the words give no number.
+const PEERS: u32 = 64;
+
+/// The address to listen at, where the words give none.
+const THIS_MACHINE: &str = "127.0.0.1";
 
 /// The source that `asm` reads.
 pub(crate) fn source_named<'w>(matches: &ArgMatches<'w>) -> Source<'w>
@@ -124,9 +131,13 @@ pub(crate) fn shown_named<'w>(matches: &ArgMatches<'w>) -> Shown<'w>
     }
 }
 
-pub(crate) fn service_named<'w>(matches: &ArgMatches<'w>) -> Service<'w>
+/// The service that listens at this address.
+pub(crate) fn service_named<'w>(matches: &ArgMatches<'w>, listen: IpAddr) -> Service<'w>
+    requires { IsAddress (first_of (codes "listen") (rows_of (found_of matches.now))) listen }
     ensures hill { result.hill.now ≡ text_or_none (first_of (codes "FILE") (rows_of (found_of matches.now))) }
     ensures port { result.port ≡ number_below 65536 0 (one_of (codes "port") (rows_of (found_of matches.now))) }
+    ensures peers { result.peers ≡ number_or 64 (one_of (codes "peers") (rows_of (found_of matches.now))) }
+    ensures listen { IsAddress (first_of (codes "listen") (rows_of (found_of matches.now))) result.listen }
     ensures connections { result.connections
         ≡ number_given 4294967296 (one_of (codes "connections") (rows_of (found_of matches.now))) }
     ensures quiet { result.quiet ≡ has_flag (codes "quiet") (rows_of (found_of matches.now)) }
@@ -134,6 +145,8 @@ pub(crate) fn service_named<'w>(matches: &ArgMatches<'w>) -> Service<'w>
     Service {
         hill: file_named(matches, "FILE"),
         port: port_given(matches),
+        peers: number_given(matches, "peers", PEERS),
+        listen,
         connections: number_if_given(matches, "connections"),
         quiet: flag_given(matches, "quiet"),
     }
@@ -147,6 +160,29 @@ pub(crate) fn migration_named<'w>(matches: &ArgMatches<'w>) -> Migration<'w>
         old: file_named(matches, "FILE"),
         new: file_named(matches, "NEW"),
     }
+}
+
+pub(crate) fn watched_named<'w>(matches: &ArgMatches<'w>) -> Watched<'w>
+    ensures older { result.older.now ≡ text_or_none (first_of (codes "A") (rows_of (found_of matches.now))) }
+    ensures younger { result.younger.now ≡ text_or_none (first_of (codes "B") (rows_of (found_of matches.now))) }
+    ensures round { result.round ≡ number_or 1 (one_of (codes "round") (rows_of (found_of matches.now))) }
+{
+    Watched {
+        older: file_named(matches, "A"),
+        younger: file_named(matches, "B"),
+        round: number_given(matches, "round", 1),
+    }
+}
+
+/// The address to listen at, unless a text is given that writes none.
+pub(crate) fn address_given(matches: &ArgMatches<'_>) -> Option<IpAddr>
+    ensures { MatchOption result (HasAddress (rows_of (found_of matches.now)) → ⊥)
+        (IsAddress (first_of (codes "listen") (rows_of (found_of matches.now)))) }
+{
+    text_given(matches, "listen")
+        .unwrap_or(THIS_MACHINE)
+        .parse()
+        .ok()
 }
 
 /// The file that is named so. Words without it are refused.

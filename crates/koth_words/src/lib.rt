@@ -1,11 +1,13 @@
 //! The words of the command line: what the program `koth` may be asked for.
 //!
 //! - `options`: the options that give settings, and the settings that they give;
+//! - `arguments`: the files, options and flags of commands, one by one;
 //! - `commands`: the commands with their files and options, as `clap` reads them;
 //! - `given`: what words that `clap` took give a command;
 //! - `words`: the requests, and the words as one of them.
 #![tactic(auto)]
 
+mod arguments;
 mod commands;
 mod given;
 mod options;
@@ -14,5 +16,5 @@ mod words;
 pub use options::DEFAULTS;
 pub use words::{
     Checked, Creation, Fighters, Form, Migration, NoRequest, Request, Service, Shown, Source,
-    Submission, View, parse,
+    Submission, View, Watched, parse,
 };

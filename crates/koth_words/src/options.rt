@@ -141,7 +141,8 @@ pub(crate) fn settings_given(matches: &ArgMatches<'_>) -> RawSettings
     }
 }
 
-fn number_given(matches: &ArgMatches<'_>, name: &str, default: u32) -> u32
+/// The number that an option has, or the default where it is left out.
+pub(crate) fn number_given(matches: &ArgMatches<'_>, name: &str, default: u32) -> u32
     ensures { result ≡ number_or default (one_of name.now (rows_of (found_of matches.now))) }
 {
     number_if_given(matches, name).unwrap_or(default)

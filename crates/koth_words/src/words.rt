@@ -1,18 +1,20 @@
 //! The words of the command line: what `koth` may be asked for.
 
-ghost use Rattle.std.specs.Prelude.{◌≡◌, ◌≢◌, true, false, map, IfOk, IfErr, IsErrAnd, string_bytes};
-ghost use Rattle.clap.specs.Words.{found_of, kind_of, rows_of, subcommand_name_of, subcommand_of, subcommand_rows_of};
-ghost use Rattle.koth_words.specs.Words.{are_clear, given_in, is_taken, koth_app, AreWrong, Asks, AsksBy, IsCommandName, IsRefusal, NamesCommand};
+ghost use Rattle.std.specs.Prelude.{◌≡◌, ◌≢◌, codes, map, IfOk, IfErr, IsErrAnd, string_bytes};
+ghost use Rattle.clap.specs.Words.{first_of, found_of, kind_of, rows_of, subcommand_name_of, subcommand_of, subcommand_rows_of};
+ghost use Rattle.koth_words.specs.Words.{given_in, koth_app, AreClear, AreTaken, AreWrong, Asks, AsksBy, IsAddress, IsCommandName, IsRefusal, NamesCommand};
 
 use crate::commands::koth_command;
 use crate::given::{
-    checked_named, creation_named, fighters_named, file_named, has_known_form, has_one_view,
-    migration_named, service_named, shown_named, source_named, submission_named,
+    address_given, checked_named, creation_named, fighters_named, file_named, has_known_form,
+    has_one_view, migration_named, service_named, shown_named, source_named, submission_named,
+    watched_named,
 };
 use crate::options::settings_given;
 use clap::error::ErrorKind;
 use clap::{ArgMatches, Error};
 use std::alloc::{AllocError, Global};
+use std::net::IpAddr;
 use war_types::RawSettings;
 
 /// What the words ask for.
@@ -38,6 +40,8 @@ pub enum Request<'w> {
     Migrate(Migration<'w>),
     /// `page`: write the page of the hill in this file.
     Page(&'w str),
+    /// `replay`: write the page of one round of a match under these settings.
+    Replay(RawSettings, Watched<'w>),
 }
 
 /// Where a source is read from.
@@ -119,6 +123,10 @@ pub struct Service<'w> {
     pub hill: &'w str,
     /// 0 to 65,535; with 0 the system finds one.
     pub port: u16,
+    /// Peers that are served at once at most; with 1 it is one connection after the other.
+    pub peers: u32,
+    /// The address that the port is one of.
+    pub listen: IpAddr,
     /// Connections that are served before the service ends; without a number it goes on.
     pub connections: Option<u32>,
     /// Whether no line is written for a connection.
@@ -132,6 +140,15 @@ pub struct Migration<'w> {
     pub old: &'w str,
     /// Created if missing.
     pub new: &'w str,
+}
+
+/// The files of two warriors, and which round of their match is shown.
+#[derive(Clone, Copy, Debug, PartialEq, Eq)]
+pub struct Watched<'w> {
+    pub older: &'w str,
+    pub younger: &'w str,
+    /// The first round is 1.
+    pub round: u32,
 }
 
 /// Why the words ask for nothing that is done.
@@ -155,15 +172,21 @@ const UNKNOWN_FORM: &str = "error: the argument '--format <FORM>' takes 'text' o
 For more information, try '--help'.
 ";
 
+const NO_ADDRESS: &str =
+    "error: the argument '--listen <ADDRESS>' takes an IPv4 or IPv6 address without a port
+
+For more information, try '--help'.
+";
+
 /// What the words ask for. The first word is the program's name.
 ///
-/// Words that are taken (`is_taken`) give the request of the command that they name: words that `koth_app` takes, by `clap`'s own definition,
-/// that ask for one layout at most, and for no form but `text` and `json`. Others, and those that ask for help or for the version, give none,
-/// but a text. `NoRequest::Memory` may come in place of any of these, where a growth was refused.
+/// Words that are taken (`AreTaken`) give the request of the command that they name: words that `koth_app` takes, by `clap`'s own definition,
+/// that ask for one layout at most, for no form but `text` and `json`, and to listen at nothing but an address. Others, and those that ask for
+/// help or for the version, give none, but a text. `NoRequest::Memory` may come in place of any of these, where a growth was refused.
 pub fn parse(heap: Global, words: &[String]) -> Result<Request<'_>, NoRequest>
     ensures request { IfOk result (λ request.
         AsksBy (subcommand_of koth_app (map (λ w. string_bytes w) words.entry.now)) request) }
-    ensures taken { is_taken (map (λ w. string_bytes w) words.entry.now) ≡ true
+    ensures taken { AreTaken (map (λ w. string_bytes w) words.entry.now)
         → IfErr result (λ e. e ≡ NoRequest.Memory) }
     ensures wrong { AreWrong (map (λ w. string_bytes w) words.entry.now) → IsErrAnd result IsRefusal }
 {
@@ -180,9 +203,9 @@ pub fn parse(heap: Global, words: &[String]) -> Result<Request<'_>, NoRequest>
 fn request_of<'w>(heap: Global, matches: &ArgMatches<'w>) -> Result<Request<'w>, NoRequest>
     requires { NamesCommand (subcommand_name_of matches.now) }
     ensures request { IfOk result (λ request. AsksBy (subcommand_rows_of matches.now) request) }
-    ensures taken { are_clear (given_in (subcommand_rows_of matches.now)) ≡ true
+    ensures taken { AreClear (given_in (subcommand_rows_of matches.now))
         → IfErr result (λ e. e ≡ NoRequest.Memory) }
-    ensures wrong { are_clear (given_in (subcommand_rows_of matches.now)) ≡ false → IsErrAnd result IsRefusal }
+    ensures wrong { (AreClear (given_in (subcommand_rows_of matches.now)) → ⊥) → IsErrAnd result IsRefusal }
 {
     let Some((name, given)) = matches.subcommand() else {
         unreachable!()
@@ -193,15 +216,24 @@ fn request_of<'w>(heap: Global, matches: &ArgMatches<'w>) -> Result<Request<'w>,
     if !has_known_form(given) {
         return Err(word_fault(heap, UNKNOWN_FORM));
     }
-    match asked(heap, name, given) {
+    let Some(listen) = address_given(given) else {
+        return Err(word_fault(heap, NO_ADDRESS));
+    };
+    match asked(heap, name, given, listen) {
         Ok(request) => Ok(request),
         Err(AllocError) => Err(NoRequest::Memory),
     }
 }
 
-/// The request of the command of this name.
-fn asked<'w>(heap: Global, name: &str, given: &ArgMatches<'w>) -> Result<Request<'w>, AllocError>
-    requires { IsCommandName name.now }
+/// The request of the command of this name, with the address that a service listens at.
+fn asked<'w>(
+    heap: Global,
+    name: &str,
+    given: &ArgMatches<'w>,
+    listen: IpAddr,
+) -> Result<Request<'w>, AllocError>
+    requires name { IsCommandName name.now }
+    requires listen { IsAddress (first_of (codes "listen") (rows_of (found_of given.now))) listen }
     ensures { IfOk result (Asks (name.now, rows_of (found_of given.now))) }
 {
     let settings = settings_given(given);
@@ -212,10 +244,11 @@ fn asked<'w>(heap: Global, name: &str, given: &ArgMatches<'w>) -> Result<Request
         "create" => Request::Create(settings, creation_named(given)),
         "submit" => Request::Submit(submission_named(given)),
         "show" => Request::Show(shown_named(given)),
-        "serve" => Request::Serve(service_named(given)),
+        "serve" => Request::Serve(service_named(given, listen)),
         "audit" => Request::Audit(file_named(given, "FILE")),
         "migrate" => Request::Migrate(migration_named(given)),
         "page" => Request::Page(file_named(given, "FILE")),
+        "replay" => Request::Replay(settings, watched_named(given)),
         _ => unreachable!(),
     };
     Ok(request)

@@ -121,3 +121,32 @@ fn files_that_are_not_there(rt: HostRuntime) -> Result<(), Fail> {
     check_missing(&rt, Some("DAT 0\n"), None)?;
     check_missing(&rt, None, None)
 }
+
+/// What `koth replay` of a round under the settings of these fights writes.
+fn replay_of(
+    rt: &(impl Abort + Files<File = File> + Net + Clock + AllocGlobal),
+    round: u32,
+) -> Result<Ran, Fail> {
+    let line = format!(in rt.alloc();
+        "koth replay watched.red watched.red --round={round} {FIGHT}"
+    )?;
+    Ok(run_on(rt, rt.alloc(), line.as_str(), &mut b"".as_slice())?)
+}
+
+#[test]
+fn a_round_is_shown(rt: HostRuntime) -> Result<(), Fail> {
+    fs::write(&rt, "watched.red", ";name Watched\nMOV 0, 1\n")?;
+    let second = replay_of(&rt, 2)?;
+    let page = str::from_utf8(second.output.as_slice())?;
+    assert!(rt; page.starts_with("<!DOCTYPE html>"));
+    assert!(rt; page.contains("Watched"));
+    assert_eq!(rt; second.errors.len(), 0);
+    assert_eq!(rt; second.status, 0);
+    let third = replay_of(&rt, 3)?;
+    let told = "BadSettings Rounds: --round is 3, and must be 1 to --rounds 2\n";
+    assert_eq!(rt; str::from_utf8(third.errors.as_slice())?, told);
+    assert_eq!(rt; third.output.len(), 0);
+    assert_eq!(rt; third.status, 1);
+    fs::remove_file(&rt, "watched.red")?;
+    Ok(())
+}

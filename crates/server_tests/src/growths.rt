@@ -45,7 +45,7 @@ const OF_ONE: Ending = Ending {
 /// those of the assembler, and, where the device has its memory there too, the first writes to the four sectors of a slot and to a header's.
 const WITHOUT_ONE: [(u64, &str, SessionEnd, &str); 3] = [
     (2, "", SessionEnd::Memory, NONE),
-    (9, "MEMORY\nBAD\n", SessionEnd::Quit, NONE),
+    (7, "MEMORY\nBAD\n", SessionEnd::Quit, NONE),
     (5, "", SessionEnd::StoreFailed, NONE),
 ];
 
@@ -61,21 +61,21 @@ const OF_THREE: Ending = Ending {
 const WITHOUT_THREE: [(u64, &str, SessionEnd, &str); 7] = [
     (2, "", SessionEnd::Memory, NONE),
     (
-        9,
+        7,
         "MEMORY\nPLACED 1 1 0\nPLACED 2 2 0\n1 1 6 1 Unnamed by Anonymous\n2 2 0 0 Unnamed by Anonymous\n.\n",
         SessionEnd::EndOfInput,
         WON,
     ),
     (5, "", SessionEnd::StoreFailed, NONE),
     (
-        9,
+        7,
         "PLACED 1 1 0\nMEMORY\nPLACED 2 2 0\n1 1 6 1 Unnamed by Anonymous\n2 2 0 0 Unnamed by Anonymous\n.\n",
         SessionEnd::EndOfInput,
         WON,
     ),
     (4, "PLACED 1 1 0\n", SessionEnd::StoreFailed, ONE),
     (
-        9,
+        7,
         "PLACED 1 1 0\nPLACED 2 2 2\nMEMORY\n1 1 2 1 Unnamed by Anonymous\n2 2 2 0 Unnamed by Anonymous\n.\n",
         SessionEnd::EndOfInput,
         TIED,
@@ -217,12 +217,12 @@ struct Command {
 /// Growths of a command, and then of its submission, which is answered `MEMORY`: without one of the first that is told as a fault. Then
 /// the command, its input, what it writes, and what it leaves with.
 ///
-/// A source is read into a buffer and assembled by 9 growths. A hill is created by 5, the members and an arena's four, behind one for
+/// A source is read into a buffer and assembled by 7 growths. A hill is created by 5, the members and an arena's four, behind one for
 /// the path of its file, and opened by these and the code of the one warrior. The hill of the old format that is moved to a file that is made
 /// has three warriors. Texts grow from 8 bytes to 16, 32 and 64, load text from 4.
 const COMMANDS: [(u64, u64, &str, &str, &str, u8); 8] = [
     (
-        1 + 9 + 5,
+        1 + 7 + 5,
         0,
         "koth asm",
         "MOV 0, 1\n",
@@ -230,7 +230,7 @@ const COMMANDS: [(u64, u64, &str, &str, &str, u8); 8] = [
         0,
     ),
     (
-        10 + 10 + 4 + 1,
+        8 + 8 + 4 + 1,
         0,
         "koth fight growths.red growths.red --core=64 --cycles=100 --processes=8 --length=10 --distance=10 --rounds=2",
         "",
@@ -265,7 +265,7 @@ const COMMANDS: [(u64, u64, &str, &str, &str, u8); 8] = [
     ),
     (
         6 + 1,
-        9,
+        7,
         "koth submit growths.hill growths.red",
         "",
         "PLACED 2 2 2\n",

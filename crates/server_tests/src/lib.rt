@@ -12,8 +12,7 @@
 //! - `sessions` and `session_faults`: what a session answers, and how it ends where a stream or the device fails;
 //! - `growths`: sessions and commands with each growth of memory refused in turn;
 //! - `peers`: peers that wait for an answer, and streams that signals interrupt;
-//! - `told`: what people are told of each likely mistake, and output in columns;
-//! - `service`: sessions over sockets, one after the other.
+//! - `told`: what people are told of each likely mistake, and output in columns.
 //!
 //! What a contract says is proved there and not tried here.
 #![tactic(auto)]
@@ -38,8 +37,6 @@ mod pages;
 mod peers;
 #[cfg(test)]
 mod program;
-#[cfg(test)]
-mod service;
 #[cfg(test)]
 mod session_faults;
 #[cfg(test)]

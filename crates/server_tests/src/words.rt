@@ -24,7 +24,7 @@ fn check_fault(
 }
 
 /// Words with a fault, and a part of what is told of it.
-const FAULTS: [(&str, &str); 27] = [
+const FAULTS: [(&str, &str); 38] = [
     ("koth", "requires a subcommand"),
     ("koth fly", "unrecognized subcommand 'fly'"),
     ("koth ASM", "unrecognized subcommand 'ASM'"),
@@ -64,6 +64,29 @@ const FAULTS: [(&str, &str); 27] = [
     ("koth migrate f", "<NEW>"),
     ("koth page", "<FILE>"),
     ("koth migrate f g h", "unexpected argument 'h'"),
+    ("koth serve f --port 0 --peers 0", "0 is not in 1..=1024"),
+    (
+        "koth serve f --port 0 --peers 1025",
+        "1025 is not in 1..=1024",
+    ),
+    ("koth serve f --port 0 --peers x", "invalid value 'x'"),
+    (
+        "koth serve f --port 0 --listen here",
+        "'--listen <ADDRESS>' takes an IPv4 or IPv6 address",
+    ),
+    (
+        "koth serve f --port 0 --listen 0.0.0.0:80",
+        "without a port",
+    ),
+    (
+        "koth serve f --port 0 --listen",
+        "a value is required for '--listen <ADDRESS>'",
+    ),
+    ("koth replay a", "<B>"),
+    ("koth replay a b --round 0", "0 is not in 1..=1000"),
+    ("koth replay a b --round 1001", "1001 is not in 1..=1000"),
+    ("koth replay a b --plain", "unexpected argument '--plain'"),
+    ("koth fight a b --round 1", "unexpected argument '--round'"),
 ];
 
 #[test]
@@ -89,7 +112,7 @@ fn check_help(
 }
 
 /// Words that ask for help, and a part of it.
-const HELPS: [(&str, &str); 16] = [
+const HELPS: [(&str, &str); 22] = [
     ("koth --help", "Usage: koth <COMMAND>"),
     ("koth -h", "Usage: koth <COMMAND>"),
     ("koth help", "Usage: koth <COMMAND>"),
@@ -106,6 +129,12 @@ const HELPS: [(&str, &str); 16] = [
     ("koth migrate --help", "Usage: koth migrate <FILE> <NEW>"),
     ("koth asm --help", "1 to 200 [default: 100]"),
     ("koth serve --help", "0 to 65535"),
+    ("koth serve --help", "1 to 1024"),
+    ("koth serve -h", "--listen <ADDRESS>"),
+    ("koth help serve", "--peers <NUMBER>"),
+    ("koth replay --help", "Usage: koth replay [OPTIONS] <A> <B>"),
+    ("koth replay -h", "--round <NUMBER>"),
+    ("koth replay --help", "1 to 1000000 [default: 80000]"),
 ];
 
 #[test]
@@ -164,6 +193,7 @@ fn settings_are_refused_before_anything_is_read(rt: HostRuntime) -> Result<(), F
     for (options, field) in OUT_OF_RANGE {
         check_refused(&rt, "asm", options, field)?;
         check_refused(&rt, "fight no_such_file no_such_file", options, field)?;
+        check_refused(&rt, "replay no_such_file no_such_file", options, field)?;
         check_refused(&rt, "create no_such_file", options, field)?;
     }
     assert!(rt; !fs::exists(&rt, "no_such_file")?);

@@ -1,7 +1,8 @@
 -- A service ends behind its line and its log, or with a fault.
-use Rattle.std.proofs.Common.{inr, refl}
+use Rattle.std.proofs.Common.{inl, inr, refl}
 use Rattle.koth_commands.proofs.Told.{whole_part, writes_nothing}
 use Rattle.koth_server.specs.Hills.{listening_line}
+use Rattle.koth_server.proofs.Logged.{is_log}
 use Rattle.koth_server.proofs.serve.serve.Goals as goal
 
 pub returns-in-Err-clause-ends : goal.returns-in-Err-clause-ends
@@ -21,11 +22,16 @@ pub returns-clause-ends : goal.returns-clause-ends
 returns-clause-ends g c =
     let (port, whole) = c.in-Ok.ensures.announced in
     inr record {
-      fault = c.in-Err-serve_connections.trouble.fault;
-      ends = c.tell-in-Err-serve_connections.ensures.status;
+      fault = c.trouble_of.result.fault;
+      ends = c.tell-in-Err-served.ensures.status;
       port = port;
       output = whole_part _ _ _ (listening_line port) refl whole;
-      logged = g.E.Write.contents c.serve_connections.new.errors;
-      log = c.serve_connections.ensures;
-      told = c.tell-in-Err-serve_connections.ensures.told;
+      logged = g.E.Write.contents c.serve_peers-served.new.errors;
+      log = is_log _ _ c.serve_peers-served.ensures.told;
+      told = c.tell-in-Err-served.ensures.told;
     }
+
+pub returns-in-Ok-served-clause-ends : goal.returns-in-Ok-served-clause-ends
+returns-in-Ok-served-clause-ends g c =
+    let (port, whole) = c.in-Ok.ensures.announced in
+    inl (record { text = listening_line port; answer = (port, refl, refl); written = whole }, is_log _ _ c.serve_peers-served.ensures.told)

@@ -14,4 +14,5 @@ returns c =
     let serve = c.in_ok-command-7.ensures _ _ show c.serve_command.ensures in
     let audit = c.in_ok-command-8.ensures _ _ serve c.audit_command.ensures in
     let migrate = c.in_ok-command-9.ensures _ _ audit c.migrate_command.ensures in
-    c.with_command-10.ensures _ _ migrate c.page_command.ensures
+    let page = c.in_ok-command-10.ensures _ _ migrate c.page_command.ensures in
+    c.with_command-11.ensures _ _ page c.replay_command.ensures

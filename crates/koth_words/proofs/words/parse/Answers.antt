@@ -1,8 +1,7 @@
 -- What clap says of its commands holds of the program's words.
 use Rattle.std.proofs.Common.{IfOk, inl, inr, subst}
-use Rattle.koth_words.specs.Words.{AsksBy}
-use Rattle.koth_words.proofs.Named.{clear_found, found, gives_command, memory_kind, not_wrong, wrong_kind}
-use Rattle.koth_words.proofs.Numbers.{both}
+use Rattle.koth_words.specs.Words.{AreClear, AsksBy}
+use Rattle.koth_words.proofs.Named.{found, given_found, given_named, gives_command, memory_kind, not_wrong, wrong_kind}
 use Rattle.koth_words.proofs.words.parse.Goals as goal
 
 pub request_of-requires : goal.request_of-requires
@@ -20,7 +19,7 @@ pub returns-in-Ok-try_get_matches_from-clause-wrong :
 returns-in-Ok-try_get_matches_from-clause-wrong c (inl fault) =
     absurd (not_wrong _ _ c.in-Ok.ensures.0 c.in-Ok-try_get_matches_from.ensures.kinds fault)
 returns-in-Ok-try_get_matches_from-clause-wrong c (inr unclear) =
-    c.request_of.ensures.wrong (clear_found _ _ _ _ c.in-Ok.ensures.0 c.in-Ok-try_get_matches_from.ensures.matches unclear.1)
+    c.request_of.ensures.wrong (λ clear. unclear.1 (given_named _ _ _ AreClear c.in-Ok.ensures.0 c.in-Ok-try_get_matches_from.ensures.matches clear))
 
 pub returns-in-Err-try_get_matches_from-clause-wrong :
     goal.returns-in-Err-try_get_matches_from-clause-wrong
@@ -31,7 +30,7 @@ returns-in-Err-try_get_matches_from-clause-wrong c wrong =
 pub returns-in-Ok-try_get_matches_from-clause-taken :
     goal.returns-in-Ok-try_get_matches_from-clause-taken
 returns-in-Ok-try_get_matches_from-clause-taken c taken =
-    c.request_of.ensures.taken (clear_found _ _ _ _ c.in-Ok.ensures.0 c.in-Ok-try_get_matches_from.ensures.matches (both _ _ taken).1)
+    c.request_of.ensures.taken (given_found _ _ _ AreClear c.in-Ok.ensures.0 c.in-Ok-try_get_matches_from.ensures.matches taken.1)
 
 pub returns-in-Err-try_get_matches_from-clause-taken :
     goal.returns-in-Err-try_get_matches_from-clause-taken

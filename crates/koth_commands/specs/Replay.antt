@@ -1,0 +1,44 @@
+-- What the command `replay` writes, and how it ends.
+use Rattle.std.specs.Prelude.{◌≡◌, ℕ, ◌-◌, Bool, if◌then◌else◌, Option, List, Result, Ok, Err}
+use Rattle.war_types.specs.Settings.{is_from_to}
+use Rattle.war_types.specs.Warrior.{WarriorParts}
+use Rattle.war_types.specs.declared.settings.RawSettings.{RawSettings}
+use Rattle.war_types.specs.declared.settings.SettingsFault.{SettingsFault}
+use Rattle.war_types.specs.declared.settings.SettingsFault.TheVariants as faults
+use Rattle.koth_replay.specs.Replay.{IsReplay, ReplayParts}
+use Rattle.koth_watch.specs.Page.{round_page}
+use Rattle.koth_commands.specs.Answer.{EndsGiven}
+use Rattle.koth_commands.specs.Pair.{EndsMatch, IsWarriorOf}
+use Rattle.koth_commands.specs.Streams.{Streams}
+use Rattle.koth_commands.specs.declared.replay.TheConstants.{MOST_TURNS}
+use Rattle.koth_commands.specs.declared.status.Status.{Status}
+
+-- whether a match under these settings has the round of this number, counted from 1
+abbrev pub has_round : RawSettings → ℕ → Bool
+has_round s round = is_from_to 1 s.rounds round
+
+-- the settings under which that round is watched: those of a match that has it
+abbrev pub with_round : ℕ → Result RawSettings SettingsFault → Result RawSettings SettingsFault
+with_round round (Ok s) = if has_round s round then Ok s else Err faults.Rounds
+with_round round (Err fault) = Err fault
+
+-- the text is the page of that round of the match of two such warriors: it carries the events that draw the round as it stands after each turn
+pub record IsWatched (s : RawSettings) (round : ℕ) (text : List ℕ) : Type 0 where
+  pub older : WarriorParts
+  pub younger : WarriorParts
+  pub older_comes : IsWarriorOf s older
+  pub younger_comes : IsWarriorOf s younger
+  pub replay : ReplayParts
+  pub plays : IsReplay s older younger (round - 1) MOST_TURNS replay
+  pub tells : text ≡ round_page older younger (round - 1) replay
+
+-- how `replay` ends under settings, by what the output and then the errors hold before and after: with the page of that round of a match and
+-- nothing told, or as where there is no match, or with a stream that failed, and then a part of the answer may have been written
+abbrev pub EndsReplayUnder : RawSettings → ℕ → Status → Option (List ℕ) → Option (List ℕ) → Option (List ℕ) → Option (List ℕ) → Type 0
+EndsReplayUnder s round status o p e f = EndsMatch s (IsWatched s round) status o p e f
+
+-- how `replay` of the round of this number ends: as under the settings that are given, with their refusal, also where their match doesn't have
+-- the round, or for want of memory
+abbrev pub EndsReplay : ℕ → Result RawSettings SettingsFault → Status → Streams → Streams → Type 0
+EndsReplay round settings status before after =
+    EndsGiven (λ s end u v. EndsReplayUnder s round end u.output v.output u.errors v.errors) (with_round round settings) status before after

@@ -1,0 +1,11 @@
+-- What a service tells stands on the errors.
+use Rattle.std.proofs.Common.{ℕ, List, Option, refl}
+use Rattle.koth_commands.proofs.Told.{whole_part}
+use Rattle.koth_commands.specs.Told.{WritesSome}
+use Rattle.koth_service.specs.Told.{Grows}
+
+pub is_log : (a b : Option (List ℕ)) → Grows a b → WritesSome a b
+is_log a b (text, grows) = (text, whole_part a b text text refl grows)
+
+pub is_told : (a b : Option (List ℕ)) → WritesSome a b → Grows a b
+is_told a b (text, part) = (part.part, part.written)

@@ -1,0 +1,59 @@
+-- The texts of addresses. For `address_given`.
+use Rattle.std.proofs.Common.{◌≡◌, ℕ, List, [], ◌∷◌, Option, None, Some, Result, Ok, Err, codes, refl, inr, lit≤}
+use Rattle.std.specs.Prelude.{unwrap_or, MatchOption}
+use Rattle.std.specs.Result.{result_ok}
+use Rattle.std.specs.Fmt.{digits}
+use Rattle.std.specs.Net.Grammar.{IsIpText, Parses}
+use Rattle.std.specs.Net.Reader.{read_ipv4, read_ipv6, read_number, read_octet, read_segment, read_segments}
+use Rattle.std.specs.declared.net.ip_addr.IpAddr.{IpAddr}
+use Rattle.std.specs.declared.net.ip_addr.IpAddr.TheVariants as addresses
+use Rattle.std.proofs.lemmas.Option.{none-some}
+use Rattle.std.proofs.NetLemmas.Ipv4.{read_ipv4_complete}
+use Rattle.std.proofs.NetLemmas.Ipv6.{EndsGroups-nil, read_ipv6_complete}
+use Rattle.std.proofs.NetLemmas.Options.{same_parts}
+use Rattle.clap.specs.Walk.{Text}
+use Rattle.koth_words.specs.Words.{IsAddress, WritesAddress}
+
+-- the address of four numbers
+abbrev pub four : List ℕ → IpAddr
+four octets = addresses.V4 (record { octets = octets })
+
+pub this_machine : IsIpText (codes "127.0.0.1") (four (127 ∷ 0 ∷ 0 ∷ 1 ∷ []))
+unfolding digits
+this_machine = record { a = 127; b = 0; c = 0; d = 1; fit = (lit≤ tt, lit≤ tt, lit≤ tt, lit≤ tt); value = refl; spelled = refl }
+
+module _ {E : Type 0} where
+  -- what a text is read as: an address, unless it is given and writes none
+  pub reads_address : (text : Option Text) (r : Result IpAddr E) (x : Option IpAddr) → Parses IsIpText (unwrap_or text (codes "127.0.0.1")) r → x ≡ result_ok r
+      → MatchOption x (WritesAddress text → ⊥) (IsAddress text)
+  reads_address text (Ok address) x parsed is = rw is parsed
+  reads_address None (Err e) x parsed is = absurd (parsed (four (127 ∷ 0 ∷ 0 ∷ 1 ∷ [])) this_machine)
+  reads_address (Some text) (Err e) x parsed is = rw is (λ written. parsed written.0 written.1)
+
+-- ---- texts that write an address, and texts that write none. For the rows of `Rows`.
+
+pub every_address : IsIpText (codes "0.0.0.0") (four (0 ∷ 0 ∷ 0 ∷ 0 ∷ []))
+unfolding digits
+every_address = record { a = 0; b = 0; c = 0; d = 0; fit = (lit≤ tt, lit≤ tt, lit≤ tt, lit≤ tt); value = refl; spelled = refl }
+
+abbrev pub any_address : IpAddr
+any_address = addresses.V6 (record { segments = 0 ∷ 0 ∷ 0 ∷ 0 ∷ 0 ∷ 0 ∷ 0 ∷ 0 ∷ [] })
+
+pub every_long_address : IsIpText (codes "::") any_address
+every_long_address = inr (record { head_text = []; tail_text = []; head = []; tail = []; spelled = refl; head_groups = refl; tail_groups = refl; room = lit≤ tt; value = refl })
+
+pub not_here : (address : IpAddr) → IsIpText (codes "here") address → ⊥
+unfolding read_ipv4 read_octet read_number read_ipv6 read_segments read_segment
+not_here (addresses.V4 a) writes = none-some _ (read_ipv4_complete (codes "here") _ [] writes (lit≤ tt))
+not_here (addresses.V6 a) writes = none-some _ (read_ipv6_complete (codes "here") _ [] writes EndsGroups-nil)
+
+-- a reader that leaves something has not read the whole text
+some_left : (x y : List ℕ) (c : ℕ) (cs : List ℕ) → ◌≡◌ {A = Option (List ℕ × List ℕ)} (Some (x, c ∷ cs)) (Some (y, [])) → ⊥
+some_left x y c cs e =
+    let rest = (same_parts _ _ _ _ e).1 in
+    absurd (cc)
+
+pub not_with_port : (address : IpAddr) → IsIpText (codes "0.0.0.0:80") address → ⊥
+unfolding read_ipv4 read_octet read_number read_ipv6 read_segments read_segment
+not_with_port (addresses.V4 a) writes = some_left _ _ _ _ (read_ipv4_complete (codes "0.0.0.0:80") _ [] writes (lit≤ tt))
+not_with_port (addresses.V6 a) writes = none-some _ (read_ipv6_complete (codes "0.0.0.0:80") _ [] writes EndsGroups-nil)

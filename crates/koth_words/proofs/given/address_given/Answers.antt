@@ -1,0 +1,11 @@
+-- The address is read from the text that the matches have, or from the default.
+use Rattle.std.proofs.Common.{refl, subst}
+use Rattle.std.specs.Net.Grammar.{IsIpText, Parses}
+use Rattle.koth_words.proofs.Addresses.{reads_address}
+use Rattle.koth_words.proofs.Texts.{file_text}
+use Rattle.koth_words.proofs.given.address_given.Goals as goal
+
+pub returns : goal.returns
+returns c =
+    let text = file_text c.text_given.result _ c.unwrap_or.result _ c.unwrap_or.ensures refl c.text_given.ensures in
+    reads_address _ c.parse.result c.ok.result (subst (λ t. Parses IsIpText t c.parse.result) text c.parse.ensures.value) c.ok.ensures.value

@@ -1,0 +1,90 @@
+//! The files, options and flags of the commands, one by one.
+
+ghost use Rattle.std.specs.Prelude.{◌≡◌, codes, false, pos};
+ghost use Rattle.clap.specs.Words.{new_rule, rule_of};
+ghost use Rattle.koth_words.specs.Commands.{file_rule, files_rule, flag_rule, text_rule};
+ghost use Rattle.koth_words.specs.Options.{ranged_rule, required_rule};
+
+use crate::options::option;
+use clap::builder::ValueParser;
+use clap::{Arg, ArgAction, value_parser};
+use std::alloc::Global;
+
+pub(crate) fn file<'a>(heap: Global, name: &'a str, help: &'a str) -> Arg<'a>
+    ensures rule { rule_of result ≡ file_rule name.entry.now }
+    ensures global { result.global ≡ false }
+{
+    Arg::new(heap, name).required(true).help(help)
+}
+
+pub(crate) fn source<'a>(heap: Global) -> Arg<'a>
+    ensures rule { rule_of result ≡ new_rule (codes "FILE") }
+    ensures global { result.global ≡ false }
+{
+    Arg::new(heap, "FILE").help("File of the source; standard input if left out, or if -")
+}
+
+pub(crate) fn files<'a>(heap: Global) -> Arg<'a>
+    ensures rule { rule_of result ≡ files_rule (codes "FILE") }
+    ensures global { result.global ≡ false }
+{
+    file(heap, "FILE", "Files of the sources, one or more").action(ArgAction::Append)
+}
+
+pub(crate) fn form<'a>(heap: Global) -> Arg<'a>
+    ensures rule { rule_of result ≡ text_rule (codes "format") }
+    ensures global { result.global ≡ false }
+{
+    Arg::new(heap, "format")
+        .long("format")
+        .value_name("FORM")
+        .help("Form of what is written, text or json [default: text]")
+}
+
+pub(crate) fn port<'a>(heap: Global) -> Arg<'a>
+    ensures rule { rule_of result ≡ required_rule (codes "port") 65535 }
+    ensures global { result.global ≡ false }
+{
+    Arg::new(heap, "port")
+        .long("port")
+        .value_name("NUMBER")
+        .value_parser(value_parser!(u16))
+        .required(true)
+        .help("Port to listen at, 0 to 65535; at 0 the system chooses one")
+}
+
+pub(crate) fn address<'a>(heap: Global) -> Arg<'a>
+    ensures rule { rule_of result ≡ text_rule (codes "listen") }
+    ensures global { result.global ≡ false }
+{
+    Arg::new(heap, "listen")
+        .long("listen")
+        .value_name("ADDRESS")
+        .help(
+            "Address to listen at, IPv4 or IPv6; whoever reaches it can submit [default: 127.0.0.1]",
+        )
+}
+
+/// An option with a whole number from the least to the greatest.
+pub(crate) fn ranged<'a>(
+    heap: Global,
+    name: &'a str,
+    least: i64,
+    greatest: i64,
+    help: &'a str,
+) -> Arg<'a>
+    ensures rule { rule_of result ≡ ranged_rule name.entry.now least greatest }
+    ensures global { result.global ≡ false }
+{
+    option(heap, name, help).value_parser(ValueParser::signed(least, greatest))
+}
+
+pub(crate) fn flag<'a>(heap: Global, name: &'a str, help: &'a str) -> Arg<'a>
+    ensures rule { rule_of result ≡ flag_rule name.entry.now }
+    ensures global { result.global ≡ false }
+{
+    Arg::new(heap, name)
+        .long(name)
+        .action(ArgAction::SetTrue)
+        .help(help)
+}
