@@ -15,7 +15,7 @@ use koth_service::{Event, Host, PolledSockets, ServiceFault, serve_peers};
 use koth_words::Service;
 use std::alloc::Allocator;
 use std::io;
-use std::io::Write;
+use std::io::{ErrorKind, Write};
 use std::net::{Net, SocketAddr};
 use std::rt::{Clock, Files};
 
@@ -162,12 +162,15 @@ fn announce<'t, O: Write>(
     }
 }
 
-/// A port can't be listened at.
+/// A port can't be listened at, or there is no memory for its sockets.
 fn port_failed<'t>(port: u16, error: &io::Error) -> HillTrouble<'t> {
-    HillTrouble::stream(Cause {
-        subject: Subject::Port(port),
-        reason: reason_of(error.kind()),
-    })
+    match error.kind() {
+        ErrorKind::OutOfMemory => HillTrouble::memory(),
+        kind => HillTrouble::stream(Cause {
+            subject: Subject::Port(port),
+            reason: reason_of(kind),
+        }),
+    }
 }
 
 /// Why a service has ended.
