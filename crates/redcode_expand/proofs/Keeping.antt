@@ -13,8 +13,7 @@ use Rattle.redcode_names.proofs.Unchanged.{replaced-left}
 use Rattle.std.proofs.lemmas.Grind.{common_steps}
 use Rattle.std.specs.Prelude.{slice_set}
 use Rattle.std.proofs.lemmas.List.{get_or-set_other, get_or-replicate, length-set, length-replicate}
-use Rattle.redcode_copies.specs.Counter.{Counter, in_copies}
-use Rattle.redcode_expand.specs.Walk.{WalkState, begun_as, begun, walk_state, ExpandedLine, Begun, begun_of, copies_of, count_by}
+use Rattle.redcode_expand.specs.Walk.{WalkState, begun_as, walk_state, ExpandedLine, Begun, begun_of, copies_of, count_by}
 use Rattle.redcode_expand.proofs.GoingOn.{nat_eq-other}
 use Rattle.war_types.specs.declared.fault.AsmFault.{AsmFault}
 use Rattle.redcode_names.specs.Gives.{◌>>=◌, Fails}
@@ -131,9 +130,8 @@ all-with s lines equs counts at line n some read kept are =
 
 -- ---- a block that begins by a count that is kept
 
-pub begun-kept : (s : RawSettings) (cs : List Counter) (line : SourceLine) (st : WalkState) (n : ℕ) → in_copies cs line ≡ line
-    → IsKept s st.names.equs line n → begun s cs line st ≡ Ok (begun_as st [] n)
-begun-kept s cs line st n h1 h2 = grind arith
+pub begun-kept : (s : RawSettings) (line : SourceLine) (st : WalkState) (n : ℕ) → IsKept s st.names.equs line n → begun_of s line st ≡ Ok (begun_as st [] n)
+begun-kept s line st n h1 = grind arith
 
 -- ---- the steps of the code
 

@@ -20,8 +20,8 @@ use Rattle.redcode_lines.specs.declared.reading.LineForm.{LineForm}
 use Rattle.redcode_lines.specs.Line.{SourceLine, labels_of}
 use Rattle.redcode_copies.specs.Counter.{Counter, in_copy, in_copies}
 use Rattle.redcode_lines.specs.Capped.{has_and}
-use Rattle.redcode_copies.specs.Plain.{changed_from, kept_count, number_by, number_of, plain_copy}
-use Rattle.redcode_copies.proofs.PlainLines.{copies-plain}
+use Rattle.redcode_copies.specs.Plain.{changed_from, has_number, kept_count, number_by, number_of, plain_copy}
+use Rattle.redcode_copies.proofs.PlainLines.{copies-plain, none-changed}
 use Rattle.redcode_names.specs.Equ.{EquList, has_equ, replaced}
 use Rattle.redcode_names.specs.Gives.{◌>>=◌}
 use Rattle.redcode_names.specs.Name.{for_labels, predefined}
@@ -84,6 +84,27 @@ closed-none s cs line st w h1 h2 = grind (arith, front-labels, copies-word, copi
 
 behind-for : (f : Piece → Piece) (form : LineForm) (ts : List Piece) → drop 1 (changed_from f (kept_count form (Some words.For) ts) ts) ≡ map f (drop 1 ts)
 behind-for f form ts = grind arith
+
+-- a FOR without labels whose count names no counter begins as it stands in the source
+pub begun-unnamed : (s : RawSettings) (cs : List Counter) (line : SourceLine) (st : WalkState) → line.word ≡ Some words.For → line.front ≡ [] → has_and line.tokens ≡ false
+    → has_number cs (drop 1 line.tokens) ≡ false → begun s cs line st ≡ begun_of s line st
+begun-unnamed s cs line st word none plain unnamed =
+    let no_and : has_and line.front ≡ false = rw none refl in
+    let copy : SourceLine = plain_copy cs line in
+    let tokens : drop 1 copy.tokens ≡ drop 1 line.tokens =
+    ap (λ (w : Option Word). drop 1 (changed_from (number_by cs) (kept_count line.form w line.tokens) line.tokens)) word
+    ∙ behind-for (number_by cs) line.form line.tokens ∙ none-changed cs 0 (drop 1 line.tokens) unnamed in
+    let labels : labels_of copy ≡ labels_of line = front-labels copy words.For word none ∙ sym (front-labels line words.For word none) in
+    ap (λ (l : SourceLine). begun_of s l st) (copies-plain cs line no_and plain)
+    ∙ ap (λ (ls : List (List ℕ)). for_labels s line.number st.before ls st.names >>= λ found.
+    copies_of s line.number st.before found.0.equs (drop 1 copy.tokens) >>= λ n. Ok (begun_as (record st { names = found.0 }) found.1 n)) labels
+    ∙ ap (λ (ts : List Piece). for_labels s line.number st.before (labels_of line) st.names >>= λ found.
+    copies_of s line.number st.before found.0.equs ts >>= λ n. Ok (begun_as (record st { names = found.0 }) found.1 n)) tokens
+
+-- the same by the tokens of the code
+pub begun-front : (s : RawSettings) (cs : List Counter) (line : SourceLine) (st : WalkState) (front : List Token) → line.front ≡ pieces front → front ≡ [] → line.word ≡ Some words.For
+    → has_and line.tokens ≡ false → has_number cs (drop 1 line.tokens) ≡ false → begun s cs line st ≡ begun_of s line st
+begun-front s cs line st front is none word plain unnamed = begun-unnamed s cs line st word (is ∙ ap (λ (ts : List Token). pieces ts) none) plain unnamed
 
 -- a FOR without labels begins by the value of its tokens as they stand
 pub begun-plain : (s : RawSettings) (cs : List Counter) (line : SourceLine) (st : WalkState) → line.word ≡ Some words.For → line.front ≡ [] → has_and line.tokens ≡ false → AreFew cs

@@ -108,14 +108,14 @@ pub(crate) fn begun_at<'s, A: Allocator + Copy>(
         let begun = walk.begin(settings, blocks, line)?;
         return Ok(begun);
     }
-    if blocks.are_among(line.tokens) {
+    if blocks.are_among(behind_first(line.tokens)) {
         let begun = begun_within(settings, walk, blocks, line)?;
         return Ok(begun);
     }
     begun_outside(settings, walk, blocks, counts, lines, at, line)
 }
 
-/// How a block without labels begins whose line names no counter: by the count that is kept, or by one that is worked out, and
+/// How a block without labels begins whose count names no counter: by the count that is kept, or by one that is worked out, and
 /// kept where it stays the same.
 fn begun_outside<'s, A: Allocator + Copy>(
     settings: &Settings,
@@ -131,7 +131,7 @@ fn begun_outside<'s, A: Allocator + Copy>(
     requires word { line.word ≡ Some For }
     requires front { line.front.now ≡ [] }
     requires plain { has_and (pieces line.tokens.now) ≡ false }
-    requires unnamed { has_number (counters_of blocks.now) (pieces line.tokens.now) ≡ false }
+    requires unnamed { has_number (counters_of blocks.now) (drop 1 (pieces line.tokens.now)) ≡ false }
     requires kept { AreKept settings.now lines.now walk.old.names.equs counts.old }
     ensures begun { Gives (λ b. begun_as walk.new b.counter.now b.copies) result (begun settings.now (counters_of blocks.now) (line_read line.entry) walk.old) }
     ensures goes_on { OnOk result (walk.new.ended ≡ walk.old.ended) }

@@ -4,22 +4,20 @@ use Rattle.redcode_text.specs.declared.token.Token.{Token}
 use Rattle.redcode_text.specs.declared.vocabulary.Word.TheVariants as words
 use Rattle.redcode_text.specs.Tokens.{pieces}
 use Rattle.redcode_lines.specs.Views.{line_read}
-use Rattle.redcode_lines.specs.Capped.{has_and}
-use Rattle.redcode_copies.proofs.WrittenLines.{plain-unchanged}
 use Rattle.redcode_names.proofs.Residuals.{err-from}
 use Rattle.redcode_expand.specs.Rest.{counters_of}
 use Rattle.redcode_expand.specs.Walk.{begun_as}
 use Rattle.redcode_expand.proofs.AddedEqus.{begun_of-equs}
 use Rattle.redcode_expand.proofs.Keeping.{all-learned, begun-kept}
-use Rattle.redcode_expand.proofs.PlainCounts.{front-labels}
+use Rattle.redcode_expand.proofs.PlainCounts.{begun-front, begun-unnamed, front-labels}
 use Rattle.redcode_expand.proofs.beginning.begun_outside.Goals as goal
 
 pub returns-in-Some-clause-begun : goal.returns-in-Some-clause-begun
 returns-in-Some-clause-begun g c =
     let line = line_read c.args.line in
-    let same = plain-unchanged (counters_of c.args.blocks.now) line (ap (λ (ts : List Token). has_and (pieces ts)) c.requires.front) c.requires.plain c.requires.unnamed in
     let n = c.in-Some.copies in
-    begun-kept c.args.settings.now (counters_of c.args.blocks.now) line c.args.walk.now n same
+    begun-unnamed c.args.settings.now (counters_of c.args.blocks.now) line c.args.walk.now c.requires.word (ap (λ (ts : List Token). pieces ts) c.requires.front) c.requires.plain c.requires.unnamed
+    ∙ begun-kept c.args.settings.now line c.args.walk.now n
     (c.requires.kept.kept c.args.at line n c.requires.some c.requires.line (sym c.at.ensures ∙ c.in-Some.is))
     ∙ ap (λ (name : List ℕ). Ok (begun_as c.args.walk.now name n)) (sym c.begun_by.ensures.counter)
     ∙ ap (λ (k : ℕ). Ok (begun_as c.args.walk.now c.begun_by.result.counter.now k)) (sym c.begun_by.ensures.copies)
@@ -30,10 +28,10 @@ returns-in-Some-clause-few g c =
     subst (λ (n : ℕ). n < 2 ^ 63) (sym c.begun_by.ensures.copies) kept.few
 
 pub returns-in_err-begun-clause-begun : goal.returns-in_err-begun-clause-begun
-returns-in_err-begun-clause-begun g c = grind (arith, common_steps, plain-unchanged, err-from)
+returns-in_err-begun-clause-begun g c = grind (arith, common_steps, begun-front, err-from)
 
 pub returns-clause-begun : goal.returns-clause-begun
-returns-clause-begun g c = grind (arith, common_steps, plain-unchanged)
+returns-clause-begun g c = grind (arith, common_steps, begun-front)
 
 pub returns-clause-kept : goal.returns-clause-kept
 returns-clause-kept g c =
