@@ -4,3 +4,4 @@ pub mod Marks
 pub mod Loads
 pub mod Words
 pub mod Reaches
+pub mod Touched

@@ -15,6 +15,8 @@ use Rattle.mars_core.specs.declared.round.Side.{Side}
 use Rattle.mars_core.specs.declared.round.Side.TheVariants as sides
 use Rattle.mars_core.specs.Cells.{Field}
 use Rattle.mars_core.specs.Pairs.{Pair}
+use Rattle.war_types.specs.declared.instr.Mode.{Mode}
+use Rattle.war_types.specs.declared.instr.Mode.TheVariants as modes
 use Rattle.war_types.specs.declared.instr.Instr.{Instr}
 use Rattle.mars_core.specs.Operand.{Reach, Pointers, Operand, operand}
 use Rattle.mars_core.specs.Whole as whole
@@ -76,6 +78,13 @@ addresses (queueds.Two a b) = a ∷ b ∷ []
 abbrev pub other : Side → Side
 other sides.First = sides.Second
 other sides.Second = sides.First
+
+-- the number by which an indirect mode leads on
+abbrev pub led_by : Mode → Field
+led_by modes.AIndirect = Field.A
+led_by modes.APre = Field.A
+led_by modes.APost = Field.A
+led_by mode = Field.B
 
 -- limits that are within a core
 pub record IsReach (reach : Reach) : Type 0 where

@@ -6,6 +6,8 @@ pub mod Effect
 -- Turns and rounds, and the round in an arena.
 pub mod Round
 pub mod Arena
+-- What a turn leaves as it was.
+pub mod Touched
 -- Operands and turns without limits, and that they are the same.
 pub mod Whole
 pub mod Laws

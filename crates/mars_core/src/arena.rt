@@ -1,7 +1,9 @@
 //! The arena in which rounds are played.
 
-ghost use Rattle.std.specs.Prelude.{◌≡◌, ◌+◌, ◌-◌, ◌*◌, ◌≤◌, Bool, true, false, Option, length, slice_get, IfOk};
+ghost use Rattle.std.specs.Prelude.{◌≡◌, ◌+◌, ◌-◌, ◌*◌, ◌<◌, ◌≤◌, Bool, true, false, Option, Some, length, slice_get, All, IfOk, IfSome, MatchOption};
+ghost use Rattle.mars_core.specs.Queue.{front};
 ghost use Rattle.mars_core.specs.Round.{is_empty, is_over, queue_of, reach_of, after_turn, turned, after_turns, outcome, fresh, opening, IsRound, CanBegin};
+ghost use Rattle.mars_core.specs.Touched.{AreSameBut};
 
 use crate::cells::Core;
 use crate::limits::{Limits, Whole, Within};
@@ -9,6 +11,7 @@ use crate::load::load;
 use crate::queue::Queue;
 use crate::round::{Outcome, Side, Turned};
 use crate::size::Size;
+use crate::touchable::touchable;
 use crate::turn::turns;
 use std::alloc::{AllocError, Allocator};
 use std::marker::Model;
@@ -150,6 +153,31 @@ impl<A: Allocator> Arena<A> {
         self.to_move = played.to_move;
         self.used += most - played.left;
         played.last
+    }
+
+    /// The addresses of the cells that the next turn may change: all others keep what they hold. Some may be the same. `None` if the round is over.
+    pub fn touchable(&self) -> Option<[u16; 8]>
+        ensures same { MatchOption result (is_over self.now ≡ true) (λ addresses. (is_over self.now ≡ false) × AreSameBut addresses self.now.core (after_turn self.now).core) }
+        ensures addresses { IfSome result (λ addresses. All (λ a. a < self.now.settings.core) addresses) }
+    {
+        if self.is_over() {
+            return None;
+        }
+        let size = Size::of(self.settings.core());
+        let write = u32::from(self.settings.write_limit());
+        Some(touchable(&self.core, size, write, self.front()))
+    }
+
+    /// The process that is executed in the next turn.
+    fn front(&self) -> u32
+        requires on { is_over self.now ≡ false }
+        ensures value { front (queue_of self.now.to_move self.now) ≡ Some result }
+        ensures below { result < self.now.settings.core }
+    {
+        match self.to_move {
+            Side::First => self.first.front(),
+            Side::Second => self.second.front(),
+        }
     }
 
     /// The instruction in a cell, or `None` at or past the core size.

@@ -15,6 +15,7 @@ mod queue;
 mod registers;
 mod round;
 mod size;
+mod touchable;
 mod turn;
 mod word;
 

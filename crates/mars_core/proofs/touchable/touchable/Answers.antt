@@ -1,0 +1,38 @@
+-- The addresses are those that the instruction may write.
+use Rattle.std.proofs.Common.{◌≡◌, ℕ, ◌+◌, ◌%◌, [], ◌∷◌, List, sym, ap, ap₂, ◌∙◌, arith, mod-eq_of_lt}
+use Rattle.war_types.specs.declared.instr.Instr.{Instr}
+use Rattle.mars_core.specs.Cells.{cell, number, plus, minus}
+use Rattle.mars_core.specs.Operand.{folded}
+use Rattle.mars_core.specs.Code.{field_of, led_by}
+use Rattle.mars_core.proofs.Touched.{on_by, executed-same}
+use Rattle.mars_core.proofs.touchable.touchable.Goals as goal
+
+pub returns-clause-same : goal.returns-clause-same
+returns-clause-same g c reach size_is write_is =
+    let size : ℕ = c.args.size in
+    let write : ℕ = c.args.write in
+    let pc : ℕ = c.args.pc in
+    let core : List Instr = c.args.core.now in
+    let none : pc ≡ pc + 0 = omega arith in
+    let here : pc ≡ plus size pc 0 = sym (mod-eq_of_lt c.requires.pc) ∙ ap (λ n. n % size) none in
+    let i : c.cell-i.result.instr ≡ cell core pc = c.cell-i.ensures.value in
+    let a : c.folded-a.result ≡ folded size write (cell core pc).a = c.folded-a.ensures.value ∙ ap (folded size write) (c.number.ensures.value ∙ ap (λ (i : Instr). i.a) i) in
+    let b : c.folded-b.result ≡ folded size write (cell core pc).b = c.folded-b.ensures.value ∙ ap (folded size write) (c.number-2.ensures.value ∙ ap (λ (i : Instr). i.b) i) in
+    let by : field_of c.led_by.result ≡ led_by (cell core pc).b_mode = c.led_by.ensures ∙ ap led_by (c.b_mode.ensures ∙ ap (λ (i : Instr). i.b_mode) i) in
+    let through : c.cell-through.result.instr ≡ cell core (plus size pc (folded size write (cell core pc).b)) =
+    c.cell-through.ensures.value ∙ ap (cell core) (c.plus.ensures.value ∙ ap (plus size pc) b) in
+    let n = c.number-number.ensures.value ∙ ap₂ number by through in
+    let more = c.plus-more.ensures.value ∙ ap (λ n. plus size n 1) n in
+    let less = c.minus-less.ensures.value ∙ ap (λ n. minus size n 1) n in
+    let lowered = c.minus.ensures.value ∙ ap (λ n. minus size n 1) more in
+    let twice = c.minus-2.ensures.value ∙ ap (λ n. minus size n 1) less in
+    let on : ℕ → ℕ → ℕ = on_by size write pc in
+    let a_at = c.plus-2.ensures.value ∙ ap (plus size pc) a in
+    let b_at = c.plus-3.ensures.value ∙ ap (plus size pc) b in
+    let on1 = c.led_on.ensures.value ∙ ap₂ on b n in
+    let on2 = c.led_on-2.ensures.value ∙ ap₂ on b more in
+    let on3 = c.led_on-3.ensures.value ∙ ap₂ on b less in
+    let on4 = c.led_on-4.ensures.value ∙ ap₂ on b lowered in
+    let on5 = c.led_on-5.ensures.value ∙ ap₂ on b twice in
+    executed-same reach size write pc core _ size_is write_is
+    (λ t. here t ∷ a_at t ∷ b_at t ∷ on1 t ∷ on2 t ∷ on3 t ∷ on4 t ∷ on5 t ∷ [])
