@@ -1,7 +1,7 @@
 -- What events draw: those of cells, those of processes, and those of a turn.
-use Rattle.std.proofs.Common.{◌≡◌, ℕ, zero, suc, ◌+◌, ◌-◌, ◌<◌, ◌≤◌, Bool, true, false, ◌&&◌, ◌==◌, if◌then◌else◌, List, [], ◌∷◌, ◌++◌, length, map, take, drop, get_or, set, slice_get, slice_index, Option, Some, refl, sym, ap, subst, ◌∙◌, append_assoc, append-nil, eqb-true, arith}
+use Rattle.std.proofs.Common.{◌≡◌, ℕ, zero, suc, ◌+◌, ◌-◌, ◌<◌, ◌≤◌, Bool, true, false, ◌&&◌, ◌==◌, if◌then◌else◌, List, [], ◌∷◌, ◌++◌, length, map, take, drop, get_or, set, slice_index, refl, sym, ap, subst, ◌∙◌, append_assoc, append-nil, eqb-true, arith}
 use Rattle.std.proofs.lemmas.Bool.{and_parts}
-use Rattle.std.proofs.lemmas.List.{get_or_default, take_all, drop_all, take_at, take-take, take-append-drop, set-get_or}
+use Rattle.std.proofs.lemmas.List.{take_all, drop_all, take_at, take-take, take-append-drop, set-get_or}
 use Rattle.war_types.specs.declared.instr.Op.{Op}
 use Rattle.war_types.specs.declared.instr.Op.TheVariants as ops
 use Rattle.war_types.specs.declared.instr.Modifier.{Modifier}
@@ -24,7 +24,7 @@ use Rattle.koth_replay.specs.declared.event.Event.{Event}
 use Rattle.koth_replay.specs.declared.event.Event.TheVariants as events
 use Rattle.koth_replay.specs.Picture.{Picture, picture, picture_of, after_event, drawn}
 use Rattle.koth_replay.specs.Turn.{cell_told, cell_events, core_events, process_events, turn_events}
-use Rattle.koth_replay.proofs.Steps.{next_number, one_number_more, put_behind, at_place, one_place_more}
+use Rattle.koth_replay.proofs.Steps.{next_number, at_place, one_place_more}
 
 pub drawn-append : (p : Picture) (xs ys : List Event) → drawn p (xs ++ ys) ≡ drawn (drawn p xs) ys
 drawn-append p [] ys = refl
@@ -104,38 +104,6 @@ pub core_draws : (size : ℕ) (old new : List Instr) (first second : List ℕ) (
 core_draws size old new first second m old_size new_size =
     cells_draw size old new first second m (omega arith) (new_size ∙ sym old_size)
     ∙ ap (λ c. picture c first second m) (ap (λ c. c ++ drop size old) (take_all size new (omega arith)) ∙ ap (λ c. new ++ c) (drop_all size old (omega arith)) ∙ append-nil new)
-
--- ---- one cell more, in the loop over cells
-
-found_at : (core : List Instr) (at : ℕ) (now : Instr) → slice_get core at ≡ Some now → get_or core at blank ≡ now
-found_at [] at now e = cc
-found_at (i ∷ core) zero now e = cc
-found_at (i ∷ core) (suc at) now e = found_at core at now e
-
--- at a place before the end of the core, of which a cell was found
-module _ (cells old core : List Instr) (size at place : ℕ) (found : Option Instr) (now : Instr) (below : at < size) (old_size : length old ≡ size) (core_size : length core ≡ size)
-    (found_is : found ≡ slice_get core at) (found_now : found ≡ Some now) (cells_are : cells ≡ take at core ++ drop at old) (place_is : place ≡ at) where
-  inside : at < length old
-  inside = omega (arith, below, old_size)
-
-  as_long : length core ≡ length old
-  as_long = core_size ∙ sym old_size
-
-  now-found : now ≡ get_or core at blank
-  now-found = sym (found_at core at now (sym found_is ∙ found_now))
-
-  -- what is told of it is told too
-  pub change_told : (d : Instr) (start so_far all : List Event) → so_far ≡ start ++ core_events at old core → all ≡ so_far ++ cell_told (get_or cells place d) now at → all ≡ start ++ core_events (at + 1) old core
-  change_told d start so_far all events_are put =
-      let held : get_or cells place d ≡ cell old at =
-      (λ t. get_or (cells_are t) (place_is t) d) ∙ at_place old core at d inside as_long ∙ get_or_default old at d blank inside in
-      put_behind start (core_events at old core) (cell_told (get_or cells place d) now at) (core_events (at + 1) old core) so_far all events_are put
-      (one_number_more (cell_events old core) at ∙ ap (λ l. core_events at old core ++ l) (λ t. cell_told (sym held t) (sym now-found t) at))
-
-  -- and with it put among them the cells are new before the next place
-  pub change_put : (put : Instr) → put ≡ now → set cells place put ≡ take (at + 1) core ++ drop (at + 1) old
-  change_put put put_is =
-      (λ t. set (cells_are t) (place_is t) ((put_is ∙ now-found) t)) ∙ one_place_more old core at blank inside as_long
 
 -- ---- processes
 

@@ -1,6 +1,6 @@
 -- Whether there was a turn, what turns keep, and the end of a round.
 use Rattle.std.proofs.Common.{◌≡◌, ℕ, zero, suc, ◌+◌, ◌*◌, ◌<◌, ◌≤◌, min, nat_lt, not, Bool, true, false, if◌then◌else◌, List, [], ◌∷◌, length, slice_get, slice_index, Option, Some, inl, inr, refl, sym, ap, subst, ◌∙◌, zero-add, arith}
-use Rattle.std.proofs.lemmas.Bool.{both_ways, cases_lt, not-false, not-true}
+use Rattle.std.proofs.lemmas.Bool.{both_ways, cases_lt}
 use Rattle.std.proofs.lemmas.Bool.Decides.{nat_tests}
 use Rattle.war_types.specs.declared.instr.Instr.{Instr}
 use Rattle.mars_core.specs.declared.round.Side.{Side}
@@ -46,12 +46,6 @@ goes_on-told t r b is e = e ∙ ap (λ t. not (was_over t)) is ∙ ap not (over-
 -- if there was none, the round stays as it is
 pub stays-over : (r next : Round) → is_over r ≡ true → next ≡ after_turn r → next ≡ r
 stays-over r next o is = is ∙ sym (after_turn-over r true (sym o) refl)
-
-pub over-since : (r : Round) (on : Bool) → on ≡ not (is_over r) → on ≡ false → is_over r ≡ true
-over-since r on told off = not-false (is_over r) (sym told ∙ off)
-
-pub on-since : (r : Round) (on : Bool) → on ≡ not (is_over r) → on ≡ true → is_over r ≡ false
-on-since r on told goes = not-true (is_over r) (sym told ∙ goes)
 
 -- ---- the front of a queue
 

@@ -6,7 +6,6 @@ use Rattle.std.proofs.lemmas.List.{length-map, map_push, take_all, take-append-l
 use Rattle.std.proofs.lemmas.List.Concat.{flat_map-append}
 use Rattle.war_types.specs.declared.settings.RawSettings.{RawSettings}
 use Rattle.war_types.specs.Warrior.{WarriorParts}
-use Rattle.war_types.specs.declared.instr.Instr.{Instr}
 use Rattle.mars_core.specs.declared.round.Outcome.{Outcome}
 use Rattle.mars_core.specs.declared.round.Side.{Side}
 use Rattle.mars_core.specs.Cells.{blank}
@@ -21,27 +20,26 @@ use Rattle.koth_replay.specs.Turn.{core_events, process_events, turn_events}
 use Rattle.koth_replay.specs.Replay.{ReplayParts, replay_parts, begun, blank_picture, first_picture, events_before, IsReplay}
 use Rattle.koth_replay.specs.Code.{turns_of, AreTurns, IsReplayOf}
 use Rattle.koth_replay.proofs.Drawing.{core_draws, drawn-append, turn_draws}
-use Rattle.koth_replay.proofs.Endings.{after_turns-next, front-found, on-since, plays-there, turns-counted}
+use Rattle.koth_replay.proofs.Endings.{after_turns-next, front-found, plays-there, turns-counted}
 
 -- ---- what is told of a turn
 
 -- the events that are put one after another are those of the turn
-pub turn_told : (r next : Round) (m : Side) (core waiting at : ℕ) (front : Option ℕ) (on : Bool) (cells : List Instr) (none begins changes all : List Event)
-    → m ≡ r.to_move → core ≡ r.settings.core → cells ≡ r.core → front ≡ slice_get (queue_of m r) 0 → front ≡ Some at → waiting ≡ length (queue_of m r)
-    → on ≡ not (is_over r) → on ≡ true → next ≡ after_turn r → none ≡ [] → begins ≡ none ++ events.Turn m at ∷ [] → changes ≡ begins ++ core_events core cells next.core
+pub turn_told : (r next : Round) (m : Side) (core waiting at : ℕ) (front : Option ℕ) (none begins changes all : List Event)
+    → is_over r ≡ false → m ≡ r.to_move → core ≡ r.settings.core → front ≡ slice_get (queue_of m r) 0 → front ≡ Some at → waiting ≡ length (queue_of m r)
+    → next ≡ after_turn r → none ≡ [] → begins ≡ none ++ events.Turn m at ∷ [] → changes ≡ begins ++ core_events core r.core next.core
     → all ≡ changes ++ process_events (waiting - 1) (queue_of m next) → (is_over r ≡ false) × (all ≡ turn_events r)
 unfolding turn_events
-turn_told r next m core waiting at front on cells none begins changes all m_is core_is cells_are front_is found waiting_is told goes next_is empty put_turn put_changes put_processes =
-    let o : is_over r ≡ false = on-since r on told goes in
+turn_told r next m core waiting at front none begins changes all o m_is core_is front_is found waiting_is next_is empty put_turn put_changes put_processes =
     let front_at : front ≡ Some (slice_index (queue_of m r) 0) = front-found m r front m_is o front_is in
     let same_at : at ≡ slice_index (queue_of m r) 0 = cc in
     let at_is : at ≡ slice_index (queue_of r.to_move r) 0 = same_at ∙ ap (λ side. slice_index (queue_of side r) 0) m_is in
     let many : waiting ≡ length (queue_of r.to_move r) = waiting_is ∙ ap (λ side. length (queue_of side r)) m_is in
-    let cells_told : List Event = core_events core cells next.core in
+    let cells_told : List Event = core_events core r.core next.core in
     let processes_told : List Event = process_events (waiting - 1) (queue_of m next) in
     let in_order : all ≡ events.Turn m at ∷ (cells_told ++ processes_told) =
     put_processes ∙ ap (λ l. l ++ processes_told) (put_changes ∙ ap (λ l. l ++ cells_told) (put_turn ∙ ap (λ l. l ++ events.Turn m at ∷ []) empty)) in
-    (o, in_order ∙ (λ t. events.Turn (m_is t) (at_is t) ∷ (core_events (core_is t) (cells_are t) (next_is t).core ++ process_events (many t - 1) (queue_of (m_is t) (next_is t)))))
+    (o, in_order ∙ (λ t. events.Turn (m_is t) (at_is t) ∷ (core_events (core_is t) r.core (next_is t).core ++ process_events (many t - 1) (queue_of (m_is t) (next_is t)))))
 
 -- ---- before the first turn
 
@@ -132,19 +130,18 @@ turns-more {A} start now next n turns all told are many now_is round next_is nex
 -- ---- a replay
 
 -- the turns that are kept, whether there are more, and how the round ended once these were played too
-pub kept-of : {A : Type 0} (start now next last : Round) (o : Opening) (most m : ℕ) (cells : List Instr) (none loaded : List Event) (turns : List (Vec Event A)) (end : Outcome) (more : Bool)
-    → o.core ≡ start.settings.core → cells ≡ replicate o.core blank → start.used ≡ 0 → none ≡ [] → loaded ≡ none ++ core_events o.core cells start.core
+pub kept-of : {A : Type 0} (start now next last : Round) (o : Opening) (most m : ℕ) (none loaded : List Event) (turns : List (Vec Event A)) (end : Outcome) (more : Bool)
+    → o.core ≡ start.settings.core → start.used ≡ 0 → none ≡ [] → loaded ≡ none ++ core_events o.core (replicate o.core blank) start.core
     → AreTurns start (turns_of turns) → now ≡ after_turns (length turns) start → now.used ≡ start.used + length turns → length turns ≤ most → (length turns < most → is_over now ≡ true)
     → more ≡ not (is_over now) → next ≡ after_turn now → last ≡ after_turns m next → is_over last ≡ true → end ≡ outcome last
     → IsReplayOf start o most (replay_parts o loaded (turns_of turns) end more)
-kept-of {A} start now next last o most m cells none loaded turns end more core_is cells_are unused empty put are now_is now_used within over more_is next_is last_is ended end_is =
+kept-of {A} start now next last o most m none loaded turns end more core_is unused empty put are now_is now_used within over more_is next_is last_is ended end_is =
     let items : Vec Event A → List Event = λ v. v.items in
     let many : length (turns_of turns) ≡ length turns = length-map turns items in
     let counts = turns-counted start now next last most (length turns) m more unused now_is now_used within over more_is next_is last_is ended in
     record {
       opening = refl;
-      loaded = put ∙ ap (λ l. l ++ core_events o.core cells start.core) empty
-          ∙ ap (λ c. core_events o.core c start.core) cells_are ∙ ap (λ n. core_events n (replicate n blank) start.core) core_is;
+      loaded = put ∙ ap (λ l. l ++ core_events o.core (replicate o.core blank) start.core) empty ∙ ap (λ n. core_events n (replicate n blank) start.core) core_is;
       turns = are;
       count = many ∙ counts.count;
       cut = counts.cut;

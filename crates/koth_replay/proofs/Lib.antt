@@ -4,3 +4,4 @@ pub mod Histories
 mod Rows
 mod Sequence
 mod Steps
+mod Untold

@@ -1,5 +1,5 @@
--- Of the code alone: the turns that it keeps, and what it keeps of a round that has begun. No definition names a word of this file.
-use Rattle.std.specs.Prelude.{◌≡◌, ℕ, ◌*◌, ◌<◌, ◌≤◌, min, nat_lt, List, [], length, map, replicate, slice_index_or, Vec}
+-- Of the code alone: the turns that it keeps, what it keeps of a round that has begun, and how it puts addresses in order. No definition names a word of this file.
+use Rattle.std.specs.Prelude.{◌≡◌, ℕ, ◌*◌, ◌<◌, ◌≤◌, ◌⊎◌, min, nat_lt, List, [], length, map, replicate, slice_index, slice_index_or, MatchOption, Option, Vec}
 use Rattle.mars_core.specs.Cells.{blank}
 use Rattle.mars_core.specs.Round.{Round, after_turns, outcome}
 use Rattle.koth_replay.specs.declared.event.Event.{Event}
@@ -25,3 +25,17 @@ pub record IsReplayOf (start : Round) (begins : Opening) (most : ℕ) (replay : 
   pub count : length replay.turns ≡ min most (after_turns (2 * start.settings.cycles) start).used
   pub cut : replay.is_cut ≡ nat_lt most (after_turns (2 * start.settings.cycles) start).used
   pub ends : replay.outcome ≡ outcome (after_turns (2 * start.settings.cycles) start)
+
+-- the first n addresses are below another one
+abbrev pub AreBelow : ℕ → List ℕ → ℕ → Type 0
+AreBelow n addresses from = (i : ℕ) → i < n → slice_index addresses i < from
+
+-- of the first n addresses the one at this place is the least that isn't below another one
+pub record IsLeast (n : ℕ) (addresses : List ℕ) (from place : ℕ) : Type 0 where
+  pub inside : place < n
+  pub past : from ≤ slice_index addresses place
+  pub least : (i : ℕ) → i < n → slice_index addresses i < from ⊎ slice_index addresses place ≤ slice_index addresses i
+
+-- the place of that one, or none where all are below
+abbrev pub IsNearest : ℕ → List ℕ → ℕ → Option ℕ → Type 0
+IsNearest n addresses from best = MatchOption best (AreBelow n addresses from) (IsLeast n addresses from)

@@ -3,7 +3,7 @@
 //! The modules, in the order in which the data pass:
 //!
 //! - `opening`: how a round begins; `event`: one thing that happens in it;
-//! - `changes`: the cells that a turn changed; `turns`: the events of a turn, and of turn after turn;
+//! - `nearest`: the next of some addresses; `changes`: the cells that a turn changed; `turns`: the events of a turn, and of turn after turn;
 //! - `playing`: a round of a match, played and kept; `kept`: what is kept of it.
 //!
 //! An event says what changes in a picture of the round, so who draws it needs no machine: the picture begins blank with the processes of
@@ -11,12 +11,13 @@
 //! turn as `mars_core` defines it there; that all of its turns are kept, or as many as were asked for; that each turn has its own events and no
 //! others; and that it ends as the match counts it.
 //!
-//! No rule of the machine stands here: what happens in a turn is read off the arena.
+//! No rule of the machine stands here: what happens in a turn is read off the arena, which tells before it which cells it may change.
 #![tactic(auto)]
 
 mod changes;
 mod event;
 mod kept;
+mod nearest;
 mod opening;
 mod playing;
 mod turns;

@@ -1,32 +1,21 @@
 //! Playing a round of a match, and keeping its events.
 
-ghost use Rattle.std.specs.Prelude.{◌≡◌, ◌<◌, replicate, IfOk};
+ghost use Rattle.std.specs.Prelude.{◌≡◌, ◌<◌, IfOk};
 ghost use Rattle.war_types.specs.Warrior.{Fits};
-ghost use Rattle.mars_core.specs.Cells.{blank};
 ghost use Rattle.mars_core.specs.Round.{IsRound};
 ghost use Rattle.koth_match.specs.Match.{first_in};
 ghost use Rattle.koth_match.specs.Seeds.{seed_of_round, IsSeed};
 ghost use Rattle.koth_replay.specs.Replay.{IsReplay};
 ghost use Rattle.koth_replay.specs.Code.{IsReplayOf};
 
-use crate::changes::push_changes;
+use crate::changes::push_loaded;
 use crate::kept::Replay;
 use crate::opening::Opening;
 use crate::turns::{goes_on, kept_turns};
 use koth_match::{next_seed, position};
 use mars_core::{Arena, Side};
 use std::alloc::{AllocError, Allocator};
-use war_types::{Instr, Mode, Modifier, Op, Settings, Warrior};
-
-/// What a cell holds that nothing was loaded into.
-const BLANK: Instr = Instr {
-    op: Op::Dat,
-    modifier: Modifier::F,
-    a_mode: Mode::Direct,
-    a: 0,
-    b_mode: Mode::Direct,
-    b: 0,
-};
+use war_types::{Settings, Warrior};
 
 /// Plays a round of a match, counted from 0, as the match does, and keeps the events of its first turns, `most` of them at most.
 pub fn replay<A: Allocator + Copy, B: Allocator, C: Allocator, D: Allocator>(
@@ -54,29 +43,26 @@ pub fn replay<A: Allocator + Copy, B: Allocator, C: Allocator, D: Allocator>(
         first: first_in(round),
     };
     arena.begin(older, younger, place, opening.first);
-    let mut cells = Vec::from_elem(alloc, BLANK, usize::from(opening.core))?;
-    played(alloc, arena, cells.as_mut_slice(), opening, most)
+    played(alloc, arena, opening, most)
 }
 
-/// Plays a round that has begun, and keeps its events. `cells` are those of a core with nothing in it.
+/// Plays a round that has begun, and keeps its events.
 fn played<A: Allocator + Copy, B: Allocator>(
     alloc: A,
     arena: &mut Arena<B>,
-    cells: &mut [Instr],
     opening: Opening,
     most: u32,
 ) -> Result<Replay<A>, AllocError>
     requires round { IsRound arena.old }
     requires core { opening.core ≡ arena.old.settings.core }
-    requires cells { cells.old ≡ replicate opening.core blank }
     requires first { opening.first ≡ arena.old.to_move }
     requires used { arena.old.used ≡ 0 }
     ensures replay { IfOk result (IsReplayOf arena.old opening most) }
     ensures settings { arena.new.settings ≡ arena.old.settings }
 {
     let mut loaded = Vec::new(alloc);
-    push_changes(&mut loaded, cells, arena, opening.core)?;
-    let turns = kept_turns(alloc, arena, cells, opening.core, most, opening.first)?;
+    push_loaded(&mut loaded, arena, opening.core)?;
+    let turns = kept_turns(alloc, arena, opening.core, most, opening.first)?;
     let is_cut = goes_on(arena);
     Ok(Replay {
         opening,

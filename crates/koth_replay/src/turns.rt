@@ -6,24 +6,21 @@ ghost use Rattle.mars_core.specs.Code.{other};
 ghost use Rattle.koth_replay.specs.Turn.{process_events, turn_events};
 ghost use Rattle.koth_replay.specs.Code.{turns_of, AreTurns};
 
-use crate::changes::push_changes;
+use crate::changes::{held_at, push_changes};
 use crate::event::Event;
 use mars_core::{Arena, Side, Turned};
 use std::alloc::{AllocError, Allocator};
-use war_types::Instr;
 
-/// Makes so many turns of a round that begins, or fewer if it is over before, and keeps the events of each. `cells` are those of the core.
+/// Makes so many turns of a round that begins, or fewer if it is over before, and keeps the events of each.
 pub(crate) fn kept_turns<A: Allocator + Copy, B: Allocator>(
     alloc: A,
     arena: &mut Arena<B>,
-    cells: &mut [Instr],
     core: u16,
     most: u32,
     first: Side,
 ) -> Result<Vec<Vec<Event, A>, A>, AllocError>
     requires round { IsRound arena.old }
     requires core { core ≡ arena.old.settings.core }
-    requires cells { cells.old ≡ arena.old.core }
     requires first { first ≡ arena.old.to_move }
     ensures turns { IfOk result (λ turns. AreTurns arena.old (turns_of turns.items)) }
     ensures after { IfOk result (λ turns. arena.new ≡ after_turns (length turns.items) arena.old) }
@@ -35,7 +32,7 @@ pub(crate) fn kept_turns<A: Allocator + Copy, B: Allocator>(
     let mut turns = Vec::new(alloc);
     let mut side = first;
     for _turn in 0..most {
-        match turn_events(alloc, arena, cells, core, side)? {
+        match turn_events(alloc, arena, core, side)? {
             None => return Ok(turns),
             Some(events) => turns.push(events)?,
         }
@@ -44,31 +41,30 @@ pub(crate) fn kept_turns<A: Allocator + Copy, B: Allocator>(
     Ok(turns)
 }
 
-/// Makes one turn, of this side, and tells its events; `None` if the round is over. `cells` are those of the core before it, and after it.
+/// Makes one turn, of this side, and tells its events; `None` if the round is over.
 fn turn_events<A: Allocator + Copy, B: Allocator>(
     alloc: A,
     arena: &mut Arena<B>,
-    cells: &mut [Instr],
     core: u16,
     side: Side,
 ) -> Result<Option<Vec<Event, A>>, AllocError>
     requires round { IsRound arena.old }
     requires core { core ≡ arena.old.settings.core }
-    requires cells { cells.old ≡ arena.old.core }
     requires side { side ≡ arena.old.to_move }
     ensures after { arena.new ≡ after_turn arena.old }
     ensures round { IsRound arena.new }
-    ensures cells { OnOk result (cells.new ≡ arena.new.core) }
     ensures events { IfOk result (λ told. MatchOption told (is_over arena.old ≡ true) (λ events. (is_over arena.old ≡ false) × (events.items ≡ turn_events arena.old))) }
 {
     let front = arena.process(side, 0);
     let waiting = arena.processes(side);
-    if !goes_on(arena) {
+    let Some(addresses) = arena.touchable() else {
         return Ok(None);
-    }
+    };
+    let held = held_at(arena, &addresses);
+    let _turned = arena.turn();
     let mut events = Vec::new(alloc);
     events.push(Event::Turn(side, front.unwrap()))?;
-    push_changes(&mut events, cells, arena, core)?;
+    push_changes(&mut events, &addresses, &held, arena, core)?;
     push_processes(&mut events, arena, side, waiting - 1)?;
     Ok(Some(events))
 }

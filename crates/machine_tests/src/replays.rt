@@ -166,7 +166,7 @@ fn a_dwarf(rt: HostRuntime) -> Result<(), Fail> {
     Ok(())
 }
 
-/// For a round of one turn: a copy of the core, what is loaded, the turn's events, and the list of turns.
+/// For a round of one turn: what is loaded, the turn's events, and the list of turns.
 #[test]
 fn a_replay_takes_memory(rt: HostRuntime) -> Result<(), Fail> {
     let memory = Refusing::new(rt.alloc());
@@ -180,7 +180,7 @@ fn a_replay_takes_memory(rt: HostRuntime) -> Result<(), Fail> {
             Ok(replay) => {
                 assert_eq!(rt; memory.refused(), 0);
                 assert_eq!(rt; replay.turns(), 1);
-                assert_eq!(rt; k, 4);
+                assert_eq!(rt; k, 3);
                 return Ok(());
             }
             Err(AllocError) => assert_eq!(rt; memory.refused(), 1),

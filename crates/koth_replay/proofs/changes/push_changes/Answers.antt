@@ -1,13 +1,27 @@
--- One cell more.
-use Rattle.koth_replay.proofs.Drawing.{change_told, change_put}
+-- The events of one cell more; none of those before it may have changed, and in the end none of those behind.
+use Rattle.std.proofs.Common.{ℕ, ◌<◌, ◌++◌, ◌∙◌, List, length, slice_index, sym, ap, arith}
+use Rattle.koth_replay.specs.declared.event.Event.{Event}
+use Rattle.koth_replay.proofs.Untold.{change_told, held_there, none_before, none_behind, now-found}
 use Rattle.koth_replay.proofs.changes.push_changes.Goals as goal
 
-pub loop-at-preserved : goal.loop-at-preserved
-loop-at-preserved g c = record {
-  events = change_told c.loop-at.cells c.args.cells.now c.args.arena.now.core c.args.core c.loop-at.at c.from.result c.cell.result c.unwrap-now.result
-      c.loop-at-test.true c.requires.here c.requires.there c.cell.ensures.value c.unwrap-now.ensures c.loop-at.invariant.cells c.from.ensures
-      _ c.args.events.now.items c.loop-at.events.items c.push_change.new.events.items c.loop-at.invariant.events c.in_ok-push_change.ensures.events;
-  cells = change_put c.loop-at.cells c.args.cells.now c.args.arena.now.core c.args.core c.loop-at.at c.from.result c.cell.result c.unwrap-now.result
-      c.loop-at-test.true c.requires.here c.requires.there c.cell.ensures.value c.unwrap-now.ensures c.loop-at.invariant.cells c.from.ensures
-      c.push_change.new.cell c.in_ok-push_change.ensures.cell;
-}
+pub loop-place-preserved : goal.loop-place-preserved
+loop-place-preserved g c =
+    let addresses : List ℕ = c.args.addresses.now in
+    let place : ℕ = c.in-Some.place in
+    let start : List Event = c.args.events.now.items in
+    let inside : place < length addresses = omega (arith, c.in-Some.ensures.inside, c.told-addresses) in
+    record {
+      events = λ before held_is same.
+          change_told before c.args.arena.now.core (slice_index addresses place) _ c.unwrap-now.result start c.loop-place.events.items _
+          (held_there before addresses c.told-addresses c.args.held.now place _ c.in-Some.ensures.inside held_is)
+          (now-found c.args.arena.now.core (slice_index addresses place) c.cell.result c.unwrap-now.result c.cell.ensures.value c.unwrap-now.ensures)
+          (c.loop-place.invariant.events before held_is same
+          ∙ ap (λ l. start ++ l) (sym (none_before addresses before c.args.arena.now.core c.loop-place.from c.told-addresses same place c.in-Some.ensures)))
+          c.in_ok-push_change.ensures;
+      within = omega (arith, c.requires.here place 0 inside);
+    }
+
+pub returns : goal.returns
+returns g c = λ before held_is same.
+    c.loop-place.invariant.events before held_is same
+    ∙ ap (λ l. c.args.events.now.items ++ l) (sym (none_behind c.args.addresses.now before c.args.arena.now.core c.loop-place.from c.told-addresses same c.args.core c.loop-place.invariant.within c.in_default.ensures))

@@ -1,10 +1,16 @@
--- The events of the cells before this one, which are as they are in the arena; the others are as they were.
-use Rattle.std.proofs.Common.{◌≡◌, ◌++◌, take, drop}
+-- The events of the cells before this number.
+use Rattle.std.proofs.Common.{◌≡◌, ◌≤◌, ◌-◌, ◌++◌, List, map}
+use Rattle.war_types.specs.declared.instr.Instr.{Instr}
+use Rattle.mars_core.specs.Cells.{cell}
+use Rattle.mars_core.specs.Touched.{AreSameBut}
 use Rattle.koth_replay.specs.Turn.{core_events}
 use Rattle.koth_replay.proofs.changes.push_changes.Given as goal
 
-abbrev pub invariant-loop-at : goal.invariant-loop-at
-invariant-loop-at g l = record {
-  events : l.events.items ≡ l.fn.events.items ++ core_events l.at l.fn.cells l.arena.core;
-  cells : l.cells ≡ take l.at l.arena.core ++ drop l.at l.fn.cells;
+abbrev pub invariant-loop-place : goal.invariant-loop-place
+invariant-loop-place g l = record {
+  events : (before : List Instr) → l.held ≡ map (cell before) l.addresses → AreSameBut l.addresses before l.arena.core → l.events.items ≡ l.fn.events.items ++ core_events l.from before l.arena.core;
+  within : l.from ≤ l.core;
 }
+
+abbrev pub decreases-loop-place : goal.decreases-loop-place
+decreases-loop-place g l = l.core - l.from

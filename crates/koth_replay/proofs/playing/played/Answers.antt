@@ -7,9 +7,9 @@ use Rattle.koth_replay.proofs.playing.played.Goals as goal
 
 pub returns-clause-replay : goal.returns-clause-replay
 returns-clause-replay g c =
-    kept-of c.args.arena.now c.kept_turns.new.arena c.goes_on-is_cut.new.arena c.play.new.self c.args.opening c.args.most _ c.args.cells.now
-    c.new-loaded.result.items c.push_changes.new.events.items c.in_ok-turns.turns.items c.play.result c.goes_on-is_cut.result
-    c.requires.core c.requires.cells c.requires.used c.new-loaded.ensures.items c.in_ok-push_changes.ensures.events
+    kept-of c.args.arena.now c.kept_turns.new.arena c.goes_on-is_cut.new.arena c.play.new.self c.args.opening c.args.most _
+    c.new-loaded.result.items c.push_loaded.new.events.items c.in_ok-turns.turns.items c.play.result c.goes_on-is_cut.result
+    c.requires.core c.requires.used c.new-loaded.ensures.items c.in_ok-push_loaded.ensures
     c.in_ok-turns.ensures.turns c.in_ok-turns.ensures.after c.in_ok-turns.ensures.used c.in_ok-turns.ensures.most c.in_ok-turns.ensures.over
     c.goes_on-is_cut.ensures.value c.goes_on-is_cut.ensures.after c.play.ensures.after c.play.ensures.over c.play.ensures.outcome
 

@@ -16,7 +16,6 @@ loop-turn-init g c = record {
   used = omega arith;
   round = c.requires.round;
   settings = refl;
-  cells = c.requires.cells;
   side = c.requires.first;
 }
 
@@ -67,6 +66,5 @@ loop-turn-preserved g c =
       used = omega (arith, once, kept.used);
       round = c.turn_events.ensures.round;
       settings = kept-settings now c.turn_events.new.arena c.args.arena.now.settings c.turn_events.ensures.after kept.settings;
-      cells = c.in_ok-turn_events.ensures.cells;
       side = side-next c.loop-turn.side c.other-side.result now c.turn_events.new.arena told.0 c.turn_events.ensures.after kept.side c.other-side.ensures;
     }

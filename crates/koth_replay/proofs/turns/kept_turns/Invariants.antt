@@ -12,6 +12,5 @@ invariant-loop-turn g l = record {
   used : l.arena.used ≡ l.fn.arena.used + l._turn;
   round : IsRound l.arena;
   settings : l.arena.settings ≡ l.fn.arena.settings;
-  cells : l.cells ≡ l.arena.core;
   side : l.side ≡ l.arena.to_move;
 }
