@@ -1,5 +1,5 @@
 -- What each text of a page is made of, for `hill_page`: names of characters that begin and end nothing, and the whole of ASCII.
-use Rattle.std.proofs.Common.{◌≡◌, ℕ, ◌+◌, ◌<◌, ◌≤◌, ◌/◌, ◌%◌, zero, suc, Bool, true, false, not, ◌&&◌, inl, inr, cond, eqb, leb, List, [], ◌∷◌, ◌++◌, codes, decimal, refl, ◌∙◌, arith}
+use Rattle.std.proofs.Common.{◌≡◌, ℕ, ◌<◌, ◌≤◌, ◌/◌, ◌%◌, zero, suc, Bool, true, false, not, ◌&&◌, inl, inr, cond, eqb, leb, List, [], ◌∷◌, ◌++◌, codes, decimal, refl, ◌∙◌, arith}
 use Rattle.std.specs.Char.{is_control}
 use Rattle.std.specs.Fmt.{digits, digits_onto, digit_glyph}
 use Rattle.std.specs.List.{enumerate_from, flat_map, list_all}
@@ -8,12 +8,14 @@ use Rattle.std.proofs.lemmas.List.Folds.{list_all-append}
 use Rattle.war_types.specs.declared.settings.RawSettings.{RawSettings}
 use Rattle.koth_hill.specs.Kept.{Kept, table_kept}
 use Rattle.koth_hill.specs.Table.{RowParts}
+use Rattle.koth_page.specs.declared.links.Links.{Links}
+use Rattle.koth_page.specs.declared.links.Links.TheVariants as kinds
 use Rattle.koth_page.specs.declared.parts.TheConstants.{END, HEAD}
 use Rattle.koth_page.specs.declared.rounds.Rounds.{Rounds}
 use Rattle.koth_page.specs.Cells.{name_cell, number_cell}
 use Rattle.koth_page.specs.Escape.{character_text, characters, escaped, plain_text, reference}
 use Rattle.koth_page.specs.Laws.{is_harmless, is_markup, is_page_byte, is_printable}
-use Rattle.koth_page.specs.Matches.{fought_cell, match_cell, matches_heading, matches_row, matches_rows, matches_text, rank_heading, rounds_text, sides_text}
+use Rattle.koth_page.specs.Matches.{fought_cell, fought_text, link_start, match_cell, matches_heading, matches_row, matches_rows, matches_text, rank_heading, rounds_text, sides_text}
 use Rattle.koth_page.specs.Page.{hill_page, page_of, tables_text}
 use Rattle.koth_page.specs.Rounds.{rounds_against_all, rounds_between}
 use Rattle.koth_page.specs.Settings.{machine_text, rules_text, setting_text, settings_text}
@@ -140,36 +142,43 @@ ascii_matches_heading rows =
     let ranks : Ascii (flat_map f (enumerate_from 1 rows)) = each is_page_byte f (λ p. ascii_rank_heading p.0 p.1) (enumerate_from 1 rows) in
     simp (list_all-append, ranks)
 
-ascii_fought_cell : (rounds : Rounds) (row other : RowParts) → Ascii (fought_cell rounds row other)
-unfolding fought_cell rounds_text sides_text
-ascii_fought_cell rounds row other = simp (list_all-append, ascii_decimal, ascii_escaped)
+ascii_fought : (links : Links) (rounds : Rounds) (row other : RowParts) → Ascii (fought_text links rounds row other)
+unfolding fought_text link_start rounds_text
+ascii_fought kinds.None rounds row other = simp (list_all-append, ascii_decimal)
+ascii_fought kinds.Rounds rounds row other = simp (list_all-append, ascii_decimal)
 
-ascii_match_cell : (k : Kept) (row other : RowParts) → Ascii (match_cell k row other)
-ascii_match_cell k row other =
-    let fought = fought_cell (rounds_between k row.entry other.entry) row other in
-    cond_both (eqb row.entry other.entry) (codes "<td class=\"self\">&middot;</td>") fought Ascii (λ _. refl) (λ _. ascii_fought_cell (rounds_between k row.entry other.entry) row other)
+ascii_fought_cell : (links : Links) (rounds : Rounds) (row other : RowParts) → Ascii (fought_cell links rounds row other)
+unfolding fought_cell sides_text
+ascii_fought_cell links rounds row other = simp (list_all-append, ascii_escaped, ascii_fought)
 
-ascii_matches_row : (k : Kept) (rows : List RowParts) (rank : ℕ) (row : RowParts) → Ascii (matches_row k rows rank row)
+ascii_match_cell : (k : Kept) (links : Links) (row other : RowParts) → Ascii (match_cell k links row other)
+ascii_match_cell k links row other =
+    let rounds = rounds_between k row.entry other.entry in
+    cond_both (eqb row.entry other.entry) (codes "<td class=\"self\">&middot;</td>") (fought_cell links rounds row other) Ascii (λ _. refl) (λ _. ascii_fought_cell links rounds row other)
+
+ascii_matches_row : (k : Kept) (links : Links) (rows : List RowParts) (rank : ℕ) (row : RowParts) → Ascii (matches_row k links rows rank row)
 unfolding matches_row
-ascii_matches_row k rows rank row =
-    let cells : Ascii (flat_map (match_cell k row) rows) = each is_page_byte (match_cell k row) (ascii_match_cell k row) rows in
+ascii_matches_row k links rows rank row =
+    let cells : Ascii (flat_map (match_cell k links row) rows) = each is_page_byte (match_cell k links row) (ascii_match_cell k links row) rows in
     simp (list_all-append, ascii_number_cell, ascii_name_cell, cells)
 
-ascii_matches : (k : Kept) (rows : List RowParts) → Ascii (matches_text k rows)
+ascii_matches : (k : Kept) (links : Links) (rows : List RowParts) → Ascii (matches_text k links rows)
 unfolding matches_text
-ascii_matches k rows =
-    let f = λ (p : ℕ × RowParts). matches_row k rows p.0 p.1 in
-    let shown : Ascii (matches_rows k rows rows) = each is_page_byte f (λ p. ascii_matches_row k rows p.0 p.1) (enumerate_from 1 rows) in
+ascii_matches k links rows =
+    let f = λ (p : ℕ × RowParts). matches_row k links rows p.0 p.1 in
+    let shown : Ascii (matches_rows k links rows rows) = each is_page_byte f (λ p. ascii_matches_row k links rows p.0 p.1) (enumerate_from 1 rows) in
     simp (list_all-append, ascii_matches_heading, shown)
 
-ascii_tables : (k : Kept) (rows : List RowParts) → Ascii (tables_text k rows)
-ascii_tables k [] = refl
-ascii_tables k (row ∷ rows) = both is_page_byte (standing_text k (row ∷ rows)) (matches_text k (row ∷ rows)) (ascii_standing k (row ∷ rows)) (ascii_matches k (row ∷ rows))
+ascii_tables : (k : Kept) (links : Links) (rows : List RowParts) → Ascii (tables_text k links rows)
+ascii_tables k links [] = refl
+ascii_tables k links (row ∷ rows) =
+    let all = row ∷ rows in
+    both is_page_byte (standing_text k all) (matches_text k links all) (ascii_standing k all) (ascii_matches k links all)
 
-pub ascii : (k : Kept) → list_all is_page_byte (hill_page k) ≡ true
+pub ascii : (k : Kept) (links : Links) → list_all is_page_byte (hill_page k links) ≡ true
 unfolding page_of
-ascii k =
+ascii k links =
     let start = HEAD.now ++ settings_text k.settings in
-    let tables = tables_text k (table_kept k) in
+    let tables = tables_text k links (table_kept k) in
     both is_page_byte (start ++ tables) END.now
-    (both is_page_byte start tables (both is_page_byte HEAD.now (settings_text k.settings) refl (ascii_settings k.settings)) (ascii_tables k (table_kept k))) refl
+    (both is_page_byte start tables (both is_page_byte HEAD.now (settings_text k.settings) refl (ascii_settings k.settings)) (ascii_tables k links (table_kept k))) refl

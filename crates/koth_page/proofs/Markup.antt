@@ -7,12 +7,14 @@ use Rattle.koth_match.specs.declared.bout.Bout.{Bout}
 use Rattle.koth_hill.specs.Kept.{Kept, or_no_rounds, result_of, table_kept}
 use Rattle.koth_hill.specs.Table.{RowParts}
 use Rattle.koth_views.specs.Tally.{no_tally, of_older, of_younger}
+use Rattle.koth_page.specs.declared.links.Links.{Links}
+use Rattle.koth_page.specs.declared.links.Links.TheVariants as kinds
 use Rattle.koth_page.specs.declared.parts.TheConstants.{END, HEAD, MATCHES_START, STANDING_START, TABLE_END}
 use Rattle.koth_page.specs.declared.rounds.Rounds.{Rounds}
 use Rattle.koth_page.specs.Cells.{name_cell, number_cell, number_cells}
 use Rattle.koth_page.specs.Escape.{escaped}
 use Rattle.koth_page.specs.Laws.{is_harmless, is_markup, is_printable, markup_of, nameless}
-use Rattle.koth_page.specs.Matches.{fought_cell, match_cell, matches_heading, matches_row, matches_rows, matches_text, rank_heading, rounds_text, sides_text}
+use Rattle.koth_page.specs.Matches.{fought_cell, fought_text, match_cell, matches_heading, matches_row, matches_rows, matches_text, rank_heading, sides_text}
 use Rattle.koth_page.specs.Page.{hill_page, page_of, tables_text}
 use Rattle.koth_page.specs.Rounds.{rounds_against_all, rounds_between}
 use Rattle.koth_page.specs.Settings.{settings_text}
@@ -135,73 +137,84 @@ sides-nameless row other =
     let none = escaped [] in
     both (escaped row.name ++ middle) (none ++ middle) (escaped other.name) none (both (escaped row.name) none middle middle (names row.name []) refl) (names other.name [])
 
-fought_cell-nameless : (rounds : Rounds) (row other : RowParts) → Alike (fought_cell rounds row other) (fought_cell rounds (nameless_row row) (nameless_row other))
+-- a link asks for no name
+fought-nameless : (links : Links) (rounds : Rounds) (row other : RowParts) → fought_text links rounds row other ≡ fought_text links rounds (nameless_row row) (nameless_row other)
+unfolding fought_text
+fought-nameless kinds.None rounds row other = refl
+fought-nameless kinds.Rounds rounds row other = refl
+
+fought_cell-nameless : (links : Links) (rounds : Rounds) (row other : RowParts)
+    → Alike (fought_cell links rounds row other) (fought_cell links rounds (nameless_row row) (nameless_row other))
 unfolding fought_cell
-fought_cell-nameless rounds row other =
+fought_cell-nameless links rounds row other =
     let start = codes "<td title=\"" in
     let named = sides_text row other in
     let none = sides_text (nameless_row row) (nameless_row other) in
     let middle = codes "\">" in
     let last = codes "</td>" in
-    both (start ++ named ++ middle ++ rounds_text rounds) (start ++ none ++ middle ++ rounds_text rounds) last last
-    (both (start ++ named ++ middle) (start ++ none ++ middle) (rounds_text rounds) (rounds_text rounds)
-    (both (start ++ named) (start ++ none) middle middle (both start start named none refl (sides-nameless row other)) refl) refl)
+    let fought = fought_text links rounds row other in
+    let others = fought_text links rounds (nameless_row row) (nameless_row other) in
+    both (start ++ named ++ middle ++ fought) (start ++ none ++ middle ++ others) last last
+    (both (start ++ named ++ middle) (start ++ none ++ middle) fought others
+    (both (start ++ named) (start ++ none) middle middle (both start start named none refl (sides-nameless row other)) refl)
+    (ap markup_of (fought-nameless links rounds row other)))
     refl
 
 either : (b : Bool) (own some others : List ℕ) → Alike some others → Alike (cond b own some) (cond b own others)
 either true own some others same = refl
 either false own some others same = same
 
-match_cell-nameless : (k : Kept) (row other : RowParts) → Alike (match_cell k row other) (match_cell (nameless k) (nameless_row row) (nameless_row other))
-match_cell-nameless k row other =
+match_cell-nameless : (k : Kept) (links : Links) (row other : RowParts)
+    → Alike (match_cell k links row other) (match_cell (nameless k) links (nameless_row row) (nameless_row other))
+match_cell-nameless k links row other =
     let rounds = rounds_between k row.entry other.entry in
     let others = rounds_between (nameless k) row.entry other.entry in
     let a = nameless_row row in
     let b = nameless_row other in
-    either (eqb row.entry other.entry) (codes "<td class=\"self\">&middot;</td>") (fought_cell rounds row other) (fought_cell others a b)
-    (fought_cell-nameless rounds row other ∙ ap (λ (r : Rounds). markup_of (fought_cell r a b)) (rounds_between-nameless k row.entry other.entry))
+    either (eqb row.entry other.entry) (codes "<td class=\"self\">&middot;</td>") (fought_cell links rounds row other) (fought_cell links others a b)
+    (fought_cell-nameless links rounds row other ∙ ap (λ (r : Rounds). markup_of (fought_cell links r a b)) (rounds_between-nameless k row.entry other.entry))
 
-matches_row-nameless : (k : Kept) (rows : List RowParts) (rank : ℕ) (row : RowParts)
-    → Alike (matches_row k rows rank row) (matches_row (nameless k) (map nameless_row rows) rank (nameless_row row))
+matches_row-nameless : (k : Kept) (links : Links) (rows : List RowParts) (rank : ℕ) (row : RowParts)
+    → Alike (matches_row k links rows rank row) (matches_row (nameless k) links (map nameless_row rows) rank (nameless_row row))
 unfolding matches_row
-matches_row-nameless k rows rank row =
+matches_row-nameless k links rows rank row =
     let unnamed = nameless_row row in
     let start = codes "<tr>" ++ number_cell rank in
     let end = codes "</tr>\n" in
-    let cells = flat_map (match_cell k row) rows in
-    let others = flat_map (match_cell (nameless k) unnamed) (map nameless_row rows) in
+    let cells = flat_map (match_cell k links row) rows in
+    let others = flat_map (match_cell (nameless k) links unnamed) (map nameless_row rows) in
     let named : Alike (start ++ name_cell row.name) (start ++ name_cell []) = both start start (name_cell row.name) (name_cell []) refl (name_cells row.name []) in
     both (start ++ name_cell row.name ++ cells) (start ++ name_cell [] ++ others) end end
     (both (start ++ name_cell row.name) (start ++ name_cell []) cells others named
-    (each (match_cell k row) (match_cell (nameless k) unnamed) nameless_row (match_cell-nameless k row) rows))
+    (each (match_cell k links row) (match_cell (nameless k) links unnamed) nameless_row (match_cell-nameless k links row) rows))
     refl
 
-matches-nameless : (k : Kept) (rows : List RowParts) → Alike (matches_text k rows) (matches_text (nameless k) (map nameless_row rows))
+matches-nameless : (k : Kept) (links : Links) (rows : List RowParts) → Alike (matches_text k links rows) (matches_text (nameless k) links (map nameless_row rows))
 unfolding matches_text
-matches-nameless k rows =
+matches-nameless k links rows =
     let unnamed = map nameless_row rows in
     let start = MATCHES_START.now ++ matches_heading rows in
     let others = MATCHES_START.now ++ matches_heading unnamed in
-    both (start ++ matches_rows k rows rows) (others ++ matches_rows (nameless k) unnamed unnamed) TABLE_END.now TABLE_END.now
-    (both start others (matches_rows k rows rows) (matches_rows (nameless k) unnamed unnamed)
+    both (start ++ matches_rows k links rows rows) (others ++ matches_rows (nameless k) links unnamed unnamed) TABLE_END.now TABLE_END.now
+    (both start others (matches_rows k links rows rows) (matches_rows (nameless k) links unnamed unnamed)
     (both MATCHES_START.now MATCHES_START.now (matches_heading rows) (matches_heading unnamed) refl (matches_heading-nameless rows))
-    (each_ranked (λ (p : ℕ × RowParts). matches_row k rows p.0 p.1) (λ (p : ℕ × RowParts). matches_row (nameless k) unnamed p.0 p.1) (matches_row-nameless k rows) 1 rows))
+    (each_ranked (λ (p : ℕ × RowParts). matches_row k links rows p.0 p.1) (λ (p : ℕ × RowParts). matches_row (nameless k) links unnamed p.0 p.1) (matches_row-nameless k links rows) 1 rows))
     refl
 
-tables-nameless : (k : Kept) (rows : List RowParts) → Alike (tables_text k rows) (tables_text (nameless k) (map nameless_row rows))
-tables-nameless k [] = refl
-tables-nameless k (row ∷ rows) =
+tables-nameless : (k : Kept) (links : Links) (rows : List RowParts) → Alike (tables_text k links rows) (tables_text (nameless k) links (map nameless_row rows))
+tables-nameless k links [] = refl
+tables-nameless k links (row ∷ rows) =
     let all = row ∷ rows in
     let unnamed = map nameless_row all in
-    both (standing_text k all) (standing_text (nameless k) unnamed) (matches_text k all) (matches_text (nameless k) unnamed) (standing-nameless k all) (matches-nameless k all)
+    both (standing_text k all) (standing_text (nameless k) unnamed) (matches_text k links all) (matches_text (nameless k) links unnamed) (standing-nameless k all) (matches-nameless k links all)
 
-page-nameless : (k : Kept) (rows : List RowParts) → Alike (page_of k rows) (page_of (nameless k) (map nameless_row rows))
+page-nameless : (k : Kept) (links : Links) (rows : List RowParts) → Alike (page_of k links rows) (page_of (nameless k) links (map nameless_row rows))
 unfolding page_of
-page-nameless k rows =
+page-nameless k links rows =
     let start = HEAD.now ++ settings_text k.settings in
-    let tables = tables_text k rows in
-    let unnamed = tables_text (nameless k) (map nameless_row rows) in
-    both (start ++ tables) (start ++ unnamed) END.now END.now (both start start tables unnamed refl (tables-nameless k rows)) refl
+    let tables = tables_text k links rows in
+    let unnamed = tables_text (nameless k) links (map nameless_row rows) in
+    both (start ++ tables) (start ++ unnamed) END.now END.now (both start start tables unnamed refl (tables-nameless k links rows)) refl
 
-pub markup : (k : Kept) → markup_of (hill_page k) ≡ markup_of (hill_page (nameless k))
-markup k = page-nameless k (table_kept k) ∙ ap (λ (rows : List RowParts). markup_of (page_of (nameless k) rows)) (sym (table_kept-nameless k))
+pub markup : (k : Kept) (links : Links) → markup_of (hill_page k links) ≡ markup_of (hill_page (nameless k) links)
+markup k links = page-nameless k links (table_kept k) ∙ ap (λ (rows : List RowParts). markup_of (page_of (nameless k) links rows)) (sym (table_kept-nameless k))

@@ -9,10 +9,11 @@ use Rattle.war_types.specs.Warrior.{warrior_parts}
 use Rattle.koth_match.specs.declared.bout.Bout.{Bout}
 use Rattle.koth_hill.specs.Hill.{Member, member_of}
 use Rattle.koth_hill.specs.Kept.{Kept, kept_of, table_kept}
+use Rattle.koth_page.specs.declared.links.Links.TheVariants as kinds
 use Rattle.koth_page.specs.declared.parts.TheConstants.{END, HEAD, MATCHES_START, STANDING_START, TABLE_END}
 use Rattle.koth_page.specs.Cells.{name_cell, number_cell}
 use Rattle.koth_page.specs.Escape.{escaped}
-use Rattle.koth_page.specs.Matches.{fought_cell, matches_heading, matches_row, matches_text, rank_heading, rounds_text, sides_text}
+use Rattle.koth_page.specs.Matches.{fought_cell, fought_text, link_start, matches_heading, matches_row, matches_text, rank_heading, rounds_text, sides_text}
 use Rattle.koth_page.specs.Page.{hill_page, page_of}
 use Rattle.koth_page.specs.Settings.{machine_text, rules_text, setting_text, settings_text}
 use Rattle.koth_page.specs.Standing.{standing_heading, standing_row, standing_text}
@@ -44,7 +45,7 @@ none = kept_of settings 0 [] []
 abbrev two : Kept
 two = kept_of settings 3 (entered 1 1 (codes "Imp") ∷ entered 3 0 (codes "<Scanner>") ∷ []) ([] ∷ (rounds 1 8 1 ∷ []) ∷ [])
 
-page_of_none : hill_page none
+page_of_none : hill_page none kinds.None
     ≡ HEAD.now
     ++ codes "<dl>\n"
     ++ codes "<div><dt>core size</dt><dd>8000</dd></div>\n"
@@ -71,11 +72,23 @@ table_of_two : standing_text two (table_kept two)
 unfolding digits chars encode_utf8 escaped is_utf8 name_cell number_cell standing_heading standing_row standing_text utf8_error_len utf8_lossy utf8_valid_len
 table_of_two = refl
 
-matches_of_two : matches_text two (table_kept two)
+matches_of_two : matches_text two kinds.None (table_kept two)
     ≡ MATCHES_START.now
     ++ codes "<thead><tr><th>rank</th><th class=\"name\">warrior</th><th title=\"&lt;Scanner&gt;\">1</th><th title=\"Imp\">2</th></tr></thead>\n"
     ++ codes "<tr><td>1</td><td class=\"name\">&lt;Scanner&gt;</td><td class=\"self\">&middot;</td><td title=\"&lt;Scanner&gt; against Imp\">8/1/1</td></tr>\n"
     ++ codes "<tr><td>2</td><td class=\"name\">Imp</td><td title=\"Imp against &lt;Scanner&gt;\">1/8/1</td><td class=\"self\">&middot;</td></tr>\n"
     ++ TABLE_END.now
-unfolding digits chars encode_utf8 escaped fought_cell is_utf8 matches_heading matches_row matches_text name_cell number_cell rank_heading rounds_text sides_text utf8_error_len utf8_lossy utf8_valid_len
+unfolding digits chars encode_utf8 escaped fought_cell fought_text is_utf8 matches_heading matches_row matches_text name_cell number_cell rank_heading rounds_text sides_text utf8_error_len utf8_lossy utf8_valid_len
 matches_of_two = refl
+
+-- both cells lead to the first round of the match, by the older warrior's entry and the younger's
+rounds_of_two : matches_text two kinds.Rounds (table_kept two)
+    ≡ MATCHES_START.now
+    ++ codes "<thead><tr><th>rank</th><th class=\"name\">warrior</th><th title=\"&lt;Scanner&gt;\">1</th><th title=\"Imp\">2</th></tr></thead>\n"
+    ++ codes "<tr><td>1</td><td class=\"name\">&lt;Scanner&gt;</td><td class=\"self\">&middot;</td>"
+    ++ codes "<td title=\"&lt;Scanner&gt; against Imp\"><a href=\"/replay/1/3/1\">8/1/1</a></td></tr>\n"
+    ++ codes "<tr><td>2</td><td class=\"name\">Imp</td>"
+    ++ codes "<td title=\"Imp against &lt;Scanner&gt;\"><a href=\"/replay/1/3/1\">1/8/1</a></td><td class=\"self\">&middot;</td></tr>\n"
+    ++ TABLE_END.now
+unfolding digits chars encode_utf8 escaped fought_cell fought_text is_utf8 link_start matches_heading matches_row matches_text name_cell number_cell rank_heading rounds_text sides_text utf8_error_len utf8_lossy utf8_valid_len
+rounds_of_two = refl

@@ -2,6 +2,7 @@
 use Rattle.std.proofs.Common.{◌≡◌, ℕ, List, [], ◌∷◌, ◌++◌, refl, ap}
 use Rattle.koth_hill.specs.Kept.{Kept, table_kept}
 use Rattle.koth_hill.specs.Table.{RowParts}
+use Rattle.koth_page.specs.declared.links.Links.{Links}
 use Rattle.koth_page.specs.declared.parts.TheConstants.{END, HEAD}
 use Rattle.koth_page.specs.Laws.{with_seed}
 use Rattle.koth_page.specs.Matches.{matches_row, matches_text}
@@ -9,11 +10,11 @@ use Rattle.koth_page.specs.Page.{hill_page, page_of, tables_text}
 use Rattle.koth_page.specs.Settings.{machine_text, rules_text, settings_text}
 use Rattle.koth_page.specs.Standing.{standing_text}
 
-tables-seed : (k : Kept) (seed : ℕ) (rows : List RowParts) → tables_text k rows ≡ tables_text (with_seed seed k) rows
+tables-seed : (k : Kept) (links : Links) (seed : ℕ) (rows : List RowParts) → tables_text k links rows ≡ tables_text (with_seed seed k) links rows
 unfolding matches_row matches_text standing_text
-tables-seed k seed [] = refl
-tables-seed k seed (row ∷ rows) = refl
+tables-seed k links seed [] = refl
+tables-seed k links seed (row ∷ rows) = refl
 
-pub page-seed : (k : Kept) (seed : ℕ) → hill_page k ≡ hill_page (with_seed seed k)
+pub page-seed : (k : Kept) (links : Links) (seed : ℕ) → hill_page k links ≡ hill_page (with_seed seed k) links
 unfolding machine_text page_of rules_text settings_text
-page-seed k seed = ap (λ tables. HEAD.now ++ settings_text k.settings ++ tables ++ END.now) (tables-seed k seed (table_kept k))
+page-seed k links seed = ap (λ tables. HEAD.now ++ settings_text k.settings ++ tables ++ END.now) (tables-seed k links seed (table_kept k))

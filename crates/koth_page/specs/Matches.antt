@@ -1,8 +1,10 @@
 -- The matches on a hill: who won, lost and tied how many rounds against whom.
-use Rattle.std.specs.Prelude.{ℕ, ◌==◌, if◌then◌else◌, List, ◌++◌, codes, decimal}
+use Rattle.std.specs.Prelude.{ℕ, ◌==◌, min, max, if◌then◌else◌, List, ◌++◌, codes, decimal}
 use Rattle.std.specs.List.{enumerate_from, flat_map}
 use Rattle.koth_hill.specs.Kept.{Kept}
 use Rattle.koth_hill.specs.Table.{RowParts}
+use Rattle.koth_page.specs.declared.links.Links.{Links}
+use Rattle.koth_page.specs.declared.links.Links.TheVariants as kinds
 use Rattle.koth_page.specs.declared.rounds.Rounds.{Rounds}
 use Rattle.koth_page.specs.declared.parts.TheConstants.{MATCHES_START, TABLE_END}
 use Rattle.koth_page.specs.Cells.{name_cell, number_cell}
@@ -27,23 +29,34 @@ rounds_text r = decimal r.won ++ codes "/" ++ decimal r.lost ++ codes "/" ++ dec
 unfoldable pub sides_text : RowParts → RowParts → List ℕ
 sides_text row other = escaped row.name ++ codes " against " ++ escaped other.name
 
--- the rounds of two that fought, from the side of the first
-unfoldable pub fought_cell : Rounds → RowParts → RowParts → List ℕ
-fought_cell rounds row other = codes "<td title=\"" ++ sides_text row other ++ codes "\">" ++ rounds_text rounds ++ codes "</td>"
+-- what begins a link to the first round of the match of two entries
+unfoldable pub link_start : ℕ → ℕ → List ℕ
+link_start older younger = codes "<a href=\"/replay/" ++ decimal older ++ codes "/" ++ decimal younger ++ codes "/1\">"
+
+-- the rounds of two that fought: where rounds are linked, in a link to the first round
+unfoldable pub fought_text : Links → Rounds → RowParts → RowParts → List ℕ
+fought_text kinds.None rounds row other = rounds_text rounds
+fought_text kinds.Rounds rounds row other =
+    link_start (min row.entry other.entry) (max row.entry other.entry) ++ rounds_text rounds ++ codes "</a>"
+
+-- the cell of two that fought, from the side of the first
+unfoldable pub fought_cell : Links → Rounds → RowParts → RowParts → List ℕ
+fought_cell links rounds row other = codes "<td title=\"" ++ sides_text row other ++ codes "\">" ++ fought_text links rounds row other ++ codes "</td>"
 
 -- what the row of one warrior tells of another, and of itself
-abbrev pub match_cell : Kept → RowParts → RowParts → List ℕ
-match_cell k row other =
-    if row.entry == other.entry then codes "<td class=\"self\">&middot;</td>" else fought_cell (rounds_between k row.entry other.entry) row other
+abbrev pub match_cell : Kept → Links → RowParts → RowParts → List ℕ
+match_cell k links row other =
+    if row.entry == other.entry then codes "<td class=\"self\">&middot;</td>" else fought_cell links (rounds_between k row.entry other.entry) row other
 
 -- the row of a warrior with its rank: a cell for each of these rows
-unfoldable pub matches_row : Kept → List RowParts → ℕ → RowParts → List ℕ
-matches_row k rows rank row = codes "<tr>" ++ number_cell rank ++ name_cell row.name ++ flat_map (match_cell k row) rows ++ codes "</tr>\n"
+unfoldable pub matches_row : Kept → Links → List RowParts → ℕ → RowParts → List ℕ
+matches_row k links rows rank row =
+    codes "<tr>" ++ number_cell rank ++ name_cell row.name ++ flat_map (match_cell k links row) rows ++ codes "</tr>\n"
 
 -- the rows of these warriors, by rank from 1 on
-abbrev pub matches_rows : Kept → List RowParts → List RowParts → List ℕ
-matches_rows k rows shown = flat_map (λ (rank, row). matches_row k rows rank row) (enumerate_from 1 shown)
+abbrev pub matches_rows : Kept → Links → List RowParts → List RowParts → List ℕ
+matches_rows k links rows shown = flat_map (λ (rank, row). matches_row k links rows rank row) (enumerate_from 1 shown)
 
 -- the matches of these rows
-unfoldable pub matches_text : Kept → List RowParts → List ℕ
-matches_text k rows = MATCHES_START.now ++ matches_heading rows ++ matches_rows k rows rows ++ TABLE_END.now
+unfoldable pub matches_text : Kept → Links → List RowParts → List ℕ
+matches_text k links rows = MATCHES_START.now ++ matches_heading rows ++ matches_rows k links rows rows ++ TABLE_END.now

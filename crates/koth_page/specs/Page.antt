@@ -2,20 +2,21 @@
 use Rattle.std.specs.Prelude.{ℕ, List, [], ◌∷◌, ◌++◌, codes}
 use Rattle.koth_hill.specs.Kept.{Kept, table_kept}
 use Rattle.koth_hill.specs.Table.{RowParts}
+use Rattle.koth_page.specs.declared.links.Links.{Links}
 use Rattle.koth_page.specs.declared.parts.TheConstants.{HEAD, END}
 use Rattle.koth_page.specs.Matches.{matches_text}
 use Rattle.koth_page.specs.Settings.{settings_text}
 use Rattle.koth_page.specs.Standing.{standing_text}
 
 -- the tables of these rows, or that there are none
-abbrev pub tables_text : Kept → List RowParts → List ℕ
-tables_text k [] = codes "<p>No warrior stands on this hill yet.</p>\n"
-tables_text k (row ∷ rows) = standing_text k (row ∷ rows) ++ matches_text k (row ∷ rows)
+abbrev pub tables_text : Kept → Links → List RowParts → List ℕ
+tables_text k links [] = codes "<p>No warrior stands on this hill yet.</p>\n"
+tables_text k links (row ∷ rows) = standing_text k (row ∷ rows) ++ matches_text k links (row ∷ rows)
 
 -- the page of a hill with these rows
-unfoldable pub page_of : Kept → List RowParts → List ℕ
-page_of k rows = HEAD.now ++ settings_text k.settings ++ tables_text k rows ++ END.now
+unfoldable pub page_of : Kept → Links → List RowParts → List ℕ
+page_of k links rows = HEAD.now ++ settings_text k.settings ++ tables_text k links rows ++ END.now
 
--- the page of a hill
-abbrev pub hill_page : Kept → List ℕ
-hill_page k = page_of k (table_kept k)
+-- the page of a hill with these links
+abbrev pub hill_page : Kept → Links → List ℕ
+hill_page k links = page_of k links (table_kept k)

@@ -1,9 +1,9 @@
-//! The page of a hill: one file of HTML that needs nothing from outside.
+//! The page of a hill: one file of HTML that needs nothing from outside, with or without links to rounds that a service shows.
 //!
 //! It knows a hill with the results that it keeps, and no store, files or sockets. The modules, in the order in which the data pass:
 //!
 //! - `escape`: what others wrote, as it stands in a page;
-//! - `cells`: numbers and names in the cells of a table; `rounds`: rounds that one entry won, lost and tied;
+//! - `cells`: numbers and names in the cells of a table; `rounds`: rounds that one entry won, lost and tied; `links`: what they lead to;
 //! - `parts`: what is the same on every page, with the style sheet;
 //! - `settings`, `standing` and `matches`: the settings of a hill, its table, and its matches;
 //! - `page`: all of these.
@@ -14,6 +14,7 @@
 
 mod cells;
 mod escape;
+mod links;
 mod matches;
 mod page;
 mod parts;
@@ -23,4 +24,5 @@ mod standing;
 
 pub use cells::put_number;
 pub use escape::put_escaped;
+pub use links::Links;
 pub use page::hill_page;

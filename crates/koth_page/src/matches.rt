@@ -3,10 +3,11 @@
 ghost use Rattle.std.specs.Prelude.{◌≡◌, ◌+◌, ◌<◌, ◌^◌, ◌++◌, length, codes, decimal, OnOk};
 ghost use Rattle.std.specs.List.{enumerate_from, flat_map};
 ghost use Rattle.koth_hill.specs.Rows.{row_parts, rows_parts};
-ghost use Rattle.koth_page.specs.Matches.{fought_cell, match_cell, matches_heading, matches_row, matches_rows, matches_text, rank_heading, rounds_text, sides_text};
+ghost use Rattle.koth_page.specs.Matches.{fought_cell, fought_text, link_start, match_cell, matches_heading, matches_row, matches_rows, matches_text, rank_heading, rounds_text, sides_text};
 
 use crate::cells::{put_name_cell, put_number, put_number_cell};
 use crate::escape::put_escaped;
+use crate::links::Links;
 use crate::parts::{MATCHES_START, TABLE_END};
 use crate::rounds::{Rounds, between};
 use koth_hill::{Hill, Row};
@@ -16,13 +17,14 @@ use std::alloc::{AllocError, Allocator};
 pub(crate) fn put_matches<A: Allocator, B: Allocator>(
     page: &mut Vec<u8, A>,
     hill: &Hill<B>,
+    links: Links,
     rows: &[Row<'_>],
 ) -> Result<(), AllocError>
-    ensures { OnOk result (page.new.items ≡ page.old.items ++ matches_text hill.now (rows_parts rows.now)) }
+    ensures { OnOk result (page.new.items ≡ page.old.items ++ matches_text hill.now links (rows_parts rows.now)) }
 {
     page.extend_from_slice(MATCHES_START)?;
     put_heading(page, rows)?;
-    put_rows(page, hill, rows)?;
+    put_rows(page, hill, links, rows)?;
     page.extend_from_slice(TABLE_END)?;
     Ok(())
 }
@@ -67,12 +69,13 @@ fn put_rank_heading<A: Allocator>(
 fn put_rows<A: Allocator, B: Allocator>(
     page: &mut Vec<u8, A>,
     hill: &Hill<B>,
+    links: Links,
     rows: &[Row<'_>],
 ) -> Result<(), AllocError>
-    ensures { OnOk result (page.new.items ≡ page.old.items ++ matches_rows hill.now (rows_parts rows.now) (rows_parts rows.now)) }
+    ensures { OnOk result (page.new.items ≡ page.old.items ++ matches_rows hill.now links (rows_parts rows.now) (rows_parts rows.now)) }
 {
     for place in 0..rows.len() {
-        put_row(page, hill, rows, place as u64 + 1, &rows[place])?;
+        put_row(page, hill, links, rows, place as u64 + 1, &rows[place])?;
     }
     Ok(())
 }
@@ -82,29 +85,31 @@ fn put_rows<A: Allocator, B: Allocator>(
 fn put_row<A: Allocator, B: Allocator>(
     page: &mut Vec<u8, A>,
     hill: &Hill<B>,
+    links: Links,
     rows: &[Row<'_>],
     rank: u64,
     row: &Row<'_>,
 ) -> Result<(), AllocError>
-    ensures { OnOk result (page.new.items ≡ page.old.items ++ matches_row hill.now (rows_parts rows.now) rank (row_parts row.now)) }
+    ensures { OnOk result (page.new.items ≡ page.old.items ++ matches_row hill.now links (rows_parts rows.now) rank (row_parts row.now)) }
 {
     page.extend_from_slice(b"<tr>")?;
     put_number_cell(page, rank)?;
     put_name_cell(page, row.name.bytes())?;
-    put_cells(page, hill, row, rows)?;
+    put_cells(page, hill, links, row, rows)?;
     page.extend_from_slice(b"</tr>\n")
 }
 
 fn put_cells<A: Allocator, B: Allocator>(
     page: &mut Vec<u8, A>,
     hill: &Hill<B>,
+    links: Links,
     row: &Row<'_>,
     rows: &[Row<'_>],
 ) -> Result<(), AllocError>
-    ensures { OnOk result (page.new.items ≡ page.old.items ++ flat_map (match_cell hill.now (row_parts row.now)) (rows_parts rows.now)) }
+    ensures { OnOk result (page.new.items ≡ page.old.items ++ flat_map (match_cell hill.now links (row_parts row.now)) (rows_parts rows.now)) }
 {
     for place in 0..rows.len() {
-        put_cell(page, hill, row, &rows[place])?;
+        put_cell(page, hill, links, row, &rows[place])?;
     }
     Ok(())
 }
@@ -113,32 +118,74 @@ fn put_cells<A: Allocator, B: Allocator>(
 fn put_cell<A: Allocator, B: Allocator>(
     page: &mut Vec<u8, A>,
     hill: &Hill<B>,
+    links: Links,
     row: &Row<'_>,
     other: &Row<'_>,
 ) -> Result<(), AllocError>
-    ensures { OnOk result (page.new.items ≡ page.old.items ++ match_cell hill.now (row_parts row.now) (row_parts other.now)) }
+    ensures { OnOk result (page.new.items ≡ page.old.items ++ match_cell hill.now links (row_parts row.now) (row_parts other.now)) }
 {
     if row.entry == other.entry {
         page.extend_from_slice(b"<td class=\"self\">&middot;</td>")
     } else {
-        put_fought_cell(page, between(hill, row.entry, other.entry), row, other)
+        let rounds = between(hill, row.entry, other.entry);
+        put_fought_cell(page, links, rounds, row, other)
     }
 }
 
-/// Puts the rounds of two that fought, from the side of the first.
+/// Puts the cell of two that fought, from the side of the first.
 fn put_fought_cell<A: Allocator>(
     page: &mut Vec<u8, A>,
+    links: Links,
     rounds: Rounds,
     row: &Row<'_>,
     other: &Row<'_>,
 ) -> Result<(), AllocError>
-    ensures { OnOk result (page.new.items ≡ page.old.items ++ fought_cell rounds (row_parts row.now) (row_parts other.now)) }
+    ensures { OnOk result (page.new.items ≡ page.old.items ++ fought_cell links rounds (row_parts row.now) (row_parts other.now)) }
 {
     page.extend_from_slice(b"<td title=\"")?;
     put_sides(page, row, other)?;
     page.extend_from_slice(b"\">")?;
-    put_rounds(page, rounds)?;
+    put_fought(page, links, rounds, row, other)?;
     page.extend_from_slice(b"</td>")?;
+    Ok(())
+}
+
+/// Puts the rounds of two that fought: where rounds are linked, in a link to the first round.
+#[tactic(auto, unfolding(crate::specs::Matches::fought_text))]
+fn put_fought<A: Allocator>(
+    page: &mut Vec<u8, A>,
+    links: Links,
+    rounds: Rounds,
+    row: &Row<'_>,
+    other: &Row<'_>,
+) -> Result<(), AllocError>
+    ensures { OnOk result (page.new.items ≡ page.old.items ++ fought_text links rounds (row_parts row.now) (row_parts other.now)) }
+{
+    match links {
+        Links::None => put_rounds(page, rounds),
+        Links::Rounds => {
+            let older = row.entry.min(other.entry);
+            let younger = row.entry.max(other.entry);
+            put_link_start(page, older, younger)?;
+            put_rounds(page, rounds)?;
+            page.extend_from_slice(b"</a>")
+        }
+    }
+}
+
+/// Puts what begins a link to the first round of a match.
+fn put_link_start<A: Allocator>(
+    page: &mut Vec<u8, A>,
+    older: u64,
+    younger: u64,
+) -> Result<(), AllocError>
+    ensures { OnOk result (page.new.items ≡ page.old.items ++ link_start older younger) }
+{
+    page.extend_from_slice(b"<a href=\"/replay/")?;
+    put_number(page, older)?;
+    page.extend_from_slice(b"/")?;
+    put_number(page, younger)?;
+    page.extend_from_slice(b"/1\">")?;
     Ok(())
 }
 

@@ -7,6 +7,7 @@ ghost use Rattle.koth_page.specs.Escape.{escaped};
 ghost use Rattle.koth_page.specs.Laws.{is_harmless, is_page_byte, markup_of, nameless, with_seed};
 ghost use Rattle.koth_page.specs.Page.{hill_page, tables_text};
 
+use crate::links::Links;
 use crate::matches::put_matches;
 use crate::parts::{END, HEAD};
 use crate::settings::put_settings;
@@ -15,37 +16,40 @@ use koth_hill::{Hill, Row};
 use std::alloc::{AllocError, Allocator};
 
 /// The page of a hill: what a hill is, its settings without the seed, its table, and its matches; a hill without warriors has a sentence
-/// instead of the two tables. It is HTML in ASCII that loads nothing and has no script. No match is fought. The error is want of memory.
+/// instead of the two tables. It is HTML in ASCII that loads nothing and has no script. No match is fought. The links say whether each
+/// result leads to the first round of its match, which a service shows. The error is want of memory.
 pub fn hill_page<A: Allocator + Copy, B: Allocator>(
     alloc: A,
     hill: &Hill<B>,
+    links: Links,
 ) -> Result<Vec<u8, A>, AllocError>
-    ensures page { IfOk result (λ page. page.items ≡ hill_page hill.now) }
+    ensures page { IfOk result (λ page. page.items ≡ hill_page hill.now links) }
 
     // Whatever a name is, what stands for it has no character that begins or ends a tag or the value of an attribute ..
     ensures harmless { (text : List ℕ) → IsTrue (list_all is_harmless (escaped text)) }
 
     // .. so the page has all of those that it would have if nobody on the hill had a name, and no others.
-    ensures markup { IfOk result (λ page. markup_of page.items ≡ markup_of (hill_page (nameless hill.now))) }
+    ensures markup { IfOk result (λ page. markup_of page.items ≡ markup_of (hill_page (nameless hill.now) links)) }
     ensures ascii { IfOk result (λ page. IsTrue (list_all is_page_byte page.items)) }
 
     // It tells nothing of the seed but what the results of matches do.
-    ensures seed { (seed : ℕ) → IfOk result (λ page. page.items ≡ hill_page (with_seed seed hill.now)) }
+    ensures seed { (seed : ℕ) → IfOk result (λ page. page.items ≡ hill_page (with_seed seed hill.now) links) }
 {
-    page_of(alloc, hill)
+    page_of(alloc, hill, links)
 }
 
 fn page_of<A: Allocator + Copy, B: Allocator>(
     alloc: A,
     hill: &Hill<B>,
+    links: Links,
 ) -> Result<Vec<u8, A>, AllocError>
-    ensures { IfOk result (λ page. page.items ≡ hill_page hill.now) }
+    ensures { IfOk result (λ page. page.items ≡ hill_page hill.now links) }
 {
     let rows = hill.rows(alloc)?;
     let mut page = Vec::new(alloc);
     page.extend_from_slice(HEAD)?;
     put_settings(&mut page, hill.settings())?;
-    put_tables(&mut page, hill, rows.as_slice())?;
+    put_tables(&mut page, hill, links, rows.as_slice())?;
     page.extend_from_slice(END)?;
     Ok(page)
 }
@@ -54,13 +58,14 @@ fn page_of<A: Allocator + Copy, B: Allocator>(
 fn put_tables<A: Allocator, B: Allocator>(
     page: &mut Vec<u8, A>,
     hill: &Hill<B>,
+    links: Links,
     rows: &[Row<'_>],
 ) -> Result<(), AllocError>
-    ensures { OnOk result (page.new.items ≡ page.old.items ++ tables_text hill.now (rows_parts rows.now)) }
+    ensures { OnOk result (page.new.items ≡ page.old.items ++ tables_text hill.now links (rows_parts rows.now)) }
 {
     if rows.is_empty() {
         return page.extend_from_slice(b"<p>No warrior stands on this hill yet.</p>\n");
     }
     put_standing(page, hill, rows)?;
-    put_matches(page, hill, rows)
+    put_matches(page, hill, links, rows)
 }

@@ -29,6 +29,7 @@ tbody tr:nth-child(even) { background: var(--band); }
 .name { min-width: 8rem; text-align: left; white-space: normal; overflow-wrap: anywhere; }
 .matches .name { position: sticky; left: 0; background: inherit; }
 .self { color: var(--quiet); }
+a { color: inherit; }
 @media (max-width: 40rem) {
   table { font-size: 0.85rem; }
   th, td { padding: 0.3rem 0.35rem; }

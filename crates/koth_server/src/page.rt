@@ -11,7 +11,7 @@ use crate::trouble::HillTrouble;
 use hill_file::{Sharing, TryLock};
 use hill_store::Store;
 use koth_commands::{Status, write_whole};
-use koth_page::hill_page;
+use koth_page::{Links, hill_page};
 use sector_disk::Device;
 use std::alloc::{AllocError, Allocator};
 use std::io::Write;
@@ -84,7 +84,7 @@ fn page_text<D: Device, A: Allocator + Copy>(
     alloc: A,
     store: &Store<D, A>,
 ) -> Result<Vec<u8, A>, AllocError>
-    ensures { IfOk result (λ text. text.items ≡ hill_page store.now.hill) }
+    ensures { IfOk result (λ text. text.items ≡ hill_page store.now.hill Links.None) }
 {
-    hill_page(alloc, store.hill())
+    hill_page(alloc, store.hill(), Links::None)
 }

@@ -7,7 +7,7 @@ ghost use Rattle.war_types.specs.Warrior.{Fits};
 use crate::warriors::{SMALL, imp};
 use koth_hill::Hill;
 use koth_match::Bout;
-use koth_page::hill_page;
+use koth_page::{Links, hill_page};
 use refusing::{Refusing, refuse_each};
 use std::alloc::{AllocError, Global};
 use std::process::Abort;
@@ -85,7 +85,7 @@ fn check_page(rt: &impl Abort, page: &[u8], due: &[&str], not_due: &[&str]) -> R
 #[test]
 fn page_of_an_empty_hill(rt: HostRuntime) -> Result<(), Fail> {
     let hill = Hill::new(rt.alloc(), ten_rounds()?)?;
-    let page = hill_page(rt.alloc(), &hill)?;
+    let page = hill_page(rt.alloc(), &hill, Links::None)?;
     let due = [
         "<dl>\n<div><dt>core size</dt><dd>64</dd></div>\n<div><dt>cycles</dt><dd>100</dd></div>\n",
         "<div><dt>processes</dt><dd>8</dd></div>\n<div><dt>read limit</dt><dd>64</dd></div>\n",
@@ -99,7 +99,7 @@ fn page_of_an_empty_hill(rt: HostRuntime) -> Result<(), Fail> {
 #[test]
 fn page_of_three_warriors(rt: HostRuntime) -> Result<(), Fail> {
     let hill = hill_of_three(rt.alloc(), b"Scanner", b"A. K. Dewdney")?;
-    let page = hill_page(rt.alloc(), &hill)?;
+    let page = hill_page(rt.alloc(), &hill, Links::None)?;
     let due = [
         "<tr><td>1</td><td>3</td><td>49</td><td>16</td><td>3</td><td>1</td><td>0</td><td class=\"name\">Scanner</td><td class=\"name\">A. K. Dewdney</td></tr>\n\
         <tr><td>2</td><td>1</td><td>22</td><td>7</td><td>12</td><td>1</td><td>2</td><td class=\"name\">Imp</td><td class=\"name\">koth</td></tr>\n\
@@ -112,8 +112,27 @@ fn page_of_three_warriors(rt: HostRuntime) -> Result<(), Fail> {
         &rt,
         page.as_slice(),
         &due,
-        &["No warrior", "271828", "<script"],
+        &["No warrior", "271828", "<script", "<a "],
     )
+}
+
+/// Each result leads to the first round of its match by the older warrior's entry and the younger's, from both sides; nothing else leads
+/// anywhere.
+#[test]
+fn page_with_links_to_rounds(rt: HostRuntime) -> Result<(), Fail> {
+    let hill = hill_of_three(rt.alloc(), b"Scanner", b"A. K. Dewdney")?;
+    let page = hill_page(rt.alloc(), &hill, Links::Rounds)?;
+    let due = [
+        "<td title=\"Scanner against Imp\"><a href=\"/replay/1/3/1\">9/1/0</a></td><td title=\"Scanner against Dwarf\"><a href=\"/replay/2/3/1\">7/2/1</a></td></tr>\n",
+        "<td title=\"Imp against Scanner\"><a href=\"/replay/1/3/1\">1/9/0</a></td><td class=\"self\">&middot;</td>\
+        <td title=\"Imp against Dwarf\"><a href=\"/replay/1/2/1\">6/3/1</a></td></tr>\n",
+        "<td title=\"Dwarf against Scanner\"><a href=\"/replay/2/3/1\">2/7/1</a></td>\
+        <td title=\"Dwarf against Imp\"><a href=\"/replay/1/2/1\">3/6/1</a></td><td class=\"self\">&middot;</td></tr>\n",
+    ];
+    check_page(&rt, page.as_slice(), &due, &["271828", "<script"])?;
+    let text = str::from_utf8(page.as_slice())?;
+    assert_eq!(rt; text.matches("<a ").count(), 6);
+    Ok(())
 }
 
 /// A name is cut to printable ASCII before it comes to a hill, so its letter of two bytes is two question marks.
@@ -124,7 +143,7 @@ fn page_with_hostile_names(rt: HostRuntime) -> Result<(), Fail> {
         b"\"><script>alert('\xC3\xA9')</script>",
         b"</td>&amp;",
     )?;
-    let page = hill_page(rt.alloc(), &hill)?;
+    let page = hill_page(rt.alloc(), &hill, Links::None)?;
     let due = [
         "<td class=\"name\">&quot;&gt;&lt;script&gt;alert(&#39;??&#39;)&lt;/script&gt;</td><td class=\"name\">&lt;/td&gt;&amp;amp;</td></tr>\n",
         "<td title=\"Imp against &quot;&gt;&lt;script&gt;alert(&#39;??&#39;)&lt;/script&gt;\">1/9/0</td>",
@@ -135,9 +154,15 @@ fn page_with_hostile_names(rt: HostRuntime) -> Result<(), Fail> {
 /// Each growth that is refused is the error.
 #[test]
 fn growths_of_a_page(rt: HostRuntime) -> Result<(), Fail> {
-    let memory = Refusing::new(rt.alloc());
     let hill = hill_of_three(rt.alloc(), b"Scanner", b"koth")?;
-    let runs = refuse_each(&memory, |_k| match hill_page(&memory, &hill) {
+    check_growths(&rt, rt.alloc(), &hill, Links::None);
+    check_growths(&rt, rt.alloc(), &hill, Links::Rounds);
+    Ok(())
+}
+
+fn check_growths(rt: &impl Abort, alloc: Global, hill: &Hill<Global>, links: Links) {
+    let memory = Refusing::new(alloc);
+    let runs = refuse_each(&memory, |_k| match hill_page(&memory, hill, links) {
         Ok(page) => {
             assert_eq!(rt; memory.refused(), 0);
             assert!(rt; !page.is_empty());
@@ -145,5 +170,4 @@ fn growths_of_a_page(rt: HostRuntime) -> Result<(), Fail> {
         Err(AllocError) => assert_eq!(rt; memory.refused(), 1),
     });
     assert!(rt; runs > 1);
-    Ok(())
 }

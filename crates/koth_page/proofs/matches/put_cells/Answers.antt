@@ -9,5 +9,5 @@ loop-place-preserved g c =
     let loop = c.loop-place in
     let rows = c.args.rows.now in
     let other = c.index-rows-place.result in
-    one_part_more (match_cell c.args.hill.now (row_parts c.args.row.now)) (rows_parts rows) loop.place (row_parts other) c.args.page.now.items loop.page.items c.put_cell.new.page.items
+    one_part_more (match_cell c.args.hill.now c.args.links (row_parts c.args.row.now)) (rows_parts rows) loop.place (row_parts other) c.args.page.now.items loop.page.items c.put_cell.new.page.items
     (below_parts rows loop.place c.loop-place-test.true) (row_at rows loop.place other c.loop-place-test.true c.index-rows-place.is) loop.invariant c.in_ok-put_cell.ensures

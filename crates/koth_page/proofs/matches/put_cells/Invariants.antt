@@ -6,4 +6,4 @@ use Rattle.koth_page.specs.Matches.{match_cell}
 use Rattle.koth_page.proofs.matches.put_cells.Given as goal
 
 abbrev pub invariant-loop-place : goal.invariant-loop-place
-invariant-loop-place g l = l.page.items ≡ l.fn.page.items ++ flat_map (match_cell l.hill (row_parts l.row)) (take l.place (rows_parts l.rows))
+invariant-loop-place g l = l.page.items ≡ l.fn.page.items ++ flat_map (match_cell l.hill l.links (row_parts l.row)) (take l.place (rows_parts l.rows))

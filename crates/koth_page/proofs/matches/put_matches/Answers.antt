@@ -9,6 +9,6 @@ pub returns : goal.returns
 unfolding matches_text
 returns g c =
     let rows = rows_parts c.args.rows.now in
-    four_parts c.args.page.now.items MATCHES_START.now (matches_heading rows) (matches_rows c.args.hill.now rows rows) TABLE_END.now
+    four_parts c.args.page.now.items MATCHES_START.now (matches_heading rows) (matches_rows c.args.hill.now c.args.links rows rows) TABLE_END.now
     c.extend_from_slice.new.self.items c.put_heading.new.page.items c.put_rows.new.page.items c.extend_from_slice-2.new.self.items
     c.in_ok-extend_from_slice.ensures.items c.in_ok-put_heading.ensures c.in_ok-put_rows.ensures c.in_ok-extend_from_slice-2.ensures.items

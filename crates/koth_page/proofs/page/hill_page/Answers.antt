@@ -15,17 +15,20 @@ returns-clause-harmless g c = harmless
 pub returns-clause-markup : goal.returns-clause-markup
 returns-clause-markup g c =
     let k = c.args.hill.now in
-    IfOk-weaker c.page_of.result (λ page. page.items ≡ hill_page k) (λ page. markup_of page.items ≡ markup_of (hill_page (nameless k)))
-    (λ page is. ap markup_of is ∙ markup k) c.page_of.ensures
+    let links = c.args.links in
+    IfOk-weaker c.page_of.result (λ page. page.items ≡ hill_page k links) (λ page. markup_of page.items ≡ markup_of (hill_page (nameless k) links))
+    (λ page is. ap markup_of is ∙ markup k links) c.page_of.ensures
 
 pub returns-clause-ascii : goal.returns-clause-ascii
 returns-clause-ascii g c =
     let k = c.args.hill.now in
-    IfOk-weaker c.page_of.result (λ page. page.items ≡ hill_page k) (λ page. list_all is_page_byte page.items ≡ true)
-    (λ page is. ap (list_all is_page_byte) is ∙ ascii k) c.page_of.ensures
+    let links = c.args.links in
+    IfOk-weaker c.page_of.result (λ page. page.items ≡ hill_page k links) (λ page. list_all is_page_byte page.items ≡ true)
+    (λ page is. ap (list_all is_page_byte) is ∙ ascii k links) c.page_of.ensures
 
 pub returns-clause-seed : goal.returns-clause-seed
 returns-clause-seed g c =
     let k = c.args.hill.now in
-    λ seed. IfOk-weaker c.page_of.result (λ page. page.items ≡ hill_page k) (λ page. page.items ≡ hill_page (with_seed seed k))
-    (λ page is. is ∙ page-seed k seed) c.page_of.ensures
+    let links = c.args.links in
+    λ seed. IfOk-weaker c.page_of.result (λ page. page.items ≡ hill_page k links) (λ page. page.items ≡ hill_page (with_seed seed k) links)
+    (λ page is. is ∙ page-seed k links seed) c.page_of.ensures
