@@ -20,9 +20,6 @@ abbrev pub SoFar : RawSettings → ℕ → Status → Option (List ℕ) → Opti
 SoFar s count status o p = ((status ≡ statuses.Done) × AreTaken s count × Keeps o p)
     ⊎ ((status ≡ statuses.Refused) × ((fault : AsmFault) × IsFaultOf s fault) × WritesSome o p)
 
-pub none_checked : (s : RawSettings) (o : Option (List ℕ)) → SoFar s 0 statuses.Done o o
-none_checked s o = inl (refl, record { sources = []; taken = All-nil (IsTaken s); all = refl }, Keeps-refl o)
-
 failed : (s : RawSettings) (o q : Option (List ℕ)) (total : ℕ) (trouble : Trouble) (e f : Option (List ℕ)) → WritesSome o q
     → TellsWord (failure_word (failure_of trouble)) e f → EndsCheckUnder s total (failure_status (failure_of trouble)) o q e f
 failed s o q total (troubles.Failed cause) e f more told = (more, told)

@@ -44,11 +44,6 @@ module _ (s : RawSettings) (source : List ℕ) (o p e f : Option (List ℕ)) whe
   refused_ends fault statuses.StreamFault is ends = (part_of (Err fault) is ends.0, ends.1)
   refused_ends fault statuses.NoMemory is ends = absurd ends
 
--- memory ran out before anything was written
-pub no_memory_source : (s : RawSettings) (source : List ℕ) (o e f : Option (List ℕ)) (status : Status) → status ≡ statuses.NoMemory
-    → TellsWord (failure_word failures.Memory) e f → EndsSource s source status o o e f
-no_memory_source s source o e f status is told = subst (λ t. EndsSource s source t o o e f) (sym is) (Keeps-refl o, told)
-
 -- ---- what is read from a stream
 
 module _ (s : RawSettings) (i j o p e f : Option (List ℕ)) where
@@ -92,11 +87,6 @@ lost_ends s i j o e f source status is taken told = subst (λ t. EndsUnder s t (
   },
   told,
 )
-
--- memory ran out before anything was read
-pub no_memory_under : (s : RawSettings) (i o e f : Option (List ℕ)) (status : Status) → status ≡ statuses.NoMemory
-    → TellsWord (failure_word failures.Memory) e f → EndsUnder s status (streams i o e) (streams i o f)
-no_memory_under s i o e f status is told = subst (λ t. EndsUnder s t (streams i o e) (streams i o f)) (sym is) (Keeps-refl o, told)
 
 -- ---- what was read from a file is of no stream
 

@@ -22,15 +22,19 @@ abbrev pub with_round : ℕ → Result RawSettings SettingsFault → Result RawS
 with_round round (Ok s) = if has_round s round then Ok s else Err faults.Rounds
 with_round round (Err fault) = Err fault
 
--- the text is the page of that round of the match of two such warriors: it carries the events that draw the round as it stands after each turn
+-- the text is the page of that round of the match of these warriors: it carries the events that draw the round as it stands after each turn
+pub record IsRoundText (s : RawSettings) (older younger : WarriorParts) (round : ℕ) (text : List ℕ) : Type 0 where
+  pub replay : ReplayParts
+  pub plays : IsReplay s older younger (round - 1) MOST_TURNS replay
+  pub tells : text ≡ round_page older younger (round - 1) replay
+
+-- that of the match of two warriors that were read
 pub record IsWatched (s : RawSettings) (round : ℕ) (text : List ℕ) : Type 0 where
   pub older : WarriorParts
   pub younger : WarriorParts
   pub older_comes : IsWarriorOf s older
   pub younger_comes : IsWarriorOf s younger
-  pub replay : ReplayParts
-  pub plays : IsReplay s older younger (round - 1) MOST_TURNS replay
-  pub tells : text ≡ round_page older younger (round - 1) replay
+  pub shown : IsRoundText s older younger round text
 
 -- how `replay` ends under settings, by what the output and then the errors hold before and after: with the page of that round of a match and
 -- nothing told, or as where there is no match, or with a stream that failed, and then a part of the answer may have been written

@@ -2,8 +2,9 @@
 
 ghost use Rattle.std.specs.Prelude.{◌≡◌, ◌-◌, ◌<◌, true, None, IfOk};
 ghost use Rattle.war_types.specs.Settings.{settings_of};
+ghost use Rattle.war_types.specs.Warrior.{Fits};
 ghost use Rattle.koth_commands.specs.Pair.{ArePairOf};
-ghost use Rattle.koth_commands.specs.Replay.{has_round, EndsReplay, EndsReplayUnder, IsWatched};
+ghost use Rattle.koth_commands.specs.Replay.{has_round, EndsReplay, EndsReplayUnder, IsRoundText, IsWatched};
 ghost use Rattle.koth_commands.specs.Streams.{streams};
 
 use crate::answer::write_answer;
@@ -16,7 +17,7 @@ use mars_core::Arena;
 use std::alloc::{AllocError, Allocator};
 use std::io::Write;
 use std::rt::Files;
-use war_types::{RawSettings, Settings};
+use war_types::{RawSettings, Settings, Warrior};
 
 /// Turns of a round that its page has at most: more than a round has under the settings that nobody changed.
 pub(crate) const MOST_TURNS: u32 = 200_000;
@@ -53,7 +54,7 @@ pub fn replay<R: Files, A: Allocator + Copy, O: Write, E: Write>(
 }
 
 /// Whether a match has a round of this number, counted from 1.
-fn has_round(settings: &Settings, round: u32) -> bool
+pub fn has_round(settings: &Settings, round: u32) -> bool
     ensures { result ≡ has_round settings.now round }
 {
     1 <= round && round <= u32::from(settings.rounds())
@@ -90,18 +91,28 @@ fn page_of<A: Allocator + Copy>(
     requires round { has_round settings.now round ≡ true }
     ensures { IfOk result (λ page. IsWatched settings.now round page.items) }
 {
+    round_text(alloc, settings, &pair.older, &pair.younger, round)
+}
+
+/// The page of a round, counted from 1, of the match of two warriors. The error is want of memory.
+pub fn round_text<A: Allocator + Copy, B: Allocator, C: Allocator>(
+    alloc: A,
+    settings: &Settings,
+    older: &Warrior<B>,
+    younger: &Warrior<C>,
+    round: u32,
+) -> Result<Vec<u8, A>, AllocError>
+    requires older { Fits settings.now older.now }
+    requires younger { Fits settings.now younger.now }
+    requires round { has_round settings.now round ≡ true }
+    ensures { IfOk result (λ page. IsRoundText settings.now older.now younger.now round page.items) }
+{
     let place = place_of(settings, round);
     let mut arena = Arena::new(alloc, settings)?;
     let replay = koth_replay::replay(
-        alloc,
-        &mut arena,
-        &pair.older,
-        &pair.younger,
-        settings,
-        place,
-        MOST_TURNS,
+        alloc, &mut arena, older, younger, settings, place, MOST_TURNS,
     )?;
-    round_page(alloc, &pair.older, &pair.younger, place, &replay)
+    round_page(alloc, older, younger, place, &replay)
 }
 
 /// The same round, counted from 0.

@@ -8,5 +8,7 @@ pub mod Hills
 pub mod Audit
 pub mod Migration
 pub mod Page
+-- The pages that browsers ask for.
+pub mod Pages
 -- The number that a run leaves with.
 pub mod Run

@@ -5,6 +5,7 @@
 //!
 //! - `program`: `run`, which carries out what the words of the command line ask for, by `koth_words`, and ends with a status;
 //! - `create`, `submit`, `show`, `page`, `audit`, `migrate`, `serve`: a command on a hill each, and `log`: what is told of a service;
+//! - `pages`: the pages that browsers of a service ask for;
 //! - `files`: the hill in a file, opened, `old_hill`: how one of the old format is known, and `damage`: which warrior can't be read;
 //! - `hill_fault`, `reply_status`: what is told of a hill that can't be worked on, and how the program ends then, and with a
 //!   reply.
@@ -26,6 +27,7 @@ mod log;
 mod migrate;
 mod old_hill;
 mod page;
+mod pages;
 mod program;
 mod reply_status;
 mod serve;

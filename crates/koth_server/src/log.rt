@@ -41,6 +41,23 @@ impl<'r, R: Clock> Log<'r, R> {
         }
     }
 
+    /// Tells where browsers see the hill, if they do.
+    pub(crate) fn tell_pages<A: Allocator, E: Write>(
+        &self,
+        alloc: A,
+        address: Option<SocketAddr>,
+        errors: &mut E,
+    )
+        ensures { WritesSome (E.contents errors.old) (E.contents errors.new) }
+    {
+        let Some(address) = address else {
+            return;
+        };
+        if let Ok(line) = self.address_line(alloc, address) {
+            let _ = write_whole(errors, line.as_bytes());
+        }
+    }
+
     /// The line of what happened: the time by the clock, the peer, and the event.
     fn line<A: Allocator>(
         &self,
@@ -57,6 +74,14 @@ impl<'r, R: Clock> Log<'r, R> {
             }
             Event::Ended(how) => format!(in alloc; "{} {}: {}\n", time, peer, end_text(how)),
         }
+    }
+
+    fn address_line<A: Allocator>(
+        &self,
+        alloc: A,
+        address: SocketAddr,
+    ) -> Result<String<A>, AllocError> {
+        format!(in alloc; "{} pages at http://{}/\n", self.seconds(), address)
     }
 
     /// The time by the clock, in whole seconds; that of 1970 if the clock can't be read.

@@ -3,13 +3,16 @@
 ghost use Rattle.std.specs.Prelude.{◌≡◌, ◌≢◌, None, false, IfOk, MatchResult};
 ghost use Rattle.koth_server.specs.Hills.{listening_line, Announces, AnnouncesPart, EndsServe};
 ghost use Rattle.koth_commands.specs.Streams.{streams};
+ghost use Rattle.koth_server.specs.Pages.{IsShown};
 
 use crate::files::{HillStore, open_hill};
 use crate::hill_fault::HillFault;
 use crate::log::Log;
+use crate::pages::page_shown;
 use crate::trouble::HillTrouble;
 use hill_file::{HillFile, Sharing, TryLock};
 use koth_commands::{Cause, Status, Subject, reason_of, write_whole};
+use koth_http::{Page, Refusal};
 use koth_protocol::Line;
 use koth_service::{Event, Host, PolledSockets, ServiceFault, serve_peers};
 use koth_words::Service;
@@ -18,6 +21,9 @@ use std::io;
 use std::io::{ErrorKind, Write};
 use std::net::{Net, SocketAddr};
 use std::rt::{Clock, Files};
+
+/// Browsers that are served at once at most.
+const BROWSERS: usize = 16;
 
 /// The hill in a file, which is opened again where its device failed, and the log of its service.
 #[derive(Drop)]
@@ -36,11 +42,17 @@ where
 {
     type Fault = HillFault;
 
+    ghost shows = { λ _ store page text. IsShown store.hill page text };
+
     fn reopen(&self) -> Result<HillStore<'f, R, A>, HillFault> {
         match open_hill(self.rt, self.alloc, self.path, Sharing::Alone) {
             Ok(store) => Ok(store),
             Err(trouble) => Err(trouble.fault),
         }
+    }
+
+    fn page(&self, store: &HillStore<'f, R, A>, page: Page) -> Result<Vec<u8, A>, Refusal> {
+        page_shown(self.alloc, store, page)
     }
 
     fn tell<E: Write>(&self, peer: SocketAddr, event: Event<'_>, errors: &mut E) {
@@ -50,7 +62,7 @@ where
 
 /// Serves sessions on the hill in a file, of as many peers at once as are asked for, over connections to an address and a port, and ends after
 /// as many as are asked for, if a number is. The line `LISTENING port` tells that peers may connect, and to which port if the system
-/// chooses it. What happens is told on the errors, unless it is to be quiet.
+/// chooses it. What happens is told on the errors, unless it is to be quiet, and so is where browsers see the hill, if they are to.
 pub(crate) fn serve<'f, R, A, O, E>(
     rt: &'f R,
     alloc: A,
@@ -79,10 +91,12 @@ where
         Ok(begun) => begun,
         Err(trouble) => return trouble.tell(alloc, errors),
     };
+    host.log.tell_pages(alloc, sockets.pages_addr(), errors);
     let served = serve_peers(
         alloc,
         &mut sockets,
         service.peers as usize,
+        BROWSERS,
         service.connections,
         store,
         &host,
@@ -133,14 +147,34 @@ where
     ensures { MatchResult result (λ _. Announces (O.contents output.old) (O.contents output.new))
         (λ _. AnnouncesPart (O.contents output.old) (O.contents output.new)) }
 {
-    let address = SocketAddr::new(service.listen, service.port);
-    match PolledSockets::bind(rt, alloc, address, service.peers as usize) {
+    match bound(rt, alloc, service) {
         Ok(sockets) => match announce(sockets.local_addr(), service.port, output) {
             Ok(()) => Ok(sockets),
             Err(trouble) => Err(trouble),
         },
-        Err(error) => Err(port_failed(service.port, &error)),
+        Err(trouble) => Err(trouble),
     }
+}
+
+/// Sockets at the address that is asked for, and of browsers at the same address, if they are asked for.
+fn bound<'r, 't, R: Net + Clock, A: Allocator + Copy>(
+    rt: &'r R,
+    alloc: A,
+    service: Service<'_>,
+) -> Result<PolledSockets<'r, R, A>, HillTrouble<'t>> {
+    let address = SocketAddr::new(service.listen, service.port);
+    let mut sockets = match PolledSockets::bind(rt, alloc, address, service.peers as usize) {
+        Ok(sockets) => sockets,
+        Err(error) => return Err(port_failed(service.port, &error)),
+    };
+    if let Some(port) = service.http {
+        let port = u16::try_from(port).unwrap_or(0);
+        let address = SocketAddr::new(service.listen, port);
+        if let Err(error) = sockets.listen_to_browsers(rt, alloc, address, BROWSERS) {
+            return Err(port_failed(port, &error));
+        }
+    }
+    Ok(sockets)
 }
 
 /// Writes the line of sockets at this address.

@@ -6,3 +6,5 @@ pub mod History
 pub mod Standing
 -- What a host writes of what happens.
 pub mod Told
+-- What a browser is answered.
+pub mod Answering

@@ -1,9 +1,12 @@
 //! Who is told what happens, and opens the hill again.
 
-ghost use Rattle.std.specs.Prelude.{◌≡◌, false, IfOk};
+ghost use Rattle.std.specs.Prelude.{◌≡◌, ℕ, List, false, IfOk};
+ghost use Rattle.koth_http.specs.declared.target.Page.{Page};
+ghost use Rattle.hill_store.specs.Seen.{Seen};
 ghost use Rattle.koth_service.specs.Told.{Grows};
 
 use hill_store::Store;
+use koth_http::{Page, Refusal};
 use koth_peers::PeerEnd;
 use sector_disk::Device;
 use std::alloc::Allocator;
@@ -37,9 +40,16 @@ pub trait Host<D: Device, A: Allocator> {
     /// Why the hill can't be opened again.
     type Fault;
 
+    // Of a store the text of a page.
+    ghost shows: { Self → Seen D → Page → List ℕ → Type 0 };
+
     /// Opens the hill again, after its device failed and the store was closed.
     fn reopen(&self) -> Result<Store<D, A>, Self::Fault>
         ensures { IfOk result (λ store. store.reopen ≡ false) };
+
+    /// The text of a page of the store's hill, HTML in ASCII, or why there is none.
+    fn page(&self, store: &Store<D, A>, page: Page) -> Result<Vec<u8, A>, Refusal>
+        ensures { IfOk result (λ text. Self.shows self.now store.now page text.items) };
 
     /// Writes of what happened with the peer of this address, as much as is to be told.
     fn tell<E: Write>(&self, peer: SocketAddr, event: Event<'_>, errors: &mut E)

@@ -7,6 +7,7 @@
 //! - `host`: who is told what happens, and opens the hill again;
 //! - `times` and `seats`: how long a peer is waited for, and what is kept of each beside its session;
 //! - `desk`: the peers, the store and the seats; `arrivals`, `reading`, `serving`, `sending` and `parting` move one peer on it;
+//! - `answering` and `browsers`: what browsers are answered, by `koth_http`;
 //! - `service`: round after round of them, until as many sessions as are asked for have ended.
 //!
 //! The main clause: whatever the sockets say, there is a history (`IsHistory`) of what happened on them and of the commands that were carried
@@ -18,7 +19,9 @@
 //! what its session takes, and no round takes memory of its own.
 #![tactic(auto)]
 
+mod answering;
 mod arrivals;
+mod browsers;
 mod desk;
 mod host;
 mod line;
@@ -37,4 +40,4 @@ pub use koth_peers::PeerEnd;
 pub use polled::PolledSockets;
 pub use service::{ServiceFault, serve_peers};
 pub use sockets::{Arrival, Came, Drained, Sockets, Went};
-pub use times::{DRAIN, DRAINED_MOST, PATIENCE, RETRY};
+pub use times::{ANSWERING, ASKING, DRAIN, DRAINED_MOST, PATIENCE, RETRY};

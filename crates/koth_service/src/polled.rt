@@ -17,8 +17,11 @@ use std::time::{Duration, Instant};
 /// How many events a wait gives at most.
 const EVENTS: usize = 256;
 
-/// The token of the listener: those of the peers are their numbers.
+/// The token of the listener: those of the peers are their numbers, and those of browsers follow them.
 const LISTENER: Token = Token(usize::MAX);
+
+/// The token of the listener of browsers.
+const PAGES: Token = Token(usize::MAX - 1);
 
 /// A listener and the sockets of peers by their numbers, none of which waits.
 #[derive(Drop)]
@@ -32,6 +35,9 @@ pub struct PolledSockets<'r, R, A: Allocator> {
     can_accept: bool,
     accepted: Option<TcpStream>,
     lines: Vec<Option<Line>, A>,
+    pages: Option<TcpListener>,
+    can_admit: bool,
+    browsers: Vec<Option<Line>, A>,
 }
 
 impl<'r, R: Net + Clock, A: Allocator + Copy> PolledSockets<'r, R, A> {
@@ -58,7 +64,27 @@ impl<'r, R: Net + Clock, A: Allocator + Copy> PolledSockets<'r, R, A> {
             can_accept: true,
             accepted: None,
             lines: no_lines(alloc, most)?,
+            pages: None,
+            can_admit: true,
+            browsers: Vec::new(alloc),
         })
+    }
+
+    /// Listens for browsers too, at this address, with room for so many at once. It fails as `bind` does.
+    pub fn listen_to_browsers(
+        &mut self,
+        rt: &'r R,
+        alloc: A,
+        address: SocketAddr,
+        most: usize,
+    ) -> io::Result<()> {
+        let mut listener = TcpListener::bind(rt, address)?;
+        self.poll
+            .registry()
+            .register(&mut listener, PAGES, Interest::READABLE)?;
+        self.browsers = no_lines(alloc, most)?;
+        self.pages = Some(listener);
+        Ok(())
     }
 }
 
@@ -68,12 +94,25 @@ impl<'r, R, A: Allocator> PolledSockets<'r, R, A> {
         self.listener.local_addr()
     }
 
+    /// The address that browsers connect to, if they can.
+    pub fn pages_addr(&self) -> Option<SocketAddr> {
+        match &self.pages {
+            Some(listener) => listener.local_addr().ok(),
+            None => None,
+        }
+    }
+
     /// Takes note of what the last wait told.
     fn take_events(&mut self) {
         for event in self.events.iter() {
-            if event.token() == LISTENER {
+            let token = event.token();
+            if token == LISTENER {
                 self.can_accept = true;
-            } else if let Some(Some(line)) = self.lines.get_mut(event.token().0) {
+            } else if token == PAGES {
+                self.can_admit = true;
+            } else if let Some(Some(line)) = self.lines.get_mut(token.0) {
+                line.take_event(event);
+            } else if let Some(line) = browser_at(&mut self.browsers, self.lines.len(), token) {
                 line.take_event(event);
             }
         }
@@ -84,6 +123,22 @@ impl<'r, R, A: Allocator> PolledSockets<'r, R, A> {
             *place = line;
         }
     }
+
+    fn put_browser(&mut self, number: usize, line: Option<Line>) {
+        if let Some(place) = self.browsers.get_mut(number) {
+            *place = line;
+        }
+    }
+}
+
+/// The line of the browser with this token, behind those of so many peers.
+fn browser_at<A: Allocator>(
+    browsers: &mut Vec<Option<Line>, A>,
+    peers: usize,
+    token: Token,
+) -> Option<&mut Line> {
+    let number = token.0.checked_sub(peers)?;
+    browsers.get_mut(number)?.as_mut()
 }
 
 /// So many numbers, all of them free.
@@ -179,5 +234,53 @@ impl<'r, R: Clock, A: Allocator> Sockets for PolledSockets<'r, R, A> {
 
     fn close(&mut self, number: usize) {
         self.put(number, None);
+    }
+
+    fn admit_browser(&mut self, number: usize) -> Arrival {
+        let Some(listener) = &self.pages else {
+            return Arrival::Nobody;
+        };
+        if !self.can_admit {
+            return Arrival::Nobody;
+        }
+        match listener.accept() {
+            Ok((stream, address)) => {
+                let token = Token(self.lines.len().saturating_add(number));
+                let line = Line::new(stream, self.poll.registry(), token);
+                self.put_browser(number, line);
+                Arrival::Peer(address)
+            }
+            Err(error) => match error.kind() {
+                ErrorKind::WouldBlock => {
+                    self.can_admit = false;
+                    Arrival::Nobody
+                }
+                _ => Arrival::Failed,
+            },
+        }
+    }
+
+    fn read_browser(&mut self, number: usize, bytes: &mut [u8]) -> Came {
+        match self.browsers.get_mut(number) {
+            Some(Some(line)) => line.read(bytes),
+            _ => Came::Gone,
+        }
+    }
+
+    fn write_browser(&mut self, number: usize, bytes: &[u8]) -> Went {
+        match self.browsers.get_mut(number) {
+            Some(Some(line)) => line.write(bytes),
+            _ => Went::Gone,
+        }
+    }
+
+    fn shut_browser(&mut self, number: usize) {
+        if let Some(Some(line)) = self.browsers.get(number) {
+            line.shut();
+        }
+    }
+
+    fn close_browser(&mut self, number: usize) {
+        self.put_browser(number, None);
     }
 }

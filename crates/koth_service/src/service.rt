@@ -6,6 +6,7 @@ ghost use Rattle.koth_service.specs.Standing.{IsSoundAfter, KeepsOn, KeepsOnBy, 
 ghost use Rattle.koth_service.specs.Told.{Grows};
 
 use crate::arrivals::take_arrivals;
+use crate::browsers::{Browsers, serve_browsers};
 use crate::desk::Desk;
 use crate::host::Host;
 use crate::parting::part_all;
@@ -23,7 +24,7 @@ use std::io::Write;
 /// Why a service ended before its time.
 #[derive(Clone, Copy, Debug, PartialEq, Eq)]
 pub enum ServiceFault<F> {
-    /// There was no memory for the seats of the peers.
+    /// There was no memory for the seats of the peers, or for the connections of browsers.
     Memory,
     /// The device failed, and the hill can't be opened again.
     Reopening(F),
@@ -33,11 +34,13 @@ pub enum ServiceFault<F> {
 ///
 /// A peer that connects while as many are there as may be waits until one of them is let go. A peer is let go when its session has ended
 /// and its answers went out, or 60 seconds after the last byte came of it or went out to it, or as soon as its answers have no room. If the
-/// device fails in a submission, the store is closed, and the host opens the hill again.
+/// device fails in a submission, the store is closed, and the host opens the hill again. So many browsers may be at once, none of which is a peer:
+/// each is answered one request, with a page of the hill that stands then.
 pub fn serve_peers<S, D, A, H, E>(
     alloc: A,
     sockets: &mut S,
     most: usize,
+    browsers: usize,
     connections: Option<u32>,
     store: Store<D, A>,
     host: &H,
@@ -57,12 +60,16 @@ where
         Ok(desk) => desk,
         Err(AllocError) => return Err(ServiceFault::Memory),
     };
+    let mut browsers = match Browsers::new(alloc, browsers) {
+        Ok(browsers) => browsers,
+        Err(AllocError) => return Err(ServiceFault::Memory),
+    };
     for _round in 0..u64::MAX {
-        give_out(&mut desk, sockets, host, errors);
+        give_out(&mut desk, &mut browsers, sockets, host, errors);
         if desk.sessions.are_done() {
             return Ok(());
         }
-        let step = take_in(&mut desk, sockets, host, errors);
+        let step = take_in(&mut desk, &browsers, sockets, host, errors);
         desk = match sound(desk, step, host) {
             Ok(desk) => desk,
             Err(fault) => return Err(ServiceFault::Reopening(fault)),
@@ -71,8 +78,14 @@ where
     Ok(())
 }
 
-/// Sends answers, and lets peers go.
-fn give_out<S, D, A, H, E>(desk: &mut Desk<D, A>, sockets: &mut S, host: &H, errors: &mut E)
+/// Sends answers, and lets peers go; and serves browsers.
+fn give_out<S, D, A, H, E>(
+    desk: &mut Desk<D, A>,
+    browsers: &mut Browsers<A>,
+    sockets: &mut S,
+    host: &H,
+    errors: &mut E,
+)
 where
     S: Sockets,
     D: Device,
@@ -85,10 +98,18 @@ where
     let now = sockets.now();
     send_all(desk, sockets, host, errors, now);
     part_all(desk, sockets, host, errors, now);
+    let moved = serve_browsers(browsers, sockets, &desk.store, host, now);
+    desk.is_busy |= moved;
 }
 
 /// Waits for peers, takes what comes of them, and carries out one command at most.
-fn take_in<S, D, A, H, E>(desk: &mut Desk<D, A>, sockets: &mut S, host: &H, errors: &mut E) -> Step
+fn take_in<S, D, A, H, E>(
+    desk: &mut Desk<D, A>,
+    browsers: &Browsers<A>,
+    sockets: &mut S,
+    host: &H,
+    errors: &mut E,
+) -> Step
 where
     S: Sockets,
     D: Device,
@@ -98,15 +119,15 @@ where
     ensures served { KeepsOnBy S.happened D.facts result sockets.old desk.old sockets.new desk.new }
     ensures told { Grows (E.contents errors.old) (E.contents errors.new) }
 {
-    wait(desk, sockets);
+    wait(desk, browsers, sockets);
     let now = sockets.now();
     take_arrivals(desk, sockets, host, errors, now);
     read_all(desk, sockets, host, errors, now);
     serve_one(desk, sockets, host, errors)
 }
 
-/// Waits until something comes or may go, but not after a round in which it did, and no longer than a peer may be silent.
-fn wait<S, D, A>(desk: &mut Desk<D, A>, sockets: &mut S)
+/// Waits until something comes or may go, but not after a round in which it did, and no longer than a peer may be silent or a browser is waited for.
+fn wait<S, D, A>(desk: &mut Desk<D, A>, browsers: &Browsers<A>, sockets: &mut S)
 where
     S: Sockets,
     D: Device,
@@ -114,12 +135,13 @@ where
     ensures { KeepsOn S.happened D.facts sockets.old desk.old sockets.new desk.new }
 {
     let now = sockets.now();
+    let until = desk.seats.until(now).min(browsers.until(now));
     let most = if desk.is_busy {
         0
     } else if desk.retries {
-        desk.seats.until(now).min(RETRY)
+        until.min(RETRY)
     } else {
-        desk.seats.until(now)
+        until
     };
     desk.is_busy = false;
     desk.retries = false;

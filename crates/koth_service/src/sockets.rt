@@ -1,7 +1,7 @@
 //! What sockets may say.
 
 ghost use Rattle.std.specs.Prelude.{ℕ, List, ◌∷◌};
-ghost use Rattle.koth_service.specs.Noted.{Noted, Reads, Stays, Writes};
+ghost use Rattle.koth_service.specs.Noted.{CameWithin, Noted, Reads, Stays, WentWithin, Writes};
 
 use std::net::SocketAddr;
 
@@ -95,4 +95,28 @@ pub trait Sockets {
     /// Closes the socket of this number.
     fn close(&mut self, number: usize)
         ensures { (log : List Noted) → Self.happened self.old log → Self.happened self.new (Noted.Closed number ∷ log) };
+
+    // Of browsers nothing is kept: what happened is of peers alone.
+
+    /// Takes a connection of a browser that waits, and puts it under this number of the browsers'. Its address is told.
+    fn admit_browser(&mut self, number: usize) -> Arrival
+        ensures { Stays Self.happened self.old self.new };
+
+    /// Reads from the browser of this number.
+    fn read_browser(&mut self, number: usize, bytes: &mut [u8]) -> Came
+        ensures stays { Stays Self.happened self.old self.new }
+        ensures within { CameWithin result bytes.new };
+
+    /// Writes to the browser of this number.
+    fn write_browser(&mut self, number: usize, bytes: &[u8]) -> Went
+        ensures stays { Stays Self.happened self.old self.new }
+        ensures within { WentWithin result bytes.now };
+
+    /// Tells the browser of this number that no more will go out to it. What went out still reaches it.
+    fn shut_browser(&mut self, number: usize)
+        ensures { Stays Self.happened self.old self.new };
+
+    /// Closes the socket of the browser of this number.
+    fn close_browser(&mut self, number: usize)
+        ensures { Stays Self.happened self.old self.new };
 }

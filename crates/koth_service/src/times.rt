@@ -11,3 +11,9 @@ pub const DRAINED_MOST: usize = 65_536;
 
 /// After so long an accept that failed is tried again.
 pub const RETRY: u64 = 100;
+
+/// So long a browser may take until its request is there.
+pub const ASKING: u64 = 10_000;
+
+/// So long it may take until the answer went out to it.
+pub const ANSWERING: u64 = 60_000;

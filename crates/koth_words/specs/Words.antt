@@ -178,6 +178,7 @@ Asks entered (Serve service) = (entered.0 ≡ codes "serve")
     × (service.peers ≡ number_or 64 (one_of (codes "peers") entered.1))
     × IsAddress (first_of (codes "listen") entered.1) service.listen
     × (service.connections ≡ number_given 4294967296 (one_of (codes "connections") entered.1))
+    × (service.http ≡ number_given 4294967296 (one_of (codes "http") entered.1))
     × (service.quiet ≡ has_flag (codes "quiet") entered.1)
 Asks entered (Audit file) = (entered.0 ≡ codes "audit")
     × (file.now ≡ text_or_none (first_of (codes "FILE") entered.1))

@@ -136,6 +136,13 @@ fn serve_command<'a>(heap: Global) -> Result<Command<'a>, AllocError>
         "connections",
         "Connections to serve before the program ends, 0 to 4294967295 [default: no limit]",
     ))?
+    .arg(ranged(
+        heap,
+        "http",
+        0,
+        65535,
+        "Port for browsers, which see the hill there, 0 to 65535; at 0 the system chooses one",
+    ))?
     .arg(flag(heap, "quiet", "Write no line for each connection"))
 }
 

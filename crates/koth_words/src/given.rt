@@ -140,6 +140,7 @@ pub(crate) fn service_named<'w>(matches: &ArgMatches<'w>, listen: IpAddr) -> Ser
     ensures listen { IsAddress (first_of (codes "listen") (rows_of (found_of matches.now))) result.listen }
     ensures connections { result.connections
         ≡ number_given 4294967296 (one_of (codes "connections") (rows_of (found_of matches.now))) }
+    ensures http { result.http ≡ number_given 4294967296 (one_of (codes "http") (rows_of (found_of matches.now))) }
     ensures quiet { result.quiet ≡ has_flag (codes "quiet") (rows_of (found_of matches.now)) }
 {
     Service {
@@ -148,6 +149,7 @@ pub(crate) fn service_named<'w>(matches: &ArgMatches<'w>, listen: IpAddr) -> Ser
         peers: number_given(matches, "peers", PEERS),
         listen,
         connections: number_if_given(matches, "connections"),
+        http: number_if_given(matches, "http"),
         quiet: flag_given(matches, "quiet"),
     }
 }

@@ -129,6 +129,8 @@ pub struct Service<'w> {
     pub listen: IpAddr,
     /// Connections that are served before the service ends; without a number it goes on.
     pub connections: Option<u32>,
+    /// The port for browsers, 0 to 65,535; with 0 the system finds one, and without a number there is none.
+    pub http: Option<u32>,
     /// Whether no line is written for a connection.
     pub quiet: bool,
 }

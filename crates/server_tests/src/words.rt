@@ -24,7 +24,7 @@ fn check_fault(
 }
 
 /// Words with a fault, and a part of what is told of it.
-const FAULTS: [(&str, &str); 38] = [
+const FAULTS: [(&str, &str); 39] = [
     ("koth", "requires a subcommand"),
     ("koth fly", "unrecognized subcommand 'fly'"),
     ("koth ASM", "unrecognized subcommand 'ASM'"),
@@ -71,6 +71,10 @@ const FAULTS: [(&str, &str); 38] = [
     ),
     ("koth serve f --port 0 --peers x", "invalid value 'x'"),
     (
+        "koth serve f --port 0 --http 65536",
+        "65536 is not in 0..=65535",
+    ),
+    (
         "koth serve f --port 0 --listen here",
         "'--listen <ADDRESS>' takes an IPv4 or IPv6 address",
     ),
@@ -112,7 +116,7 @@ fn check_help(
 }
 
 /// Words that ask for help, and a part of it.
-const HELPS: [(&str, &str); 22] = [
+const HELPS: [(&str, &str); 23] = [
     ("koth --help", "Usage: koth <COMMAND>"),
     ("koth -h", "Usage: koth <COMMAND>"),
     ("koth help", "Usage: koth <COMMAND>"),
@@ -132,6 +136,7 @@ const HELPS: [(&str, &str); 22] = [
     ("koth serve --help", "1 to 1024"),
     ("koth serve -h", "--listen <ADDRESS>"),
     ("koth help serve", "--peers <NUMBER>"),
+    ("koth help serve", "--http <NUMBER>"),
     ("koth replay --help", "Usage: koth replay [OPTIONS] <A> <B>"),
     ("koth replay -h", "--round <NUMBER>"),
     ("koth replay --help", "1 to 1000000 [default: 80000]"),

@@ -1,8 +1,8 @@
 //! Sockets of no system: what peers do is written down beforehand, and what is done to them is kept.
 
 ghost use Rattle.std.specs.Prelude.{⊤};
-ghost use Rattle.koth_service.specs.Noted.{CameWithin, WentWithin};
 
+use crate::callers::Caller;
 use koth_service::{Arrival, Came, Drained, Sockets, Went};
 use std::alloc::Global;
 use std::net::{Ipv4Addr, SocketAddr};
@@ -19,6 +19,8 @@ pub(crate) struct Cue {
 pub(crate) enum Deed {
     /// It connects.
     Calls(u16),
+    /// It connects as a browser.
+    Visits(u16),
     /// Bytes of it come.
     Says(u16, &'static str),
     /// It says the same so many times.
@@ -33,79 +35,6 @@ pub(crate) enum Deed {
     Takes(u16, usize),
     /// The next accept fails.
     Fails,
-}
-
-/// A peer, from its call on.
-#[derive(Drop)]
-pub(crate) struct Caller {
-    pub(crate) port: u16,
-    number: Option<usize>,
-    waits: bool,
-    coming: Vec<u8>,
-    /// How many of these bytes were read, and how many a read takes at most.
-    read: usize,
-    piece: usize,
-    has_ended: bool,
-    is_gone: bool,
-    /// How many bytes it takes still.
-    takes: usize,
-    /// What went out to it.
-    pub(crate) heard: Vec<u8>,
-    /// When its socket was shut and closed.
-    pub(crate) shut: Option<u64>,
-    pub(crate) closed: Option<u64>,
-    pub(crate) thrown: usize,
-}
-
-impl Caller {
-    fn give(&mut self, bytes: &mut [u8]) -> Came
-        ensures { CameWithin result bytes.new }
-    {
-        if self.is_gone {
-            return Came::Gone;
-        }
-        let Some(coming) = self.coming.get(self.read..) else {
-            return Came::Gone;
-        };
-        let count = coming.len().min(self.piece).min(bytes.len());
-        if count > 0 {
-            bytes[..count].copy_from_slice(&coming[..count]);
-            self.read = self.read.saturating_add(count);
-            return Came::Bytes(count);
-        }
-        if self.has_ended {
-            Came::End
-        } else {
-            Came::Nothing
-        }
-    }
-
-    fn hear(&mut self, bytes: &[u8]) -> Went
-        ensures { WentWithin result bytes.now }
-    {
-        if self.is_gone {
-            return Went::Gone;
-        }
-        let count = self.takes.min(bytes.len());
-        if count == 0 {
-            return Went::Nothing;
-        }
-        self.takes = self.takes.saturating_sub(count);
-        let _ = self.heard.extend_from_slice(&bytes[..count]);
-        Went::Bytes(count)
-    }
-
-    fn waste(&mut self) -> Drained {
-        let mut chunk = [0; 4096];
-        match self.give(&mut chunk) {
-            Came::Bytes(count) => {
-                self.thrown = self.thrown.saturating_add(count);
-                Drained::Bytes(count)
-            }
-            Came::Nothing => Drained::Nothing,
-            Came::End | Came::Gone => Drained::End,
-        }
-    }
 }
 
 /// Sockets on which these cues happen.
@@ -148,8 +77,13 @@ impl<'c> Fakes<'c> {
     }
 
     fn seated(&mut self, number: usize) -> Option<&mut Caller> {
+        self.seated_as(false, number)
+    }
+
+    fn seated_as(&mut self, is_browser: bool, number: usize) -> Option<&mut Caller> {
         for caller in &mut self.callers {
-            if caller.number == Some(number) && caller.closed.is_none() {
+            let is_kind = caller.is_browser == is_browser;
+            if is_kind && caller.number == Some(number) && caller.closed.is_none() {
                 return Some(caller);
             }
         }
@@ -172,7 +106,8 @@ impl<'c> Fakes<'c> {
 
     fn act(&mut self, deed: Deed) {
         match deed {
-            Deed::Calls(port) => self.call(port),
+            Deed::Calls(port) => self.call(port, false),
+            Deed::Visits(port) => self.call(port, true),
             Deed::Says(port, text) => self.say(port, text, 1),
             Deed::Repeats(port, text, times) => self.say(port, text, times),
             Deed::Trickles(port, count) => {
@@ -210,22 +145,15 @@ impl<'c> Fakes<'c> {
         }
     }
 
-    fn call(&mut self, port: u16) {
-        let _ = self.callers.push(Caller {
-            port,
-            number: None,
-            waits: true,
-            coming: Vec::new(self.alloc),
-            read: 0,
-            piece: 4096,
-            has_ended: false,
-            is_gone: false,
-            takes: 0,
-            heard: Vec::new(self.alloc),
-            shut: None,
-            closed: None,
-            thrown: 0,
-        });
+    fn call(&mut self, port: u16, is_browser: bool) {
+        let _ = self.callers.push(Caller::new(self.alloc, port, is_browser));
+    }
+
+    /// The place of the first one that waits, among peers or among browsers.
+    fn waiting(&self, is_browser: bool) -> Option<usize> {
+        self.callers
+            .iter()
+            .position(|caller| caller.waits && caller.is_browser == is_browser)
     }
 
     fn say(&mut self, port: u16, text: &'static str, times: u32) {
@@ -260,7 +188,7 @@ impl Sockets for Fakes<'_> {
             self.fails = self.fails.saturating_sub(1);
             return Arrival::Failed;
         }
-        match self.callers.iter().position(|caller| caller.waits) {
+        match self.waiting(false) {
             Some(place) => self.take_call(place),
             None => Arrival::Nobody,
         }
@@ -310,6 +238,44 @@ impl Sockets for Fakes<'_> {
     fn close(&mut self, number: usize) {
         let time = self.time;
         if let Some(caller) = self.seated(number) {
+            caller.closed = Some(time);
+        }
+    }
+
+    fn admit_browser(&mut self, number: usize) -> Arrival {
+        let Some(place) = self.waiting(true) else {
+            return Arrival::Nobody;
+        };
+        if let Some(caller) = self.callers.get_mut(place) {
+            caller.number = Some(number);
+        }
+        self.take_call(place)
+    }
+
+    fn read_browser(&mut self, number: usize, bytes: &mut [u8]) -> Came {
+        match self.seated_as(true, number) {
+            Some(caller) => caller.give(bytes),
+            None => Came::Gone,
+        }
+    }
+
+    fn write_browser(&mut self, number: usize, bytes: &[u8]) -> Went {
+        match self.seated_as(true, number) {
+            Some(caller) => caller.hear(bytes),
+            None => Went::Gone,
+        }
+    }
+
+    fn shut_browser(&mut self, number: usize) {
+        let time = self.time;
+        if let Some(caller) = self.seated_as(true, number) {
+            caller.shut = Some(time);
+        }
+    }
+
+    fn close_browser(&mut self, number: usize) {
+        let time = self.time;
+        if let Some(caller) = self.seated_as(true, number) {
             caller.closed = Some(time);
         }
     }

@@ -1,8 +1,9 @@
 //! A host that writes what it is told, and hills in memory.
 
-ghost use Rattle.std.specs.Prelude.{◌≡◌, false, IfOk, IfSome};
+ghost use Rattle.std.specs.Prelude.{◌≡◌, ⊤, false, IfOk, IfSome};
 
 use hill_store::Store;
+use koth_http::{Page, Refusal};
 use koth_service::{Event, Host};
 use sector_disk::{FuseDevice, FuseKind, MemoryDevice};
 use std::alloc::{AllocError, Global};
@@ -67,6 +68,8 @@ pub(crate) struct Shut;
 impl Host<Fuse, Global> for Clerk {
     type Fault = Shut;
 
+    ghost shows = { λ _ _ _ _. ⊤ };
+
     fn reopen(&self) -> Result<Store<Fuse, Global>, Shut>
         ensures { IfOk result (λ store. store.reopen ≡ false) }
     {
@@ -78,10 +81,25 @@ impl Host<Fuse, Global> for Clerk {
         hill(self.alloc, u64::MAX).ok_or(Shut)
     }
 
+    /// The page of the hill tells how many are on it. No round has one.
+    fn page(&self, store: &Store<Fuse, Global>, page: Page) -> Result<Vec<u8>, Refusal> {
+        match page {
+            Page::Hill => counted(self.alloc, store.hill().len()),
+            Page::Round { .. } => Err(Refusal::NotFound),
+        }
+    }
+
     fn tell<E: Write>(&self, peer: SocketAddr, event: Event<'_>, errors: &mut E) {
         if let Ok(line) = line_of(self.alloc, peer, event) {
             let _ = errors.write(line.as_bytes());
         }
+    }
+}
+
+fn counted(alloc: Global, warriors: usize) -> Result<Vec<u8>, Refusal> {
+    match format!(in alloc; "{} here\n", warriors) {
+        Ok(text) => Ok(text.into_bytes()),
+        Err(_) => Err(Refusal::Unavailable),
     }
 }
 

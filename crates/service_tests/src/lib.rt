@@ -5,6 +5,10 @@
 #![tactic(auto)]
 
 #[cfg(test)]
+mod browsers;
+#[cfg(test)]
+mod callers;
+#[cfg(test)]
 mod fakes;
 #[cfg(test)]
 mod hosts;

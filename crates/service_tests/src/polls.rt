@@ -47,6 +47,7 @@ fn over_sockets(rt: HostRuntime) -> Result<(), Fail> {
         rt.alloc(),
         &mut sockets,
         3,
+        1,
         Some(3),
         store,
         &host,
@@ -60,4 +61,39 @@ fn over_sockets(rt: HostRuntime) -> Result<(), Fail> {
     )?;
     expect(&rt, second, "BAD\n")?;
     expect(&rt, third, "")
+}
+
+/// A browser is answered over sockets of the system while a peer is there, and its connection is closed.
+#[test]
+fn a_browser_over_sockets(rt: HostRuntime) -> Result<(), Fail> {
+    let here = SocketAddr::from((Ipv4Addr::LOCALHOST, 0));
+    let mut sockets = PolledSockets::bind(&rt, rt.alloc(), here, 1)?;
+    sockets.listen_to_browsers(&rt, rt.alloc(), here, 1)?;
+    let Some(pages) = sockets.pages_addr() else {
+        return Err("browsers have an address".into());
+    };
+    let browser = send(&rt, pages, b"GET / HTTP/1.0\r\n\r\n")?;
+    browser.shutdown(Shutdown::Write)?;
+    let peer = send(&rt, sockets.local_addr()?, b"BOGUS\n")?;
+    peer.shutdown(Shutdown::Write)?;
+    let Some(store) = hill(rt.alloc(), u64::MAX) else {
+        return Err("a hill is created".into());
+    };
+    let host = Clerk::new(rt.alloc(), 0);
+    let mut told = Vec::new(rt.alloc());
+    let served = serve_peers(
+        rt.alloc(),
+        &mut sockets,
+        1,
+        1,
+        Some(1),
+        store,
+        &host,
+        &mut told,
+    );
+    assert!(rt; served.is_ok());
+    expect(&rt, peer, "BAD\n")?;
+    let text = io::read_to_string(rt.alloc(), browser)?;
+    assert!(rt; text.as_str().ends_with("\r\n\r\n0 here\n"));
+    Ok(())
 }

@@ -7,20 +7,20 @@ use std::process::Abort;
 use std::test::Fail;
 
 /// All bytes of answers that a peer may be sent.
-const ALL: usize = 16_777_216;
+pub(crate) const ALL: usize = 16_777_216;
 
 /// What came of a service.
 #[derive(Drop)]
-struct Served<'c> {
-    sockets: Fakes<'c>,
-    fault: Option<ServiceFault<Shut>>,
+pub(crate) struct Served<'c> {
+    pub(crate) sockets: Fakes<'c>,
+    pub(crate) fault: Option<ServiceFault<Shut>>,
     /// What the host wrote.
     told: Vec<u8>,
 }
 
-/// Serves these peers, two of them at once, until as many sessions have ended. The device fails once, after so many calls, and the hill may be
+/// Serves these peers and browsers, two of each at once, until as many sessions have ended. The device fails once, after so many calls, and the hill may be
 /// opened again so often.
-fn serve<'c>(
+pub(crate) fn serve<'c>(
     rt: &(impl Abort + AllocGlobal),
     cues: &'c [Cue],
     connections: u32,
@@ -37,6 +37,7 @@ fn serve<'c>(
         rt.alloc(),
         &mut sockets,
         2,
+        2,
         Some(connections),
         store,
         &host,
@@ -49,12 +50,12 @@ fn serve<'c>(
     })
 }
 
-fn cue(at: u64, deed: Deed) -> Cue {
+pub(crate) fn cue(at: u64, deed: Deed) -> Cue {
     Cue { at, deed }
 }
 
 /// A peer heard these answers.
-fn heard(rt: &impl Abort, sockets: &Fakes<'_>, port: u16, answers: &str) {
+pub(crate) fn heard(rt: &impl Abort, sockets: &Fakes<'_>, port: u16, answers: &str) {
     let Some(caller) = sockets.caller(port) else {
         panic!(rt; "it called");
     };
@@ -90,7 +91,7 @@ fn two_at_once(rt: HostRuntime) -> Result<(), Fail> {
 }
 
 /// A peer's socket was closed at this time, and so it was told of it.
-fn closed(rt: &impl Abort, sockets: &Fakes<'_>, port: u16, time: Option<u64>) {
+pub(crate) fn closed(rt: &impl Abort, sockets: &Fakes<'_>, port: u16, time: Option<u64>) {
     let Some(caller) = sockets.caller(port) else {
         panic!(rt; "it called");
     };

@@ -1,6 +1,13 @@
--- What is told of the one stands behind what is told of the other.
+-- What is told of the one stands behind what is told of the other, and browsers change nothing of peers.
+use Rattle.koth_service.proofs.Steps.{stays}
 use Rattle.koth_service.proofs.Told.{grows_on}
 use Rattle.koth_service.proofs.service.give_out.Goals as goal
 
 pub returns-clause-told : goal.returns-clause-told
 returns-clause-told g c = grows_on _ _ _ c.send_all.ensures.told c.part_all.ensures.told
+
+pub returns-clause-served : goal.returns-clause-served
+returns-clause-served g c = λ start on.
+    stays g.S.Sockets.happened g.D.Device.facts start c.part_all.new.sockets c.serve_browsers-moved.new.sockets c.part_all.new.desk.peers.slots.items c.part_all.new.desk.store c.serve_browsers-moved.ensures
+    (c.part_all.ensures.served start (c.send_all.ensures.served start (
+    stays g.S.Sockets.happened g.D.Device.facts start c.args.sockets.now c.now-now.new.self c.args.desk.now.peers.slots.items c.args.desk.now.store c.now-now.ensures on)))

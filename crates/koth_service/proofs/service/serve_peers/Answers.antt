@@ -25,3 +25,6 @@ loop-round-preserved g c = (
   λ none. sound_after g.S.Sockets.happened g.D.Device.facts _ _ _ _ _ c.in-Ok-sound.ensures (c.take_in-step.ensures.served _ (c.give_out.ensures.served _ (c.loop-round.invariant.0 none))),
   grows_on _ _ _ c.loop-round.invariant.1 (grows_on _ _ _ c.give_out.ensures.told c.take_in-step.ensures.told),
 )
+
+pub returns-clause-served : goal.returns-clause-served
+returns-clause-served g c = λ none. so_far_on g.S.Sockets.happened g.D.Device.facts _ _ _ _ (c.loop-round.invariant.0 none)

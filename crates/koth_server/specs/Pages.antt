@@ -1,0 +1,31 @@
+-- The pages that browsers ask for.
+use Rattle.std.specs.Prelude.{◌≡◌, ℕ, ◌<◌, true, List, Some, slice_get}
+use Rattle.war_types.specs.Warrior.{WarriorParts}
+use Rattle.koth_hill.specs.Hill.{Member, member_of}
+use Rattle.koth_hill.specs.Kept.{Kept}
+use Rattle.koth_page.specs.declared.links.Links.TheVariants as links
+use Rattle.koth_page.specs.Page.{hill_page}
+use Rattle.koth_http.specs.declared.target.Page.{Page}
+use Rattle.koth_http.specs.declared.target.Page.TheVariants as pages
+use Rattle.koth_commands.specs.Replay.{has_round, IsRoundText}
+
+-- this warrior entered as this one, and is among those on the hill
+pub record HasWarrior (members : List Member) (entry : ℕ) (warrior : WarriorParts) : Type 0 where
+  pub place : ℕ
+  pub age : ℕ
+  pub stands : slice_get members place ≡ Some (member_of entry age warrior)
+
+-- the text is the page of a round, counted from 1, of the match of the warriors with these entries on a hill, the older one first
+pub record IsRoundOf (hill : Kept) (older younger round : ℕ) (text : List ℕ) : Type 0 where
+  pub rising : older < younger
+  pub counted : has_round hill.settings round ≡ true
+  pub first : WarriorParts
+  pub second : WarriorParts
+  pub first_stands : HasWarrior hill.members older first
+  pub second_stands : HasWarrior hill.members younger second
+  pub shown : IsRoundText hill.settings first second round text
+
+-- the text of a page of a hill, whose matches link to their first rounds
+abbrev pub IsShown : Kept → Page → List ℕ → Type 0
+IsShown hill pages.Hill text = text ≡ hill_page hill links.Rounds
+IsShown hill (pages.Round older younger round) text = IsRoundOf hill older younger round text

@@ -1,0 +1,366 @@
+//! The connections of browsers: what each asks, and the answer to it.
+
+ghost use Rattle.koth_service.specs.Noted.{Stays};
+
+use crate::answering::answer;
+use crate::host::Host;
+use crate::sockets::{Arrival, Came, Sockets, Went};
+use crate::times::{ANSWERING, ASKING, DRAIN};
+use hill_store::Store;
+use koth_http::Visit;
+use sector_disk::Device;
+use std::alloc::{AllocError, Allocator};
+
+/// Bytes that one read takes at most.
+const CHUNK: usize = 4096;
+
+/// A connection of a browser.
+#[derive(Drop)]
+struct Connection<A: Allocator> {
+    stage: Stage<A>,
+    /// When it came to this stage, in milliseconds.
+    since: u64,
+}
+
+/// How far a connection has come.
+#[derive(Drop)]
+enum Stage<A: Allocator> {
+    /// Its request comes.
+    Asking(Visit<A>),
+    /// So many bytes of the answer went out.
+    Answering(Vec<u8, A>, usize),
+    /// The answer went out whole, and what still comes is thrown away.
+    Parting,
+}
+
+/// What became of a connection.
+#[derive(Drop)]
+enum Moved<A: Allocator> {
+    /// It came to its next stage.
+    Next(Stage<A>),
+    /// It is at the same stage, and something came or went.
+    On(Stage<A>),
+    /// Nothing did.
+    Still(Stage<A>),
+    /// It is at its end.
+    Over,
+}
+
+/// Connections of browsers by their numbers.
+#[derive(Drop)]
+pub(crate) struct Browsers<A: Allocator> {
+    alloc: A,
+    connections: Vec<Option<Connection<A>>, A>,
+    /// The number behind the one that was answered last.
+    turn: usize,
+}
+
+impl<A: Allocator + Copy> Browsers<A> {
+    /// No connections, of which so many may be at once. `AllocError` comes if the growth of memory is refused.
+    pub(crate) fn new(alloc: A, most: usize) -> Result<Browsers<A>, AllocError> {
+        let mut connections = Vec::with_capacity(alloc, most)?;
+        for _number in 0..most {
+            connections.push(None)?;
+        }
+        Ok(Browsers {
+            alloc,
+            connections,
+            turn: 0,
+        })
+    }
+}
+
+impl<A: Allocator> Browsers<A> {
+    fn len(&self) -> usize {
+        self.connections.len()
+    }
+
+    /// The number that is so many places behind the turn.
+    fn number(&self, place: usize) -> usize {
+        let number = self.turn.saturating_add(place);
+        if number < self.len() {
+            number
+        } else {
+            number.saturating_sub(self.len())
+        }
+    }
+
+    /// The turn is the next number's.
+    fn pass_turn(&mut self) {
+        self.turn = self.number(1);
+    }
+
+    /// Whether the request of this number is still to come, or to be answered.
+    fn is_asking(&self, number: usize) -> bool {
+        match self.connections.get(number) {
+            Some(Some(connection)) => matches!(connection.stage, Stage::Asking(_)),
+            _ => false,
+        }
+    }
+
+    /// Takes a connection away from its number.
+    fn take(&mut self, number: usize) -> Option<Connection<A>> {
+        match self.connections.get_mut(number) {
+            Some(place) => place.take(),
+            None => None,
+        }
+    }
+
+    fn put(&mut self, number: usize, connection: Option<Connection<A>>) {
+        if let Some(place) = self.connections.get_mut(number) {
+            *place = connection;
+        }
+    }
+
+    /// The first number that no connection has.
+    fn free(&self) -> Option<usize> {
+        for (number, connection) in self.connections.iter().enumerate() {
+            if connection.is_none() {
+                return Some(number);
+            }
+        }
+        None
+    }
+
+    /// Milliseconds until the first of them will have been waited for as long as it may be.
+    pub(crate) fn until(&self, now: u64) -> u64 {
+        let mut least = ANSWERING;
+        for connection in &self.connections {
+            if let Some(connection) = connection {
+                let passed = now.saturating_sub(connection.since);
+                least = least.min(connection.stage.patience().saturating_sub(passed));
+            }
+        }
+        least
+    }
+}
+
+impl<A: Allocator> Stage<A> {
+    /// Milliseconds that it may last.
+    fn patience(&self) -> u64 {
+        match self {
+            Stage::Asking(_) => ASKING,
+            Stage::Answering(_, _) => ANSWERING,
+            Stage::Parting => DRAIN,
+        }
+    }
+}
+
+/// Takes a connection of a browser that waits, moves each one on, and tells whether anything came or went. One request is answered at most: the
+/// others wait for their turn, since a page takes time in which no peer is served.
+pub(crate) fn serve_browsers<S, D, A, H>(
+    browsers: &mut Browsers<A>,
+    sockets: &mut S,
+    store: &Store<D, A>,
+    host: &H,
+    now: u64,
+) -> bool
+where
+    S: Sockets,
+    D: Device,
+    A: Allocator + Copy,
+    H: Host<D, A>,
+    ensures { Stays S.happened sockets.old sockets.new }
+{
+    let mut moved = admit(browsers, sockets, now);
+    let mut has_answered = false;
+    for place in 0..browsers.len() {
+        let number = browsers.number(place);
+        let asks = browsers.is_asking(number);
+        if !(asks && has_answered) {
+            moved |= move_on(browsers, sockets, store, host, number, now);
+            has_answered |= asks && !browsers.is_asking(number);
+        }
+    }
+    if has_answered {
+        browsers.pass_turn();
+    }
+    moved
+}
+
+/// Takes one connection that waits, if a number is free.
+fn admit<S, A>(browsers: &mut Browsers<A>, sockets: &mut S, now: u64) -> bool
+where
+    S: Sockets,
+    A: Allocator + Copy,
+    ensures { Stays S.happened sockets.old sockets.new }
+{
+    let Some(number) = browsers.free() else {
+        return false;
+    };
+    match sockets.admit_browser(number) {
+        Arrival::Peer(_) => {
+            match Visit::new(browsers.alloc) {
+                Ok(visit) => browsers.put(
+                    number,
+                    Some(Connection {
+                        stage: Stage::Asking(visit),
+                        since: now,
+                    }),
+                ),
+                Err(AllocError) => sockets.close_browser(number),
+            }
+            true
+        }
+        Arrival::Nobody | Arrival::Failed => false,
+    }
+}
+
+/// Moves the connection of this number on, if there is one, and tells whether anything came or went.
+fn move_on<S, D, A, H>(
+    browsers: &mut Browsers<A>,
+    sockets: &mut S,
+    store: &Store<D, A>,
+    host: &H,
+    number: usize,
+    now: u64,
+) -> bool
+where
+    S: Sockets,
+    D: Device,
+    A: Allocator + Copy,
+    H: Host<D, A>,
+    ensures { Stays S.happened sockets.old sockets.new }
+{
+    let Some(connection) = browsers.take(number) else {
+        return false;
+    };
+    let Connection { stage, since } = connection;
+    match after_stage(browsers.alloc, sockets, store, host, number, stage) {
+        Moved::Next(stage) => {
+            browsers.put(number, Some(Connection { stage, since: now }));
+            true
+        }
+        Moved::On(stage) => {
+            stay(browsers, sockets, number, Connection { stage, since }, now);
+            true
+        }
+        Moved::Still(stage) => stay(browsers, sockets, number, Connection { stage, since }, now),
+        Moved::Over => {
+            sockets.close_browser(number);
+            true
+        }
+    }
+}
+
+/// Keeps a connection at its stage, unless it has been there for too long: then it is closed, and its number is free.
+fn stay<S, A>(
+    browsers: &mut Browsers<A>,
+    sockets: &mut S,
+    number: usize,
+    connection: Connection<A>,
+    now: u64,
+) -> bool
+where
+    S: Sockets,
+    A: Allocator,
+    ensures { Stays S.happened sockets.old sockets.new }
+{
+    let passed = now.saturating_sub(connection.since);
+    if passed < connection.stage.patience() {
+        browsers.put(number, Some(connection));
+        return false;
+    }
+    sockets.close_browser(number);
+    true
+}
+
+/// What becomes of a connection at this stage.
+fn after_stage<S, D, A, H>(
+    alloc: A,
+    sockets: &mut S,
+    store: &Store<D, A>,
+    host: &H,
+    number: usize,
+    stage: Stage<A>,
+) -> Moved<A>
+where
+    S: Sockets,
+    D: Device,
+    A: Allocator + Copy,
+    H: Host<D, A>,
+    ensures { Stays S.happened sockets.old sockets.new }
+{
+    match stage {
+        Stage::Asking(visit) => read(alloc, sockets, store, host, number, visit),
+        Stage::Answering(answer, sent) => write(sockets, number, answer, sent),
+        Stage::Parting => drain(sockets, number),
+    }
+}
+
+/// Reads what comes of a request, and answers it once it is there.
+fn read<S, D, A, H>(
+    alloc: A,
+    sockets: &mut S,
+    store: &Store<D, A>,
+    host: &H,
+    number: usize,
+    visit: Visit<A>,
+) -> Moved<A>
+where
+    S: Sockets,
+    D: Device,
+    A: Allocator + Copy,
+    H: Host<D, A>,
+    ensures { Stays S.happened sockets.old sockets.new }
+{
+    let mut visit = visit;
+    let mut chunk = [0; CHUNK];
+    let bytes = &mut chunk[..visit.room().min(CHUNK)];
+    match sockets.read_browser(number, bytes) {
+        Came::Bytes(count) => {
+            visit.take(&bytes[..count]);
+            answered(alloc, store, host, visit)
+        }
+        Came::Nothing => Moved::Still(Stage::Asking(visit)),
+        Came::End | Came::Gone => Moved::Over,
+    }
+}
+
+/// The answer to what was asked, once that is known.
+fn answered<D, A, H>(alloc: A, store: &Store<D, A>, host: &H, visit: Visit<A>) -> Moved<A>
+where
+    D: Device,
+    A: Allocator + Copy,
+    H: Host<D, A>,
+{
+    match visit.asked() {
+        Some(asked) => match answer(alloc, store, host, asked) {
+            Ok(answer) => Moved::Next(Stage::Answering(answer, 0)),
+            Err(AllocError) => Moved::Over,
+        },
+        None => Moved::On(Stage::Asking(visit)),
+    }
+}
+
+/// Sends what the browser takes of an answer, of which so many bytes went out.
+fn write<S: Sockets, A: Allocator>(
+    sockets: &mut S,
+    number: usize,
+    answer: Vec<u8, A>,
+    sent: usize,
+) -> Moved<A>
+    ensures { Stays S.happened sockets.old sockets.new }
+{
+    let rest = answer.get(sent..).unwrap_or(&[]);
+    if rest.is_empty() {
+        sockets.shut_browser(number);
+        return Moved::Next(Stage::Parting);
+    }
+    match sockets.write_browser(number, rest) {
+        Went::Bytes(count) => Moved::On(Stage::Answering(answer, sent.saturating_add(count))),
+        Went::Nothing => Moved::Still(Stage::Answering(answer, sent)),
+        Went::Gone => Moved::Over,
+    }
+}
+
+/// Throws away what still comes.
+fn drain<S: Sockets, A: Allocator>(sockets: &mut S, number: usize) -> Moved<A>
+    ensures { Stays S.happened sockets.old sockets.new }
+{
+    let mut chunk = [0; CHUNK];
+    match sockets.read_browser(number, &mut chunk) {
+        Came::Bytes(_) | Came::Nothing => Moved::Still(Stage::Parting),
+        Came::End | Came::Gone => Moved::Over,
+    }
+}
