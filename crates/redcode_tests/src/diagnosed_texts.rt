@@ -3,6 +3,7 @@
 use crate::sources::{defaults, repeated};
 use redcode_diagnosis::{diagnose, json_of, text_of};
 use std::alloc::Global;
+use std::process::Abort;
 use std::test::Fail;
 
 /// The refusals of a source as text.
@@ -50,11 +51,17 @@ const TEXTS: [(&[u8], &[u8]); 7] = [
     ),
 ];
 
+/// The refusals of a source have this text.
+fn check_text(rt: &(impl Abort + AllocGlobal), source: &[u8], want: &[u8]) -> Result<(), Fail> {
+    let found = texts(rt.alloc(), source)?;
+    assert_eq!(rt; found.as_slice(), want, "{source:?}");
+    Ok(())
+}
+
 #[test]
 fn texts_of_refusals(rt: HostRuntime) -> Result<(), Fail> {
-    for (source, want) in TEXTS {
-        let found = texts(rt.alloc(), source)?;
-        assert_eq!(rt; found.as_slice(), want, "{source:?}");
+    for (source, want) in &TEXTS {
+        check_text(&rt, source, want)?;
     }
     Ok(())
 }
@@ -76,11 +83,17 @@ const OBJECTS: [(&[u8], &[u8]); 3] = [
     ),
 ];
 
+/// The refusals of a source have this JSON.
+fn check_json(rt: &(impl Abort + AllocGlobal), source: &[u8], want: &[u8]) -> Result<(), Fail> {
+    let found = objects(rt.alloc(), source)?;
+    assert_eq!(rt; found.as_slice(), want, "{source:?}");
+    Ok(())
+}
+
 #[test]
 fn json_of_refusals(rt: HostRuntime) -> Result<(), Fail> {
-    for (source, want) in OBJECTS {
-        let found = objects(rt.alloc(), source)?;
-        assert_eq!(rt; found.as_slice(), want, "{source:?}");
+    for (source, want) in &OBJECTS {
+        check_json(&rt, source, want)?;
     }
     Ok(())
 }
@@ -94,40 +107,58 @@ fn lines(alloc: Global, source: &[u8]) -> Result<Vec<u32>, Fail> {
     Ok(lines)
 }
 
+/// These are the lines to blame for a source's faults.
+fn check_lines(rt: &(impl Abort + AllocGlobal), source: &str, want: &[u32]) -> Result<(), Fail> {
+    let found = lines(rt.alloc(), source.as_bytes())?;
+    assert_eq!(rt; found.as_slice(), want, "{source:?}");
+    Ok(())
+}
+
+/// Sources with several faults, and the lines to blame.
+const FAULTY_LINES: [(&str, &[u32]); 4] = [
+    (
+        "DAT foo\nDAT ok\nok\nDAT 1/0\n;assert 0\nJMP\n",
+        &[1, 4, 5, 6],
+    ),
+    (";assert 0\nDAT 0\nEND 1", &[3, 1]),
+    ("i FOR 3\nDAT 1/(i-2)\nDAT x\nROF", &[3, 2]),
+    ("DAT foo\nx\nx", &[3]),
+];
+
 /// Each faulty line is told once, the assembler's first, where the source can be written out.
 #[test]
 fn several_faults(rt: HostRuntime) -> Result<(), Fail> {
-    for (source, want) in [
-        (
-            "DAT foo\nDAT ok\nok\nDAT 1/0\n;assert 0\nJMP\n",
-            [1, 4, 5, 6].as_slice(),
-        ),
-        (";assert 0\nDAT 0\nEND 1", &[3, 1]),
-        ("i FOR 3\nDAT 1/(i-2)\nDAT x\nROF", &[3, 2]),
-        ("DAT foo\nx\nx", &[3]),
-    ] {
-        let found = lines(rt.alloc(), source.as_bytes())?;
-        assert_eq!(rt; found.as_slice(), want, "{source:?}");
+    for (source, want) in &FAULTY_LINES {
+        check_lines(&rt, source, want)?;
     }
+    Ok(())
+}
+
+/// How many refusals so many times a line has.
+fn count_of_refusals(alloc: Global, line: &[u8], count: usize) -> Result<usize, Fail> {
+    let source = repeated(alloc, line, count)?;
+    Ok(lines(alloc, source.as_slice())?.len())
+}
+
+/// So many times a line has refusals of this text.
+fn check_repeated(
+    rt: &(impl Abort + AllocGlobal),
+    line: &[u8],
+    count: usize,
+    want: &[u8],
+) -> Result<(), Fail> {
+    let source = repeated(rt.alloc(), line, count)?;
+    let found = texts(rt.alloc(), source.as_slice())?;
+    assert_eq!(rt; found.as_slice(), want);
     Ok(())
 }
 
 /// No more than 100 refusals are told, and the numbers of a source or a warrior that is too long.
 #[test]
 fn long_sources(rt: HostRuntime) -> Result<(), Fail> {
-    let faults = repeated(rt.alloc(), b"DAT x\n", 150)?;
-    assert_eq!(rt; lines(rt.alloc(), faults.as_slice())?.len(), 100);
-    let warrior = repeated(rt.alloc(), b"DAT 0\n", 101)?;
+    assert_eq!(rt; count_of_refusals(rt.alloc(), b"DAT x\n", 150)?, 100);
     let want = b"a.red:0:1: TooLong: the warrior has 101 instructions, and may have 100\n";
-    assert_eq!(rt;
-        texts(rt.alloc(), warrior.as_slice())?.as_slice(),
-        want.as_slice()
-    );
-    let source = repeated(rt.alloc(), b"\n", 65_537)?;
+    check_repeated(&rt, b"DAT 0\n", 101, want)?;
     let want = b"a.red:0:1: SourceTooLong: the source has 65537 bytes, and may have 65536\n";
-    assert_eq!(rt;
-        texts(rt.alloc(), source.as_slice())?.as_slice(),
-        want.as_slice()
-    );
-    Ok(())
+    check_repeated(&rt, b"\n", 65_537, want)
 }

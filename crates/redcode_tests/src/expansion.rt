@@ -6,9 +6,9 @@ use redcode_text::Token;
 use std::alloc::{AllocError, Global};
 use std::process::Abort;
 use std::test::Fail;
-use war_types::{AsmFault, AsmKind, ExprFault, RawSettings, Settings, SettingsFault};
+use war_types::{RawSettings, Settings, SettingsFault};
 
-fn defaults() -> Result<Settings, SettingsFault> {
+pub(crate) fn defaults() -> Result<Settings, SettingsFault> {
     Settings::new(RawSettings {
         core: 8000,
         cycles: 80_000,
@@ -57,20 +57,25 @@ fn is_line(
     Ok(tokens.as_slice() == row.4)
 }
 
+/// Whether these are the lines of what is written out.
+fn have_lines(alloc: Global, expanded: &Expanded<'_, Global>, rows: &[Row]) -> Result<bool, Fail> {
+    if expanded.entries().len() != rows.len() {
+        return Ok(false);
+    }
+    for (i, row) in rows.iter().enumerate() {
+        if !is_line(alloc, expanded, i, row)? {
+            return Ok(false);
+        }
+    }
+    Ok(true)
+}
+
 /// Whether these are the lines: the number in the source, the kind, the instructions before, the title and the tokens.
 fn are_lines(alloc: Global, source: &[u8], rows: &[Row]) -> Result<bool, Fail> {
     let settings = defaults()?;
     let region = Bump::new(alloc);
     let expanded = expand(alloc, &region, source, &settings)?;
-    if expanded.entries().len() != rows.len() {
-        return Ok(false);
-    }
-    for (i, row) in rows.iter().enumerate() {
-        if !is_line(alloc, &expanded, i, row)? {
-            return Ok(false);
-        }
-    }
-    Ok(true)
+    have_lines(alloc, &expanded, rows)
 }
 
 #[test]
@@ -125,6 +130,18 @@ fn check_label(
     Ok(())
 }
 
+/// Labels of a source, each with its address.
+fn check_labels(
+    rt: &(impl Abort + AllocGlobal),
+    source: &[u8],
+    rows: &[(&'static [u8], Option<u32>)],
+) -> Result<(), Fail> {
+    for (name, address) in rows {
+        check_label(rt, source, name, *address)?;
+    }
+    Ok(())
+}
+
 /// Labels before an instruction, and on lines of their own.
 const LABELS: &[u8] = b"a DAT\nA b: & c DAT\nd\nPIN\nSTP\ne";
 
@@ -142,102 +159,7 @@ const ADDRESSES: [(&[u8], Option<u32>); 8] = [
 
 #[test]
 fn labels(rt: HostRuntime) -> Result<(), Fail> {
-    for (name, address) in ADDRESSES {
-        check_label(&rt, LABELS, name, address)?;
-    }
-    Ok(())
-}
-
-fn fault_of(alloc: Global, source: &[u8]) -> Result<Option<AsmFault>, Fail> {
-    let settings = defaults()?;
-    let region = Bump::new(alloc);
-    match expand(alloc, &region, source, &settings) {
-        Ok(_) => Ok(None),
-        Err(fault) => Ok(Some(fault)),
-    }
-}
-
-/// A source that is refused on this line, for this.
-fn check_refused(
-    rt: &(impl Abort + AllocGlobal),
-    source: &[u8],
-    line: u32,
-    kind: AsmKind,
-) -> Result<(), Fail> {
-    assert_eq!(rt;
-        fault_of(rt.alloc(), source)?,
-        Some(AsmFault { line, kind })
-    );
-    Ok(())
-}
-
-/// Sources that are refused, with the line and the kind.
-const REFUSALS: [(&[u8], u32, AsmKind); 12] = [
-    (b"x DAT 0\nx DAT 1", 2, AsmKind::DuplicateName),
-    (b"CORESIZE DAT 0", 1, AsmKind::DuplicateName),
-    (b"DAT\nx CURLINE", 2, AsmKind::DuplicateName),
-    (b"MVO 0, 1\nMVO 0, 1", 2, AsmKind::DuplicateName),
-    (b"FOO 0\nFOO 0", 2, AsmKind::DuplicateName),
-    (b"x DAT\nx DAT\ny for 1\nEND", 2, AsmKind::DuplicateName),
-    (b"rof", 1, AsmKind::UnmatchedRof),
-    (b"x DAT\ny x EQU", 2, AsmKind::DuplicateName),
-    (b"x\nEQU 1", 2, AsmKind::BadEqu),
-    (b"DAT a\na EQU a\nb EQU 1 dat", 3, AsmKind::BadEqu),
-    (b"a EQU b b\nb EQU a a\nDAT 0, a", 3, AsmKind::EquLimit),
-    (b";assert a\na EQU a\nx\nx", 4, AsmKind::DuplicateName),
-];
-
-#[test]
-fn refusals(rt: HostRuntime) -> Result<(), Fail> {
-    for (source, line, kind) in REFUSALS {
-        check_refused(&rt, source, line, kind)?;
-    }
-    assert_eq!(rt; fault_of(rt.alloc(), b"END\nx EQU 1\nROF\nx\nx")?, None);
-    assert_eq!(rt;
-        fault_of(rt.alloc(), b"FOR\nx\n;redcode\nx\n;redcode")?,
-        None
-    );
-    Ok(())
-}
-
-fn repeated(alloc: Global, line: &[u8], count: usize) -> Result<Vec<u8>, AllocError> {
-    let mut source = Vec::new(alloc);
-    for _ in 0..count {
-        source.extend_from_slice(line)?;
-    }
-    Ok(source)
-}
-
-#[test]
-fn limits(rt: HostRuntime) -> Result<(), Fail> {
-    let alloc = rt.alloc();
-    let too_long = AsmFault {
-        line: 0,
-        kind: AsmKind::SourceTooLong,
-    };
-    assert_eq!(rt; fault_of(alloc, &repeated(alloc, b"\n", 65_536)?)?, None);
-    assert_eq!(rt;
-        fault_of(alloc, &repeated(alloc, b"\n", 65_537)?)?,
-        Some(too_long)
-    );
-    let many = AsmFault {
-        line: 4097,
-        kind: AsmKind::ForLimit,
-    };
-    assert_eq!(rt; fault_of(alloc, &repeated(alloc, b"DAT 0\n", 4096)?)?, None);
-    let mut lines = repeated(alloc, b"DAT 0\n", 4096)?;
-    lines.extend_from_slice(b"x EQU 1")?;
-    assert_eq!(rt; fault_of(alloc, &lines)?, Some(many));
-    let wide = AsmFault {
-        line: 1,
-        kind: AsmKind::EquLimit,
-    };
-    let mut line = repeated(alloc, b"\tDAT.F", 1)?;
-    line.extend_from_slice(&repeated(alloc, b"-", 512)?)?;
-    assert_eq!(rt; fault_of(alloc, &line)?, None);
-    line.push(b'-')?;
-    assert_eq!(rt; fault_of(alloc, &line)?, Some(wide));
-    Ok(())
+    check_labels(&rt, LABELS, &ADDRESSES)
 }
 
 /// Names, and what is predefined of them on a line behind 7 instructions.
@@ -277,33 +199,6 @@ fn blocks(rt: HostRuntime) -> Result<(), Fail> {
     Ok(())
 }
 
-/// Blocks that are refused, with the line and the kind.
-const REFUSED_BLOCKS: [(&[u8], u32, AsmKind); 11] = [
-    (
-        b"FOR n\nDAT 0\nROF\nn EQU 2",
-        1,
-        AsmKind::ForCount(ExprFault::UnknownName),
-    ),
-    (b"ROF", 1, AsmKind::UnmatchedRof),
-    (b"FOR 2\nDAT 0", 1, AsmKind::UnmatchedFor),
-    (b"FOR 1\nDAT 0\nEND", 1, AsmKind::UnmatchedFor),
-    (b"FOR 5000\nDAT 0\nROF", 2, AsmKind::ForLimit),
-    (b"FOR 5000\nROF\nDAT 0", 1, AsmKind::ForLimit),
-    (b"FOR 5000\nFOR 0\nROF\nROF\nDAT 0", 1, AsmKind::ForLimit),
-    (b"FOR 4096\nFOR 1\nROF\nROF\nDAT 0", 5, AsmKind::ForLimit),
-    (b"FOR 1000000000000000000\nROF", 1, AsmKind::ForLimit),
-    (b"FOR 2\nx DAT\nROF", 2, AsmKind::DuplicateName),
-    (b"i FOR 1\nx EQU DAT i\nROF", 2, AsmKind::BadEqu),
-];
-
-#[test]
-fn refusals_of_blocks(rt: HostRuntime) -> Result<(), Fail> {
-    for (source, line, kind) in REFUSED_BLOCKS {
-        check_refused(&rt, source, line, kind)?;
-    }
-    Ok(())
-}
-
 /// Labels of copies, and their addresses.
 const COPIED_ADDRESSES: [(&[u8], Option<u32>); 5] = [
     (b"x01", Some(0)),
@@ -323,8 +218,5 @@ fn copies_and_their_labels(rt: HostRuntime) -> Result<(), Fail> {
         (9, LineKind::End, 2, b"", b" END"),
     ];
     assert!(rt; are_lines(rt.alloc(), source, &rows)?);
-    for (name, address) in COPIED_ADDRESSES {
-        check_label(&rt, source, name, address)?;
-    }
-    Ok(())
+    check_labels(&rt, source, &COPIED_ADDRESSES)
 }

@@ -73,6 +73,35 @@ fn is_printed(
     Ok(text.as_slice() == b"ORG 0\nMOV.I  $     0, $     1\nEND\n".as_slice())
 }
 
+/// Whether a line gives its tokens.
+fn is_scanned(memory: &Refusing<Global>) -> Result<bool, AsmFault> {
+    let tokens = scan(memory, b"MOV.I #-1,>x2 ;c")?;
+    Ok(gives(tokens.as_slice(), &MOVED))
+}
+
+/// Whether a block is written out as its copies.
+fn is_expanded(memory: &Refusing<Global>, settings: &Settings) -> Result<bool, AsmFault> {
+    let region = Bump::new(memory);
+    let expanded = expand(memory, &region, COPIED, settings)?;
+    Ok(are_copies(&expanded))
+}
+
+/// Whether a name is replaced by what it stands for.
+fn is_named(memory: &Refusing<Global>, settings: &Settings) -> Result<bool, AsmFault> {
+    let code = [direct(Op::Dat, Modifier::F, 0, 11)];
+    has_code(memory, NAMED, settings, &code)
+}
+
+/// Whether a block is assembled as its copies.
+fn is_copied(memory: &Refusing<Global>, settings: &Settings) -> Result<bool, AsmFault> {
+    let code = [
+        direct(Op::Dat, Modifier::F, 0, 1),
+        direct(Op::Dat, Modifier::F, 0, 2),
+        direct(Op::Jmp, Modifier::B, 7999, 0),
+    ];
+    has_code(memory, COPIED, settings, &code)
+}
+
 /// Whether a call gives its answer, or how it fails.
 fn answer(
     alloc: Global,
@@ -81,27 +110,10 @@ fn answer(
     call: Call,
 ) -> Result<bool, AsmFault> {
     match call {
-        Call::Scan => {
-            let tokens = scan(memory, b"MOV.I #-1,>x2 ;c")?;
-            Ok(gives(tokens.as_slice(), &MOVED))
-        }
-        Call::Expand => {
-            let region = Bump::new(memory);
-            let expanded = expand(memory, &region, COPIED, settings)?;
-            Ok(are_copies(&expanded))
-        }
-        Call::AssembleNamed => {
-            let code = [direct(Op::Dat, Modifier::F, 0, 11)];
-            has_code(memory, NAMED, settings, &code)
-        }
-        Call::AssembleCopied => {
-            let code = [
-                direct(Op::Dat, Modifier::F, 0, 1),
-                direct(Op::Dat, Modifier::F, 0, 2),
-                direct(Op::Jmp, Modifier::B, 7999, 0),
-            ];
-            has_code(memory, COPIED, settings, &code)
-        }
+        Call::Scan => is_scanned(memory),
+        Call::Expand => is_expanded(memory, settings),
+        Call::AssembleNamed => is_named(memory, settings),
+        Call::AssembleCopied => is_copied(memory, settings),
         Call::LoadText => is_printed(alloc, memory, settings),
     }
 }
@@ -190,24 +202,68 @@ fn is_made(code: Vec<Instr, &Refusing<Global>>, settings: &Settings) -> bool {
     }
 }
 
+/// Whether the lines and the labels of copies are found where nothing more is allocated.
+fn finds_copies(memory: &Refusing<Global>, settings: &Settings) -> Result<bool, AsmFault> {
+    let region = Bump::new(memory);
+    let copies = expand(memory, &region, COPIED, settings)?;
+    memory.refuse(0, u64::MAX);
+    Ok(are_copies(&copies) && has_title(&copies, 0, b""))
+}
+
+/// Whether the tokens of a line are.
+fn finds_tokens(memory: &Refusing<Global>, settings: &Settings) -> Result<bool, AsmFault> {
+    let region = Bump::new(memory);
+    let named = expand(memory, &region, NAMED, settings)?;
+    memory.refuse(0, u64::MAX);
+    Ok(is_replaced(&named))
+}
+
+/// Whether the titles of lines are.
+fn finds_titles(memory: &Refusing<Global>, settings: &Settings) -> Result<bool, AsmFault> {
+    let region = Bump::new(memory);
+    let titled = expand(memory, &region, TITLED, settings)?;
+    memory.refuse(0, u64::MAX);
+    Ok(has_title(&titled, 0, b" Imp") && has_title(&titled, 1, b" A. K. Dewdney"))
+}
+
+/// Lines, titles and labels are found without memory.
+fn check_lines(rt: &(impl Abort + AllocGlobal), settings: &Settings) -> Result<(), Fail> {
+    let memory = Refusing::new(rt.alloc());
+    assert!(rt; finds_copies(&memory, settings)?);
+    assert_eq!(rt; memory.refused(), 0);
+    memory.refuse(0, 0);
+    assert!(rt; finds_tokens(&memory, settings)?);
+    assert_eq!(rt; memory.refused(), 0);
+    memory.refuse(0, 0);
+    assert!(rt; finds_titles(&memory, settings)?);
+    assert_eq!(rt; memory.refused(), 0);
+    Ok(())
+}
+
+/// An expression comes to its value without memory.
+fn check_value(rt: &(impl Abort + AllocGlobal)) -> Result<(), Fail> {
+    let memory = Refusing::new(rt.alloc());
+    let tokens = scan(&memory, b"1+2*3==7 && !0")?;
+    memory.refuse(0, u64::MAX);
+    assert_eq!(rt; value(tokens.as_slice(), &Same { value: None }), Ok(1));
+    assert_eq!(rt; memory.refused(), 0);
+    Ok(())
+}
+
+/// A warrior is made of its code without memory.
+fn check_made(rt: &(impl Abort + AllocGlobal), settings: &Settings) -> Result<(), Fail> {
+    let memory = Refusing::new(rt.alloc());
+    let code = Vec::from_slice(&memory, &[direct(Op::Mov, Modifier::I, 0, 1)])?;
+    memory.refuse(0, u64::MAX);
+    assert!(rt; is_made(code, settings));
+    assert_eq!(rt; memory.refused(), 0);
+    Ok(())
+}
+
 #[test]
 fn what_takes_no_memory(rt: HostRuntime) -> Result<(), Fail> {
     let settings = defaults()?;
-    let memory = Refusing::new(rt.alloc());
-    let region = Bump::new(&memory);
-    let copies = expand(&memory, &region, COPIED, &settings)?;
-    let named = expand(&memory, &region, NAMED, &settings)?;
-    let titled = expand(&memory, &region, TITLED, &settings)?;
-    let tokens = scan(&memory, b"1+2*3==7 && !0")?;
-    let code = Vec::from_slice(&memory, &[direct(Op::Mov, Modifier::I, 0, 1)])?;
-    memory.refuse(0, u64::MAX);
-    assert!(rt; are_copies(&copies));
-    assert!(rt; is_replaced(&named));
-    assert!(rt; has_title(&copies, 0, b""));
-    assert!(rt; has_title(&titled, 0, b" Imp"));
-    assert!(rt; has_title(&titled, 1, b" A. K. Dewdney"));
-    assert_eq!(rt; value(tokens.as_slice(), &Same { value: None }), Ok(1));
-    assert!(rt; is_made(code, &settings));
-    assert_eq!(rt; memory.refused(), 0);
-    Ok(())
+    check_lines(&rt, &settings)?;
+    check_value(&rt)?;
+    check_made(&rt, &settings)
 }

@@ -3,7 +3,8 @@
 //! No crate stands on this one, so a check of the crates above waits for none of them. A module a subject:
 //!
 //! - `tokens`: the tokens of lines and their places, and what expressions come to;
-//! - `expansion`: the lines that sources are written out to, their labels, and the refusals of these;
+//! - `expansion`: the lines that sources are written out to, and their labels;
+//! - `refused_expansions`: sources that can't be written out, and the limits of what can;
 //! - `printer`: the load text of codes made by hand;
 //! - `sources`: the load text and the titles that sources give; its helpers serve those below;
 //! - `refusals`: sources that are refused, with the line and the kind;
@@ -34,6 +35,8 @@ mod long_tests;
 mod printer;
 #[cfg(test)]
 mod refusals;
+#[cfg(test)]
+mod refused_expansions;
 #[cfg(test)]
 mod sources;
 #[cfg(test)]

@@ -1,35 +1,12 @@
 //! The limits of a source, of its lines and of a warrior, on both sides.
 
+use crate::long_tests::source_of;
 use crate::sources::{defaults, printed, repeated, with_length};
 use redcode_asm::assemble;
-use std::alloc::Global;
+use std::alloc::{AllocError, Global};
+use std::process::Abort;
 use std::test::Fail;
 use war_types::{AsmKind, Settings};
-
-#[test]
-fn limits(rt: HostRuntime) -> Result<(), Fail> {
-    let settings = defaults()?;
-    for (line, count, refusal) in [
-        ("DAT 0\n", 100, None),
-        ("DAT 0\n", 101, Some((0, AsmKind::TooLong))),
-        ("DAT 0\n", 4096, Some((0, AsmKind::TooLong))),
-        ("DAT 0\n", 4097, Some((4097, AsmKind::ForLimit))),
-        (";name x\n", 4097, Some((4097, AsmKind::ForLimit))),
-        ("\n", 65_536, Some((0, AsmKind::Empty))),
-        ("\n", 65_537, Some((0, AsmKind::SourceTooLong))),
-    ] {
-        let source = repeated(rt.alloc(), line.as_bytes(), count)?;
-        let refused = match assemble(rt.alloc(), source.as_slice(), &settings) {
-            Ok(warrior) => {
-                assert_eq!(rt; warrior.code().len(), count);
-                None
-            }
-            Err(fault) => Some((fault.line, fault.kind)),
-        };
-        assert_eq!(rt; refused, refusal, "{count} lines");
-    }
-    Ok(())
-}
 
 /// How many instructions a source gives, or its refusal.
 fn assembled(alloc: Global, source: &[u8], settings: &Settings) -> Result<usize, (u32, AsmKind)> {
@@ -39,18 +16,50 @@ fn assembled(alloc: Global, source: &[u8], settings: &Settings) -> Result<usize,
     }
 }
 
+/// The most instructions of a warrior, a line, how often it stands in the source, and what comes of it.
+type Counted = (u32, &'static [u8], usize, Result<usize, (u32, AsmKind)>);
+
+/// Sources of as many instructions, lines and bytes as there may be, and of one more.
+const COUNTED: [Counted; 7] = [
+    (100, b"DAT 0\n", 100, Ok(100)),
+    (100, b"DAT 0\n", 101, Err((0, AsmKind::TooLong))),
+    (100, b"DAT 0\n", 4096, Err((0, AsmKind::TooLong))),
+    (100, b"DAT 0\n", 4097, Err((4097, AsmKind::ForLimit))),
+    (100, b";name x\n", 4097, Err((4097, AsmKind::ForLimit))),
+    (100, b"\n", 65_536, Err((0, AsmKind::Empty))),
+    (100, b"\n", 65_537, Err((0, AsmKind::SourceTooLong))),
+];
+
+/// So many lines give so many instructions, or are refused so.
+fn check_counted(rt: &(impl Abort + AllocGlobal), counted: &Counted) -> Result<(), Fail> {
+    let (length, line, count, answer) = *counted;
+    let source = repeated(rt.alloc(), line, count)?;
+    let found = assembled(rt.alloc(), source.as_slice(), &with_length(length)?);
+    assert_eq!(rt; found, answer, "{count} lines");
+    Ok(())
+}
+
+#[test]
+fn limits(rt: HostRuntime) -> Result<(), Fail> {
+    for counted in &COUNTED {
+        check_counted(&rt, counted)?;
+    }
+    Ok(())
+}
+
+/// Warriors of as many instructions as settings allow, and of one more.
+const LONGEST: [Counted; 4] = [
+    (1, b"DAT 0\n", 1, Ok(1)),
+    (1, b"DAT 0\n", 2, Err((0, AsmKind::TooLong))),
+    (200, b"DAT 0\n", 200, Ok(200)),
+    (200, b"DAT 0\n", 201, Err((0, AsmKind::TooLong))),
+];
+
 /// A warrior has at most as many instructions as the settings say, which is at most 200.
 #[test]
 fn the_longest_warriors(rt: HostRuntime) -> Result<(), Fail> {
-    for (length, count, answer) in [
-        (1, 1, Ok(1)),
-        (1, 2, Err((0, AsmKind::TooLong))),
-        (200, 200, Ok(200)),
-        (200, 201, Err((0, AsmKind::TooLong))),
-    ] {
-        let source = repeated(rt.alloc(), b"DAT 0\n", count)?;
-        let found = assembled(rt.alloc(), source.as_slice(), &with_length(length)?);
-        assert_eq!(rt; found, answer, "{count} lines");
+    for counted in &LONGEST {
+        check_counted(&rt, counted)?;
     }
     Ok(())
 }
@@ -59,10 +68,8 @@ fn the_longest_warriors(rt: HostRuntime) -> Result<(), Fail> {
 #[test]
 fn the_longest_load_text(rt: HostRuntime) -> Result<(), Fail> {
     let source = repeated(rt.alloc(), b"DAT 0\n", 200)?;
-    let mut want = Vec::from_slice(rt.alloc(), b"ORG 0\n")?;
-    let lines = repeated(rt.alloc(), b"DAT.F  $     0, $     0\n", 200)?;
-    want.extend_from_slice(lines.as_slice())?;
-    want.extend_from_slice(b"END\n")?;
+    let line = "DAT.F  $     0, $     0\n";
+    let want = source_of(rt.alloc(), "ORG 0\n", line, 200, "END\n")?;
     let found = printed(rt.alloc(), source.as_slice(), &with_length(200)?)?;
     assert_eq!(rt; found.as_slice(), want.as_slice());
     Ok(())
@@ -71,41 +78,84 @@ fn the_longest_load_text(rt: HostRuntime) -> Result<(), Fail> {
 /// A line that is one too many is refused for that before its label is.
 #[test]
 fn lines_before_names(rt: HostRuntime) -> Result<(), Fail> {
-    let mut source = Vec::from_slice(rt.alloc(), b"x ")?;
-    let lines = repeated(rt.alloc(), b"DAT 0\n", 4096)?;
-    source.extend_from_slice(lines.as_slice())?;
-    source.extend_from_slice(b"x DAT 0\n")?;
+    let source = source_of(rt.alloc(), "x ", "DAT 0\n", 4096, "x DAT 0\n")?;
     let found = assembled(rt.alloc(), source.as_slice(), &defaults()?);
     assert_eq!(rt; found, Err((4097, AsmKind::ForLimit)));
     Ok(())
 }
 
 /// A line, what stands behind it, and what comes of it where it is not too long.
-type Limited = (&'static [u8], &'static [u8], Result<usize, (u32, AsmKind)>);
+type Limited = (&'static str, &'static str, Result<usize, (u32, AsmKind)>);
 
 /// Lines that have at most 512 tokens behind the word, or behind its modifier.
 const LIMITED: [Limited; 5] = [
-    (b"DAT ", b"", Ok(1)),
-    (b"DAT.F ", b"", Ok(1)),
-    (b"x FOR ", b"\nROF", Err((0, AsmKind::Empty))),
-    (b"FOR ", b"\nROF\nDAT 0", Ok(1)),
-    (b";assert ", b"\nDAT 0", Ok(1)),
+    ("DAT ", "", Ok(1)),
+    ("DAT.F ", "", Ok(1)),
+    ("x FOR ", "\nROF", Err((0, AsmKind::Empty))),
+    ("FOR ", "\nROF\nDAT 0", Ok(1)),
+    (";assert ", "\nDAT 0", Ok(1)),
 ];
+
+/// A line of so many sums behind a sign gives so many instructions, or is refused so.
+fn check_sums(
+    rt: &(impl Abort + AllocGlobal),
+    limited: &Limited,
+    sign: &str,
+    sums: usize,
+    answer: Result<usize, (u32, AsmKind)>,
+) -> Result<(), Fail> {
+    let (head, behind, _) = *limited;
+    let mut source = source_of(rt.alloc(), head, sign, 1, "")?;
+    source.extend_from_slice(source_of(rt.alloc(), "", "1+", sums, "1")?.as_slice())?;
+    source.extend_from_slice(behind.as_bytes())?;
+    let found = assembled(rt.alloc(), source.as_slice(), &defaults()?);
+    assert_eq!(rt; found, answer, "{sums} sums");
+    Ok(())
+}
 
 #[test]
 fn tokens_of_a_line(rt: HostRuntime) -> Result<(), Fail> {
-    let settings = defaults()?;
     let refused = Err((1, AsmKind::EquLimit));
-    for (head, behind, answer) in LIMITED {
-        for (sign, sums, answer) in [(b"-".as_slice(), 255, answer), (b"", 256, refused)] {
-            let mut source = Vec::from_slice(rt.alloc(), head)?;
-            source.extend_from_slice(sign)?;
-            source.extend_from_slice(repeated(rt.alloc(), b"1+", sums)?.as_slice())?;
-            source.push(b'1')?;
-            source.extend_from_slice(behind)?;
-            let found = assembled(rt.alloc(), source.as_slice(), &settings);
-            assert_eq!(rt; found, answer, "{sums} sums");
-        }
+    for limited in &LIMITED {
+        check_sums(&rt, limited, "-", 255, limited.2)?;
+        check_sums(&rt, limited, "", 256, refused)?;
     }
     Ok(())
+}
+
+/// A number within so many parentheses.
+fn nested(alloc: Global, depth: usize) -> Result<Vec<u8>, AllocError> {
+    let mut source = Vec::from_slice(alloc, b"DAT ")?;
+    source.extend_from_slice(repeated(alloc, b"(", depth)?.as_slice())?;
+    source.push(b'1')?;
+    source.extend_from_slice(repeated(alloc, b")", depth)?.as_slice())?;
+    Ok(source)
+}
+
+/// Each instruction of a source has this B-number, or it is refused so.
+fn check_numbers(
+    rt: &(impl Abort + AllocGlobal),
+    source: &[u8],
+    answer: Result<u16, &'static str>,
+) -> Result<(), Fail> {
+    match (assemble(rt.alloc(), source, &defaults()?), answer) {
+        (Ok(warrior), Ok(b)) => {
+            assert!(rt; warrior.code().iter().all(|instr| instr.b == b));
+        }
+        (Err(fault), Err(text)) => {
+            let found = format!(in rt.alloc(); "{fault}")?;
+            assert_eq!(rt; found.as_str(), text);
+        }
+        _ => assert!(rt; false, "{source:?}"),
+    }
+    Ok(())
+}
+
+/// Within parentheses, so many, the number is read up to 64 of them.
+#[test]
+fn nested_parentheses(rt: HostRuntime) -> Result<(), Fail> {
+    let deepest = nested(rt.alloc(), 64)?;
+    check_numbers(&rt, deepest.as_slice(), Ok(1))?;
+    let deeper = nested(rt.alloc(), 65)?;
+    check_numbers(&rt, deeper.as_slice(), Err("1 BadExpression"))
 }

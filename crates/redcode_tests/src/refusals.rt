@@ -19,6 +19,17 @@ fn check_refused(rt: &(impl Abort + AllocGlobal), source: &str, refusal: &str) -
     Ok(())
 }
 
+/// Sources that are refused, each with how.
+fn check_rows(
+    rt: &(impl Abort + AllocGlobal),
+    rows: &[(&'static str, &'static str)],
+) -> Result<(), Fail> {
+    for (source, refusal) in rows {
+        check_refused(rt, source, refusal)?;
+    }
+    Ok(())
+}
+
 /// Each refusal with a smallest source that earns it, as the document of the language has them; those of many lines are
 /// among the limits.
 const SMALLEST: [(&str, &str); 24] = [
@@ -50,10 +61,7 @@ const SMALLEST: [(&str, &str); 24] = [
 
 #[test]
 fn smallest_sources(rt: HostRuntime) -> Result<(), Fail> {
-    for (source, refusal) in SMALLEST {
-        check_refused(&rt, source, refusal)?;
-    }
-    Ok(())
+    check_rows(&rt, &SMALLEST)
 }
 
 /// Sources with a line that has a fault, and how they are refused.
@@ -124,10 +132,7 @@ const FAULTS: [(&str, &str); 59] = [
 
 #[test]
 fn lines_with_a_fault(rt: HostRuntime) -> Result<(), Fail> {
-    for (source, refusal) in FAULTS {
-        check_refused(&rt, source, refusal)?;
-    }
-    Ok(())
+    check_rows(&rt, &FAULTS)
 }
 
 /// Of several faults the one that is told.
@@ -154,10 +159,7 @@ const ORDERED: [(&str, &str); 17] = [
 
 #[test]
 fn order_of_faults(rt: HostRuntime) -> Result<(), Fail> {
-    for (source, refusal) in ORDERED {
-        check_refused(&rt, source, refusal)?;
-    }
-    Ok(())
+    check_rows(&rt, &ORDERED)
 }
 
 /// Each of 15 names is the next one.

