@@ -7,7 +7,7 @@
 //! - `host`: who is told what happens, and opens the hill again;
 //! - `times` and `seats`: how long a peer is waited for, and what is kept of each beside its session;
 //! - `desk`: the peers, the store and the seats; `arrivals`, `reading`, `serving`, `sending` and `parting` move one peer on it;
-//! - `answering` and `browsers`: what browsers are answered, by `koth_http`;
+//! - `connections`, `answering` and `browsers`: connections of browsers, what they are answered, by `koth_http`, and how that goes out;
 //! - `service`: round after round of them, until as many sessions as are asked for have ended.
 //!
 //! The main clause: whatever the sockets say, there is a history (`IsHistory`) of what happened on them and of the commands that were carried
@@ -22,6 +22,7 @@
 mod answering;
 mod arrivals;
 mod browsers;
+mod connections;
 mod desk;
 mod host;
 mod line;

@@ -6,7 +6,8 @@ ghost use Rattle.koth_service.specs.Standing.{IsSoundAfter, KeepsOn, KeepsOnBy, 
 ghost use Rattle.koth_service.specs.Told.{Grows};
 
 use crate::arrivals::take_arrivals;
-use crate::browsers::{Browsers, serve_browsers};
+use crate::browsers::serve_browsers;
+use crate::connections::Browsers;
 use crate::desk::Desk;
 use crate::host::Host;
 use crate::parting::part_all;
