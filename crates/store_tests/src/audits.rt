@@ -1,5 +1,6 @@
 //! Results that a device keeps, true and untrue.
 
+use crate::calls::{audit, expect_reply, expect_rows, open, rows_of};
 use crate::stores::{SECTORS, created, numbers, opened, placed};
 use crate::written::sector;
 use hill_store::{Refusal, Store, Untrue};
@@ -11,9 +12,9 @@ use std::test::Fail;
 /// A device that holds two warriors, each of which loses at once: of their two rounds each won one.
 fn device_of_two(rt: &impl Abort, alloc: Global) -> Result<MemoryDevice<Global>, Fail> {
     let mut store = created(alloc, MemoryDevice::new(alloc, SECTORS)?)?;
-    assert_eq!(rt; store.submit(b"DAT 0,0"), placed(1, 1, 0));
-    assert_eq!(rt; store.submit(b"DAT 0,0"), placed(2, 2, 3));
-    assert!(rt; store.audit());
+    expect_reply(rt, &mut store, b"DAT 0,0", placed(1, 1, 0));
+    expect_reply(rt, &mut store, b"DAT 0,0", placed(2, 2, 3));
+    assert!(rt; audit(&mut store));
     Ok(store.close())
 }
 
@@ -48,8 +49,9 @@ fn device_with(
 #[test]
 fn true_results_open_true(rt: HostRuntime) -> Result<(), Fail> {
     let mut store = opened(rt.alloc(), device_with(&rt, rt.alloc(), 1, 1)?)?;
-    assert!(rt; store.audit());
+    assert!(rt; audit(&mut store));
     assert!(rt; store.first_untrue().is_none());
+    drop(store);
     Ok(())
 }
 
@@ -63,10 +65,11 @@ fn untrue_results_open_and_are_told(rt: HostRuntime) -> Result<(), Fail> {
         (0, 0, (2, 2)),
     ] {
         let mut store = opened(rt.alloc(), device_with(&rt, rt.alloc(), older, younger)?)?;
-        assert!(rt; !store.audit(), "{older} and {younger}");
+        assert!(rt; !audit(&mut store), "{older} and {younger}");
         let untrue = store.first_untrue().ok_or("the pair")?;
         expect_told(&rt, &untrue, older, younger);
         expect_points(&rt, &store, points)?;
+        drop(store);
     }
     Ok(())
 }
@@ -91,7 +94,7 @@ fn expect_points(
     store: &Store<MemoryDevice<Global>, Global>,
     points: (u32, u32),
 ) -> Result<(), Fail> {
-    let rows = store.rows()?;
+    let rows = rows_of(store)?;
     for row in rows.as_slice() {
         let expected = if row.entry == 1 { points.0 } else { points.1 };
         assert_eq!(rt; row.score, expected);
@@ -104,17 +107,19 @@ fn expect_points(
 #[test]
 fn a_challenger_is_judged_by_what_is_kept(rt: HostRuntime) -> Result<(), Fail> {
     let mut store = opened(rt.alloc(), device_with(&rt, rt.alloc(), 0, 2)?)?;
-    assert_eq!(rt; store.submit(b"JMP 0"), placed(3, 1, 6));
-    let rows = store.rows()?;
+    expect_reply(&rt, &mut store, b"JMP 0", placed(3, 1, 6));
+    let rows = rows_of(&store)?;
     assert_eq!(rt; numbers(rows.first()), Some((3, 6, 0)));
     assert_eq!(rt; numbers(rows.get(1)), Some((2, 0, 1)));
+    drop(rows);
+    drop(store);
     Ok(())
 }
 
 /// A result of more rounds than a match has is no slot's.
 #[test]
 fn more_rounds_than_a_match_has(rt: HostRuntime) -> Result<(), Fail> {
-    match Store::open(rt.alloc(), device_with(&rt, rt.alloc(), 2, 1)?) {
+    match open(rt.alloc(), device_with(&rt, rt.alloc(), 2, 1)?) {
         Ok(_) => Err("it is refused".into()),
         Err((_, refusal)) => {
             assert_eq!(rt; refusal, Refusal::Damaged);
@@ -136,7 +141,7 @@ fn an_earlier_hill_is_none(rt: HostRuntime) -> Result<(), Fail> {
     let mut device = device_of_two(&rt, rt.alloc())?;
     rename(&mut device, 0)?;
     rename(&mut device, 1)?;
-    let device = match Store::open(rt.alloc(), device) {
+    let device = match open(rt.alloc(), device) {
         Ok(_) => return Err("it holds no hill".into()),
         Err((device, refusal)) => {
             assert_eq!(rt; refusal, Refusal::NotAHill);
@@ -144,6 +149,7 @@ fn an_earlier_hill_is_none(rt: HostRuntime) -> Result<(), Fail> {
         }
     };
     let store = created(rt.alloc(), device)?;
-    assert_eq!(rt; store.rows()?.len(), 0);
+    expect_rows(&rt, &store, 0)?;
+    drop(store);
     Ok(())
 }

@@ -2,6 +2,7 @@
 //! for the core size.
 
 use crate::audits::put;
+use crate::calls::{audit, expect_reply, rows_of};
 use crate::migrations::{expect_no_hill, moved};
 use crate::narrowed::narrowed;
 use crate::stores::{fell, numbers, opened};
@@ -98,18 +99,20 @@ fn a_hill_from_before_limits(rt: HostRuntime) -> Result<(), Fail> {
         assert_eq!(rt; sector(&mut old, n)?, content_of(n), "{n}");
     }
     expect_table(&rt, &store)?;
-    assert!(rt; store.audit());
+    assert!(rt; audit(&mut store));
     let mut store = opened(rt.alloc(), store.close())?;
     expect_table(&rt, &store)?;
-    assert!(rt; store.audit());
-    assert_eq!(rt; store.submit(b"JMP 0"), fell(5, 38));
+    assert!(rt; audit(&mut store));
+    expect_reply(&rt, &mut store, b"JMP 0", fell(5, 38));
+    drop(store);
+    drop(old);
     Ok(())
 }
 
 fn expect_table(rt: &impl Abort, store: &Store<MemoryDevice<Global>, Global>) -> Result<(), Fail> {
     assert_eq!(rt; store.hill().settings().read_limit(), 800);
     assert_eq!(rt; store.hill().settings().write_limit(), 800);
-    let rows = store.rows()?;
+    let rows = rows_of(store)?;
     assert_eq!(rt; rows.len(), 3);
     assert_eq!(rt; numbers(rows.first()), Some((4, 92, 0)));
     assert_eq!(rt; numbers(rows.get(1)), Some((2, 35, 2)));
@@ -121,8 +124,10 @@ fn expect_table(rt: &impl Abort, store: &Store<MemoryDevice<Global>, Global>) ->
 #[test]
 fn a_moved_hill_answers_at_once(rt: HostRuntime) -> Result<(), Fail> {
     let new = MemoryDevice::new(rt.alloc(), 18)?;
-    let (_, mut store) = moved(rt.alloc(), earlier(rt.alloc())?, new)?;
-    assert_eq!(rt; store.submit(b"JMP 0"), fell(5, 38));
+    let (old, mut store) = moved(rt.alloc(), earlier(rt.alloc())?, new)?;
+    expect_reply(&rt, &mut store, b"JMP 0", fell(5, 38));
+    drop(store);
+    drop(old);
     Ok(())
 }
 

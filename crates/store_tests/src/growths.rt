@@ -1,18 +1,20 @@
 //! Growths of memory that are refused: where a device takes its memory from the same allocator, in a list of submissions, and behind
 //! the first call of the device.
 
+use crate::calls::{
+    audit, create, expect_reply, expect_rows, rows_of, settings_from, submit, submit_all,
+};
 use crate::stores::{SECTORS, SMALL, counted, created, fell, numbers, opened, placed, refused};
 use hill_bytes::{OldSlot, Slot, Wins};
 use hill_store::{
-    Header, Refusal, Reply, Store, decode_header, decode_old_header, encode_header,
-    encode_old_header,
+    Header, Refusal, Reply, decode_header, decode_old_header, encode_header, encode_old_header,
 };
 use refusing::{Refusing, refuse_each};
 use sector_disk::{Device, Fault, MemoryDevice};
 use std::alloc::{AllocError, Global};
 use std::process::Abort;
 use std::test::Fail;
-use war_types::{AsmKind, Settings, Warrior};
+use war_types::{AsmKind, Warrior};
 
 /// A device that refuses every further growth from its first call on.
 #[derive(Drop)]
@@ -73,21 +75,23 @@ fn none_behind_the_first_call_of_the_device(rt: HostRuntime) -> Result<(), Fail>
         (b"MOV 0,1", fell(4, 4)),
     ];
     for (source, reply) in submissions {
-        assert_eq!(rt; store.submit(source), reply);
+        expect_reply(&rt, &mut store, source, reply);
         expect_stinted(&rt, &memory);
     }
     memory.refuse(0, u64::MAX);
-    assert!(rt; store.audit());
+    assert!(rt; audit(&mut store));
     let device = store.close();
     assert_eq!(rt; memory.refused(), 0);
     memory.refuse(0, 0);
-    assert_eq!(rt; opened(rt.alloc(), device.inner)?.rows()?.len(), 2);
+    let store = opened(rt.alloc(), device.inner)?;
+    expect_rows(&rt, &store, 2)?;
+    drop(store);
     Ok(())
 }
 
 /// A header is the same in both formats, written and read.
 fn expect_header(rt: &impl Abort) -> Result<(), Fail> {
-    let header = Header::new(0, Settings::new(SMALL)?, 0, &[]).ok_or("a header")?;
+    let header = Header::new(0, settings_from(SMALL)?, 0, &[]).ok_or("a header")?;
     let read = decode_header(&encode_header(&header)).ok_or("its header")?;
     assert_eq!(rt; read.generation(), 0);
     let bytes = encode_old_header(&header).ok_or("it has room")?;
@@ -111,13 +115,14 @@ fn expect_slot(rt: &impl Abort, warrior: &Warrior<&Refusing<Global>>) {
 fn headers_and_slots_need_none(rt: HostRuntime) -> Result<(), Fail> {
     let memory = Refusing::new(rt.alloc());
     let mut store = created(&memory, MemoryDevice::new(rt.alloc(), SECTORS)?)?;
-    assert_eq!(rt; store.submit(b"MOV 0,1"), placed(1, 1, 0));
+    expect_reply(&rt, &mut store, b"MOV 0,1", placed(1, 1, 0));
     memory.refuse(0, u64::MAX);
     expect_header(&rt)?;
     let member = store.hill().member(0).ok_or("the warrior")?;
     expect_slot(&rt, member.warrior);
     assert_eq!(rt; memory.refused(), 0);
     memory.refuse(0, 0);
+    drop(store);
     Ok(())
 }
 
@@ -128,13 +133,14 @@ fn expect_none_created(
 ) -> Result<(), Fail> {
     let device = MemoryDevice::new(memory, SECTORS)?;
     memory.refuse(0, 1);
-    let Err((device, refusal)) = Store::create(rt.alloc(), device, Settings::new(SMALL)?) else {
+    let Err((device, refusal)) = create(rt.alloc(), device, settings_from(SMALL)?) else {
         return Err("it is refused".into());
     };
     assert_eq!(rt; refusal, Refusal::Disk);
     assert_eq!(rt; (device.faults(), memory.refused()), (1, 1));
     let mut store = created(rt.alloc(), device)?;
-    assert_eq!(rt; store.submit(b"MOV 0,1"), placed(1, 1, 0));
+    expect_reply(rt, &mut store, b"MOV 0,1", placed(1, 1, 0));
+    drop(store);
     Ok(())
 }
 
@@ -148,20 +154,26 @@ fn of_a_device(rt: HostRuntime) -> Result<(), Fail> {
     for (k, calls) in [(0, 5 + 1), (1, 5 + 2), (2, 5 + 3), (3, 5 + 4), (4, 5 + 6)] {
         let mut store = created(rt.alloc(), counted(MemoryDevice::new(&memory, SECTORS)?))?;
         memory.refuse(k, 1);
-        assert_eq!(rt; store.submit(b"MOV 0,1"), Reply::Disk, "at growth {k}");
-        assert_eq!(rt; store.submit(b"MOV 0,1"), Reply::Reopen);
+        assert_eq!(rt;
+            submit(&mut store, b"MOV 0,1"),
+            Reply::Disk,
+            "at growth {k}"
+        );
+        expect_reply(&rt, &mut store, b"MOV 0,1", Reply::Reopen);
         assert_eq!(rt; memory.refused(), 1);
-        assert_eq!(rt; store.rows()?.len(), 0);
+        expect_rows(&rt, &store, 0)?;
         let device = store.close();
         assert_eq!(rt; device.calls, calls, "at growth {k}");
         let mut store = opened(rt.alloc(), device)?;
-        assert_eq!(rt; store.rows()?.len(), 0);
-        assert_eq!(rt; store.submit(b"MOV 0,1"), placed(1, 1, 0));
+        expect_rows(&rt, &store, 0)?;
+        expect_reply(&rt, &mut store, b"MOV 0,1", placed(1, 1, 0));
+        drop(store);
     }
     let mut store = created(rt.alloc(), MemoryDevice::new(&memory, SECTORS)?)?;
     memory.refuse(5, 1);
-    assert_eq!(rt; store.submit(b"MOV 0,1"), placed(1, 1, 0));
+    expect_reply(&rt, &mut store, b"MOV 0,1", placed(1, 1, 0));
     assert_eq!(rt; memory.refused(), 0);
+    drop(store);
     Ok(())
 }
 
@@ -169,8 +181,8 @@ fn of_a_device(rt: HostRuntime) -> Result<(), Fail> {
 fn of_a_table(rt: HostRuntime) -> Result<(), Fail> {
     let memory = Refusing::new(rt.alloc());
     let mut store = created(&memory, MemoryDevice::new(rt.alloc(), SECTORS)?)?;
-    assert_eq!(rt; store.submit(b"MOV 0,1"), placed(1, 1, 0));
-    let runs = refuse_each(&memory, |_k| match store.rows() {
+    expect_reply(&rt, &mut store, b"MOV 0,1", placed(1, 1, 0));
+    let runs = refuse_each(&memory, |_k| match rows_of(&store) {
         Ok(rows) => {
             assert_eq!(rt; memory.refused(), 0);
             assert_eq!(rt; numbers(rows.first()), Some((1, 0, 0)));
@@ -178,6 +190,7 @@ fn of_a_table(rt: HostRuntime) -> Result<(), Fail> {
         Err(AllocError) => assert_eq!(rt; memory.refused(), 1),
     });
     assert_eq!(rt; runs, 2);
+    drop(store);
     Ok(())
 }
 
@@ -210,7 +223,7 @@ fn check_replies(
 ) -> Result<u64, Fail> {
     let mut store = created(memory, MemoryDevice::new(memory, SECTORS)?)?;
     memory.refuse(k, 1);
-    let replies = store.submit_all(&SOURCES);
+    let replies = submit_all(&mut store, &SOURCES);
     let count = memory.refused();
     memory.refuse(0, 0);
     let replies = replies?;
@@ -221,8 +234,10 @@ fn check_replies(
         "at growth {k}"
     );
     let on_hill = placed_in(replies.as_slice());
-    assert_eq!(rt; store.rows()?.len(), on_hill, "at growth {k}");
-    assert_eq!(rt; opened(rt.alloc(), store.close())?.rows()?.len(), on_hill);
+    assert_eq!(rt; rows_of(&store)?.len(), on_hill, "at growth {k}");
+    let store = opened(rt.alloc(), store.close())?;
+    expect_rows(rt, &store, on_hill)?;
+    drop(store);
     Ok(count)
 }
 
@@ -248,10 +263,11 @@ fn placed_in(replies: &[Reply]) -> usize {
 fn expect_no_list(rt: &(impl Abort + AllocGlobal), memory: &Refusing<Global>) -> Result<(), Fail> {
     let mut store = created(memory, MemoryDevice::new(rt.alloc(), SECTORS)?)?;
     memory.refuse(0, 1);
-    assert!(rt; store.submit_all(&SOURCES).is_err());
+    assert!(rt; submit_all(&mut store, &SOURCES).is_err());
     assert_eq!(rt; memory.refused(), 1);
-    assert_eq!(rt; store.rows()?.len(), 0);
-    assert_eq!(rt; store.submit(b"MOV 0,1"), placed(1, 1, 0));
+    expect_rows(rt, &store, 0)?;
+    expect_reply(rt, &mut store, b"MOV 0,1", placed(1, 1, 0));
+    drop(store);
     Ok(())
 }
 

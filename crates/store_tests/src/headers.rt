@@ -1,12 +1,13 @@
 //! The bytes of a header, and what is no header.
 
+use crate::calls::settings_from;
 use crate::stores::SMALL;
 use hill_store::{
     Header, HeaderEntry, decode_header, decode_old_header, encode_header, encode_old_header,
 };
 use std::process::Abort;
 use std::test::Fail;
-use war_types::{RawSettings, Settings};
+use war_types::RawSettings;
 
 /// How the header of two warriors begins: all that is not zero, and the places between.
 pub(crate) const BEGINS: [u8; 84] = [
@@ -29,7 +30,7 @@ const SECOND: HeaderEntry = HeaderEntry {
 
 #[test]
 fn a_header_is_written_and_read(rt: HostRuntime) -> Result<(), Fail> {
-    let settings = Settings::new(SMALL)?;
+    let settings = settings_from(SMALL)?;
     let header = Header::new(2, settings, 2, &[FIRST, SECOND]).ok_or("a header")?;
     let mut bytes = encode_header(&header);
     let (begins, ends) = bytes.split_at(84);
@@ -59,12 +60,12 @@ fn limits_in_a_header(rt: HostRuntime) -> Result<(), Fail> {
         write_limit,
         ..SMALL
     };
-    let settings = Settings::new(limited(64, 64))?;
+    let settings = settings_from(limited(64, 64))?;
     let header = Header::new(2, settings, 2, &[FIRST, SECOND]).ok_or("a header")?;
     let bytes = encode_header(&header);
     assert_eq!(rt; bytes.split_at(84).0, BEGINS.as_slice());
 
-    let settings = Settings::new(limited(16, 8))?;
+    let settings = settings_from(limited(16, 8))?;
     let header = Header::new(2, settings, 2, &[FIRST, SECOND]).ok_or("a header")?;
     let mut bytes = encode_header(&header);
     assert_eq!(rt; [bytes[36], bytes[37], bytes[38], bytes[39]], [0, 16, 0, 8]);
@@ -83,7 +84,7 @@ fn limits_in_a_header(rt: HostRuntime) -> Result<(), Fail> {
 
 #[test]
 fn headers_that_are_none(rt: HostRuntime) -> Result<(), Fail> {
-    let settings = Settings::new(SMALL)?;
+    let settings = settings_from(SMALL)?;
     let zero = HeaderEntry { entry: 0, ..FIRST };
     let old = HeaderEntry { age: 2, ..FIRST };
     let far = HeaderEntry { slot: 3, ..SECOND };
@@ -107,7 +108,7 @@ fn headers_that_are_none(rt: HostRuntime) -> Result<(), Fail> {
 
 /// The header of two warriors, of a hill whose warriors may have so many instructions.
 fn of_length(length: u32) -> Result<Header, Fail> {
-    let settings = Settings::new(RawSettings {
+    let settings = settings_from(RawSettings {
         core: 400,
         length,
         distance: length,
@@ -119,7 +120,7 @@ fn of_length(length: u32) -> Result<Header, Fail> {
 /// In the old format one byte is another. Each format reads its own headers alone.
 #[test]
 fn a_header_in_the_old_format(rt: HostRuntime) -> Result<(), Fail> {
-    let settings = Settings::new(SMALL)?;
+    let settings = settings_from(SMALL)?;
     let header = Header::new(2, settings, 2, &[FIRST, SECOND]).ok_or("a header")?;
     let bytes = encode_old_header(&header).ok_or("it has room")?;
     let mut expected = encode_header(&header);

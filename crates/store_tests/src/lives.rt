@@ -1,13 +1,13 @@
 //! The life of a device: a fault, a store that is opened again, and a stop.
 
+use crate::calls::{create, expect_reply, open, rows_of, settings_from};
 use crate::stores::{SECTORS, SMALL, numbers, placed};
 use crate::written::sector;
-use hill_store::{Reply, Store};
+use hill_store::Reply;
 use sector_disk::{Device, FuseDevice, FuseKind, MemoryDevice};
 use std::alloc::Global;
 use std::process::Abort;
 use std::test::Fail;
-use war_types::Settings;
 
 /// Calls that open a hill of two: a sync, two headers, and four sectors of each slot.
 const OPENING: u64 = 11;
@@ -18,22 +18,22 @@ fn failed_at_the_last_sync(
     alloc: Global,
 ) -> Result<FuseDevice<MemoryDevice<Global>>, Fail> {
     let device = FuseDevice::new(MemoryDevice::new(alloc, SECTORS)?, 25, FuseKind::FailLost);
-    let Ok(mut store) = Store::create(alloc, device, Settings::new(SMALL)?) else {
+    let Ok(mut store) = create(alloc, device, settings_from(SMALL)?) else {
         return Err("it is created".into());
     };
-    assert_eq!(rt; store.submit(b"DAT 0,0"), placed(1, 1, 0));
-    assert_eq!(rt; store.submit(b"DAT 0,0"), placed(2, 2, 3));
-    assert_eq!(rt; store.submit(b"JMP 0"), Reply::Disk);
-    assert_eq!(rt; store.submit(b"JMP 0"), Reply::Reopen);
+    expect_reply(rt, &mut store, b"DAT 0,0", placed(1, 1, 0));
+    expect_reply(rt, &mut store, b"DAT 0,0", placed(2, 2, 3));
+    expect_reply(rt, &mut store, b"JMP 0", Reply::Disk);
+    expect_reply(rt, &mut store, b"JMP 0", Reply::Reopen);
     Ok(store.close())
 }
 
 /// The hill that a device opens to has the third warrior and the first. The device comes back.
 fn expect_two<D: Device + Drop>(rt: &impl Abort, alloc: Global, device: D) -> Result<D, Fail> {
-    let Ok(store) = Store::open(alloc, device) else {
+    let Ok(store) = open(alloc, device) else {
         return Err("it opens".into());
     };
-    let rows = store.rows()?;
+    let rows = rows_of(&store)?;
     assert_eq!(rt; rows.len(), 2);
     assert_eq!(rt; numbers(rows.first()), Some((3, 6, 0)));
     assert_eq!(rt; numbers(rows.get(1)), Some((1, 0, 2)));
@@ -48,10 +48,10 @@ fn stopped_in_a_slot(
     device: MemoryDevice<Global>,
 ) -> Result<MemoryDevice<Global>, Fail> {
     let device = FuseDevice::new(device, OPENING + 4, FuseKind::Stop);
-    let Ok(mut store) = Store::open(alloc, device) else {
+    let Ok(mut store) = open(alloc, device) else {
         return Err("it opens".into());
     };
-    assert_eq!(rt; store.submit(b"JMP 0"), Reply::Disk);
+    expect_reply(rt, &mut store, b"JMP 0", Reply::Disk);
     Ok(store.close().into_inner())
 }
 

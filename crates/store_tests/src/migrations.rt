@@ -1,18 +1,20 @@
 //! A hill that is moved from a device in the old format to another one.
 
 use crate::audits::put;
+use crate::calls::{audit, create, expect_reply, migrate, open, settings_from};
 use crate::narrowed::narrowed;
 use crate::stores::{
-    SECTORS, SMALL, counted, created, expect_two_rows, fell, opened, placed, refusal_to_create,
+    SECTORS, SMALL, counted, created, expect_calls, expect_two_rows, fell, opened, placed,
+    refusal_to_create,
 };
 use crate::written::{sector, written};
 use hill_store::{MigrateFault, MigrateSide, Refusal, Store};
 use refusing::Refusing;
 use sector_disk::{Device, FuseDevice, FuseKind, MemoryDevice};
-use std::alloc::Global;
+use std::alloc::{Allocator, Global};
 use std::process::Abort;
 use std::test::Fail;
-use war_types::{RawSettings, Settings};
+use war_types::RawSettings;
 
 /// The hill of a device in the old format, moved to another one. Both devices come back.
 pub(crate) fn moved<O: Device + Drop, D: Device + Drop>(
@@ -20,7 +22,7 @@ pub(crate) fn moved<O: Device + Drop, D: Device + Drop>(
     old: O,
     new: D,
 ) -> Result<(O, Store<D, Global>), Fail> {
-    match Store::migrate(alloc, old, new) {
+    match migrate(alloc, old, new) {
         Ok(moved) => Ok(moved),
         Err(_) => Err("it is moved".into()),
     }
@@ -32,7 +34,7 @@ pub(crate) fn expect_no_hill<D: Device + Drop>(
     alloc: Global,
     device: D,
 ) -> Result<D, Fail> {
-    match Store::open(alloc, device) {
+    match open(alloc, device) {
         Ok(_) => Err("it holds no hill".into()),
         Err((device, refusal)) => {
             assert_eq!(rt; refusal, Refusal::NotAHill);
@@ -83,12 +85,14 @@ fn a_hill_is_moved(rt: HostRuntime) -> Result<(), Fail> {
     let (mut old, mut store) = moved(rt.alloc(), old_device(&rt, rt.alloc())?, new)?;
     expect_same(&rt, &mut old, &mut old_device(&rt, rt.alloc())?, 0)?;
     expect_two_rows(&rt, &store)?;
-    assert!(rt; store.audit());
+    assert!(rt; audit(&mut store));
     let mut new = store.close();
     expect_moved(&rt, rt.alloc(), &mut new)?;
     let mut store = opened(rt.alloc(), new)?;
     expect_two_rows(&rt, &store)?;
-    assert_eq!(rt; store.submit(b"MOV 0,1"), fell(4, 4));
+    expect_reply(&rt, &mut store, b"MOV 0,1", fell(4, 4));
+    drop(store);
+    drop(old);
     Ok(())
 }
 
@@ -100,24 +104,25 @@ fn calls_of_both_devices(rt: HostRuntime) -> Result<(), Fail> {
     let new = counted(MemoryDevice::new(rt.alloc(), SECTORS)?);
     let (old, mut store) = moved(rt.alloc(), old, new)?;
     assert_eq!(rt; old.calls, 7);
-    assert_eq!(rt; store.submit(b"MOV 0,1"), fell(4, 4));
-    assert_eq!(rt; store.close().calls, 14 + 2);
+    expect_reply(&rt, &mut store, b"MOV 0,1", fell(4, 4));
+    expect_calls(&rt, store, 14 + 2);
+    drop(old);
     Ok(())
 }
 
 /// The device of a hill of one, whose warrior has as many instructions as a slot of the old format has room for. Each is another one.
 fn written_to_the_end(rt: &impl Abort, alloc: Global) -> Result<MemoryDevice<Global>, Fail> {
-    let settings = Settings::new(RawSettings {
+    let settings = settings_from(RawSettings {
         core: 200,
         length: 100,
         distance: 100,
         capacity: 1,
         ..SMALL
     })?;
-    let Ok(mut store) = Store::create(alloc, MemoryDevice::new(alloc, 10)?, settings) else {
+    let Ok(mut store) = create(alloc, MemoryDevice::new(alloc, 10)?, settings) else {
         return Err("it is created".into());
     };
-    assert_eq!(rt; store.submit(b"i FOR 100\nDAT i,-i\nROF"), placed(1, 1, 0));
+    expect_reply(rt, &mut store, b"i FOR 100\nDAT i,-i\nROF", placed(1, 1, 0));
     Ok(store.close())
 }
 
@@ -154,7 +159,7 @@ fn expect_new_refused(
     refusal: Refusal,
 ) -> Result<(), Fail> {
     let mut before = new.stopped(&[])?;
-    match Store::migrate(alloc, old_device(rt, alloc)?, new) {
+    match migrate(alloc, old_device(rt, alloc)?, new) {
         Ok(_) => Err("it is refused".into()),
         Err((mut old, mut new, fault)) => {
             assert_eq!(rt; fault, new_side(refusal));
@@ -203,7 +208,7 @@ fn expect_old_refused<O: Device + Drop>(
     old: O,
     refusal: Refusal,
 ) -> Result<(), Fail> {
-    match Store::migrate(alloc, old, counted(MemoryDevice::new(alloc, 1)?)) {
+    match migrate(alloc, old, counted(MemoryDevice::new(alloc, 1)?)) {
         Ok(_) => Err("it is refused".into()),
         Err((_, new, fault)) => {
             assert_eq!(rt; fault, old_side(refusal));
@@ -253,8 +258,11 @@ fn an_old_device_that_fails(rt: HostRuntime) -> Result<(), Fail> {
         expect_old_refused(&rt, rt.alloc(), old, Refusal::Disk)?;
     }
     let old = FuseDevice::new(old_device(&rt, rt.alloc())?, 7, FuseKind::Stop);
-    let (_, store) = moved(rt.alloc(), old, MemoryDevice::new(rt.alloc(), SECTORS)?)?;
-    expect_two_rows(&rt, &store)
+    let (old, store) = moved(rt.alloc(), old, MemoryDevice::new(rt.alloc(), SECTORS)?)?;
+    expect_two_rows(&rt, &store)?;
+    drop(store);
+    drop(old);
+    Ok(())
 }
 
 /// Copies a sector of one device to the other, where it is not synced.
@@ -281,6 +289,7 @@ fn an_old_device_is_synced(rt: HostRuntime) -> Result<(), Fail> {
     let new = MemoryDevice::new(rt.alloc(), SECTORS)?;
     let (old, store) = moved(rt.alloc(), old, new)?;
     expect_two_rows(&rt, &store)?;
+    drop(store);
     expect_same(&rt, &mut old.stopped(&[])?, &mut whole, 0)
 }
 
@@ -294,7 +303,7 @@ fn a_new_device_need_not_be_blank(rt: HostRuntime) -> Result<(), Fail> {
     let (_, store) = moved(rt.alloc(), old_device(&rt, rt.alloc())?, new)?;
     let mut store = opened(rt.alloc(), store.close())?;
     expect_two_rows(&rt, &store)?;
-    assert!(rt; store.audit());
+    assert!(rt; audit(&mut store));
     assert_eq!(rt; sector(&mut store.close(), 10)?, [0xFF; 512]);
     Ok(())
 }
@@ -309,6 +318,16 @@ fn fault_at(k: u64) -> Option<MigrateFault> {
     }
 }
 
+/// The two rows of a store, which is let go.
+pub(crate) fn expect_the_rows<D: Device + Drop, A: Allocator + Copy>(
+    rt: &impl Abort,
+    store: Store<D, A>,
+) -> Result<(), Fail> {
+    let found = expect_two_rows(rt, &store);
+    drop(store);
+    found
+}
+
 /// Growth `k` is refused, and then none.
 fn expect_growth(
     rt: &(impl Abort + AllocGlobal),
@@ -318,21 +337,21 @@ fn expect_growth(
     let old = old_device(rt, rt.alloc())?;
     let new = MemoryDevice::new(memory, SECTORS)?;
     memory.refuse(k, 1);
-    let moved = Store::migrate(memory, old, new);
+    let moved = migrate(memory, old, new);
     let refused = memory.refused();
     memory.refuse(0, 0);
     let (old, new) = match moved {
         Ok((_, store)) => {
             assert_eq!(rt; (fault_at(k), refused), (None, 0));
-            return expect_two_rows(rt, &store);
+            return expect_the_rows(rt, store);
         }
         Err((old, new, fault)) => {
             assert_eq!(rt; (fault_at(k), refused), (Some(fault), 1), "at growth {k}");
             (old, new)
         }
     };
-    match Store::migrate(memory, old, new) {
-        Ok((_, store)) => expect_two_rows(rt, &store),
+    match migrate(memory, old, new) {
+        Ok((_, store)) => expect_the_rows(rt, store),
         Err(_) => Err("it is moved".into()),
     }
 }

@@ -1,8 +1,9 @@
 //! What a stop, or one fault, leaves of a hill of two that is moved to another device.
 
-use crate::migrations::{moved, old_device};
+use crate::calls::{audit, migrate, open};
+use crate::migrations::{expect_the_rows, moved, old_device};
 use crate::stores::{SECTORS, expect_two_rows};
-use hill_store::{MigrateFault, MigrateSide, Refusal, Store};
+use hill_store::{MigrateFault, MigrateSide, Refusal};
 use sector_disk::{Device, FuseDevice, FuseKind, MemoryDevice};
 use std::alloc::Global;
 use std::process::Abort;
@@ -28,7 +29,7 @@ fn fused(
     kind: FuseKind,
 ) -> Result<(MemoryDevice<Global>, MemoryDevice<Global>), Fail> {
     let new = FuseDevice::new(MemoryDevice::new(alloc, SECTORS)?, calls, kind);
-    match Store::migrate(alloc, old_device(rt, alloc)?, new) {
+    match migrate(alloc, old_device(rt, alloc)?, new) {
         Ok((old, store)) => {
             assert_eq!(rt; calls, CALLS);
             Ok((old, store.close().into_inner()))
@@ -52,14 +53,16 @@ fn holds_the_hill<D: Device + Drop>(
     alloc: Global,
     device: D,
 ) -> Result<bool, Fail> {
-    match Store::open(alloc, device) {
+    match open(alloc, device) {
         Ok(mut store) => {
             expect_two_rows(rt, &store)?;
-            assert!(rt; store.audit());
+            assert!(rt; audit(&mut store));
+            drop(store);
             Ok(true)
         }
-        Err((_, refusal)) => {
+        Err((device, refusal)) => {
             assert_eq!(rt; refusal, Refusal::NotAHill);
+            drop(device);
             Ok(false)
         }
     }
@@ -109,7 +112,8 @@ fn expect_moves(
 ) -> Result<MemoryDevice<Global>, Fail> {
     let (old, mut store) = moved(alloc, old, MemoryDevice::new(alloc, SECTORS)?)?;
     expect_two_rows(rt, &store)?;
-    assert!(rt; store.audit());
+    assert!(rt; audit(&mut store));
+    drop(store);
     Ok(old)
 }
 
@@ -120,9 +124,13 @@ fn expect_goes_on(
     old: MemoryDevice<Global>,
     new: MemoryDevice<Global>,
 ) -> Result<(), Fail> {
-    match Store::migrate(alloc, old, new) {
-        Ok((_, store)) => expect_two_rows(rt, &store),
-        Err((_, new, fault)) => {
+    match migrate(alloc, old, new) {
+        Ok((old, store)) => {
+            drop(old);
+            expect_the_rows(rt, store)
+        }
+        Err((old, new, fault)) => {
+            drop(old);
             assert_eq!(rt; fault.refusal, Refusal::Occupied);
             assert!(rt; holds_the_hill(rt, alloc, new)?);
             Ok(())

@@ -1,5 +1,6 @@
 //! The sectors of a slot, and what is no slot's.
 
+use crate::calls::settings_from;
 use crate::narrowed::joined;
 use crate::stores::SMALL;
 use hill_bytes::{OldSlot, Slot, Wins};
@@ -53,7 +54,7 @@ fn stored() -> Slot {
 
 #[test]
 fn a_slot_is_read_and_written(rt: HostRuntime) -> Result<(), Fail> {
-    let settings = Settings::new(SMALL)?;
+    let settings = settings_from(SMALL)?;
     let slot = stored();
     let warrior = slot.decode(rt.alloc(), &settings)?.ok_or("its warrior")?;
     assert_eq!(rt; warrior.code(), [MOV, DAT].as_slice());
@@ -77,7 +78,7 @@ fn a_slot_is_read_and_written(rt: HostRuntime) -> Result<(), Fail> {
 
 #[test]
 fn sectors_that_hold_no_warrior(rt: HostRuntime) -> Result<(), Fail> {
-    let settings = Settings::new(SMALL)?;
+    let settings = settings_from(SMALL)?;
     let blank = Slot::blank();
     assert!(rt; blank.decode(rt.alloc(), &settings)?.is_none());
     assert!(rt; stored().decode(rt.alloc(), &settings)?.is_some());
@@ -117,7 +118,7 @@ fn with_byte(mut slot: Slot, n: usize, at: usize, byte: u8) -> Result<Slot, Fail
 
 /// Settings of warriors that may have so many instructions.
 fn of_length(length: u16) -> Result<Settings, Fail> {
-    Ok(Settings::new(RawSettings {
+    Ok(settings_from(RawSettings {
         core: 400,
         length: u32::from(length),
         distance: u32::from(length),

@@ -1,5 +1,6 @@
 //! A store over a device in memory: what is answered, how many calls are made, and what opens again.
 
+use crate::calls::{create, expect_reply, open, rows_of, settings_from, submit, submit_all};
 use hill_store::{Header, HeaderEntry, Refusal, Reply, Store, encode_header};
 use koth_hill::Row;
 use refusing::Refusing;
@@ -7,7 +8,7 @@ use sector_disk::{Device, Fault, FuseDevice, FuseKind, MemoryDevice};
 use std::alloc::{Allocator, Global};
 use std::process::Abort;
 use std::test::Fail;
-use war_types::{AsmFault, AsmKind, RawSettings, Settings};
+use war_types::{AsmFault, AsmKind, RawSettings};
 
 pub(crate) const SMALL: RawSettings = RawSettings {
     core: 64,
@@ -30,14 +31,14 @@ pub(crate) fn created<D: Device + Drop, A: Allocator + Copy>(
     alloc: A,
     device: D,
 ) -> Result<Store<D, A>, Fail> {
-    match Store::create(alloc, device, Settings::new(SMALL)?) {
+    match create(alloc, device, settings_from(SMALL)?) {
         Ok(store) => Ok(store),
         Err(_) => Err("it is created".into()),
     }
 }
 
 pub(crate) fn opened<D: Device + Drop>(alloc: Global, device: D) -> Result<Store<D, Global>, Fail> {
-    match Store::open(alloc, device) {
+    match open(alloc, device) {
         Ok(store) => Ok(store),
         Err(_) => Err("it opens".into()),
     }
@@ -77,8 +78,19 @@ impl<D: Device> Device for Counting<D> {
     }
 }
 
-pub(crate) fn counted<D: Device>(inner: D) -> Counting<D> {
+pub(crate) fn counted<D>(inner: D) -> Counting<D> {
     Counting { inner, calls: 0 }
+}
+
+/// The device of this store was asked for so many calls.
+pub(crate) fn expect_calls<D: Device + Drop, A: Allocator + Copy>(
+    rt: &impl Abort,
+    store: Store<Counting<D>, A>,
+    calls: u32,
+) {
+    let device = store.close();
+    assert_eq!(rt; device.calls, calls);
+    drop(device);
 }
 
 pub(crate) fn placed(entry: u64, rank: u32, score: u32) -> Reply {
@@ -104,11 +116,12 @@ pub(crate) fn numbers(row: Option<&Row<'_>>) -> Option<(u64, u32, u64)> {
 #[test]
 fn submissions_one_by_one(rt: HostRuntime) -> Result<(), Fail> {
     let mut store = created(rt.alloc(), MemoryDevice::new(rt.alloc(), SECTORS)?)?;
-    assert_eq!(rt; store.submit(b"MOV 0,1"), placed(1, 1, 0));
-    assert_eq!(rt; store.submit(b"JMP 0"), placed(2, 2, 2));
-    assert_eq!(rt; store.submit(b"DAT 0,0"), fell(3, 0));
+    expect_reply(&rt, &mut store, b"MOV 0,1", placed(1, 1, 0));
+    expect_reply(&rt, &mut store, b"JMP 0", placed(2, 2, 2));
+    expect_reply(&rt, &mut store, b"DAT 0,0", fell(3, 0));
     expect_two_rows(&rt, &store)?;
-    assert_eq!(rt; store.submit(b"MOV 0,1"), fell(4, 4));
+    expect_reply(&rt, &mut store, b"MOV 0,1", fell(4, 4));
+    drop(store);
     Ok(())
 }
 
@@ -117,7 +130,7 @@ pub(crate) fn expect_two_rows<D: Device, A: Allocator + Copy>(
     rt: &impl Abort,
     store: &Store<D, A>,
 ) -> Result<(), Fail> {
-    let rows = store.rows()?;
+    let rows = rows_of(store)?;
     assert_eq!(rt; rows.len(), 2);
     assert_eq!(rt; numbers(rows.first()), Some((1, 2, 1)));
     assert_eq!(rt; numbers(rows.get(1)), Some((2, 2, 0)));
@@ -130,14 +143,14 @@ fn a_list_of_submissions(rt: HostRuntime) -> Result<(), Fail> {
     let device = counted(MemoryDevice::new(rt.alloc(), SECTORS)?);
     let mut store = created(rt.alloc(), device)?;
     let sources: [&[u8]; 4] = [b"MOV 0,1", b"JMP 0", b"", b"DAT 0,0"];
-    let replies = store.submit_all(&sources)?;
+    let replies = submit_all(&mut store, &sources)?;
     assert_eq!(rt; replies.len(), 4);
     assert_eq!(rt; replies[0], placed(1, 1, 0));
     assert_eq!(rt; replies[1], placed(2, 2, 2));
     assert_eq!(rt; replies[2], refused(0, AsmKind::Empty));
     assert_eq!(rt; replies[3], fell(3, 0));
-    assert_eq!(rt; store.submit_all(&[])?.len(), 0);
-    assert_eq!(rt; store.close().calls, 5 + 16);
+    assert_eq!(rt; submit_all(&mut store, &[])?.len(), 0);
+    expect_calls(&rt, store, 5 + 16);
     Ok(())
 }
 
@@ -152,7 +165,7 @@ fn a_stopped_image_opens(rt: HostRuntime) -> Result<(), Fail> {
 /// A device that holds a hill of one warrior.
 fn device_of_one(rt: &impl Abort, alloc: Global) -> Result<MemoryDevice<Global>, Fail> {
     let mut store = created(alloc, MemoryDevice::new(alloc, SECTORS)?)?;
-    assert_eq!(rt; store.submit(b"MOV 0,1"), placed(1, 1, 0));
+    expect_reply(rt, &mut store, b"MOV 0,1", placed(1, 1, 0));
     Ok(store.close())
 }
 
@@ -162,15 +175,24 @@ fn rows_found(
     device: MemoryDevice<Global>,
 ) -> Result<(usize, Option<(u64, u32, u64)>), Fail> {
     let store = opened(alloc, device)?;
-    let rows = store.rows()?;
-    Ok((rows.len(), numbers(rows.first())))
+    let rows = rows_of(&store)?;
+    let found = (rows.len(), numbers(rows.first()));
+    drop(rows);
+    drop(store);
+    Ok(found)
 }
 
 /// Why no hill is opened on a device, if none is.
 fn refusal_to_open<D: Device + Drop, A: Allocator + Copy>(alloc: A, device: D) -> Option<Refusal> {
-    match Store::open(alloc, device) {
-        Ok(_) => None,
-        Err((_, refusal)) => Some(refusal),
+    match open(alloc, device) {
+        Ok(store) => {
+            drop(store);
+            None
+        }
+        Err((device, refusal)) => {
+            drop(device);
+            Some(refusal)
+        }
     }
 }
 
@@ -179,9 +201,15 @@ pub(crate) fn refusal_to_create<A: Allocator + Copy>(
     alloc: A,
     device: MemoryDevice<Global>,
 ) -> Result<Option<Refusal>, Fail> {
-    match Store::create(alloc, device, Settings::new(SMALL)?) {
-        Ok(_) => Ok(None),
-        Err((_, refusal)) => Ok(Some(refusal)),
+    match create(alloc, device, settings_from(SMALL)?) {
+        Ok(store) => {
+            drop(store);
+            Ok(None)
+        }
+        Err((device, refusal)) => {
+            drop(device);
+            Ok(Some(refusal))
+        }
     }
 }
 
@@ -229,7 +257,7 @@ fn with_bad_slots(alloc: Global) -> Result<MemoryDevice<Global>, Fail> {
         slot: 1,
         age: 0,
     };
-    let settings = Settings::new(SMALL)?;
+    let settings = settings_from(SMALL)?;
     let header = Header::new(2, settings, 2, &[first, second]).ok_or("a header")?;
     let mut device = MemoryDevice::new(alloc, SECTORS)?;
     device.set(0, &encode_header(&header));
@@ -267,7 +295,7 @@ fn a_refusal_tells_its_name(rt: HostRuntime) -> Result<(), Fail> {
 /// A device with the header of the greatest generation, of a hill of two without warriors.
 fn worn(alloc: Global) -> Result<MemoryDevice<Global>, Fail> {
     let mut device = MemoryDevice::new(alloc, SECTORS)?;
-    let header = Header::new(u64::MAX, Settings::new(SMALL)?, 0, &[]).ok_or("a header")?;
+    let header = Header::new(u64::MAX, settings_from(SMALL)?, 0, &[]).ok_or("a header")?;
     device.set(1, &encode_header(&header));
     Ok(device)
 }
@@ -276,9 +304,9 @@ fn worn(alloc: Global) -> Result<MemoryDevice<Global>, Fail> {
 #[test]
 fn the_greatest_generation(rt: HostRuntime) -> Result<(), Fail> {
     let mut store = opened(rt.alloc(), counted(worn(rt.alloc())?))?;
-    assert_eq!(rt; store.submit(b""), refused(0, AsmKind::Empty));
-    assert_eq!(rt; store.submit(b"MOV 0,1"), Reply::Worn);
-    assert_eq!(rt; store.close().calls, 3);
+    expect_reply(&rt, &mut store, b"", refused(0, AsmKind::Empty));
+    expect_reply(&rt, &mut store, b"MOV 0,1", Reply::Worn);
+    expect_calls(&rt, store, 3);
     Ok(())
 }
 
@@ -296,9 +324,9 @@ fn a_device_that_fails(rt: HostRuntime) -> Result<(), Fail> {
 fn cut_at_the_last_sync(rt: &impl Abort, alloc: Global) -> Result<MemoryDevice<Global>, Fail> {
     let device = FuseDevice::new(MemoryDevice::new(alloc, SECTORS)?, 18, FuseKind::Stop);
     let mut store = created(alloc, device)?;
-    assert_eq!(rt; store.submit(b"MOV 0,1"), placed(1, 1, 0));
-    assert_eq!(rt; store.submit(b"JMP 0"), Reply::Disk);
-    assert_eq!(rt; store.submit(b"JMP 0"), Reply::Reopen);
+    expect_reply(rt, &mut store, b"MOV 0,1", placed(1, 1, 0));
+    expect_reply(rt, &mut store, b"JMP 0", Reply::Disk);
+    expect_reply(rt, &mut store, b"JMP 0", Reply::Reopen);
     Ok(store.close().into_inner())
 }
 
@@ -329,6 +357,7 @@ fn each_growth_of_an_opening(rt: HostRuntime) -> Result<(), Fail> {
         let refusal = refusal_to_open(&memory, device.stopped(&[])?);
         if memory.refused() == 0 {
             assert_eq!(rt; (refusal, k), (None, 6));
+            drop(device);
             return Ok(());
         }
         assert_eq!(rt; refusal, Some(Refusal::Memory));
@@ -344,14 +373,15 @@ fn each_growth_of_a_submission(rt: HostRuntime) -> Result<(), Fail> {
     let mut store = created(&memory, device)?;
     for k in 0..1000_u64 {
         memory.refuse(k, 1);
-        let reply = store.submit(b"MOV 0,1");
+        let reply = submit(&mut store, b"MOV 0,1");
         if memory.refused() == 0 {
             assert_eq!(rt; reply, placed(1, 1, 0));
-            assert_eq!(rt; store.close().calls, 5 + 7);
+            expect_calls(&rt, store, 5 + 7);
             assert_eq!(rt; k, 7);
             return Ok(());
         }
         assert_eq!(rt; reply, Reply::Memory);
     }
+    drop(store);
     Err("each run met a refusal".into())
 }

@@ -1,5 +1,6 @@
 //! A device that stops, or fails once, at each of its calls while a hill is created and four sources are submitted.
 
+use crate::calls::{create, open, rows_of, settings_from, submit, submit_all};
 use crate::stores::{SECTORS, SMALL, fell, placed};
 use hill_store::{Refusal, Reply, Store};
 use koth_hill::Row;
@@ -7,7 +8,6 @@ use sector_disk::{Device, FuseDevice, FuseKind, MemoryDevice};
 use std::alloc::Global;
 use std::process::Abort;
 use std::test::Fail;
-use war_types::Settings;
 
 /// The sources, of which the third is refused and the fourth falls.
 const SOURCES: [&[u8]; 4] = [b"MOV 0,1", b"JMP 0", b"", b"DAT 0,0"];
@@ -56,9 +56,9 @@ fn unsynced_header(calls: u64) -> usize {
 /// The device within a fuse of so many calls, behind a creation and the four submissions.
 fn stopped_behind(alloc: Global, calls: u64) -> Result<MemoryDevice<Global>, Fail> {
     let device = FuseDevice::new(MemoryDevice::new(alloc, SECTORS)?, calls, FuseKind::Stop);
-    match Store::create(alloc, device, Settings::new(SMALL)?) {
+    match create(alloc, device, settings_from(SMALL)?) {
         Ok(mut store) => {
-            let _ = store.submit_all(&SOURCES)?;
+            let _ = submit_all(&mut store, &SOURCES)?;
             Ok(store.close().into_inner())
         }
         Err((device, _)) => Ok(device.into_inner()),
@@ -67,12 +67,17 @@ fn stopped_behind(alloc: Global, calls: u64) -> Result<MemoryDevice<Global>, Fai
 
 /// What a device opens to. The entry that comes next is that of a warrior which is submitted.
 fn opens_to<D: Device + Drop>(alloc: Global, device: D) -> Result<Opens, Fail> {
-    let mut store = match Store::open(alloc, device) {
+    let mut store = match open(alloc, device) {
         Ok(store) => store,
-        Err((_, refusal)) => return Ok(Opens::Refused(refusal)),
+        Err((device, refusal)) => {
+            drop(device);
+            return Ok(Opens::Refused(refusal));
+        }
     };
     let [first, second] = entries(&store)?;
-    match store.submit(b"DAT 0,0") {
+    let reply = submit(&mut store, b"DAT 0,0");
+    drop(store);
+    match reply {
         Reply::Placed { entry, .. } | Reply::Fell { entry, .. } => {
             Ok(Opens::Hill([first, second, entry]))
         }
@@ -82,7 +87,7 @@ fn opens_to<D: Device + Drop>(alloc: Global, device: D) -> Result<Opens, Fail> {
 
 /// The entries of the two rows of a hill.
 fn entries<D: Device + Drop>(store: &Store<D, Global>) -> Result<[u64; 2], Fail> {
-    let rows = store.rows()?;
+    let rows = rows_of(store)?;
     Ok([entry(rows.first()), entry(rows.get(1))])
 }
 
@@ -130,19 +135,21 @@ fn answered_around_a_fault(
     kind: FuseKind,
 ) -> Result<([u64; 2], Reply), Fail> {
     let device = FuseDevice::new(MemoryDevice::new(alloc, SECTORS)?, 17, kind);
-    let Ok(mut store) = Store::create(alloc, device, Settings::new(SMALL)?) else {
+    let Ok(mut store) = create(alloc, device, settings_from(SMALL)?) else {
         return Err("it is created".into());
     };
-    let replies = store.submit_all(&SOURCES)?;
+    let replies = submit_all(&mut store, &SOURCES)?;
     assert_eq!(rt;
         replies.as_slice(),
         [placed(1, 1, 0), Reply::Disk].as_slice()
     );
-    let Ok(mut store) = Store::open(alloc, store.close()) else {
+    let Ok(mut store) = open(alloc, store.close()) else {
         return Err("it opens".into());
     };
     let found = entries(&store)?;
-    Ok((found, store.submit(b"JMP 0")))
+    let reply = submit(&mut store, b"JMP 0");
+    drop(store);
+    Ok((found, reply))
 }
 
 #[test]

@@ -6,6 +6,7 @@
 
 ghost use Rattle.std.specs.Prelude.{◌<◌, ◌≤◌};
 
+use crate::calls::{audit, create, migrate, open, rows_of, settings_from, submit};
 use crate::migrations::moved;
 use crate::narrowed::narrowed;
 use crate::stores::{SMALL, numbers, opened};
@@ -15,7 +16,7 @@ use sector_disk::{Device, FuseDevice, FuseKind, MemoryDevice};
 use std::alloc::{Allocator, Global};
 use std::process::Abort;
 use std::test::Fail;
-use war_types::{RawSettings, Settings};
+use war_types::RawSettings;
 
 /// Sectors that a hill of twenty needs: two headers, and four for each of twenty-one slots.
 const SECTORS: u32 = 86;
@@ -25,16 +26,16 @@ const CALLS: u64 = 86;
 
 /// The device on which they were submitted.
 fn written(rt: &impl Abort, alloc: Global) -> Result<MemoryDevice<Global>, Fail> {
-    let settings = Settings::new(RawSettings {
+    let settings = settings_from(RawSettings {
         capacity: 20,
         ..SMALL
     })?;
-    let Ok(mut store) = Store::create(alloc, MemoryDevice::new(alloc, SECTORS)?, settings) else {
+    let Ok(mut store) = create(alloc, MemoryDevice::new(alloc, SECTORS)?, settings) else {
         return Err("it is created".into());
     };
     for entry in 1..=22 {
         let source: &[u8] = if entry <= 20 { b"DAT 0,0" } else { b"JMP 0" };
-        expect_placed(rt, store.submit(source), entry);
+        expect_placed(rt, submit(&mut store, source), entry);
     }
     Ok(store.close())
 }
@@ -70,8 +71,8 @@ fn expect_the_hill<D: Device, A: Allocator + Copy>(
     rt: &impl Abort,
     store: &mut Store<D, A>,
 ) -> Result<(), Fail> {
-    assert!(rt; store.audit());
-    let rows = store.rows()?;
+    assert!(rt; audit(store));
+    let rows = rows_of(store)?;
     assert_eq!(rt; rows.len(), 20);
     for (place, found) in (0..).zip(rows.as_slice()) {
         assert_eq!(rt; numbers(Some(found)), Some(row(place)), "place {place}");
@@ -137,7 +138,10 @@ fn a_full_hill_is_moved(rt: HostRuntime) -> Result<(), Fail> {
     expect_the_hill(&rt, &mut store)?;
     let mut new = store.close();
     expect_sectors(&rt, rt.alloc(), &mut new)?;
-    expect_the_hill(&rt, &mut opened(rt.alloc(), new)?)
+    let mut store = opened(rt.alloc(), new)?;
+    expect_the_hill(&rt, &mut store)?;
+    drop(store);
+    Ok(())
 }
 
 /// The devices, of which the new one stops behind so many calls.
@@ -148,7 +152,7 @@ fn stopped_behind(
     calls: u64,
 ) -> Result<(MemoryDevice<Global>, MemoryDevice<Global>), Fail> {
     let new = FuseDevice::new(MemoryDevice::new(alloc, SECTORS)?, calls, FuseKind::Stop);
-    match Store::migrate(alloc, old, new) {
+    match migrate(alloc, old, new) {
         Ok((old, store)) => {
             assert_eq!(rt; calls, CALLS);
             Ok((old, store.close().into_inner()))
@@ -171,12 +175,15 @@ fn expect_image(
     image: MemoryDevice<Global>,
     holds: bool,
 ) -> Result<(), Fail> {
-    match Store::open(alloc, image) {
+    match open(alloc, image) {
         Ok(mut store) => {
             assert!(rt; holds);
-            expect_the_hill(rt, &mut store)
+            let found = expect_the_hill(rt, &mut store);
+            drop(store);
+            found
         }
-        Err((_, refusal)) => {
+        Err((device, refusal)) => {
+            drop(device);
             assert_eq!(rt; (holds, refusal), (false, Refusal::NotAHill));
             Ok(())
         }
@@ -259,6 +266,8 @@ fn a_stop_at_each_call(rt: HostRuntime) -> Result<(), Fail> {
         let blank = MemoryDevice::new(rt.alloc(), SECTORS)?;
         let (left, mut store) = moved(rt.alloc(), left, blank)?;
         expect_the_hill(&rt, &mut store)?;
+        drop(store);
+        drop(new);
         old = left;
     }
     Ok(())

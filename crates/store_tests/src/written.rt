@@ -1,5 +1,6 @@
 //! The bytes of a device on which a store wrote.
 
+use crate::calls::expect_reply;
 use crate::headers::BEGINS;
 use crate::stores::{SECTORS, created, fell, placed};
 use sector_disk::{Device, Fault, MemoryDevice};
@@ -10,9 +11,9 @@ use std::test::Fail;
 /// A hill of two, on which a third warrior fell: headers of the generations 2 and 3, and two slots.
 pub(crate) fn written(rt: &impl Abort, alloc: Global) -> Result<MemoryDevice<Global>, Fail> {
     let mut store = created(alloc, MemoryDevice::new(alloc, SECTORS)?)?;
-    assert_eq!(rt; store.submit(b"MOV 0,1"), placed(1, 1, 0));
-    assert_eq!(rt; store.submit(b"JMP 0"), placed(2, 2, 2));
-    assert_eq!(rt; store.submit(b"DAT 0,0"), fell(3, 0));
+    expect_reply(rt, &mut store, b"MOV 0,1", placed(1, 1, 0));
+    expect_reply(rt, &mut store, b"JMP 0", placed(2, 2, 2));
+    expect_reply(rt, &mut store, b"DAT 0,0", fell(3, 0));
     Ok(store.close())
 }
 
@@ -80,9 +81,9 @@ fn headers_and_slots(rt: HostRuntime) -> Result<(), Fail> {
 #[test]
 fn results_stand_with_the_younger(rt: HostRuntime) -> Result<(), Fail> {
     let mut store = created(rt.alloc(), MemoryDevice::new(rt.alloc(), SECTORS)?)?;
-    assert_eq!(rt; store.submit(b"DAT 0,0"), placed(1, 1, 0));
-    assert_eq!(rt; store.submit(b"DAT 0,0"), placed(2, 2, 3));
-    assert_eq!(rt; store.submit(b"JMP 0"), placed(3, 1, 6));
+    expect_reply(&rt, &mut store, b"DAT 0,0", placed(1, 1, 0));
+    expect_reply(&rt, &mut store, b"DAT 0,0", placed(2, 2, 3));
+    expect_reply(&rt, &mut store, b"JMP 0", placed(3, 1, 6));
     let mut device = store.close();
     let mut second = back();
     second[389] = 1;
