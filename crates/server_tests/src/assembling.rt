@@ -1,6 +1,7 @@
-use crate::program::{check_on, run_on, words_of};
+use crate::program::{check_on, run_on, status_of, words_of};
 use crate::streams::{FULL, Full, reader, writer};
-use koth_server::{View, run};
+use koth_server::View;
+use std::alloc::{AllocError, Global};
 use std::fs::File;
 use std::net::Net;
 use std::process::Abort;
@@ -53,18 +54,25 @@ fn check_read(
     Ok(input.reads)
 }
 
-/// The last read is the one that finds the end.
+/// A source that is read so many bytes at a time, by so many reads, each of which fails once. The last read is the one that finds the end.
+fn check_reads(
+    rt: &(impl Abort + Files<File = File> + Net + Clock + AllocGlobal),
+    most: usize,
+    reads: u64,
+) -> Result<(), Fail> {
+    for fails_at in 1..=reads {
+        let made = check_read(rt, most, fails_at, "", "DISK standard input: ", 3)?;
+        assert_eq!(rt; made, fails_at);
+    }
+    let made = check_read(rt, most, 0, "REFUSED 0 Empty\n", "", 1)?;
+    assert_eq!(rt; made, reads);
+    Ok(())
+}
+
 #[test]
 fn a_read_that_fails(rt: HostRuntime) -> Result<(), Fail> {
-    for (most, reads) in [(4, 3), (1, 7)] {
-        for fails_at in 1..=reads {
-            let made = check_read(&rt, most, fails_at, "", "DISK standard input: ", 3)?;
-            assert_eq!(rt; made, fails_at);
-        }
-        let made = check_read(&rt, most, 0, "REFUSED 0 Empty\n", "", 1)?;
-        assert_eq!(rt; made, reads);
-    }
-    Ok(())
+    check_reads(&rt, 4, 3)?;
+    check_reads(&rt, 1, 7)
 }
 
 /// A run whose output takes so many bytes, so many at a time, and then is full. What it took is the answer.
@@ -78,7 +86,7 @@ fn check_write(
     let words = words_of(rt.alloc(), line)?;
     let mut output = writer(rt.alloc(), most, room, full);
     let mut errors = Vec::new(rt.alloc());
-    let status = run(
+    let status = status_of(
         rt,
         rt.alloc(),
         rt.alloc(),
@@ -94,33 +102,55 @@ fn check_write(
     Ok(output.taken)
 }
 
+/// What a run for an empty source writes where its output takes so many bytes.
+fn check_room(
+    rt: &(impl Abort + Files<File = File> + Net + Clock + AllocGlobal),
+    most: usize,
+    room: usize,
+    full: Full,
+) -> Result<(), Fail> {
+    let line = b"REFUSED 0 Empty\n".as_slice();
+    let taken = check_write(rt, "koth asm", most, room, full)?;
+    assert_eq!(rt; line.get(..room), Some(taken.as_slice()));
+    Ok(())
+}
+
 /// At each byte of the line that is due, and in the first line of the help.
 #[test]
 fn a_write_that_fails(rt: HostRuntime) -> Result<(), Fail> {
-    let line = b"REFUSED 0 Empty\n".as_slice();
-    for room in 0..line.len() {
-        for full in FULL {
-            let taken = check_write(&rt, "koth asm", usize::MAX, room, full)?;
-            assert_eq!(rt; line.get(..room), Some(taken.as_slice()));
-            let taken = check_write(&rt, "koth asm", 1, room, full)?;
-            assert_eq!(rt; line.get(..room), Some(taken.as_slice()));
+    for room in 0..b"REFUSED 0 Empty\n".len() {
+        for full in &FULL {
+            check_room(&rt, usize::MAX, room, *full)?;
+            check_room(&rt, 1, room, *full)?;
         }
         check_write(&rt, "koth --help", usize::MAX, room, FULL[0])?;
     }
     Ok(())
 }
 
+/// A head, so many times a line, and a tail.
+fn text_of(
+    alloc: Global,
+    head: &str,
+    line: &str,
+    count: usize,
+    tail: &str,
+) -> Result<String, AllocError> {
+    let mut text = String::from_str(alloc, head)?;
+    for _ in 0..count {
+        text.push_str(line)?;
+    }
+    text.push_str(tail)?;
+    Ok(text)
+}
+
 /// The load text of so many lines `DAT 0`, up to the longest warrior that settings allow.
 #[test]
 fn the_longest_warrior(rt: HostRuntime) -> Result<(), Fail> {
     let line = "koth asm --length 200 --distance 200";
-    let mut source = String::new(rt.alloc());
-    let mut text = String::from_str(rt.alloc(), "ORG 0\n")?;
-    for _ in 0..200 {
-        source.push_str("DAT 0\n")?;
-        text.push_str("DAT.F  $     0, $     0\n")?;
-    }
-    text.push_str("END\n")?;
+    let mut source = text_of(rt.alloc(), "", "DAT 0\n", 200, "")?;
+    let printed = "DAT.F  $     0, $     0\n";
+    let text = text_of(rt.alloc(), "ORG 0\n", printed, 200, "END\n")?;
     check_on(&rt, line, source.as_bytes(), text.as_str(), "", 0)?;
     source.push_str("DAT 0\n")?;
     check_on(&rt, line, source.as_bytes(), "REFUSED 0 TooLong\n", "", 1)?;

@@ -10,8 +10,11 @@ pub(crate) const SECTOR: usize = 512;
 /// Sectors of the file: those of the headers, and two for each of four slots.
 pub(crate) const SECTORS: usize = 2 + 2 * 4;
 
+/// A sector, where what it holds begins, and the bytes.
+type Written = (usize, usize, &'static [u8]);
+
 /// What its sectors hold that is not zero: the sector, where it begins, and the bytes. Four warriors came, and the third fell.
-const WRITTEN: [(usize, usize, &[u8]); 17] = [
+const WRITTEN: [Written; 17] = [
     (
         0,
         0,
@@ -66,15 +69,26 @@ const WRITTEN: [(usize, usize, &[u8]); 17] = [
 pub(crate) const TABLE: &str =
     "1 4 92 0 Stone by Nobody\n2 2 35 2 Dwarf by A. K. Dewdney\n3 1 21 3 Imp by A. K. Dewdney\n.\n";
 
+/// Writes these bytes behind so many others.
+fn write_behind(bytes: &mut [u8], count: usize, written: &[u8]) {
+    let places = bytes.iter_mut().skip(count);
+    for (place, byte) in places.zip(written) {
+        *place = *byte;
+    }
+}
+
+/// Writes what sectors hold.
+fn write_rows(bytes: &mut [u8], rows: &[Written]) {
+    for (sector, begins, written) in rows {
+        let count = sector.saturating_mul(SECTOR).saturating_add(*begins);
+        write_behind(bytes, count, written);
+    }
+}
+
 /// The bytes of the file.
 pub(crate) fn bytes() -> [u8; SECTORS * SECTOR] {
     let mut bytes = [0; SECTORS * SECTOR];
-    for (sector, begins, written) in WRITTEN {
-        let places = bytes.iter_mut().skip(sector * SECTOR + begins);
-        for (place, byte) in places.zip(written) {
-            *place = *byte;
-        }
-    }
+    write_rows(&mut bytes, &WRITTEN);
     bytes
 }
 

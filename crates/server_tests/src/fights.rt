@@ -64,23 +64,28 @@ fn fights(rt: HostRuntime) -> Result<(), Fail> {
     check_fight(&rt, "DAT 0,0\n", Some("JMP 0\n"), "0 2 0\n", 0)
 }
 
+/// How a fight of an imp and a warrior that stays goes under these limits.
+fn check_limits(
+    rt: &(impl Abort + Files<File = File> + Net + Clock + AllocGlobal),
+    limits: &str,
+    counts: &str,
+) -> Result<(), Fail> {
+    let line = format!(in rt.alloc(); "koth fight imp.red stays.red {FIGHT} {limits}")?;
+    let ran = run_on(rt, rt.alloc(), line.as_str(), &mut b"".as_slice())?;
+    assert_eq!(rt; ran.output.as_slice(), counts.as_bytes());
+    assert_eq!(rt; ran.status, 0, "{limits}");
+    Ok(())
+}
+
 /// Within one cell an imp copies itself onto itself, and dies.
 #[test]
 fn a_fight_under_limits(rt: HostRuntime) -> Result<(), Fail> {
-    let files = ["imp.red", "stays.red"];
-    fs::write(&rt, files[0], "MOV 0,1\n")?;
-    fs::write(&rt, files[1], "JMP 0\n")?;
-    for (limits, counts) in [
-        ("--read-limit=8 --write-limit=1", "0 2 0\n"),
-        ("--read-limit=1 --write-limit=2", "0 0 2\n"),
-    ] {
-        let line = format!(in rt.alloc(); "koth fight {} {} {FIGHT} {limits}", files[0], files[1])?;
-        let ran = run_on(&rt, rt.alloc(), line.as_str(), &mut b"".as_slice())?;
-        assert_eq!(rt; ran.output.as_slice(), counts.as_bytes());
-        assert_eq!(rt; ran.status, 0, "{limits}");
-    }
-    fs::remove_file(&rt, files[0])?;
-    fs::remove_file(&rt, files[1])?;
+    fs::write(&rt, "imp.red", "MOV 0,1\n")?;
+    fs::write(&rt, "stays.red", "JMP 0\n")?;
+    check_limits(&rt, "--read-limit=8 --write-limit=1", "0 2 0\n")?;
+    check_limits(&rt, "--read-limit=1 --write-limit=2", "0 0 2\n")?;
+    fs::remove_file(&rt, "imp.red")?;
+    fs::remove_file(&rt, "stays.red")?;
     Ok(())
 }
 

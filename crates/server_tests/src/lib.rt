@@ -10,7 +10,7 @@
 //! - `pages`: the page of a hill;
 //! - `earlier` and `migrations`: a hill of the old format, and how it is moved to the new one;
 //! - `sessions` and `session_faults`: what a session answers, and how it ends where a stream or the device fails;
-//! - `growths`: sessions and commands with each growth of memory refused in turn;
+//! - `growths` and `command_growths`: sessions and commands with each growth of memory refused in turn;
 //! - `peers`: peers that wait for an answer, and streams that signals interrupt;
 //! - `told`: what people are told of each likely mistake, and output in columns.
 //!
@@ -21,6 +21,8 @@
 mod assembling;
 #[cfg(test)]
 mod audits;
+#[cfg(test)]
+mod command_growths;
 #[cfg(test)]
 mod earlier;
 #[cfg(test)]

@@ -54,26 +54,34 @@ fn an_old_hill_is_no_hill_before_it_is_moved(rt: HostRuntime) -> Result<(), Fail
     Ok(())
 }
 
+/// The file of the next test.
+const KNOWN: &str = "known.hill";
+
+/// This is told of a file with these two sectors.
+fn check_known(
+    rt: &(impl Abort + Files<File = File> + Net + Clock + AllocGlobal),
+    first: &[u8],
+    second: &[u8],
+    told: &str,
+) -> Result<(), Fail> {
+    let mut bytes = Vec::from_slice(rt.alloc(), first)?;
+    bytes.extend_from_slice(second)?;
+    fs::write(rt, KNOWN, bytes.as_slice())?;
+    check_told(rt, "koth show known.hill", View::Plain, "", told, 1)
+}
+
 /// One header is enough to tell, and only in the sector of its parity: that of generation 4 is in the first, and of 3 in the second.
 #[test]
 fn an_old_hill_is_known_by_a_header(rt: HostRuntime) -> Result<(), Fail> {
-    let file = "known.hill";
     let bytes = earlier::bytes();
     let (even, odd) = (&bytes[..SECTOR], &bytes[SECTOR..2 * SECTOR]);
     let none = [0; SECTOR];
-    for (first, second, told) in [
-        (even, none.as_slice(), OLD_HILL),
-        (none.as_slice(), odd, OLD_HILL),
-        (odd, even, NO_HILL),
-        (even, even, OLD_HILL),
-        (odd, odd, OLD_HILL),
-    ] {
-        let mut file_bytes = Vec::from_slice(rt.alloc(), first)?;
-        file_bytes.extend_from_slice(second)?;
-        fs::write(&rt, file, file_bytes.as_slice())?;
-        check_told(&rt, "koth show known.hill", View::Plain, "", told, 1)?;
-    }
-    fs::remove_file(&rt, file)?;
+    check_known(&rt, even, &none, OLD_HILL)?;
+    check_known(&rt, &none, odd, OLD_HILL)?;
+    check_known(&rt, odd, even, NO_HILL)?;
+    check_known(&rt, even, even, OLD_HILL)?;
+    check_known(&rt, odd, odd, OLD_HILL)?;
+    fs::remove_file(&rt, KNOWN)?;
     Ok(())
 }
 

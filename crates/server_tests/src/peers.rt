@@ -1,9 +1,10 @@
 //! Peers that wait for an answer, and streams that signals interrupt.
 
-use crate::program::words_of;
+use crate::program::{status_of, words_of};
+use crate::sessions::end_of;
 use crate::stores::empty_hill;
-use koth_server::{View, run};
-use koth_session::{Counted, SessionEnd, session};
+use koth_server::View;
+use koth_session::{Counted, SessionEnd};
 use std::cell::Cell;
 use std::io;
 use std::io::{ErrorKind, Read, Write};
@@ -71,7 +72,7 @@ fn no_answer_is_held_back(rt: HostRuntime) -> Result<(), Fail> {
         answered: &answered,
     });
     let mut store = empty_hill(rt.alloc())?;
-    let ended = session(rt.alloc(), &mut input, &mut output, &mut store);
+    let ended = end_of(rt.alloc(), &mut input, &mut output, &mut store);
     assert_eq!(rt; ended, SessionEnd::Quit);
     assert_eq!(rt; answered.get(), 4);
     assert_eq!(rt; input.faults(), 0);
@@ -139,7 +140,7 @@ fn signals_end_no_session(rt: HostRuntime) -> Result<(), Fail> {
     let mut input = Counted::new(one_by_one(b"SUBMIT\nMOV 0,1\n.\nBOGUS\nQUIT\n"));
     let mut output = Counted::new(one_by_one(b""));
     let mut store = empty_hill(rt.alloc())?;
-    let ended = session(rt.alloc(), &mut input, &mut output, &mut store);
+    let ended = end_of(rt.alloc(), &mut input, &mut output, &mut store);
     assert_eq!(rt; ended, SessionEnd::Quit);
     assert_eq!(rt; (input.faults(), output.faults()), (0, 0));
     assert_eq!(rt; output.into_inner().written, "PLACED 1 1 0\nBAD\n".len());
@@ -151,7 +152,7 @@ fn signals_end_no_command(rt: HostRuntime) -> Result<(), Fail> {
     let words = words_of(rt.alloc(), "koth asm")?;
     let mut input = one_by_one(b"");
     let mut output = one_by_one(b"");
-    let status = run(
+    let status = status_of(
         &rt,
         rt.alloc(),
         rt.alloc(),

@@ -1,7 +1,7 @@
 use koth_server::{View, run};
 use std::alloc::{AllocError, Allocator, Global};
 use std::fs::File;
-use std::io::Read;
+use std::io::{Read, Write};
 use std::net::Net;
 use std::process::Abort;
 use std::rt::{Clock, Files};
@@ -22,6 +22,20 @@ pub(crate) fn words_of(alloc: Global, line: &str) -> Result<Vec<String>, AllocEr
         words.push(String::from_str(alloc, word)?)?;
     }
     Ok(words)
+}
+
+/// What a run of the program with these words leaves with.
+pub(crate) fn status_of<A: Allocator + Copy>(
+    rt: &(impl Files<File = File> + Net + Clock),
+    heap: Global,
+    alloc: A,
+    words: &[String],
+    view: View,
+    input: &mut impl Read,
+    output: &mut impl Write,
+    errors: &mut impl Write,
+) -> u8 {
+    run(rt, heap, alloc, words, view, input, output, errors)
 }
 
 /// A run of the program with these words.
@@ -57,7 +71,7 @@ pub(crate) fn run_viewed<A: Allocator + Copy>(
     let words = words_of(heap, line)?;
     let mut output = Vec::new(heap);
     let mut errors = Vec::new(heap);
-    let status = run(
+    let status = status_of(
         rt,
         heap,
         alloc,

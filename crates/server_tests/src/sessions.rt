@@ -1,9 +1,22 @@
 use crate::stores::empty_hill;
 use crate::streams::{FULL, reader, writer};
+use hill_store::Store;
 use koth_session::{Counted, SessionEnd, session};
-use std::io::Read;
+use sector_disk::Device;
+use std::alloc::Allocator;
+use std::io::{Read, Write};
 use std::process::Abort;
 use std::test::Fail;
+
+/// How a session on a store ends.
+pub(crate) fn end_of<R: Read, W: Write, D: Device, A: Allocator + Copy>(
+    alloc: A,
+    input: &mut Counted<R>,
+    output: &mut Counted<W>,
+    store: &mut Store<D, A>,
+) -> SessionEnd {
+    session(alloc, input, output, store)
+}
 
 /// A session on an empty hill that is given these lines answers so, and ends so. How many faults its input had is the answer.
 pub(crate) fn check(
@@ -26,7 +39,7 @@ fn check_slow(
     let mut store = empty_hill(rt.alloc())?;
     let mut input = Counted::new(lines);
     let mut output = Counted::new(writer(rt.alloc(), most, usize::MAX, FULL[0]));
-    let ended = session(rt.alloc(), &mut input, &mut output, &mut store);
+    let ended = end_of(rt.alloc(), &mut input, &mut output, &mut store);
     assert_eq!(rt; ended, end, "at {answers}");
     assert_eq!(rt; output.faults(), 0);
     let taken = output.into_inner().taken;
@@ -62,13 +75,31 @@ pub(crate) const ROWS: [(&str, &str, SessionEnd); 8] = [
     ),
 ];
 
-/// Each of them at once, and then byte for byte.
-#[test]
-fn sessions(rt: HostRuntime) -> Result<(), Fail> {
-    for (lines, answers, end) in ROWS {
-        assert_eq!(rt; check(&rt, lines.as_bytes(), answers, end)?, 0);
-        let slow = reader(lines.as_bytes(), 1, 0);
-        assert_eq!(rt; check_slow(&rt, slow, 1, answers, end)?, 0);
+/// Lines at once, and then byte for byte.
+fn check_twice(
+    rt: &(impl Abort + AllocGlobal),
+    lines: &str,
+    answers: &str,
+    end: SessionEnd,
+) -> Result<(), Fail> {
+    assert_eq!(rt; check(rt, lines.as_bytes(), answers, end)?, 0);
+    let slow = reader(lines.as_bytes(), 1, 0);
+    assert_eq!(rt; check_slow(rt, slow, 1, answers, end)?, 0);
+    Ok(())
+}
+
+/// Each of these sessions.
+fn check_rows(
+    rt: &(impl Abort + AllocGlobal),
+    rows: &[(&'static str, &'static str, SessionEnd)],
+) -> Result<(), Fail> {
+    for (lines, answers, end) in rows {
+        check_twice(rt, lines, answers, *end)?;
     }
     Ok(())
+}
+
+#[test]
+fn sessions(rt: HostRuntime) -> Result<(), Fail> {
+    check_rows(&rt, &ROWS)
 }

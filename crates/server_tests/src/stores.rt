@@ -1,7 +1,7 @@
-ghost use Rattle.std.specs.Prelude.{◌≡◌, false, IfOk, IfSome};
+ghost use Rattle.std.specs.Prelude.{◌≡◌, false, IfOk};
 
 use hill_store::Store;
-use sector_disk::{Device, FuseDevice, FuseKind, MemoryDevice};
+use sector_disk::{Device, MemoryDevice};
 use std::alloc::{Allocator, Global};
 use std::test::Fail;
 use war_types::{RawSettings, Settings};
@@ -51,20 +51,4 @@ pub(crate) fn reopened<D: Device + Drop, A: Allocator + Copy>(
         Ok(store) => Ok(store),
         Err(_) => Err("it opens".into()),
     }
-}
-
-/// The same over a device that fails once, behind so many calls, of which creating the hill makes five.
-pub(crate) fn failing_hill(
-    alloc: Global,
-    calls: u64,
-) -> Option<Store<FuseDevice<MemoryDevice<Global>>, Global>>
-    ensures { IfSome result (λ store. store.reopen ≡ false) }
-{
-    let settings = Settings::new(SMALL).ok()?;
-    let device = FuseDevice::new(
-        MemoryDevice::new(alloc, SECTORS).ok()?,
-        calls,
-        FuseKind::FailLost,
-    );
-    Store::create(alloc, device, settings).ok()
 }

@@ -69,29 +69,53 @@ fn files_that_hold_something_else(rt: HostRuntime) -> Result<(), Fail> {
     Ok(())
 }
 
-#[test]
-fn settings_out_of_range(rt: HostRuntime) -> Result<(), Fail> {
-    for (line, errors) in [
-        (
-            "koth create x --rounds 2000",
-            "BadSettings Rounds: --rounds is 2000, and must be 1 to 1000\n",
-        ),
-        (
-            "koth create x --core 100",
-            "BadSettings Distance: --distance is 100 (its default), and must be --length 100 (its default) to half of --core 100\n",
-        ),
-        (
-            "koth create x --length 200",
-            "BadSettings Distance: --distance is 100 (its default), and must be --length 200 to half of --core 8000 (its default)\n",
-        ),
-        (
-            "koth create x --read-limit 3000",
-            "BadSettings ReadLimit: --read-limit is 3000, and must be 0 or a divisor of --core 8000\n",
-        ),
-    ] {
-        tells(&rt, line, errors, 1)?;
+/// Words that end with a text on the errors, and status 1.
+fn tells_each(
+    rt: &(impl Abort + Files<File = File> + Net + Clock + AllocGlobal),
+    rows: &[(&'static str, &'static str)],
+) -> Result<(), Fail> {
+    for (line, errors) in rows {
+        tells(rt, line, errors, 1)?;
     }
     Ok(())
+}
+
+/// Settings out of their ranges, and what is told of them.
+const OUT_OF_RANGE: [(&str, &str); 4] = [
+    (
+        "koth create x --rounds 2000",
+        "BadSettings Rounds: --rounds is 2000, and must be 1 to 1000\n",
+    ),
+    (
+        "koth create x --core 100",
+        "BadSettings Distance: --distance is 100 (its default), and must be --length 100 (its default) to half of --core 100\n",
+    ),
+    (
+        "koth create x --length 200",
+        "BadSettings Distance: --distance is 100 (its default), and must be --length 200 to half of --core 8000 (its default)\n",
+    ),
+    (
+        "koth create x --read-limit 3000",
+        "BadSettings ReadLimit: --read-limit is 3000, and must be 0 or a divisor of --core 8000\n",
+    ),
+];
+
+#[test]
+fn settings_out_of_range(rt: HostRuntime) -> Result<(), Fail> {
+    tells_each(&rt, &OUT_OF_RANGE)
+}
+
+/// What is told of the second of these files.
+const TYPO: &str =
+    "told_typo.red:2:11: UnknownName: nothing is called `strat`; did you mean `start`?\n    2 |       JMP strat\n      |           ^^^^^\n";
+
+/// These words are refused for it.
+fn tells_typo(
+    rt: &(impl Abort + Files<File = File> + Net + Clock + AllocGlobal),
+    line: &str,
+) -> Result<(), Fail> {
+    let output = "REFUSED 2 UnknownName\n";
+    check_told(rt, line, View::Table, output, TYPO, 1)
 }
 
 /// A refusal names the file that it is of.
@@ -99,82 +123,59 @@ fn settings_out_of_range(rt: HostRuntime) -> Result<(), Fail> {
 fn refusals(rt: HostRuntime) -> Result<(), Fail> {
     fs::write(&rt, "told_good.red", "MOV 0, 1\n")?;
     fs::write(&rt, "told_typo.red", "start SPL 0\n      JMP strat\n")?;
-    let told =
-        "told_typo.red:2:11: UnknownName: nothing is called `strat`; did you mean `start`?\n    2 |       JMP strat\n      |           ^^^^^\n";
-    let output = "REFUSED 2 UnknownName\n";
-    for line in [
-        "koth fight told_good.red told_typo.red",
-        "koth fight told_typo.red told_good.red",
-        "koth asm told_typo.red",
-    ] {
-        check_told(&rt, line, View::Table, output, told, 1)?;
-    }
-    check_told(
-        &rt,
-        "koth check told_good.red told_typo.red",
-        View::Plain,
-        told,
-        "",
-        1,
-    )?;
+    tells_typo(&rt, "koth fight told_good.red told_typo.red")?;
+    tells_typo(&rt, "koth fight told_typo.red told_good.red")?;
+    tells_typo(&rt, "koth asm told_typo.red")?;
+    let both = "koth check told_good.red told_typo.red";
+    check_told(&rt, both, View::Plain, TYPO, "", 1)?;
     check_told(&rt, "koth check told_good.red", View::Plain, "", "", 0)?;
     fs::remove_file(&rt, "told_good.red")?;
     fs::remove_file(&rt, "told_typo.red")?;
     Ok(())
 }
 
-#[test]
-fn columns_for_people(rt: HostRuntime) -> Result<(), Fail> {
-    let small =
-        "--core=64 --cycles=100 --processes=8 --length=10 --distance=10 --rounds=2 --capacity=2";
-    let create = format!(in rt.alloc(); "koth create told.hill {small}")?;
-    check(&rt, create.as_str(), "CREATED\n", "", 0)?;
-    fs::write(&rt, "told_dat.red", ";name Dat\nDAT 0\n")?;
-    fs::write(&rt, "told_jmp.red", ";name Jmp\nJMP 0\n")?;
-    check(
-        &rt,
-        "koth submit told.hill told_dat.red",
-        "PLACED 1 1 0\n",
-        "",
-        0,
-    )?;
+/// A hill with one warrior, and the source of a second.
+fn put_hill(
+    rt: &(impl Abort + Files<File = File> + Net + Clock + AllocGlobal),
+) -> Result<(), Fail> {
+    let create =
+        "koth create told.hill --core=64 --cycles=100 --processes=8 --length=10 --distance=10 --rounds=2 --capacity=2";
+    check(rt, create, "CREATED\n", "", 0)?;
+    fs::write(rt, "told_dat.red", ";name Dat\nDAT 0\n")?;
+    fs::write(rt, "told_jmp.red", ";name Jmp\nJMP 0\n")?;
+    let submit = "koth submit told.hill told_dat.red";
+    check(rt, submit, "PLACED 1 1 0\n", "", 0)
+}
+
+/// What is written where the second is submitted, of both tables, and where both fight.
+fn check_columns(
+    rt: &(impl Abort + Files<File = File> + Net + Clock + AllocGlobal),
+) -> Result<(), Fail> {
     let placed =
         "PLACED 2 1 6\nJmp by Anonymous is warrior 2 of this hill: rank 1 of 2, 6 points\nwarrior  author     won  lost  tied\nDat      Anonymous    2     0     0\n";
-    check_told(
-        &rt,
-        "koth submit told.hill told_jmp.red",
-        View::Table,
-        placed,
-        "",
-        0,
-    )?;
+    let submit = "koth submit told.hill told_jmp.red";
+    check_told(rt, submit, View::Table, placed, "", 0)?;
     let table =
         "rank  entry  points  won  lost  tied  age  warrior  author\n   1      2       6    2     0     0    0  Jmp      Anonymous\n   2      1       0    0     2     0    1  Dat      Anonymous\n";
-    check_told(
-        &rt,
-        "koth show told.hill --table",
-        View::Plain,
-        table,
-        "",
-        0,
-    )?;
-    check_told(
-        &rt,
-        "koth show told.hill --plain",
-        View::Table,
-        "1 2 6 0 Jmp by Anonymous\n2 1 0 1 Dat by Anonymous\n.\n",
-        "",
-        0,
-    )?;
-    let fight = format!(in rt.alloc();
-        "koth fight told_dat.red told_jmp.red --core=64 --cycles=100 --processes=8 --length=10 --distance=10 --rounds=2"
-    )?;
+    let show = "koth show told.hill --table";
+    check_told(rt, show, View::Plain, table, "", 0)?;
+    let lines = "1 2 6 0 Jmp by Anonymous\n2 1 0 1 Dat by Anonymous\n.\n";
+    let show = "koth show told.hill --plain";
+    check_told(rt, show, View::Table, lines, "", 0)?;
+    let fight =
+        "koth fight told_dat.red told_jmp.red --core=64 --cycles=100 --processes=8 --length=10 --distance=10 --rounds=2";
     let counts =
         "warrior  author     won  lost  tied\nDat      Anonymous    0     2     0\nJmp      Anonymous    2     0     0\n";
-    check_told(&rt, fight.as_str(), View::Table, counts, "", 0)?;
-    for file in ["told.hill", "told_dat.red", "told_jmp.red"] {
-        fs::remove_file(&rt, file)?;
-    }
+    check_told(rt, fight, View::Table, counts, "", 0)
+}
+
+#[test]
+fn columns_for_people(rt: HostRuntime) -> Result<(), Fail> {
+    put_hill(&rt)?;
+    check_columns(&rt)?;
+    fs::remove_file(&rt, "told.hill")?;
+    fs::remove_file(&rt, "told_dat.red")?;
+    fs::remove_file(&rt, "told_jmp.red")?;
     Ok(())
 }
 

@@ -23,6 +23,17 @@ fn check_fault(
     Ok(())
 }
 
+/// Words that have a fault, each with a part of what is told of it.
+fn check_faults(
+    rt: &(impl Abort + Files<File = File> + Net + Clock + AllocGlobal),
+    rows: &[(&'static str, &'static str)],
+) -> Result<(), Fail> {
+    for (line, part) in rows {
+        check_fault(rt, line, part)?;
+    }
+    Ok(())
+}
+
 /// Words with a fault, and a part of what is told of it.
 const FAULTS: [(&str, &str); 39] = [
     ("koth", "requires a subcommand"),
@@ -95,10 +106,7 @@ const FAULTS: [(&str, &str); 39] = [
 
 #[test]
 fn faults_of_the_words(rt: HostRuntime) -> Result<(), Fail> {
-    for (line, part) in FAULTS {
-        check_fault(&rt, line, part)?;
-    }
-    Ok(())
+    check_faults(&rt, &FAULTS)
 }
 
 /// Words that ask for help: it is written on the output.
@@ -112,6 +120,17 @@ fn check_help(
     assert!(rt; text.contains(part), "{text}");
     assert_eq!(rt; ran.errors.len(), 0);
     assert_eq!(rt; ran.status, 0, "{text}");
+    Ok(())
+}
+
+/// Words that ask for help, each with a part of it.
+fn check_helps(
+    rt: &(impl Abort + Files<File = File> + Net + Clock + AllocGlobal),
+    rows: &[(&'static str, &'static str)],
+) -> Result<(), Fail> {
+    for (line, part) in rows {
+        check_help(rt, line, part)?;
+    }
     Ok(())
 }
 
@@ -144,10 +163,7 @@ const HELPS: [(&str, &str); 23] = [
 
 #[test]
 fn help_is_written_to_the_output(rt: HostRuntime) -> Result<(), Fail> {
-    for (line, part) in HELPS {
-        check_help(&rt, line, part)?;
-    }
-    Ok(())
+    check_helps(&rt, &HELPS)
 }
 
 #[test]
@@ -193,14 +209,23 @@ fn check_refused(
     Ok(())
 }
 
+/// Each command that takes settings, with each of these options.
+fn check_options(
+    rt: &(impl Abort + Files<File = File> + Net + Clock + AllocGlobal),
+    rows: &[(&'static str, &'static str)],
+) -> Result<(), Fail> {
+    for (options, field) in rows {
+        check_refused(rt, "asm", options, field)?;
+        check_refused(rt, "fight no_such_file no_such_file", options, field)?;
+        check_refused(rt, "replay no_such_file no_such_file", options, field)?;
+        check_refused(rt, "create no_such_file", options, field)?;
+    }
+    Ok(())
+}
+
 #[test]
 fn settings_are_refused_before_anything_is_read(rt: HostRuntime) -> Result<(), Fail> {
-    for (options, field) in OUT_OF_RANGE {
-        check_refused(&rt, "asm", options, field)?;
-        check_refused(&rt, "fight no_such_file no_such_file", options, field)?;
-        check_refused(&rt, "replay no_such_file no_such_file", options, field)?;
-        check_refused(&rt, "create no_such_file", options, field)?;
-    }
+    check_options(&rt, &OUT_OF_RANGE)?;
     assert!(rt; !fs::exists(&rt, "no_such_file")?);
     Ok(())
 }

@@ -1,0 +1,269 @@
+//! Each growth of memory of a command refused in turn: it is told or answered, and with memory the command is done then.
+
+use crate::earlier;
+use crate::growths::ONE;
+use crate::program::{check, run_within};
+use refusing::Refusing;
+use std::alloc::Global;
+use std::fs;
+use std::fs::File;
+use std::net::Net;
+use std::process::Abort;
+use std::rt::{Clock, Files};
+use std::test::Fail;
+
+/// The hill of two on which the next commands are run: the first warrior is on it.
+const HILL: &str = "growths.hill";
+
+/// The second, in a file.
+const SOURCE: &str = "growths.red";
+
+/// A hill of the old format, in a file that no command changes.
+const OLD_HILL: &str = "old_growths.hill";
+
+/// A hill that is created, or moved there.
+const CREATED: &str = "growing.hill";
+
+/// A command and its input, and what it writes and leaves with where it finds its memory.
+#[derive(Drop)]
+struct Command {
+    line: &'static str,
+    input: &'static str,
+    output: &'static str,
+    status: u8,
+}
+
+/// A command as the table below has it.
+type Row = (u64, u64, &'static str, &'static str, &'static str, u8);
+
+/// Growths of a command, and then of its submission, which is answered `MEMORY`: without one of the first that is told as a fault. Then
+/// the command, its input, what it writes, and what it leaves with.
+///
+/// A source is read into a buffer and assembled by 7 growths. A hill is created by 5, the members and an arena's four, behind one for
+/// the path of its file, and opened by these and the code of the one warrior. The hill of the old format that is moved to a file that is made
+/// has three warriors. Texts grow from 8 bytes to 16, 32 and 64, load text from 4.
+const COMMANDS: [Row; 8] = [
+    (
+        1 + 7 + 5,
+        0,
+        "koth asm",
+        "MOV 0, 1\n",
+        "ORG 0\nMOV.I  $     0, $     1\nEND\n",
+        0,
+    ),
+    (
+        8 + 8 + 4 + 1,
+        0,
+        "koth fight growths.red growths.red --core=64 --cycles=100 --processes=8 --length=10 --distance=10 --rounds=2",
+        "",
+        "0 0 2\n",
+        0,
+    ),
+    (
+        1 + 5,
+        0,
+        "koth create growing.hill --core=64 --cycles=100 --processes=8 --length=10 --distance=10 --rounds=2 --capacity=2",
+        "",
+        "CREATED\n",
+        0,
+    ),
+    (6 + 1 + 3, 0, "koth show growths.hill", "", ONE, 0),
+    (
+        6 + 1 + 3 + 1 + 2 + 1,
+        0,
+        "koth show growths.hill --matches",
+        "",
+        "1 1 0 0 Unnamed by Anonymous\n.\n    1\n 1  -\n",
+        0,
+    ),
+    (6, 0, "koth audit growths.hill", "", "true\n", 0),
+    (
+        1 + 5 + 3,
+        0,
+        "koth migrate old_growths.hill growing.hill",
+        "",
+        "MIGRATED\n",
+        0,
+    ),
+    (
+        6 + 1,
+        7,
+        "koth submit growths.hill growths.red",
+        "",
+        "PLACED 2 2 2\n",
+        0,
+    ),
+];
+
+/// The files as the commands find them: the hill has these bytes, and the other one is not there.
+fn put_files(rt: &(impl Files + AllocGlobal), hill: &[u8]) -> Result<(), Fail> {
+    fs::write(rt, HILL, hill)?;
+    if fs::exists(rt, CREATED)? {
+        fs::remove_file(rt, CREATED)?;
+    }
+    Ok(())
+}
+
+/// Nothing became of a command that found no memory: the hill has these bytes, and none was created.
+fn expect_files(
+    rt: &(impl Abort + Files<File = File> + Net + Clock + AllocGlobal),
+    hill: &[u8],
+) -> Result<(), Fail> {
+    assert_eq!(rt; fs::read(rt, HILL)?.as_slice(), hill);
+    if fs::exists(rt, CREATED)? {
+        check(rt, "koth show growing.hill", "", "NotAHill\n", 1)?;
+    }
+    Ok(())
+}
+
+/// A command, of which growth `k` is refused, writes this on its output and on its errors and leaves with this status. How many were
+/// refused is the answer.
+fn check_run(
+    rt: &(impl Abort + Files<File = File> + Net + Clock + AllocGlobal),
+    memory: &Refusing<Global>,
+    k: u64,
+    command: &Command,
+    errors: &str,
+) -> Result<u64, Fail> {
+    memory.refuse(k, 1);
+    let mut input = command.input.as_bytes();
+    let ran = run_within(rt, rt.alloc(), memory, command.line, &mut input)?;
+    let refused = memory.refused();
+    memory.refuse(0, 0);
+    let output = str::from_utf8(ran.output.as_slice())?;
+    assert_eq!(rt; output, command.output, "{} at growth {k}", command.line);
+    assert_eq!(rt; ran.errors.is_empty(), errors.is_empty());
+    assert!(rt; ran.errors.as_slice().starts_with(errors.as_bytes()));
+    assert_eq!(rt; ran.status, command.status);
+    Ok(refused)
+}
+
+/// A command, of which growth `k` is refused, writes the one line `MEMORY` and leaves everything as it was. With memory it is done then.
+fn check_refused(
+    rt: &(impl Abort + Files<File = File> + Net + Clock + AllocGlobal),
+    memory: &Refusing<Global>,
+    hill: &[u8],
+    k: u64,
+    command: &Command,
+    is_reply: bool,
+) -> Result<(), Fail> {
+    let (output, errors) = if is_reply {
+        ("MEMORY\n", "")
+    } else {
+        ("", "MEMORY")
+    };
+    let refused = Command {
+        line: command.line,
+        input: command.input,
+        output,
+        status: 4,
+    };
+    put_files(rt, hill)?;
+    assert_eq!(rt; check_run(rt, memory, k, &refused, errors)?, 1);
+    expect_files(rt, hill)?;
+    assert_eq!(rt; check_run(rt, memory, u64::MAX, command, "")?, 0);
+    Ok(())
+}
+
+/// Each growth of a command is refused in turn, these as faults and then so many as replies.
+fn check_command(
+    rt: &(impl Abort + Files<File = File> + Net + Clock + AllocGlobal),
+    memory: &Refusing<Global>,
+    hill: &[u8],
+    faults: u64,
+    replies: u64,
+    command: &Command,
+) -> Result<(), Fail> {
+    let growths = faults.saturating_add(replies);
+    for k in 0..growths {
+        check_refused(rt, memory, hill, k, command, k >= faults)?;
+    }
+    put_files(rt, hill)?;
+    assert_eq!(rt;
+        check_run(rt, memory, growths, command, "")?,
+        0,
+        "it makes {growths}"
+    );
+    Ok(())
+}
+
+/// The hill with its first warrior, the source of the second, and the hill of the old format.
+fn put_hills(
+    rt: &(impl Abort + Files<File = File> + Net + Clock + AllocGlobal),
+) -> Result<(), Fail> {
+    let create =
+        "koth create growths.hill --core=64 --cycles=100 --processes=8 --length=10 --distance=10 --rounds=2 --capacity=2";
+    check(rt, create, "CREATED\n", "", 0)?;
+    fs::write(rt, SOURCE, "MOV 0,1\n")?;
+    let submit = "koth submit growths.hill growths.red";
+    check(rt, submit, "PLACED 1 1 0\n", "", 0)?;
+    fs::write(rt, SOURCE, "JMP 0\n")?;
+    earlier::put(rt, OLD_HILL)
+}
+
+/// Each of these commands, on a hill of these bytes.
+fn check_commands(
+    rt: &(impl Abort + Files<File = File> + Net + Clock + AllocGlobal),
+    hill: &[u8],
+    rows: &[Row],
+) -> Result<(), Fail> {
+    let memory = Refusing::new(rt.alloc());
+    for (faults, replies, line, input, output, status) in rows {
+        let command = Command {
+            line: *line,
+            input: *input,
+            output: *output,
+            status: *status,
+        };
+        check_command(rt, &memory, hill, *faults, *replies, &command)?;
+    }
+    Ok(())
+}
+
+/// The words are parsed on the program's heap, which refuses nothing here.
+#[test]
+fn of_commands(rt: HostRuntime) -> Result<(), Fail> {
+    put_hills(&rt)?;
+    let hill = fs::read(&rt, HILL)?;
+    check_commands(&rt, hill.as_slice(), &COMMANDS)?;
+    put_files(&rt, hill.as_slice())?;
+    fs::remove_file(&rt, HILL)?;
+    fs::remove_file(&rt, OLD_HILL)?;
+    fs::remove_file(&rt, SOURCE)?;
+    Ok(())
+}
+
+/// An explanation, of which growth `k` is refused: the refusal is answered all the same. Whether it took no more growths is the answer.
+fn is_explained(
+    rt: &(impl Abort + Files<File = File> + Net + Clock + AllocGlobal),
+    memory: &Refusing<Global>,
+    k: u64,
+) -> Result<bool, Fail> {
+    memory.refuse(k, 1);
+    let mut input = b"MOV 0, 1\nMVO 0, 1\n".as_slice();
+    let ran = run_within(rt, rt.alloc(), memory, "koth asm", &mut input)?;
+    let refused = memory.refused();
+    memory.refuse(0, 0);
+    if ran.status == 4 {
+        return Ok(false);
+    }
+    assert_eq!(rt;
+        str::from_utf8(ran.output.as_slice())?,
+        "REFUSED 2 BadOperation\n"
+    );
+    assert_eq!(rt; ran.status, 1);
+    assert!(rt; refused > 0 || ran.errors.len() > 0);
+    Ok(refused == 0)
+}
+
+/// Each growth of an explanation is refused in turn.
+#[test]
+fn of_an_explanation(rt: HostRuntime) -> Result<(), Fail> {
+    let memory = Refusing::new(rt.alloc());
+    for k in 1..1000 {
+        if is_explained(&rt, &memory, k)? {
+            return Ok(());
+        }
+    }
+    Err("it makes a thousand growths".into())
+}
