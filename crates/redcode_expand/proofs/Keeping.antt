@@ -7,12 +7,14 @@ use Rattle.redcode_text.specs.Value.{part_of, value_of, value_within, or_bad}
 use Rattle.redcode_lines.specs.Line.{is_name, SourceLine, labels_of}
 use Rattle.redcode_names.specs.Equ.{EquList, body_at, round, has_tokens, has_equ, left_over, replaced, after_rounds}
 use Rattle.redcode_names.specs.Name.{is_loose, predefined, Names, for_labels}
-use Rattle.redcode_expand.specs.Kept.{has_loose, Keeps, CountIsFixed, IsKept, AreKept, kept_at}
+use Rattle.redcode_expand.specs.Kept.{count_of, has_loose, Keeps, CountIsFixed, IsKept, AreKept, kept_at}
+use Rattle.redcode_expand.specs.declared.counts.Kept.{Kept}
+use Rattle.redcode_expand.specs.declared.counts.Kept.TheVariants as kept
 use Rattle.redcode_names.proofs.Replacing.{left_over-all}
 use Rattle.redcode_names.proofs.Unchanged.{replaced-left}
 use Rattle.std.proofs.lemmas.Grind.{common_steps}
-use Rattle.std.specs.Prelude.{slice_set}
-use Rattle.std.proofs.lemmas.List.{get_or-set_other, get_or-replicate, length-set, length-replicate}
+use Rattle.std.specs.Prelude.{slice_index_or, slice_set}
+use Rattle.std.proofs.lemmas.List.{get_or-map, get_or-set_other, get_or-replicate, length-map, length-set, length-replicate, map-set, set-get_or}
 use Rattle.redcode_expand.specs.Walk.{WalkState, begun_as, walk_state, ExpandedLine, Begun, begun_of, copies_of, count_by}
 use Rattle.redcode_expand.proofs.GoingOn.{nat_eq-other}
 use Rattle.war_types.specs.declared.fault.AsmFault.{AsmFault}
@@ -127,6 +129,27 @@ all-with s lines equs counts at line n some read kept are =
         | inr f ↦ are.kept place other m there again (sym (get_or-set_other counts at place (Some n) None (nat_eq-other place at f)) ∙ is)
       ];
     }
+
+-- ---- what the code keeps of a count
+
+none-of : (n : ℕ) → map count_of (replicate n kept.Nothing) ≡ replicate n None
+none-of zero = refl
+none-of (suc n) = ap (λ (os : List (Option ℕ)). None ∷ os) (none-of n)
+
+pub nothing-kept : (n : ℕ) (ks : List Kept) → ks ≡ replicate n kept.Nothing → map count_of ks ≡ replicate n None
+nothing-kept n ks is = ap (map count_of) is ∙ none-of n
+
+pub learned-copies : (ks : List Kept) (counts : List (Option ℕ)) (at n : ℕ) (fixed : Bool) → map count_of ks ≡ counts → fixed ≡ true
+    → map count_of (slice_set ks at (kept.Copies n)) ≡ (if fixed then slice_set counts at (Some n) else counts)
+learned-copies ks counts at n fixed is fixed-is = rw fixed-is (map-set count_of ks at (kept.Copies n) ∙ ap (λ (os : List (Option ℕ)). slice_set os at (Some n)) is)
+
+-- of a line of which nothing is kept
+pub changing-kept : (ks : List Kept) (counts : List (Option ℕ)) (at : ℕ) (d : Kept) → map count_of ks ≡ counts → at < length counts → slice_index_or ks at d ≡ kept.Nothing
+    → map count_of (slice_set ks at kept.Changing) ≡ counts
+changing-kept ks counts at d is some there =
+    let within : at < length ks = omega (arith, some, ap length is, length-map ks count_of) in
+    let none : slice_index_or (map count_of ks) at None ≡ None = get_or-map count_of ks at d None within ∙ ap count_of there in
+    map-set count_of ks at kept.Changing ∙ ap (λ (o : Option ℕ). slice_set (map count_of ks) at o) (sym none) ∙ set-get_or (map count_of ks) at None ∙ is
 
 -- ---- a block that begins by a count that is kept
 

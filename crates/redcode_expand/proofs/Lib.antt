@@ -2,6 +2,7 @@ mod Unchanged
 mod PlacedNames
 mod PlainCounts
 mod GoingOn
+mod Marks
 mod Rows
 mod RowsOfBlocks
 mod Alike

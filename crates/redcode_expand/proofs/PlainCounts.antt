@@ -63,6 +63,12 @@ none-numbered : (equs : EquList) (cs : List Counter) (ts : List Piece) → has_e
 none-numbered equs cs [] none = refl
 none-numbered equs cs (t ∷ ts) none = grind (arith, or_parts, none-numbered equs cs ts)
 
+-- none is there where there are no EQUs
+pub no-equ : (equs : EquList) (ts : List Piece) → length equs ≡ 0 → has_equ equs ts ≡ false
+no-equ [] [] none = refl
+no-equ [] (t ∷ ts) none = grind (arith, no-equ [] ts none)
+no-equ (e ∷ es) ts none = absurd (omega arith)
+
 -- ---- no labels
 
 copies-word : (cs : List Counter) (line : SourceLine) → (in_copies cs line).word ≡ line.word

@@ -7,6 +7,8 @@ use Rattle.redcode_lines.specs.Line.{SourceLine, is_name, labels_of}
 use Rattle.redcode_names.specs.Equ.{EquList, body_of, has_tokens, replaced}
 use Rattle.redcode_names.specs.Name.{is_loose, predefined}
 use Rattle.redcode_expand.specs.Walk.{count_by}
+use Rattle.redcode_expand.specs.declared.counts.Kept.{Kept}
+use Rattle.redcode_expand.specs.declared.counts.Kept.TheVariants as kept
 
 -- such a name is among the tokens
 abbrev pub has_loose : RawSettings → List Piece → Bool
@@ -33,6 +35,11 @@ pub record IsKept (s : RawSettings) (equs : EquList) (line : SourceLine) (n : �
   pub labels : labels_of line ≡ []
   pub count : IsFixed s line.number equs (drop 1 line.tokens) n
   pub few : n < 2 ^ 63
+
+-- the count that is kept
+abbrev pub count_of : Kept → Option ℕ
+count_of (kept.Copies n) = Some n
+count_of _ = None
 
 -- what is kept of a line behind so many others
 abbrev pub kept_at : List (Option ℕ) → ℕ → Option ℕ

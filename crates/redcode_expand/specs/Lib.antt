@@ -10,3 +10,5 @@ pub mod Rest
 pub mod Kept
 -- and counts with the values of counters
 pub mod Values
+-- what it knows of lines before it reads them
+pub mod Marks

@@ -1,22 +1,23 @@
 //! How a block begins.
 
-ghost use Rattle.std.specs.Prelude.{◌≡◌, ◌+◌, ◌<◌, ◌∷◌, ◌^◌, [], true, false, Some, drop, length, IfOk, OnOk};
+ghost use Rattle.std.specs.Prelude.{◌≡◌, ◌<◌, ◌^◌, [], true, false, Some, drop, length, IfOk, OnOk};
 ghost use Rattle.redcode_text.specs.Tokens.{pieces};
 ghost use Rattle.redcode_text.specs.declared.vocabulary.Word.TheVariants.{For};
 ghost use Rattle.redcode_names.specs.Gives.{Gives};
 ghost use Rattle.redcode_lines.specs.Views.{line_read};
-ghost use Rattle.redcode_lines.specs.Capped.{has_and};
 ghost use Rattle.redcode_copies.specs.Plain.{has_number};
-ghost use Rattle.redcode_expand.specs.Rest.{counters_of, AreFew};
+ghost use Rattle.redcode_expand.specs.Rest.{counters_of};
 ghost use Rattle.redcode_expand.specs.Walk.{begun, begun_as, begun_of};
 ghost use Rattle.redcode_expand.specs.Kept.{AreKept, CountIsFixed};
+ghost use Rattle.redcode_expand.specs.Marks.{is_bare, line_in};
 
 use crate::count::copies_of;
 use crate::counts::Counts;
+use crate::marked_lines::MarkedLines;
 use crate::open_blocks::OpenBlocks;
 use crate::values::count_within;
 use crate::walk::Walk;
-use redcode_lines::{Reading, SourceLine, behind_first, has_and};
+use redcode_lines::{Reading, behind_first};
 use redcode_names::TOKEN_LIMIT;
 use std::alloc::Allocator;
 use war_types::{AsmFault, Settings};
@@ -90,29 +91,40 @@ pub(crate) fn begun_at<'s, A: Allocator + Copy>(
     walk: &mut Walk<'s, A>,
     blocks: &OpenBlocks<'s, A>,
     counts: &mut Counts<A>,
-    lines: &[SourceLine<'s, A>],
+    lines: &MarkedLines<'_, 's, A>,
     at: usize,
-    line: Reading<'_, 's>,
 ) -> Result<Begun<'s>, AsmFault>
     requires some { at < length lines.now }
-    requires line { drop at lines.now ≡ line_read line ∷ drop (at + 1) lines.now }
-    requires word { line.word ≡ Some For }
+    requires word { (line_in lines.now at).word ≡ Some For }
     requires kept { AreKept settings.now lines.now walk.old.names.equs counts.old }
-    ensures begun { Gives (λ b. begun_as walk.new b.counter.now b.copies) result (begun settings.now (counters_of blocks.now) (line_read line.entry) walk.old) }
+    ensures begun { Gives (λ b. begun_as walk.new b.counter.now b.copies) result (begun settings.now (counters_of blocks.now) (line_in lines.now at) walk.old) }
     ensures goes_on { OnOk result (walk.new.ended ≡ walk.old.ended) }
     ensures counted { OnOk result (walk.new.counted ≡ walk.old.counted) }
     ensures few { IfOk result (λ b. b.copies < 2 ^ 63) }
     ensures kept { OnOk result (AreKept settings.now lines.now walk.new.names.equs counts.new) }
 {
-    if !line.front.is_empty() || has_and(line.tokens) {
-        let begun = walk.begin(settings, blocks, line)?;
+    if !lines.is_bare(at) {
+        let begun = walk.begin(settings, blocks, lines.reading(at))?;
         return Ok(begun);
     }
-    if blocks.are_among(behind_first(line.tokens)) {
-        let begun = begun_within(settings, walk, blocks, line)?;
+    if counts.is_changing(at) || names_counter(blocks, lines, at) {
+        counts.forgo(at);
+        let begun = begun_within(settings, walk, blocks, lines.reading(at))?;
         return Ok(begun);
     }
-    begun_outside(settings, walk, blocks, counts, lines, at, line)
+    begun_outside(settings, walk, blocks, counts, lines, at)
+}
+
+/// Whether the count of a `FOR` names a counter.
+fn names_counter<A: Allocator + Copy>(
+    blocks: &OpenBlocks<'_, A>,
+    lines: &MarkedLines<'_, '_, A>,
+    at: usize,
+) -> bool
+    requires { at < length lines.now }
+    ensures { result ≡ has_number (counters_of blocks.now) (drop 1 (line_in lines.now at).tokens) }
+{
+    lines.has_names(at) && blocks.are_among(behind_first(lines.reading(at).tokens))
 }
 
 /// How a block without labels begins whose count names no counter: by the count that is kept, or by one that is worked out, and
@@ -122,18 +134,15 @@ fn begun_outside<'s, A: Allocator + Copy>(
     walk: &mut Walk<'s, A>,
     blocks: &OpenBlocks<'s, A>,
     counts: &mut Counts<A>,
-    lines: &[SourceLine<'s, A>],
+    lines: &MarkedLines<'_, 's, A>,
     at: usize,
-    line: Reading<'_, 's>,
 ) -> Result<Begun<'s>, AsmFault>
     requires some { at < length lines.now }
-    requires line { drop at lines.now ≡ line_read line ∷ drop (at + 1) lines.now }
-    requires word { line.word ≡ Some For }
-    requires front { line.front.now ≡ [] }
-    requires plain { has_and (pieces line.tokens.now) ≡ false }
-    requires unnamed { has_number (counters_of blocks.now) (drop 1 (pieces line.tokens.now)) ≡ false }
+    requires word { (line_in lines.now at).word ≡ Some For }
+    requires bare { is_bare (line_in lines.now at) ≡ true }
+    requires unnamed { has_number (counters_of blocks.now) (drop 1 (line_in lines.now at).tokens) ≡ false }
     requires kept { AreKept settings.now lines.now walk.old.names.equs counts.old }
-    ensures begun { Gives (λ b. begun_as walk.new b.counter.now b.copies) result (begun settings.now (counters_of blocks.now) (line_read line.entry) walk.old) }
+    ensures begun { Gives (λ b. begun_as walk.new b.counter.now b.copies) result (begun settings.now (counters_of blocks.now) (line_in lines.now at) walk.old) }
     ensures goes_on { OnOk result (walk.new.ended ≡ walk.old.ended) }
     ensures counted { OnOk result (walk.new.counted ≡ walk.old.counted) }
     ensures few { IfOk result (λ b. b.copies < 2 ^ 63) }
@@ -142,7 +151,7 @@ fn begun_outside<'s, A: Allocator + Copy>(
     if let Some(copies) = counts.at(at) {
         return Ok(begun_by(copies));
     }
-    let begun = walk.begin_as(settings, line)?;
+    let begun = walk.begin_as(settings, lines.reading(at))?;
     counts.learn(at, begun.copies, begun.is_fixed);
     Ok(begun)
 }
@@ -156,9 +165,7 @@ fn begun_within<'s, A: Allocator + Copy>(
     line: Reading<'_, 's>,
 ) -> Result<Begun<'s>, AsmFault>
     requires word { line.word ≡ Some For }
-    requires front { line.front.now ≡ [] }
-    requires plain { has_and (pieces line.tokens.now) ≡ false }
-    requires few { AreFew (counters_of blocks.now) }
+    requires bare { is_bare (line_read line) ≡ true }
     ensures begun { Gives (λ b. begun_as walk.new b.counter.now b.copies) result (begun settings.now (counters_of blocks.now) (line_read line.entry) walk.old) }
     ensures goes_on { OnOk result (walk.new.ended ≡ walk.old.ended) }
     ensures counted { OnOk result (walk.new.counted ≡ walk.old.counted) }
@@ -166,7 +173,7 @@ fn begun_within<'s, A: Allocator + Copy>(
     ensures equs { OnOk result (walk.new.names.equs ≡ walk.old.names.equs) }
 {
     let count = behind_first(line.tokens);
-    if count.len() > TOKEN_LIMIT || walk.equs().are_among(count) {
+    if blocks.is_empty() || count.len() > TOKEN_LIMIT || walk.names_equ(count) {
         let begun = walk.begin(settings, blocks, line)?;
         return Ok(begun);
     }

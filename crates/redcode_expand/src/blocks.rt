@@ -1,24 +1,24 @@
 //! The lines of a source written out, copy by copy.
 
-ghost use Rattle.std.specs.Prelude.{◌≡◌, ◌+◌, ◌<◌, ◌≤◌, ◌∷◌, [], false, Some, drop, length, MatchResult, OnOk};
+ghost use Rattle.std.specs.Prelude.{◌≡◌, ◌+◌, ◌<◌, ◌≤◌, ◌∷◌, [], false, Some, drop, length, IfSome, MatchResult, OnOk};
 ghost use Rattle.redcode_text.specs.declared.vocabulary.Word.TheVariants.{For, Rof};
 ghost use Rattle.redcode_names.specs.Gives.{Gives, Fails, fault_at};
 ghost use Rattle.redcode_lines.specs.Block.{parsed};
-ghost use Rattle.redcode_lines.specs.Views.{line_read};
 ghost use Rattle.redcode_expand.specs.Rest.{counters_of, rest_of, rest_behind, steps_left, AreOpen, GoesOn, IsUnmatched, Passes};
 ghost use Rattle.redcode_expand.specs.Walk.{walk_all, walk_begin, begun, closed};
 ghost use Rattle.redcode_expand.specs.Kept.{AreKept};
+ghost use Rattle.redcode_expand.specs.Marks.{line_in};
 ghost use Rattle.war_types.specs.declared.fault.AsmKind.TheVariants.{UnmatchedFor};
 
 use crate::beginning::begun_at;
 use crate::counts::Counts;
+use crate::marked_lines::{Edge, MarkedLines};
 use crate::open_block::OpenBlock;
 use crate::open_blocks::OpenBlocks;
 use crate::walk::Walk;
 use bumpalo::Bump;
-use redcode_lines::{Reading, SourceLine, rof_behind};
+use redcode_lines::SourceLine;
 use redcode_names::NameHash;
-use redcode_text::Word;
 use std::alloc::Allocator;
 use war_types::{AsmFault, AsmKind, Settings};
 
@@ -33,12 +33,11 @@ pub(crate) fn walk_all<'s, A: Allocator + Copy>(
     requires { length lines.now ≤ 65536 }
     ensures { Gives (λ walk. walk) result (walk_all settings.now (parsed lines.now) walk_begin) }
 {
-    let mut counts = Counts {
-        counts: vec![in alloc; None; lines.len()]?,
-    };
+    let mut counts = Counts::new(alloc, lines.len())?;
+    let lines = MarkedLines::new(alloc, lines)?;
     let mut walk = Walk::new(alloc, hash);
     let blocks = OpenBlocks::new(alloc, region, hash);
-    walk_lines(settings, &mut walk, blocks, &mut counts, lines)?;
+    walk_lines(settings, &mut walk, blocks, &mut counts, &lines)?;
     Ok(walk)
 }
 
@@ -48,7 +47,7 @@ fn walk_lines<'s, A: Allocator + Copy>(
     walk: &mut Walk<'s, A>,
     mut blocks: OpenBlocks<'s, A>,
     counts: &mut Counts<A>,
-    lines: &[SourceLine<'s, A>],
+    lines: &MarkedLines<'_, 's, A>,
 ) -> Result<(), AsmFault>
     requires few { length lines.now ≤ 65536 }
     requires begin { walk.old ≡ walk_begin }
@@ -70,7 +69,7 @@ fn step<'s, A: Allocator + Copy>(
     walk: &mut Walk<'s, A>,
     blocks: &mut OpenBlocks<'s, A>,
     counts: &mut Counts<A>,
-    lines: &[SourceLine<'s, A>],
+    lines: &MarkedLines<'_, 's, A>,
     at: usize,
 ) -> Result<usize, AsmFault>
     requires few { length lines.now ≤ 65536 }
@@ -83,12 +82,11 @@ fn step<'s, A: Allocator + Copy>(
         MatchResult result (λ next. GoesOn settings.now lines.now due steps blocks.new next walk.new) (λ fault. Fails fault due) }
     ensures kept { OnOk result (AreKept settings.now lines.now walk.new.names.equs counts.new) }
 {
-    let line = lines[at].reading();
-    match line.word {
-        Some(Word::For) => begin(settings, walk, blocks, counts, lines, at, line),
-        Some(Word::Rof) => end_copy(settings, walk, blocks, lines, at, line),
-        _ => {
-            walk.step(settings, blocks, line)?;
+    match lines.edge(at) {
+        Edge::For => begin(settings, walk, blocks, counts, lines, at),
+        Edge::Rof => end_copy(settings, walk, blocks, lines, at),
+        Edge::Neither => {
+            walk.step(settings, blocks, lines.reading(at))?;
             Ok(at + 1)
         }
     }
@@ -100,35 +98,67 @@ fn begin<'s, A: Allocator + Copy>(
     walk: &mut Walk<'s, A>,
     blocks: &mut OpenBlocks<'s, A>,
     counts: &mut Counts<A>,
-    lines: &[SourceLine<'s, A>],
+    lines: &MarkedLines<'_, 's, A>,
     at: usize,
-    line: Reading<'_, 's>,
 ) -> Result<usize, AsmFault>
     requires few { length lines.now ≤ 65536 }
     requires some { at < length lines.now }
     requires goes_on { walk.old.ended ≡ false }
     requires opened { AreOpen lines.now blocks.old (parsed (drop at lines.now)).1 }
-    requires line { drop at lines.now ≡ line_read line ∷ drop (at + 1) lines.now }
-    requires word { line.word ≡ Some For }
+    requires line { drop at lines.now ≡ line_in lines.now at ∷ drop (at + 1) lines.now }
+    requires word { (line_in lines.now at).word ≡ Some For }
     requires kept { AreKept settings.now lines.now walk.old.names.equs counts.old }
     ensures goes_on { let due = rest_of settings.now lines.now blocks.old (parsed (drop at lines.now)) walk.old in
         let steps = steps_left lines.now blocks.old at walk.old in
         MatchResult result (λ next. GoesOn settings.now lines.now due steps blocks.new next walk.new) (λ fault. Fails fault due) }
     ensures kept { OnOk result (AreKept settings.now lines.now walk.new.names.equs counts.new) }
 {
-    let body = at + 1;
-    if is_unmatched(blocks, lines, body) {
-        return Err(unmatched_for(line.number));
+    if let Some(next) = behind_empty(settings, walk, blocks, counts, lines, at) {
+        return Ok(next);
     }
-    let begun = begun_at(settings, walk, blocks, counts, lines, at, line)?;
+    if is_unmatched(blocks, lines, at) {
+        return Err(unmatched_for(lines.number(at)));
+    }
+    let begun = begun_at(settings, walk, blocks, counts, lines, at)?;
     if begun.copies == 0 {
-        let next = pass(settings, walk, blocks, lines, body, line.number)?;
+        let next = pass(settings, walk, blocks, lines, at)?;
         return Ok(next);
     }
     let start = walk.counted();
     let left = begun.copies - 1;
-    blocks.push(OpenBlock::new(line.number, begun.counter, left, start, body))?;
+    let body = at + 1;
+    let number = lines.number(at);
+    blocks.push(OpenBlock::new(number, begun.counter, left, start, body))?;
     Ok(body)
+}
+
+/// How many lines stand before the one behind a block of which it is known, before it is read, that it has no copy and no labels.
+fn behind_empty<'s, A: Allocator + Copy>(
+    settings: &Settings,
+    walk: &Walk<'s, A>,
+    blocks: &OpenBlocks<'s, A>,
+    counts: &Counts<A>,
+    lines: &MarkedLines<'_, 's, A>,
+    at: usize,
+) -> Option<usize>
+    requires few { length lines.now ≤ 65536 }
+    requires some { at < length lines.now }
+    requires goes_on { walk.now.ended ≡ false }
+    requires opened { AreOpen lines.now blocks.now (parsed (drop at lines.now)).1 }
+    requires word { (line_in lines.now at).word ≡ Some For }
+    requires kept { AreKept settings.now lines.now walk.now.names.equs counts.now }
+    ensures { let due = rest_of settings.now lines.now blocks.now (parsed (drop at lines.now)) walk.now in
+        let steps = steps_left lines.now blocks.now at walk.now in
+        IfSome result (λ next. GoesOn settings.now lines.now due steps blocks.now next walk.now) }
+{
+    if !lines.is_bare(at) || lines.has_names(at) || !counts.is_none(at) {
+        return None;
+    }
+    let rof = lines.rof_behind(at);
+    if rof >= lines.len() || !lines.is_bare(rof) {
+        return None;
+    }
+    Some(rof + 1)
 }
 
 /// Walks over the `ROF` of a block.
@@ -136,49 +166,51 @@ fn close<'s, A: Allocator + Copy>(
     settings: &Settings,
     walk: &mut Walk<'s, A>,
     blocks: &OpenBlocks<'s, A>,
-    line: Reading<'_, 's>,
+    lines: &MarkedLines<'_, 's, A>,
+    at: usize,
 ) -> Result<(), AsmFault>
-    ensures closed { Gives (λ _. walk.new) result (closed settings.now (counters_of blocks.now) (line_read line.entry) walk.old) }
+    requires some { at < length lines.now }
+    requires word { (line_in lines.now at).word ≡ Some Rof }
+    ensures closed { Gives (λ _. walk.new) result (closed settings.now (counters_of blocks.now) (line_in lines.now at) walk.old) }
     ensures counted { walk.new.counted ≡ walk.old.counted }
 {
-    if line.word.is_some() && line.front.is_empty() {
+    if lines.is_bare(at) {
         return Ok(());
     }
-    walk.close(settings, blocks, line)
+    walk.close(settings, blocks, lines.reading(at))
 }
 
-/// Whether the `FOR` before a body has no `ROF`. Within a block each has one.
+/// Whether a `FOR` has no `ROF`. Within a block each has one.
 fn is_unmatched<A: Allocator + Copy>(
     blocks: &OpenBlocks<'_, A>,
-    lines: &[SourceLine<'_, A>],
-    body: usize,
+    lines: &MarkedLines<'_, '_, A>,
+    at: usize,
 ) -> bool
-    requires few { length lines.now ≤ 65536 }
-    ensures { IsUnmatched result blocks.now (parsed (drop body lines.now)).1 }
+    requires { at < length lines.now }
+    ensures { IsUnmatched result blocks.now (parsed (drop (at + 1) lines.now)).1 }
 {
-    blocks.is_empty() && rof_behind(lines, body) >= lines.len()
+    blocks.is_empty() && lines.rof_behind(at) >= lines.len()
 }
 
-/// Walks from behind the `FOR` of a block without a copy to behind its `ROF`.
+/// Walks from the `FOR` of a block without a copy to behind its `ROF`.
 fn pass<'s, A: Allocator + Copy>(
     settings: &Settings,
     walk: &mut Walk<'s, A>,
     blocks: &OpenBlocks<'s, A>,
-    lines: &[SourceLine<'s, A>],
-    body: usize,
-    number: u32,
+    lines: &MarkedLines<'_, 's, A>,
+    at: usize,
 ) -> Result<usize, AsmFault>
-    requires few { length lines.now ≤ 65536 }
+    requires some { at < length lines.now }
     requires goes_on { walk.old.ended ≡ false }
-    ensures passes { let due = rest_behind settings.now lines.now blocks.now number (parsed (drop body lines.now)).1 walk.old in
-        MatchResult result (λ next. Passes settings.now lines.now due blocks.now body walk.old next walk.new) (λ fault. Fails fault due) }
+    ensures passes { let due = rest_behind settings.now lines.now blocks.now (line_in lines.now at).number (parsed (drop (at + 1) lines.now)).1 walk.old in
+        MatchResult result (λ next. Passes settings.now lines.now due blocks.now (at + 1) walk.old next walk.new) (λ fault. Fails fault due) }
     ensures equs { OnOk result (walk.new.names.equs ≡ walk.old.names.equs) }
 {
-    let rof = rof_behind(lines, body);
+    let rof = lines.rof_behind(at);
     if rof >= lines.len() {
-        return Err(unmatched_for(number));
+        return Err(unmatched_for(lines.number(at)));
     }
-    close(settings, walk, blocks, lines[rof].reading())?;
+    close(settings, walk, blocks, lines, rof)?;
     Ok(rof + 1)
 }
 
@@ -187,16 +219,15 @@ fn end_copy<'s, A: Allocator + Copy>(
     settings: &Settings,
     walk: &mut Walk<'s, A>,
     blocks: &mut OpenBlocks<'s, A>,
-    lines: &[SourceLine<'s, A>],
+    lines: &MarkedLines<'_, 's, A>,
     at: usize,
-    line: Reading<'_, 's>,
 ) -> Result<usize, AsmFault>
     requires few { length lines.now ≤ 65536 }
     requires some { at < length lines.now }
     requires goes_on { walk.old.ended ≡ false }
     requires opened { AreOpen lines.now blocks.old (parsed (drop at lines.now)).1 }
-    requires line { drop at lines.now ≡ line_read line ∷ drop (at + 1) lines.now }
-    requires word { line.word ≡ Some Rof }
+    requires line { drop at lines.now ≡ line_in lines.now at ∷ drop (at + 1) lines.now }
+    requires word { (line_in lines.now at).word ≡ Some Rof }
     ensures goes_on { let due = rest_of settings.now lines.now blocks.old (parsed (drop at lines.now)) walk.old in
         let steps = steps_left lines.now blocks.old at walk.old in
         MatchResult result (λ next. GoesOn settings.now lines.now due steps blocks.new next walk.new) (λ fault. Fails fault due) }
@@ -204,13 +235,13 @@ fn end_copy<'s, A: Allocator + Copy>(
 {
     let Some(block) = blocks.pop() else {
         return Err(AsmFault {
-            line: line.number,
+            line: lines.number(at),
             kind: AsmKind::UnmatchedRof,
         });
     };
     walk.end_copy(block.number(), block.start())?;
     if block.left() == 0 {
-        close(settings, walk, blocks, line)?;
+        close(settings, walk, blocks, lines, at)?;
         return Ok(at + 1);
     }
     let body = block.body();

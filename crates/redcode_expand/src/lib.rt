@@ -15,6 +15,7 @@ mod count;
 mod counts;
 mod entry;
 mod expanded;
+mod marked_lines;
 mod open_block;
 mod open_blocks;
 mod values;

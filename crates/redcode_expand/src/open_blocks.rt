@@ -17,6 +17,9 @@ use redcode_text::Token;
 use std::alloc::{AllocError, Allocator};
 use std::marker::Model;
 
+/// So many blocks are looked at one after another: a name's hash takes longer.
+const FEW: usize = 8;
+
 /// The blocks whose copies are being written, the innermost first.
 #[derive(Drop)]
 pub(crate) struct OpenBlocks<'s, A: Allocator + Copy> {
@@ -60,7 +63,8 @@ impl<'s, A: Allocator + Copy> OpenBlocks<'s, A> {
     }
 
     pub(crate) fn is_empty(&self) -> bool
-        ensures { result ≡ has_none self.now }
+        ensures none { result ≡ has_none self.now }
+        ensures few { AreFew (counters_of self.now) }
     {
         self.blocks.is_empty()
     }
@@ -91,8 +95,7 @@ impl<'s, A: Allocator + Copy> OpenBlocks<'s, A> {
 
     /// Whether a counter is among the tokens.
     pub(crate) fn are_among(&self, tokens: &[Token<'_>]) -> bool
-        ensures named { result ≡ has_number (counters_of self.now) (pieces tokens.now) }
-        ensures few { AreFew (counters_of self.now) }
+        ensures { result ≡ has_number (counters_of self.now) (pieces tokens.now) }
     {
         if self.blocks.is_empty() {
             return false;
@@ -155,6 +158,9 @@ fn number_of<A: Allocator + Copy>(
     ensures number { result ≡ number_of (counters_in blocks.now) name.now }
     ensures few { IfSome result (λ n. n < 2 ^ 63) }
 {
+    if blocks.len() <= FEW {
+        return number_among(blocks, name);
+    }
     let place = names.place_of(name)?;
     if place >= blocks.len() {
         return None;
@@ -165,6 +171,21 @@ fn number_of<A: Allocator + Copy>(
     } else {
         None
     }
+}
+
+/// The same, found by looking at one block after another.
+fn number_among(blocks: &[OpenBlock<'_>], name: &[u8]) -> Option<u64>
+    ensures number { result ≡ number_of (counters_in blocks.now) name.now }
+    ensures few { IfSome result (λ n. n < 2 ^ 63) }
+{
+    let mut rest = blocks;
+    while let [first, behind @ ..] = rest {
+        if first.is_named(name) {
+            return Some(first.copy());
+        }
+        rest = behind;
+    }
+    None
 }
 
 /// Gives a name the place behind these blocks, if none of their counters has it.

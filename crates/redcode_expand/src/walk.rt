@@ -2,6 +2,7 @@
 
 ghost use Rattle.std.specs.Prelude.{◌≡◌, ◌+◌, ◌<◌, [], Ok, OnOk};
 ghost use Rattle.redcode_text.specs.Tokens.{pieces};
+ghost use Rattle.redcode_names.specs.Equ.{has_equ};
 ghost use Rattle.redcode_names.specs.Gives.{Gives};
 ghost use Rattle.redcode_lines.specs.Line.{labels_of};
 ghost use Rattle.redcode_lines.specs.Views.{line_read};
@@ -13,7 +14,7 @@ use crate::entry::Entry;
 use crate::expanded::{Expanded, replace_all, unchanged};
 use crate::open_blocks::OpenBlocks;
 use redcode_lines::{Line, LineForm, LineKind, Reading, behind_first};
-use redcode_names::{Equs, NameHash, Names};
+use redcode_names::{NameHash, Names};
 use redcode_text::{Token, Word};
 use std::alloc::Allocator;
 use std::marker::Model;
@@ -73,11 +74,11 @@ impl<'s, A: Allocator + Copy> Walk<'s, A> {
         self.before
     }
 
-    /// The EQUs so far.
-    pub(crate) fn equs(&self) -> &Equs<'s, A>
-        ensures { result.now ≡ self.now.names.equs }
+    /// Whether the name of an `EQU` so far is among the tokens.
+    pub(crate) fn names_equ(&self, tokens: &[Token<'_>]) -> bool
+        ensures { result ≡ has_equ self.now.names.equs (pieces tokens.now) }
     {
-        &self.names.equs
+        !self.names.has_no_equs() && self.names.equs.are_among(tokens)
     }
 
     /// Walks over a line within blocks.

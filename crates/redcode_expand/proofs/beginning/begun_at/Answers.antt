@@ -5,8 +5,8 @@ use Rattle.redcode_expand.proofs.AddedEqus.{begun-equs}
 use Rattle.redcode_expand.proofs.Keeping.{all-same}
 use Rattle.redcode_expand.proofs.beginning.begun_at.Goals as goal
 
-pub returns-then-not-is_empty-clause-kept : goal.returns-then-not-is_empty-clause-kept
-returns-then-not-is_empty-clause-kept g c =
+pub returns-then-not-is_bare-clause-kept : goal.returns-then-not-is_bare-clause-kept
+returns-then-not-is_bare-clause-kept g c =
     all-same c.args.settings.now c.args.lines.now c.args.walk.now.names.equs c.begin.new.self.names.equs c.args.counts.now
-    (begun-equs c.args.settings.now (counters_of c.args.blocks.now) (line_read c.args.line) c.args.walk.now
+    (begun-equs c.args.settings.now (counters_of c.args.blocks.now) (line_read c.reading.result) c.args.walk.now
     (begun_as c.begin.new.self c.in_ok-begun.begun.counter.now c.in_ok-begun.begun.copies) c.in_ok-begun.ensures.begun) c.requires.kept

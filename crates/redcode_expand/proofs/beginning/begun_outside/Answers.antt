@@ -1,43 +1,49 @@
 use Rattle.std.proofs.lemmas.Grind.{common_steps}
 use Rattle.std.proofs.Common.{arith, ◌<◌, ◌^◌, ℕ, List, Ok, sym, ap, subst, ◌∙◌}
-use Rattle.redcode_text.specs.declared.token.Token.{Token}
 use Rattle.redcode_text.specs.declared.vocabulary.Word.TheVariants as words
-use Rattle.redcode_text.specs.Tokens.{pieces}
+use Rattle.redcode_lines.specs.Line.{SourceLine}
 use Rattle.redcode_lines.specs.Views.{line_read}
 use Rattle.redcode_names.proofs.Residuals.{err-from}
+use Rattle.redcode_expand.specs.Marks.{is_bare, line_in}
 use Rattle.redcode_expand.specs.Rest.{counters_of}
 use Rattle.redcode_expand.specs.Walk.{begun_as}
 use Rattle.redcode_expand.proofs.AddedEqus.{begun_of-equs}
 use Rattle.redcode_expand.proofs.Keeping.{all-learned, begun-kept}
-use Rattle.redcode_expand.proofs.PlainCounts.{begun-front, begun-unnamed, front-labels}
+use Rattle.redcode_expand.proofs.Marks.{bare-front, bare-plain, begun-bare, line-drop}
+use Rattle.redcode_expand.proofs.PlainCounts.{begun-unnamed, front-labels}
 use Rattle.redcode_expand.proofs.beginning.begun_outside.Goals as goal
 
 pub returns-in-Some-clause-begun : goal.returns-in-Some-clause-begun
 returns-in-Some-clause-begun g c =
-    let line = line_read c.args.line in
+    let line = line_in c.args.lines.now c.args.at in
     let n = c.in-Some.copies in
-    begun-unnamed c.args.settings.now (counters_of c.args.blocks.now) line c.args.walk.now c.requires.word (ap (λ (ts : List Token). pieces ts) c.requires.front) c.requires.plain c.requires.unnamed
+    begun-unnamed c.args.settings.now (counters_of c.args.blocks.now) line c.args.walk.now c.requires.word (bare-front line c.requires.bare) (bare-plain line c.requires.bare) c.requires.unnamed
     ∙ begun-kept c.args.settings.now line c.args.walk.now n
-    (c.requires.kept.kept c.args.at line n c.requires.some c.requires.line (sym c.at.ensures ∙ c.in-Some.is))
+    (c.requires.kept.kept c.args.at line n c.requires.some (line-drop c.args.lines.now c.args.at c.requires.some) (sym c.at.ensures ∙ c.in-Some.is))
     ∙ ap (λ (name : List ℕ). Ok (begun_as c.args.walk.now name n)) (sym c.begun_by.ensures.counter)
     ∙ ap (λ (k : ℕ). Ok (begun_as c.args.walk.now c.begun_by.result.counter.now k)) (sym c.begun_by.ensures.copies)
 
 pub returns-in-Some-clause-few : goal.returns-in-Some-clause-few
 returns-in-Some-clause-few g c =
-    let kept = c.requires.kept.kept c.args.at (line_read c.args.line) c.in-Some.copies c.requires.some c.requires.line (sym c.at.ensures ∙ c.in-Some.is) in
+    let kept = c.requires.kept.kept c.args.at (line_in c.args.lines.now c.args.at) c.in-Some.copies c.requires.some (line-drop c.args.lines.now c.args.at c.requires.some) (sym c.at.ensures ∙ c.in-Some.is) in
     subst (λ (n : ℕ). n < 2 ^ 63) (sym c.begun_by.ensures.copies) kept.few
 
 pub returns-in_err-begun-clause-begun : goal.returns-in_err-begun-clause-begun
-returns-in_err-begun-clause-begun g c = grind (arith, common_steps, begun-front, err-from)
+returns-in_err-begun-clause-begun g c = grind (arith, common_steps, begun-bare, err-from)
 
 pub returns-clause-begun : goal.returns-clause-begun
-returns-clause-begun g c = grind (arith, common_steps, begun-front)
+returns-clause-begun g c =
+    begun-bare c.args.settings.now (counters_of c.args.blocks.now) (line_in c.args.lines.now c.args.at) (line_read c.reading.result) c.args.walk.now c.reading.ensures.line c.requires.word c.requires.bare
+    c.requires.unnamed
+    ∙ c.in_ok-begun.ensures.begun
 
 pub returns-clause-kept : goal.returns-clause-kept
 returns-clause-kept g c =
-    let line = line_read c.args.line in
+    let line = line_read c.reading.result in
     let b = c.in_ok-begun.begun in
+    let word = ap (λ (l : SourceLine). l.word) c.reading.ensures.line ∙ c.requires.word in
+    let front = bare-front line (ap is_bare c.reading.ensures.line ∙ c.requires.bare) in
     all-learned c.args.settings.now c.args.lines.now c.args.walk.now.names.equs c.begin_as.new.self.names.equs c.args.counts.now c.learn.new.self c.args.at line b.copies b.is_fixed
     (begun_of-equs c.args.settings.now line c.args.walk.now (begun_as c.begin_as.new.self b.counter.now b.copies) c.in_ok-begun.ensures.begun)
-    c.requires.some c.requires.line c.requires.kept (front-labels line words.For c.requires.word (ap (λ (ts : List Token). pieces ts) c.requires.front))
+    c.requires.some c.reading.ensures.first c.requires.kept (front-labels line words.For word front)
     c.in_ok-begun.ensures.fixed c.in_ok-begun.ensures.few c.learn.ensures

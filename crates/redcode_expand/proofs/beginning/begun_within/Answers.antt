@@ -1,5 +1,5 @@
 use Rattle.std.proofs.lemmas.Grind.{common_steps}
-use Rattle.std.proofs.Common.{◌≡◌, ℕ, [], List, Err, Ok, sym, ap, ◌∙◌, arith}
+use Rattle.std.proofs.Common.{◌≡◌, ℕ, [], List, Err, Ok, refl, sym, ap, ◌∙◌, arith}
 use Rattle.std.proofs.lemmas.List.{length-map}
 use Rattle.redcode_text.specs.declared.token.Token.{Token}
 use Rattle.redcode_text.specs.Tokens.{piece_of, pieces}
@@ -12,11 +12,12 @@ use Rattle.redcode_expand.specs.Values.{counter_values}
 use Rattle.redcode_expand.specs.Walk.{begun_as, count_by}
 use Rattle.redcode_expand.proofs.AddedEqus.{begun-equs}
 use Rattle.redcode_expand.proofs.Keeping.{begun-done, begun-refused}
+use Rattle.redcode_expand.proofs.Marks.{bare-front, bare-plain}
 use Rattle.redcode_expand.proofs.PlainCounts.{begun-values}
 use Rattle.redcode_expand.proofs.beginning.begun_within.Goals as goal
 
-pub returns-then-count-gt-TOKEN_LIMIT-clause-equs : goal.returns-then-count-gt-TOKEN_LIMIT-clause-equs
-returns-then-count-gt-TOKEN_LIMIT-clause-equs g c = grind (arith, common_steps, begun-equs)
+pub returns-then-is_empty-clause-equs : goal.returns-then-is_empty-clause-equs
+returns-then-is_empty-clause-equs g c = grind (arith, common_steps, begun-equs)
 
 pub returns-in_err-copies-clause-begun : goal.returns-in_err-copies-clause-begun
 returns-in_err-copies-clause-begun g c =
@@ -24,9 +25,9 @@ returns-in_err-copies-clause-begun g c =
     let cs = counters_of c.args.blocks.now in
     let count = c.behind_first-count.result.now in
     let before = c.before-2.result in
-    let due = begun-values s cs (line_read c.args.line) c.args.walk.now (pieces count) before c.equs.result.now c.are_among.result c.requires.word
-    (ap (λ (ts : List Token). pieces ts) c.requires.front) c.requires.plain c.requires.few c.behind_first-count.ensures.behind c.before-2.ensures c.equs.ensures
-    c.are_among.ensures c.if-are_among.false (omega (arith, length-map count piece_of, c.if-count-gt-TOKEN_LIMIT.false)) in
+    let due = begun-values s cs (line_read c.args.line) c.args.walk.now (pieces count) before c.args.walk.now.names.equs c.names_equ.result c.requires.word
+    (bare-front (line_read c.args.line) c.requires.bare) (bare-plain (line_read c.args.line) c.requires.bare) c.is_empty.ensures.few c.behind_first-count.ensures.behind c.before-2.ensures refl
+    c.names_equ.ensures c.if-names_equ.false (omega (arith, length-map count piece_of, c.if-count-gt-TOKEN_LIMIT.false)) in
     let fault = c.in_err-copies.field-0.0 in
     let same : c.from_residual-in_err-copies.result ≡ Err fault = err-from c.from_residual-in_err-copies.result fault c.from_residual-in_err-copies.ensures.1 in
     rw same (begun-refused _ c.args.walk.now [] (count_by c.args.line.number (value_of (counter_values cs (predefined s before)) (pieces count))) fault due c.in_err-copies.ensures.copies)
@@ -37,9 +38,9 @@ returns-clause-begun g c =
     let cs = counters_of c.args.blocks.now in
     let count = c.behind_first-count.result.now in
     let before = c.before-2.result in
-    let due = begun-values s cs (line_read c.args.line) c.args.walk.now (pieces count) before c.equs.result.now c.are_among.result c.requires.word
-    (ap (λ (ts : List Token). pieces ts) c.requires.front) c.requires.plain c.requires.few c.behind_first-count.ensures.behind c.before-2.ensures c.equs.ensures
-    c.are_among.ensures c.if-are_among.false (omega (arith, length-map count piece_of, c.if-count-gt-TOKEN_LIMIT.false)) in
+    let due = begun-values s cs (line_read c.args.line) c.args.walk.now (pieces count) before c.args.walk.now.names.equs c.names_equ.result c.requires.word
+    (bare-front (line_read c.args.line) c.requires.bare) (bare-plain (line_read c.args.line) c.requires.bare) c.is_empty.ensures.few c.behind_first-count.ensures.behind c.before-2.ensures refl
+    c.names_equ.ensures c.if-names_equ.false (omega (arith, length-map count piece_of, c.if-count-gt-TOKEN_LIMIT.false)) in
     begun-done _ c.args.walk.now [] c.begun_by.result.counter.now (count_by c.args.line.number (value_of (counter_values cs (predefined s before)) (pieces count))) c.in_ok-copies.copies due
     c.begun_by.ensures.counter c.in_ok-copies.ensures.copies
     ∙ ap (λ (n : ℕ). Ok (begun_as c.args.walk.now c.begun_by.result.counter.now n)) (sym c.begun_by.ensures.copies)

@@ -1,6 +1,6 @@
 use Rattle.std.proofs.Common.{◌-◌, ◌+◌, subst, ℕ, Bool, List, ◌∷◌, sym, ap, ◌∙◌, drop}
 use Rattle.redcode_lines.specs.Block.{parsed}
-use Rattle.redcode_lines.specs.Views.{line_read}
+use Rattle.redcode_expand.specs.Marks.{line_in}
 use Rattle.redcode_copies.specs.Counter.{counter_of}
 use Rattle.redcode_expand.specs.Rest.{OpenBlock, open_block, rest_of, steps_left, GoesOn, IsUnmatched}
 use Rattle.redcode_expand.proofs.GoingOn.{block-goes-on}
@@ -14,9 +14,10 @@ returns-clause-goes_on g c =
     let name = c.in_ok-begun.begun.counter.now in
     let n = c.in_ok-begun.begun.copies in
     let pushed = c.in_ok-push.ensures ∙ ap (λ (b : OpenBlock). b ∷ c.args.blocks.now) c.new.ensures
-    ∙ ap (λ (k : ℕ). open_block c.args.line.number (counter_of name 1) (n - 1) k (c.args.at + 1) ∷ c.args.blocks.now) c.counted-start.ensures in
+    ∙ ap (λ (k : ℕ). open_block c.number-number.result (counter_of name 1) (n - 1) k (c.args.at + 1) ∷ c.args.blocks.now) c.counted-start.ensures
+    ∙ ap (λ (k : ℕ). open_block k (counter_of name 1) (n - 1) c.begun_at.new.walk.counted (c.args.at + 1) ∷ c.args.blocks.now) c.number-number.ensures in
     subst (λ (bs : List OpenBlock). GoesOn s lines (rest_of s lines c.args.blocks.now (parsed (drop c.args.at lines)) c.args.walk.now) (steps_left lines c.args.blocks.now c.args.at c.args.walk.now) bs (c.args.at + 1) c.begun_at.new.walk)
     (sym pushed)
-    (block-goes-on s lines c.args.blocks.now c.args.at (line_read c.args.line) c.args.walk.now c.begun_at.new.walk name n
+    (block-goes-on s lines c.args.blocks.now c.args.at (line_in c.args.lines.now c.args.at) c.args.walk.now c.begun_at.new.walk name n
     c.requires.few c.requires.some c.requires.goes_on c.requires.line c.requires.word c.requires.opened matched c.in_ok-begun.ensures.begun c.if-begun-eq0.false
     c.in_ok-begun.ensures.goes_on c.in_ok-begun.ensures.counted)

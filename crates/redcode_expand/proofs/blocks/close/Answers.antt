@@ -1,10 +1,9 @@
-use Rattle.std.proofs.Common.{refl, sym, ◌∙◌}
-use Rattle.redcode_lines.specs.Views.{line_read}
+use Rattle.std.proofs.Common.{sym, ◌∙◌}
+use Rattle.redcode_expand.specs.Marks.{line_in}
 use Rattle.redcode_expand.specs.Rest.{counters_of}
-use Rattle.redcode_expand.proofs.PlainCounts.{closed-plain}
+use Rattle.redcode_expand.proofs.Marks.{closed-bare}
 use Rattle.redcode_expand.proofs.blocks.close.Goals as goal
 
-pub returns-then-is_empty-clause-closed : goal.returns-then-is_empty-clause-closed
-returns-then-is_empty-clause-closed g c =
-    closed-plain c.args.settings.now (counters_of c.args.blocks.now) (line_read c.args.line) c.args.walk.now c.args.line.front.now refl
-    (sym c.is_some.ensures ∙ c.if-is_some.true) (sym c.is_empty.ensures ∙ c.if-is_empty.true)
+pub returns-then-is_bare-clause-closed : goal.returns-then-is_bare-clause-closed
+returns-then-is_bare-clause-closed g c =
+    closed-bare c.args.settings.now (counters_of c.args.blocks.now) (line_in c.args.lines.now c.args.at) c.args.walk.now c.requires.word (sym c.is_bare.ensures ∙ c.if-is_bare.true)

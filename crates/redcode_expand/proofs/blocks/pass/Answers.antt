@@ -1,8 +1,13 @@
-use Rattle.redcode_lines.specs.Views.{line_read}
+use Rattle.std.proofs.Common.{arith}
+use Rattle.redcode_expand.specs.Marks.{line_in}
 use Rattle.redcode_expand.specs.Rest.{counters_of}
 use Rattle.redcode_expand.proofs.AddedEqus.{closed-equs}
+use Rattle.redcode_expand.proofs.Marks.{rof-word}
 use Rattle.redcode_expand.proofs.blocks.pass.Goals as goal
+
+pub close-requires-clause-word : goal.close-requires-clause-word
+close-requires-clause-word g c = rof-word c.args.lines.now c.rof_behind-rof.result c.rof_behind-rof.ensures.from (omega (arith, c.len.ensures, c.if-rof-len.false))
 
 pub returns-clause-equs : goal.returns-clause-equs
 returns-clause-equs g c =
-    closed-equs c.args.settings.now (counters_of c.args.blocks.now) (line_read c.reading.result) c.args.walk.now c.close.new.walk c.in_ok-close.ensures.closed
+    closed-equs c.args.settings.now (counters_of c.args.blocks.now) (line_in c.args.lines.now c.rof_behind-rof.result) c.args.walk.now c.close.new.walk c.in_ok-close.ensures.closed

@@ -1,10 +1,24 @@
+use Rattle.std.proofs.Common.{sym, ◌∙◌}
 use Rattle.redcode_lines.specs.Views.{line_read}
 use Rattle.redcode_expand.specs.Rest.{counters_of}
 use Rattle.redcode_expand.proofs.AddedEqus.{step-keeps}
 use Rattle.redcode_expand.proofs.Keeping.{all-later}
+use Rattle.redcode_expand.proofs.Marks.{line-drop, word-for, word-rof}
 use Rattle.redcode_expand.proofs.blocks.step.Goals as goal
 
-pub returns-in_ok-step-in_default-clause-kept : goal.returns-in_ok-step-in_default-clause-kept
-returns-in_ok-step-in_default-clause-kept g c =
+pub returns-in_ok-step-in-Neither-clause-kept : goal.returns-in_ok-step-in-Neither-clause-kept
+returns-in_ok-step-in-Neither-clause-kept g c =
     all-later c.args.settings.now c.args.lines.now c.args.walk.now.names.equs c.step.new.self.names.equs c.args.counts.now
-    (step-keeps c.args.settings.now (counters_of c.args.blocks.now) (line_read c.reading-line.result) c.args.walk.now c.step.new.self c.in_ok-step-in_default.ensures.step) c.requires.kept
+    (step-keeps c.args.settings.now (counters_of c.args.blocks.now) (line_read c.reading.result) c.args.walk.now c.step.new.self c.in_ok-step-in-Neither.ensures.step) c.requires.kept
+
+pub begin-requires-clause-line : goal.begin-requires-clause-line
+begin-requires-clause-line g c = line-drop c.args.lines.now c.args.at c.requires.some
+
+pub begin-requires-clause-word : goal.begin-requires-clause-word
+begin-requires-clause-word g c = word-for _ (sym c.edge.ensures ∙ c.in-For.is)
+
+pub end_copy-requires-clause-line : goal.end_copy-requires-clause-line
+end_copy-requires-clause-line g c = line-drop c.args.lines.now c.args.at c.requires.some
+
+pub end_copy-requires-clause-word : goal.end_copy-requires-clause-word
+end_copy-requires-clause-word g c = word-rof _ (sym c.edge.ensures ∙ c.in-Rof.is)

@@ -1,0 +1,56 @@
+-- What the walk knows of the lines of a source before it reads them. No part of the definition: a shorter way to the same.
+use Rattle.std.specs.Prelude.{◌≡◌, ℕ, ◌+◌, ◌<◌, ◌≤◌, Bool, true, false, not, ◌||◌, ◌&&◌, List, [], ◌∷◌, length, drop, Option, Some, None, slice_index_or}
+use Rattle.redcode_text.specs.declared.vocabulary.Word.{Word}
+use Rattle.redcode_text.specs.declared.vocabulary.Word.TheVariants as words
+use Rattle.redcode_text.specs.Tokens.{Piece}
+use Rattle.redcode_lines.specs.declared.reading.LineForm.TheVariants as forms
+use Rattle.redcode_lines.specs.Line.{SourceLine, is_name, source_line}
+use Rattle.redcode_lines.specs.Block.{parsed, AreFromRof}
+use Rattle.redcode_lines.specs.Capped.{has_and}
+use Rattle.redcode_names.specs.Equ.{has_tokens}
+use Rattle.redcode_expand.specs.declared.marked_lines.Edge.{Edge}
+use Rattle.redcode_expand.specs.declared.marked_lines.Edge.TheVariants as edges
+use Rattle.redcode_expand.specs.declared.marked_lines.Mark.{Mark}
+
+-- the line behind so many others
+abbrev pub line_in : List SourceLine → ℕ → SourceLine
+line_in lines at = slice_index_or lines at (source_line 0 forms.Statement None [] [] [])
+
+-- what a line with this word is to a block
+abbrev pub edge_of : Option Word → Edge
+edge_of (Some words.For) = edges.For
+edge_of (Some words.Rof) = edges.Rof
+edge_of _ = edges.Neither
+
+-- nothing stands before its word, and no & behind it
+abbrev pub is_bare : SourceLine → Bool
+is_bare line = not (has_tokens line.front) && not (has_and line.tokens)
+
+-- a name is among the tokens
+abbrev pub has_name : List Piece → Bool
+has_name [] = false
+has_name (token ∷ tokens) = is_name token.kind || has_name tokens
+
+-- behind so many lines stands the first ROF that belongs to no FOR behind so many lines, or there is none
+pub record IsNextRof (lines : List SourceLine) (body rof : ℕ) : Type 0 where
+  pub rofs : (parsed (drop rof lines)).1 ≡ (parsed (drop body lines)).1
+  pub from : AreFromRof (drop rof lines)
+  pub later : body ≤ rof
+
+-- what is marked of the line behind so many others
+pub record IsMarked (lines : List SourceLine) (at : ℕ) (mark : Mark) : Type 0 where
+  pub edge : mark.edge ≡ edge_of (line_in lines at).word
+  pub bare : mark.is_bare ≡ is_bare (line_in lines at)
+  pub names : mark.has_names ≡ has_name (drop 1 (line_in lines at).tokens)
+  pub rof : IsNextRof lines (at + 1) mark.rof
+
+abbrev pub no_mark : Mark
+no_mark = record { edge = edges.For; is_bare = false; has_names = false; rof = 0 }
+
+abbrev pub mark_at : List Mark → ℕ → Mark
+mark_at marks at = slice_index_or marks at no_mark
+
+-- so are all lines from one on
+pub record AreMarked (from : ℕ) (lines : List SourceLine) (marks : List Mark) : Type 0 where
+  pub room : length marks ≡ length lines
+  pub marked : (at : ℕ) → from ≤ at → at < length lines → IsMarked lines at (mark_at marks at)

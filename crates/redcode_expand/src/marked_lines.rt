@@ -1,0 +1,213 @@
+//! The lines of a source, with what the walk has to know of each before it reads it.
+//!
+//! A block without a copy counts nothing and may be met millions of times, so a `FOR` is paired with its `ROF` once, and of both is
+//! known whether there is anything to read.
+
+ghost use Rattle.std.specs.Prelude.{◌≡◌, ◌+◌, ◌<◌, drop, length};
+ghost use Rattle.redcode_text.specs.Tokens.{pieces};
+ghost use Rattle.redcode_lines.specs.Views.{line_read};
+ghost use Rattle.redcode_expand.specs.Marks.{edge_of, has_name, is_bare, AreMarked, IsNextRof};
+
+use redcode_lines::{Reading, SourceLine, behind_first, has_and, is_name, line_at};
+use redcode_text::{Token, Word};
+use std::alloc::{AllocError, Allocator};
+use std::marker::Model;
+
+/// What a line is to a block.
+#[derive(Clone, Copy, Debug, PartialEq, Eq)]
+pub(crate) enum Edge {
+    /// It begins one.
+    For,
+    /// It ends one.
+    Rof,
+    Neither,
+}
+
+/// What the walk has to know of a line.
+#[derive(Clone, Copy, Debug)]
+pub(crate) struct Mark {
+    pub edge: Edge,
+    /// Whether nothing stands before its word, and no `&` behind it.
+    pub is_bare: bool,
+    /// Whether a name is among the tokens behind its first.
+    pub has_names: bool,
+    /// How many lines stand before the first `ROF` behind it whose `FOR` isn't behind it, too; at least all where there is none.
+    pub rof: usize,
+}
+
+/// The lines of a source, with what the walk has to know of each.
+#[derive(Drop)]
+pub(crate) struct MarkedLines<'l, 's, A: Allocator> {
+    lines: &'l [SourceLine<'s, A>],
+    marks: Vec<Mark, A>,
+}
+
+impl<'l, 's, A: Allocator> Model for MarkedLines<'l, 's, A> {
+    ghost use Rattle.std.specs.Prelude.{List};
+    ghost use Rattle.redcode_lines.specs.Line.{SourceLine};
+    ghost use Rattle.redcode_expand.specs.Marks.{AreMarked};
+
+    ghost Value = { List SourceLine };
+
+    ghost view = { λ m. m.lines.now };
+
+    ghost invariant = { λ m. AreMarked 0 m.lines.now m.marks.items };
+}
+
+impl<'l, 's, A: Allocator + Copy> MarkedLines<'l, 's, A> {
+    ghost use Rattle.std.specs.Prelude.{◌≡◌, ◌+◌, ◌<◌, ◌∷◌, drop, length, IfOk};
+    ghost use Rattle.redcode_lines.specs.Views.{line_read};
+    ghost use Rattle.redcode_expand.specs.Marks.{edge_of, has_name, is_bare, line_in, IsNextRof};
+
+    /// These lines.
+    pub(crate) fn new(alloc: A, lines: &'l [SourceLine<'s, A>]) -> Result<Self, AllocError>
+        ensures { IfOk result (λ marked. marked ≡ lines.entry.now) }
+    {
+        let blank = Mark {
+            edge: Edge::Neither,
+            is_bare: false,
+            has_names: false,
+            rof: 0,
+        };
+        let mut marks = vec![in alloc; blank; lines.len()]?;
+        mark_all(lines, marks.as_mut_slice());
+        Ok(MarkedLines { lines, marks })
+    }
+
+    /// How many there are.
+    pub(crate) fn len(&self) -> usize
+        ensures { result ≡ length self.now }
+    {
+        self.lines.len()
+    }
+
+    /// How the line behind so many others reads.
+    pub(crate) fn reading(&self, at: usize) -> Reading<'l, 's>
+        requires { at < length self.now }
+        ensures line { line_read result ≡ line_in self.now at }
+        ensures first { drop at self.now ≡ line_read result ∷ drop (at + 1) self.now }
+    {
+        line_at(self.lines, at).reading()
+    }
+
+    /// Its number in the source, counted from 1.
+    pub(crate) fn number(&self, at: usize) -> u32
+        requires { at < length self.now }
+        ensures { result ≡ (line_in self.now at).number }
+    {
+        line_at(self.lines, at).number()
+    }
+
+    /// What it is to a block.
+    pub(crate) fn edge(&self, at: usize) -> Edge
+        requires { at < length self.now }
+        ensures { result ≡ edge_of (line_in self.now at).word }
+    {
+        self.marks[at].edge
+    }
+
+    /// Whether nothing stands before its word, and no `&` behind it.
+    pub(crate) fn is_bare(&self, at: usize) -> bool
+        requires { at < length self.now }
+        ensures { result ≡ is_bare (line_in self.now at) }
+    {
+        self.marks[at].is_bare
+    }
+
+    /// Whether a name is among the tokens behind its first.
+    pub(crate) fn has_names(&self, at: usize) -> bool
+        requires { at < length self.now }
+        ensures { result ≡ has_name (drop 1 (line_in self.now at).tokens) }
+    {
+        self.marks[at].has_names
+    }
+
+    /// How many lines stand before the `ROF` that belongs to a `FOR` behind so many others; at least all where there is none.
+    pub(crate) fn rof_behind(&self, at: usize) -> usize
+        requires { at < length self.now }
+        ensures { IsNextRof self.now (at + 1) result }
+    {
+        self.marks[at].rof
+    }
+}
+
+impl Mark {
+    ghost use Rattle.std.specs.Prelude.{◌≡◌, drop};
+    ghost use Rattle.redcode_text.specs.Tokens.{pieces};
+    ghost use Rattle.redcode_lines.specs.Views.{line_read};
+    ghost use Rattle.redcode_expand.specs.Marks.{edge_of, has_name, is_bare};
+
+    /// What the walk has to know of a line behind which this `ROF` stands.
+    fn of(line: Reading<'_, '_>, rof: usize) -> Mark
+        ensures edge { result.edge ≡ edge_of (line_read line.entry).word }
+        ensures bare { result.is_bare ≡ is_bare (line_read line.entry) }
+        ensures names { result.has_names ≡ has_name (drop 1 (line_read line.entry).tokens) }
+        ensures rof { result.rof ≡ rof }
+    {
+        Mark {
+            edge: edge_of(line.word),
+            is_bare: line.front.is_empty() && !has_and(line.tokens),
+            has_names: has_name(behind_first(line.tokens)),
+            rof,
+        }
+    }
+}
+
+/// What a line with this word is to a block.
+fn edge_of(word: Option<Word>) -> Edge
+    ensures { result ≡ edge_of word }
+{
+    match word {
+        Some(Word::For) => Edge::For,
+        Some(Word::Rof) => Edge::Rof,
+        _ => Edge::Neither,
+    }
+}
+
+/// Whether a name is among the tokens.
+fn has_name(tokens: &[Token<'_>]) -> bool
+    ensures { result ≡ has_name (pieces tokens.now) }
+{
+    let mut rest = tokens;
+    while let [first, behind @ ..] = rest {
+        if is_name(first) {
+            return true;
+        }
+        rest = behind;
+    }
+    false
+}
+
+/// Marks each line, the last one first: the `ROF`s behind a line are known then.
+fn mark_all<A: Allocator>(lines: &[SourceLine<'_, A>], marks: &mut [Mark])
+    requires { length marks.old ≡ length lines.now }
+    ensures { AreMarked 0 lines.now marks.new }
+{
+    let mut rof = lines.len();
+    let mut at = lines.len();
+    while at > 0 {
+        at -= 1;
+        marks[at] = Mark::of(line_at(lines, at).reading(), rof);
+        rof = rof_from(lines, marks, at);
+    }
+}
+
+/// How many lines stand before the first `ROF` from a line on whose `FOR` isn't among these; at least all where there is none.
+fn rof_from<A: Allocator>(lines: &[SourceLine<'_, A>], marks: &[Mark], at: usize) -> usize
+    requires some { at < length lines.now }
+    requires marked { AreMarked at lines.now marks.now }
+    ensures { IsNextRof lines.now at result }
+{
+    let mark = marks[at];
+    match mark.edge {
+        Edge::For => {
+            if mark.rof < lines.len() {
+                marks[mark.rof].rof
+            } else {
+                mark.rof
+            }
+        }
+        Edge::Rof => at,
+        Edge::Neither => mark.rof,
+    }
+}
