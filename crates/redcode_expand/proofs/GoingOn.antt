@@ -7,8 +7,9 @@ use Rattle.war_types.specs.declared.fault.AsmFault.{AsmFault}
 use Rattle.war_types.specs.declared.settings.RawSettings.{RawSettings}
 use Rattle.redcode_names.specs.Gives.{◌>>=◌, Fails}
 use Rattle.redcode_lines.specs.Line.{SourceLine}
-use Rattle.redcode_lines.specs.Block.{Blocks, Parsed, parsed, behind_for, finish, one_line, block, open_for, behind_by, behind_rof, with_body, AreFromRof}
+use Rattle.redcode_lines.specs.Block.{Blocks, Parsed, parsed, behind_for, finish, one_line, block, open_for, behind_by, behind_rof, with_body}
 use Rattle.redcode_copies.specs.Counter.{Counter, counter_of}
+use Rattle.redcode_expand.specs.Marks.{AreFromRof}
 use Rattle.redcode_expand.specs.Walk.{WalkState, Begun, walk, step, begun, closed, copied, copies, until_end, begun_as, IsCopied}
 use Rattle.redcode_expand.specs.Rest.{OpenBlock, open_block, counters_of, more_copies, behind_copy, rest_of, counts, AreOpen, steps_left, GoesOn, IsUnmatched}
 use Rattle.redcode_text.specs.declared.vocabulary.Word.{Word}

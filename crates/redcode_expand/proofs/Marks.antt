@@ -9,14 +9,14 @@ use Rattle.redcode_text.specs.declared.vocabulary.Word.{Word}
 use Rattle.redcode_text.specs.declared.vocabulary.Word.TheVariants as words
 use Rattle.redcode_text.specs.Tokens.{Piece}
 use Rattle.redcode_lines.specs.Line.{SourceLine}
-use Rattle.redcode_lines.specs.Block.{Blocks, Parsed, parsed, with_body, behind_by, behind_for, AreFromRof}
+use Rattle.redcode_lines.specs.Block.{Blocks, Parsed, parsed, with_body, behind_by, behind_for}
 use Rattle.redcode_lines.specs.Capped.{has_and}
 use Rattle.redcode_names.specs.Equ.{has_tokens}
 use Rattle.redcode_copies.specs.Counter.{Counter}
 use Rattle.redcode_copies.specs.Plain.{has_number}
 use Rattle.redcode_expand.specs.declared.marked_lines.Edge.TheVariants as edges
 use Rattle.redcode_expand.specs.declared.marked_lines.Mark.{Mark}
-use Rattle.redcode_expand.specs.Marks.{edge_of, has_name, is_bare, line_in, mark_at, no_mark, AreMarked, IsMarked, IsNextRof}
+use Rattle.redcode_expand.specs.Marks.{edge_of, has_name, is_bare, line_in, mark_at, no_mark, AreFromRof, AreMarked, IsMarked, IsNextRof}
 use Rattle.redcode_names.specs.Gives.{◌>>=◌}
 use Rattle.redcode_expand.specs.Kept.{AreKept, kept_at}
 use Rattle.redcode_expand.specs.Rest.{OpenBlock, behind_copy, counters_of, rest_of, steps_left, AreOpen, GoesOn}

@@ -1,11 +1,11 @@
 -- What the walk knows of the lines of a source before it reads them. No part of the definition: a shorter way to the same.
-use Rattle.std.specs.Prelude.{◌≡◌, ℕ, ◌+◌, ◌<◌, ◌≤◌, Bool, true, false, not, ◌||◌, ◌&&◌, List, [], ◌∷◌, length, drop, Option, Some, None, slice_index_or}
+use Rattle.std.specs.Prelude.{◌≡◌, ℕ, ◌+◌, ◌<◌, ◌≤◌, Bool, true, false, not, ◌||◌, ◌&&◌, List, [], ◌∷◌, length, drop, Option, Some, None, ⊤, slice_index_or}
 use Rattle.redcode_text.specs.declared.vocabulary.Word.{Word}
 use Rattle.redcode_text.specs.declared.vocabulary.Word.TheVariants as words
 use Rattle.redcode_text.specs.Tokens.{Piece}
 use Rattle.redcode_lines.specs.declared.reading.LineForm.TheVariants as forms
 use Rattle.redcode_lines.specs.Line.{SourceLine, is_name, source_line}
-use Rattle.redcode_lines.specs.Block.{parsed, AreFromRof}
+use Rattle.redcode_lines.specs.Block.{parsed}
 use Rattle.redcode_lines.specs.Capped.{has_and}
 use Rattle.redcode_names.specs.Equ.{has_tokens}
 use Rattle.redcode_expand.specs.declared.marked_lines.Edge.{Edge}
@@ -30,6 +30,11 @@ is_bare line = not (has_tokens line.front) && not (has_and line.tokens)
 abbrev pub has_name : List Piece → Bool
 has_name [] = false
 has_name (token ∷ tokens) = is_name token.kind || has_name tokens
+
+-- these lines are none, or the first is a ROF
+abbrev pub AreFromRof : List SourceLine → Type 0
+AreFromRof [] = ⊤
+AreFromRof (line ∷ lines) = line.word ≡ Some words.Rof
 
 -- behind so many lines stands the first ROF that belongs to no FOR behind so many lines, or there is none
 pub record IsNextRof (lines : List SourceLine) (body rof : ℕ) : Type 0 where

@@ -2,4 +2,3 @@ mod Lines
 pub mod Readings
 pub mod Comments
 pub mod SourceLines
-pub mod Pairs

@@ -1,5 +1,5 @@
 -- The blocks of a source.
-use Rattle.std.specs.Prelude.{◌≡◌, ℕ, ◌+◌, ◌-◌, Bool, false, nat_eq, List, [], ◌∷◌, ◌++◌, Option, Some, None, ⊤}
+use Rattle.std.specs.Prelude.{ℕ, List, [], ◌∷◌, ◌++◌, Option, Some, None}
 use Rattle.redcode_text.specs.Tokens.{Piece}
 use Rattle.redcode_lines.specs.declared.source.Directive.{Directive}
 use Rattle.redcode_lines.specs.declared.source.Directive.TheVariants as directives
@@ -70,21 +70,3 @@ behind_by _ line behind = behind_line line behind
 abbrev pub parsed : List SourceLine → Parsed
 parsed [] = (finish, [])
 parsed (line ∷ lines) = behind_by line.word line (parsed lines)
-
--- ---- how a ROF is found: no part of the definition
-
--- these lines are none, or the first is a ROF
-abbrev pub AreFromRof : List SourceLine → Type 0
-AreFromRof [] = ⊤
-AreFromRof (line ∷ lines) = line.word ≡ Some words.Rof
-
--- whether a line with this word, within so many inner blocks, ends the block
-abbrev pub ends_block : ℕ → Option Word → Bool
-ends_block depth (Some words.Rof) = nat_eq depth 0
-ends_block depth _ = false
-
--- within how many inner blocks the line behind one with this word stands
-abbrev pub depth_behind : ℕ → Option Word → ℕ
-depth_behind depth (Some words.For) = depth + 1
-depth_behind depth (Some words.Rof) = depth - 1
-depth_behind depth _ = depth

@@ -1,11 +1,11 @@
 //! The lines of a source that are not skipped.
 
-ghost use Rattle.std.specs.Prelude.{◌≡◌, ◌+◌, ◌≤◌, ◌<◌, ◌++◌, ◌∷◌, [], None, length, drop, map, false, OnOk, IfOk};
+ghost use Rattle.std.specs.Prelude.{◌≡◌, ◌+◌, ◌≤◌, ◌<◌, ◌++◌, ◌∷◌, [], None, length, drop, map, OnOk, IfOk};
 ghost use Rattle.redcode_text.specs.Tokens.{pieces};
 ghost use Rattle.redcode_lines.specs.Source.{directive_of, lines_of, numbered_from};
 ghost use Rattle.redcode_lines.specs.Line.{source_line, statement, statement_tokens};
 ghost use Rattle.redcode_lines.specs.Capped.{capped, is_limited};
-ghost use Rattle.redcode_lines.specs.Block.{depth_behind, directive_line, ends_block, line_by, parsed, source_lines, AreFromRof};
+ghost use Rattle.redcode_lines.specs.Block.{directive_line, line_by, source_lines};
 ghost use Rattle.redcode_lines.specs.declared.reading.LineForm.TheVariants.{Assert};
 
 use crate::reading::{LineForm, Reading, from_word, has_and};
@@ -248,46 +248,4 @@ pub fn line_at<'l, 's, A: Allocator>(
     ensures { drop at lines.entry.now ≡ result.now ∷ drop (at + 1) lines.entry.now }
 {
     &lines[at]
-}
-
-/// How many lines stand before the `ROF` that belongs to a `FOR` with so many lines up to it; all where there is no such
-/// `ROF`.
-pub fn rof_behind<A: Allocator>(lines: &[SourceLine<'_, A>], body: usize) -> usize
-    requires few { length lines.now ≤ 65536 }
-    ensures rofs { (parsed (drop result lines.now)).1 ≡ (parsed (drop body lines.now)).1 }
-    ensures from { AreFromRof (drop result lines.now) }
-    ensures later { body ≤ result }
-{
-    let mut depth: u32 = 0;
-    let mut at = body;
-    while at < lines.len() {
-        let word = line_at(lines, at).word();
-        if ends_block(depth, word) {
-            return at;
-        }
-        depth = depth_behind(depth, word);
-        at += 1;
-    }
-    at
-}
-
-/// Whether a line with this word, within so many inner blocks, ends the block.
-fn ends_block(depth: u32, word: Option<Word>) -> bool
-    ensures { result ≡ ends_block depth word }
-{
-    depth == 0 && matches!(word, Some(Word::Rof))
-}
-
-/// Within how many inner blocks the line behind one with this word stands.
-fn depth_behind(depth: u32, word: Option<Word>) -> u32
-    requires few { depth ≤ 65536 }
-    requires within { ends_block depth word ≡ false }
-    ensures depth { result ≡ depth_behind depth word }
-    ensures few { result ≤ depth + 1 }
-{
-    match word {
-        Some(Word::For) => depth + 1,
-        Some(Word::Rof) => depth - 1,
-        _ => depth,
-    }
 }
