@@ -27,15 +27,24 @@ enum Moved<A: Allocator> {
     Over,
 }
 
-/// Takes a connection of a browser that waits, moves each one on, and tells whether anything came or went. One request is answered at most: the
-/// others wait for their turn, since a page takes time in which no peer is served.
+/// What a round of browsers leaves to the next one.
+#[derive(Clone, Copy)]
+pub(crate) struct BrowsersRound {
+    /// Whether anything came or went: then more may.
+    pub(crate) moved: bool,
+    /// Whether an accept failed: then it is tried again.
+    pub(crate) retries: bool,
+}
+
+/// Takes a connection of a browser that waits, and moves each one on. One request is answered at most: the others wait for their turn, since a page
+/// takes time in which no peer is served.
 pub(crate) fn serve_browsers<S, D, A, H>(
     browsers: &mut Browsers<A>,
     sockets: &mut S,
     store: &Store<D, A>,
     host: &H,
     now: u64,
-) -> bool
+) -> BrowsersRound
 where
     S: Sockets,
     D: Device,
@@ -43,47 +52,61 @@ where
     H: Host<D, A>,
     ensures { Stays S.happened sockets.old sockets.new }
 {
-    let mut moved = admit(browsers, sockets, now);
+    let mut round = admit(browsers, sockets, now);
     let mut has_answered = false;
     for place in 0..browsers.len() {
         let number = browsers.number(place);
         let asks = browsers.is_asking(number);
         if !(asks && has_answered) {
-            moved |= move_on(browsers, sockets, store, host, number, now);
+            round.moved |= move_on(browsers, sockets, store, host, number, now);
             has_answered |= asks && !browsers.is_asking(number);
         }
     }
     if has_answered {
         browsers.pass_turn();
     }
-    moved
+    round
 }
 
 /// Takes one connection that waits, if a number is free.
-fn admit<S, A>(browsers: &mut Browsers<A>, sockets: &mut S, now: u64) -> bool
+fn admit<S, A>(browsers: &mut Browsers<A>, sockets: &mut S, now: u64) -> BrowsersRound
 where
     S: Sockets,
     A: Allocator + Copy,
     ensures { Stays S.happened sockets.old sockets.new }
 {
     let Some(number) = browsers.free() else {
-        return false;
+        return BrowsersRound {
+            moved: false,
+            retries: false,
+        };
     };
-    match sockets.admit_browser(number) {
-        Arrival::Peer(_) => {
-            match Visit::new(browsers.alloc) {
-                Ok(visit) => browsers.put(
-                    number,
-                    Some(Connection {
-                        stage: Stage::Asking(visit),
-                        since: now,
-                    }),
-                ),
-                Err(AllocError) => sockets.close_browser(number),
-            }
-            true
-        }
-        Arrival::Nobody | Arrival::Failed => false,
+    let arrival = sockets.admit_browser(number);
+    if let Arrival::Peer(_) = arrival {
+        begin(browsers, sockets, number, now);
+    }
+    BrowsersRound {
+        moved: matches!(arrival, Arrival::Peer(_)),
+        retries: arrival == Arrival::Failed,
+    }
+}
+
+/// Puts the connection that was taken under its number. It is closed if there is no memory for its request.
+fn begin<S, A>(browsers: &mut Browsers<A>, sockets: &mut S, number: usize, now: u64)
+where
+    S: Sockets,
+    A: Allocator + Copy,
+    ensures { Stays S.happened sockets.old sockets.new }
+{
+    match Visit::new(browsers.alloc) {
+        Ok(visit) => browsers.put(
+            number,
+            Some(Connection {
+                stage: Stage::Asking(visit),
+                since: now,
+            }),
+        ),
+        Err(AllocError) => sockets.close_browser(number),
     }
 }
 

@@ -24,7 +24,7 @@ pub(crate) struct Desk<D: Device, A: Allocator + Copy> {
     pub(crate) sessions: Sessions,
     /// Whether something came or went in this round: then more may, and nobody is waited for.
     pub(crate) is_busy: bool,
-    /// Whether an accept failed in this round.
+    /// Whether an accept failed in this round, of a peer or of a browser.
     pub(crate) retries: bool,
 }
 

@@ -99,8 +99,9 @@ where
     let now = sockets.now();
     send_all(desk, sockets, host, errors, now);
     part_all(desk, sockets, host, errors, now);
-    let moved = serve_browsers(browsers, sockets, &desk.store, host, now);
-    desk.is_busy |= moved;
+    let round = serve_browsers(browsers, sockets, &desk.store, host, now);
+    desk.is_busy |= round.moved;
+    desk.retries |= round.retries;
 }
 
 /// Waits for peers, takes what comes of them, and carries out one command at most.

@@ -98,7 +98,8 @@ pub trait Sockets {
 
     // Of browsers nothing is kept: what happened is of peers alone.
 
-    /// Takes a connection of a browser that waits, and puts it under this number of the browsers'. Its address is told.
+    /// Takes a connection of a browser that waits, and puts it under this number of the browsers'. Its address is told. Nothing is put there if it
+    /// failed for now.
     fn admit_browser(&mut self, number: usize) -> Arrival
         ensures { Stays Self.happened self.old self.new };
 

@@ -135,6 +135,24 @@ fn slow_browsers(rt: HostRuntime) -> Result<(), Fail> {
     Ok(())
 }
 
+/// An accept of a browser that fails is tried again after 100 milliseconds, though nothing else happens until then.
+#[test]
+fn an_accept_that_fails(rt: HostRuntime) -> Result<(), Fail> {
+    let cues = [
+        cue(0, Deed::FailsBrowser),
+        cue(0, Deed::Visits(7)),
+        cue(0, Deed::Takes(7, ALL)),
+        cue(0, Deed::Says(7, HILL)),
+        cue(0, Deed::Ends(7)),
+        cue(9_000, Deed::Calls(1)),
+        cue(9_000, Deed::Ends(1)),
+    ];
+    let served = serve(&rt, &cues, 1, u64::MAX, 0)?;
+    heard(&rt, &served.sockets, 7, NOBODY);
+    closed(&rt, &served.sockets, 7, Some(100));
+    Ok(())
+}
+
 /// A browser that is gone costs nothing.
 #[test]
 fn a_browser_that_is_gone(rt: HostRuntime) -> Result<(), Fail> {

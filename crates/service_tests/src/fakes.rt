@@ -33,8 +33,10 @@ pub(crate) enum Deed {
     Resets(u16),
     /// It takes so many bytes more of its answers.
     Takes(u16, usize),
-    /// The next accept fails.
+    /// The next accept of a peer fails.
     Fails,
+    /// The next accept of a browser fails.
+    FailsBrowser,
 }
 
 /// Sockets on which these cues happen.
@@ -44,6 +46,7 @@ pub(crate) struct Fakes<'c> {
     time: u64,
     cues: &'c [Cue],
     fails: usize,
+    browser_fails: usize,
     accepted: usize,
     pub(crate) waits: u64,
     pub(crate) callers: Vec<Caller>,
@@ -56,6 +59,7 @@ impl<'c> Fakes<'c> {
             time: 0,
             cues,
             fails: 0,
+            browser_fails: 0,
             accepted: 0,
             waits: 0,
             callers: Vec::new(alloc),
@@ -131,6 +135,7 @@ impl<'c> Fakes<'c> {
                 }
             }
             Deed::Fails => self.fails = self.fails.saturating_add(1),
+            Deed::FailsBrowser => self.browser_fails = self.browser_fails.saturating_add(1),
         }
     }
 
@@ -243,6 +248,10 @@ impl Sockets for Fakes<'_> {
     }
 
     fn admit_browser(&mut self, number: usize) -> Arrival {
+        if self.browser_fails > 0 {
+            self.browser_fails = self.browser_fails.saturating_sub(1);
+            return Arrival::Failed;
+        }
         let Some(place) = self.waiting(true) else {
             return Arrival::Nobody;
         };

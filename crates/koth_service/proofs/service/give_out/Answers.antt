@@ -8,6 +8,6 @@ returns-clause-told g c = grows_on _ _ _ c.send_all.ensures.told c.part_all.ensu
 
 pub returns-clause-served : goal.returns-clause-served
 returns-clause-served g c = λ start on.
-    stays g.S.Sockets.happened g.D.Device.facts start c.part_all.new.sockets c.serve_browsers-moved.new.sockets c.part_all.new.desk.peers.slots.items c.part_all.new.desk.store c.serve_browsers-moved.ensures
+    stays g.S.Sockets.happened g.D.Device.facts start c.part_all.new.sockets c.serve_browsers-round.new.sockets c.part_all.new.desk.peers.slots.items c.part_all.new.desk.store c.serve_browsers-round.ensures
     (c.part_all.ensures.served start (c.send_all.ensures.served start (
     stays g.S.Sockets.happened g.D.Device.facts start c.args.sockets.now c.now-now.new.self c.args.desk.now.peers.slots.items c.args.desk.now.store c.now-now.ensures on)))
