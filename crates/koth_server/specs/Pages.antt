@@ -1,5 +1,5 @@
 -- The pages that browsers ask for.
-use Rattle.std.specs.Prelude.{◌≡◌, ℕ, ◌<◌, true, List, Some, slice_get}
+use Rattle.std.specs.Prelude.{◌≡◌, ⊤, ℕ, ◌<◌, true, List, Some, slice_get}
 use Rattle.war_types.specs.Warrior.{WarriorParts}
 use Rattle.koth_hill.specs.Hill.{Member, member_of}
 use Rattle.koth_hill.specs.Kept.{Kept}
@@ -14,6 +14,22 @@ pub record HasWarrior (members : List Member) (entry : ℕ) (warrior : WarriorPa
   pub place : ℕ
   pub age : ℕ
   pub stands : slice_get members place ≡ Some (member_of entry age warrior)
+
+-- a warrior on the hill entered as this one
+abbrev pub IsOnHill : List Member → ℕ → Type 0
+IsOnHill members entry = (warrior : WarriorParts) × HasWarrior members entry warrior
+
+-- a hill has this round, counted from 1, of the match of the warriors with these entries, the older one first
+pub record HasRound (hill : Kept) (older younger round : ℕ) : Type 0 where
+  pub rising : older < younger
+  pub counted : has_round hill.settings round ≡ true
+  pub older_stands : IsOnHill hill.members older
+  pub younger_stands : IsOnHill hill.members younger
+
+-- a hill has this page: its own in any case
+abbrev pub HasPage : Kept → Page → Type 0
+HasPage hill pages.Hill = ⊤
+HasPage hill (pages.Round older younger round) = HasRound hill older younger round
 
 -- the text is the page of a round, counted from 1, of the match of the warriors with these entries on a hill, the older one first
 pub record IsRoundOf (hill : Kept) (older younger round : ℕ) (text : List ℕ) : Type 0 where

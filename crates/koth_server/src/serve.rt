@@ -12,11 +12,11 @@ use crate::pages::page_shown;
 use crate::trouble::HillTrouble;
 use hill_file::{HillFile, Sharing, TryLock};
 use koth_commands::{Cause, Status, Subject, reason_of, write_whole};
-use koth_http::{Page, Refusal};
+use koth_http::Page;
 use koth_protocol::Line;
 use koth_service::{Event, Host, PolledSockets, ServiceFault, serve_peers};
 use koth_words::Service;
-use std::alloc::Allocator;
+use std::alloc::{AllocError, Allocator};
 use std::io;
 use std::io::{ErrorKind, Write};
 use std::net::{Net, SocketAddr};
@@ -51,7 +51,11 @@ where
         }
     }
 
-    fn page(&self, store: &HillStore<'f, R, A>, page: Page) -> Result<Vec<u8, A>, Refusal> {
+    fn page(
+        &self,
+        store: &HillStore<'f, R, A>,
+        page: Page,
+    ) -> Result<Option<Vec<u8, A>>, AllocError> {
         page_shown(self.alloc, store, page)
     }
 

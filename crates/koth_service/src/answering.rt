@@ -1,16 +1,36 @@
 //! What a browser is answered.
 
-ghost use Rattle.std.specs.Prelude.{IfOk};
-ghost use Rattle.koth_service.specs.Answering.{IsAnswer};
+ghost use Rattle.std.specs.Prelude.{◌≡◌, IfOk};
+ghost use Rattle.koth_service.specs.Answering.{AnswersBytes, IsAnswer, found_response};
 
 use crate::host::Host;
 use hill_store::Store;
-use koth_http::{Asked, page_response, refusal_response};
+use koth_http::{Asked, Refusal, Visit, page_response, refusal_response};
 use sector_disk::Device;
 use std::alloc::{AllocError, Allocator};
 
-/// The answer to what a browser asks: the page that it asks for, of the hill that stands now, or why there is none. The error is want of memory.
-pub(crate) fn answer<D, A, H>(
+/// The answer to what the bytes of a connection ask, once that is known. The error is want of memory for it.
+pub(crate) fn answer_visit<D, A, H>(
+    alloc: A,
+    store: &Store<D, A>,
+    host: &H,
+    visit: &Visit<A>,
+) -> Result<Option<Vec<u8, A>>, AllocError>
+where
+    D: Device,
+    A: Allocator + Copy,
+    H: Host<D, A>,
+    ensures { IfOk result (AnswersBytes (H.shows host.now store.now) visit.now) }
+{
+    match visit.asked() {
+        Some(asked) => Ok(Some(answer(alloc, store, host, asked)?)),
+        None => Ok(None),
+    }
+}
+
+/// The answer to what a browser asks: the page that it asks for, of the hill that stands now, or that there is no such page, or no memory for it; or why it
+/// asks for none. The error is want of memory for the answer.
+fn answer<D, A, H>(
     alloc: A,
     store: &Store<D, A>,
     host: &H,
@@ -22,12 +42,23 @@ where
     H: Host<D, A>,
     ensures { IfOk result (λ answer. IsAnswer (H.shows host.now store.now) asked answer.items) }
 {
-    let page = match asked.page {
-        Ok(page) => host.page(store, page),
-        Err(refusal) => Err(refusal),
-    };
-    match page {
-        Ok(text) => page_response(alloc, text.as_slice(), asked.with_body),
+    match asked.page {
+        Ok(page) => found_response(alloc, host.page(store, page), asked.with_body),
         Err(refusal) => refusal_response(alloc, refusal, asked.with_body),
+    }
+}
+
+/// The answer by what was found of a page, or by the want of memory for it.
+fn found_response<A: Allocator + Copy>(
+    alloc: A,
+    found: Result<Option<Vec<u8, A>>, AllocError>,
+    with_body: bool,
+) -> Result<Vec<u8, A>, AllocError>
+    ensures { IfOk result (λ answer. answer.items ≡ found_response found with_body) }
+{
+    match found {
+        Ok(Some(text)) => page_response(alloc, text.as_slice(), with_body),
+        Ok(None) => refusal_response(alloc, Refusal::NotFound, with_body),
+        Err(AllocError) => refusal_response(alloc, Refusal::Unavailable, with_body),
     }
 }

@@ -2,7 +2,7 @@
 
 ghost use Rattle.koth_service.specs.Noted.{Stays};
 
-use crate::answering::answer;
+use crate::answering::answer_visit;
 use crate::connections::{Browsers, Connection, Stage};
 use crate::host::Host;
 use crate::sockets::{Arrival, Came, Sockets, Went};
@@ -214,26 +214,14 @@ where
     match sockets.read_browser(number, bytes) {
         Came::Bytes(count) => {
             visit.take(&bytes[..count]);
-            answered(alloc, store, host, visit)
+            match answer_visit(alloc, store, host, &visit) {
+                Ok(Some(answer)) => Moved::Next(Stage::Answering(answer, 0)),
+                Ok(None) => Moved::On(Stage::Asking(visit)),
+                Err(AllocError) => Moved::Over,
+            }
         }
         Came::Nothing => Moved::Still(Stage::Asking(visit)),
         Came::End | Came::Gone => Moved::Over,
-    }
-}
-
-/// The answer to what was asked, once that is known.
-fn answered<D, A, H>(alloc: A, store: &Store<D, A>, host: &H, visit: Visit<A>) -> Moved<A>
-where
-    D: Device,
-    A: Allocator + Copy,
-    H: Host<D, A>,
-{
-    match visit.asked() {
-        Some(asked) => match answer(alloc, store, host, asked) {
-            Ok(answer) => Moved::Next(Stage::Answering(answer, 0)),
-            Err(AllocError) => Moved::Over,
-        },
-        None => Moved::On(Stage::Asking(visit)),
     }
 }
 

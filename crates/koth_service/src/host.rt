@@ -3,13 +3,14 @@
 ghost use Rattle.std.specs.Prelude.{◌≡◌, ℕ, List, false, IfOk};
 ghost use Rattle.koth_http.specs.declared.target.Page.{Page};
 ghost use Rattle.hill_store.specs.Seen.{Seen};
+ghost use Rattle.koth_service.specs.Answering.{IsFound};
 ghost use Rattle.koth_service.specs.Told.{Grows};
 
 use hill_store::Store;
-use koth_http::{Page, Refusal};
+use koth_http::Page;
 use koth_peers::PeerEnd;
 use sector_disk::Device;
-use std::alloc::Allocator;
+use std::alloc::{AllocError, Allocator};
 use std::io::Write;
 use std::net::SocketAddr;
 
@@ -47,9 +48,9 @@ pub trait Host<D: Device, A: Allocator> {
     fn reopen(&self) -> Result<Store<D, A>, Self::Fault>
         ensures { IfOk result (λ store. store.reopen ≡ false) };
 
-    /// The text of a page of the store's hill, HTML in ASCII, or why there is none.
-    fn page(&self, store: &Store<D, A>, page: Page) -> Result<Vec<u8, A>, Refusal>
-        ensures { IfOk result (λ text. Self.shows self.now store.now page text.items) };
+    /// The text of a page of the store's hill, HTML in ASCII, or none where there is no such page. The error is want of memory.
+    fn page(&self, store: &Store<D, A>, page: Page) -> Result<Option<Vec<u8, A>>, AllocError>
+        ensures { IfOk result (IsFound (Self.shows self.now store.now page)) };
 
     /// Writes of what happened with the peer of this address, as much as is to be told.
     fn tell<E: Write>(&self, peer: SocketAddr, event: Event<'_>, errors: &mut E)

@@ -1,9 +1,10 @@
 //! A host that writes what it is told, and hills in memory.
 
-ghost use Rattle.std.specs.Prelude.{◌≡◌, ⊤, false, IfOk, IfSome};
+ghost use Rattle.std.specs.Prelude.{◌≡◌, false, IfOk, IfSome};
+ghost use Rattle.koth_http.specs.declared.target.Page.TheVariants as pages;
 
 use hill_store::Store;
-use koth_http::{Page, Refusal};
+use koth_http::Page;
 use koth_service::{Event, Host};
 use sector_disk::{FuseDevice, FuseKind, MemoryDevice};
 use std::alloc::{AllocError, Global};
@@ -68,7 +69,7 @@ pub(crate) struct Shut;
 impl Host<Fuse, Global> for Clerk {
     type Fault = Shut;
 
-    ghost shows = { λ _ _ _ _. ⊤ };
+    ghost shows = { λ _ _ page _. page ≡ pages.Hill };
 
     fn reopen(&self) -> Result<Store<Fuse, Global>, Shut>
         ensures { IfOk result (λ store. store.reopen ≡ false) }
@@ -82,10 +83,10 @@ impl Host<Fuse, Global> for Clerk {
     }
 
     /// The page of the hill tells how many are on it. No round has one.
-    fn page(&self, store: &Store<Fuse, Global>, page: Page) -> Result<Vec<u8>, Refusal> {
+    fn page(&self, store: &Store<Fuse, Global>, page: Page) -> Result<Option<Vec<u8>>, AllocError> {
         match page {
-            Page::Hill => counted(self.alloc, store.hill().len()),
-            Page::Round { .. } => Err(Refusal::NotFound),
+            Page::Hill => Ok(Some(counted(self.alloc, store.hill().len())?)),
+            Page::Round { .. } => Ok(None),
         }
     }
 
@@ -96,11 +97,9 @@ impl Host<Fuse, Global> for Clerk {
     }
 }
 
-fn counted(alloc: Global, warriors: usize) -> Result<Vec<u8>, Refusal> {
-    match format!(in alloc; "{} here\n", warriors) {
-        Ok(text) => Ok(text.into_bytes()),
-        Err(_) => Err(Refusal::Unavailable),
-    }
+fn counted(alloc: Global, warriors: usize) -> Result<Vec<u8>, AllocError> {
+    let text = format!(in alloc; "{} here\n", warriors)?;
+    Ok(text.into_bytes())
 }
 
 fn line_of(

@@ -1,0 +1,8 @@
+-- Nobody before this place entered as this one.
+use Rattle.std.proofs.Common.{◌≡◌, ℕ, ◌<◌}
+use Rattle.std.specs.Prelude.{Some, slice_get}
+use Rattle.koth_hill.specs.Hill.{Member}
+use Rattle.koth_server.proofs.pages.warrior_of.Given as goal
+
+abbrev pub invariant-loop-place : goal.invariant-loop-place
+invariant-loop-place g l = (k : ℕ) (m : Member) → k < l.place → slice_get l.hill.members k ≡ Some m → ¬ (m.entry ≡ l.entry)
