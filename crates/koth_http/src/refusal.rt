@@ -8,7 +8,7 @@ ghost use Rattle.koth_http.specs.Response.{refusal_line, refusal_sentence};
 pub enum Refusal {
     /// What came is no request.
     BadRequest,
-    /// The target is none of those that there are.
+    /// The target names no page, or one that the hill doesn't have.
     NotFound,
     /// The target is one of those that there are, but its page is only read.
     MethodNotAllowed,
