@@ -1,19 +1,21 @@
 //! Growths of memory that are refused: where a device takes its memory from the same allocator, in a list of submissions, and behind
 //! the first call of the device.
 
-use crate::calls::{
-    audit, create, expect_reply, expect_rows, rows_of, settings_from, submit, submit_all,
-};
-use crate::stores::{SECTORS, SMALL, counted, created, fell, numbers, opened, placed, refused};
+use crate::expecting::{THREE, expect_reply, expect_rows, row_at};
 use hill_bytes::{OldSlot, Slot, Wins};
 use hill_store::{
-    Header, Refusal, Reply, decode_header, decode_old_header, encode_header, encode_old_header,
+    Header, Refusal, Reply, Store, decode_header, decode_old_header, encode_header,
+    encode_old_header,
 };
-use refusing::{Refusing, refuse_each};
+use refusing::Refusing;
 use sector_disk::{Device, Fault, MemoryDevice};
 use std::alloc::{AllocError, Global};
 use std::process::Abort;
 use std::test::Fail;
+use store_calls::{
+    SMALL, audit, blank, close, counted, create, created, created_in, fell, opened, placed,
+    refused, settings_from, submit_all,
+};
 use war_types::{AsmKind, Warrior};
 
 /// A device that refuses every further growth from its first call on.
@@ -57,53 +59,84 @@ fn expect_stinted(rt: &impl Abort, memory: &Refusing<Global>) {
     memory.refuse(0, 0);
 }
 
+/// The store answers this to a source, and took no memory once it had called its device.
+fn expect_stinted_reply<D: Device>(
+    rt: &impl Abort,
+    memory: &Refusing<Global>,
+    store: &mut Store<D, &Refusing<Global>>,
+    source: &[u8],
+    reply: Reply,
+) {
+    expect_reply(rt, store, source, reply);
+    expect_stinted(rt, memory);
+}
+
+/// A hill of two on a device that stints, which was submitted to, audited and closed. The device comes back.
+fn stinted(
+    rt: &impl Abort,
+    alloc: Global,
+    memory: &Refusing<Global>,
+) -> Result<MemoryDevice<Global>, Fail> {
+    let inner = blank(alloc)?;
+    let mut store = created(memory, Stinting { inner, memory })?;
+    expect_stinted(rt, memory);
+    for (source, reply) in &THREE {
+        expect_stinted_reply(rt, memory, &mut store, *source, *reply);
+    }
+    expect_stinted_reply(rt, memory, &mut store, b"MOV 0,1", fell(4, 4));
+    memory.refuse(0, u64::MAX);
+    assert!(rt; audit(&mut store));
+    Ok(close(store).inner)
+}
+
+/// So many rows has the hill that is opened on a device.
+fn expect_opened<D: Device + Drop>(
+    rt: &impl Abort,
+    alloc: Global,
+    device: D,
+    count: usize,
+) -> Result<(), Fail> {
+    let store = opened(alloc, device)?;
+    expect_rows(rt, &store, count);
+    drop(store);
+    Ok(())
+}
+
 /// The device has its memory from elsewhere. A store takes none once it has called its device, to create a hill and to submit, and an
 /// audit and the close take none at all.
 #[test]
 fn none_behind_the_first_call_of_the_device(rt: HostRuntime) -> Result<(), Fail> {
     let memory = Refusing::new(rt.alloc());
-    let device = Stinting {
-        inner: MemoryDevice::new(rt.alloc(), SECTORS)?,
-        memory: &memory,
-    };
-    let mut store = created(&memory, device)?;
-    expect_stinted(&rt, &memory);
-    let submissions: [(&[u8], Reply); 4] = [
-        (b"MOV 0,1", placed(1, 1, 0)),
-        (b"JMP 0", placed(2, 2, 2)),
-        (b"DAT 0,0", fell(3, 0)),
-        (b"MOV 0,1", fell(4, 4)),
-    ];
-    for (source, reply) in submissions {
-        expect_reply(&rt, &mut store, source, reply);
-        expect_stinted(&rt, &memory);
-    }
-    memory.refuse(0, u64::MAX);
-    assert!(rt; audit(&mut store));
-    let device = store.close();
+    let device = stinted(&rt, rt.alloc(), &memory)?;
     assert_eq!(rt; memory.refused(), 0);
     memory.refuse(0, 0);
-    let store = opened(rt.alloc(), device.inner)?;
-    expect_rows(&rt, &store, 2)?;
-    drop(store);
-    Ok(())
+    expect_opened(&rt, rt.alloc(), device, 2)
 }
 
-/// A header is the same in both formats, written and read.
-fn expect_header(rt: &impl Abort) -> Result<(), Fail> {
+/// The generation that a header has in the new format, and the capacity that it has in the old one, written and read.
+fn header_in_both() -> Result<(u64, u16), Fail> {
     let header = Header::new(0, settings_from(SMALL)?, 0, &[]).ok_or("a header")?;
-    let read = decode_header(&encode_header(&header)).ok_or("its header")?;
-    assert_eq!(rt; read.generation(), 0);
     let bytes = encode_old_header(&header).ok_or("it has room")?;
-    let read = decode_old_header(&bytes).ok_or("its header")?;
-    assert_eq!(rt; read.settings().capacity(), 2);
-    Ok(())
+    Ok((
+        generation_in(&encode_header(&header))?,
+        capacity_in(&bytes)?,
+    ))
+}
+
+fn generation_in(bytes: &[u8; 512]) -> Result<u64, Fail> {
+    let read = decode_header(bytes).ok_or("its header")?;
+    Ok(read.generation())
+}
+
+fn capacity_in(bytes: &[u8; 512]) -> Result<u16, Fail> {
+    let read = decode_old_header(bytes).ok_or("its header")?;
+    Ok(read.settings().capacity())
 }
 
 /// Slots of both formats hold the warrior, which has no results.
 fn expect_slot(rt: &impl Abort, warrior: &Warrior<&Refusing<Global>>) {
     let slot = Slot::encode(warrior, &[Wins::NONE; 21]);
-    assert_eq!(rt; slot.results(), [Wins::NONE; 21]);
+    assert!(rt; slot.results() == [Wins::NONE; 21]);
     let old = OldSlot {
         sectors: [slot.sectors[0], slot.sectors[3]],
     };
@@ -111,35 +144,114 @@ fn expect_slot(rt: &impl Abort, warrior: &Warrior<&Refusing<Global>>) {
     assert!(rt; Slot::blank().sectors != slot.sectors);
 }
 
+/// The slots of the first warrior of a hill.
+fn expect_slots<D: Device>(
+    rt: &impl Abort,
+    store: &Store<D, &Refusing<Global>>,
+) -> Result<(), Fail> {
+    let member = store.hill().member(0).ok_or("the warrior")?;
+    expect_slot(rt, member.warrior);
+    Ok(())
+}
+
+/// With every growth refused, headers and the slots of the first warrior are made and read.
+fn expect_bytes<D: Device>(
+    rt: &impl Abort,
+    memory: &Refusing<Global>,
+    store: &Store<D, &Refusing<Global>>,
+) -> Result<(), Fail> {
+    memory.refuse(0, u64::MAX);
+    assert_eq!(rt; header_in_both()?, (0, 2));
+    expect_slots(rt, store)?;
+    assert_eq!(rt; memory.refused(), 0);
+    memory.refuse(0, 0);
+    Ok(())
+}
+
 #[test]
 fn headers_and_slots_need_none(rt: HostRuntime) -> Result<(), Fail> {
     let memory = Refusing::new(rt.alloc());
-    let mut store = created(&memory, MemoryDevice::new(rt.alloc(), SECTORS)?)?;
+    let mut store = created_in(&memory, rt.alloc())?;
     expect_reply(&rt, &mut store, b"MOV 0,1", placed(1, 1, 0));
-    memory.refuse(0, u64::MAX);
-    expect_header(&rt)?;
-    let member = store.hill().member(0).ok_or("the warrior")?;
-    expect_slot(&rt, member.warrior);
-    assert_eq!(rt; memory.refused(), 0);
-    memory.refuse(0, 0);
+    expect_bytes(&rt, &memory, &store)?;
     drop(store);
     Ok(())
 }
 
+/// A warrior is placed on the hill of two that is created on this device.
+fn expect_goes_on<D: Device + Drop>(rt: &impl Abort, alloc: Global, device: D) -> Result<(), Fail> {
+    let mut store = created(alloc, device)?;
+    expect_reply(rt, &mut store, b"MOV 0,1", placed(1, 1, 0));
+    drop(store);
+    Ok(())
+}
+
+/// The refusal to create a hill of two on a device, which comes back.
+fn not_created<D: Device + Drop>(alloc: Global, device: D) -> Result<(D, Refusal), Fail> {
+    match create(alloc, device, settings_from(SMALL)?) {
+        Ok(_) => Err("it is refused".into()),
+        Err(refused) => Ok(refused),
+    }
+}
+
 /// A device in memory takes a growth at the first write to a sector, as of the header of a hill that is created.
 fn expect_none_created(
-    rt: &(impl Abort + AllocGlobal),
+    rt: &impl Abort,
+    alloc: Global,
     memory: &Refusing<Global>,
 ) -> Result<(), Fail> {
-    let device = MemoryDevice::new(memory, SECTORS)?;
+    let device = blank(memory)?;
     memory.refuse(0, 1);
-    let Err((device, refusal)) = create(rt.alloc(), device, settings_from(SMALL)?) else {
-        return Err("it is refused".into());
-    };
+    let (device, refusal) = not_created(alloc, device)?;
     assert_eq!(rt; refusal, Refusal::Disk);
     assert_eq!(rt; (device.faults(), memory.refused()), (1, 1));
-    let mut store = created(rt.alloc(), device)?;
+    expect_goes_on(rt, alloc, device)
+}
+
+/// Growth `k` of the device's memory is refused while a warrior is submitted.
+fn expect_disk<D: Device>(
+    rt: &impl Abort,
+    memory: &Refusing<Global>,
+    store: &mut Store<D, Global>,
+    k: u64,
+) {
+    memory.refuse(k, 1);
+    expect_reply(rt, store, b"MOV 0,1", Reply::Disk);
+    expect_reply(rt, store, b"MOV 0,1", Reply::Reopen);
+    assert_eq!(rt; memory.refused(), 1);
+    expect_rows(rt, store, 0);
+}
+
+/// The hill that is opened on a device has no warrior, and one is placed there.
+fn expect_empty<D: Device + Drop>(rt: &impl Abort, alloc: Global, device: D) -> Result<(), Fail> {
+    let mut store = opened(alloc, device)?;
+    expect_rows(rt, &store, 0);
     expect_reply(rt, &mut store, b"MOV 0,1", placed(1, 1, 0));
+    drop(store);
+    Ok(())
+}
+
+/// Growth `k` of the device's memory is refused while a warrior is submitted, and the device was asked for so many calls.
+fn expect_refused(
+    rt: &impl Abort,
+    alloc: Global,
+    memory: &Refusing<Global>,
+    k: u64,
+    calls: u32,
+) -> Result<(), Fail> {
+    let mut store = created(alloc, counted(blank(memory)?))?;
+    expect_disk(rt, memory, &mut store, k);
+    let device = close(store);
+    assert_eq!(rt; device.calls, calls);
+    expect_empty(rt, alloc, device)
+}
+
+/// No growth of the device's memory is the sixth while a warrior is submitted.
+fn expect_no_more(rt: &impl Abort, alloc: Global, memory: &Refusing<Global>) -> Result<(), Fail> {
+    let mut store = created_in(alloc, memory)?;
+    memory.refuse(5, 1);
+    expect_reply(rt, &mut store, b"MOV 0,1", placed(1, 1, 0));
+    assert_eq!(rt; memory.refused(), 0);
     drop(store);
     Ok(())
 }
@@ -150,46 +262,37 @@ fn expect_none_created(
 #[test]
 fn of_a_device(rt: HostRuntime) -> Result<(), Fail> {
     let memory = Refusing::new(rt.alloc());
-    expect_none_created(&rt, &memory)?;
-    for (k, calls) in [(0, 5 + 1), (1, 5 + 2), (2, 5 + 3), (3, 5 + 4), (4, 5 + 6)] {
-        let mut store = created(rt.alloc(), counted(MemoryDevice::new(&memory, SECTORS)?))?;
-        memory.refuse(k, 1);
-        assert_eq!(rt;
-            submit(&mut store, b"MOV 0,1"),
-            Reply::Disk,
-            "at growth {k}"
-        );
-        expect_reply(&rt, &mut store, b"MOV 0,1", Reply::Reopen);
-        assert_eq!(rt; memory.refused(), 1);
-        expect_rows(&rt, &store, 0)?;
-        let device = store.close();
-        assert_eq!(rt; device.calls, calls, "at growth {k}");
-        let mut store = opened(rt.alloc(), device)?;
-        expect_rows(&rt, &store, 0)?;
-        expect_reply(&rt, &mut store, b"MOV 0,1", placed(1, 1, 0));
-        drop(store);
-    }
-    let mut store = created(rt.alloc(), MemoryDevice::new(&memory, SECTORS)?)?;
-    memory.refuse(5, 1);
-    expect_reply(&rt, &mut store, b"MOV 0,1", placed(1, 1, 0));
-    assert_eq!(rt; memory.refused(), 0);
-    drop(store);
-    Ok(())
+    expect_none_created(&rt, rt.alloc(), &memory)?;
+    expect_refused(&rt, rt.alloc(), &memory, 0, 5 + 1)?;
+    expect_refused(&rt, rt.alloc(), &memory, 1, 5 + 2)?;
+    expect_refused(&rt, rt.alloc(), &memory, 2, 5 + 3)?;
+    expect_refused(&rt, rt.alloc(), &memory, 3, 5 + 4)?;
+    expect_refused(&rt, rt.alloc(), &memory, 4, 5 + 6)?;
+    expect_no_more(&rt, rt.alloc(), &memory)
 }
 
+/// The first row of the table where growth `k` is refused, if there is memory for the table then, and how many growths were refused.
+fn expect_first_row<D: Device>(
+    rt: &impl Abort,
+    memory: &Refusing<Global>,
+    store: &Store<D, &Refusing<Global>>,
+    k: u64,
+    row: Option<(u64, u32, u64)>,
+    refused: u64,
+) {
+    memory.refuse(k, 1);
+    let found = (row_at(store, 0), memory.refused());
+    assert_eq!(rt; found, (row, refused));
+}
+
+/// A table takes one growth.
 #[test]
 fn of_a_table(rt: HostRuntime) -> Result<(), Fail> {
     let memory = Refusing::new(rt.alloc());
-    let mut store = created(&memory, MemoryDevice::new(rt.alloc(), SECTORS)?)?;
+    let mut store = created_in(&memory, rt.alloc())?;
     expect_reply(&rt, &mut store, b"MOV 0,1", placed(1, 1, 0));
-    let runs = refuse_each(&memory, |_k| match rows_of(&store) {
-        Ok(rows) => {
-            assert_eq!(rt; memory.refused(), 0);
-            assert_eq!(rt; numbers(rows.first()), Some((1, 0, 0)));
-        }
-        Err(AllocError) => assert_eq!(rt; memory.refused(), 1),
-    });
-    assert_eq!(rt; runs, 2);
+    expect_first_row(&rt, &memory, &store, 0, None, 1);
+    expect_first_row(&rt, &memory, &store, 1, Some((1, 0, 0)), 0);
     drop(store);
     Ok(())
 }
@@ -197,58 +300,40 @@ fn of_a_table(rt: HostRuntime) -> Result<(), Fail> {
 /// The sources of a list, of which the third is refused and the fourth falls.
 const SOURCES: [&[u8]; 4] = [b"MOV 0,1", b"JMP 0", b"", b"DAT 0,0"];
 
-/// So many growths of the list, in their order, and the replies where one of them is refused: of the first source, of the device's writes
-/// for it, and so on. The third, without a line, takes none, and the fourth writes to a sector that was written before. A warrior that
-/// finds no memory leaves its entry and its place to the next. Behind `Disk` stands nothing.
-fn growths() -> [(u64, [Reply; 4]); 5] {
-    let (first, second) = (placed(1, 1, 0), placed(2, 2, 2));
-    let (empty, loses) = (refused(0, AsmKind::Empty), placed(2, 2, 0));
-    let (memory, disk) = (Reply::Memory, Reply::Disk);
-    [
-        (7, [memory, first, empty, loses]),
-        (5, [disk; 4]),
-        (7, [first, memory, empty, loses]),
-        (4, [first, disk, disk, disk]),
-        (7, [first, second, empty, memory]),
-    ]
+/// The replies to the list are these.
+fn expect_list<D: Device>(
+    rt: &impl Abort,
+    store: &mut Store<D, &Refusing<Global>>,
+    k: u64,
+    expected: &[Reply],
+) -> Result<(), AllocError> {
+    let replies = submit_all(store, &SOURCES)?;
+    assert_eq!(rt; replies.as_slice(), expected, "at growth {k}");
+    drop(replies);
+    Ok(())
 }
 
-/// The sources are submitted to an empty hill, and growth `k` is refused: these are the replies, up to the first `Disk`. Each warrior that
+/// The sources are submitted to an empty hill, and growth `k` is refused: these are the replies. Each warrior that
 /// was placed is on the hill, and on the one that is opened on its device, and no other. How many growths were refused is the answer.
 fn check_replies(
-    rt: &(impl Abort + AllocGlobal),
+    rt: &impl Abort,
+    alloc: Global,
     memory: &Refusing<Global>,
     k: u64,
-    expected: &[Reply; 4],
+    expected: &[Reply],
 ) -> Result<u64, Fail> {
-    let mut store = created(memory, MemoryDevice::new(memory, SECTORS)?)?;
+    let mut store = created_in(memory, memory)?;
     memory.refuse(k, 1);
-    let replies = submit_all(&mut store, &SOURCES);
-    let count = memory.refused();
+    let found = expect_list(rt, &mut store, k, expected);
+    let refused = memory.refused();
     memory.refuse(0, 0);
-    let replies = replies?;
-    let made = made_of(expected);
-    assert_eq!(rt;
-        Some(replies.as_slice()),
-        expected.get(..made),
-        "at growth {k}"
-    );
-    let on_hill = placed_in(replies.as_slice());
-    assert_eq!(rt; rows_of(&store)?.len(), on_hill, "at growth {k}");
-    let store = opened(rt.alloc(), store.close())?;
-    expect_rows(rt, &store, on_hill)?;
-    drop(store);
-    Ok(count)
+    found?;
+    expect_rows(rt, &store, placed_in(expected));
+    expect_opened(rt, alloc, close(store), placed_in(expected))?;
+    Ok(refused)
 }
 
-/// How many replies there are up to the first `Disk`.
-fn made_of(replies: &[Reply]) -> usize {
-    match replies.iter().position(|reply| reply.is_disk()) {
-        Some(i) => i.saturating_add(1),
-        None => replies.len(),
-    }
-}
-
+/// How many warriors were placed.
 fn placed_in(replies: &[Reply]) -> usize {
     let mut count: usize = 0;
     for reply in replies {
@@ -259,35 +344,60 @@ fn placed_in(replies: &[Reply]) -> usize {
     count
 }
 
+/// Whether there is no memory for the list of the replies.
+fn is_refused<D: Device>(store: &mut Store<D, &Refusing<Global>>) -> bool {
+    submit_all(store, &SOURCES).is_err()
+}
+
 /// The first growth is that of the list of the replies: without it nothing is submitted.
-fn expect_no_list(rt: &(impl Abort + AllocGlobal), memory: &Refusing<Global>) -> Result<(), Fail> {
-    let mut store = created(memory, MemoryDevice::new(rt.alloc(), SECTORS)?)?;
+fn expect_no_list(rt: &impl Abort, alloc: Global, memory: &Refusing<Global>) -> Result<(), Fail> {
+    let mut store = created_in(memory, alloc)?;
     memory.refuse(0, 1);
-    assert!(rt; submit_all(&mut store, &SOURCES).is_err());
+    assert!(rt; is_refused(&mut store));
     assert_eq!(rt; memory.refused(), 1);
-    expect_rows(rt, &store, 0)?;
+    expect_rows(rt, &store, 0);
     expect_reply(rt, &mut store, b"MOV 0,1", placed(1, 1, 0));
     drop(store);
     Ok(())
 }
 
+/// Each of so many growths from growth `from` on is refused, and these are the replies. The growth behind them is the answer.
+fn expect_each(
+    rt: &impl Abort,
+    alloc: Global,
+    memory: &Refusing<Global>,
+    from: u64,
+    count: u64,
+    replies: &[Reply],
+) -> Result<u64, Fail> {
+    let behind = from.saturating_add(count);
+    for k in from..behind {
+        assert_eq!(rt; check_replies(rt, alloc, memory, k, replies)?, 1);
+    }
+    Ok(behind)
+}
+
+/// Each growth of the list, in their order, and the replies where it is refused: growths of the first source, of the device's writes
+/// for it, and so on. The third, without a line, takes none, and the fourth writes to a sector that was written before. A warrior that
+/// finds no memory leaves its entry and its place to the next. Behind `Disk` stands nothing.
 #[test]
 fn of_a_list(rt: HostRuntime) -> Result<(), Fail> {
-    let memory = Refusing::new(rt.alloc());
-    let done = [
-        placed(1, 1, 0),
-        placed(2, 2, 2),
-        refused(0, AsmKind::Empty),
-        fell(3, 0),
-    ];
-    expect_no_list(&rt, &memory)?;
-    let mut k: u64 = 1;
-    for (count, replies) in growths() {
-        for _ in 0..count {
-            assert_eq!(rt; check_replies(&rt, &memory, k, &replies)?, 1);
-            k = k.saturating_add(1);
-        }
-    }
-    assert_eq!(rt; check_replies(&rt, &memory, k, &done)?, 0, "it makes {k}");
+    let alloc = rt.alloc();
+    let memory = Refusing::new(alloc);
+    let (first, second, empty) = (placed(1, 1, 0), placed(2, 2, 2), refused(0, AsmKind::Empty));
+    let (lost, disk) = (Reply::Memory, Reply::Disk);
+    let loses = placed(2, 2, 0);
+    expect_no_list(&rt, alloc, &memory)?;
+    let k = expect_each(&rt, alloc, &memory, 1, 7, &[lost, first, empty, loses])?;
+    let k = expect_each(&rt, alloc, &memory, k, 5, &[disk])?;
+    let k = expect_each(&rt, alloc, &memory, k, 7, &[first, lost, empty, loses])?;
+    let k = expect_each(&rt, alloc, &memory, k, 4, &[first, disk])?;
+    let k = expect_each(&rt, alloc, &memory, k, 7, &[first, second, empty, lost])?;
+    let done = [first, second, empty, fell(3, 0)];
+    assert_eq!(rt;
+        check_replies(&rt, alloc, &memory, k, &done)?,
+        0,
+        "it makes {k}"
+    );
     Ok(())
 }

@@ -1,13 +1,12 @@
 //! The life of a device: a fault, a store that is opened again, and a stop.
 
-use crate::calls::{create, expect_reply, open, rows_of, settings_from};
-use crate::stores::{SECTORS, SMALL, numbers, placed};
-use crate::written::sector;
-use hill_store::Reply;
+use crate::expecting::{LOSERS, expect_answers, expect_reply, expect_row, expect_rows};
+use hill_store::{Reply, Store};
 use sector_disk::{Device, FuseDevice, FuseKind, MemoryDevice};
 use std::alloc::Global;
 use std::process::Abort;
 use std::test::Fail;
+use store_calls::{close, created_within, opened, sector};
 
 /// Calls that open a hill of two: a sync, two headers, and four sectors of each slot.
 const OPENING: u64 = 11;
@@ -17,28 +16,25 @@ fn failed_at_the_last_sync(
     rt: &impl Abort,
     alloc: Global,
 ) -> Result<FuseDevice<MemoryDevice<Global>>, Fail> {
-    let device = FuseDevice::new(MemoryDevice::new(alloc, SECTORS)?, 25, FuseKind::FailLost);
-    let Ok(mut store) = create(alloc, device, settings_from(SMALL)?) else {
-        return Err("it is created".into());
-    };
-    expect_reply(rt, &mut store, b"DAT 0,0", placed(1, 1, 0));
-    expect_reply(rt, &mut store, b"DAT 0,0", placed(2, 2, 3));
+    let mut store = created_within(alloc, 25, FuseKind::FailLost)?;
+    expect_answers(rt, &mut store, &LOSERS);
     expect_reply(rt, &mut store, b"JMP 0", Reply::Disk);
     expect_reply(rt, &mut store, b"JMP 0", Reply::Reopen);
-    Ok(store.close())
+    Ok(close(store))
+}
+
+/// The hill has the third warrior and the first.
+fn expect_table<D: Device>(rt: &impl Abort, store: &Store<D, Global>) {
+    expect_rows(rt, store, 2);
+    expect_row(rt, store, 0, (3, 6, 0));
+    expect_row(rt, store, 1, (1, 0, 2));
 }
 
 /// The hill that a device opens to has the third warrior and the first. The device comes back.
 fn expect_two<D: Device + Drop>(rt: &impl Abort, alloc: Global, device: D) -> Result<D, Fail> {
-    let Ok(store) = open(alloc, device) else {
-        return Err("it opens".into());
-    };
-    let rows = rows_of(&store)?;
-    assert_eq!(rt; rows.len(), 2);
-    assert_eq!(rt; numbers(rows.first()), Some((3, 6, 0)));
-    assert_eq!(rt; numbers(rows.get(1)), Some((1, 0, 2)));
-    drop(rows);
-    Ok(store.close())
+    let store = opened(alloc, device)?;
+    expect_table(rt, &store);
+    Ok(close(store))
 }
 
 /// The device stops behind the four writes of a fourth warrior's slot.
@@ -48,11 +44,9 @@ fn stopped_in_a_slot(
     device: MemoryDevice<Global>,
 ) -> Result<MemoryDevice<Global>, Fail> {
     let device = FuseDevice::new(device, OPENING + 4, FuseKind::Stop);
-    let Ok(mut store) = open(alloc, device) else {
-        return Err("it opens".into());
-    };
+    let mut store = opened(alloc, device)?;
     expect_reply(rt, &mut store, b"JMP 0", Reply::Disk);
-    Ok(store.close().into_inner())
+    Ok(close(store).into_inner())
 }
 
 #[test]
@@ -64,6 +58,7 @@ fn a_life_of_a_hill(rt: HostRuntime) -> Result<(), Fail> {
         let image = device.stopped(&choice_of(kept))?;
         expect_image(&rt, rt.alloc(), image, kept)?;
     }
+    drop(device);
     Ok(())
 }
 
@@ -82,8 +77,8 @@ fn expect_image(
     mut image: MemoryDevice<Global>,
     kept: u32,
 ) -> Result<(), Fail> {
-    let content = sector(&mut image, 6)?;
-    assert_eq!(rt; content[0], if kept % 2 == 0 { 0 } else { 7 });
+    let first = sector(&mut image, 6)?[0];
+    assert_eq!(rt; first, if kept % 2 == 0 { 0 } else { 7 });
     drop(expect_two(rt, alloc, image)?);
     Ok(())
 }

@@ -1,13 +1,15 @@
 //! A device that stops, or fails once, at each of its calls while a hill is created and four sources are submitted.
 
-use crate::calls::{create, open, rows_of, settings_from, submit, submit_all};
-use crate::stores::{SECTORS, SMALL, fell, placed};
+use crate::expecting::expect_replies;
 use hill_store::{Refusal, Reply, Store};
-use koth_hill::Row;
 use sector_disk::{Device, FuseDevice, FuseKind, MemoryDevice};
-use std::alloc::Global;
+use std::alloc::{AllocError, Global};
 use std::process::Abort;
 use std::test::Fail;
+use store_calls::{
+    SECTORS, SMALL, blank, close, create, created_within, fell, numbers_at, open, opened, placed,
+    settings_from, submit, submit_all,
+};
 
 /// The sources, of which the third is refused and the fourth falls.
 const SOURCES: [&[u8]; 4] = [b"MOV 0,1", b"JMP 0", b"", b"DAT 0,0"];
@@ -55,68 +57,95 @@ fn unsynced_header(calls: u64) -> usize {
 
 /// The device within a fuse of so many calls, behind a creation and the four submissions.
 fn stopped_behind(alloc: Global, calls: u64) -> Result<MemoryDevice<Global>, Fail> {
-    let device = FuseDevice::new(MemoryDevice::new(alloc, SECTORS)?, calls, FuseKind::Stop);
+    let device = FuseDevice::new(blank(alloc)?, calls, FuseKind::Stop);
     match create(alloc, device, settings_from(SMALL)?) {
         Ok(mut store) => {
-            let _ = submit_all(&mut store, &SOURCES)?;
-            Ok(store.close().into_inner())
+            drop(submit_all(&mut store, &SOURCES)?);
+            Ok(close(store).into_inner())
         }
         Err((device, _)) => Ok(device.into_inner()),
     }
 }
 
-/// What a device opens to. The entry that comes next is that of a warrior which is submitted.
-fn opens_to<D: Device + Drop>(alloc: Global, device: D) -> Result<Opens, Fail> {
-    let mut store = match open(alloc, device) {
-        Ok(store) => store,
+/// What a device opens to.
+fn opens_to(alloc: Global, device: MemoryDevice<Global>) -> Result<Opens, Fail> {
+    match open(alloc, device) {
+        Ok(store) => hill_of(store),
         Err((device, refusal)) => {
             drop(device);
-            return Ok(Opens::Refused(refusal));
+            Ok(Opens::Refused(refusal))
         }
-    };
-    let [first, second] = entries(&store)?;
+    }
+}
+
+/// The hill of a store, which is let go. The entry that comes next is that of a warrior which is submitted.
+fn hill_of(mut store: Store<MemoryDevice<Global>, Global>) -> Result<Opens, Fail> {
+    let found = entries(&store);
     let reply = submit(&mut store, b"DAT 0,0");
     drop(store);
+    let [first, second] = found?;
+    let next = entry_of(reply).ok_or("a warrior is counted")?;
+    Ok(Opens::Hill([first, second, next]))
+}
+
+/// The entry that a warrior was counted as.
+fn entry_of(reply: Reply) -> Option<u64> {
     match reply {
-        Reply::Placed { entry, .. } | Reply::Fell { entry, .. } => {
-            Ok(Opens::Hill([first, second, entry]))
-        }
-        _ => Err("a warrior is counted".into()),
+        Reply::Placed { entry, .. } | Reply::Fell { entry, .. } => Some(entry),
+        _ => None,
     }
 }
 
 /// The entries of the two rows of a hill.
-fn entries<D: Device + Drop>(store: &Store<D, Global>) -> Result<[u64; 2], Fail> {
-    let rows = rows_of(store)?;
-    Ok([entry(rows.first()), entry(rows.get(1))])
+fn entries<D: Device>(store: &Store<D, Global>) -> Result<[u64; 2], AllocError> {
+    Ok([entry_at(store, 0)?, entry_at(store, 1)?])
 }
 
-fn entry(row: Option<&Row<'_>>) -> u64 {
-    match row {
-        Some(row) => row.entry,
-        None => 0,
+fn entry_at<D: Device>(store: &Store<D, Global>, place: usize) -> Result<u64, AllocError> {
+    match numbers_at(store, place)? {
+        Some((entry, _, _)) => Ok(entry),
+        None => Ok(0),
     }
+}
+
+/// An image of a device that stopped behind so many calls opens to what is due.
+fn expect_image(
+    rt: &impl Abort,
+    alloc: Global,
+    device: &MemoryDevice<Global>,
+    choice: &[u32],
+    expected: Opens,
+    calls: u64,
+) -> Result<(), Fail> {
+    let found = opens_to(alloc, device.stopped(choice)?)?;
+    assert_eq!(rt; found, expected, "{choice:?} kept behind {calls}");
+    Ok(())
+}
+
+/// A choice that keeps what was written to one sector alone.
+fn choice_of(n: usize) -> [u32; CHOICES] {
+    let mut choice = [0; CHOICES];
+    if let Some(place) = choice.get_mut(n) {
+        *place = KEPT;
+    }
+    choice
 }
 
 /// The images: all that was not synced is lost, all of it is kept, and each sector by itself is kept.
 fn expect_images(rt: &impl Abort, alloc: Global, calls: u64) -> Result<(), Fail> {
     let device = stopped_behind(alloc, calls)?;
     let (lost, kept) = due(calls);
-    let found = opens_to(alloc, device.stopped(&[])?)?;
-    assert_eq!(rt; found, lost, "all lost behind {calls}");
-    let found = opens_to(alloc, device.stopped(&[KEPT; CHOICES])?)?;
-    assert_eq!(rt; found, kept, "all kept behind {calls}");
+    expect_image(rt, alloc, &device, &[], lost, calls)?;
+    expect_image(rt, alloc, &device, &[KEPT; CHOICES], kept, calls)?;
     for n in 0..CHOICES {
-        let mut choice = [0; CHOICES];
-        choice[n] = KEPT;
-        let found = opens_to(alloc, device.stopped(&choice)?)?;
         let expected = if n == unsynced_header(calls) {
             kept
         } else {
             lost
         };
-        assert_eq!(rt; found, expected, "sector {n} kept behind {calls}");
+        expect_image(rt, alloc, &device, &choice_of(n), expected, calls)?;
     }
+    drop(device);
     Ok(())
 }
 
@@ -128,28 +157,28 @@ fn a_stop_at_each_call(rt: HostRuntime) -> Result<(), Fail> {
     Ok(())
 }
 
-/// What the script was answered on a device that fails once, behind 17 calls, and what `JMP 0` is answered once the hill is opened again.
+/// A device that failed once, behind 17 calls of the script.
+fn failed_once(
+    rt: &impl Abort,
+    alloc: Global,
+    kind: FuseKind,
+) -> Result<FuseDevice<MemoryDevice<Global>>, Fail> {
+    let mut store = created_within(alloc, 17, kind)?;
+    expect_replies(rt, &mut store, &SOURCES, &[placed(1, 1, 0), Reply::Disk])?;
+    Ok(close(store))
+}
+
+/// The entries on the hill, once it is opened again behind a fault of this kind, and what `JMP 0` is answered there.
 fn answered_around_a_fault(
     rt: &impl Abort,
     alloc: Global,
     kind: FuseKind,
 ) -> Result<([u64; 2], Reply), Fail> {
-    let device = FuseDevice::new(MemoryDevice::new(alloc, SECTORS)?, 17, kind);
-    let Ok(mut store) = create(alloc, device, settings_from(SMALL)?) else {
-        return Err("it is created".into());
-    };
-    let replies = submit_all(&mut store, &SOURCES)?;
-    assert_eq!(rt;
-        replies.as_slice(),
-        [placed(1, 1, 0), Reply::Disk].as_slice()
-    );
-    let Ok(mut store) = open(alloc, store.close()) else {
-        return Err("it opens".into());
-    };
-    let found = entries(&store)?;
+    let mut store = opened(alloc, failed_once(rt, alloc, kind)?)?;
+    let found = entries(&store);
     let reply = submit(&mut store, b"JMP 0");
     drop(store);
-    Ok((found, reply))
+    Ok((found?, reply))
 }
 
 #[test]

@@ -1,17 +1,15 @@
 //! A hill that the program wrote before slots had four sectors, and before settings had limits. Its fields of limits are zeros, which stand
 //! for the core size.
 
-use crate::audits::put;
-use crate::calls::{audit, expect_reply, rows_of};
-use crate::migrations::{expect_no_hill, moved};
+use crate::expecting::{expect_reply, expect_row, expect_rows, expect_sector};
+use crate::migrations::{moved, moved_from};
 use crate::narrowed::narrowed;
-use crate::stores::{fell, numbers, opened};
-use crate::written::sector;
-use hill_store::Store;
+use hill_store::{Refusal, Store};
 use sector_disk::MemoryDevice;
 use std::alloc::Global;
 use std::process::Abort;
 use std::test::Fail;
+use store_calls::{audit, close, fell, open, opened, put};
 
 /// What its sectors hold that is not zero: the sector, where it begins, and the bytes. Four warriors came, and the third fell.
 const WRITTEN: [(u32, usize, &[u8]); 17] = [
@@ -65,17 +63,17 @@ const WRITTEN: [(u32, usize, &[u8]); 17] = [
     (9, 391, &[17, 0, 0, 0, 9, 0, 0, 0, 20]),
 ];
 
+/// What this sector holds.
 fn content_of(n: u32) -> [u8; 512] {
     let mut content = [0; 512];
-    for (sector, begins, bytes) in WRITTEN {
-        if sector == n {
-            put_bytes(&mut content, begins, bytes);
+    for (sector, begins, bytes) in &WRITTEN {
+        if *sector == n {
+            put_bytes(&mut content, *begins, *bytes);
         }
     }
     content
 }
 
-/// These bytes stand from one place on.
 fn put_bytes(content: &mut [u8; 512], begins: usize, bytes: &[u8]) {
     for (place, byte) in content.iter_mut().skip(begins).zip(bytes) {
         *place = *byte;
@@ -90,44 +88,66 @@ fn earlier(alloc: Global) -> Result<MemoryDevice<Global>, Fail> {
     Ok(device)
 }
 
+/// The device has what that program wrote.
+fn expect_earlier(rt: &impl Abort, mut device: MemoryDevice<Global>) {
+    for n in 0..10 {
+        expect_sector(rt, &mut device, n, &content_of(n));
+    }
+    drop(device);
+}
+
+/// No hill is opened on this device, since it holds none in the new format. It comes back.
+fn expect_no_hill(
+    rt: &impl Abort,
+    alloc: Global,
+    device: MemoryDevice<Global>,
+) -> Result<MemoryDevice<Global>, Fail> {
+    match open(alloc, device) {
+        Ok(_) => Err("it holds no hill".into()),
+        Err((device, refusal)) => {
+            assert_eq!(rt; refusal, Refusal::NotAHill);
+            Ok(device)
+        }
+    }
+}
+
 /// The table and the reply are what that program said. Nothing is written to the device that it wrote.
 #[test]
 fn a_hill_from_before_limits(rt: HostRuntime) -> Result<(), Fail> {
     let old = expect_no_hill(&rt, rt.alloc(), earlier(rt.alloc())?)?;
-    let (mut old, mut store) = moved(rt.alloc(), old, MemoryDevice::new(rt.alloc(), 18)?)?;
-    for n in 0..10 {
-        assert_eq!(rt; sector(&mut old, n)?, content_of(n), "{n}");
-    }
-    expect_table(&rt, &store)?;
-    assert!(rt; audit(&mut store));
-    let mut store = opened(rt.alloc(), store.close())?;
-    expect_table(&rt, &store)?;
-    assert!(rt; audit(&mut store));
+    let (old, mut store) = moved(rt.alloc(), old, MemoryDevice::new(rt.alloc(), 18)?)?;
+    expect_earlier(&rt, old);
+    expect_table(&rt, &mut store);
+    let mut store = opened(rt.alloc(), close(store))?;
+    expect_table(&rt, &mut store);
     expect_reply(&rt, &mut store, b"JMP 0", fell(5, 38));
     drop(store);
-    drop(old);
     Ok(())
 }
 
-fn expect_table(rt: &impl Abort, store: &Store<MemoryDevice<Global>, Global>) -> Result<(), Fail> {
-    assert_eq!(rt; store.hill().settings().read_limit(), 800);
-    assert_eq!(rt; store.hill().settings().write_limit(), 800);
-    let rows = rows_of(store)?;
-    assert_eq!(rt; rows.len(), 3);
-    assert_eq!(rt; numbers(rows.first()), Some((4, 92, 0)));
-    assert_eq!(rt; numbers(rows.get(1)), Some((2, 35, 2)));
-    assert_eq!(rt; numbers(rows.get(2)), Some((1, 21, 3)));
-    Ok(())
+/// The limits of reads and of writes.
+fn limits_of(store: &Store<MemoryDevice<Global>, Global>) -> (u16, u16) {
+    let settings = store.hill().settings();
+    (settings.read_limit(), settings.write_limit())
+}
+
+/// The table is that of the hill, and its results are those of the matches.
+fn expect_table(rt: &impl Abort, store: &mut Store<MemoryDevice<Global>, Global>) {
+    assert!(rt; audit(store));
+    assert_eq!(rt; limits_of(store), (800, 800));
+    expect_rows(rt, store, 3);
+    expect_row(rt, store, 0, (4, 92, 0));
+    expect_row(rt, store, 1, (2, 35, 2));
+    expect_row(rt, store, 2, (1, 21, 3));
 }
 
 /// The store that the hill is moved to answers as one that was opened.
 #[test]
 fn a_moved_hill_answers_at_once(rt: HostRuntime) -> Result<(), Fail> {
     let new = MemoryDevice::new(rt.alloc(), 18)?;
-    let (old, mut store) = moved(rt.alloc(), earlier(rt.alloc())?, new)?;
+    let mut store = moved_from(rt.alloc(), earlier(rt.alloc())?, new)?;
     expect_reply(&rt, &mut store, b"JMP 0", fell(5, 38));
     drop(store);
-    drop(old);
     Ok(())
 }
 
@@ -147,10 +167,11 @@ fn standing_content_of(n: u32) -> [u8; 512] {
 #[test]
 fn a_moved_hill_has_the_same_bytes(rt: HostRuntime) -> Result<(), Fail> {
     let new = MemoryDevice::new(rt.alloc(), 18)?;
-    let (_, store) = moved(rt.alloc(), earlier(rt.alloc())?, new)?;
-    let mut again = narrowed(rt.alloc(), &mut store.close(), 4)?;
+    let store = moved_from(rt.alloc(), earlier(rt.alloc())?, new)?;
+    let mut again = narrowed(rt.alloc(), &mut close(store), 4)?;
     for n in 0..10 {
-        assert_eq!(rt; sector(&mut again, n)?, standing_content_of(n), "{n}");
+        expect_sector(&rt, &mut again, n, &standing_content_of(n));
     }
+    drop(again);
     Ok(())
 }

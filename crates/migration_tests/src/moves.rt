@@ -1,13 +1,13 @@
 //! What a stop, or one fault, leaves of a hill of two that is moved to another device.
 
-use crate::calls::{audit, migrate, open};
-use crate::migrations::{expect_the_rows, moved, old_device};
-use crate::stores::{SECTORS, expect_two_rows};
+use crate::expecting::{expect_the_rows, expect_true_rows};
+use crate::migrations::{moved, old_device};
 use hill_store::{MigrateFault, MigrateSide, Refusal};
-use sector_disk::{Device, FuseDevice, FuseKind, MemoryDevice};
+use sector_disk::{FuseDevice, FuseKind, MemoryDevice};
 use std::alloc::Global;
 use std::process::Abort;
 use std::test::Fail;
+use store_calls::{blank, close, migrate, open};
 
 /// Calls of the new device: a sync, two headers, four sectors for each of two slots, a sync, the header in sector 1, and a sync.
 const CALLS: u64 = 14;
@@ -28,11 +28,11 @@ fn fused(
     calls: u64,
     kind: FuseKind,
 ) -> Result<(MemoryDevice<Global>, MemoryDevice<Global>), Fail> {
-    let new = FuseDevice::new(MemoryDevice::new(alloc, SECTORS)?, calls, kind);
+    let new = FuseDevice::new(blank(alloc)?, calls, kind);
     match migrate(alloc, old_device(rt, alloc)?, new) {
         Ok((old, store)) => {
             assert_eq!(rt; calls, CALLS);
-            Ok((old, store.close().into_inner()))
+            Ok((old, close(store).into_inner()))
         }
         Err((old, new, fault)) => {
             assert!(rt; calls < CALLS);
@@ -48,22 +48,16 @@ fn expect_new_disk(rt: &impl Abort, fault: MigrateFault) {
 }
 
 /// Whether a device holds the hill. It holds no other.
-fn holds_the_hill<D: Device + Drop>(
-    rt: &impl Abort,
-    alloc: Global,
-    device: D,
-) -> Result<bool, Fail> {
+fn holds_the_hill(rt: &impl Abort, alloc: Global, device: MemoryDevice<Global>) -> bool {
     match open(alloc, device) {
-        Ok(mut store) => {
-            expect_two_rows(rt, &store)?;
-            assert!(rt; audit(&mut store));
-            drop(store);
-            Ok(true)
+        Ok(store) => {
+            expect_true_rows(rt, store);
+            true
         }
         Err((device, refusal)) => {
-            assert_eq!(rt; refusal, Refusal::NotAHill);
             drop(device);
-            Ok(false)
+            assert_eq!(rt; refusal, Refusal::NotAHill);
+            false
         }
     }
 }
@@ -95,13 +89,17 @@ fn expect_images(
     device: &MemoryDevice<Global>,
     calls: u64,
 ) -> Result<(), Fail> {
-    let (lost, kept) = due(calls);
     for image in 0..images_of(calls) {
-        let found = holds_the_hill(rt, alloc, device.stopped(&choice_of(image))?)?;
-        let expected = if image % 2 == 0 { lost } else { kept };
-        assert_eq!(rt; found, expected, "image {image} behind {calls}");
+        let found = holds_the_hill(rt, alloc, device.stopped(&choice_of(image))?);
+        assert_eq!(rt; found, due_in(image, calls), "image {image} behind {calls}");
     }
     Ok(())
+}
+
+/// Whether an image behind so many calls holds the hill: each second one has the header.
+fn due_in(image: u32, calls: u64) -> bool {
+    let (lost, kept) = due(calls);
+    if image % 2 == 0 { lost } else { kept }
 }
 
 /// The old device still holds the hill, which can be moved to a blank one.
@@ -110,10 +108,8 @@ fn expect_moves(
     alloc: Global,
     old: MemoryDevice<Global>,
 ) -> Result<MemoryDevice<Global>, Fail> {
-    let (old, mut store) = moved(alloc, old, MemoryDevice::new(alloc, SECTORS)?)?;
-    expect_two_rows(rt, &store)?;
-    assert!(rt; audit(&mut store));
-    drop(store);
+    let (old, store) = moved(alloc, old, blank(alloc)?)?;
+    expect_true_rows(rt, store);
     Ok(old)
 }
 
@@ -123,17 +119,16 @@ fn expect_goes_on(
     alloc: Global,
     old: MemoryDevice<Global>,
     new: MemoryDevice<Global>,
-) -> Result<(), Fail> {
+) {
     match migrate(alloc, old, new) {
         Ok((old, store)) => {
             drop(old);
-            expect_the_rows(rt, store)
+            expect_the_rows(rt, store);
         }
         Err((old, new, fault)) => {
             drop(old);
             assert_eq!(rt; fault.refusal, Refusal::Occupied);
-            assert!(rt; holds_the_hill(rt, alloc, new)?);
-            Ok(())
+            assert!(rt; holds_the_hill(rt, alloc, new));
         }
     }
 }
@@ -148,7 +143,8 @@ fn expect_left(
     let (old, new) = devices;
     expect_images(rt, alloc, &new, calls)?;
     let old = expect_moves(rt, alloc, old)?;
-    expect_goes_on(rt, alloc, old, new)
+    expect_goes_on(rt, alloc, old, new);
+    Ok(())
 }
 
 #[test]

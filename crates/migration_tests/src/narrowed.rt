@@ -3,12 +3,11 @@
 //! A slot of the old format has two sectors: the first holds instructions 0 to 63, as in the new one, and the other instructions 64 to 99 and
 //! behind them, from 288 on, the fields that stand in the last sector of the new one.
 
-use crate::audits::put;
-use crate::written::sector;
-use hill_store::{Header, decode_header, encode_old_header};
+use hill_bytes::{decode_header, encode_old_header};
 use sector_disk::MemoryDevice;
 use std::alloc::Global;
 use std::test::Fail;
+use store_calls::{put, sector};
 
 /// The device in the old format that holds what this one does in so many slots.
 pub(crate) fn narrowed(
@@ -31,21 +30,18 @@ fn narrow_header(
     old: &mut MemoryDevice<Global>,
     n: u32,
 ) -> Result<(), Fail> {
-    match decode_header(&sector(new, n)?) {
-        Some(header) => put_old_header(old, n, &header),
-        None => Ok(()),
+    if let Some(content) = narrowed_header(&sector(new, n)?)? {
+        put(old, n, &content)?;
     }
+    Ok(())
 }
 
-/// Puts a header into a sector, in the old format.
-pub(crate) fn put_old_header(
-    device: &mut MemoryDevice<Global>,
-    n: u32,
-    header: &Header,
-) -> Result<(), Fail> {
-    let content = encode_old_header(header).ok_or("it has room")?;
-    put(device, n, &content)?;
-    Ok(())
+/// A header in the old format, if this is one in the new one.
+fn narrowed_header(content: &[u8; 512]) -> Result<Option<[u8; 512]>, Fail> {
+    match decode_header(content) {
+        Some(header) => Ok(Some(encode_old_header(&header).ok_or("it has room")?)),
+        None => Ok(None),
+    }
 }
 
 fn narrow_slot(
@@ -62,7 +58,7 @@ fn narrow_slot(
 }
 
 /// The code of one sector, and behind it the fields of another.
-pub(crate) fn joined(code: &[u8; 512], fields: &[u8; 512]) -> [u8; 512] {
+fn joined(code: &[u8; 512], fields: &[u8; 512]) -> [u8; 512] {
     let mut content = *code;
     content[288..].copy_from_slice(&fields[288..]);
     content

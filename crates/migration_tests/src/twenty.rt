@@ -4,18 +4,18 @@
 //! the two that came last fall. So the hill has entries 1 to 18 in slots 0 to 17, entry 21 in slot 20 and entry 22 in slot 19, and slot 18
 //! and some places of results hold what was written of those that fell.
 
-ghost use Rattle.std.specs.Prelude.{◌<◌, ◌≤◌};
-
-use crate::calls::{audit, create, migrate, open, rows_of, settings_from, submit};
-use crate::migrations::moved;
+use crate::expecting::expect_sector;
+use crate::migrations::{moved, moved_from};
 use crate::narrowed::narrowed;
-use crate::stores::{SMALL, numbers, opened};
-use crate::written::{back, front, sector};
-use hill_store::{MigrateSide, Refusal, Reply, Store};
+use hill_store::{MigrateFault, MigrateSide, Refusal, Reply, Store};
 use sector_disk::{Device, FuseDevice, FuseKind, MemoryDevice};
 use std::alloc::{Allocator, Global};
 use std::process::Abort;
 use std::test::Fail;
+use store_calls::{
+    SMALL, audit, back, close, created_with, front, migrate, numbers_of, open, opened, rows_of,
+    sector, submit,
+};
 use war_types::RawSettings;
 
 /// Sectors that a hill of twenty needs: two headers, and four for each of twenty-one slots.
@@ -24,26 +24,32 @@ const SECTORS: u32 = 86;
 /// Calls that move it: a sync, two headers, four sectors for each of twenty slots, a sync, a header and a sync.
 const CALLS: u64 = 86;
 
+/// The settings of the hill.
+const TWENTY: RawSettings = RawSettings {
+    capacity: 20,
+    ..SMALL
+};
+
 /// The device on which they were submitted.
 fn written(rt: &impl Abort, alloc: Global) -> Result<MemoryDevice<Global>, Fail> {
-    let settings = settings_from(RawSettings {
-        capacity: 20,
-        ..SMALL
-    })?;
-    let Ok(mut store) = create(alloc, MemoryDevice::new(alloc, SECTORS)?, settings) else {
-        return Err("it is created".into());
-    };
+    let mut store = created_with(alloc, MemoryDevice::new(alloc, SECTORS)?, TWENTY)?;
     for entry in 1..=22 {
-        let source: &[u8] = if entry <= 20 { b"DAT 0,0" } else { b"JMP 0" };
-        expect_placed(rt, submit(&mut store, source), entry);
+        expect_placed(rt, &mut store, entry);
     }
-    Ok(store.close())
+    Ok(close(store))
 }
 
-fn expect_placed(rt: &impl Abort, reply: Reply, expected: u64) {
+/// The warrior that is submitted as this entry stands on the hill.
+fn expect_placed(rt: &impl Abort, store: &mut Store<MemoryDevice<Global>, Global>, expected: u64) {
+    let source: &[u8] = if expected <= 20 { b"DAT 0,0" } else { b"JMP 0" };
+    assert_eq!(rt; placed_as(submit(store, source)), Some(expected));
+}
+
+/// The entry of a warrior that is placed.
+fn placed_as(reply: Reply) -> Option<u64> {
     match reply {
-        Reply::Placed { entry, .. } => assert_eq!(rt; entry, expected),
-        _ => assert!(rt; false),
+        Reply::Placed { entry, .. } => Some(entry),
+        _ => None,
     }
 }
 
@@ -66,82 +72,113 @@ fn row(place: u64) -> (u64, u32, u64) {
     }
 }
 
+/// The table is that of the hill.
+fn expect_table<D: Device, A: Allocator + Copy>(
+    rt: &impl Abort,
+    store: &Store<D, A>,
+) -> Result<(), Fail> {
+    let rows = rows_of(store)?;
+    assert_eq!(rt; rows.len(), 20);
+    for (place, found) in (0..).zip(rows.as_slice()) {
+        assert_eq!(rt; numbers_of(found), row(place), "place {place}");
+    }
+    drop(rows);
+    Ok(())
+}
+
 /// The table is that of the hill, and its results are those of the matches.
 fn expect_the_hill<D: Device, A: Allocator + Copy>(
     rt: &impl Abort,
     store: &mut Store<D, A>,
 ) -> Result<(), Fail> {
     assert!(rt; audit(store));
-    let rows = rows_of(store)?;
-    assert_eq!(rt; rows.len(), 20);
-    for (place, found) in (0..).zip(rows.as_slice()) {
-        assert_eq!(rt; numbers(Some(found)), Some(row(place)), "place {place}");
+    expect_table(rt, store)
+}
+
+/// The store has the hill. It is let go.
+fn expect_in<D: Device + Drop>(rt: &impl Abort, mut store: Store<D, Global>) -> Result<(), Fail> {
+    let found = expect_the_hill(rt, &mut store);
+    drop(store);
+    found
+}
+
+/// Puts a byte into a sector.
+fn set(content: &mut [u8; 512], at: usize, byte: u8) {
+    if let Some(place) = content.get_mut(at) {
+        *place = byte;
     }
-    Ok(())
 }
 
 /// The last sector of a slot: the warriors in so many slots won some rounds of their matches, and this one some.
-fn last_sector(older: u8, older_wins: u8, younger_wins: u8) -> [u8; 512]
-    requires { older ≤ 18 }
-{
+fn last_sector(older: u8, older_wins: u8, younger_wins: u8) -> [u8; 512] {
     let mut content = back();
     for place in 0..usize::from(older) {
-        content[389 + 4 * place] = older_wins;
-        content[391 + 4 * place] = younger_wins;
+        set(&mut content, 389 + 4 * place, older_wins);
+        set(&mut content, 391 + 4 * place, younger_wins);
     }
     content
 }
 
-/// What stands in a slot of the moved hill: `DAT.F $0, $0`, or `JMP.B $0, $0`, and the results against older warriors on the hill.
-fn slot_of(slot: u8) -> [[u8; 512]; 4] {
-    let blank = [0; 512];
+/// The first sector of a slot of the moved hill: `DAT.F $0, $0`, or `JMP.B $0, $0`.
+fn first_of(slot: u8) -> [u8; 512] {
     match slot {
-        0..=17 => {
-            let code = front([0, 4, 1, 1, 0, 0, 0, 0]);
-            [code, blank, blank, last_sector(slot, 1, 1)]
-        }
-        19 | 20 => {
-            let code = front([7, 1, 1, 1, 0, 0, 0, 0]);
-            [code, blank, blank, last_sector(18, 0, 2)]
-        }
-        _ => [blank; 4],
+        0..=17 => front([0, 4, 1, 1, 0, 0, 0, 0]),
+        19 | 20 => front([7, 1, 1, 1, 0, 0, 0, 0]),
+        _ => [0; 512],
     }
 }
 
-fn expect_slot(rt: &impl Abort, device: &mut MemoryDevice<Global>, slot: u8) -> Result<(), Fail> {
-    let from = 2 + 4 * u32::from(slot);
-    for (n, content) in (from..from + 4).zip(slot_of(slot)) {
-        assert_eq!(rt; sector(device, n)?, content, "sector {n}");
+/// The last sector of a slot of the moved hill, with the results against older warriors on the hill.
+fn last_of(slot: u8) -> [u8; 512] {
+    match slot {
+        0..=17 => last_sector(slot, 1, 1),
+        19 | 20 => last_sector(18, 0, 2),
+        _ => [0; 512],
     }
-    Ok(())
+}
+
+fn expect_slot(rt: &impl Abort, device: &mut MemoryDevice<Global>, slot: u8) {
+    let from = 2 + 4 * u32::from(slot);
+    expect_sector(rt, device, from, &first_of(slot));
+    expect_sector(rt, device, from + 1, &[0; 512]);
+    expect_sector(rt, device, from + 2, &[0; 512]);
+    expect_sector(rt, device, from + 3, &last_of(slot));
 }
 
 /// Twenty-two headers were written behind the first, so the last stands in sector 0. It is moved as it is.
-fn expect_sectors(
+fn expect_headers(
     rt: &impl Abort,
     alloc: Global,
     new: &mut MemoryDevice<Global>,
 ) -> Result<(), Fail> {
     let header = sector(&mut written(rt, alloc)?, 0)?;
-    assert_eq!(rt; sector(new, 0)?, header);
-    assert_eq!(rt; sector(new, 1)?, [0; 512]);
-    for slot in 0..21 {
-        expect_slot(rt, new, slot)?;
-    }
+    expect_sector(rt, new, 0, &header);
+    expect_sector(rt, new, 1, &[0; 512]);
     Ok(())
+}
+
+fn expect_slots(rt: &impl Abort, new: &mut MemoryDevice<Global>) {
+    for slot in 0..21 {
+        expect_slot(rt, new, slot);
+    }
 }
 
 #[test]
 fn a_full_hill_is_moved(rt: HostRuntime) -> Result<(), Fail> {
     let new = MemoryDevice::new(rt.alloc(), SECTORS)?;
-    let (_, mut store) = moved(rt.alloc(), old_device(&rt, rt.alloc())?, new)?;
+    let mut store = moved_from(rt.alloc(), old_device(&rt, rt.alloc())?, new)?;
     expect_the_hill(&rt, &mut store)?;
-    let mut new = store.close();
-    expect_sectors(&rt, rt.alloc(), &mut new)?;
-    let mut store = opened(rt.alloc(), new)?;
-    expect_the_hill(&rt, &mut store)?;
-    drop(store);
-    Ok(())
+    let mut new = close(store);
+    expect_headers(&rt, rt.alloc(), &mut new)?;
+    expect_slots(&rt, &mut new);
+    expect_in(&rt, opened(rt.alloc(), new)?)
+}
+
+/// The new device failed before the last of its calls.
+fn expect_new_disk(rt: &impl Abort, fault: MigrateFault, calls: u64) {
+    assert!(rt; calls < CALLS);
+    assert_eq!(rt; fault.side, MigrateSide::New);
+    assert_eq!(rt; fault.refusal, Refusal::Disk);
 }
 
 /// The devices, of which the new one stops behind so many calls.
@@ -155,14 +192,10 @@ fn stopped_behind(
     match migrate(alloc, old, new) {
         Ok((old, store)) => {
             assert_eq!(rt; calls, CALLS);
-            Ok((old, store.close().into_inner()))
+            Ok((old, close(store).into_inner()))
         }
         Err((old, new, fault)) => {
-            assert!(rt; calls < CALLS);
-            assert_eq!(rt;
-                (fault.side, fault.refusal),
-                (MigrateSide::New, Refusal::Disk)
-            );
+            expect_new_disk(rt, fault, calls);
             Ok((old, new.into_inner()))
         }
     }
@@ -176,11 +209,9 @@ fn expect_image(
     holds: bool,
 ) -> Result<(), Fail> {
     match open(alloc, image) {
-        Ok(mut store) => {
+        Ok(store) => {
             assert!(rt; holds);
-            let found = expect_the_hill(rt, &mut store);
-            drop(store);
-            found
+            expect_in(rt, store)
         }
         Err((device, refusal)) => {
             drop(device);
@@ -205,14 +236,21 @@ const LOST: [u32; 86] = [0; 86];
 const KEPT: [u32; 86] = [1; 86];
 
 /// The sectors of the slots, in the order in which they are written: that of the entries.
-fn written_at(place: u64) -> usize
-    ensures { result < 86 }
-{
+fn written_at(place: u64) -> usize {
     match place {
         0..=71 => 2 + place as usize,
         72..=75 => 10 + place as usize,
         _ => 78 + (place % 4) as usize,
     }
+}
+
+/// A choice that is another for one sector.
+fn choice_with(choice: &[u32; 86], n: usize, other: u32) -> [u32; 86] {
+    let mut choice = *choice;
+    if let Some(place) = choice.get_mut(n) {
+        *place = other;
+    }
+    choice
 }
 
 /// A sector of a slot alone is kept, or lost: there is no header.
@@ -221,15 +259,11 @@ fn expect_none_with(
     alloc: Global,
     device: &MemoryDevice<Global>,
     n: usize,
-) -> Result<(), Fail>
-    requires { n < 86 }
-{
-    let mut choice = LOST;
-    choice[n] = 1;
-    expect_image(rt, alloc, device.stopped(&choice)?, false)?;
-    let mut choice = KEPT;
-    choice[n] = 0;
-    expect_image(rt, alloc, device.stopped(&choice)?, false)
+) -> Result<(), Fail> {
+    let image = device.stopped(&choice_with(&LOST, n, 1))?;
+    expect_image(rt, alloc, image, false)?;
+    let image = device.stopped(&choice_with(&KEPT, n, 0))?;
+    expect_image(rt, alloc, image, false)
 }
 
 /// All that was not synced is lost, all is kept, and of the sectors of slots that were not synced each alone is kept or lost.
@@ -256,19 +290,28 @@ fn unsynced(calls: u64) -> u64 {
     }
 }
 
+/// The hill is moved to a device that stops behind so many calls, and to a blank one then. The old device comes back.
+fn expect_stop(
+    rt: &impl Abort,
+    alloc: Global,
+    old: MemoryDevice<Global>,
+    calls: u64,
+) -> Result<MemoryDevice<Global>, Fail> {
+    let (old, new) = stopped_behind(rt, alloc, old, calls)?;
+    expect_images(rt, alloc, &new, calls)?;
+    drop(new);
+    let (old, store) = moved(alloc, old, MemoryDevice::new(alloc, SECTORS)?)?;
+    expect_in(rt, store)?;
+    Ok(old)
+}
+
 /// The old device keeps the hill behind each stop, and it can be moved to a blank one.
 #[test]
 fn a_stop_at_each_call(rt: HostRuntime) -> Result<(), Fail> {
     let mut old = old_device(&rt, rt.alloc())?;
     for calls in 0..=CALLS {
-        let (left, new) = stopped_behind(&rt, rt.alloc(), old, calls)?;
-        expect_images(&rt, rt.alloc(), &new, calls)?;
-        let blank = MemoryDevice::new(rt.alloc(), SECTORS)?;
-        let (left, mut store) = moved(rt.alloc(), left, blank)?;
-        expect_the_hill(&rt, &mut store)?;
-        drop(store);
-        drop(new);
-        old = left;
+        old = expect_stop(&rt, rt.alloc(), old, calls)?;
     }
+    drop(old);
     Ok(())
 }
