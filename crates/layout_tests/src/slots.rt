@@ -10,7 +10,7 @@ use war_types::{Instr, Mode, Modifier, Op, Settings, Title, Warrior};
 /// `MOV.I $0, $1` as it is stored, and `DAT.F #0, #63`.
 const STORED: [u8; 16] = [1, 6, 1, 1, 0, 0, 0, 1, 0, 4, 0, 0, 0, 0, 0, 63];
 
-const MOV: Instr = Instr {
+pub(crate) const MOV: Instr = Instr {
     op: Op::Mov,
     modifier: Modifier::I,
     a_mode: Mode::Direct,

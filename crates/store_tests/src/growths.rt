@@ -2,11 +2,7 @@
 //! the first call of the device.
 
 use crate::expecting::{THREE, expect_reply, expect_rows, row_at};
-use hill_bytes::{OldSlot, Slot, Wins};
-use hill_store::{
-    Header, Refusal, Reply, Store, decode_header, decode_old_header, encode_header,
-    encode_old_header,
-};
+use hill_store::{Refusal, Reply, Store};
 use refusing::Refusing;
 use sector_disk::{Device, Fault, MemoryDevice};
 use std::alloc::{AllocError, Global};
@@ -16,7 +12,7 @@ use store_calls::{
     SMALL, audit, blank, close, counted, create, created, created_in, fell, opened, placed,
     refused, settings_from, submit_all,
 };
-use war_types::{AsmKind, Warrior};
+use war_types::AsmKind;
 
 /// A device that refuses every further growth from its first call on.
 #[derive(Drop)]
@@ -111,71 +107,6 @@ fn none_behind_the_first_call_of_the_device(rt: HostRuntime) -> Result<(), Fail>
     assert_eq!(rt; memory.refused(), 0);
     memory.refuse(0, 0);
     expect_opened(&rt, rt.alloc(), device, 2)
-}
-
-/// The generation that a header has in the new format, and the capacity that it has in the old one, written and read.
-fn header_in_both() -> Result<(u64, u16), Fail> {
-    let header = Header::new(0, settings_from(SMALL)?, 0, &[]).ok_or("a header")?;
-    let bytes = encode_old_header(&header).ok_or("it has room")?;
-    Ok((
-        generation_in(&encode_header(&header))?,
-        capacity_in(&bytes)?,
-    ))
-}
-
-fn generation_in(bytes: &[u8; 512]) -> Result<u64, Fail> {
-    let read = decode_header(bytes).ok_or("its header")?;
-    Ok(read.generation())
-}
-
-fn capacity_in(bytes: &[u8; 512]) -> Result<u16, Fail> {
-    let read = decode_old_header(bytes).ok_or("its header")?;
-    Ok(read.settings().capacity())
-}
-
-/// Slots of both formats hold the warrior, which has no results.
-fn expect_slot(rt: &impl Abort, warrior: &Warrior<&Refusing<Global>>) {
-    let slot = Slot::encode(warrior, &[Wins::NONE; 21]);
-    assert!(rt; slot.results() == [Wins::NONE; 21]);
-    let old = OldSlot {
-        sectors: [slot.sectors[0], slot.sectors[3]],
-    };
-    assert!(rt; old.widened().sectors == slot.sectors);
-    assert!(rt; Slot::blank().sectors != slot.sectors);
-}
-
-/// The slots of the first warrior of a hill.
-fn expect_slots<D: Device>(
-    rt: &impl Abort,
-    store: &Store<D, &Refusing<Global>>,
-) -> Result<(), Fail> {
-    let member = store.hill().member(0).ok_or("the warrior")?;
-    expect_slot(rt, member.warrior);
-    Ok(())
-}
-
-/// With every growth refused, headers and the slots of the first warrior are made and read.
-fn expect_bytes<D: Device>(
-    rt: &impl Abort,
-    memory: &Refusing<Global>,
-    store: &Store<D, &Refusing<Global>>,
-) -> Result<(), Fail> {
-    memory.refuse(0, u64::MAX);
-    assert_eq!(rt; header_in_both()?, (0, 2));
-    expect_slots(rt, store)?;
-    assert_eq!(rt; memory.refused(), 0);
-    memory.refuse(0, 0);
-    Ok(())
-}
-
-#[test]
-fn headers_and_slots_need_none(rt: HostRuntime) -> Result<(), Fail> {
-    let memory = Refusing::new(rt.alloc());
-    let mut store = created_in(&memory, rt.alloc())?;
-    expect_reply(&rt, &mut store, b"MOV 0,1", placed(1, 1, 0));
-    expect_bytes(&rt, &memory, &store)?;
-    drop(store);
-    Ok(())
 }
 
 /// A warrior is placed on the hill of two that is created on this device.
