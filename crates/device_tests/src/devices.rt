@@ -1,51 +1,38 @@
 //! A device in memory, call by call.
 
-use sector_disk::{Device, Fault, MemoryDevice, each_image_is_chosen, laws_of_images};
-use std::test::Fail;
+use crate::calls::{
+    expect_faults, expect_read, expect_sectors, expect_stopped, expect_text, in_memory, set, sync,
+    write,
+};
+use sector_disk::{Fault, each_image_is_chosen, laws_of_images};
 
 #[test]
-fn each_call_once(rt: HostRuntime) -> Result<(), Fail> {
-    let mut device = MemoryDevice::new(rt.alloc(), 3)?;
-    let mut content = [7; 512];
-    assert_eq!(rt; device.sectors(), 3);
-    device.read(2, &mut content)?;
-    assert_eq!(rt; content, [0; 512]);
+fn each_call_once(rt: HostRuntime) {
+    let mut device = in_memory(&rt, 3);
+    expect_sectors(&rt, &device, 3);
+    expect_read(&rt, &mut device, 2, 0);
 
-    device.write(1, &[1; 512])?;
-    device.write(1, &[2; 512])?;
-    device.read(1, &mut content)?;
-    assert_eq!(rt; content, [2; 512]);
+    write(&rt, &mut device, 1, 1);
+    write(&rt, &mut device, 1, 2);
+    expect_read(&rt, &mut device, 1, 2);
+    expect_stopped(&rt, &device, &[], 1, 0);
 
-    let mut lost = device.stopped(&[])?;
-    lost.read(1, &mut content)?;
-    assert_eq!(rt; content, [0; 512]);
+    sync(&rt, &mut device);
+    expect_stopped(&rt, &device, &[], 1, 2);
 
-    device.sync()?;
-    let mut kept = device.stopped(&[])?;
-    kept.read(1, &mut content)?;
-    assert_eq!(rt; content, [2; 512]);
-
-    device.write(1, &[3; 512])?;
-    device.set(1, &[4; 512]);
-    let mut set = device.stopped(&[9, 9, 9])?;
-    set.read(1, &mut content)?;
-    assert_eq!(rt; content, [4; 512]);
-    assert_eq!(rt; device.faults(), 0);
-    Ok(())
+    write(&rt, &mut device, 1, 3);
+    set(&rt, &mut device, 1, 4);
+    expect_stopped(&rt, &device, &[9, 9, 9], 1, 4);
+    expect_faults(&rt, &device, 0);
 }
 
 #[test]
-fn laws_are_called(rt: HostRuntime) -> Result<(), Fail> {
+fn laws_are_called(rt: HostRuntime) {
     laws_of_images();
-    each_image_is_chosen(&MemoryDevice::new(rt.alloc(), 1)?);
-    Ok(())
+    each_image_is_chosen(&in_memory(&rt, 1));
 }
 
 #[test]
-fn a_fault_is_named(rt: HostRuntime) -> Result<(), Fail> {
-    assert_eq!(rt;
-        format!(in rt.alloc(); "{Fault}")?.as_str(),
-        "the device failed"
-    );
-    Ok(())
+fn a_fault_is_named(rt: HostRuntime) {
+    expect_text(&rt, &Fault, "the device failed");
 }

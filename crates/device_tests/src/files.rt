@@ -1,14 +1,14 @@
 //! The device over a file.
 
-ghost use Rattle.std.specs.Prelude.{◌≡◌, ◌<◌};
-ghost use Rattle.sector_disk.specs.File.{file_facts};
-
+use crate::calls::{
+    expect_bytes, expect_faults, expect_read, expect_sectors, expect_text, read, remove, sync,
+    write,
+};
 use sector_disk::{Device, Fault, FileDevice, FileFault};
-use std::fs::File;
-use std::path::{Path, PathBuf};
+use std::fs::{File, OpenFile};
+use std::path::PathBuf;
 use std::process::{Abort, id};
 use std::rt::Files;
-use std::test::Fail;
 use std::{env, fs, io};
 
 /// A place for a file of this name, which no other test and no other run uses.
@@ -18,159 +18,188 @@ pub(crate) fn place(rt: &HostRuntime, name: &str) -> io::Result<PathBuf> {
     Ok(env::temp_dir(rt)?.join(rt.alloc(), name.as_str())?)
 }
 
-/// The file has these sectors, each of one byte all over.
-fn expect_sectors<R: Files + AllocGlobal + Abort>(
+/// A device that is made with so many sectors.
+fn made<R: Files<File = File> + AllocGlobal>(
     rt: &R,
-    path: Path<'_>,
-    sectors: &[u8],
-) -> Result<(), Fail> {
-    let bytes = fs::read(rt, path)?;
-    assert_eq!(rt; bytes.len() / 512, sectors.len());
-    for (n, byte) in bytes.iter().enumerate() {
-        assert_eq!(rt; sectors.get(n / 512), Some(byte), "at {n}");
-    }
-    Ok(())
+    path: &str,
+    sectors: u32,
+) -> Result<FileDevice<File>, FileFault> {
+    FileDevice::make(rt, rt.alloc(), path, sectors)
 }
 
-/// A sector reads as one byte all over.
-fn expect_read(
-    rt: &impl Abort,
-    device: &mut FileDevice<File>,
-    n: u32,
-    byte: u8,
-) -> Result<(), Fault>
-    requires { n < file_facts.size device.old }
-    ensures { file_facts.size device.new ≡ file_facts.size device.old }
-{
-    let mut content = [9; 512];
-    device.read(n, &mut content)?;
-    assert_eq!(rt; content, [byte; 512], "of sector {n}");
-    Ok(())
+/// A device that is opened.
+fn opened<R: Files<File = File>>(rt: &R, path: &str) -> Result<FileDevice<File>, FileFault> {
+    FileDevice::open(rt, path)
+}
+
+/// Two sectors of a new device of three are written and synced.
+fn fill<D: Device>(rt: &impl Abort, device: &mut D) {
+    expect_sectors(rt, device, 3);
+    write(rt, device, 1, 7);
+    write(rt, device, 2, 8);
+    sync(rt, device);
+    expect_faults(rt, device, 0);
+}
+
+/// They read as they were written.
+fn expect_filled<D: Device>(rt: &impl Abort, device: &mut D) {
+    expect_sectors(rt, device, 3);
+    expect_read(rt, device, 1, 7);
+    expect_read(rt, device, 0, 0);
+    expect_read(rt, device, 2, 8);
 }
 
 #[test]
-fn a_file_is_made_written_closed_opened_and_read(rt: HostRuntime) -> Result<(), Fail> {
-    let path = place(&rt, "life")?;
-    let mut device = FileDevice::make(&rt, rt.alloc(), path.as_path(), 3)?;
-    assert_eq!(rt; device.sectors(), 3);
-    device.write(1, &[7; 512])?;
-    device.write(2, &[8; 512])?;
-    device.sync()?;
-    assert_eq!(rt; device.faults(), 0);
+fn a_file_is_made_written_closed_opened_and_read(rt: HostRuntime) {
+    let place = place(&rt, "life").expect(&rt, "a place");
+    let path = place.as_str();
+    let mut device = made(&rt, path, 3).expect(&rt, "it is made");
+    fill(&rt, &mut device);
     drop(device);
-    expect_sectors(&rt, path.as_path(), &[0, 7, 8])?;
+    expect_bytes(&rt, path, [[0; 512], [7; 512], [8; 512]].as_flattened());
+    let mut device = opened(&rt, path).expect(&rt, "it is opened");
+    expect_filled(&rt, &mut device);
+    drop(device);
+    remove(&rt, path);
+}
 
-    let mut device = FileDevice::open(&rt, path.as_path())?;
-    assert_eq!(rt; device.sectors(), 3);
-    expect_read(&rt, &mut device, 1, 7)?;
-    expect_read(&rt, &mut device, 0, 0)?;
-    expect_read(&rt, &mut device, 2, 8)?;
-    fs::remove_file(&rt, path.as_path())?;
-    Ok(())
+/// A device that is made with so many sectors has so many.
+fn expect_made(
+    rt: &(impl Files<File = File> + AllocGlobal + Abort),
+    path: &str,
+    asked: u32,
+    sectors: u32,
+) {
+    let device = made(rt, path, asked).expect(rt, "it is made");
+    assert_eq!(rt; device.sectors(), sectors, "{asked} asked");
+}
+
+/// Writes a file of this many bytes, each of them 6.
+fn write_sixes(rt: &(impl Files + AllocGlobal + Abort), path: &str, count: usize) {
+    let bytes = vec![in rt.alloc(); 6_u8; count].expect(rt, "there is memory");
+    fs::write(rt, path, bytes.as_slice()).expect(rt, "the file is written");
 }
 
 /// It is never shortened, what it holds stays, and zeros follow it.
 #[test]
-fn a_file_is_extended(rt: HostRuntime) -> Result<(), Fail> {
-    let path = place(&rt, "longer")?;
-    write_sixes(&rt, path.as_path(), 1024)?;
-    for (asked, sectors) in [(1, 2), (0, 2), (2, 2), (4, 4), (3, 4)].as_slice() {
-        let made = sectors_made(&rt, path.as_path(), *asked)?;
-        assert_eq!(rt; made, *sectors, "{asked} asked");
-    }
-    expect_sectors(&rt, path.as_path(), &[6, 6, 0, 0])?;
-    fs::remove_file(&rt, path.as_path())?;
-    Ok(())
+fn a_file_is_extended(rt: HostRuntime) {
+    let place = place(&rt, "longer").expect(&rt, "a place");
+    let path = place.as_str();
+    write_sixes(&rt, path, 1024);
+    expect_made(&rt, path, 1, 2);
+    expect_made(&rt, path, 0, 2);
+    expect_made(&rt, path, 2, 2);
+    expect_made(&rt, path, 4, 4);
+    expect_made(&rt, path, 3, 4);
+    expect_bytes(&rt, path, [[6; 1024], [0; 1024]].as_flattened());
+    remove(&rt, path);
 }
 
-/// The sectors of a device that is made with so many.
-fn sectors_made(rt: &HostRuntime, path: Path<'_>, asked: u32) -> Result<u32, FileFault> {
-    let device = FileDevice::make(rt, rt.alloc(), path, asked)?;
-    Ok(device.sectors())
+/// A device that is opened over a file of so many bytes has so many sectors.
+fn expect_whole(
+    rt: &(impl Files<File = File> + AllocGlobal + Abort),
+    path: &str,
+    count: usize,
+    whole: u32,
+) {
+    write_sixes(rt, path, count);
+    let device = opened(rt, path).expect(rt, "it is opened");
+    assert_eq!(rt; device.sectors(), whole, "of {count} bytes");
 }
 
-/// Writes a file of this many bytes, each of them 6.
-fn write_sixes(rt: &HostRuntime, path: Path<'_>, count: usize) -> Result<(), Fail> {
-    let bytes = vec![in rt.alloc(); 6_u8; count]?;
-    Ok(fs::write(rt, path, bytes.as_slice())?)
-}
-
-#[test]
-fn whole_sectors_count(rt: HostRuntime) -> Result<(), Fail> {
-    let path = place(&rt, "parts")?;
-    for (count, whole) in [(0, 0), (1, 0), (511, 0), (512, 1), (1023, 1), (1024, 2)].as_slice() {
-        write_sixes(&rt, path.as_path(), *count)?;
-        let found = sectors_found(&rt, path.as_path());
-        assert_eq!(rt; found, Ok(*whole), "of {count} bytes");
-    }
-    // A device of no sectors can be made too.
-    write_sixes(&rt, path.as_path(), 511)?;
-    assert_eq!(rt; sectors_made(&rt, path.as_path(), 0), Ok(0));
-    // The bytes of a part of a sector stay, and zeros follow them.
+/// The bytes of a part of a sector stay, and zeros follow them.
+fn expect_part_filled(rt: &(impl Files<File = File> + AllocGlobal + Abort), path: &str) {
     let mut expected = [6; 512];
     expected[511] = 0;
-    assert_eq!(rt; first_sector_made(&rt, path.as_path())?, expected);
-    fs::remove_file(&rt, path.as_path())?;
-    Ok(())
-}
-
-/// The sectors of a device that is opened.
-fn sectors_found(rt: &HostRuntime, path: Path<'_>) -> Result<u32, FileFault> {
-    let device = FileDevice::open(rt, path)?;
-    Ok(device.sectors())
-}
-
-/// What the first sector holds of a device that is made with one.
-fn first_sector_made(rt: &HostRuntime, path: Path<'_>) -> Result<[u8; 512], Fail> {
-    let mut content = [0; 512];
-    let mut device = FileDevice::make(rt, rt.alloc(), path, 1)?;
-    device.read(0, &mut content)?;
-    Ok(content)
+    let mut device = made(rt, path, 1).expect(rt, "it is made");
+    assert_eq!(rt; read(rt, &mut device, 0), expected);
 }
 
 #[test]
-fn no_device_over_it(rt: HostRuntime) -> Result<(), Fail> {
-    let missing = place(&rt, "missing")?;
-    let answer = FileDevice::open(&rt, missing.as_path()).err();
-    assert_eq!(rt; answer, Some(FileFault::Failed));
-    assert!(rt; !fs::exists(&rt, missing.as_path())?);
-
-    let folder = place(&rt, "folder")?;
-    fs::create_dir(&rt, folder.as_path())?;
-    assert_eq!(rt;
-        FileDevice::open(&rt, folder.as_path()).err(),
-        Some(FileFault::Failed)
-    );
-    assert_eq!(rt;
-        FileDevice::make(&rt, rt.alloc(), folder.as_path(), 3).err(),
-        Some(FileFault::Failed)
-    );
-    fs::remove_dir(&rt, folder.as_path())?;
-    let text = format!(in rt.alloc(); "{}, {}", FileFault::Memory, FileFault::Failed)?;
-    assert_eq!(rt; text.as_str(), "no memory for the file, the file failed");
-    Ok(())
+fn whole_sectors_count(rt: HostRuntime) {
+    let place = place(&rt, "parts").expect(&rt, "a place");
+    let path = place.as_str();
+    expect_whole(&rt, path, 0, 0);
+    expect_whole(&rt, path, 1, 0);
+    expect_whole(&rt, path, 511, 0);
+    expect_whole(&rt, path, 512, 1);
+    expect_whole(&rt, path, 1023, 1);
+    expect_whole(&rt, path, 1024, 2);
+    // A device of no sectors can be made too.
+    write_sixes(&rt, path, 511);
+    expect_made(&rt, path, 0, 0);
+    expect_part_filled(&rt, path);
+    remove(&rt, path);
 }
 
-/// The file is shortened while the device is open, so its last sector can't be read.
+/// Nothing opens at this path, since the system refuses it.
+fn expect_not_opened(rt: &(impl Files<File = File> + Abort), path: &str) {
+    assert_eq!(rt; opened(rt, path).err(), Some(FileFault::Failed));
+}
+
+/// Nor is one made there.
+fn expect_not_made(rt: &(impl Files<File = File> + AllocGlobal + Abort), path: &str) {
+    assert_eq!(rt; made(rt, path, 3).err(), Some(FileFault::Failed));
+}
+
+/// There is nothing at a path.
+pub(crate) fn expect_nothing(rt: &(impl Files + Abort), path: &str) {
+    assert_eq!(rt; fs::exists(rt, path).ok(), Some(false));
+}
+
 #[test]
-fn a_read_that_fails(rt: HostRuntime) -> Result<(), Fail> {
-    let path = place(&rt, "shortened")?;
-    let mut content = [0; 512];
-    let mut device = FileDevice::make(&rt, rt.alloc(), path.as_path(), 2)?;
-    File::options()
+fn no_device_over_it(rt: HostRuntime) {
+    let missing = place(&rt, "missing").expect(&rt, "a place");
+    expect_not_opened(&rt, missing.as_str());
+    expect_nothing(&rt, missing.as_str());
+
+    let folder = place(&rt, "folder").expect(&rt, "a place");
+    fs::create_dir(&rt, folder.as_str()).expect(&rt, "a folder is made");
+    expect_not_opened(&rt, folder.as_str());
+    expect_not_made(&rt, folder.as_str());
+    fs::remove_dir(&rt, folder.as_str()).expect(&rt, "the folder is removed");
+}
+
+#[test]
+fn texts_of_faults(rt: HostRuntime) {
+    expect_text(&rt, &FileFault::Memory, "no memory for the file");
+    expect_text(&rt, &FileFault::Failed, "the file failed");
+}
+
+/// The file has so many bytes from now on.
+pub(crate) fn set_length(rt: &(impl Files + Abort), path: &str, bytes: u64) {
+    let file = File::options()
         .write(true)
-        .open(&rt, path.as_path())?
-        .set_len(700)?;
-    assert_eq!(rt; device.sectors(), 2);
-    assert_eq!(rt; device.read(1, &mut content), Err(Fault));
-    assert_eq!(rt; device.faults(), 1);
-    device.read(0, &mut content)?;
-    device.sync()?;
-    assert_eq!(rt; device.faults(), 1);
+        .open(rt, path)
+        .expect(rt, "the file is opened");
+    file.set_len(bytes).expect(rt, "its length is set");
+}
+
+/// A read that fails, and counts the first fault.
+fn expect_unread<D: Device>(rt: &impl Abort, device: &mut D, n: u32) {
+    assert!(rt; n < device.sectors());
+    assert_eq!(rt; device.read(n, &mut [0; 512]), Err(Fault));
+    expect_faults(rt, device, 1);
+}
+
+/// The file of a device of two sectors is shortened while the device is open, so its last sector can't be read.
+fn shorten_it<D: Device>(rt: &(impl Files + Abort), device: &mut D, path: &str) {
+    set_length(rt, path, 700);
+    expect_sectors(rt, device, 2);
+    expect_unread(rt, device, 1);
+    expect_read(rt, device, 0, 0);
+    sync(rt, device);
+    expect_faults(rt, device, 1);
     // A write makes it whole again.
-    device.write(1, &[4; 512])?;
-    device.read(1, &mut content)?;
-    assert_eq!(rt; content, [4; 512]);
-    fs::remove_file(&rt, path.as_path())?;
-    Ok(())
+    write(rt, device, 1, 4);
+    expect_read(rt, device, 1, 4);
+}
+
+#[test]
+fn a_read_that_fails(rt: HostRuntime) {
+    let place = place(&rt, "shortened").expect(&rt, "a place");
+    let mut device = made(&rt, place.as_str(), 2).expect(&rt, "it is made");
+    shorten_it(&rt, &mut device, place.as_str());
+    drop(device);
+    remove(&rt, place.as_str());
 }

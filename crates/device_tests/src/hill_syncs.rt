@@ -1,109 +1,159 @@
 //! The syncs of the device over a hill's file: none is done where the path leads elsewhere, or the file is too short.
 
-use crate::files::place;
-use hill_file::{Existing, HillFile, Sharing};
-use sector_disk::{Device, Fault, FuseDevice, FuseKind};
+use crate::calls::{expect_faults, expect_refused, expect_sectors, remove, sync, write};
+use crate::files::{place, set_length};
+use crate::hill_files::{made, opened};
+use hill_file::Sharing;
+use sector_disk::{Device, FuseDevice, FuseKind};
 use std::fs;
-use std::fs::File;
 use std::os::unix::fs::symlink;
 use std::process::Abort;
-use std::test::Fail;
+use std::rt::Files;
 
-/// A sync that fails, and counts one fault more than so many.
-fn expect_refused<D: Device>(rt: &impl Abort, hill: &mut D, faults: u64) {
-    assert_eq!(rt; hill.faults(), faults);
-    assert_eq!(rt; hill.sync(), Err(Fault));
-    assert_eq!(rt; hill.faults(), faults.saturating_add(1));
+/// What is at one path is at another from now on.
+fn rename(rt: &(impl Files + Abort), from: &str, to: &str) {
+    fs::rename(rt, from, to).expect(rt, "the file is renamed");
 }
 
-/// Each of two syncs of a removed file fails, and is counted, though reads and writes go on.
+/// A file like that at one path is at another from now on.
+fn copy(rt: &(impl Files + Abort), from: &str, to: &str) {
+    fs::copy(rt, from, to).expect(rt, "the file is copied");
+}
+
+/// A path leads to another from now on.
+fn link(rt: &(impl Files + Abort), to: &str, path: &str) {
+    symlink(rt, to, path).expect(rt, "the link is made");
+}
+
+/// The file of a device of three sectors is removed: reads and writes go on, and each of two syncs fails.
+fn remove_it<D: Device>(rt: &(impl Files + Abort), hill: &mut D, path: &str) {
+    expect_sectors(rt, hill, 3);
+    sync(rt, hill);
+    remove(rt, path);
+    write(rt, hill, 1, 7);
+    expect_refused(rt, hill, 0);
+    expect_refused(rt, hill, 1);
+    expect_sectors(rt, hill, 3);
+}
+
 #[test]
-fn a_removed_file(rt: HostRuntime) -> Result<(), Fail> {
-    let place = place(&rt, "hill-removed")?;
-    let path = place.as_str();
-    let mut hill = HillFile::make(&rt, rt.alloc(), path, 3, Existing::Kept)?;
-    assert_eq!(rt; hill.sectors(), 3);
-    hill.sync()?;
-    fs::remove_file(&rt, path)?;
-    hill.write(1, &[7; 512])?;
-    expect_refused(&rt, &mut hill, 0);
-    expect_refused(&rt, &mut hill, 1);
-    assert_eq!(rt; hill.sectors(), 3);
-    Ok(())
+fn a_removed_file(rt: HostRuntime) {
+    let place = place(&rt, "hill-removed").expect(&rt, "a place");
+    let mut hill = made(&rt, place.as_str()).expect(&rt, "it is made");
+    remove_it(&rt, &mut hill, place.as_str());
+    drop(hill);
 }
 
 /// Another file of the same length and content is at the path. When the first is back, its syncs are done.
-#[test]
-fn a_replaced_file(rt: HostRuntime) -> Result<(), Fail> {
-    let (one, other) = (place(&rt, "hill-one")?, place(&rt, "hill-other")?);
-    let (path, spare) = (one.as_str(), other.as_str());
-    let aside = place(&rt, "hill-aside")?;
-    let mut hill = HillFile::make(&rt, rt.alloc(), path, 3, Existing::Kept)?;
-    fs::copy(&rt, path, spare)?;
-    fs::rename(&rt, path, aside.as_str())?;
-    expect_refused(&rt, &mut hill, 0);
-    fs::rename(&rt, spare, path)?;
-    expect_refused(&rt, &mut hill, 1);
-    fs::rename(&rt, aside.as_str(), path)?;
-    hill.sync()?;
-    assert_eq!(rt; hill.faults(), 2);
-    fs::remove_file(&rt, path)?;
-    Ok(())
+fn replace_it<D: Device>(
+    rt: &(impl Files + Abort),
+    hill: &mut D,
+    path: &str,
+    spare: &str,
+    aside: &str,
+) {
+    copy(rt, path, spare);
+    rename(rt, path, aside);
+    expect_refused(rt, hill, 0);
+    rename(rt, spare, path);
+    expect_refused(rt, hill, 1);
+    rename(rt, aside, path);
+    sync(rt, hill);
+    expect_faults(rt, hill, 2);
+    remove(rt, path);
 }
 
-/// One byte is missing of its last sector. When that is written again, a sync is done.
 #[test]
-fn a_cut_file(rt: HostRuntime) -> Result<(), Fail> {
-    let place = place(&rt, "hill-cut")?;
-    let path = place.as_str();
-    drop(HillFile::make(&rt, rt.alloc(), path, 3, Existing::Kept)?);
-    let mut hill = HillFile::open(&rt, path, Sharing::Alone)?;
-    assert_eq!(rt; hill.sectors(), 3);
-    let file = File::options().write(true).open(&rt, path)?;
-    file.set_len(1535)?;
-    expect_refused(&rt, &mut hill, 0);
-    assert!(rt; hill.sectors() > 2);
-    hill.write(2, &[7; 512])?;
-    hill.sync()?;
-    assert_eq!(rt; hill.faults(), 1);
+fn a_replaced_file(rt: HostRuntime) {
+    let path = place(&rt, "hill-one").expect(&rt, "a place");
+    let spare = place(&rt, "hill-other").expect(&rt, "a place");
+    let aside = place(&rt, "hill-aside").expect(&rt, "a place");
+    let mut hill = made(&rt, path.as_str()).expect(&rt, "it is made");
+    replace_it(
+        &rt,
+        &mut hill,
+        path.as_str(),
+        spare.as_str(),
+        aside.as_str(),
+    );
+    drop(hill);
+}
+
+/// One byte is missing of the last sector of three. When that is written again, a sync is done.
+fn cut_it<D: Device>(rt: &(impl Files + Abort), hill: &mut D, path: &str) {
+    expect_sectors(rt, hill, 3);
+    set_length(rt, path, 1535);
+    expect_refused(rt, hill, 0);
+    write(rt, hill, 2, 7);
+    sync(rt, hill);
+    expect_faults(rt, hill, 1);
     // A file that others made longer holds its sectors.
-    file.set_len(2000)?;
-    hill.sync()?;
-    fs::remove_file(&rt, path)?;
-    Ok(())
+    set_length(rt, path, 2000);
+    sync(rt, hill);
+    remove(rt, path);
+}
+
+#[test]
+fn a_cut_file(rt: HostRuntime) {
+    let place = place(&rt, "hill-cut").expect(&rt, "a place");
+    drop(made(&rt, place.as_str()).expect(&rt, "it is made"));
+    let mut hill = opened(&rt, place.as_str(), Sharing::Alone).expect(&rt, "it is opened");
+    cut_it(&rt, &mut hill, place.as_str());
+    drop(hill);
 }
 
 /// A path that is a link leads to the file, until the link leads elsewhere.
-#[test]
-fn a_link(rt: HostRuntime) -> Result<(), Fail> {
-    let (one, other) = (place(&rt, "hill-target")?, place(&rt, "hill-elsewhere")?);
-    let link = place(&rt, "hill-link")?;
-    symlink(&rt, one.as_str(), link.as_str())?;
-    let mut hill = HillFile::make(&rt, rt.alloc(), link.as_str(), 3, Existing::Kept)?;
-    hill.sync()?;
-    fs::copy(&rt, one.as_str(), other.as_str())?;
-    fs::remove_file(&rt, link.as_str())?;
-    symlink(&rt, other.as_str(), link.as_str())?;
-    expect_refused(&rt, &mut hill, 0);
-    for path in [one.as_str(), other.as_str(), link.as_str()] {
-        fs::remove_file(&rt, path)?;
-    }
-    Ok(())
+fn link_elsewhere<D: Device>(
+    rt: &(impl Files + Abort),
+    hill: &mut D,
+    path: &str,
+    target: &str,
+    elsewhere: &str,
+) {
+    sync(rt, hill);
+    copy(rt, target, elsewhere);
+    remove(rt, path);
+    link(rt, elsewhere, path);
+    expect_refused(rt, hill, 0);
+    remove(rt, target);
+    remove(rt, elsewhere);
+    remove(rt, path);
 }
 
-/// It is a device as others are, within one that fails.
 #[test]
-fn within_another_device(rt: HostRuntime) -> Result<(), Fail> {
-    let place = place(&rt, "hill-within")?;
-    let path = place.as_str();
-    let hill = HillFile::make(&rt, rt.alloc(), path, 3, Existing::Kept)?;
+fn a_link(rt: HostRuntime) {
+    let path = place(&rt, "hill-link").expect(&rt, "a place");
+    let target = place(&rt, "hill-target").expect(&rt, "a place");
+    let elsewhere = place(&rt, "hill-elsewhere").expect(&rt, "a place");
+    link(&rt, target.as_str(), path.as_str());
+    let mut hill = made(&rt, path.as_str()).expect(&rt, "it is made");
+    link_elsewhere(
+        &rt,
+        &mut hill,
+        path.as_str(),
+        target.as_str(),
+        elsewhere.as_str(),
+    );
+    drop(hill);
+}
+
+/// It is a device as others are, within one whose third call fails.
+fn fail_and_remove_it<D: Device>(rt: &(impl Files + Abort), device: &mut D, path: &str) {
+    expect_sectors(rt, device, 3);
+    write(rt, device, 0, 1);
+    sync(rt, device);
+    expect_refused(rt, device, 0);
+    remove(rt, path);
+    expect_refused(rt, device, 1);
+}
+
+#[test]
+fn within_another_device(rt: HostRuntime) {
+    let place = place(&rt, "hill-within").expect(&rt, "a place");
+    let hill = made(&rt, place.as_str()).expect(&rt, "it is made");
     let mut device = FuseDevice::new(hill, 2, FuseKind::FailLost);
-    assert_eq!(rt; device.sectors(), 3);
-    device.write(0, &[1; 512])?;
-    device.sync()?;
-    expect_refused(&rt, &mut device, 0);
-    fs::remove_file(&rt, path)?;
-    expect_refused(&rt, &mut device, 1);
-    assert_eq!(rt; device.into_inner().faults(), 1);
-    Ok(())
+    fail_and_remove_it(&rt, &mut device, place.as_str());
+    let hill = device.into_inner();
+    expect_faults(&rt, &hill, 1);
+    drop(hill);
 }
