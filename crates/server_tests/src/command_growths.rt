@@ -39,12 +39,12 @@ type Row = (u64, u64, &'static str, &'static str, &'static str, u8);
 /// Growths of a command, and then of its submission, which is answered `MEMORY`: without one of the first that is told as a fault. Then
 /// the command, its input, what it writes, and what it leaves with.
 ///
-/// A source is read into a buffer and assembled by 7 growths. A hill is created by 5, the members and an arena's four, behind one for
+/// A source is read into a buffer and assembled by 8 growths. A hill is created by 5, the members and an arena's four, behind one for
 /// the path of its file, and opened by these and the code of the one warrior. The hill of the old format that is moved to a file that is made
 /// has three warriors. Texts grow from 8 bytes to 16, 32 and 64, load text from 4.
 const COMMANDS: [Row; 8] = [
     (
-        1 + 7 + 5,
+        1 + 8 + 5,
         0,
         "koth asm",
         "MOV 0, 1\n",
@@ -52,7 +52,7 @@ const COMMANDS: [Row; 8] = [
         0,
     ),
     (
-        8 + 8 + 4 + 1,
+        9 + 9 + 4 + 1,
         0,
         "koth fight growths.red growths.red --core=64 --cycles=100 --processes=8 --length=10 --distance=10 --rounds=2",
         "",
@@ -87,7 +87,7 @@ const COMMANDS: [Row; 8] = [
     ),
     (
         6 + 1,
-        7,
+        8,
         "koth submit growths.hill growths.red",
         "",
         "PLACED 2 2 2\n",

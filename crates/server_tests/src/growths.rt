@@ -39,7 +39,7 @@ const OF_ONE: Ending = Ending {
 /// those of the assembler, and, where the device has its memory there too, the first writes to the four sectors of a slot and to a header's.
 const WITHOUT_ONE: [(u64, &str, SessionEnd, &str); 3] = [
     (2, "", SessionEnd::Memory, NONE),
-    (7, "MEMORY\nBAD\n", SessionEnd::Quit, NONE),
+    (8, "MEMORY\nBAD\n", SessionEnd::Quit, NONE),
     (5, "", SessionEnd::StoreFailed, NONE),
 ];
 
@@ -55,21 +55,21 @@ const OF_THREE: Ending = Ending {
 const WITHOUT_THREE: [(u64, &str, SessionEnd, &str); 7] = [
     (2, "", SessionEnd::Memory, NONE),
     (
-        7,
+        8,
         "MEMORY\nPLACED 1 1 0\nPLACED 2 2 0\n1 1 6 1 Unnamed by Anonymous\n2 2 0 0 Unnamed by Anonymous\n.\n",
         SessionEnd::EndOfInput,
         WON,
     ),
     (5, "", SessionEnd::StoreFailed, NONE),
     (
-        7,
+        8,
         "PLACED 1 1 0\nMEMORY\nPLACED 2 2 0\n1 1 6 1 Unnamed by Anonymous\n2 2 0 0 Unnamed by Anonymous\n.\n",
         SessionEnd::EndOfInput,
         WON,
     ),
     (4, "PLACED 1 1 0\n", SessionEnd::StoreFailed, ONE),
     (
-        7,
+        8,
         "PLACED 1 1 0\nPLACED 2 2 2\nMEMORY\n1 1 2 1 Unnamed by Anonymous\n2 2 2 0 Unnamed by Anonymous\n.\n",
         SessionEnd::EndOfInput,
         TIED,

@@ -319,11 +319,11 @@ fn of_a_list(rt: HostRuntime) -> Result<(), Fail> {
     let (lost, disk) = (Reply::Memory, Reply::Disk);
     let loses = placed(2, 2, 0);
     expect_no_list(&rt, alloc, &memory)?;
-    let k = expect_each(&rt, alloc, &memory, 1, 7, &[lost, first, empty, loses])?;
+    let k = expect_each(&rt, alloc, &memory, 1, 8, &[lost, first, empty, loses])?;
     let k = expect_each(&rt, alloc, &memory, k, 5, &[disk])?;
-    let k = expect_each(&rt, alloc, &memory, k, 7, &[first, lost, empty, loses])?;
+    let k = expect_each(&rt, alloc, &memory, k, 8, &[first, lost, empty, loses])?;
     let k = expect_each(&rt, alloc, &memory, k, 4, &[first, disk])?;
-    let k = expect_each(&rt, alloc, &memory, k, 7, &[first, second, empty, lost])?;
+    let k = expect_each(&rt, alloc, &memory, k, 8, &[first, second, empty, lost])?;
     let done = [first, second, empty, fell(3, 0)];
     assert_eq!(rt;
         check_replies(&rt, alloc, &memory, k, &done)?,

@@ -294,16 +294,16 @@ fn expect_submission<D: Device>(
     assert_eq!(rt; memory.refused(), refused);
 }
 
-/// The seven growths of a warrior that is submitted to an empty hill.
+/// The eight growths of a warrior that is submitted to an empty hill.
 fn expect_growths<D: Device>(
     rt: &impl Abort,
     store: &mut Store<D, &Refusing<Global>>,
     memory: &Refusing<Global>,
 ) {
-    for k in 0..7 {
+    for k in 0..8 {
         expect_submission(rt, store, memory, k, Reply::Memory, 1);
     }
-    expect_submission(rt, store, memory, 7, placed(1, 1, 0), 0);
+    expect_submission(rt, store, memory, 8, placed(1, 1, 0), 0);
 }
 
 /// A submission that is answered `Memory` leaves the hill as it was, so the first that isn't is entry 1.
