@@ -1,9 +1,9 @@
 //! The service of many peers at once: bytes go from sockets that don't wait to the sessions of `koth_peers`, and their answers back.
 //!
-//! It knows what sockets, a clock and a host say through two traits, and of the system only `polled` and `line`. The modules, in the order in which
-//! the data pass:
+//! It knows what sockets, a clock and a host say through two traits, and nothing of the system: `koth_sockets` has its sockets. The modules, in
+//! the order in which the data pass:
 //!
-//! - `sockets`: what sockets may say, and what happened on them; `polled` and `line`: sockets of the system, over `mio`'s poll;
+//! - `sockets`: what sockets may say, and what happened on them;
 //! - `host`: who is told what happens, and opens the hill again;
 //! - `times` and `seats`: how long a peer is waited for, and what is kept of each beside its session;
 //! - `desk`: the peers, the store and the seats; `arrivals`, `reading`, `serving`, `sending` and `parting` move one peer on it;
@@ -25,9 +25,7 @@ mod browsers;
 mod connections;
 mod desk;
 mod host;
-mod line;
 mod parting;
-mod polled;
 mod reading;
 mod seats;
 mod sending;
@@ -38,7 +36,6 @@ mod times;
 
 pub use host::{Event, Host, HowEnded};
 pub use koth_peers::PeerEnd;
-pub use polled::PolledSockets;
 pub use service::{ServiceFault, serve_peers};
 pub use sockets::{Arrival, Came, Drained, Sockets, Went};
 pub use times::{ANSWERING, ASKING, DRAIN, DRAINED_MOST, PATIENCE, RETRY};

@@ -1,7 +1,8 @@
 //! A service over sockets of the system.
 
 use crate::hosts::{Clerk, hill};
-use koth_service::{PolledSockets, serve_peers};
+use koth_service::serve_peers;
+use koth_sockets::PolledSockets;
 use std::io;
 use std::io::Write;
 use std::net::{Ipv4Addr, Net, Shutdown, SocketAddr, TcpStream};

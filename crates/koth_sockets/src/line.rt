@@ -3,7 +3,7 @@
 ghost use Rattle.std.specs.Prelude.{[]};
 ghost use Rattle.koth_service.specs.Noted.{CameWithin, WentWithin};
 
-use crate::sockets::{Came, Drained, Went};
+use koth_service::{Came, Drained, Went};
 use mio::event::Event;
 use mio::net::TcpStream;
 use mio::{Interest, Registry, Token};

@@ -4,7 +4,7 @@ ghost use Rattle.std.specs.Prelude.{⊤};
 ghost use Rattle.koth_service.specs.Noted.{Noted};
 
 use crate::line::Line;
-use crate::sockets::{Arrival, Came, Drained, Sockets, Went};
+use koth_service::{Arrival, Came, Drained, Sockets, Went};
 use mio::net::{TcpListener, TcpStream};
 use mio::{Events, Interest, Poll, Token};
 use std::alloc::{AllocError, Allocator};

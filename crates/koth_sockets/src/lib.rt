@@ -1,0 +1,16 @@
+//! Sockets of the system for `koth_service`, over `mio`'s poll.
+//!
+//! Nothing here waits but `PolledSockets::wait`, and nothing is known of commands, hills or pages. The modules, in the order in which the
+//! data pass:
+//!
+//! - `line`: one socket, and whether a read or a write of it may give something;
+//! - `polled`: two listeners, one for peers and one for browsers, and the sockets that came of them by their numbers.
+//!
+//! It says of the system what `Sockets` asks for: a read or a write counts no more bytes than there are. What happened on the sockets it
+//! doesn't keep, since no clause speaks of the system.
+#![tactic(auto)]
+
+mod line;
+mod polled;
+
+pub use polled::PolledSockets;
