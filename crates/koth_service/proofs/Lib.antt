@@ -1,4 +1,6 @@
 mod Moments
 mod Steps
 mod Servings
+mod Stages
+mod Visits
 pub mod Told

@@ -20,8 +20,9 @@ use Rattle.koth_peers.specs.declared.peer.Peer.{Peer}
 use Rattle.koth_peers.specs.declared.peers.Step.{Step}
 use Rattle.koth_peers.specs.declared.peers.Step.TheVariants as steps
 use Rattle.koth_service.specs.Noted.{Noted, Stays}
-use Rattle.koth_service.specs.History.{Answers, Begins, Breaks, Happening, IsSafe, Moment, answered, instead, moment, noted, stored}
+use Rattle.koth_service.specs.History.{Answers, Begins, Breaks, Happening, IsSafe, Moment, Shows, answered, instead, moment, noted, stored}
 use Rattle.koth_service.specs.Standing.{AreStanding, GoesOn, IsCutOff, StandsAfter, StandsAt}
+use Rattle.koth_service.specs.declared.connections.Stage.{Stage}
 use Rattle.koth_service.proofs.Steps.{stays}
 use Rattle.koth_service.proofs.Moments.{IsSame, instead_other, instead_same, same, same_stands, standing_at}
 
@@ -125,10 +126,10 @@ module _ {D A : Type 0} (facts : DeviceFacts D) where
       ∙ ap (λ (s : Seen D). m.owed n ++ answer s.hill e) (sym is) ∙ sym (instead_same m.owed n (m.owed n ++ answer m.now.hill e)) in
       (subst (λ l. IsPeer new (m.came n) l) done (serves.reads (m.came n) (m.done n) stands.0), all)
 
-module _ {S D A : Type 0} (happened : S → List Noted → Type 0) (facts : DeviceFacts D) (start : Seen D) where
+module _ {S D A : Type 0} (happened : S → List Noted → Type 0) (facts : DeviceFacts D) (shows : Shows D) (start : Seen D) (browsers : ℕ → Option (Stage A)) where
   answered_by : (old_sockets sockets : S) (n : ℕ) (old new : Slots A) (store now : Seen D) (slot : Option (Peer A)) → peer_at old n ≡ slot → is_due_in slot ≡ true
       → MovesAt (λ p q. Serves facts None p store q now) n old new → Stays happened old_sockets sockets
-      → GoesOn happened facts start old_sockets old store → GoesOn happened facts start sockets new now
+      → GoesOn happened facts shows start old_sockets old browsers store → GoesOn happened facts shows start sockets new browsers now
   answered_by old_sockets sockets n old new store now None is due moves kept on = absurd (true≢false (sym due))
   answered_by old_sockets sockets n old new store now (Some peer) is due moves kept on =
       let before = on.1 in
@@ -151,6 +152,7 @@ module _ {S D A : Type 0} (happened : S → List Noted → Type 0) (facts : Devi
           logged = kept (noted on.0) before.logged;
           follows = (answers, before.follows);
           standing = standing_at old new n m (answered n e now m) moves.only (answered_other facts n e now m) here before.standing;
+          visiting = before.visiting;
           now_is = refl;
         },
         safe,
@@ -158,7 +160,7 @@ module _ {S D A : Type 0} (happened : S → List Noted → Type 0) (facts : Devi
 
   ended_by : (old_sockets sockets : S) (end : PeerEnd) (n : ℕ) (old new : Slots A) (store now : Seen D) (slot : Option (Peer A)) → step_after (Some end) 0 ≡ step_after None 0
       → peer_at old n ≡ slot → is_due_in slot ≡ true → MovesAt (λ p q. Serves facts (Some end) p store q now) n old new → Stays happened old_sockets sockets
-      → GoesOn happened facts start old_sockets old store → GoesOn happened facts start sockets new now
+      → GoesOn happened facts shows start old_sockets old browsers store → GoesOn happened facts shows start sockets new browsers now
   ended_by old_sockets sockets end n old new store now None sound is due moves kept on = absurd (true≢false (sym due))
   ended_by old_sockets sockets end n old new store now (Some peer) sound is due moves kept on =
       let before = on.1 in
@@ -170,6 +172,7 @@ module _ {S D A : Type 0} (happened : S → List Noted → Type 0) (facts : Devi
           logged = kept (noted on.0) before.logged;
           follows = before.follows;
           standing = standing_ended facts n end m m old new store now (same m) moves before.standing;
+          visiting = before.visiting;
           now_is = before.now_is ∙ sym (same_store facts end (command_of peer) peer.outbox.unsent moved.0.outbox.unsent store now sound moved.2.answers);
         },
         on.2,
@@ -177,7 +180,7 @@ module _ {S D A : Type 0} (happened : S → List Noted → Type 0) (facts : Devi
 
   cut_by : (old_sockets sockets : S) (n : ℕ) (old new : Slots A) (store now : Seen D) (slot : Option (Peer A)) → peer_at old n ≡ slot → is_due_in slot ≡ true
       → MovesAt (λ p q. Serves facts (Some ends.StoreFailed) p store q now) n old new → Stays happened old_sockets sockets
-      → GoesOn happened facts start old_sockets old store → IsCutOff happened facts start sockets new now
+      → GoesOn happened facts shows start old_sockets old browsers store → IsCutOff happened facts shows start sockets new browsers now
   cut_by old_sockets sockets n old new store now None is due moves kept on = absurd (true≢false (sym due))
   cut_by old_sockets sockets n old new store now (Some peer) is due moves kept on =
       let before = on.1 in
@@ -197,13 +200,14 @@ module _ {S D A : Type 0} (happened : S → List Noted → Type 0) (facts : Devi
           follows = (breaks, before.follows);
           standing = standing_ended facts n ends.StoreFailed m (stored now m) old new store now
               (λ p. record { there_is = refl; came_is = refl; done_is = refl; owed_is = refl; went_is = refl }) moves before.standing;
+          visiting = before.visiting;
           now_is = refl;
         },
       )
 
   served_by : (old_sockets sockets : S) (outcome : Option PeerEnd) (n : ℕ) (old new : Slots A) (store now : Seen D) → step_after outcome n ≡ steps.Served n
       → is_due_in (peer_at old n) ≡ true → MovesAt (λ p q. Serves facts outcome p store q now) n old new → Stays happened old_sockets sockets
-      → GoesOn happened facts start old_sockets old store → GoesOn happened facts start sockets new now
+      → GoesOn happened facts shows start old_sockets old browsers store → GoesOn happened facts shows start sockets new browsers now
   served_by old_sockets sockets None n old new store now sound due moves kept on = answered_by old_sockets sockets n old new store now (peer_at old n) refl due moves kept on
   served_by old_sockets sockets (Some ends.Quit) n old new store now sound due moves kept on =
       ended_by old_sockets sockets ends.Quit n old new store now (peer_at old n) refl refl due moves kept on
@@ -218,10 +222,10 @@ module _ {S D A : Type 0} (happened : S → List Noted → Type 0) (facts : Devi
       ended_by old_sockets sockets ends.Memory n old new store now (peer_at old n) refl refl due moves kept on
 
   pub served : (old_sockets sockets : S) (step : Step) (old new : Slots A) (from to : ℕ) (store now : Seen D) → ServesNext facts step old from store new to now
-      → Stays happened old_sockets sockets → GoesOn happened facts start old_sockets old store → StandsAfter happened facts step start sockets new now
+      → Stays happened old_sockets sockets → GoesOn happened facts shows start old_sockets old browsers store → StandsAfter happened facts shows step start sockets new browsers now
   served old_sockets sockets steps.Nobody old new from to store now serves kept on =
-      subst (λ (s : Seen D). GoesOn happened facts start sockets new s) (sym serves.3)
-      (subst (λ (slots : Slots A). GoesOn happened facts start sockets slots store) (sym serves.1) (stays happened facts start old_sockets sockets old store kept on))
+      subst (λ (s : Seen D). GoesOn happened facts shows start sockets new browsers s) (sym serves.3)
+      (subst (λ (slots : Slots A). GoesOn happened facts shows start sockets slots browsers store) (sym serves.1) (stays happened facts shows start browsers old_sockets sockets old store kept on))
   served old_sockets sockets (steps.Served n) old new from to store now serves kept on =
       served_by old_sockets sockets serves.0 n old new store now serves.1 serves.2.first.due serves.2.moves kept on
   served old_sockets sockets (steps.StoreFailed n) old new from to store now serves kept on =

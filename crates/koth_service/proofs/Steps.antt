@@ -6,11 +6,12 @@ use Rattle.koth_peers.specs.Peer.{Closes, Sends, Takes}
 use Rattle.koth_peers.specs.Peers.{Connects, MovesAt, OnlyAt, Slots, peer_at, unsent_at}
 use Rattle.koth_peers.specs.declared.peer.Peer.{Peer}
 use Rattle.koth_peers.specs.declared.peers.Peers.{Peers}
-use Rattle.koth_service.specs.Noted.{Noted, Stays}
-use Rattle.koth_service.specs.History.{Happening, IsHistory, beginning, moment, noted, reopened}
+use Rattle.koth_service.specs.Noted.{Adds, Noted, Stays}
+use Rattle.koth_service.specs.History.{Happening, IsHistory, Shows, beginning, moment, noted, reopened}
 use Rattle.koth_peers.specs.declared.peers.Step.{Step}
 use Rattle.koth_peers.specs.declared.peers.Step.TheVariants as steps
-use Rattle.koth_service.specs.Standing.{GoesOn, IsCutOff, IsSoundAfter, StandsAfter, StandsAt}
+use Rattle.koth_service.specs.Standing.{GoesOn, IsAtStage, IsCutOff, IsSoundAfter, StandsAfter, StandsAt}
+use Rattle.koth_service.specs.declared.connections.Stage.{Stage}
 use Rattle.koth_service.specs.declared.desk.Desk.{Desk}
 use Rattle.koth_service.proofs.Moments.{free_at, owed_to, same_stands, standing_came, standing_closed, standing_left, standing_new, standing_went}
 
@@ -18,17 +19,24 @@ use Rattle.koth_service.proofs.Moments.{free_at, owed_to, same_stands, standing_
 pub some_unsent : (read unsent : List ℕ) (empty : Bool) → read ≡ unsent → empty ≡ (length read == 0) → empty ≡ false → unsent ≢ []
 some_unsent read unsent empty is tells there none = true≢false (sym (ap (λ (l : List ℕ). length l == 0) (is ∙ none)) ∙ sym tells ∙ there)
 
-module _ {S D A : Type 0} (happened : S → List Noted → Type 0) (facts : DeviceFacts D) (start : Seen D) where
+module _ {S D A : Type 0} (happened : S → List Noted → Type 0) (facts : DeviceFacts D) (shows : Shows D) (start : Seen D) (browsers : ℕ → Option (Stage A)) where
   -- nothing happened
-  pub stays : (old new : S) (slots : Slots A) (store : Seen D) → Stays happened old new → GoesOn happened facts start old slots store → GoesOn happened facts start new slots store
+  pub stays : (old new : S) (slots : Slots A) (store : Seen D) → Stays happened old new → GoesOn happened facts shows start old slots browsers store → GoesOn happened facts shows start new slots browsers store
   stays old new slots store same on =
       let before = on.1 in
-      (on.0, record { logged = same (noted on.0) before.logged; follows = before.follows; standing = before.standing; now_is = before.now_is }, on.2)
+      (on.0, record { logged = same (noted on.0) before.logged; follows = before.follows; standing = before.standing; visiting = before.visiting; now_is = before.now_is }, on.2)
+
+  -- nothing happened, and the desk has the same sessions and store
+  pub stays_at : (old new : S) (desk same : Desk D A) → Stays happened old new → same.peers ≡ desk.peers → same.store ≡ desk.store
+      → GoesOn happened facts shows start old desk.peers.slots.items browsers desk.store → GoesOn happened facts shows start new same.peers.slots.items browsers same.store
+  stays_at old new desk same kept peers store on =
+      subst (λ (s : Seen D). GoesOn happened facts shows start new same.peers.slots.items browsers s) (sym store)
+      (subst (λ (p : Peers A). GoesOn happened facts shows start new p.slots.items browsers desk.store) (sym peers) (stays old new desk.peers.slots.items desk.store kept on))
 
   -- a peer was seated
   pub seated : (old_sockets sockets : S) (old new : Slots A) (store : Seen D) (n : ℕ) → Connects (Ok n) old new
-      → ((log : List Noted) → happened old_sockets log → happened sockets (Noted.Seated n ∷ log))
-      → GoesOn happened facts start old_sockets old store → GoesOn happened facts start sockets new store
+      → Adds happened (Noted.Seated n) old_sockets sockets
+      → GoesOn happened facts shows start old_sockets old browsers store → GoesOn happened facts shows start sockets new browsers store
   seated old_sockets sockets old new store n connects adds on =
       let before = on.1 in
       let m = moment start on.0 in (
@@ -37,6 +45,7 @@ module _ {S D A : Type 0} (happened : S → List Noted → Type 0) (facts : Devi
           logged = adds (noted on.0) before.logged;
           follows = (free_at old n m connects.2 before.standing, before.follows);
           standing = standing_new old new n connects.4 m connects.0 connects.5 connects.6 before.standing;
+          visiting = before.visiting;
           now_is = before.now_is;
         },
         record { hill = on.2.hill; still = on.2.still; lawful = on.2.lawful; reads = on.2.reads },
@@ -44,8 +53,8 @@ module _ {S D A : Type 0} (happened : S → List Noted → Type 0) (facts : Devi
 
   -- bytes of a peer came
   pub came : (old_sockets sockets : S) (old new : Slots A) (store : Seen D) (n : ℕ) (bytes : List ℕ) → MovesAt (λ p q. Takes p bytes q) n old new
-      → ((log : List Noted) → happened old_sockets log → happened sockets (Noted.Heard n bytes ∷ log))
-      → GoesOn happened facts start old_sockets old store → GoesOn happened facts start sockets new store
+      → Adds happened (Noted.Heard n bytes) old_sockets sockets
+      → GoesOn happened facts shows start old_sockets old browsers store → GoesOn happened facts shows start sockets new browsers store
   came old_sockets sockets old new store n bytes moves adds on =
       let before = on.1 in
       let m = moment start on.0 in (
@@ -54,6 +63,7 @@ module _ {S D A : Type 0} (happened : S → List Noted → Type 0) (facts : Devi
           logged = adds (noted on.0) before.logged;
           follows = (tt, before.follows);
           standing = standing_came old new n bytes m moves before.standing;
+          visiting = before.visiting;
           now_is = before.now_is;
         },
         record { hill = on.2.hill; still = on.2.still; lawful = on.2.lawful; reads = on.2.reads },
@@ -61,7 +71,7 @@ module _ {S D A : Type 0} (happened : S → List Noted → Type 0) (facts : Devi
 
   -- a peer's bytes are at their end
   pub closed : (old_sockets sockets : S) (old new : Slots A) (store : Seen D) (n : ℕ) → MovesAt Closes n old new → Stays happened old_sockets sockets
-      → GoesOn happened facts start old_sockets old store → GoesOn happened facts start sockets new store
+      → GoesOn happened facts shows start old_sockets old browsers store → GoesOn happened facts shows start sockets new browsers store
   closed old_sockets sockets old new store n moves same on =
       let before = on.1 in (
         on.0,
@@ -69,6 +79,7 @@ module _ {S D A : Type 0} (happened : S → List Noted → Type 0) (facts : Devi
           logged = same (noted on.0) before.logged;
           follows = before.follows;
           standing = standing_closed old new n (moment start on.0) moves before.standing;
+          visiting = before.visiting;
           now_is = before.now_is;
         },
         on.2,
@@ -76,8 +87,8 @@ module _ {S D A : Type 0} (happened : S → List Noted → Type 0) (facts : Devi
 
   -- answers went out to a peer
   pub went : (old_sockets sockets : S) (old new : Slots A) (store : Seen D) (n count : ℕ) → MovesAt (λ p q. Sends p count q) n old new → unsent_at old n ≢ []
-      → ((log : List Noted) → happened old_sockets log → happened sockets (Noted.Told n (take count (unsent_at old n)) ∷ log))
-      → GoesOn happened facts start old_sockets old store → GoesOn happened facts start sockets new store
+      → Adds happened (Noted.Told n (take count (unsent_at old n))) old_sockets sockets
+      → GoesOn happened facts shows start old_sockets old browsers store → GoesOn happened facts shows start sockets new browsers store
   went old_sockets sockets old new store n count moves some adds on =
       let before = on.1 in
       let m = moment start on.0 in (
@@ -86,6 +97,7 @@ module _ {S D A : Type 0} (happened : S → List Noted → Type 0) (facts : Devi
           logged = adds (noted on.0) before.logged;
           follows = (owed_to old n count m some before.standing, before.follows);
           standing = standing_went old new n count m moves before.standing;
+          visiting = before.visiting;
           now_is = before.now_is;
         },
         record { hill = on.2.hill; still = on.2.still; lawful = on.2.lawful; reads = on.2.reads },
@@ -93,8 +105,8 @@ module _ {S D A : Type 0} (happened : S → List Noted → Type 0) (facts : Devi
 
   -- a peer was let go
   pub left : (old_sockets sockets : S) (old new : Slots A) (store : Seen D) (n : ℕ) → OnlyAt n old new → peer_at new n ≡ None
-      → ((log : List Noted) → happened old_sockets log → happened sockets (Noted.Closed n ∷ log))
-      → GoesOn happened facts start old_sockets old store → GoesOn happened facts start sockets new store
+      → Adds happened (Noted.Closed n) old_sockets sockets
+      → GoesOn happened facts shows start old_sockets old browsers store → GoesOn happened facts shows start sockets new browsers store
   left old_sockets sockets old new store n only free adds on =
       let before = on.1 in
       let m = moment start on.0 in (
@@ -103,6 +115,7 @@ module _ {S D A : Type 0} (happened : S → List Noted → Type 0) (facts : Devi
           logged = adds (noted on.0) before.logged;
           follows = (tt, before.follows);
           standing = standing_left old new n m only free before.standing;
+          visiting = before.visiting;
           now_is = before.now_is;
         },
         record { hill = on.2.hill; still = on.2.still; lawful = on.2.lawful; reads = on.2.reads },
@@ -110,21 +123,22 @@ module _ {S D A : Type 0} (happened : S → List Noted → Type 0) (facts : Devi
 
   -- ---- the beginning, and a hill that was opened again
 
-  pub begun : (sockets : S) (slots : Slots A) (store : Seen D) → store ≡ start → ((p : ℕ) → peer_at slots p ≡ None) → happened sockets []
-      → GoesOn happened facts start sockets slots store
-  begun sockets slots store is nobody none = (
+  pub begun : (sockets : S) (slots : Slots A) (store : Seen D) → store ≡ start → ((p : ℕ) → peer_at slots p ≡ None) → ((p : ℕ) → browsers p ≡ None) → happened sockets []
+      → GoesOn happened facts shows start sockets slots browsers store
+  begun sockets slots store is nobody nobody_visits none = (
     [],
     record {
       logged = none;
       follows = tt;
       standing = λ p. subst (λ (slot : Option (Peer A)). StandsAt (beginning start) p slot) (sym (nobody p)) refl;
+      visiting = λ p. subst (λ (stage : Option (Stage A)). IsAtStage ((beginning start).browsers p) stage) (sym (nobody_visits p)) refl;
       now_is = sym is;
     },
     record { hill = refl; still = refl; lawful = λ is. is; reads = λ lawful open_still reads. reads },
   )
 
-  pub opened_again : (sockets : S) (slots : Slots A) (store now : Seen D) → now.reopen ≡ false → IsCutOff happened facts start sockets slots store
-      → GoesOn happened facts start sockets slots now
+  pub opened_again : (sockets : S) (slots : Slots A) (store now : Seen D) → now.reopen ≡ false → IsCutOff happened facts shows start sockets slots browsers store
+      → GoesOn happened facts shows start sockets slots browsers now
   opened_again sockets slots store now sound cut =
       let before = cut.1 in
       let m = moment start cut.0 in (
@@ -134,6 +148,7 @@ module _ {S D A : Type 0} (happened : S → List Noted → Type 0) (facts : Devi
           follows = (sound, before.follows);
           standing = λ p. same_stands m (reopened now m) p (peer_at slots p)
               (record { there_is = refl; came_is = refl; done_is = refl; owed_is = refl; went_is = refl }) (before.standing p);
+          visiting = before.visiting;
           now_is = refl;
         },
         record { hill = refl; still = refl; lawful = λ is. is; reads = λ lawful open_still reads. reads },
@@ -141,24 +156,24 @@ module _ {S D A : Type 0} (happened : S → List Noted → Type 0) (facts : Devi
 
   -- the desk that is sound again goes on
   pub sound_after : (step : Step) (old new : Desk D A) (sockets : S) → IsSoundAfter step old new
-      → StandsAfter happened facts step start sockets old.peers.slots.items old.store → GoesOn happened facts start sockets new.peers.slots.items new.store
-  sound_after steps.Nobody old new sockets same on = subst (λ (desk : Desk D A). GoesOn happened facts start sockets desk.peers.slots.items desk.store) (sym same) on
-  sound_after (steps.Served n) old new sockets same on = subst (λ (desk : Desk D A). GoesOn happened facts start sockets desk.peers.slots.items desk.store) (sym same) on
+      → StandsAfter happened facts shows step start sockets old.peers.slots.items browsers old.store → GoesOn happened facts shows start sockets new.peers.slots.items browsers new.store
+  sound_after steps.Nobody old new sockets same on = subst (λ (desk : Desk D A). GoesOn happened facts shows start sockets desk.peers.slots.items browsers desk.store) (sym same) on
+  sound_after (steps.Served n) old new sockets same on = subst (λ (desk : Desk D A). GoesOn happened facts shows start sockets desk.peers.slots.items browsers desk.store) (sym same) on
   sound_after (steps.StoreFailed n) old new sockets (same, sound) on =
-      subst (λ (peers : Peers A). GoesOn happened facts start sockets peers.slots.items new.store) (sym same) (opened_again sockets old.peers.slots.items old.store new.store sound on)
+      subst (λ (peers : Peers A). GoesOn happened facts shows start sockets peers.slots.items browsers new.store) (sym same) (opened_again sockets old.peers.slots.items old.store new.store sound on)
 
   -- ---- what has happened so far
 
-  pub so_far : (sockets : S) (slots : Slots A) (store : Seen D) → IsCutOff happened facts start sockets slots store
-      → (history : List (Happening D)) × happened sockets (noted history) × IsHistory facts start history
+  pub so_far : (sockets : S) (slots : Slots A) (store : Seen D) → IsCutOff happened facts shows start sockets slots browsers store
+      → (history : List (Happening D)) × happened sockets (noted history) × IsHistory facts shows start history
   so_far sockets slots store cut = (cut.0, cut.1.logged, cut.1.follows)
 
-  pub so_far_on : (sockets : S) (slots : Slots A) (store : Seen D) → GoesOn happened facts start sockets slots store
-      → (history : List (Happening D)) × happened sockets (noted history) × IsHistory facts start history
+  pub so_far_on : (sockets : S) (slots : Slots A) (store : Seen D) → GoesOn happened facts shows start sockets slots browsers store
+      → (history : List (Happening D)) × happened sockets (noted history) × IsHistory facts shows start history
   so_far_on sockets slots store on = (on.0, on.1.logged, on.1.follows)
 
-  pub so_far_after : (step : Step) (sockets : S) (slots : Slots A) (store : Seen D) → StandsAfter happened facts step start sockets slots store
-      → (history : List (Happening D)) × happened sockets (noted history) × IsHistory facts start history
+  pub so_far_after : (step : Step) (sockets : S) (slots : Slots A) (store : Seen D) → StandsAfter happened facts shows step start sockets slots browsers store
+      → (history : List (Happening D)) × happened sockets (noted history) × IsHistory facts shows start history
   so_far_after steps.Nobody sockets slots store on = so_far_on sockets slots store on
   so_far_after (steps.Served n) sockets slots store on = so_far_on sockets slots store on
   so_far_after (steps.StoreFailed n) sockets slots store cut = so_far sockets slots store cut

@@ -1,6 +1,5 @@
 -- What a browser is answered.
-use Rattle.std.specs.Prelude.{◌≡◌, ◌⊎◌, ℕ, Bool, List, Option, None, Some, Result, Ok, Err, MatchOption, Vec}
-use Rattle.std.specs.declared.alloc.AllocError.{AllocError}
+use Rattle.std.specs.Prelude.{◌≡◌, ◌⊎◌, ℕ, Bool, List, Option, Some, Result, Ok, Err, MatchOption, Vec}
 use Rattle.koth_http.specs.Asked.{FindsAsked, IsAsked}
 use Rattle.koth_http.specs.declared.asked.Asked.{Asked}
 use Rattle.koth_http.specs.declared.refusal.Refusal.{Refusal}
@@ -16,12 +15,6 @@ ShowsNothing shows = (text : List ℕ) → ¬ (shows text)
 abbrev pub IsFound : {A : Type 0} → (List ℕ → Type 0) → Option (Vec ℕ A) → Type 0
 IsFound shows found = MatchOption found (ShowsNothing shows) (λ text. shows text.items)
 
--- the answer by what was found of a page, or by the want of memory for it
-abbrev pub found_response : {A : Type 0} → Result (Option (Vec ℕ A)) AllocError → Bool → List ℕ
-found_response (Ok (Some text)) with_body = page_response text.items with_body
-found_response (Ok None) with_body = refusal_response refusals.NotFound with_body
-found_response (Err memory) with_body = refusal_response refusals.Unavailable with_body
-
 -- A page that can be asked for is answered by a text that is shown of it, or as not found where nothing is shown, or as unavailable if memory ran out; and
 -- what asks for none by why it doesn't.
 abbrev pub IsAnswerTo : (Page → List ℕ → Type 0) → Result Page Refusal → Bool → List ℕ → Type 0
@@ -34,8 +27,6 @@ IsAnswerTo shows (Err refusal) with_body answer = answer ≡ refusal_response re
 abbrev pub IsAnswer : (Page → List ℕ → Type 0) → Asked → List ℕ → Type 0
 IsAnswer shows asked answer = IsAnswerTo shows asked.page asked.with_body answer
 
--- the bytes that came of a browser are answered by what they ask, once that is known
-abbrev pub AnswersBytes : {A : Type 0} → (Page → List ℕ → Type 0) → List ℕ → Option (Vec ℕ A) → Type 0
-AnswersBytes shows bytes None = IsAsked bytes None
-AnswersBytes shows bytes (Some answer) =
-    (asked : Asked) × IsAsked bytes (Some asked) × FindsAsked bytes (Some asked) × IsAnswer shows asked answer.items
+-- the bytes that came of a browser are answered by what they ask
+abbrev pub AnswersBytes : (Page → List ℕ → Type 0) → List ℕ → List ℕ → Type 0
+AnswersBytes shows bytes answer = (asked : Asked) × IsAsked bytes (Some asked) × FindsAsked bytes (Some asked) × IsAnswer shows asked answer

@@ -1,18 +1,22 @@
--- What happens in a service: on the sockets, and of commands in between.
-use Rattle.std.specs.Prelude.{◌≡◌, ⊤, ℕ, ◌==◌, Bool, true, false, if◌then◌else◌, List, [], ◌∷◌, ◌++◌}
+-- What happens in a service: on the sockets, and of commands and answers to browsers in between.
+use Rattle.std.specs.Prelude.{◌≡◌, ⊤, ℕ, ◌==◌, Bool, true, false, if◌then◌else◌, List, [], ◌∷◌, ◌++◌, Option, None, Some}
 use Rattle.sector_disk.specs.Facts.{DeviceFacts}
 use Rattle.hill_store.specs.Seen.{Seen}
 use Rattle.koth_protocol.specs.Commands.{Command, commands_of}
+use Rattle.koth_http.specs.declared.target.Page.{Page}
 use Rattle.koth_session.specs.Sessions.{AreServed, IsLeftOff, ReadsNow}
 use Rattle.koth_session.specs.Transcript.{Exchange, answer, command_in, hill_after}
+use Rattle.koth_service.specs.Answering.{AnswersBytes}
 use Rattle.koth_service.specs.Noted.{Noted}
 
--- something on the sockets; a command of a peer was carried out, and this is the store then; the device failed in a submission of a peer; or the hill was opened again
+-- something on the sockets; a command of a peer was carried out, and this is the store then; the device failed in a submission of a peer; the hill was opened again;
+-- or a browser was given this answer
 pub data Happening (D : Type 0) : Type 0 where
   On : Noted → Happening D
   Answered : ℕ → Exchange → Seen D → Happening D
   CutOff : ℕ → List ℕ → Seen D → Happening D
   Reopened : Seen D → Happening D
+  Replied : ℕ → List ℕ → Happening D
 
 -- what of it was on the sockets
 abbrev pub noted : {D : Type 0} → List (Happening D) → List Noted
@@ -21,11 +25,19 @@ noted (Happening.On what ∷ older) = what ∷ noted older
 noted (Happening.Answered n e new ∷ older) = noted older
 noted (Happening.CutOff n source new ∷ older) = noted older
 noted (Happening.Reopened new ∷ older) = noted older
+noted (Happening.Replied n reply ∷ older) = noted older
 
 -- ---- how it stands then
 
--- Of each peer that is there what came, which commands of it were carried out, what they were answered, and what went out; the store; and since it was opened last,
--- how it was then and what was carried out.
+-- Of a browser whether it is there, what came of it, its answer once that was given, and what went out.
+pub record Browser : Type 0 where
+  pub there : Bool
+  pub came : List ℕ
+  pub reply : Option (List ℕ)
+  pub went : List ℕ
+
+-- Of each peer that is there what came, which commands of it were carried out, what they were answered, and what went out; the store; since it was opened last,
+-- how it was then and what was carried out; and the browsers by their numbers.
 pub record Moment (D : Type 0) : Type 0 where
   pub there : ℕ → Bool
   pub came : ℕ → List ℕ
@@ -35,10 +47,24 @@ pub record Moment (D : Type 0) : Type 0 where
   pub now : Seen D
   pub first : Seen D
   pub since : List Exchange
+  pub browsers : ℕ → Browser
+
+-- a browser is there or not, and nothing came of it or went out yet
+abbrev pub browser_anew : Bool → Browser
+browser_anew is = record { there = is; came = []; reply = None; went = [] }
 
 abbrev pub beginning : {D : Type 0} → Seen D → Moment D
-beginning start =
-    record { there = λ p. false; came = λ p. []; done = λ p. []; owed = λ p. []; went = λ p. []; now = start; first = start; since = [] }
+beginning start = record {
+  there = λ p. false;
+  came = λ p. [];
+  done = λ p. [];
+  owed = λ p. [];
+  went = λ p. [];
+  now = start;
+  first = start;
+  since = [];
+  browsers = λ p. browser_anew false;
+}
 
 abbrev pub instead : {T : Type 0} → (ℕ → T) → ℕ → T → ℕ → T
 instead f n value p = if p == n then value else f p
@@ -54,6 +80,7 @@ anew n is m = record {
   now = m.now;
   first = m.first;
   since = m.since;
+  browsers = m.browsers;
 }
 
 abbrev pub came_of : {D : Type 0} → ℕ → List ℕ → Moment D → Moment D
@@ -66,6 +93,7 @@ came_of n bytes m = record {
   now = m.now;
   first = m.first;
   since = m.since;
+  browsers = m.browsers;
 }
 
 abbrev pub went_to : {D : Type 0} → ℕ → List ℕ → Moment D → Moment D
@@ -78,6 +106,7 @@ went_to n bytes m = record {
   now = m.now;
   first = m.first;
   since = m.since;
+  browsers = m.browsers;
 }
 
 -- a command was carried out on the store as it was, and its answer is owed to the peer
@@ -91,23 +120,71 @@ answered n e new m = record {
   now = new;
   first = m.first;
   since = m.since ++ e ∷ [];
+  browsers = m.browsers;
 }
 
 abbrev pub stored : {D : Type 0} → Seen D → Moment D → Moment D
-stored new m =
-    record { there = m.there; came = m.came; done = m.done; owed = m.owed; went = m.went; now = new; first = m.first; since = m.since }
+stored new m = record {
+  there = m.there;
+  came = m.came;
+  done = m.done;
+  owed = m.owed;
+  went = m.went;
+  now = new;
+  first = m.first;
+  since = m.since;
+  browsers = m.browsers;
+}
 
 abbrev pub reopened : {D : Type 0} → Seen D → Moment D → Moment D
-reopened new m = record { there = m.there; came = m.came; done = m.done; owed = m.owed; went = m.went; now = new; first = new; since = [] }
+reopened new m = record {
+  there = m.there;
+  came = m.came;
+  done = m.done;
+  owed = m.owed;
+  went = m.went;
+  now = new;
+  first = new;
+  since = [];
+  browsers = m.browsers;
+}
+
+-- one browser's part is another, and all else as it was
+abbrev pub with_browser : {D : Type 0} → ℕ → Browser → Moment D → Moment D
+with_browser n browser m = record {
+  there = m.there;
+  came = m.came;
+  done = m.done;
+  owed = m.owed;
+  went = m.went;
+  now = m.now;
+  first = m.first;
+  since = m.since;
+  browsers = instead m.browsers n browser;
+}
+
+abbrev pub browser_came : List ℕ → Browser → Browser
+browser_came bytes b = record { there = b.there; came = b.came ++ bytes; reply = b.reply; went = b.went }
+
+abbrev pub browser_replied : List ℕ → Browser → Browser
+browser_replied reply b = record { there = b.there; came = b.came; reply = Some reply; went = b.went }
+
+abbrev pub browser_went : List ℕ → Browser → Browser
+browser_went bytes b = record { there = b.there; came = b.came; reply = b.reply; went = b.went ++ bytes }
 
 abbrev pub next : {D : Type 0} → Happening D → Moment D → Moment D
 next (Happening.On (Noted.Seated n)) m = anew n true m
 next (Happening.On (Noted.Heard n bytes)) m = came_of n bytes m
 next (Happening.On (Noted.Told n bytes)) m = went_to n bytes m
 next (Happening.On (Noted.Closed n)) m = anew n false m
+next (Happening.On (Noted.Admitted n)) m = with_browser n (browser_anew true) m
+next (Happening.On (Noted.Requested n bytes)) m = with_browser n (browser_came bytes (m.browsers n)) m
+next (Happening.On (Noted.Shown n bytes)) m = with_browser n (browser_went bytes (m.browsers n)) m
+next (Happening.On (Noted.Left n)) m = with_browser n (browser_anew false) m
 next (Happening.Answered n e new) m = answered n e new m
 next (Happening.CutOff n source new) m = stored new m
 next (Happening.Reopened new) m = reopened new m
+next (Happening.Replied n reply) m = with_browser n (browser_replied reply (m.browsers n)) m
 
 -- how it stands after a history, the latest first, which began with this store
 abbrev pub moment : {D : Type 0} → Seen D → List (Happening D) → Moment D
@@ -139,17 +216,38 @@ pub record Breaks {D : Type 0} (facts : DeviceFacts D) (n : ℕ) (source : List 
   pub left_off : IsLeftOff facts m.now new source
   pub safe : IsSafe facts m
 
+-- what a browser is owed: its answer, once that was given
+abbrev pub owed_by : Option (List ℕ) → List ℕ
+owed_by None = []
+owed_by (Some reply) = reply
+
+-- of a store the text of a page
+abbrev pub Shows : Type 0 → Type 1
+Shows D = Seen D → Page → List ℕ → Type 0
+
+-- a browser that is there is given its answer, and it had none: it answers what came of it, by what is shown of the store as it is
+pub record Replies {D : Type 0} (shows : Shows D) (n : ℕ) (reply : List ℕ) (m : Moment D) : Type 0 where
+  pub there : (m.browsers n).there ≡ true
+  pub first : (m.browsers n).reply ≡ None
+  pub as_asked : AnswersBytes (shows m.now) (m.browsers n).came reply
+
 -- What may happen then: a number that is free is given to a peer; what goes out to a peer is the next of what it is owed; and commands are carried out in their order.
-abbrev pub Follows : {D : Type 0} → DeviceFacts D → Happening D → Moment D → Type 0
-Follows facts (Happening.On (Noted.Seated n)) m = m.there n ≡ false
-Follows facts (Happening.On (Noted.Heard n bytes)) m = ⊤
-Follows facts (Happening.On (Noted.Told n bytes)) m = Begins (m.went n ++ bytes) (m.owed n)
-Follows facts (Happening.On (Noted.Closed n)) m = ⊤
-Follows facts (Happening.Answered n e new) m = Answers facts n e new m
-Follows facts (Happening.CutOff n source new) m = Breaks facts n source new m
-Follows facts (Happening.Reopened new) m = new.reopen ≡ false
+-- So it is of browsers: a number that is free is given to one, each is given one answer at most, and what goes out to it is the next of that.
+abbrev pub Follows : {D : Type 0} → DeviceFacts D → Shows D → Happening D → Moment D → Type 0
+Follows facts shows (Happening.On (Noted.Seated n)) m = m.there n ≡ false
+Follows facts shows (Happening.On (Noted.Heard n bytes)) m = ⊤
+Follows facts shows (Happening.On (Noted.Told n bytes)) m = Begins (m.went n ++ bytes) (m.owed n)
+Follows facts shows (Happening.On (Noted.Closed n)) m = ⊤
+Follows facts shows (Happening.On (Noted.Admitted n)) m = (m.browsers n).there ≡ false
+Follows facts shows (Happening.On (Noted.Requested n bytes)) m = ⊤
+Follows facts shows (Happening.On (Noted.Shown n bytes)) m = Begins ((m.browsers n).went ++ bytes) (owed_by (m.browsers n).reply)
+Follows facts shows (Happening.On (Noted.Left n)) m = ⊤
+Follows facts shows (Happening.Answered n e new) m = Answers facts n e new m
+Follows facts shows (Happening.CutOff n source new) m = Breaks facts n source new m
+Follows facts shows (Happening.Reopened new) m = new.reopen ≡ false
+Follows facts shows (Happening.Replied n reply) m = Replies shows n reply m
 
 -- each happening follows those before it
-abbrev pub IsHistory : {D : Type 0} → DeviceFacts D → Seen D → List (Happening D) → Type 0
-IsHistory facts start [] = ⊤
-IsHistory facts start (what ∷ older) = Follows facts what (moment start older) × IsHistory facts start older
+abbrev pub IsHistory : {D : Type 0} → DeviceFacts D → Shows D → Seen D → List (Happening D) → Type 0
+IsHistory facts shows start [] = ⊤
+IsHistory facts shows start (what ∷ older) = Follows facts shows what (moment start older) × IsHistory facts shows start older

@@ -1,37 +1,51 @@
 -- What happens on sockets, and what each call of them adds.
 use Rattle.std.specs.Prelude.{⊤, ℕ, ◌≤◌, List, ◌∷◌, length, take}
+use Rattle.koth_service.specs.declared.sockets.Arrival.{Arrival}
+use Rattle.koth_service.specs.declared.sockets.Arrival.TheVariants as arrivals
 use Rattle.koth_service.specs.declared.sockets.Came.{Came}
 use Rattle.koth_service.specs.declared.sockets.Came.TheVariants as came
 use Rattle.koth_service.specs.declared.sockets.Went.{Went}
 use Rattle.koth_service.specs.declared.sockets.Went.TheVariants as went
 
--- a peer was put under a number; bytes of it came; bytes went out to it; its socket was closed
+-- a peer was put under a number; bytes of it came; bytes went out to it; its socket was closed; and the same of a browser, under a number of the browsers'
 pub data Noted : Type 0 where
   Seated : ℕ → Noted
   Heard : ℕ → List ℕ → Noted
   Told : ℕ → List ℕ → Noted
   Closed : ℕ → Noted
+  Admitted : ℕ → Noted
+  Requested : ℕ → List ℕ → Noted
+  Shown : ℕ → List ℕ → Noted
+  Left : ℕ → Noted
 
 -- nothing is added
 abbrev pub Stays : {S : Type 0} → (S → List Noted → Type 0) → S → S → Type 0
 Stays happened old new = (log : List Noted) → happened old log → happened new log
 
--- the bytes that came are added
-abbrev pub Reads : {S : Type 0} → (S → List Noted → Type 0) → ℕ → S → List ℕ → Came → S → Type 0
-Reads happened n old bytes (came.Bytes count) new =
-    (count ≤ length bytes) × ((log : List Noted) → happened old log → happened new (Noted.Heard n (take count bytes) ∷ log))
-Reads happened n old bytes came.End new = Stays happened old new
-Reads happened n old bytes came.Nothing new = Stays happened old new
-Reads happened n old bytes came.Gone new = Stays happened old new
+-- this is added
+abbrev pub Adds : {S : Type 0} → (S → List Noted → Type 0) → Noted → S → S → Type 0
+Adds happened what old new = (log : List Noted) → happened old log → happened new (what ∷ log)
 
--- the bytes that went out are added
-abbrev pub Writes : {S : Type 0} → (S → List Noted → Type 0) → ℕ → S → List ℕ → Went → S → Type 0
-Writes happened n old bytes (went.Bytes count) new =
-    (count ≤ length bytes) × ((log : List Noted) → happened old log → happened new (Noted.Told n (take count bytes) ∷ log))
-Writes happened n old bytes went.Nothing new = Stays happened old new
-Writes happened n old bytes went.Gone new = Stays happened old new
+-- a browser is put under the number, if one came
+abbrev pub Admits : {S : Type 0} → (S → List Noted → Type 0) → ℕ → S → Arrival → S → Type 0
+Admits happened n old (arrivals.Peer address) new = Adds happened (Noted.Admitted n) old new
+Admits happened n old arrivals.Nobody new = Stays happened old new
+Admits happened n old arrivals.Failed new = Stays happened old new
 
--- a read or a write counts bytes that there are
+-- the bytes that came are added, as those of a peer or of a browser
+abbrev pub Reads : {S : Type 0} → (S → List Noted → Type 0) → (List ℕ → Noted) → S → List ℕ → Came → S → Type 0
+Reads happened heard old bytes (came.Bytes count) new = (count ≤ length bytes) × Adds happened (heard (take count bytes)) old new
+Reads happened heard old bytes came.End new = Stays happened old new
+Reads happened heard old bytes came.Nothing new = Stays happened old new
+Reads happened heard old bytes came.Gone new = Stays happened old new
+
+-- the bytes that went out are added, as to a peer or to a browser
+abbrev pub Writes : {S : Type 0} → (S → List Noted → Type 0) → (List ℕ → Noted) → S → List ℕ → Went → S → Type 0
+Writes happened told old bytes (went.Bytes count) new = (count ≤ length bytes) × Adds happened (told (take count bytes)) old new
+Writes happened told old bytes went.Nothing new = Stays happened old new
+Writes happened told old bytes went.Gone new = Stays happened old new
+
+-- For those that keep no history: a read or a write counts bytes that there are.
 abbrev pub CameWithin : Came → List ℕ → Type 0
 CameWithin (came.Bytes count) bytes = count ≤ length bytes
 CameWithin came.End bytes = ⊤

@@ -1,5 +1,5 @@
--- How the sessions of peers and the store stand by a history.
-use Rattle.std.specs.Prelude.{◌≡◌, ℕ, false, List, [], ◌++◌, Option, None, Some}
+-- How the sessions of peers, the connections of browsers and the store stand by a history.
+use Rattle.std.specs.Prelude.{◌≡◌, ⊤, ℕ, true, false, List, [], ◌++◌, Option, None, Some}
 use Rattle.sector_disk.specs.Facts.{DeviceFacts}
 use Rattle.hill_store.specs.Seen.{Seen}
 use Rattle.koth_peers.specs.Peer.{IsPeer}
@@ -8,7 +8,9 @@ use Rattle.koth_peers.specs.declared.peer.Peer.{Peer}
 use Rattle.koth_peers.specs.declared.peers.Step.{Step}
 use Rattle.koth_peers.specs.declared.peers.Step.TheVariants as steps
 use Rattle.koth_service.specs.Noted.{Noted}
-use Rattle.koth_service.specs.History.{Happening, IsHistory, IsSafe, Moment, moment, noted}
+use Rattle.koth_service.specs.History.{Browser, Happening, IsHistory, IsSafe, Moment, Shows, moment, noted, owed_by}
+use Rattle.koth_service.specs.declared.connections.Stage.{Stage}
+use Rattle.koth_service.specs.declared.connections.Stage.TheVariants as stages
 use Rattle.koth_service.specs.declared.desk.Desk.{Desk}
 
 -- a peer's session read what came, and has what is owed and did not go out
@@ -19,36 +21,51 @@ StandsAt m p (Some peer) = IsPeer peer (m.came p) (m.done p) × (m.went p ++ pee
 abbrev pub AreStanding : {D A : Type 0} → Moment D → Slots A → Type 0
 AreStanding m slots = (p : ℕ) → StandsAt m p (peer_at slots p)
 
--- the sessions and the store came to be so by this history, and it is true of the sockets
-pub record CameToBe {S D A : Type 0} (happened : S → List Noted → Type 0) (facts : DeviceFacts D) (start : Seen D) (sockets : S) (slots : Slots A) (store : Seen D) (history : List (Happening D)) : Type 0 where
+-- A browser's connection read what came, and was not answered; or has what is owed and did not go out; or nothing more goes out to it. There is none of a number
+-- that is free.
+abbrev pub IsAtStage : {A : Type 0} → Browser → Option (Stage A) → Type 0
+IsAtStage b None = b.there ≡ false
+IsAtStage b (Some (stages.Asking visit)) = b ≡ record { there = true; came = visit; reply = None; went = [] }
+IsAtStage b (Some (stages.Answering unsent)) = b.went ++ unsent ≡ owed_by b.reply
+IsAtStage b (Some stages.Parting) = ⊤
+
+abbrev pub AreAtStages : {D A : Type 0} → Moment D → (ℕ → Option (Stage A)) → Type 0
+AreAtStages m browsers = (p : ℕ) → IsAtStage (m.browsers p) (browsers p)
+
+-- the sessions, the connections and the store came to be so by this history, and it is true of the sockets
+pub record CameToBe {S D A : Type 0} (happened : S → List Noted → Type 0) (facts : DeviceFacts D) (shows : Shows D) (start : Seen D) (sockets : S) (slots : Slots A) (browsers : ℕ → Option (Stage A)) (store : Seen D) (history : List (Happening D)) : Type 0 where
   pub logged : happened sockets (noted history)
-  pub follows : IsHistory facts start history
+  pub follows : IsHistory facts shows start history
   pub standing : AreStanding (moment start history) slots
+  pub visiting : AreAtStages (moment start history) browsers
   pub now_is : (moment start history).now ≡ store
 
 -- by some history, in which the device is sound
-abbrev pub GoesOn : {S D A : Type 0} → (S → List Noted → Type 0) → DeviceFacts D → Seen D → S → Slots A → Seen D → Type 0
-GoesOn {S} {D} {A} happened facts start sockets slots store =
-    (history : List (Happening D)) × CameToBe happened facts start sockets slots store history × IsSafe facts (moment start history)
+abbrev pub GoesOn : {S D A : Type 0} → (S → List Noted → Type 0) → DeviceFacts D → Shows D → Seen D → S → Slots A → (ℕ → Option (Stage A)) → Seen D → Type 0
+GoesOn {S} {D} {A} happened facts shows start sockets slots browsers store =
+    (history : List (Happening D)) × CameToBe happened facts shows start sockets slots browsers store history × IsSafe facts (moment start history)
 
 -- by some history, and the device has failed
-abbrev pub IsCutOff : {S D A : Type 0} → (S → List Noted → Type 0) → DeviceFacts D → Seen D → S → Slots A → Seen D → Type 0
-IsCutOff {S} {D} {A} happened facts start sockets slots store = (history : List (Happening D)) × CameToBe happened facts start sockets slots store history
+abbrev pub IsCutOff : {S D A : Type 0} → (S → List Noted → Type 0) → DeviceFacts D → Shows D → Seen D → S → Slots A → (ℕ → Option (Stage A)) → Seen D → Type 0
+IsCutOff {S} {D} {A} happened facts shows start sockets slots browsers store =
+    (history : List (Happening D)) × CameToBe happened facts shows start sockets slots browsers store history
 
--- it goes on as it did
-abbrev pub KeepsOn : {S D A : Type 0} → (S → List Noted → Type 0) → DeviceFacts D → S → Desk D A → S → Desk D A → Type 0
-KeepsOn {S} {D} {A} happened facts sockets desk new_sockets new_desk =
-    (start : Seen D) → GoesOn happened facts start sockets desk.peers.slots.items desk.store → GoesOn happened facts start new_sockets new_desk.peers.slots.items new_desk.store
+-- it goes on as it did, however the browsers stand
+abbrev pub KeepsOn : {S D A : Type 0} → (S → List Noted → Type 0) → DeviceFacts D → Shows D → S → Desk D A → S → Desk D A → Type 0
+KeepsOn {S} {D} {A} happened facts shows sockets desk new_sockets new_desk =
+    (start : Seen D) (browsers : ℕ → Option (Stage A)) → GoesOn happened facts shows start sockets desk.peers.slots.items browsers desk.store
+    → GoesOn happened facts shows start new_sockets new_desk.peers.slots.items browsers new_desk.store
 
-abbrev pub StandsAfter : {S D A : Type 0} → (S → List Noted → Type 0) → DeviceFacts D → Step → Seen D → S → Slots A → Seen D → Type 0
-StandsAfter happened facts steps.Nobody start sockets slots store = GoesOn happened facts start sockets slots store
-StandsAfter happened facts (steps.Served n) start sockets slots store = GoesOn happened facts start sockets slots store
-StandsAfter happened facts (steps.StoreFailed n) start sockets slots store = IsCutOff happened facts start sockets slots store
+abbrev pub StandsAfter : {S D A : Type 0} → (S → List Noted → Type 0) → DeviceFacts D → Shows D → Step → Seen D → S → Slots A → (ℕ → Option (Stage A)) → Seen D → Type 0
+StandsAfter happened facts shows steps.Nobody start sockets slots browsers store = GoesOn happened facts shows start sockets slots browsers store
+StandsAfter happened facts shows (steps.Served n) start sockets slots browsers store = GoesOn happened facts shows start sockets slots browsers store
+StandsAfter happened facts shows (steps.StoreFailed n) start sockets slots browsers store = IsCutOff happened facts shows start sockets slots browsers store
 
 -- and it goes on as it did, unless the device failed in this step
-abbrev pub KeepsOnBy : {S D A : Type 0} → (S → List Noted → Type 0) → DeviceFacts D → Step → S → Desk D A → S → Desk D A → Type 0
-KeepsOnBy {S} {D} {A} happened facts step sockets desk new_sockets new_desk =
-    (start : Seen D) → GoesOn happened facts start sockets desk.peers.slots.items desk.store → StandsAfter happened facts step start new_sockets new_desk.peers.slots.items new_desk.store
+abbrev pub KeepsOnBy : {S D A : Type 0} → (S → List Noted → Type 0) → DeviceFacts D → Shows D → Step → S → Desk D A → S → Desk D A → Type 0
+KeepsOnBy {S} {D} {A} happened facts shows step sockets desk new_sockets new_desk =
+    (start : Seen D) (browsers : ℕ → Option (Stage A)) → GoesOn happened facts shows start sockets desk.peers.slots.items browsers desk.store
+    → StandsAfter happened facts shows step start new_sockets new_desk.peers.slots.items browsers new_desk.store
 
 -- the same sessions, on the same store, or on one that was opened again if the device failed in this step
 abbrev pub IsSoundAfter : {D A : Type 0} → Step → Desk D A → Desk D A → Type 0
@@ -56,7 +73,7 @@ IsSoundAfter steps.Nobody old new = new ≡ old
 IsSoundAfter (steps.Served n) old new = new ≡ old
 IsSoundAfter (steps.StoreFailed n) old new = (new.peers ≡ old.peers) × (new.store.reopen ≡ false)
 
--- Where nothing had happened on the sockets, what happened since, and the commands that were carried out, are a history of this store.
-abbrev pub ServesPeers : {S D : Type 0} → (S → List Noted → Type 0) → DeviceFacts D → Seen D → S → S → Type 0
-ServesPeers {S} {D} happened facts start old new =
-    happened old [] → (history : List (Happening D)) × happened new (noted history) × IsHistory facts start history
+-- Where nothing had happened on the sockets, what happened since, the commands that were carried out and the answers to browsers are a history of this store.
+abbrev pub ServesPeers : {S D : Type 0} → (S → List Noted → Type 0) → DeviceFacts D → Shows D → Seen D → S → S → Type 0
+ServesPeers {S} {D} happened facts shows start old new =
+    happened old [] → (history : List (Happening D)) × happened new (noted history) × IsHistory facts shows start history

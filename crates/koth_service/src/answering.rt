@@ -1,7 +1,8 @@
 //! What a browser is answered.
 
 ghost use Rattle.std.specs.Prelude.{◌≡◌, IfOk};
-ghost use Rattle.koth_service.specs.Answering.{AnswersBytes, IsAnswer, found_response};
+ghost use Rattle.koth_service.specs.Answering.{IsAnswer};
+ghost use Rattle.koth_service.specs.Connections.{AnswersOnceKnown, found_response};
 
 use crate::host::Host;
 use hill_store::Store;
@@ -20,7 +21,7 @@ where
     D: Device,
     A: Allocator + Copy,
     H: Host<D, A>,
-    ensures { IfOk result (AnswersBytes (H.shows host.now store.now) visit.now) }
+    ensures { IfOk result (AnswersOnceKnown (H.shows host.now store.now) visit.now) }
 {
     match visit.asked() {
         Some(asked) => Ok(Some(answer(alloc, store, host, asked)?)),

@@ -30,7 +30,7 @@ where
     A: Allocator + Copy,
     H: Host<D, A>,
     E: Write,
-    ensures served { KeepsOn S.happened D.facts sockets.old desk.old sockets.new desk.new }
+    ensures served { KeepsOn S.happened D.facts (H.shows host.now) sockets.old desk.old sockets.new desk.new }
     ensures told { Grows (E.contents errors.old) (E.contents errors.new) }
 {
     for _arrival in 0..ARRIVALS {
@@ -63,7 +63,7 @@ where
     A: Allocator + Copy,
     H: Host<D, A>,
     E: Write,
-    ensures served { KeepsOn S.happened D.facts sockets.old desk.old sockets.new desk.new }
+    ensures served { KeepsOn S.happened D.facts (H.shows host.now) sockets.old desk.old sockets.new desk.new }
     ensures told { Grows (E.contents errors.old) (E.contents errors.new) }
 {
     desk.is_busy = true;

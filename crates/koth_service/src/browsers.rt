@@ -1,11 +1,25 @@
-//! What each browser asks, and the answer to it.
+//! What each browser asks, and the answer to it. Whatever the sockets say of a browser, it goes on as `served` says of the whole service: each function
+//! says so of the connections that it moves, however the peers and the other browsers stand.
 
-ghost use Rattle.koth_service.specs.Noted.{Stays};
+ghost use Rattle.std.specs.Prelude.{[], None, Some};
+ghost use Rattle.hill_store.specs.Seen.{Seen};
+ghost use Rattle.koth_service.specs.Connections.{
+  BrowsersGoOn,
+  ClosesUnless,
+  ComesTo,
+  IsFree,
+  MovesOn,
+  StaysAt,
+  stage_after,
+  stage_in,
+};
+ghost use Rattle.koth_service.specs.declared.connections.Stage.TheVariants as stages;
 
 use crate::answering::answer_visit;
 use crate::connections::{Browsers, Connection, Stage};
 use crate::host::Host;
 use crate::sockets::{Arrival, Came, Sockets, Went};
+use crate::unsent::Unsent;
 use hill_store::Store;
 use koth_http::Visit;
 use sector_disk::Device;
@@ -16,7 +30,7 @@ const CHUNK: usize = 4096;
 
 /// What became of a connection.
 #[derive(Drop)]
-enum Moved<A: Allocator> {
+pub(crate) enum Moved<A: Allocator> {
     /// It came to its next stage.
     Next(Stage<A>),
     /// It is at the same stage, and something came or went.
@@ -50,17 +64,19 @@ where
     D: Device,
     A: Allocator + Copy,
     H: Host<D, A>,
-    ensures { Stays S.happened sockets.old sockets.new }
+    ensures { BrowsersGoOn S.happened D.facts (H.shows host.now) store.now sockets.old browsers.old sockets.new browsers.new }
 {
-    let mut round = admit(browsers, sockets, now);
+    let mut round = admit::<S, D, A, H>(browsers, sockets, now);
     let mut has_answered = false;
     for place in 0..browsers.len() {
         let number = browsers.number(place);
         let asks = browsers.is_asking(number);
-        if !(asks && has_answered) {
-            round.moved |= move_on(browsers, sockets, store, host, number, now);
-            has_answered |= asks && !browsers.is_asking(number);
+        if asks && has_answered {
+            continue;
         }
+        let has_moved = move_on(browsers, sockets, store, host, number, now);
+        round.moved |= has_moved;
+        has_answered |= asks && !browsers.is_asking(number);
     }
     if has_answered {
         browsers.pass_turn();
@@ -68,12 +84,14 @@ where
     round
 }
 
-/// Takes one connection that waits, if a number is free.
-fn admit<S, A>(browsers: &mut Browsers<A>, sockets: &mut S, now: u64) -> BrowsersRound
+/// Takes one connection that waits, if a number is free. It is closed if there is no memory for its request.
+fn admit<S, D, A, H>(browsers: &mut Browsers<A>, sockets: &mut S, now: u64) -> BrowsersRound
 where
     S: Sockets,
+    D: Device,
     A: Allocator + Copy,
-    ensures { Stays S.happened sockets.old sockets.new }
+    H: Host<D, A>,
+    ensures { (store : Seen D) (host : H) → BrowsersGoOn S.happened D.facts (H.shows host) store sockets.old browsers.old sockets.new browsers.new }
 {
     let Some(number) = browsers.free() else {
         return BrowsersRound {
@@ -81,32 +99,56 @@ where
             retries: false,
         };
     };
-    let arrival = sockets.admit_browser(number);
-    if let Arrival::Peer(_) = arrival {
-        begin(browsers, sockets, number, now);
-    }
-    BrowsersRound {
-        moved: matches!(arrival, Arrival::Peer(_)),
-        retries: arrival == Arrival::Failed,
+    match sockets.admit_browser(number) {
+        Arrival::Peer(_) => {
+            let connection = begun(browsers.alloc, now);
+            settle(browsers, sockets, number, connection);
+            BrowsersRound {
+                moved: true,
+                retries: false,
+            }
+        }
+        Arrival::Nobody => BrowsersRound {
+            moved: false,
+            retries: false,
+        },
+        Arrival::Failed => BrowsersRound {
+            moved: false,
+            retries: true,
+        },
     }
 }
 
-/// Puts the connection that was taken under its number. It is closed if there is no memory for its request.
-fn begin<S, A>(browsers: &mut Browsers<A>, sockets: &mut S, number: usize, now: u64)
+/// A connection of which nothing came yet, or none if there is no memory for its request.
+fn begun<A: Allocator + Copy>(alloc: A, now: u64) -> Option<Connection<A>>
+    ensures { StaysAt (stages.Asking []) result }
+{
+    match Visit::new(alloc) {
+        Ok(visit) => Some(Connection {
+            stage: Stage::Asking(visit),
+            since: now,
+        }),
+        Err(AllocError) => None,
+    }
+}
+
+/// Puts the connection that this number is for under it. Its socket is closed if there is none any more: then the number stays free.
+fn settle<S, A>(
+    browsers: &mut Browsers<A>,
+    sockets: &mut S,
+    number: usize,
+    connection: Option<Connection<A>>,
+)
 where
     S: Sockets,
-    A: Allocator + Copy,
-    ensures { Stays S.happened sockets.old sockets.new }
+    A: Allocator,
+    requires { IsFree browsers.old.connections.items number }
+    ensures comes { ComesTo number (stage_in connection) browsers.old.connections.items browsers.new.connections.items }
+    ensures closes { ClosesUnless S.happened number connection sockets.old sockets.new }
 {
-    match Visit::new(browsers.alloc) {
-        Ok(visit) => browsers.put(
-            number,
-            Some(Connection {
-                stage: Stage::Asking(visit),
-                since: now,
-            }),
-        ),
-        Err(AllocError) => sockets.close_browser(number),
+    match connection {
+        Some(connection) => browsers.put(number, connection),
+        None => sockets.close_browser(number),
     }
 }
 
@@ -124,49 +166,30 @@ where
     D: Device,
     A: Allocator + Copy,
     H: Host<D, A>,
-    ensures { Stays S.happened sockets.old sockets.new }
+    ensures { BrowsersGoOn S.happened D.facts (H.shows host.now) store.now sockets.old browsers.old sockets.new browsers.new }
 {
     let Some(connection) = browsers.take(number) else {
         return false;
     };
     let Connection { stage, since } = connection;
-    match after_stage(browsers.alloc, sockets, store, host, number, stage) {
-        Moved::Next(stage) => {
-            browsers.put(number, Some(Connection { stage, since: now }));
-            true
-        }
-        Moved::On(stage) => {
-            stay(browsers, sockets, number, Connection { stage, since }, now);
-            true
-        }
-        Moved::Still(stage) => stay(browsers, sockets, number, Connection { stage, since }, now),
-        Moved::Over => {
-            sockets.close_browser(number);
-            true
-        }
-    }
+    let moved = after_stage(browsers.alloc, sockets, store, host, number, stage);
+    let is_still = matches!(moved, Moved::Still(_));
+    let kept = kept_after(moved, since, now);
+    let is_kept = kept.is_some();
+    settle(browsers, sockets, number, kept);
+    !(is_still && is_kept)
 }
 
-/// Keeps a connection at its stage, unless it has been there for too long: then it is closed, and its number is free.
-fn stay<S, A>(
-    browsers: &mut Browsers<A>,
-    sockets: &mut S,
-    number: usize,
-    connection: Connection<A>,
-    now: u64,
-) -> bool
-where
-    S: Sockets,
-    A: Allocator,
-    ensures { Stays S.happened sockets.old sockets.new }
+/// The connection that was at its stage since this time, where it has come to now, unless it is at its end, or has been at its stage for too long.
+fn kept_after<A: Allocator>(moved: Moved<A>, since: u64, now: u64) -> Option<Connection<A>>
+    ensures { StaysAt (stage_after moved) result }
 {
-    let passed = now.saturating_sub(connection.since);
-    if passed < connection.stage.patience() {
-        browsers.put(number, Some(connection));
-        return false;
+    match moved {
+        Moved::Next(stage) => Some(Connection { stage, since: now }),
+        Moved::On(stage) => Connection { stage, since }.in_time(now),
+        Moved::Still(stage) => Connection { stage, since }.in_time(now),
+        Moved::Over => None,
     }
-    sockets.close_browser(number);
-    true
 }
 
 /// What becomes of a connection at this stage.
@@ -183,12 +206,12 @@ where
     D: Device,
     A: Allocator + Copy,
     H: Host<D, A>,
-    ensures { Stays S.happened sockets.old sockets.new }
+    ensures { MovesOn S.happened D.facts (H.shows host.now) store.now number sockets.old (Some stage) sockets.new (Some (stage_after result)) }
 {
     match stage {
         Stage::Asking(visit) => read(alloc, sockets, store, host, number, visit),
-        Stage::Answering(answer, sent) => write(sockets, number, answer, sent),
-        Stage::Parting => drain(sockets, number),
+        Stage::Answering(unsent) => write::<S, D, A, H>(sockets, number, unsent),
+        Stage::Parting => drain::<S, D, A, H>(sockets, number),
     }
 }
 
@@ -206,7 +229,7 @@ where
     D: Device,
     A: Allocator + Copy,
     H: Host<D, A>,
-    ensures { Stays S.happened sockets.old sockets.new }
+    ensures { MovesOn S.happened D.facts (H.shows host.now) store.now number sockets.old (Some (stages.Asking visit)) sockets.new (Some (stage_after result)) }
 {
     let mut visit = visit;
     let mut chunk = [0; CHUNK];
@@ -215,7 +238,7 @@ where
         Came::Bytes(count) => {
             visit.take(&bytes[..count]);
             match answer_visit(alloc, store, host, &visit) {
-                Ok(Some(answer)) => Moved::Next(Stage::Answering(answer, 0)),
+                Ok(Some(answer)) => Moved::Next(Stage::Answering(Unsent::new(answer))),
                 Ok(None) => Moved::On(Stage::Asking(visit)),
                 Err(AllocError) => Moved::Over,
             }
@@ -225,30 +248,39 @@ where
     }
 }
 
-/// Sends what the browser takes of an answer, of which so many bytes went out.
-fn write<S: Sockets, A: Allocator>(
-    sockets: &mut S,
-    number: usize,
-    answer: Vec<u8, A>,
-    sent: usize,
-) -> Moved<A>
-    ensures { Stays S.happened sockets.old sockets.new }
+/// Sends what the browser takes of its answer.
+fn write<S, D, A, H>(sockets: &mut S, number: usize, unsent: Unsent<A>) -> Moved<A>
+where
+    S: Sockets,
+    D: Device,
+    A: Allocator,
+    H: Host<D, A>,
+    ensures { (store : Seen D) (host : H) → MovesOn S.happened D.facts (H.shows host) store number sockets.old (Some (stages.Answering unsent)) sockets.new (Some (stage_after result)) }
 {
-    let rest = answer.get(sent..).unwrap_or(&[]);
-    if rest.is_empty() {
+    let mut unsent = unsent;
+    let bytes = unsent.as_slice();
+    if bytes.is_empty() {
         sockets.shut_browser(number);
         return Moved::Next(Stage::Parting);
     }
-    match sockets.write_browser(number, rest) {
-        Went::Bytes(count) => Moved::On(Stage::Answering(answer, sent.saturating_add(count))),
-        Went::Nothing => Moved::Still(Stage::Answering(answer, sent)),
+    match sockets.write_browser(number, bytes) {
+        Went::Bytes(count) => {
+            unsent.pass(count);
+            Moved::On(Stage::Answering(unsent))
+        }
+        Went::Nothing => Moved::Still(Stage::Answering(unsent)),
         Went::Gone => Moved::Over,
     }
 }
 
 /// Throws away what still comes.
-fn drain<S: Sockets, A: Allocator>(sockets: &mut S, number: usize) -> Moved<A>
-    ensures { Stays S.happened sockets.old sockets.new }
+fn drain<S, D, A, H>(sockets: &mut S, number: usize) -> Moved<A>
+where
+    S: Sockets,
+    D: Device,
+    A: Allocator,
+    H: Host<D, A>,
+    ensures { (store : Seen D) (host : H) → MovesOn S.happened D.facts (H.shows host) store number sockets.old (Some stages.Parting) sockets.new (Some (stage_after result)) }
 {
     let mut chunk = [0; CHUNK];
     match sockets.read_browser(number, &mut chunk) {

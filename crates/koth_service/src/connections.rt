@@ -1,6 +1,10 @@
 //! Connections of browsers, and how long each is waited for.
 
+ghost use Rattle.std.specs.Prelude.{◌≡◌, ℕ, ◌<◌, None, Some, length, IfOk, IfSome};
+ghost use Rattle.koth_service.specs.Connections.{ComesTo, IsFree, StaysAt, stage_at, stage_in};
+
 use crate::times::{ANSWERING, ASKING, DRAIN};
+use crate::unsent::Unsent;
 use koth_http::Visit;
 use std::alloc::{AllocError, Allocator};
 
@@ -17,8 +21,8 @@ pub(crate) struct Connection<A: Allocator> {
 pub(crate) enum Stage<A: Allocator> {
     /// Its request comes.
     Asking(Visit<A>),
-    /// So many bytes of the answer went out.
-    Answering(Vec<u8, A>, usize),
+    /// Its answer goes out.
+    Answering(Unsent<A>),
     /// The answer went out whole, and what still comes is thrown away.
     Parting,
 }
@@ -34,7 +38,9 @@ pub(crate) struct Browsers<A: Allocator> {
 
 impl<A: Allocator + Copy> Browsers<A> {
     /// No connections, of which so many may be at once. `AllocError` comes if the growth of memory is refused.
-    pub(crate) fn new(alloc: A, most: usize) -> Result<Browsers<A>, AllocError> {
+    pub(crate) fn new(alloc: A, most: usize) -> Result<Browsers<A>, AllocError>
+        ensures { IfOk result (λ browsers. (p : ℕ) → stage_at browsers.connections.items p ≡ None) }
+    {
         let mut connections = Vec::with_capacity(alloc, most)?;
         for _number in 0..most {
             connections.push(None)?;
@@ -48,7 +54,9 @@ impl<A: Allocator + Copy> Browsers<A> {
 }
 
 impl<A: Allocator> Browsers<A> {
-    pub(crate) fn len(&self) -> usize {
+    pub(crate) fn len(&self) -> usize
+        ensures { result ≡ length self.now.connections.items }
+    {
         self.connections.len()
     }
 
@@ -63,7 +71,9 @@ impl<A: Allocator> Browsers<A> {
     }
 
     /// The turn is the next number's.
-    pub(crate) fn pass_turn(&mut self) {
+    pub(crate) fn pass_turn(&mut self)
+        ensures { self.new.connections ≡ self.old.connections }
+    {
         self.turn = self.number(1);
     }
 
@@ -76,23 +86,32 @@ impl<A: Allocator> Browsers<A> {
     }
 
     /// Takes a connection away from its number.
-    pub(crate) fn take(&mut self, number: usize) -> Option<Connection<A>> {
-        match self.connections.get_mut(number) {
-            Some(place) => place.take(),
-            None => None,
+    pub(crate) fn take(&mut self, number: usize) -> Option<Connection<A>>
+        ensures taken { stage_in result ≡ stage_at self.old.connections.items number }
+        ensures comes { ComesTo number None self.old.connections.items self.new.connections.items }
+        ensures within { IfSome result (λ _. number < length self.new.connections.items) }
+    {
+        if number < self.connections.len() {
+            self.connections[number].take()
+        } else {
+            None
         }
     }
 
-    pub(crate) fn put(&mut self, number: usize, connection: Option<Connection<A>>) {
-        if let Some(place) = self.connections.get_mut(number) {
-            *place = connection;
-        }
+    /// Puts a connection under a number.
+    pub(crate) fn put(&mut self, number: usize, connection: Connection<A>)
+        requires { number < length self.old.connections.items }
+        ensures { ComesTo number (Some connection.stage) self.old.connections.items self.new.connections.items }
+    {
+        self.connections[number] = Some(connection);
     }
 
     /// The first number that no connection has.
-    pub(crate) fn free(&self) -> Option<usize> {
-        for (number, connection) in self.connections.iter().enumerate() {
-            if connection.is_none() {
+    pub(crate) fn free(&self) -> Option<usize>
+        ensures { IfSome result (IsFree self.now.connections.items) }
+    {
+        for number in 0..self.connections.len() {
+            if self.connections[number].is_none() {
                 return Some(number);
             }
         }
@@ -112,12 +131,26 @@ impl<A: Allocator> Browsers<A> {
     }
 }
 
+impl<A: Allocator> Connection<A> {
+    /// The same connection, unless it has been at its stage for too long.
+    pub(crate) fn in_time(self, now: u64) -> Option<Connection<A>>
+        ensures { StaysAt self.stage result }
+    {
+        let passed = now.saturating_sub(self.since);
+        if passed < self.stage.patience() {
+            Some(self)
+        } else {
+            None
+        }
+    }
+}
+
 impl<A: Allocator> Stage<A> {
     /// Milliseconds that it may last.
     pub(crate) fn patience(&self) -> u64 {
         match self {
             Stage::Asking(_) => ASKING,
-            Stage::Answering(_, _) => ANSWERING,
+            Stage::Answering(_) => ANSWERING,
             Stage::Parting => DRAIN,
         }
     }

@@ -1,6 +1,8 @@
 //! Peers whose sessions have ended, or that were silent for too long.
 #![tactic(auto, using(crate::proofs::Told::stays))]
 
+ghost use Rattle.std.specs.Prelude.{◌≡◌};
+ghost use Rattle.koth_service.specs.Noted.{Stays};
 ghost use Rattle.koth_service.specs.Standing.{KeepsOn};
 ghost use Rattle.koth_service.specs.Told.{Grows};
 
@@ -28,7 +30,7 @@ where
     A: Allocator + Copy,
     H: Host<D, A>,
     E: Write,
-    ensures served { KeepsOn S.happened D.facts sockets.old desk.old sockets.new desk.new }
+    ensures served { KeepsOn S.happened D.facts (H.shows host.now) sockets.old desk.old sockets.new desk.new }
     ensures told { Grows (E.contents errors.old) (E.contents errors.new) }
 {
     for number in 0..desk.seats.len() {
@@ -51,7 +53,7 @@ where
     A: Allocator + Copy,
     H: Host<D, A>,
     E: Write,
-    ensures served { KeepsOn S.happened D.facts sockets.old desk.old sockets.new desk.new }
+    ensures served { KeepsOn S.happened D.facts (H.shows host.now) sockets.old desk.old sockets.new desk.new }
     ensures told { Grows (E.contents errors.old) (E.contents errors.new) }
 {
     let Some(seat) = desk.seats.at(number) else {
@@ -100,7 +102,9 @@ where
     S: Sockets,
     D: Device,
     A: Allocator + Copy,
-    ensures { KeepsOn S.happened D.facts sockets.old desk.old sockets.new desk.new }
+    ensures stays { Stays S.happened sockets.old sockets.new }
+    ensures peers { desk.new.peers ≡ desk.old.peers }
+    ensures store { desk.new.store ≡ desk.old.store }
 {
     let count = match sockets.drain(number) {
         Drained::Bytes(more) => {

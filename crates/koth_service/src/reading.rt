@@ -28,7 +28,7 @@ where
     A: Allocator + Copy,
     H: Host<D, A>,
     E: Write,
-    ensures served { KeepsOn S.happened D.facts sockets.old desk.old sockets.new desk.new }
+    ensures served { KeepsOn S.happened D.facts (H.shows host.now) sockets.old desk.old sockets.new desk.new }
     ensures told { Grows (E.contents errors.old) (E.contents errors.new) }
 {
     for number in 0..desk.seats.len() {
@@ -51,7 +51,7 @@ where
     A: Allocator + Copy,
     H: Host<D, A>,
     E: Write,
-    ensures served { KeepsOn S.happened D.facts sockets.old desk.old sockets.new desk.new }
+    ensures served { KeepsOn S.happened D.facts (H.shows host.now) sockets.old desk.old sockets.new desk.new }
     ensures told { Grows (E.contents errors.old) (E.contents errors.new) }
 {
     let room = desk.peers.room(number);

@@ -25,7 +25,7 @@ where
     A: Allocator + Copy,
     H: Host<D, A>,
     E: Write,
-    ensures served { KeepsOn S.happened D.facts sockets.old desk.old sockets.new desk.new }
+    ensures served { KeepsOn S.happened D.facts (H.shows host.now) sockets.old desk.old sockets.new desk.new }
     ensures told { Grows (E.contents errors.old) (E.contents errors.new) }
 {
     for number in 0..desk.seats.len() {
@@ -48,7 +48,7 @@ where
     A: Allocator + Copy,
     H: Host<D, A>,
     E: Write,
-    ensures served { KeepsOn S.happened D.facts sockets.old desk.old sockets.new desk.new }
+    ensures served { KeepsOn S.happened D.facts (H.shows host.now) sockets.old desk.old sockets.new desk.new }
     ensures told { Grows (E.contents errors.old) (E.contents errors.new) }
 {
     let unsent = desk.peers.unsent(number);

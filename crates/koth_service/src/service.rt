@@ -2,7 +2,9 @@
 #![tactic(auto, using(crate::proofs::Told::stays))]
 
 ghost use Rattle.std.specs.Prelude.{◌≡◌, false, IfOk};
-ghost use Rattle.koth_service.specs.Standing.{IsSoundAfter, KeepsOn, KeepsOnBy, ServesPeers};
+ghost use Rattle.koth_service.specs.Noted.{Stays};
+ghost use Rattle.koth_service.specs.Connections.{AllGoOn};
+ghost use Rattle.koth_service.specs.Standing.{IsSoundAfter, KeepsOnBy, ServesPeers};
 ghost use Rattle.koth_service.specs.Told.{Grows};
 
 use crate::arrivals::take_arrivals;
@@ -36,7 +38,7 @@ pub enum ServiceFault<F> {
 /// A peer that connects while as many are there as may be waits until one of them is let go. A peer is let go when its session has ended
 /// and its answers went out, or 60 seconds after the last byte came of it or went out to it, or as soon as its answers have no room. If the
 /// device fails in a submission, the store is closed, and the host opens the hill again. So many browsers may be at once, none of which is a peer:
-/// each is answered one request, with a page of the hill that stands then.
+/// each is answered one request, with a page of the hill that stands then. `served` speaks of peers and of browsers.
 pub fn serve_peers<S, D, A, H, E>(
     alloc: A,
     sockets: &mut S,
@@ -54,7 +56,7 @@ where
     H: Host<D, A>,
     E: Write,
     requires { store.reopen ≡ false }
-    ensures served { ServesPeers S.happened D.facts store sockets.old sockets.new }
+    ensures served { ServesPeers S.happened D.facts (H.shows host.now) store sockets.old sockets.new }
     ensures told { Grows (E.contents errors.old) (E.contents errors.new) }
 {
     let mut desk = match Desk::new(alloc, most, connections.map(u64::from), store) {
@@ -93,7 +95,7 @@ where
     A: Allocator + Copy,
     H: Host<D, A>,
     E: Write,
-    ensures served { KeepsOn S.happened D.facts sockets.old desk.old sockets.new desk.new }
+    ensures served { AllGoOn S.happened D.facts (H.shows host.now) sockets.old desk.old browsers.old sockets.new desk.new browsers.new }
     ensures told { Grows (E.contents errors.old) (E.contents errors.new) }
 {
     let now = sockets.now();
@@ -118,7 +120,7 @@ where
     A: Allocator + Copy,
     H: Host<D, A>,
     E: Write,
-    ensures served { KeepsOnBy S.happened D.facts result sockets.old desk.old sockets.new desk.new }
+    ensures served { KeepsOnBy S.happened D.facts (H.shows host.now) result sockets.old desk.old sockets.new desk.new }
     ensures told { Grows (E.contents errors.old) (E.contents errors.new) }
 {
     wait(desk, browsers, sockets);
@@ -134,7 +136,9 @@ where
     S: Sockets,
     D: Device,
     A: Allocator + Copy,
-    ensures { KeepsOn S.happened D.facts sockets.old desk.old sockets.new desk.new }
+    ensures stays { Stays S.happened sockets.old sockets.new }
+    ensures peers { desk.new.peers ≡ desk.old.peers }
+    ensures store { desk.new.store ≡ desk.old.store }
 {
     let now = sockets.now();
     let until = desk.seats.until(now).min(browsers.until(now));

@@ -26,7 +26,7 @@ where
     A: Allocator + Copy,
     H: Host<D, A>,
     E: Write,
-    ensures served { KeepsOnBy S.happened D.facts result sockets.old desk.old sockets.new desk.new }
+    ensures served { KeepsOnBy S.happened D.facts (H.shows host.now) result sockets.old desk.old sockets.new desk.new }
     ensures told { Grows (E.contents errors.old) (E.contents errors.new) }
 {
     let step = desk.peers.serve_next(&mut desk.store);

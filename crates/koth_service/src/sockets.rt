@@ -1,7 +1,7 @@
 //! What sockets may say.
 
-ghost use Rattle.std.specs.Prelude.{ℕ, List, ◌∷◌};
-ghost use Rattle.koth_service.specs.Noted.{CameWithin, Noted, Reads, Stays, WentWithin, Writes};
+ghost use Rattle.std.specs.Prelude.{ℕ, List};
+ghost use Rattle.koth_service.specs.Noted.{Adds, Admits, Noted, Reads, Stays, Writes};
 
 use std::net::SocketAddr;
 
@@ -51,9 +51,9 @@ pub enum Drained {
     End,
 }
 
-/// Sockets of peers by their numbers, none of whose calls but `wait` waits.
+/// Sockets of peers by their numbers, and of browsers by numbers of their own, none of whose calls but `wait` waits.
 pub trait Sockets {
-    // What happened on them, the latest first, as far as they keep it: a history that is true of them stays true of them as it goes on.
+    // What happened on them, with peers and with browsers, the latest first, as far as they keep it: a history that is true of them stays true of them as it goes on.
     ghost happened: { Self → List Noted → Type 0 };
 
     /// Milliseconds since some moment in the past. They don't go back.
@@ -70,7 +70,7 @@ pub trait Sockets {
 
     /// Puts the one that was accepted last under this number. It sends small answers at once.
     fn seat(&mut self, number: usize)
-        ensures { (log : List Noted) → Self.happened self.old log → Self.happened self.new (Noted.Seated number ∷ log) };
+        ensures { Adds Self.happened (Noted.Seated number) self.old self.new };
 
     /// Closes the one that was accepted last.
     fn refuse(&mut self)
@@ -78,11 +78,11 @@ pub trait Sockets {
 
     /// Reads from the peer of this number.
     fn read(&mut self, number: usize, bytes: &mut [u8]) -> Came
-        ensures { Reads Self.happened number self.old bytes.new result self.new };
+        ensures { Reads Self.happened (Noted.Heard number) self.old bytes.new result self.new };
 
     /// Writes to the peer of this number.
     fn write(&mut self, number: usize, bytes: &[u8]) -> Went
-        ensures { Writes Self.happened number self.old bytes.now result self.new };
+        ensures { Writes Self.happened (Noted.Told number) self.old bytes.now result self.new };
 
     /// Tells the peer of this number that no more will go out to it. What went out still reaches it.
     fn shut(&mut self, number: usize)
@@ -94,24 +94,20 @@ pub trait Sockets {
 
     /// Closes the socket of this number.
     fn close(&mut self, number: usize)
-        ensures { (log : List Noted) → Self.happened self.old log → Self.happened self.new (Noted.Closed number ∷ log) };
-
-    // Of browsers nothing is kept: what happened is of peers alone.
+        ensures { Adds Self.happened (Noted.Closed number) self.old self.new };
 
     /// Takes a connection of a browser that waits, and puts it under this number of the browsers'. Its address is told. Nothing is put there if it
     /// failed for now.
     fn admit_browser(&mut self, number: usize) -> Arrival
-        ensures { Stays Self.happened self.old self.new };
+        ensures { Admits Self.happened number self.old result self.new };
 
     /// Reads from the browser of this number.
     fn read_browser(&mut self, number: usize, bytes: &mut [u8]) -> Came
-        ensures stays { Stays Self.happened self.old self.new }
-        ensures within { CameWithin result bytes.new };
+        ensures { Reads Self.happened (Noted.Requested number) self.old bytes.new result self.new };
 
     /// Writes to the browser of this number.
     fn write_browser(&mut self, number: usize, bytes: &[u8]) -> Went
-        ensures stays { Stays Self.happened self.old self.new }
-        ensures within { WentWithin result bytes.now };
+        ensures { Writes Self.happened (Noted.Shown number) self.old bytes.now result self.new };
 
     /// Tells the browser of this number that no more will go out to it. What went out still reaches it.
     fn shut_browser(&mut self, number: usize)
@@ -119,5 +115,5 @@ pub trait Sockets {
 
     /// Closes the socket of the browser of this number.
     fn close_browser(&mut self, number: usize)
-        ensures { Stays Self.happened self.old self.new };
+        ensures { Adds Self.happened (Noted.Left number) self.old self.new };
 }

@@ -4,5 +4,5 @@ use Rattle.koth_service.specs.Standing.{KeepsOn}
 use Rattle.koth_service.proofs.arrivals.take_arrivals.Given as goal
 
 abbrev pub invariant-loop-arrival : goal.invariant-loop-arrival
-invariant-loop-arrival g l = (KeepsOn g.S.Sockets.happened g.D.Device.facts l.fn.sockets l.fn.desk l.sockets l.desk)
+invariant-loop-arrival g l = (KeepsOn g.S.Sockets.happened g.D.Device.facts (g.H.Host.shows l.fn.host) l.fn.sockets l.fn.desk l.sockets l.desk)
     × Grows (g.E.Write.contents l.initial.errors) (g.E.Write.contents l.errors)

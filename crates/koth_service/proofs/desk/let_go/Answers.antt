@@ -2,6 +2,6 @@ use Rattle.koth_service.proofs.Steps.{left}
 use Rattle.koth_service.proofs.desk.let_go.Goals as goal
 
 pub returns-clause-served : goal.returns-clause-served
-returns-clause-served g c = λ start on.
-    left g.S.Sockets.happened g.D.Device.facts start c.args.sockets.now c.close.new.self c.args.desk.now.peers.slots.items c.leave.new.self.slots.items _ c.args.number
+returns-clause-served g c = λ start browsers on.
+    left g.S.Sockets.happened g.D.Device.facts (g.H.Host.shows c.args.host.now) start browsers c.args.sockets.now c.close.new.self c.args.desk.now.peers.slots.items c.leave.new.self.slots.items _ c.args.number
     c.leave.ensures.only c.leave.ensures.at c.close.ensures on

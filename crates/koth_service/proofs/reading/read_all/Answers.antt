@@ -4,4 +4,4 @@ use Rattle.koth_service.proofs.reading.read_all.Goals as goal
 
 pub loop-number-preserved : goal.loop-number-preserved
 loop-number-preserved g c =
-    (λ start on. c.read_from.ensures.served start (c.loop-number.invariant.0 start on), grows_on _ _ _ c.loop-number.invariant.1 c.read_from.ensures.told)
+    (λ start browsers on. c.read_from.ensures.served start browsers (c.loop-number.invariant.0 start browsers on), grows_on _ _ _ c.loop-number.invariant.1 c.read_from.ensures.told)

@@ -3,11 +3,11 @@ use Rattle.koth_service.proofs.Steps.{came, closed}
 use Rattle.koth_service.proofs.reading.read_from.Goals as goal
 
 pub returns-in-Bytes-clause-served : goal.returns-in-Bytes-clause-served
-returns-in-Bytes-clause-served g c = λ start on.
-    came g.S.Sockets.happened g.D.Device.facts start c.args.sockets.now c.read.new.self c.args.desk.now.peers.slots.items c.take.new.self.slots.items _ c.args.number
+returns-in-Bytes-clause-served g c = λ start browsers on.
+    came g.S.Sockets.happened g.D.Device.facts (g.H.Host.shows c.args.host.now) start browsers c.args.sockets.now c.read.new.self c.args.desk.now.peers.slots.items c.take.new.self.slots.items _ c.args.number
     (take c.in-Bytes.count c.read.new.bytes) c.take.ensures.takes c.in-Bytes.ensures.1 on
 
 pub returns-in-End-clause-served : goal.returns-in-End-clause-served
-returns-in-End-clause-served g c = λ start on.
-    closed g.S.Sockets.happened g.D.Device.facts start c.args.sockets.now c.read.new.self c.args.desk.now.peers.slots.items c.close.new.self.slots.items _ c.args.number
+returns-in-End-clause-served g c = λ start browsers on.
+    closed g.S.Sockets.happened g.D.Device.facts (g.H.Host.shows c.args.host.now) start browsers c.args.sockets.now c.read.new.self c.args.desk.now.peers.slots.items c.close.new.self.slots.items _ c.args.number
     c.close.ensures.closes c.in-End.ensures on

@@ -4,4 +4,4 @@ use Rattle.koth_service.proofs.sending.send_all.Goals as goal
 
 pub loop-number-preserved : goal.loop-number-preserved
 loop-number-preserved g c =
-    (λ start on. c.send_to.ensures.served start (c.loop-number.invariant.0 start on), grows_on _ _ _ c.loop-number.invariant.1 c.send_to.ensures.told)
+    (λ start browsers on. c.send_to.ensures.served start browsers (c.loop-number.invariant.0 start browsers on), grows_on _ _ _ c.loop-number.invariant.1 c.send_to.ensures.told)

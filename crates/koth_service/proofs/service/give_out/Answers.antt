@@ -1,4 +1,5 @@
--- What is told of the one stands behind what is told of the other, and browsers change nothing of peers.
+-- What is told of the one stands behind what is told of the other, and browsers go on behind the peers.
+use Rattle.koth_service.specs.Connections.{stage_at}
 use Rattle.koth_service.proofs.Steps.{stays}
 use Rattle.koth_service.proofs.Told.{grows_on}
 use Rattle.koth_service.proofs.service.give_out.Goals as goal
@@ -8,6 +9,7 @@ returns-clause-told g c = grows_on _ _ _ c.send_all.ensures.told c.part_all.ensu
 
 pub returns-clause-served : goal.returns-clause-served
 returns-clause-served g c = λ start on.
-    stays g.S.Sockets.happened g.D.Device.facts start c.part_all.new.sockets c.serve_browsers-round.new.sockets c.part_all.new.desk.peers.slots.items c.part_all.new.desk.store c.serve_browsers-round.ensures
-    (c.part_all.ensures.served start (c.send_all.ensures.served start (
-    stays g.S.Sockets.happened g.D.Device.facts start c.args.sockets.now c.now-now.new.self c.args.desk.now.peers.slots.items c.args.desk.now.store c.now-now.ensures on)))
+    let browsers = stage_at c.args.browsers.now.connections.items in
+    c.serve_browsers-round.ensures start c.part_all.new.desk.peers.slots.items
+    (c.part_all.ensures.served start browsers (c.send_all.ensures.served start browsers (
+    stays g.S.Sockets.happened g.D.Device.facts (g.H.Host.shows c.args.host.now) start browsers c.args.sockets.now c.now-now.new.self c.args.desk.now.peers.slots.items c.args.desk.now.store c.now-now.ensures on)))

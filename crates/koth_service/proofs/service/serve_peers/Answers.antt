@@ -1,30 +1,33 @@
 -- Round after round.
+use Rattle.koth_service.specs.Connections.{stage_at}
 use Rattle.koth_service.proofs.Steps.{begun, so_far_after, so_far_on, sound_after}
 use Rattle.koth_service.proofs.Told.{grows_on, stays}
 use Rattle.koth_service.proofs.service.serve_peers.Goals as goal
 
 pub loop-round-init : goal.loop-round-init
-loop-round-init g c =
-    (λ none. begun g.S.Sockets.happened g.D.Device.facts c.args.store c.args.sockets.now c.in-Ok.desk.peers.slots.items c.in-Ok.desk.store c.in-Ok.ensures.store c.in-Ok.ensures.nobody none, stays _)
+loop-round-init g c = (
+  λ none. begun g.S.Sockets.happened g.D.Device.facts (g.H.Host.shows c.args.host.now) c.args.store (stage_at c.in-Ok-new.browsers.connections.items) c.args.sockets.now c.in-Ok.desk.peers.slots.items c.in-Ok.desk.store c.in-Ok.ensures.store c.in-Ok.ensures.nobody c.in-Ok-new.ensures none,
+  stays _,
+)
 
 pub returns-then-are_done-clause-served : goal.returns-then-are_done-clause-served
-returns-then-are_done-clause-served g c = λ none. so_far_on g.S.Sockets.happened g.D.Device.facts _ _ _ _ (c.give_out.ensures.served _ (c.loop-round.invariant.0 none))
+returns-then-are_done-clause-served g c = λ none. so_far_on g.S.Sockets.happened g.D.Device.facts (g.H.Host.shows c.args.host.now) _ _ _ _ _ (c.give_out.ensures.served _ (c.loop-round.invariant.0 none))
 
 pub returns-then-are_done-clause-told : goal.returns-then-are_done-clause-told
 returns-then-are_done-clause-told g c = grows_on _ _ _ c.loop-round.invariant.1 c.give_out.ensures.told
 
 pub returns-in-Err-sound-clause-served : goal.returns-in-Err-sound-clause-served
 returns-in-Err-sound-clause-served g c = λ none.
-    so_far_after g.S.Sockets.happened g.D.Device.facts _ _ _ _ _ (c.take_in-step.ensures.served _ (c.give_out.ensures.served _ (c.loop-round.invariant.0 none)))
+    so_far_after g.S.Sockets.happened g.D.Device.facts (g.H.Host.shows c.args.host.now) _ _ _ _ _ _ (c.take_in-step.ensures.served _ _ (c.give_out.ensures.served _ (c.loop-round.invariant.0 none)))
 
 pub returns-in-Err-sound-clause-told : goal.returns-in-Err-sound-clause-told
 returns-in-Err-sound-clause-told g c = grows_on _ _ _ c.loop-round.invariant.1 (grows_on _ _ _ c.give_out.ensures.told c.take_in-step.ensures.told)
 
 pub loop-round-preserved : goal.loop-round-preserved
 loop-round-preserved g c = (
-  λ none. sound_after g.S.Sockets.happened g.D.Device.facts _ _ _ _ _ c.in-Ok-sound.ensures (c.take_in-step.ensures.served _ (c.give_out.ensures.served _ (c.loop-round.invariant.0 none))),
+  λ none. sound_after g.S.Sockets.happened g.D.Device.facts (g.H.Host.shows c.args.host.now) _ _ _ _ _ _ c.in-Ok-sound.ensures (c.take_in-step.ensures.served _ _ (c.give_out.ensures.served _ (c.loop-round.invariant.0 none))),
   grows_on _ _ _ c.loop-round.invariant.1 (grows_on _ _ _ c.give_out.ensures.told c.take_in-step.ensures.told),
 )
 
 pub returns-clause-served : goal.returns-clause-served
-returns-clause-served g c = λ none. so_far_on g.S.Sockets.happened g.D.Device.facts _ _ _ _ (c.loop-round.invariant.0 none)
+returns-clause-served g c = λ none. so_far_on g.S.Sockets.happened g.D.Device.facts (g.H.Host.shows c.args.host.now) _ _ _ _ _ (c.loop-round.invariant.0 none)

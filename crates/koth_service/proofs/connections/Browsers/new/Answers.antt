@@ -1,0 +1,13 @@
+-- One number more, which is free.
+use Rattle.std.proofs.Common.{◌≡◌, ℕ, zero, suc, [], ◌∷◌, ◌++◌, None, refl}
+use Rattle.koth_service.specs.Connections.{Connections, stage_at}
+use Rattle.koth_service.proofs.connections.Browsers.new.Goals as goal
+
+nobody_more : {A : Type 0} (places : Connections A) → ((p : ℕ) → stage_at places p ≡ None) → (p : ℕ) → stage_at (places ++ None ∷ []) p ≡ None
+nobody_more [] free zero = refl
+nobody_more [] free (suc p) = refl
+nobody_more (x ∷ xs) free zero = free zero
+nobody_more (x ∷ xs) free (suc p) = nobody_more xs (λ q. free (suc q)) p
+
+pub loop-number-preserved : goal.loop-number-preserved
+loop-number-preserved g c = rw c.in_ok-push.ensures.items (nobody_more c.loop-number.connections.items c.loop-number.invariant)

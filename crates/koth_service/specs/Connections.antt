@@ -1,0 +1,92 @@
+-- Of private contracts alone: connections of browsers by their numbers, and how they go on.
+use Rattle.std.specs.Prelude.{◌≡◌, ⊤, ℕ, ◌<◌, Bool, List, length, Option, None, Some, Result, Ok, Err, Vec, slice_index_or}
+use Rattle.std.specs.declared.alloc.AllocError.{AllocError}
+use Rattle.sector_disk.specs.Facts.{DeviceFacts}
+use Rattle.hill_store.specs.Seen.{Seen}
+use Rattle.koth_http.specs.Asked.{IsAsked}
+use Rattle.koth_http.specs.Response.{page_response, refusal_response}
+use Rattle.koth_http.specs.declared.refusal.Refusal.TheVariants as refusals
+use Rattle.koth_http.specs.declared.target.Page.{Page}
+use Rattle.koth_peers.specs.Peers.{Slots}
+use Rattle.koth_service.specs.Noted.{Adds, Noted, Stays}
+use Rattle.koth_service.specs.Answering.{AnswersBytes}
+use Rattle.koth_service.specs.History.{Shows, instead}
+use Rattle.koth_service.specs.Standing.{GoesOn}
+use Rattle.koth_service.specs.declared.browsers.Moved.{Moved}
+use Rattle.koth_service.specs.declared.browsers.Moved.TheVariants as moved
+use Rattle.koth_service.specs.declared.connections.Browsers.{Browsers}
+use Rattle.koth_service.specs.declared.connections.Connection.{Connection}
+use Rattle.koth_service.specs.declared.connections.Stage.{Stage}
+use Rattle.koth_service.specs.declared.connections.Stage.TheVariants as stages
+use Rattle.koth_service.specs.declared.desk.Desk.{Desk}
+
+-- ---- connections by their numbers
+
+abbrev pub Connections : Type 0 → Type 0
+Connections A = List (Option (Connection A))
+
+abbrev pub stage_in : {A : Type 0} → Option (Connection A) → Option (Stage A)
+stage_in None = None
+stage_in (Some connection) = Some connection.stage
+
+-- the stage of the connection of this number, if there is one
+abbrev pub stage_at : {A : Type 0} → Connections A → ℕ → Option (Stage A)
+stage_at connections p = stage_in (slice_index_or connections p None)
+
+abbrev pub IsFree : {A : Type 0} → Connections A → ℕ → Type 0
+IsFree connections n = (n < length connections) × (stage_at connections n ≡ None)
+
+-- the connection of this number is at this stage, or there is none, and the others are as they were
+pub record ComesTo {A : Type 0} (n : ℕ) (stage : Option (Stage A)) (old new : Connections A) : Type 0 where
+  pub size : length new ≡ length old
+  pub stages : (p : ℕ) → stage_at new p ≡ instead (stage_at old) n stage p
+
+-- ---- one connection
+
+-- where it stands then: nothing more goes out if it is over
+abbrev pub stage_after : {A : Type 0} → Moved A → Stage A
+stage_after (moved.Next stage) = stage
+stage_after (moved.On stage) = stage
+stage_after (moved.Still stage) = stage
+stage_after moved.Over = stages.Parting
+
+-- it stays at its stage, if it is kept
+abbrev pub StaysAt : {A : Type 0} → Stage A → Option (Connection A) → Type 0
+StaysAt stage None = ⊤
+StaysAt stage (Some connection) = connection.stage ≡ stage
+
+-- its socket is closed, unless it is kept
+abbrev pub ClosesUnless : {S A : Type 0} → (S → List Noted → Type 0) → ℕ → Option (Connection A) → S → S → Type 0
+ClosesUnless happened n None old new = Adds happened (Noted.Left n) old new
+ClosesUnless happened n (Some connection) old new = Stays happened old new
+
+-- the answer by what was found of a page, or by the want of memory for it
+abbrev pub found_response : {A : Type 0} → Result (Option (Vec ℕ A)) AllocError → Bool → List ℕ
+found_response (Ok (Some text)) with_body = page_response text.items with_body
+found_response (Ok None) with_body = refusal_response refusals.NotFound with_body
+found_response (Err memory) with_body = refusal_response refusals.Unavailable with_body
+
+-- the bytes that came are answered by what they ask, once that is known
+abbrev pub AnswersOnceKnown : {A : Type 0} → (Page → List ℕ → Type 0) → List ℕ → Option (Vec ℕ A) → Type 0
+AnswersOnceKnown shows bytes None = IsAsked bytes None
+AnswersOnceKnown shows bytes (Some answer) = AnswersBytes shows bytes answer.items
+
+-- ---- how they go on
+
+-- it goes on where the connection of this number comes from one stage to another, however the peers and the other browsers stand
+abbrev pub MovesOn : {S D A : Type 0} → (S → List Noted → Type 0) → DeviceFacts D → Shows D → Seen D → ℕ → S → Option (Stage A) → S → Option (Stage A) → Type 0
+MovesOn {S} {D} {A} happened facts shows store n sockets stage new_sockets new_stage =
+    (start : Seen D) (slots : Slots A) (browsers : ℕ → Option (Stage A)) → GoesOn happened facts shows start sockets slots (instead browsers n stage) store
+    → GoesOn happened facts shows start new_sockets slots (instead browsers n new_stage) store
+
+-- it goes on as it did, however the peers stand
+abbrev pub BrowsersGoOn : {S D A : Type 0} → (S → List Noted → Type 0) → DeviceFacts D → Shows D → Seen D → S → Browsers A → S → Browsers A → Type 0
+BrowsersGoOn {S} {D} {A} happened facts shows store sockets browsers new_sockets new_browsers =
+    (start : Seen D) (slots : Slots A) → GoesOn happened facts shows start sockets slots (stage_at browsers.connections.items) store
+    → GoesOn happened facts shows start new_sockets slots (stage_at new_browsers.connections.items) store
+
+-- it goes on as it did, for peers and browsers
+abbrev pub AllGoOn : {S D A : Type 0} → (S → List Noted → Type 0) → DeviceFacts D → Shows D → S → Desk D A → Browsers A → S → Desk D A → Browsers A → Type 0
+AllGoOn {S} {D} {A} happened facts shows sockets desk browsers new_sockets new_desk new_browsers =
+    (start : Seen D) → GoesOn happened facts shows start sockets desk.peers.slots.items (stage_at browsers.connections.items) desk.store
+    → GoesOn happened facts shows start new_sockets new_desk.peers.slots.items (stage_at new_browsers.connections.items) new_desk.store
