@@ -1,19 +1,20 @@
 //! Each growth of memory of a command refused in turn: it is told or answered, and with memory the command is done then.
 
 use crate::earlier;
-use crate::growths::ONE;
-use crate::program::{check, run_within};
+use crate::files::{exists, expect_bytes, put, put_bytes, read, remove};
+use crate::program::{check, run_within, text_in};
 use refusing::Refusing;
 use std::alloc::Global;
-use std::fs;
 use std::fs::File;
 use std::net::Net;
 use std::process::Abort;
 use std::rt::{Clock, Files};
-use std::test::Fail;
 
 /// The hill of two on which the next commands are run: the first warrior is on it.
 const HILL: &str = "growths.hill";
+
+/// Its table.
+const ONE: &str = "1 1 0 0 Unnamed by Anonymous\n.\n";
 
 /// The second, in a file.
 const SOURCE: &str = "growths.red";
@@ -96,24 +97,19 @@ const COMMANDS: [Row; 8] = [
 ];
 
 /// The files as the commands find them: the hill has these bytes, and the other one is not there.
-fn put_files(rt: &(impl Files + AllocGlobal), hill: &[u8]) -> Result<(), Fail> {
-    fs::write(rt, HILL, hill)?;
-    if fs::exists(rt, CREATED)? {
-        fs::remove_file(rt, CREATED)?;
+fn put_files(rt: &(impl Abort + Files), hill: &[u8]) {
+    put_bytes(rt, HILL, hill);
+    if exists(rt, CREATED) {
+        remove(rt, CREATED);
     }
-    Ok(())
 }
 
 /// Nothing became of a command that found no memory: the hill has these bytes, and none was created.
-fn expect_files(
-    rt: &(impl Abort + Files<File = File> + Net + Clock + AllocGlobal),
-    hill: &[u8],
-) -> Result<(), Fail> {
-    assert_eq!(rt; fs::read(rt, HILL)?.as_slice(), hill);
-    if fs::exists(rt, CREATED)? {
-        check(rt, "koth show growing.hill", "", "NotAHill\n", 1)?;
+fn expect_files(rt: &(impl Abort + Files<File = File> + Net + Clock + AllocGlobal), hill: &[u8]) {
+    expect_bytes(rt, HILL, hill);
+    if exists(rt, CREATED) {
+        check(rt, "koth show growing.hill", "", "NotAHill\n", 1);
     }
-    Ok(())
 }
 
 /// A command, of which growth `k` is refused, writes this on its output and on its errors and leaves with this status. How many were
@@ -124,18 +120,21 @@ fn check_run(
     k: u64,
     command: &Command,
     errors: &str,
-) -> Result<u64, Fail> {
+) -> u64 {
     memory.refuse(k, 1);
     let mut input = command.input.as_bytes();
-    let ran = run_within(rt, rt.alloc(), memory, command.line, &mut input)?;
+    let ran = run_within(rt, rt.alloc(), memory, command.line, &mut input).expect(
+        rt,
+        "there is memory",
+    );
     let refused = memory.refused();
     memory.refuse(0, 0);
-    let output = str::from_utf8(ran.output.as_slice())?;
+    let output = text_in(&ran.output);
     assert_eq!(rt; output, command.output, "{} at growth {k}", command.line);
     assert_eq!(rt; ran.errors.is_empty(), errors.is_empty());
     assert!(rt; ran.errors.as_slice().starts_with(errors.as_bytes()));
     assert_eq!(rt; ran.status, command.status);
-    Ok(refused)
+    refused
 }
 
 /// A command, of which growth `k` is refused, writes the one line `MEMORY` and leaves everything as it was. With memory it is done then.
@@ -146,7 +145,7 @@ fn check_refused(
     k: u64,
     command: &Command,
     is_reply: bool,
-) -> Result<(), Fail> {
+) {
     let (output, errors) = if is_reply {
         ("MEMORY\n", "")
     } else {
@@ -158,11 +157,10 @@ fn check_refused(
         output,
         status: 4,
     };
-    put_files(rt, hill)?;
-    assert_eq!(rt; check_run(rt, memory, k, &refused, errors)?, 1);
-    expect_files(rt, hill)?;
-    assert_eq!(rt; check_run(rt, memory, u64::MAX, command, "")?, 0);
-    Ok(())
+    put_files(rt, hill);
+    assert_eq!(rt; check_run(rt, memory, k, &refused, errors), 1);
+    expect_files(rt, hill);
+    assert_eq!(rt; check_run(rt, memory, u64::MAX, command, ""), 0);
 }
 
 /// Each growth of a command is refused in turn, these as faults and then so many as replies.
@@ -173,32 +171,29 @@ fn check_command(
     faults: u64,
     replies: u64,
     command: &Command,
-) -> Result<(), Fail> {
+) {
     let growths = faults.saturating_add(replies);
     for k in 0..growths {
-        check_refused(rt, memory, hill, k, command, k >= faults)?;
+        check_refused(rt, memory, hill, k, command, k >= faults);
     }
-    put_files(rt, hill)?;
+    put_files(rt, hill);
     assert_eq!(rt;
-        check_run(rt, memory, growths, command, "")?,
+        check_run(rt, memory, growths, command, ""),
         0,
         "it makes {growths}"
     );
-    Ok(())
 }
 
 /// The hill with its first warrior, the source of the second, and the hill of the old format.
-fn put_hills(
-    rt: &(impl Abort + Files<File = File> + Net + Clock + AllocGlobal),
-) -> Result<(), Fail> {
+fn put_hills(rt: &(impl Abort + Files<File = File> + Net + Clock + AllocGlobal)) {
     let create =
         "koth create growths.hill --core=64 --cycles=100 --processes=8 --length=10 --distance=10 --rounds=2 --capacity=2";
-    check(rt, create, "CREATED\n", "", 0)?;
-    fs::write(rt, SOURCE, "MOV 0,1\n")?;
+    check(rt, create, "CREATED\n", "", 0);
+    put(rt, SOURCE, "MOV 0,1\n");
     let submit = "koth submit growths.hill growths.red";
-    check(rt, submit, "PLACED 1 1 0\n", "", 0)?;
-    fs::write(rt, SOURCE, "JMP 0\n")?;
-    earlier::put(rt, OLD_HILL)
+    check(rt, submit, "PLACED 1 1 0\n", "", 0);
+    put(rt, SOURCE, "JMP 0\n");
+    earlier::put(rt, OLD_HILL);
 }
 
 /// Each of these commands, on a hill of these bytes.
@@ -206,7 +201,7 @@ fn check_commands(
     rt: &(impl Abort + Files<File = File> + Net + Clock + AllocGlobal),
     hill: &[u8],
     rows: &[Row],
-) -> Result<(), Fail> {
+) {
     let memory = Refusing::new(rt.alloc());
     for (faults, replies, line, input, output, status) in rows {
         let command = Command {
@@ -215,22 +210,20 @@ fn check_commands(
             output: *output,
             status: *status,
         };
-        check_command(rt, &memory, hill, *faults, *replies, &command)?;
+        check_command(rt, &memory, hill, *faults, *replies, &command);
     }
-    Ok(())
 }
 
 /// The words are parsed on the program's heap, which refuses nothing here.
 #[test]
-fn of_commands(rt: HostRuntime) -> Result<(), Fail> {
-    put_hills(&rt)?;
-    let hill = fs::read(&rt, HILL)?;
-    check_commands(&rt, hill.as_slice(), &COMMANDS)?;
-    put_files(&rt, hill.as_slice())?;
-    fs::remove_file(&rt, HILL)?;
-    fs::remove_file(&rt, OLD_HILL)?;
-    fs::remove_file(&rt, SOURCE)?;
-    Ok(())
+fn of_commands(rt: HostRuntime) {
+    put_hills(&rt);
+    let hill = read(&rt, HILL);
+    check_commands(&rt, hill.as_slice(), &COMMANDS);
+    put_files(&rt, hill.as_slice());
+    remove(&rt, HILL);
+    remove(&rt, OLD_HILL);
+    remove(&rt, SOURCE);
 }
 
 /// An explanation, of which growth `k` is refused: the refusal is answered all the same. Whether it took no more growths is the answer.
@@ -238,32 +231,31 @@ fn is_explained(
     rt: &(impl Abort + Files<File = File> + Net + Clock + AllocGlobal),
     memory: &Refusing<Global>,
     k: u64,
-) -> Result<bool, Fail> {
+) -> bool {
     memory.refuse(k, 1);
     let mut input = b"MOV 0, 1\nMVO 0, 1\n".as_slice();
-    let ran = run_within(rt, rt.alloc(), memory, "koth asm", &mut input)?;
+    let ran = run_within(rt, rt.alloc(), memory, "koth asm", &mut input).expect(
+        rt,
+        "there is memory",
+    );
     let refused = memory.refused();
     memory.refuse(0, 0);
     if ran.status == 4 {
-        return Ok(false);
+        return false;
     }
-    assert_eq!(rt;
-        str::from_utf8(ran.output.as_slice())?,
-        "REFUSED 2 BadOperation\n"
-    );
+    assert_eq!(rt; text_in(&ran.output), "REFUSED 2 BadOperation\n");
     assert_eq!(rt; ran.status, 1);
     assert!(rt; refused > 0 || ran.errors.len() > 0);
-    Ok(refused == 0)
+    refused == 0
 }
 
 /// Each growth of an explanation is refused in turn.
 #[test]
-fn of_an_explanation(rt: HostRuntime) -> Result<(), Fail> {
+fn of_an_explanation(rt: HostRuntime) {
     let memory = Refusing::new(rt.alloc());
-    for k in 1..1000 {
-        if is_explained(&rt, &memory, k)? {
-            return Ok(());
-        }
+    let mut k = 1;
+    while k < 1000 && !is_explained(&rt, &memory, k) {
+        k += 1;
     }
-    Err("it makes a thousand growths".into())
+    assert!(rt; k < 1000, "it makes a thousand growths");
 }

@@ -1,8 +1,8 @@
 //! The file of a hill that an earlier version of the program wrote, in the old format.
 
-use std::fs;
+use crate::files::put_bytes;
+use std::process::Abort;
 use std::rt::Files;
-use std::test::Fail;
 
 /// Bytes of a sector.
 pub(crate) const SECTOR: usize = 512;
@@ -93,7 +93,6 @@ pub(crate) fn bytes() -> [u8; SECTORS * SECTOR] {
 }
 
 /// Writes the file.
-pub(crate) fn put(rt: &impl Files, file: &str) -> Result<(), Fail> {
-    fs::write(rt, file, &bytes())?;
-    Ok(())
+pub(crate) fn put(rt: &(impl Abort + Files), file: &str) {
+    put_bytes(rt, file, &bytes());
 }

@@ -5,7 +5,6 @@ use std::io::{Read, Write};
 use std::net::Net;
 use std::process::Abort;
 use std::rt::{Clock, Files};
-use std::test::Fail;
 
 /// What a run left behind.
 #[derive(Drop)]
@@ -88,6 +87,15 @@ pub(crate) fn run_viewed<A: Allocator + Copy>(
     })
 }
 
+/// A run of the program with these words, on the tests' own memory.
+pub(crate) fn run_line(
+    rt: &(impl Abort + Files<File = File> + Net + Clock + AllocGlobal),
+    line: &str,
+    input: &mut impl Read,
+) -> Ran {
+    run_on(rt, rt.alloc(), line, input).expect(rt, "there is memory")
+}
+
 /// A run with these words and this input writes this on its output, tells this word on its errors, and leaves with this status. How much
 /// of the input is left then is the answer.
 pub(crate) fn check_on(
@@ -97,14 +105,25 @@ pub(crate) fn check_on(
     output: &str,
     word: &str,
     status: u8,
-) -> Result<usize, Fail> {
+) -> usize {
     let mut left = input;
-    let ran = run_on(rt, rt.alloc(), line, &mut left)?;
-    assert_eq!(rt; str::from_utf8(ran.output.as_slice())?, output, "{line}");
-    let errors = str::from_utf8(ran.errors.as_slice())?;
+    let ran = run_line(rt, line, &mut left);
+    expect_text(rt, &ran.output, output);
+    let errors = text_in(&ran.errors);
     assert!(rt; is_told(errors, output, word), "{line}: {errors}");
     assert_eq!(rt; ran.status, status, "{line}");
-    Ok(left.len())
+    left.len()
+}
+
+/// The text of these bytes, or nothing where they are none in UTF-8.
+pub(crate) fn text_in(bytes: &Vec<u8>) -> &str {
+    str::from_utf8(bytes.as_slice()).unwrap_or("")
+}
+
+/// These bytes are this text.
+pub(crate) fn expect_text(rt: &impl Abort, bytes: &Vec<u8>, text: &str) {
+    assert_eq!(rt; text_in(bytes), text);
+    assert_eq!(rt; bytes.len(), text.len());
 }
 
 /// The errors begin with this word, and behind it stands a text for people or nothing. Where no word is due they are empty, but for the
@@ -127,9 +146,8 @@ pub(crate) fn check(
     output: &str,
     word: &str,
     status: u8,
-) -> Result<(), Fail> {
-    check_on(rt, line, b"", output, word, status)?;
-    Ok(())
+) {
+    check_on(rt, line, b"", output, word, status);
 }
 
 /// A run with these words writes this on its output and exactly this on its errors, and leaves with this status.
@@ -140,10 +158,12 @@ pub(crate) fn check_told(
     output: &str,
     errors: &str,
     status: u8,
-) -> Result<(), Fail> {
-    let ran = run_viewed(rt, rt.alloc(), rt.alloc(), line, view, &mut b"".as_slice())?;
-    assert_eq!(rt; str::from_utf8(ran.output.as_slice())?, output, "{line}");
-    assert_eq!(rt; str::from_utf8(ran.errors.as_slice())?, errors, "{line}");
+) {
+    let ran = run_viewed(rt, rt.alloc(), rt.alloc(), line, view, &mut b"".as_slice()).expect(
+        rt,
+        "there is memory",
+    );
+    expect_text(rt, &ran.output, output);
+    expect_text(rt, &ran.errors, errors);
     assert_eq!(rt; ran.status, status, "{line}");
-    Ok(())
 }

@@ -1,37 +1,34 @@
-use crate::program::{check_on, run_on};
-use std::fs;
+use crate::files::exists;
+use crate::program::{check_on, run_line, text_in};
 use std::fs::File;
 use std::net::Net;
 use std::process::Abort;
 use std::rt::{Clock, Files};
-use std::test::Fail;
 
 /// Words that have a fault: its message is written on the errors, and nothing is read.
 fn check_fault(
     rt: &(impl Abort + Files<File = File> + Net + Clock + AllocGlobal),
     line: &str,
     part: &str,
-) -> Result<(), Fail> {
+) {
     let mut input = b"MOV 0, 1\n".as_slice();
-    let ran = run_on(rt, rt.alloc(), line, &mut input)?;
-    let message = str::from_utf8(ran.errors.as_slice())?;
+    let ran = run_line(rt, line, &mut input);
+    let message = text_in(&ran.errors);
     assert!(rt; message.contains(part), "{message}");
     assert!(rt; message.ends_with('\n'), "{message}");
     assert_eq!(rt; ran.output.len(), 0);
     assert_eq!(rt; ran.status, 2, "{message}");
     assert_eq!(rt; input.len(), 9);
-    Ok(())
 }
 
 /// Words that have a fault, each with a part of what is told of it.
 fn check_faults(
     rt: &(impl Abort + Files<File = File> + Net + Clock + AllocGlobal),
     rows: &[(&'static str, &'static str)],
-) -> Result<(), Fail> {
+) {
     for (line, part) in rows {
-        check_fault(rt, line, part)?;
+        check_fault(rt, line, part);
     }
-    Ok(())
 }
 
 /// Words with a fault, and a part of what is told of it.
@@ -105,8 +102,8 @@ const FAULTS: [(&str, &str); 39] = [
 ];
 
 #[test]
-fn faults_of_the_words(rt: HostRuntime) -> Result<(), Fail> {
-    check_faults(&rt, &FAULTS)
+fn faults_of_the_words(rt: HostRuntime) {
+    check_faults(&rt, &FAULTS);
 }
 
 /// Words that ask for help: it is written on the output.
@@ -114,24 +111,22 @@ fn check_help(
     rt: &(impl Abort + Files<File = File> + Net + Clock + AllocGlobal),
     line: &str,
     part: &str,
-) -> Result<(), Fail> {
-    let ran = run_on(rt, rt.alloc(), line, &mut b"".as_slice())?;
-    let text = str::from_utf8(ran.output.as_slice())?;
+) {
+    let ran = run_line(rt, line, &mut b"".as_slice());
+    let text = text_in(&ran.output);
     assert!(rt; text.contains(part), "{text}");
     assert_eq!(rt; ran.errors.len(), 0);
     assert_eq!(rt; ran.status, 0, "{text}");
-    Ok(())
 }
 
 /// Words that ask for help, each with a part of it.
 fn check_helps(
     rt: &(impl Abort + Files<File = File> + Net + Clock + AllocGlobal),
     rows: &[(&'static str, &'static str)],
-) -> Result<(), Fail> {
+) {
     for (line, part) in rows {
-        check_help(rt, line, part)?;
+        check_help(rt, line, part);
     }
-    Ok(())
 }
 
 /// Words that ask for help, and a part of it.
@@ -162,19 +157,18 @@ const HELPS: [(&str, &str); 23] = [
 ];
 
 #[test]
-fn help_is_written_to_the_output(rt: HostRuntime) -> Result<(), Fail> {
-    check_helps(&rt, &HELPS)
+fn help_is_written_to_the_output(rt: HostRuntime) {
+    check_helps(&rt, &HELPS);
 }
 
 #[test]
-fn options_give_settings(rt: HostRuntime) -> Result<(), Fail> {
+fn options_give_settings(rt: HostRuntime) {
     let text = "ORG 0\nDAT.F  $     0, $    -1\nEND\n";
     let small = "koth asm --core 64 --length 10 --distance=10";
-    check_on(&rt, small, b"DAT 0, 63\n", text, "", 0)?;
-    check_on(&rt, "koth asm --core=+256", b"DAT 0, 255\n", text, "", 0)?;
+    check_on(&rt, small, b"DAT 0, 63\n", text, "", 0);
+    check_on(&rt, "koth asm --core=+256", b"DAT 0, 255\n", text, "", 0);
     let short = "koth asm --length 1";
-    check_on(&rt, short, b"DAT 0\nDAT 0\n", "REFUSED 0 TooLong\n", "", 1)?;
-    Ok(())
+    check_on(&rt, short, b"DAT 0\nDAT 0\n", "REFUSED 0 TooLong\n", "", 1);
 }
 
 /// Options that give settings out of their ranges, and the first such field.
@@ -201,31 +195,28 @@ fn check_refused(
     command: &str,
     options: &str,
     field: &str,
-) -> Result<(), Fail> {
-    let line = format!(in rt.alloc(); "koth {command} {options}")?;
-    let told = format!(in rt.alloc(); "BadSettings {field}\n")?;
-    let left = check_on(rt, line.as_str(), b"MOV 0, 1\n", "", told.as_str(), 1)?;
+) {
+    let line = format!(in rt.alloc(); "koth {command} {options}").expect(rt, "there is memory");
+    let told = format!(in rt.alloc(); "BadSettings {field}\n").expect(rt, "there is memory");
+    let left = check_on(rt, line.as_str(), b"MOV 0, 1\n", "", told.as_str(), 1);
     assert_eq!(rt; left, 9);
-    Ok(())
 }
 
 /// Each command that takes settings, with each of these options.
 fn check_options(
     rt: &(impl Abort + Files<File = File> + Net + Clock + AllocGlobal),
     rows: &[(&'static str, &'static str)],
-) -> Result<(), Fail> {
+) {
     for (options, field) in rows {
-        check_refused(rt, "asm", options, field)?;
-        check_refused(rt, "fight no_such_file no_such_file", options, field)?;
-        check_refused(rt, "replay no_such_file no_such_file", options, field)?;
-        check_refused(rt, "create no_such_file", options, field)?;
+        check_refused(rt, "asm", options, field);
+        check_refused(rt, "fight no_such_file no_such_file", options, field);
+        check_refused(rt, "replay no_such_file no_such_file", options, field);
+        check_refused(rt, "create no_such_file", options, field);
     }
-    Ok(())
 }
 
 #[test]
-fn settings_are_refused_before_anything_is_read(rt: HostRuntime) -> Result<(), Fail> {
-    check_options(&rt, &OUT_OF_RANGE)?;
-    assert!(rt; !fs::exists(&rt, "no_such_file")?);
-    Ok(())
+fn settings_are_refused_before_anything_is_read(rt: HostRuntime) {
+    check_options(&rt, &OUT_OF_RANGE);
+    assert!(rt; !exists(&rt, "no_such_file"));
 }

@@ -1,16 +1,14 @@
 //! Each growth of memory of a session refused in turn: what is answered then, what stands after it, and what the same input is answered once
 //! there is memory.
 
-use crate::session_faults::LINES;
-use crate::sessions::{ROWS, end_of};
-use crate::stores::{SECTORS, empty_hill_on, reopened};
+use crate::calls::{answers_to, blank_in, empty_hill_on, expect_text, reopened};
+use crate::faults::LINES;
+use crate::sessions::ROWS;
 use hill_store::Store;
-use koth_session::{Counted, SessionEnd};
+use koth_session::SessionEnd;
 use refusing::Refusing;
-use sector_disk::{Device, MemoryDevice};
+use sector_disk::MemoryDevice;
 use std::alloc::{Allocator, Global};
-use std::process::Abort;
-use std::test::Fail;
 
 /// What a session answers, how it ends, and the table of the hill behind it.
 #[derive(Clone, Copy)]
@@ -22,7 +20,7 @@ struct Ending {
 
 const NONE: &str = ".\n";
 
-pub(crate) const ONE: &str = "1 1 0 0 Unnamed by Anonymous\n.\n";
+const ONE: &str = "1 1 0 0 Unnamed by Anonymous\n.\n";
 /// Of two that tie both rounds.
 const TIED: &str = "1 1 2 1 Unnamed by Anonymous\n2 2 2 0 Unnamed by Anonymous\n.\n";
 /// Of one that won both against the other.
@@ -34,6 +32,8 @@ const OF_ONE: Ending = Ending {
     end: SessionEnd::Quit,
     table: ONE,
 };
+
+use std::process::Abort;
 
 /// So many growths of it, in their order, and how it ends where one of them is refused: the two buffers, without which nothing is read,
 /// those of the assembler, and, where the device has its memory there too, the first writes to the four sectors of a slot and to a header's.
@@ -82,16 +82,15 @@ const WITHOUT_THREE: [(u64, &str, SessionEnd, &str); 7] = [
     ),
 ];
 
-/// What a session on these lines answers, and how it ends.
-fn serve<D: Device, A: Allocator + Copy>(
-    heap: Global,
+/// The table of a store is this.
+fn expect_shown<A: Allocator + Copy>(
+    rt: &(impl Abort + AllocGlobal),
     alloc: A,
-    lines: &[u8],
-    store: &mut Store<D, A>,
-) -> (SessionEnd, Vec<u8>) {
-    let mut output = Counted::new(Vec::new(heap));
-    let ended = end_of(alloc, &mut Counted::new(lines), &mut output, store);
-    (ended, output.into_inner())
+    store: &mut Store<MemoryDevice<A>, A>,
+    table: &str,
+) {
+    let (_, shown) = answers_to(rt, alloc, b"SHOW\n", store);
+    expect_text(rt, &shown, table);
 }
 
 /// The table of a store is this, and so is that of the hill that is opened on its device.
@@ -100,13 +99,9 @@ fn expect_table<A: Allocator + Copy>(
     alloc: A,
     mut store: Store<MemoryDevice<A>, A>,
     table: &str,
-) -> Result<(), Fail> {
-    let (_, shown) = serve(rt.alloc(), alloc, b"SHOW\n", &mut store);
-    assert_eq!(rt; str::from_utf8(shown.as_slice())?, table);
-    let mut store = reopened(alloc, store.close())?;
-    let (_, shown) = serve(rt.alloc(), alloc, b"SHOW\n", &mut store);
-    assert_eq!(rt; str::from_utf8(shown.as_slice())?, table);
-    Ok(())
+) {
+    expect_shown(rt, alloc, &mut store, table);
+    expect_shown(rt, alloc, &mut reopened(rt, alloc, store), table);
 }
 
 /// Where a session takes its memory from, and where its device does.
@@ -116,52 +111,47 @@ struct Memories<'m> {
     device: &'m Refusing<Global>,
 }
 
-/// A session on an empty hill, of which growth `k` is refused, ends so. How many were refused is the answer.
-fn check_ending(
+/// A session on an empty hill, of which growth `k` is refused, ends so, and so many were refused.
+fn expect_ending(
     rt: &(impl Abort + AllocGlobal),
     memories: Memories<'_>,
     k: u64,
     lines: &[u8],
     ending: Ending,
-) -> Result<u64, Fail> {
+    refused: u64,
+) {
     let memory = memories.session;
-    let mut store = empty_hill_on(memory, MemoryDevice::new(memories.device, SECTORS)?)?;
+    let mut store = empty_hill_on(rt, memory, blank_in(rt, memories.device));
     memory.refuse(k, 1);
-    let (end, answers) = serve(rt.alloc(), memory, lines, &mut store);
-    let refused = memory.refused();
+    let (end, answers) = answers_to(rt, memory, lines, &mut store);
+    assert_eq!(rt; memory.refused(), refused, "at growth {k}");
     memory.refuse(0, 0);
-    assert_eq!(rt;
-        str::from_utf8(answers.as_slice())?,
-        ending.answers,
-        "at growth {k}"
-    );
     assert_eq!(rt; end, ending.end, "at growth {k}");
-    expect_table(rt, memory, store, ending.table)?;
-    Ok(refused)
+    expect_text(rt, &answers, ending.answers);
+    expect_table(rt, memory, store, ending.table);
 }
 
 /// Growth `k` of a session on these lines is refused, and then they are given to a session with memory.
-fn check_growth(
+fn expect_growth(
     rt: &(impl Abort + AllocGlobal),
     memories: Memories<'_>,
     k: u64,
     lines: &[u8],
     ending: Ending,
     done: Ending,
-) -> Result<(), Fail> {
-    assert_eq!(rt; check_ending(rt, memories, k, lines, ending)?, 1);
-    assert_eq!(rt; check_ending(rt, memories, u64::MAX, lines, done)?, 0);
-    Ok(())
+) {
+    expect_ending(rt, memories, k, lines, ending, 1);
+    expect_ending(rt, memories, u64::MAX, lines, done, 0);
 }
 
 /// Each growth of a session on these lines is refused in turn, and then they are given to a session with memory.
-fn check_growths(
+fn expect_growths(
     rt: &(impl Abort + AllocGlobal),
     memories: Memories<'_>,
     lines: &[u8],
     refusals: &[(u64, &'static str, SessionEnd, &'static str)],
     done: Ending,
-) -> Result<(), Fail> {
+) {
     let mut k: u64 = 0;
     for (growths, answers, end, table) in refusals {
         let ending = Ending {
@@ -170,20 +160,15 @@ fn check_growths(
             table: *table,
         };
         for _ in 0..*growths {
-            check_growth(rt, memories, k, lines, ending, done)?;
+            expect_growth(rt, memories, k, lines, ending, done);
             k = k.saturating_add(1);
         }
     }
-    assert_eq!(rt;
-        check_ending(rt, memories, k, lines, done)?,
-        0,
-        "it makes {k}"
-    );
-    Ok(())
+    expect_ending(rt, memories, k, lines, done, 0);
 }
 
 #[test]
-fn of_sessions(rt: HostRuntime) -> Result<(), Fail> {
+fn of_sessions(rt: HostRuntime) {
     let memory = Refusing::new(rt.alloc());
     let ample = Refusing::new(rt.alloc());
     let alone = Memories {
@@ -195,7 +180,7 @@ fn of_sessions(rt: HostRuntime) -> Result<(), Fail> {
         device: &memory,
     };
     let (three, _, _) = ROWS[7];
-    check_growths(&rt, alone, LINES, &WITHOUT_ONE[..2], OF_ONE)?;
-    check_growths(&rt, both, LINES, &WITHOUT_ONE, OF_ONE)?;
-    check_growths(&rt, both, three.as_bytes(), &WITHOUT_THREE, OF_THREE)
+    expect_growths(&rt, alone, LINES, &WITHOUT_ONE[..2], OF_ONE);
+    expect_growths(&rt, both, LINES, &WITHOUT_ONE, OF_ONE);
+    expect_growths(&rt, both, three.as_bytes(), &WITHOUT_THREE, OF_THREE);
 }
