@@ -1,10 +1,10 @@
 //! Growths that are refused: which calls take memory, how often, and which need none.
 
-use crate::warriors::{SMALL, imp, stay, warrior};
 use koth_hill::Hill;
 use koth_match::fight;
 use mars_core::{Arena, Outcome, Side};
 use refusing::{Refusing, refuse_each};
+use small_warriors::{SMALL, imp, stay, warrior};
 use std::alloc::AllocError;
 use std::test::Fail;
 use war_types::Settings;

@@ -2,10 +2,10 @@ ghost use Rattle.std.specs.Prelude.{◌≡◌, ◌+◌, IfOk};
 ghost use Rattle.koth_match.specs.Match.{rounds_in};
 ghost use Rattle.war_types.specs.Warrior.{Fits};
 
-use crate::warriors::{LARGEST, SMALL, back, die, imp, stay, warrior};
 use koth_hill::{Hill, Verdict};
 use koth_match::Bout;
 use mars_core::Arena;
+use small_warriors::{LARGEST, SMALL, back, die, imp, stay, warrior};
 use std::alloc::Global;
 use std::process::Abort;
 use std::test::Fail;

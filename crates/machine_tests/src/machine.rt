@@ -1,5 +1,5 @@
-use crate::warriors::{SMALL, dat, direct, imp, instr, stay, warrior};
 use mars_core::{Arena, Outcome, Side, Turned};
+use small_warriors::{SMALL, dat, direct, imp, instr, stay, warrior};
 use std::alloc::Global;
 use std::process::Abort;
 use std::test::Fail;

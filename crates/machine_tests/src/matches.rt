@@ -1,6 +1,6 @@
-use crate::warriors::{LARGEST, SMALL, back, dat, die, direct, imp, instr, stay, warrior};
 use koth_match::{fight, next_seed, position};
 use mars_core::Arena;
+use small_warriors::{LARGEST, SMALL, back, dat, die, direct, imp, instr, stay, warrior};
 use std::alloc::Global;
 use std::test::Fail;
 use war_types::{Instr, Mode, Modifier, Op, RawSettings, Settings};

@@ -4,8 +4,8 @@ ghost use Rattle.std.specs.Prelude.{◌≡◌, IfOk};
 ghost use Rattle.war_types.specs.Warrior.{Fits};
 
 use super::*;
-use crate::warriors::{direct, instr};
 use koth_match::fight;
+use small_warriors::{direct, instr};
 use war_types::{Mode, Modifier, Op};
 
 /// The warrior that enters as number `entry`: every second one bombs at a step of its own, the others go on or wait.

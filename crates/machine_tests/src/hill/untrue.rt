@@ -4,10 +4,10 @@ ghost use Rattle.std.specs.Prelude.{◌≡◌, IfOk};
 ghost use Rattle.koth_match.specs.Match.{rounds_in};
 
 use crate::hill::{bout, hill_put_back, small};
-use crate::warriors::{die, stay, warrior};
 use koth_hill::{Hill, Untrue};
 use koth_match::Bout;
 use mars_core::Arena;
+use small_warriors::{die, stay, warrior};
 use std::alloc::Global;
 use std::process::Abort;
 use std::test::Fail;

@@ -1,8 +1,8 @@
 //! What is left in a core of the rounds before, and rounds in the largest core.
 
 use super::*;
-use crate::warriors::LARGEST;
 use koth_match::fight;
+use small_warriors::LARGEST;
 
 /// The largest core, and as many processes as it has cells.
 const LARGE: RawSettings = RawSettings {

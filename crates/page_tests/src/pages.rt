@@ -1,72 +1,12 @@
-//! Pages of small hills whose results were made up.
+//! Pages of hills.
 
-ghost use Rattle.std.specs.Prelude.{◌≡◌, ◌+◌, IfOk};
-ghost use Rattle.koth_match.specs.Match.{rounds_in};
-ghost use Rattle.war_types.specs.Warrior.{Fits};
-
-use crate::warriors::{SMALL, imp};
+use crate::hills::{hill_of_three, ten_rounds};
 use koth_hill::Hill;
-use koth_match::Bout;
 use koth_page::{Links, hill_page};
 use refusing::{Refusing, refuse_each};
 use std::alloc::{AllocError, Global};
 use std::process::Abort;
 use std::test::Fail;
-use war_types::{Settings, Title, Warrior};
-
-/// Settings of ten rounds, with room for three.
-fn ten_rounds() -> Result<Settings, Fail> {
-    let mut raw = SMALL;
-    raw.capacity = 3;
-    raw.rounds = 10;
-    raw.seed = 271_828;
-    raw.write_limit = 16;
-    Ok(Settings::new(raw)?)
-}
-
-fn bout(older_wins: u16, younger_wins: u16, ties: u16) -> Bout
-    ensures { rounds_in result ≡ older_wins + younger_wins + ties }
-{
-    Bout {
-        older_wins,
-        younger_wins,
-        ties,
-    }
-}
-
-fn entrant(
-    alloc: Global,
-    name: &[u8],
-    author: &[u8],
-    settings: &Settings,
-) -> Result<Warrior<Global>, Fail>
-    ensures { IfOk result (λ w. Fits settings.now w) }
-{
-    let code = Vec::from_slice(alloc, &[imp()])?;
-    let name = Title::new(name, "Unnamed");
-    let author = Title::new(author, "Anonymous");
-    Ok(Warrior::new(code, 0, name, author, settings).ok_or("it fits")?)
-}
-
-/// The entries 1, 2 and 3, of which the last is the first by rank, and the first the second.
-fn hill_of_three(
-    alloc: Global,
-    third_name: &[u8],
-    third_author: &[u8],
-) -> Result<Hill<Global>, Fail> {
-    let settings = ten_rounds()?;
-    if settings.capacity() != 3 || settings.rounds() != 10 {
-        return Err("a hill of three".into());
-    }
-    let first = entrant(alloc, b"Imp", b"koth", &settings)?;
-    let second = entrant(alloc, b"Dwarf", b"koth", &settings)?;
-    let third = entrant(alloc, third_name, third_author, &settings)?;
-    let mut hill = Hill::with_counter(alloc, settings, 3)?;
-    hill.put_back(1, 2, first, &[]);
-    hill.put_back(2, 1, second, &[bout(6, 3, 1)]);
-    hill.put_back(3, 0, third, &[bout(1, 9, 0), bout(2, 7, 1)]);
-    Ok(hill)
-}
 
 /// Each of these stands in the page, and what isn't due doesn't.
 fn check_page(rt: &impl Abort, page: &[u8], due: &[&str], not_due: &[&str]) -> Result<(), Fail> {

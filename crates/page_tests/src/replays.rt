@@ -2,10 +2,10 @@
 
 ghost use Rattle.std.specs.Prelude.{◌<◌, length};
 
-use crate::warriors::{SMALL, die, direct, imp, instr, stay, warrior};
 use koth_replay::{Event, Opening, Replay, replay};
 use mars_core::{Arena, Outcome, Side};
 use refusing::Refusing;
+use small_warriors::{SMALL, die, direct, imp, instr, stay, warrior};
 use std::alloc::{AllocError, Global};
 use std::process::Abort;
 use std::test::Fail;

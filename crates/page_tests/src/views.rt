@@ -1,94 +1,13 @@
-//! Texts for people, of small hills whose results were made up.
+//! Texts for people.
 
-ghost use Rattle.std.specs.Prelude.{◌≡◌, ◌+◌, IfOk};
-ghost use Rattle.koth_match.specs.Match.{rounds_in};
-ghost use Rattle.war_types.specs.Warrior.{Fits};
-
-use crate::warriors::{SMALL, imp};
+use crate::hills::{bout, entrant, hill_of_one, hill_of_three, hill_of_two, ten_rounds};
 use hill_store::Reply;
 use koth_hill::Hill;
-use koth_match::Bout;
 use koth_views::{bout_view, hill_view, matches_view, placing_view, roster};
 use refusing::{Refusing, refuse_each};
-use std::alloc::{AllocError, Global};
+use std::alloc::AllocError;
 use std::process::Abort;
 use std::test::Fail;
-use war_types::{Settings, Title, Warrior};
-
-/// Settings of ten rounds, with room for three.
-fn ten_rounds() -> Result<Settings, Fail> {
-    let mut raw = SMALL;
-    raw.capacity = 3;
-    raw.rounds = 10;
-    Ok(Settings::new(raw)?)
-}
-
-fn bout(older_wins: u16, younger_wins: u16, ties: u16) -> Bout
-    ensures { rounds_in result ≡ older_wins + younger_wins + ties }
-{
-    Bout {
-        older_wins,
-        younger_wins,
-        ties,
-    }
-}
-
-fn entrant(
-    alloc: Global,
-    name: &[u8],
-    author: &[u8],
-    settings: &Settings,
-) -> Result<Warrior<Global>, Fail>
-    ensures { IfOk result (λ w. Fits settings.now w) }
-{
-    let code = Vec::from_slice(alloc, &[imp()])?;
-    let name = Title::new(name, "Unnamed");
-    let author = Title::new(author, "Anonymous");
-    Ok(Warrior::new(code, 0, name, author, settings).ok_or("it fits")?)
-}
-
-/// The entries 1, 2 and 3, of which the last is the first by rank, and the first the second.
-fn hill_of_three(alloc: Global) -> Result<Hill<Global>, Fail> {
-    let settings = ten_rounds()?;
-    if settings.capacity() != 3 || settings.rounds() != 10 {
-        return Err("a hill of three".into());
-    }
-    let first = entrant(alloc, b"Imp", b"koth", &settings)?;
-    let second = entrant(alloc, b"Dwarf", b"koth", &settings)?;
-    let third = entrant(alloc, b"Scanner", b"koth", &settings)?;
-    let mut hill = Hill::with_counter(alloc, settings, 3)?;
-    hill.put_back(1, 2, first, &[]);
-    hill.put_back(2, 1, second, &[bout(6, 3, 1)]);
-    hill.put_back(3, 0, third, &[bout(1, 9, 0), bout(2, 7, 1)]);
-    Ok(hill)
-}
-
-/// The entries 2 and 3 of such a hill.
-fn hill_of_two(alloc: Global) -> Result<Hill<Global>, Fail> {
-    let settings = ten_rounds()?;
-    if settings.capacity() != 3 || settings.rounds() != 10 {
-        return Err("a hill of two".into());
-    }
-    let second = entrant(alloc, b"Dwarf", b"koth", &settings)?;
-    let third = entrant(alloc, b"Scanner", b"koth", &settings)?;
-    let mut hill = Hill::with_counter(alloc, settings, 3)?;
-    hill.put_back(2, 1, second, &[]);
-    hill.put_back(3, 0, third, &[bout(2, 7, 1)]);
-    Ok(hill)
-}
-
-/// A warrior whose author's name is cut behind a blank, in its 48th byte.
-fn hill_of_one(alloc: Global) -> Result<Hill<Global>, Fail> {
-    let settings = ten_rounds()?;
-    if settings.capacity() != 3 || settings.rounds() != 10 {
-        return Err("a hill of one".into());
-    }
-    let author = b"one whose name has some forty-seven characters, and more";
-    let only = entrant(alloc, b"Imp", author, &settings)?;
-    let mut hill = Hill::with_counter(alloc, settings, 1)?;
-    hill.put_back(1, 0, only, &[]);
-    Ok(hill)
-}
 
 /// The text has these lines, each with a line feed.
 fn check_lines(rt: &(impl Abort + AllocGlobal), text: &[u8], due: &[&str]) -> Result<(), Fail> {
@@ -103,7 +22,7 @@ fn check_lines(rt: &(impl Abort + AllocGlobal), text: &[u8], due: &[&str]) -> Re
 
 #[test]
 fn tables(rt: HostRuntime) -> Result<(), Fail> {
-    let text = hill_view(rt.alloc(), &hill_of_three(rt.alloc())?)?;
+    let text = hill_view(rt.alloc(), &hill_of_three(rt.alloc(), b"Scanner", b"koth")?)?;
     let due = [
         "rank  entry  points  won  lost  tied  age  warrior  author",
         "   1      3      49   16     3     1    0  Scanner  koth",
@@ -121,7 +40,7 @@ fn tables(rt: HostRuntime) -> Result<(), Fail> {
 
 #[test]
 fn matrices(rt: HostRuntime) -> Result<(), Fail> {
-    let text = matches_view(rt.alloc(), &hill_of_three(rt.alloc())?)?;
+    let text = matches_view(rt.alloc(), &hill_of_three(rt.alloc(), b"Scanner", b"koth")?)?;
     let due = [
         "rank  warrior      1      2      3",
         "   1  Scanner      .  9-1-0  7-2-1",
@@ -165,7 +84,7 @@ fn counts_of_a_match(rt: HostRuntime) -> Result<(), Fail> {
 /// The entry 1 fell as the entry 3 came.
 #[test]
 fn placings(rt: HostRuntime) -> Result<(), Fail> {
-    let before = roster(rt.alloc(), &hill_of_three(rt.alloc())?)?;
+    let before = roster(rt.alloc(), &hill_of_three(rt.alloc(), b"Scanner", b"koth")?)?;
     let hill = hill_of_two(rt.alloc())?;
     let reply = Reply::Placed {
         entry: 3,
@@ -195,7 +114,7 @@ fn placings(rt: HostRuntime) -> Result<(), Fail> {
 #[test]
 fn growths_of_a_table(rt: HostRuntime) -> Result<(), Fail> {
     let memory = Refusing::new(rt.alloc());
-    let hill = hill_of_three(rt.alloc())?;
+    let hill = hill_of_three(rt.alloc(), b"Scanner", b"koth")?;
     let runs = refuse_each(&memory, |_k| match hill_view(&memory, &hill) {
         Ok(text) => {
             assert_eq!(rt; memory.refused(), 0);

@@ -1,4 +1,7 @@
-//! Settings, instructions and warriors that the tests share.
+//! Settings, instructions and warriors for the crates of tests of the machine, of hills, and of what people are shown.
+//!
+//! A warrior fits its settings, which is what the calls that take one ask for; nothing here says what is expected: that is the tests' part.
+#![tactic(auto)]
 
 ghost use Rattle.std.specs.Prelude.{◌≡◌, IfOk};
 ghost use Rattle.war_types.specs.Warrior.{Fits};
@@ -69,20 +72,30 @@ pub fn stay() -> Instr {
     direct(Op::Jmp, Modifier::B, 0, 0)
 }
 
-fn title(text: &[u8]) -> Title {
-    Title::new(text, "Unnamed")
-}
-
 /// MOV 0, -1 in the largest core
 pub fn back() -> Instr {
     direct(Op::Mov, Modifier::I, 0, 65534)
 }
 
-/// A warrior of this code that starts at its first instruction.
-pub fn warrior(alloc: Global, code: &[Instr], settings: &Settings) -> Result<Warrior<Global>, Fail>
+/// A warrior of this code that starts at its first instruction, of this name and this author.
+pub fn titled(
+    alloc: Global,
+    code: &[Instr],
+    name: &[u8],
+    author: &[u8],
+    settings: &Settings,
+) -> Result<Warrior<Global>, Fail>
     ensures { IfOk result (λ w. Fits settings.now w × (w.code ≡ code.now)) }
 {
     let code = Vec::from_slice(alloc, code)?;
-    let (name, author) = (title(b"Imp"), title(b"A. K. Dewdney"));
+    let name = Title::new(name, "Unnamed");
+    let author = Title::new(author, "Anonymous");
     Ok(Warrior::new(code, 0, name, author, settings).ok_or("it fits")?)
+}
+
+/// The same by the first author of all.
+pub fn warrior(alloc: Global, code: &[Instr], settings: &Settings) -> Result<Warrior<Global>, Fail>
+    ensures { IfOk result (λ w. Fits settings.now w × (w.code ≡ code.now)) }
+{
+    titled(alloc, code, b"Imp", b"A. K. Dewdney", settings)
 }
