@@ -1,9 +1,9 @@
-//! A hill that the program wrote before slots had four sectors, and before settings had limits. Its fields of limits are zeros, which stand
-//! for the core size.
+//! The hill that an earlier version of the program wrote, moved to the new format.
 
 use crate::expecting::{expect_reply, expect_row, expect_rows, expect_sector};
 use crate::migrations::{moved, moved_from};
 use crate::narrowed::narrowed;
+use earlier_hill::sector_of;
 use hill_store::{Refusal, Store};
 use sector_disk::MemoryDevice;
 use std::alloc::Global;
@@ -11,79 +11,10 @@ use std::process::Abort;
 use std::test::Fail;
 use store_calls::{audit, close, fell, open, opened, put};
 
-/// What its sectors hold that is not zero: the sector, where it begins, and the bytes. Four warriors came, and the third fell.
-const WRITTEN: [(u32, usize, &[u8]); 17] = [
-    (
-        0,
-        0,
-        &[
-            75, 79, 84, 72, 72, 73, 76, 49, 0, 0, 0, 0, 0, 0, 0, 4, 3, 32, 0, 0, 7, 208, 0, 64, 0,
-            20, 0, 40, 0, 20, 1, 53, 41, 6, 0, 3, 0, 0, 0, 0, 0, 0, 0, 0, 0, 0, 0, 4, 0, 3, 0, 0,
-            0, 0, 0, 0, 0, 1, 0, 0, 0, 0, 0, 0, 0, 0, 3, 0, 0, 0, 0, 0, 0, 0, 2, 1, 0, 0, 0, 0, 0,
-            0, 0, 2, 0, 0, 0, 0, 0, 0, 0, 4, 3,
-        ],
-    ),
-    (
-        1,
-        0,
-        &[
-            75, 79, 84, 72, 72, 73, 76, 49, 0, 0, 0, 0, 0, 0, 0, 3, 3, 32, 0, 0, 7, 208, 0, 64, 0,
-            20, 0, 40, 0, 20, 1, 53, 41, 6, 0, 3, 0, 0, 0, 0, 0, 0, 0, 0, 0, 0, 0, 3, 0, 3, 0, 0,
-            0, 0, 0, 0, 0, 1, 0, 0, 0, 0, 0, 0, 0, 0, 2, 0, 0, 0, 0, 0, 0, 0, 2, 1, 0, 0, 0, 0, 0,
-            0, 0, 1, 0, 0, 0, 0, 0, 0, 0, 3, 2,
-        ],
-    ),
-    (2, 0, &[1, 6, 1, 1, 0, 0, 0, 1]),
-    (3, 289, &[1, 0, 0, 73, 109, 112]),
-    (3, 340, b"A. K. Dewdney"),
-    (
-        4,
-        0,
-        &[
-            2, 2, 0, 1, 0, 4, 0, 3, 1, 6, 1, 3, 0, 2, 0, 2, 7, 1, 1, 1, 3, 30, 0, 0, 0, 4,
-        ],
-    ),
-    (5, 289, &[4, 0, 0, 68, 119, 97, 114, 102]),
-    (5, 340, b"A. K. Dewdney"),
-    (5, 391, &[2]),
-    (6, 1, &[4, 1, 1]),
-    (7, 289, &[1, 0, 0, 85, 110, 110, 97, 109, 101, 100]),
-    (7, 340, b"Anonymous"),
-    (7, 389, &[20, 0, 0, 0, 20]),
-    (
-        8,
-        1,
-        &[
-            4, 1, 1, 0, 0, 0, 0, 14, 1, 1, 1, 0, 0, 0, 0, 1, 6, 1, 5, 3, 30, 3, 29, 10, 1, 1, 5, 3,
-            31, 2, 248,
-        ],
-    ),
-    (9, 289, &[4, 0, 1, 83, 116, 111, 110, 101]),
-    (9, 340, b"Nobody"),
-    (9, 391, &[17, 0, 0, 0, 9, 0, 0, 0, 20]),
-];
-
-/// What this sector holds.
-fn content_of(n: u32) -> [u8; 512] {
-    let mut content = [0; 512];
-    for (sector, begins, bytes) in &WRITTEN {
-        if *sector == n {
-            put_bytes(&mut content, *begins, *bytes);
-        }
-    }
-    content
-}
-
-fn put_bytes(content: &mut [u8; 512], begins: usize, bytes: &[u8]) {
-    for (place, byte) in content.iter_mut().skip(begins).zip(bytes) {
-        *place = *byte;
-    }
-}
-
 fn earlier(alloc: Global) -> Result<MemoryDevice<Global>, Fail> {
     let mut device = MemoryDevice::new(alloc, 10)?;
     for n in 0..10 {
-        put(&mut device, n, &content_of(n))?;
+        put(&mut device, n, &sector_of(n))?;
     }
     Ok(device)
 }
@@ -91,7 +22,7 @@ fn earlier(alloc: Global) -> Result<MemoryDevice<Global>, Fail> {
 /// The device has what that program wrote.
 fn expect_earlier(rt: &impl Abort, mut device: MemoryDevice<Global>) {
     for n in 0..10 {
-        expect_sector(rt, &mut device, n, &content_of(n));
+        expect_sector(rt, &mut device, n, &sector_of(n));
     }
     drop(device);
 }
@@ -154,7 +85,7 @@ fn a_moved_hill_answers_at_once(rt: HostRuntime) -> Result<(), Fail> {
 /// What was written of the hill as it stands: neither the header before the last nor the slot of the third warrior, which fell, and no
 /// result against that one.
 fn standing_content_of(n: u32) -> [u8; 512] {
-    let mut content = content_of(n);
+    let mut content = sector_of(n);
     match n {
         1 | 6 | 7 => content = [0; 512],
         9 => content[399] = 0,

@@ -1,6 +1,5 @@
 //! Each growth of memory of a command refused in turn: it is told or answered, and with memory the command is done then.
 
-use crate::earlier;
 use crate::files::{exists, expect_bytes, put, put_bytes, read, remove};
 use crate::program::{check, run_within, text_in};
 use refusing::Refusing;
@@ -193,7 +192,7 @@ fn put_hills(rt: &(impl Abort + Files<File = File> + Net + Clock + AllocGlobal))
     let submit = "koth submit growths.hill growths.red";
     check(rt, submit, "PLACED 1 1 0\n", "", 0);
     put(rt, SOURCE, "JMP 0\n");
-    earlier::put(rt, OLD_HILL);
+    put_bytes(rt, OLD_HILL, &earlier_hill::bytes());
 }
 
 /// Each of these commands, on a hill of these bytes.

@@ -8,7 +8,7 @@
 //! - `assembling`, `fights` and `hills`: what the commands write, how they end, and what they do to files;
 //! - `audits`: the results that a hill keeps, shown, audited, and changed in its file;
 //! - `pages`: the page of a hill;
-//! - `earlier` and `migrations`: a hill of the old format, and how it is moved to the new one;
+//! - `migrations`: a hill of the old format, which is `earlier_hill`'s, and how it is moved to the new one;
 //! - `command_growths`: commands with each growth of memory refused in turn;
 //! - `told`: what people are told of each likely mistake, and output in columns.
 //!
@@ -21,8 +21,6 @@ mod assembling;
 mod audits;
 #[cfg(test)]
 mod command_growths;
-#[cfg(test)]
-mod earlier;
 #[cfg(test)]
 mod fights;
 #[cfg(test)]

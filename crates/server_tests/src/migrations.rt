@@ -1,10 +1,9 @@
 //! Hills of the old format, and how they are moved to the new one.
 
-use crate::earlier;
-use crate::earlier::SECTOR;
 use crate::files::{exists, expect_bytes, expect_length, put, put_bytes, read, remove};
 use crate::hills::check_no_hill;
 use crate::program::{check, check_told};
+use earlier_hill::SECTOR;
 use koth_server::View;
 use std::fs::File;
 use std::net::Net;
@@ -23,12 +22,12 @@ const LARGEST: u64 = (2 + 4 * 21) * 512;
 #[test]
 fn a_hill_is_moved(rt: HostRuntime) {
     let (old, new) = ("moved.hill", "arrived.hill");
-    earlier::put(&rt, old);
+    put_bytes(&rt, old, &earlier_hill::bytes());
     let line = "koth migrate moved.hill arrived.hill";
     check(&rt, line, "MIGRATED\n", "", 0);
-    expect_bytes(&rt, old, earlier::bytes().as_slice());
+    expect_bytes(&rt, old, earlier_hill::bytes().as_slice());
     expect_length(&rt, new, LARGEST);
-    check(&rt, "koth show arrived.hill", earlier::TABLE, "", 0);
+    check(&rt, "koth show arrived.hill", earlier_hill::TABLE, "", 0);
     check(&rt, "koth audit arrived.hill", "true\n", "", 0);
     let moved = read(&rt, new);
     check(&rt, line, "", "Occupied\n", 1);
@@ -44,7 +43,7 @@ fn a_hill_is_moved(rt: HostRuntime) {
 #[test]
 fn an_old_hill_is_no_hill_before_it_is_moved(rt: HostRuntime) {
     let file = "unmoved.hill";
-    earlier::put(&rt, file);
+    put_bytes(&rt, file, &earlier_hill::bytes());
     check_no_hill(&rt, file, "NotAHill\n", 1);
     let create = "koth create unmoved.hill --capacity=3";
     check(&rt, create, "", "Occupied\n", 1);
@@ -72,7 +71,7 @@ fn check_known(
 /// One header is enough to tell, and only in the sector of its parity: that of generation 4 is in the first, and of 3 in the second.
 #[test]
 fn an_old_hill_is_known_by_a_header(rt: HostRuntime) {
-    let bytes = earlier::bytes();
+    let bytes = earlier_hill::bytes();
     let (even, odd) = (&bytes[..SECTOR], &bytes[SECTOR..2 * SECTOR]);
     let none = [0; SECTOR];
     check_known(&rt, even, &none, OLD_HILL);
@@ -104,7 +103,7 @@ fn files_from_which_no_hill_is_moved(rt: HostRuntime) {
     let none = [0; 10 * SECTOR];
     check_unmoved(&rt, &none[..SECTOR], "TooSmall\n");
     check_unmoved(&rt, &none, "NotAHill\n");
-    let mut bytes = earlier::bytes();
+    let mut bytes = earlier_hill::bytes();
     check_unmoved(&rt, &bytes[..9 * SECTOR], "TooSmall\n");
     let damaged = 3 * SECTOR + 288;
     bytes[damaged] = 1;
@@ -121,7 +120,7 @@ fn check_occupied(
     bytes: &[u8],
 ) {
     let (old, new) = ("leaving.hill", "occupied.hill");
-    earlier::put(rt, old);
+    put_bytes(rt, old, &earlier_hill::bytes());
     put_bytes(rt, new, bytes);
     let line = "koth migrate leaving.hill occupied.hill";
     check(rt, line, "", "Occupied\n", 1);
@@ -136,18 +135,18 @@ fn files_that_hold_a_hill_already(rt: HostRuntime) {
     check(&rt, "koth create holding.hill", "CREATED\n", "", 0);
     let holding = read(&rt, "holding.hill");
     check_occupied(&rt, holding.as_slice());
-    check_occupied(&rt, &earlier::bytes());
+    check_occupied(&rt, &earlier_hill::bytes());
     remove(&rt, "holding.hill");
 }
 
 /// If both files are one, its lock is taken already, and the hill can be moved as before.
 #[test]
 fn a_file_onto_itself(rt: HostRuntime) {
-    earlier::put(&rt, "itself.hill");
+    put_bytes(&rt, "itself.hill", &earlier_hill::bytes());
     check(&rt, "koth migrate itself.hill itself.hill", "", "DISK\n", 3);
     let elsewhere = "koth migrate itself.hill elsewhere.hill";
     check(&rt, elsewhere, "MIGRATED\n", "", 0);
-    check(&rt, "koth show elsewhere.hill", earlier::TABLE, "", 0);
+    check(&rt, "koth show elsewhere.hill", earlier_hill::TABLE, "", 0);
     remove(&rt, "itself.hill");
     remove(&rt, "elsewhere.hill");
 }
@@ -157,7 +156,7 @@ fn files_that_cannot_be_opened_or_made(rt: HostRuntime) {
     let migrate = "koth migrate no_such_file unmade.hill";
     check(&rt, migrate, "", "DISK\n", 3);
     assert!(rt; !exists(&rt, "unmade.hill"));
-    earlier::put(&rt, "staying.hill");
+    put_bytes(&rt, "staying.hill", &earlier_hill::bytes());
     let migrate = "koth migrate staying.hill no_such_folder/new.hill";
     check(&rt, migrate, "", "DISK\n", 3);
     check(&rt, "koth migrate staying.hill .", "", "DISK\n", 3);

@@ -1,19 +1,23 @@
-//! The file of a hill that an earlier version of the program wrote, in the old format.
-
-use crate::files::put_bytes;
-use std::process::Abort;
-use std::rt::Files;
+//! A hill that the program wrote before slots had four sectors, and before settings had limits, for tests.
+//!
+//! It is in the old format, and its fields of limits are zeros, which stand for the core size. These are the bytes that an earlier version
+//! left on its device, and the table that it showed of them; nothing here computes what is expected of them.
+#![tactic(auto)]
 
 /// Bytes of a sector.
-pub(crate) const SECTOR: usize = 512;
+pub const SECTOR: usize = 512;
 
-/// Sectors of the file: those of the headers, and two for each of four slots.
-pub(crate) const SECTORS: usize = 2 + 2 * 4;
+/// Sectors of the device: those of the headers, and two for each of four slots.
+pub const SECTORS: usize = 2 + 2 * 4;
+
+/// Its table, as that version showed it.
+pub const TABLE: &str =
+    "1 4 92 0 Stone by Nobody\n2 2 35 2 Dwarf by A. K. Dewdney\n3 1 21 3 Imp by A. K. Dewdney\n.\n";
 
 /// A sector, where what it holds begins, and the bytes.
-type Written = (usize, usize, &'static [u8]);
+type Written = (u32, usize, &'static [u8]);
 
-/// What its sectors hold that is not zero: the sector, where it begins, and the bytes. Four warriors came, and the third fell.
+/// What its sectors hold that is not zero. Four warriors came, and the third fell.
 const WRITTEN: [Written; 17] = [
     (
         0,
@@ -65,34 +69,30 @@ const WRITTEN: [Written; 17] = [
     (9, 391, &[17, 0, 0, 0, 9, 0, 0, 0, 20]),
 ];
 
-/// Its table, as that version showed it.
-pub(crate) const TABLE: &str =
-    "1 4 92 0 Stone by Nobody\n2 2 35 2 Dwarf by A. K. Dewdney\n3 1 21 3 Imp by A. K. Dewdney\n.\n";
-
-/// Writes these bytes behind so many others.
-fn write_behind(bytes: &mut [u8], count: usize, written: &[u8]) {
-    let places = bytes.iter_mut().skip(count);
-    for (place, byte) in places.zip(written) {
-        *place = *byte;
+/// What this sector holds.
+pub fn sector_of(n: u32) -> [u8; SECTOR] {
+    let mut content = [0; SECTOR];
+    for (sector, begins, written) in &WRITTEN {
+        if *sector == n {
+            write_behind(&mut content, *begins, *written);
+        }
     }
+    content
 }
 
-/// Writes what sectors hold.
-fn write_rows(bytes: &mut [u8], rows: &[Written]) {
-    for (sector, begins, written) in rows {
-        let count = sector.saturating_mul(SECTOR).saturating_add(*begins);
-        write_behind(bytes, count, written);
-    }
-}
-
-/// The bytes of the file.
-pub(crate) fn bytes() -> [u8; SECTORS * SECTOR] {
+/// All sectors, one after another.
+pub fn bytes() -> [u8; SECTORS * SECTOR] {
     let mut bytes = [0; SECTORS * SECTOR];
-    write_rows(&mut bytes, &WRITTEN);
+    for (sector, begins, written) in &WRITTEN {
+        let sectors = (*sector as usize).saturating_mul(SECTOR);
+        write_behind(&mut bytes, sectors.saturating_add(*begins), *written);
+    }
     bytes
 }
 
-/// Writes the file.
-pub(crate) fn put(rt: &(impl Abort + Files), file: &str) {
-    put_bytes(rt, file, &bytes());
+/// Writes these bytes behind so many others.
+fn write_behind(bytes: &mut [u8], count: usize, written: &[u8]) {
+    for (place, byte) in bytes.iter_mut().skip(count).zip(written) {
+        *place = *byte;
+    }
 }
