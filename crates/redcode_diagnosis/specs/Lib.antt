@@ -1,5 +1,3 @@
--- the text of a line, and a place in it
-pub mod Line
 -- the refusals that are told of a source
 pub mod Told
 -- what a refusal's text begins with

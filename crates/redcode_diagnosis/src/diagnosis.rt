@@ -2,17 +2,13 @@
 
 ghost use Rattle.std.specs.Prelude.{◌≡◌, All, IfOk, map};
 ghost use Rattle.redcode_asm.specs.Assembly.{assembly};
-ghost use Rattle.redcode_diagnosis.specs.Line.{IsPlaceIn, line_text};
 ghost use Rattle.redcode_diagnosis.specs.Told.{AreToldFrom, IsFirst, Tells, is_memory};
+ghost use Rattle.redcode_places.specs.Line.{IsPlaceIn, line_text};
 
-use crate::blame::blame_of;
-use crate::copies::{Copied, copy_of};
-use crate::judge::further_faults;
-use crate::line::line_text;
-use crate::place::place_in;
-use crate::scene::Scene;
 use bumpalo::Bump;
 use redcode_asm::assemble;
+use redcode_blame::{Copied, Scene, blame_of, copy_of, further_faults};
+use redcode_places::{line_text, place_in};
 use std::alloc::{AllocError, Allocator};
 use war_types::{AsmFault, AsmKind, Settings};
 

@@ -3,10 +3,10 @@
 ghost use Rattle.std.specs.Prelude.{◌≡◌, ◌≤◌, ◌<◌, ◌++◌, length, IfOk, OnOk};
 ghost use Rattle.redcode_diagnosis.specs.Text.{IsJson, members, numbered};
 
-use crate::copies::Copied;
 use crate::diagnosis::Diagnosis;
-use crate::line::line_text;
 use itoa::Buffer;
+use redcode_blame::Copied;
+use redcode_places::line_text;
 use std::alloc::{AllocError, Allocator};
 use std::str::from_utf8;
 

@@ -3,12 +3,10 @@
 ghost use Rattle.std.specs.Prelude.{◌≡◌, ◌++◌, IfOk, OnOk};
 ghost use Rattle.redcode_diagnosis.specs.Text.{Begins, heading};
 
-use crate::copies::Copied;
 use crate::diagnosis::Diagnosis;
-use crate::line::line_text;
-use crate::place::{Span, part_of};
-use crate::said::{Part, append_shown, say};
 use itoa::Buffer;
+use redcode_blame::{Copied, Part, append_shown, say};
+use redcode_places::{Span, line_text, part_of};
 use std::alloc::{AllocError, Allocator};
 use war_types::AsmFault;
 

@@ -1,7 +1,7 @@
 use Rattle.std.proofs.Common.{◌+◌, length, arith, add-one}
 use Rattle.std.proofs.lemmas.List.{take_all, take_rest, drop_all}
-use Rattle.redcode_diagnosis.proofs.Lines.{lines_of-last, lines_of-cut}
-use Rattle.redcode_diagnosis.proofs.line.first_line.Goals as goal
+use Rattle.redcode_places.proofs.Lines.{lines_of-last, lines_of-cut}
+use Rattle.redcode_places.proofs.line.first_line.Goals as goal
 
 pub returns-then-byte-eq10-clause-lines : goal.returns-then-byte-eq10-clause-lines
 returns-then-byte-eq10-clause-lines c =

@@ -2,7 +2,7 @@
 
 ghost use Rattle.std.specs.Prelude.{◌≡◌, ◌<◌, ◌∷◌, length};
 ghost use Rattle.redcode_lines.specs.Source.{lines_of};
-ghost use Rattle.redcode_diagnosis.specs.Line.{line_behind, line_text, without_return};
+ghost use Rattle.redcode_places.specs.Line.{line_behind, line_text, without_return};
 
 /// The text of the line of this number, counted from 1, without its line feed and the carriage return before that; empty where there is
 /// no such line.

@@ -1,10 +1,9 @@
 //! What is known of a source that is refused.
 
-use crate::line::line_text;
-use crate::place::{Span, blanks_before, span_of, spans_of, whole};
 use bumpalo::Bump;
 use redcode_expand::{Expanded, SOURCE_LIMIT, expand};
 use redcode_lines::{LineForm, Reading, SourceLine, live_source, source_lines};
+use redcode_places::{Span, blanks_before, line_text, span_of, spans_of, whole};
 use redcode_text::Token;
 use std::alloc::{AllocError, Allocator};
 use war_types::{AsmFault, AsmKind, Settings};
@@ -14,7 +13,7 @@ const ASSERT_BYTES: u32 = 7;
 
 /// What is known of a source that is refused.
 #[derive(Drop)]
-pub(crate) struct Scene<'s, A: Allocator + Copy> {
+pub struct Scene<'s, A: Allocator + Copy> {
     pub alloc: A,
     pub source: &'s [u8],
     pub settings: &'s Settings,
@@ -26,7 +25,7 @@ pub(crate) struct Scene<'s, A: Allocator + Copy> {
 
 impl<'s, A: Allocator + Copy> Scene<'s, A> {
     /// What is known of a source. An error is want of memory.
-    pub(crate) fn new(
+    pub fn new(
         alloc: A,
         region: &'s Bump<A>,
         source: &'s [u8],

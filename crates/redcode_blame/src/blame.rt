@@ -5,17 +5,17 @@ use crate::counts::count;
 use crate::equs::{bad_equ, equ_limit};
 use crate::expressions::expression;
 use crate::operands::{extra_text, missing_operand};
-use crate::place::Span;
 use crate::said::{Part, sentence};
 use crate::scene::{Row, Scene};
 use crate::statements::{bad_modifier, bad_operation, bad_token, pspace};
 use crate::warriors::{assert_false, bad_start, empty, source_too_long, too_long};
+use redcode_places::Span;
 use std::alloc::{AllocError, Allocator};
 use war_types::{AsmFault, AsmKind};
 
 /// What is to blame for a refusal, and the sentence that tells of it.
 #[derive(Drop)]
-pub(crate) struct Blame<A: Allocator> {
+pub struct Blame<A: Allocator> {
     pub span: Span,
     pub sentence: Vec<u8, A>,
 }
@@ -33,7 +33,7 @@ pub(crate) fn blamed<A: Allocator>(
 }
 
 /// What is to blame for a fault of a source.
-pub(crate) fn blame_of<A: Allocator + Copy>(
+pub fn blame_of<A: Allocator + Copy>(
     scene: &Scene<'_, A>,
     fault: AsmFault,
 ) -> Result<Blame<A>, AllocError> {

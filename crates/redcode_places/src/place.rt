@@ -1,19 +1,19 @@
 //! Places in a line.
 
-ghost use Rattle.redcode_diagnosis.specs.Line.{IsPlaceIn};
+ghost use Rattle.redcode_places.specs.Line.{IsPlaceIn};
 
 use redcode_text::{Token, is_blank};
 
 /// A part of a line: how many bytes stand before it, and how many it has.
 #[derive(Clone, Copy, Debug, PartialEq, Eq)]
-pub(crate) struct Span {
+pub struct Span {
     pub from: u32,
     pub width: u32,
 }
 
 impl Span {
     /// From the beginning of one part to the end of another.
-    pub(crate) fn to(self, last: Span) -> Span {
+    pub fn to(self, last: Span) -> Span {
         let end = last.from.saturating_add(last.width);
         Span {
             from: self.from,
@@ -23,7 +23,7 @@ impl Span {
 }
 
 /// A token of a text with so many bytes of the line before it.
-pub(crate) fn span_of(shift: u32, token: &Token<'_>) -> Span {
+pub fn span_of(shift: u32, token: &Token<'_>) -> Span {
     Span {
         from: shift.saturating_add(token.at),
         width: u32::try_from(token.text.len()).unwrap_or(u32::MAX),
@@ -31,7 +31,7 @@ pub(crate) fn span_of(shift: u32, token: &Token<'_>) -> Span {
 }
 
 /// From the first of the tokens to the last one.
-pub(crate) fn spans_of(shift: u32, tokens: &[Token<'_>]) -> Option<Span> {
+pub fn spans_of(shift: u32, tokens: &[Token<'_>]) -> Option<Span> {
     match tokens {
         [] => None,
         [only] => Some(span_of(shift, only)),
@@ -40,7 +40,7 @@ pub(crate) fn spans_of(shift: u32, tokens: &[Token<'_>]) -> Option<Span> {
 }
 
 /// A line without the blanks in front.
-pub(crate) fn whole(text: &[u8]) -> Span {
+pub fn whole(text: &[u8]) -> Span {
     Span {
         from: blanks_before(text),
         width: u32::MAX,
@@ -48,7 +48,7 @@ pub(crate) fn whole(text: &[u8]) -> Span {
 }
 
 /// How many blanks stand at the front.
-pub(crate) fn blanks_before(text: &[u8]) -> u32 {
+pub fn blanks_before(text: &[u8]) -> u32 {
     let mut blanks: u32 = 0;
     for byte in text {
         if !is_blank(*byte) {
@@ -60,14 +60,14 @@ pub(crate) fn blanks_before(text: &[u8]) -> u32 {
 }
 
 /// A part of a text: what lies beyond it is cut off.
-pub(crate) fn part_of(text: &[u8], span: Span) -> &[u8] {
+pub fn part_of(text: &[u8], span: Span) -> &[u8] {
     let from = text.len().min(span.from as usize);
     let behind = &text[from..];
     &behind[..behind.len().min(span.width as usize)]
 }
 
 /// The column of a part, counted from 1, and how many bytes of the text belong to it: what lies beyond the text is cut off.
-pub(crate) fn place_in(text: &[u8], span: Span) -> (u32, u32)
+pub fn place_in(text: &[u8], span: Span) -> (u32, u32)
     ensures { IsPlaceIn text.now result.0 result.1 }
 {
     let length = u32::try_from(text.len()).unwrap_or(u32::MAX);

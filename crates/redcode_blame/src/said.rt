@@ -5,7 +5,7 @@ use std::alloc::{AllocError, Allocator};
 
 /// A part of a sentence.
 #[derive(Clone, Copy, Debug)]
-pub(crate) enum Part<'p> {
+pub enum Part<'p> {
     /// Words of the sentence itself.
     Text(&'p str),
     /// A word of the source, which is put between backticks.
@@ -26,10 +26,7 @@ pub(crate) fn sentence<A: Allocator>(
 }
 
 /// Appends these parts to a sentence.
-pub(crate) fn say<A: Allocator>(
-    sentence: &mut Vec<u8, A>,
-    parts: &[Part<'_>],
-) -> Result<(), AllocError> {
+pub fn say<A: Allocator>(sentence: &mut Vec<u8, A>, parts: &[Part<'_>]) -> Result<(), AllocError> {
     for part in parts {
         match part {
             Part::Text(text) => sentence.extend_from_slice(text.as_bytes())?,
@@ -52,10 +49,7 @@ fn quote<A: Allocator>(sentence: &mut Vec<u8, A>, word: &[u8]) -> Result<(), All
 }
 
 /// Appends a text with a question mark for each byte that a terminal would act upon.
-pub(crate) fn append_shown<A: Allocator>(
-    shown: &mut Vec<u8, A>,
-    text: &[u8],
-) -> Result<(), AllocError> {
+pub fn append_shown<A: Allocator>(shown: &mut Vec<u8, A>, text: &[u8]) -> Result<(), AllocError> {
     for byte in text {
         shown.push(shown_byte(*byte))?;
     }

@@ -1,12 +1,11 @@
 //! Statements that are none: tokens, operations and modifiers.
 
 use crate::blame::{Blame, blamed};
-use crate::line::line_text;
 use crate::nearest::{is_operation, nearest_word};
-use crate::place::part_of;
 use crate::said::Part;
 use crate::scene::{Row, Scene};
 use redcode_lines::{LineForm, has_text, is_name};
+use redcode_places::{line_text, part_of};
 use redcode_text::{Token, TokenKind};
 use std::alloc::{AllocError, Allocator};
 

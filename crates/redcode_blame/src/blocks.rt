@@ -4,11 +4,11 @@ use crate::blame::{Blame, blamed};
 use crate::copies::blocks_around;
 use crate::definitions::{Role, definition, is_among, last_name};
 use crate::nearest::nearest_word;
-use crate::place::Span;
 use crate::said::{Part, say, sentence};
 use crate::scene::{Row, Scene};
 use redcode_expand::predefined;
 use redcode_lines::{has_and, is_name};
+use redcode_places::Span;
 use redcode_text::{Token, Word};
 use std::alloc::{AllocError, Allocator};
 

@@ -22,7 +22,7 @@ pub struct Copied<A: Allocator> {
 }
 
 /// The copy in which a line has this fault, if the line stands in a block and the source could be written out.
-pub(crate) fn copy_of<A: Allocator + Copy>(
+pub fn copy_of<A: Allocator + Copy>(
     scene: &Scene<'_, A>,
     fault: AsmFault,
 ) -> Result<Option<Copied<A>>, AllocError> {

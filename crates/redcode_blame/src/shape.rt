@@ -2,11 +2,10 @@
 
 use crate::blame::{Blame, blamed};
 use crate::equs::first_equ;
-use crate::line::line_text;
-use crate::place::{Span, part_of};
 use crate::said::Part;
 use crate::scene::{Row, Scene};
 use redcode_lines::has_text;
+use redcode_places::{Span, line_text, part_of};
 use redcode_text::{Token, TokenKind, mode_named};
 use std::alloc::{AllocError, Allocator};
 

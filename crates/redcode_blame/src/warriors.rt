@@ -3,11 +3,11 @@
 use crate::blame::{Blame, blamed};
 use crate::judge::{faulty_line, said_by};
 use crate::operands::operands_in;
-use crate::place::Span;
 use crate::said::{Part, say, sentence};
 use crate::scene::{Row, Scene};
 use redcode_expand::{LineKind, SOURCE_LIMIT, predefined};
 use redcode_lines::{has_text, is_name};
+use redcode_places::Span;
 use redcode_statement::Statement;
 use redcode_text::Token;
 use std::alloc::{AllocError, Allocator};

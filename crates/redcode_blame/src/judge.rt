@@ -95,7 +95,7 @@ pub(crate) fn fault_of<A: Allocator + Copy>(
 }
 
 /// The faults of the lines other than the first one, each line of the source once, in the order in which they are written out.
-pub(crate) fn further_faults<A: Allocator + Copy>(
+pub fn further_faults<A: Allocator + Copy>(
     scene: &Scene<'_, A>,
     first: AsmFault,
 ) -> Result<Vec<AsmFault, A>, AllocError> {

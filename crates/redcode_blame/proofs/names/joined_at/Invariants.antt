@@ -1,5 +1,5 @@
 use Rattle.std.proofs.Common.{length}
-use Rattle.redcode_diagnosis.proofs.names.joined_at.Given as goal
+use Rattle.redcode_blame.proofs.names.joined_at.Given as goal
 
 abbrev pub decreases-loop-rest : goal.decreases-loop-rest
 decreases-loop-rest l = length l.rest

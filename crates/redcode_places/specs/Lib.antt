@@ -1,0 +1,2 @@
+-- the text of a line, and a place in it
+pub mod Line
