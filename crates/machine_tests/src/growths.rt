@@ -6,14 +6,13 @@ use mars_core::{Arena, Outcome, Side};
 use refusing::{Refusing, refuse_each};
 use small_warriors::{SMALL, imp, stay, warrior};
 use std::alloc::AllocError;
-use std::test::Fail;
 use war_types::Settings;
 
 /// Its cells, the list of those that were written, and two queues.
 #[test]
-fn a_new_arena(rt: HostRuntime) -> Result<(), Fail> {
+fn a_new_arena(rt: HostRuntime) {
     let memory = Refusing::new(rt.alloc());
-    let settings = Settings::new(SMALL)?;
+    let settings = Settings::new(SMALL).expect(&rt, "they are settings");
     let runs = refuse_each(&memory, |_k| match Arena::new(&memory, &settings) {
         Ok(mut arena) => {
             assert_eq!(rt; memory.refused(), 0);
@@ -22,19 +21,16 @@ fn a_new_arena(rt: HostRuntime) -> Result<(), Fail> {
         Err(AllocError) => assert_eq!(rt; memory.refused(), 1),
     });
     assert_eq!(rt; runs, 5);
-    Ok(())
 }
 
 #[test]
-fn matches_and_rounds_need_none(rt: HostRuntime) -> Result<(), Fail> {
+fn matches_and_rounds_need_none(rt: HostRuntime) {
     let memory = Refusing::new(rt.alloc());
-    let settings = Settings::new(SMALL)?;
-    if settings.core() < 21 {
-        return Err("they have no room".into());
-    }
-    let older = warrior(rt.alloc(), &[imp()], &settings)?;
-    let younger = warrior(rt.alloc(), &[stay()], &settings)?;
-    let mut arena = Arena::new(&memory, &settings)?;
+    let settings = Settings::new(SMALL).expect(&rt, "they are settings");
+    assert!(rt; settings.core() >= 21, "they have no room");
+    let older = warrior(rt.alloc(), &[imp()], &settings).expect(&rt, "it fits");
+    let younger = warrior(rt.alloc(), &[stay()], &settings).expect(&rt, "it fits");
+    let mut arena = Arena::new(&memory, &settings).expect(&rt, "there is memory");
     memory.refuse(0, u64::MAX);
     let bout = fight(&mut arena, &older, &younger, &settings);
     arena.begin(&older, &younger, 20, Side::First);
@@ -42,13 +38,12 @@ fn matches_and_rounds_need_none(rt: HostRuntime) -> Result<(), Fail> {
     assert_eq!(rt; arena.play(), Outcome::Tie);
     assert_eq!(rt; bout.ties, 2);
     assert_eq!(rt; memory.refused(), 0);
-    Ok(())
 }
 
 #[test]
-fn a_new_hill(rt: HostRuntime) -> Result<(), Fail> {
+fn a_new_hill(rt: HostRuntime) {
     let memory = Refusing::new(rt.alloc());
-    let settings = Settings::new(SMALL)?;
+    let settings = Settings::new(SMALL).expect(&rt, "they are settings");
     let runs = refuse_each(
         &memory,
         |_k| match Hill::with_counter(&memory, settings, 7) {
@@ -60,17 +55,16 @@ fn a_new_hill(rt: HostRuntime) -> Result<(), Fail> {
         },
     );
     assert_eq!(rt; runs, 2);
-    Ok(())
 }
 
 /// A hill of one warrior, on which nobody has a point.
 #[test]
-fn a_table(rt: HostRuntime) -> Result<(), Fail> {
+fn a_table(rt: HostRuntime) {
     let memory = Refusing::new(rt.alloc());
-    let settings = Settings::new(SMALL)?;
-    let mut hill = Hill::new(rt.alloc(), settings)?;
-    let mut arena = Arena::new(rt.alloc(), &settings)?;
-    let only = warrior(rt.alloc(), &[imp()], &settings)?;
+    let settings = Settings::new(SMALL).expect(&rt, "they are settings");
+    let mut hill = Hill::new(rt.alloc(), settings).expect(&rt, "there is memory");
+    let mut arena = Arena::new(rt.alloc(), &settings).expect(&rt, "there is memory");
+    let only = warrior(rt.alloc(), &[imp()], &settings).expect(&rt, "it fits");
     let verdict = hill.judge(&mut arena, &only);
     if verdict.stays {
         hill.admit(only, &verdict);
@@ -83,5 +77,4 @@ fn a_table(rt: HostRuntime) -> Result<(), Fail> {
         Err(AllocError) => assert_eq!(rt; memory.refused(), 1),
     });
     assert_eq!(rt; runs, 2);
-    Ok(())
 }

@@ -2,7 +2,6 @@ use mars_core::{Arena, Outcome, Side, Turned};
 use small_warriors::{SMALL, dat, direct, imp, instr, stay, warrior};
 use std::alloc::Global;
 use std::process::Abort;
-use std::test::Fail;
 use war_types::{Instr, Mode, Modifier, Op, RawSettings, Settings};
 
 mod cleared;
@@ -24,27 +23,28 @@ const MODIFIERS: [Modifier; 7] = [
 
 /// A round of these two codes, the first loaded at 0 and the second at `place`.
 fn begun(
-    alloc: Global,
+    rt: &(impl Abort + AllocGlobal),
     settings: &Settings,
     codes: [&[Instr]; 2],
     place: u16,
     first: Side,
-) -> Result<Arena<Global>, Fail> {
+) -> Arena<Global> {
     let (at, core) = (usize::from(place), usize::from(settings.core()));
-    if codes[0].len() > at || at > core || codes[1].len() > core - at {
-        return Err("they have no room".into());
-    }
-    let older = warrior(alloc, codes[0], settings)?;
-    let younger = warrior(alloc, codes[1], settings)?;
-    let mut arena = Arena::new(alloc, settings)?;
+    assert!(rt;
+        codes[0].len() <= at && at <= core && codes[1].len() <= core - at,
+        "they have no room"
+    );
+    let older = warrior(rt.alloc(), codes[0], settings).expect(rt, "it fits");
+    let younger = warrior(rt.alloc(), codes[1], settings).expect(rt, "it fits");
+    let mut arena = Arena::new(rt.alloc(), settings).expect(rt, "there is memory");
     arena.begin(&older, &younger, place, first);
-    Ok(arena)
+    arena
 }
 
 /// An arena in which the first side, with this code at 0, is to move; the second has a DAT at 32.
-fn arena_of(alloc: Global, code: &[Instr]) -> Result<Arena<Global>, Fail> {
-    let settings = Settings::new(SMALL)?;
-    begun(alloc, &settings, [code, &[dat(0, 0)]], 32, Side::First)
+fn arena_of(rt: &(impl Abort + AllocGlobal), code: &[Instr]) -> Arena<Global> {
+    let settings = Settings::new(SMALL).expect(rt, "they are settings");
+    begun(rt, &settings, [code, &[dat(0, 0)]], 32, Side::First)
 }
 
 fn is_cell(arena: &Arena<Global>, at: u16, due: Instr) -> bool {
@@ -114,13 +114,8 @@ fn check_left(
 }
 
 /// One turn of this code leaves these cells, none behind them, and this queue.
-fn check_turn(
-    rt: &(impl Abort + AllocGlobal),
-    code: &[Instr],
-    left: &[Instr],
-    queue: &[u16],
-) -> Result<(), Fail> {
-    let mut arena = arena_of(rt.alloc(), code)?;
+fn check_turn(rt: &(impl Abort + AllocGlobal), code: &[Instr], left: &[Instr], queue: &[u16]) {
+    let mut arena = arena_of(rt, code);
     let due = if queue.is_empty() {
         Turned::Died
     } else {
@@ -128,5 +123,4 @@ fn check_turn(
     };
     assert_eq!(rt; arena.turn(), due, "{code:?}");
     check_left(rt, &arena, code, left, queue);
-    Ok(())
 }

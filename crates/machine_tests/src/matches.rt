@@ -1,8 +1,7 @@
 use koth_match::{fight, next_seed, position};
 use mars_core::Arena;
 use small_warriors::{LARGEST, SMALL, back, dat, die, direct, imp, instr, stay, warrior};
-use std::alloc::Global;
-use std::test::Fail;
+use std::process::Abort;
 use war_types::{Instr, Mode, Modifier, Op, RawSettings, Settings};
 
 const USUAL: RawSettings = RawSettings {
@@ -31,49 +30,46 @@ fn seeds_follow_one_another(rt: HostRuntime) {
 }
 
 #[test]
-fn positions(rt: HostRuntime) -> Result<(), Fail> {
-    let usual = Settings::new(USUAL)?;
+fn positions(rt: HostRuntime) {
+    let usual = Settings::new(USUAL).expect(&rt, "they are settings");
     assert_eq!(rt; position(1, &usual), 101);
     assert_eq!(rt; position(16_807, &usual), 1305);
     assert_eq!(rt; position(282_475_249, &usual), 1139);
-    let small = Settings::new(SMALL)?;
+    let small = Settings::new(SMALL).expect(&rt, "they are settings");
     assert_eq!(rt; position(1, &small), 11);
     assert_eq!(rt; position(16_807, &small), 32);
     let mut raw = SMALL;
     raw.distance = 32;
-    let only = Settings::new(raw)?;
+    let only = Settings::new(raw).expect(&rt, "they are settings");
     for seed in [1, 2, 16_807, 282_475_249, 2_147_483_646] {
         assert_eq!(rt; position(seed, &only), 32, "seed {seed}");
     }
-    Ok(())
 }
 
 /// Older and younger wins, and ties, of two warriors of one instruction each.
-fn bout(alloc: Global, codes: [Instr; 2], raw: RawSettings) -> Result<(u16, u16, u16), Fail> {
-    bout_of(alloc, &[codes[0]], &[codes[1]], raw)
+fn bout(rt: &(impl Abort + AllocGlobal), codes: [Instr; 2], raw: RawSettings) -> (u16, u16, u16) {
+    bout_of(rt, &[codes[0]], &[codes[1]], raw)
 }
 
 /// The same of two warriors that start at the first of their instructions.
 fn bout_of(
-    alloc: Global,
+    rt: &(impl Abort + AllocGlobal),
     older: &[Instr],
     younger: &[Instr],
     raw: RawSettings,
-) -> Result<(u16, u16, u16), Fail> {
-    let settings = Settings::new(raw)?;
-    let older = warrior(alloc, older, &settings)?;
-    let younger = warrior(alloc, younger, &settings)?;
-    let mut arena = Arena::new(alloc, &settings)?;
+) -> (u16, u16, u16) {
+    let settings = Settings::new(raw).expect(rt, "they are settings");
+    let older = warrior(rt.alloc(), older, &settings).expect(rt, "it fits");
+    let younger = warrior(rt.alloc(), younger, &settings).expect(rt, "it fits");
+    let mut arena = Arena::new(rt.alloc(), &settings).expect(rt, "there is memory");
     let first = fight(&mut arena, &older, &younger, &settings);
     let again = fight(&mut arena, &older, &younger, &settings);
-    if first != again {
-        return Err("a match is the same again".into());
-    }
-    Ok((first.older_wins, first.younger_wins, first.ties))
+    assert_eq!(rt; first, again, "a match is the same again");
+    (first.older_wins, first.younger_wins, first.ties)
 }
 
 #[test]
-fn small_matches(rt: HostRuntime) -> Result<(), Fail> {
+fn small_matches(rt: HostRuntime) {
     let rows = [
         ([imp(), stay()], 2, (0, 0, 2)),
         ([die(), die()], 2, (1, 1, 0)),
@@ -86,14 +82,13 @@ fn small_matches(rt: HostRuntime) -> Result<(), Fail> {
     for (codes, rounds, due) in rows {
         let mut raw = SMALL;
         raw.rounds = rounds;
-        assert_eq!(rt; bout(rt.alloc(), codes, raw)?, due, "{codes:?}");
+        assert_eq!(rt; bout(&rt, codes, raw), due, "{codes:?}");
     }
-    Ok(())
 }
 
 /// In the largest core, where the older goes over its end, a thousand rounds of one turn a side.
 #[test]
-fn largest_matches(rt: HostRuntime) -> Result<(), Fail> {
+fn largest_matches(rt: HostRuntime) {
     let rows = [
         ([back(), stay()], (0, 0, 1000)),
         ([back(), die()], (1000, 0, 0)),
@@ -102,9 +97,8 @@ fn largest_matches(rt: HostRuntime) -> Result<(), Fail> {
         ([die(), die()], (500, 500, 0)),
     ];
     for (codes, due) in rows {
-        assert_eq!(rt; bout(rt.alloc(), codes, LARGEST)?, due, "{codes:?}");
+        assert_eq!(rt; bout(&rt, codes, LARGEST), due, "{codes:?}");
     }
-    Ok(())
 }
 
 /// A warrior that drops a bomb on each fourth cell, against one that stays where it is, 32 cells ahead of it: without limits the seventh
@@ -112,7 +106,7 @@ fn largest_matches(rt: HostRuntime) -> Result<(), Fail> {
 /// A write limit of 32 folds them to 8, 12, 16, 52, 56, 60, 0, 4, and one of 16 to 8, 60, 0, 4, over and over.
 /// A read limit of 16 changes nothing. One of 2 lets `ADD #4, 3` add to the number of the `MOV`, so each bomb falls at 10.
 #[test]
-fn matches_under_limits(rt: HostRuntime) -> Result<(), Fail> {
+fn matches_under_limits(rt: HostRuntime) {
     let dropping = [
         direct(Op::Jmp, Modifier::B, 1, 0),
         instr(Op::Add, Modifier::AB, Mode::Immediate, 4, Mode::Direct, 3),
@@ -137,27 +131,21 @@ fn matches_under_limits(rt: HostRuntime) -> Result<(), Fail> {
             ..SMALL
         };
         assert_eq!(rt;
-            bout_of(rt.alloc(), &dropping, &[stay()], raw)?,
+            bout_of(&rt, &dropping, &[stay()], raw),
             due,
             "{read_limit} {write_limit}"
         );
     }
-    Ok(())
 }
 
 /// An imp needs a write limit of 2: within 1 it copies itself onto itself, and its next process meets an empty cell.
 #[test]
-fn an_imp_under_limits(rt: HostRuntime) -> Result<(), Fail> {
+fn an_imp_under_limits(rt: HostRuntime) {
     for (write_limit, due) in [(1, (0, 2, 0)), (2, (0, 0, 2)), (64, (0, 0, 2))] {
         let raw = RawSettings {
             write_limit,
             ..SMALL
         };
-        assert_eq!(rt;
-            bout(rt.alloc(), [imp(), stay()], raw)?,
-            due,
-            "{write_limit}"
-        );
+        assert_eq!(rt; bout(&rt, [imp(), stay()], raw), due, "{write_limit}");
     }
-    Ok(())
 }

@@ -6,11 +6,10 @@ use koth_page::{Links, hill_page};
 use refusing::{Refusing, refuse_each};
 use std::alloc::{AllocError, Global};
 use std::process::Abort;
-use std::test::Fail;
 
 /// Each of these stands in the page, and what isn't due doesn't.
-fn check_page(rt: &impl Abort, page: &[u8], due: &[&str], not_due: &[&str]) -> Result<(), Fail> {
-    let text = str::from_utf8(page)?;
+fn check_page(rt: &impl Abort, page: &[u8], due: &[&str], not_due: &[&str]) {
+    let text = str::from_utf8(page).expect(rt, "it is text");
     assert!(rt; text.starts_with("<!DOCTYPE html>\n<html lang=\"en\">\n"));
     assert!(rt; text.ends_with("</main>\n</body>\n</html>\n"));
     for part in due {
@@ -19,13 +18,12 @@ fn check_page(rt: &impl Abort, page: &[u8], due: &[&str], not_due: &[&str]) -> R
     for part in not_due {
         assert!(rt; !text.contains(*part), "{part}");
     }
-    Ok(())
 }
 
 #[test]
-fn page_of_an_empty_hill(rt: HostRuntime) -> Result<(), Fail> {
-    let hill = Hill::new(rt.alloc(), ten_rounds()?)?;
-    let page = hill_page(rt.alloc(), &hill, Links::None)?;
+fn page_of_an_empty_hill(rt: HostRuntime) {
+    let hill = Hill::new(rt.alloc(), ten_rounds(&rt)).expect(&rt, "there is memory");
+    let page = hill_page(rt.alloc(), &hill, Links::None).expect(&rt, "there is memory");
     let due = [
         "<dl>\n<div><dt>core size</dt><dd>64</dd></div>\n<div><dt>cycles</dt><dd>100</dd></div>\n",
         "<div><dt>processes</dt><dd>8</dd></div>\n<div><dt>read limit</dt><dd>64</dd></div>\n",
@@ -33,13 +31,13 @@ fn page_of_an_empty_hill(rt: HostRuntime) -> Result<(), Fail> {
         "<div><dt>distance</dt><dd>10</dd></div>\n<div><dt>rounds</dt><dd>10</dd></div>\n",
         "<div><dt>places</dt><dd>3</dd></div>\n</dl>\n<p>No warrior stands on this hill yet.</p>\n</main>\n",
     ];
-    check_page(&rt, page.as_slice(), &due, &["<table", "271828", "<script"])
+    check_page(&rt, page.as_slice(), &due, &["<table", "271828", "<script"]);
 }
 
 #[test]
-fn page_of_three_warriors(rt: HostRuntime) -> Result<(), Fail> {
-    let hill = hill_of_three(rt.alloc(), b"Scanner", b"A. K. Dewdney")?;
-    let page = hill_page(rt.alloc(), &hill, Links::None)?;
+fn page_of_three_warriors(rt: HostRuntime) {
+    let hill = hill_of_three(&rt, b"Scanner", b"A. K. Dewdney");
+    let page = hill_page(rt.alloc(), &hill, Links::None).expect(&rt, "there is memory");
     let due = [
         "<tr><td>1</td><td>3</td><td>49</td><td>16</td><td>3</td><td>1</td><td>0</td><td class=\"name\">Scanner</td><td class=\"name\">A. K. Dewdney</td></tr>\n\
         <tr><td>2</td><td>1</td><td>22</td><td>7</td><td>12</td><td>1</td><td>2</td><td class=\"name\">Imp</td><td class=\"name\">koth</td></tr>\n\
@@ -53,15 +51,15 @@ fn page_of_three_warriors(rt: HostRuntime) -> Result<(), Fail> {
         page.as_slice(),
         &due,
         &["No warrior", "271828", "<script", "<a "],
-    )
+    );
 }
 
 /// Each result leads to the first round of its match by the older warrior's entry and the younger's, from both sides; nothing else leads
 /// anywhere.
 #[test]
-fn page_with_links_to_rounds(rt: HostRuntime) -> Result<(), Fail> {
-    let hill = hill_of_three(rt.alloc(), b"Scanner", b"A. K. Dewdney")?;
-    let page = hill_page(rt.alloc(), &hill, Links::Rounds)?;
+fn page_with_links_to_rounds(rt: HostRuntime) {
+    let hill = hill_of_three(&rt, b"Scanner", b"A. K. Dewdney");
+    let page = hill_page(rt.alloc(), &hill, Links::Rounds).expect(&rt, "there is memory");
     let due = [
         "<td title=\"Scanner against Imp\"><a href=\"/replay/1/3/1\">9/1/0</a></td><td title=\"Scanner against Dwarf\"><a href=\"/replay/2/3/1\">7/2/1</a></td></tr>\n",
         "<td title=\"Imp against Scanner\"><a href=\"/replay/1/3/1\">1/9/0</a></td><td class=\"self\">&middot;</td>\
@@ -69,35 +67,29 @@ fn page_with_links_to_rounds(rt: HostRuntime) -> Result<(), Fail> {
         "<td title=\"Dwarf against Scanner\"><a href=\"/replay/2/3/1\">2/7/1</a></td>\
         <td title=\"Dwarf against Imp\"><a href=\"/replay/1/2/1\">3/6/1</a></td><td class=\"self\">&middot;</td></tr>\n",
     ];
-    check_page(&rt, page.as_slice(), &due, &["271828", "<script"])?;
-    let text = str::from_utf8(page.as_slice())?;
+    check_page(&rt, page.as_slice(), &due, &["271828", "<script"]);
+    let text = str::from_utf8(page.as_slice()).expect(&rt, "it is text");
     assert_eq!(rt; text.matches("<a ").count(), 6);
-    Ok(())
 }
 
 /// A name is cut to printable ASCII before it comes to a hill, so its letter of two bytes is two question marks.
 #[test]
-fn page_with_hostile_names(rt: HostRuntime) -> Result<(), Fail> {
-    let hill = hill_of_three(
-        rt.alloc(),
-        b"\"><script>alert('\xC3\xA9')</script>",
-        b"</td>&amp;",
-    )?;
-    let page = hill_page(rt.alloc(), &hill, Links::None)?;
+fn page_with_hostile_names(rt: HostRuntime) {
+    let hill = hill_of_three(&rt, b"\"><script>alert('\xC3\xA9')</script>", b"</td>&amp;");
+    let page = hill_page(rt.alloc(), &hill, Links::None).expect(&rt, "there is memory");
     let due = [
         "<td class=\"name\">&quot;&gt;&lt;script&gt;alert(&#39;??&#39;)&lt;/script&gt;</td><td class=\"name\">&lt;/td&gt;&amp;amp;</td></tr>\n",
         "<td title=\"Imp against &quot;&gt;&lt;script&gt;alert(&#39;??&#39;)&lt;/script&gt;\">1/9/0</td>",
     ];
-    check_page(&rt, page.as_slice(), &due, &["<script", "</td></td>"])
+    check_page(&rt, page.as_slice(), &due, &["<script", "</td></td>"]);
 }
 
 /// Each growth that is refused is the error.
 #[test]
-fn growths_of_a_page(rt: HostRuntime) -> Result<(), Fail> {
-    let hill = hill_of_three(rt.alloc(), b"Scanner", b"koth")?;
+fn growths_of_a_page(rt: HostRuntime) {
+    let hill = hill_of_three(&rt, b"Scanner", b"koth");
     check_growths(&rt, rt.alloc(), &hill, Links::None);
     check_growths(&rt, rt.alloc(), &hill, Links::Rounds);
-    Ok(())
 }
 
 fn check_growths(rt: &impl Abort, alloc: Global, hill: &Hill<Global>, links: Links) {

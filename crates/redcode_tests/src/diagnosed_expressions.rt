@@ -1,7 +1,6 @@
 //! What people are told of sources that are refused, the place and the sentence: of expressions, names and warriors.
 
 use crate::diagnoses::check_told;
-use std::test::Fail;
 
 /// Refusals of expressions.
 const EXPRESSIONS: [(&str, &str); 18] = [
@@ -142,8 +141,8 @@ const WARRIORS: [(&str, &str); 9] = [
 ];
 
 #[test]
-fn expressions_names_and_warriors(rt: HostRuntime) -> Result<(), Fail> {
-    check_told(&rt, &EXPRESSIONS)?;
-    check_told(&rt, &NAMES)?;
-    check_told(&rt, &WARRIORS)
+fn expressions_names_and_warriors(rt: HostRuntime) {
+    check_told(&rt, &EXPRESSIONS);
+    check_told(&rt, &NAMES);
+    check_told(&rt, &WARRIORS);
 }

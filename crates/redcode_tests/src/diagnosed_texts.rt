@@ -2,23 +2,24 @@
 
 use crate::sources::{defaults, repeated};
 use redcode_diagnosis::{diagnose, json_of, text_of};
-use std::alloc::Global;
+use std::alloc::{AllocError, Global};
 use std::process::Abort;
 use std::test::Fail;
+use war_types::Settings;
 
 /// The refusals of a source as text.
-fn texts(alloc: Global, source: &[u8]) -> Result<Vec<u8>, Fail> {
+fn texts(alloc: Global, source: &[u8], settings: &Settings) -> Result<Vec<u8>, AllocError> {
     let mut texts = Vec::new(alloc);
-    for told in &diagnose(alloc, source, &defaults()?)? {
+    for told in &diagnose(alloc, source, settings)? {
         texts.extend_from_slice(text_of(alloc, b"a.red", source, told)?.as_slice())?;
     }
     Ok(texts)
 }
 
 /// The refusals of a source as JSON.
-fn objects(alloc: Global, source: &[u8]) -> Result<Vec<u8>, Fail> {
+fn objects(alloc: Global, source: &[u8], settings: &Settings) -> Result<Vec<u8>, AllocError> {
     let mut objects = Vec::new(alloc);
-    for told in &diagnose(alloc, source, &defaults()?)? {
+    for told in &diagnose(alloc, source, settings)? {
         objects.extend_from_slice(json_of(alloc, b"a.red", source, told)?.as_slice())?;
     }
     Ok(objects)
@@ -52,18 +53,16 @@ const TEXTS: [(&[u8], &[u8]); 7] = [
 ];
 
 /// The refusals of a source have this text.
-fn check_text(rt: &(impl Abort + AllocGlobal), source: &[u8], want: &[u8]) -> Result<(), Fail> {
-    let found = texts(rt.alloc(), source)?;
+fn check_text(rt: &(impl Abort + AllocGlobal), source: &[u8], want: &[u8]) {
+    let found = texts(rt.alloc(), source, &defaults(rt)).expect(rt, "there is memory");
     assert_eq!(rt; found.as_slice(), want, "{source:?}");
-    Ok(())
 }
 
 #[test]
-fn texts_of_refusals(rt: HostRuntime) -> Result<(), Fail> {
+fn texts_of_refusals(rt: HostRuntime) {
     for (source, want) in &TEXTS {
-        check_text(&rt, source, want)?;
+        check_text(&rt, source, want);
     }
-    Ok(())
 }
 
 /// Sources, with the JSON of their refusals.
@@ -84,34 +83,31 @@ const OBJECTS: [(&[u8], &[u8]); 3] = [
 ];
 
 /// The refusals of a source have this JSON.
-fn check_json(rt: &(impl Abort + AllocGlobal), source: &[u8], want: &[u8]) -> Result<(), Fail> {
-    let found = objects(rt.alloc(), source)?;
+fn check_json(rt: &(impl Abort + AllocGlobal), source: &[u8], want: &[u8]) {
+    let found = objects(rt.alloc(), source, &defaults(rt)).expect(rt, "there is memory");
     assert_eq!(rt; found.as_slice(), want, "{source:?}");
-    Ok(())
 }
 
 #[test]
-fn json_of_refusals(rt: HostRuntime) -> Result<(), Fail> {
+fn json_of_refusals(rt: HostRuntime) {
     for (source, want) in &OBJECTS {
-        check_json(&rt, source, want)?;
+        check_json(&rt, source, want);
     }
-    Ok(())
 }
 
 /// The lines to blame for a source's faults.
-fn lines(alloc: Global, source: &[u8]) -> Result<Vec<u32>, Fail> {
+fn lines(alloc: Global, source: &[u8], settings: &Settings) -> Result<Vec<u32>, AllocError> {
     let mut lines = Vec::new(alloc);
-    for told in &diagnose(alloc, source, &defaults()?)? {
+    for told in &diagnose(alloc, source, settings)? {
         lines.push(told.fault.line)?;
     }
     Ok(lines)
 }
 
 /// These are the lines to blame for a source's faults.
-fn check_lines(rt: &(impl Abort + AllocGlobal), source: &str, want: &[u32]) -> Result<(), Fail> {
-    let found = lines(rt.alloc(), source.as_bytes())?;
+fn check_lines(rt: &(impl Abort + AllocGlobal), source: &str, want: &[u32]) {
+    let found = lines(rt.alloc(), source.as_bytes(), &defaults(rt)).expect(rt, "there is memory");
     assert_eq!(rt; found.as_slice(), want, "{source:?}");
-    Ok(())
 }
 
 /// Sources with several faults, and the lines to blame.
@@ -127,38 +123,32 @@ const FAULTY_LINES: [(&str, &[u32]); 4] = [
 
 /// Each faulty line is told once, the assembler's first, where the source can be written out.
 #[test]
-fn several_faults(rt: HostRuntime) -> Result<(), Fail> {
+fn several_faults(rt: HostRuntime) {
     for (source, want) in &FAULTY_LINES {
-        check_lines(&rt, source, want)?;
+        check_lines(&rt, source, want);
     }
-    Ok(())
 }
 
 /// How many refusals so many times a line has.
-fn count_of_refusals(alloc: Global, line: &[u8], count: usize) -> Result<usize, Fail> {
-    let source = repeated(alloc, line, count)?;
-    Ok(lines(alloc, source.as_slice())?.len())
+fn count_of_refusals(rt: &(impl Abort + AllocGlobal), line: &[u8], count: usize) -> usize {
+    let source = repeated(rt.alloc(), line, count).expect(rt, "there is memory");
+    let found = lines(rt.alloc(), source.as_slice(), &defaults(rt));
+    found.expect(rt, "there is memory").len()
 }
 
 /// So many times a line has refusals of this text.
-fn check_repeated(
-    rt: &(impl Abort + AllocGlobal),
-    line: &[u8],
-    count: usize,
-    want: &[u8],
-) -> Result<(), Fail> {
-    let source = repeated(rt.alloc(), line, count)?;
-    let found = texts(rt.alloc(), source.as_slice())?;
+fn check_repeated(rt: &(impl Abort + AllocGlobal), line: &[u8], count: usize, want: &[u8]) {
+    let source = repeated(rt.alloc(), line, count).expect(rt, "there is memory");
+    let found = texts(rt.alloc(), source.as_slice(), &defaults(rt)).expect(rt, "there is memory");
     assert_eq!(rt; found.as_slice(), want);
-    Ok(())
 }
 
 /// No more than 100 refusals are told, and the numbers of a source or a warrior that is too long.
 #[test]
-fn long_sources(rt: HostRuntime) -> Result<(), Fail> {
-    assert_eq!(rt; count_of_refusals(rt.alloc(), b"DAT x\n", 150)?, 100);
+fn long_sources(rt: HostRuntime) {
+    assert_eq!(rt; count_of_refusals(&rt, b"DAT x\n", 150), 100);
     let want = b"a.red:0:1: TooLong: the warrior has 101 instructions, and may have 100\n";
-    check_repeated(&rt, b"DAT 0\n", 101, want)?;
+    check_repeated(&rt, b"DAT 0\n", 101, want);
     let want = b"a.red:0:1: SourceTooLong: the source has 65537 bytes, and may have 65536\n";
-    check_repeated(&rt, b"\n", 65_537, want)
+    check_repeated(&rt, b"\n", 65_537, want);
 }

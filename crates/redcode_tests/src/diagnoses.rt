@@ -2,32 +2,26 @@
 
 use crate::sources::defaults;
 use redcode_diagnosis::diagnose;
-use std::alloc::Global;
 use std::process::Abort;
-use std::test::Fail;
 
 /// The refusals of a source, each as its line, column and width, its kind and its sentence.
-fn told(alloc: Global, source: &[u8]) -> Result<String, Fail> {
-    let mut lines = String::new(alloc);
-    for told in &diagnose(alloc, source, &defaults()?)? {
+fn told(rt: &(impl Abort + AllocGlobal), source: &[u8]) -> String {
+    let mut lines = String::new(rt.alloc());
+    for told in &diagnose(rt.alloc(), source, &defaults(rt)).expect(rt, "there is memory") {
         let fault = told.fault;
-        let sentence = str::from_utf8(told.sentence.as_slice())?;
+        let sentence = str::from_utf8(told.sentence.as_slice()).expect(rt, "there is memory");
         let (line, column, width, kind) = (fault.line, told.column, told.width, fault.kind);
-        writeln!(lines, "{line}:{column}+{width} {kind}: {sentence}")?;
+        writeln!(lines, "{line}:{column}+{width} {kind}: {sentence}").expect(rt, "there is memory");
     }
-    Ok(lines)
+    lines
 }
 
 /// Sources that are refused once, each with what is told of it.
-pub(crate) fn check_told(
-    rt: &(impl Abort + AllocGlobal),
-    rows: &[(&'static str, &'static str)],
-) -> Result<(), Fail> {
+pub(crate) fn check_told(rt: &(impl Abort + AllocGlobal), rows: &[(&'static str, &'static str)]) {
     for (source, want) in rows {
-        let found = told(rt.alloc(), source.as_bytes())?;
+        let found = told(rt, source.as_bytes());
         assert_eq!(rt; found.as_str().trim_ascii_end(), *want, "{source:?}");
     }
-    Ok(())
 }
 
 /// Refusals of blocks, names that are defined twice, and `EQU` lines.
@@ -222,8 +216,8 @@ const STATEMENTS: [(&str, &str); 23] = [
 ];
 
 #[test]
-fn blocks_and_statements(rt: HostRuntime) -> Result<(), Fail> {
-    check_told(&rt, &BLOCKS)?;
-    check_told(&rt, &COUNTS)?;
-    check_told(&rt, &STATEMENTS)
+fn blocks_and_statements(rt: HostRuntime) {
+    check_told(&rt, &BLOCKS);
+    check_told(&rt, &COUNTS);
+    check_told(&rt, &STATEMENTS);
 }

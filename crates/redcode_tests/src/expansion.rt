@@ -5,10 +5,9 @@ use redcode_expand::{Expanded, Line, LineKind, expand, predefined};
 use redcode_text::Token;
 use std::alloc::{AllocError, Global};
 use std::process::Abort;
-use std::test::Fail;
-use war_types::{RawSettings, Settings, SettingsFault};
+use war_types::{RawSettings, Settings};
 
-pub(crate) fn defaults() -> Result<Settings, SettingsFault> {
+pub(crate) fn defaults(rt: &impl Abort) -> Settings {
     Settings::new(RawSettings {
         core: 8000,
         cycles: 80_000,
@@ -21,6 +20,7 @@ pub(crate) fn defaults() -> Result<Settings, SettingsFault> {
         read_limit: 0,
         write_limit: 0,
     })
+    .expect(rt, "they are settings")
 }
 
 /// The texts of tokens, one blank before each.
@@ -42,44 +42,48 @@ fn is_place(line: &Line, row: &Row) -> bool {
 
 /// Whether a line is so.
 fn is_line(
-    alloc: Global,
+    rt: &(impl Abort + AllocGlobal),
     expanded: &Expanded<'_, Global>,
     i: usize,
     row: &Row,
-) -> Result<bool, Fail> {
+) -> bool {
     let Some(entry) = expanded.entries().get(i) else {
-        return Ok(false);
+        return false;
     };
     if !is_place(&entry.line, row) || entry.title != row.3 {
-        return Ok(false);
+        return false;
     }
-    let tokens = texts(alloc, entry.tokens.as_slice())?;
-    Ok(tokens.as_slice() == row.4)
+    let tokens = texts(rt.alloc(), entry.tokens.as_slice()).expect(rt, "there is memory");
+    tokens.as_slice() == row.4
 }
 
 /// Whether these are the lines of what is written out.
-fn have_lines(alloc: Global, expanded: &Expanded<'_, Global>, rows: &[Row]) -> Result<bool, Fail> {
+fn have_lines(
+    rt: &(impl Abort + AllocGlobal),
+    expanded: &Expanded<'_, Global>,
+    rows: &[Row],
+) -> bool {
     if expanded.entries().len() != rows.len() {
-        return Ok(false);
+        return false;
     }
     for (i, row) in rows.iter().enumerate() {
-        if !is_line(alloc, expanded, i, row)? {
-            return Ok(false);
+        if !is_line(rt, expanded, i, row) {
+            return false;
         }
     }
-    Ok(true)
+    true
 }
 
 /// Whether these are the lines: the number in the source, the kind, the instructions before, the title and the tokens.
-fn are_lines(alloc: Global, source: &[u8], rows: &[Row]) -> Result<bool, Fail> {
-    let settings = defaults()?;
-    let region = Bump::new(alloc);
-    let expanded = expand(alloc, &region, source, &settings)?;
-    have_lines(alloc, &expanded, rows)
+fn are_lines(rt: &(impl Abort + AllocGlobal), source: &[u8], rows: &[Row]) -> bool {
+    let settings = defaults(rt);
+    let region = Bump::new(rt.alloc());
+    let expanded = expand(rt.alloc(), &region, source, &settings).expect(rt, "there is memory");
+    have_lines(rt, &expanded, rows)
 }
 
 #[test]
-fn lines_and_their_texts(rt: HostRuntime) -> Result<(), Fail> {
+fn lines_and_their_texts(rt: HostRuntime) {
     let source =
         b";redcode\n;name  Imp \nORG start\nbomb DAT #0 ; c\n\nstart b: add.f 4\n;assert 1,x;c\nFOO 0\nEND x\nDAT";
     let rows: [Row; 7] = [
@@ -91,12 +95,11 @@ fn lines_and_their_texts(rt: HostRuntime) -> Result<(), Fail> {
         (8, LineKind::Other, 2, b"", b" 0"),
         (9, LineKind::End, 2, b"", b" END x"),
     ];
-    assert!(rt; are_lines(rt.alloc(), source, &rows)?);
-    Ok(())
+    assert!(rt; are_lines(&rt, source, &rows));
 }
 
 #[test]
-fn names_of_equ_lines(rt: HostRuntime) -> Result<(), Fail> {
+fn names_of_equ_lines(rt: HostRuntime) {
     let source = b";assert n\nDAT.n n+m\nx n EQU 1, m ; c\n+ n\nPIN n\nm EQU ?\nu EQU u\nEND n";
     let rows: [Row; 5] = [
         (1, LineKind::Assert, 0, b"", b" 1 , ?"),
@@ -105,29 +108,22 @@ fn names_of_equ_lines(rt: HostRuntime) -> Result<(), Fail> {
         (5, LineKind::Other, 1, b"", b" PIN n"),
         (8, LineKind::End, 1, b"", b" END 1 , ?"),
     ];
-    assert!(rt; are_lines(rt.alloc(), source, &rows)?);
-    check_label(&rt, source, b"x", Some(1))?;
-    check_label(&rt, source, b"n", None)?;
-    Ok(())
+    assert!(rt; are_lines(&rt, source, &rows));
+    check_label(&rt, source, b"x", Some(1));
+    check_label(&rt, source, b"n", None);
 }
 
 /// The address of a label of a source.
-fn label_of(alloc: Global, source: &[u8], name: &[u8]) -> Result<Option<u32>, Fail> {
-    let settings = defaults()?;
-    let region = Bump::new(alloc);
-    let expanded = expand(alloc, &region, source, &settings)?;
-    Ok(expanded.label(name))
+fn label_of(rt: &(impl Abort + AllocGlobal), source: &[u8], name: &[u8]) -> Option<u32> {
+    let settings = defaults(rt);
+    let region = Bump::new(rt.alloc());
+    let expanded = expand(rt.alloc(), &region, source, &settings).expect(rt, "there is memory");
+    expanded.label(name)
 }
 
 /// A label of a source that has this address.
-fn check_label(
-    rt: &(impl Abort + AllocGlobal),
-    source: &[u8],
-    name: &[u8],
-    address: Option<u32>,
-) -> Result<(), Fail> {
-    assert_eq!(rt; label_of(rt.alloc(), source, name)?, address);
-    Ok(())
+fn check_label(rt: &(impl Abort + AllocGlobal), source: &[u8], name: &[u8], address: Option<u32>) {
+    assert_eq!(rt; label_of(rt, source, name), address);
 }
 
 /// Labels of a source, each with its address.
@@ -135,11 +131,10 @@ fn check_labels(
     rt: &(impl Abort + AllocGlobal),
     source: &[u8],
     rows: &[(&'static [u8], Option<u32>)],
-) -> Result<(), Fail> {
+) {
     for (name, address) in rows {
-        check_label(rt, source, name, *address)?;
+        check_label(rt, source, name, *address);
     }
-    Ok(())
 }
 
 /// Labels before an instruction, and on lines of their own.
@@ -158,8 +153,8 @@ const ADDRESSES: [(&[u8], Option<u32>); 8] = [
 ];
 
 #[test]
-fn labels(rt: HostRuntime) -> Result<(), Fail> {
-    check_labels(&rt, LABELS, &ADDRESSES)
+fn labels(rt: HostRuntime) {
+    check_labels(&rt, LABELS, &ADDRESSES);
 }
 
 /// Names, and what is predefined of them on a line behind 7 instructions.
@@ -177,26 +172,24 @@ const PREDEFINED: [(&[u8], Option<i64>); 10] = [
 ];
 
 #[test]
-fn predefined_names(rt: HostRuntime) -> Result<(), Fail> {
-    let settings = defaults()?;
+fn predefined_names(rt: HostRuntime) {
+    let settings = defaults(&rt);
     for (name, value) in PREDEFINED {
         assert_eq!(rt; predefined(&settings, 7, name), value);
     }
-    Ok(())
 }
 
 #[test]
-fn blocks(rt: HostRuntime) -> Result<(), Fail> {
+fn blocks(rt: HostRuntime) {
     let source = b"i FOR 2\na&i DAT i\nROF\nJMP a02";
     let rows: [Row; 3] = [
         (2, LineKind::Operation, 0, b"", b" DAT 1"),
         (2, LineKind::Operation, 1, b"", b" DAT 2"),
         (4, LineKind::Operation, 2, b"", b" JMP a02"),
     ];
-    assert!(rt; are_lines(rt.alloc(), source, &rows)?);
-    check_label(&rt, source, b"a01", Some(0))?;
-    check_label(&rt, source, b"a02", Some(1))?;
-    Ok(())
+    assert!(rt; are_lines(&rt, source, &rows));
+    check_label(&rt, source, b"a01", Some(0));
+    check_label(&rt, source, b"a02", Some(1));
 }
 
 /// Labels of copies, and their addresses.
@@ -209,7 +202,7 @@ const COPIED_ADDRESSES: [(&[u8], Option<u32>); 5] = [
 ];
 
 #[test]
-fn copies_and_their_labels(rt: HostRuntime) -> Result<(), Fail> {
+fn copies_and_their_labels(rt: HostRuntime) {
     let source =
         b"i FOR 2\nx&i i FOR 1\na&i&i DAT.i i, j\nROF\nROF\nFOR 0\n?? 3 = junk\ny ROF\nEND\nROF";
     let rows: [Row; 3] = [
@@ -217,6 +210,6 @@ fn copies_and_their_labels(rt: HostRuntime) -> Result<(), Fail> {
         (3, LineKind::Operation, 1, b"", b" DAT . i 2 , j"),
         (9, LineKind::End, 2, b"", b" END"),
     ];
-    assert!(rt; are_lines(rt.alloc(), source, &rows)?);
-    check_labels(&rt, source, &COPIED_ADDRESSES)
+    assert!(rt; are_lines(&rt, source, &rows));
+    check_labels(&rt, source, &COPIED_ADDRESSES);
 }

@@ -146,7 +146,7 @@ const CALLS: [(Call, Option<u64>); 5] = [
 
 #[test]
 fn each_growth_of_a_call(rt: HostRuntime) -> Result<(), Fail> {
-    let settings = defaults()?;
+    let settings = defaults(&rt);
     let alloc = rt.alloc();
     let memory = Refusing::new(alloc);
     for (call, growths) in CALLS {
@@ -262,7 +262,7 @@ fn check_made(rt: &(impl Abort + AllocGlobal), settings: &Settings) -> Result<()
 
 #[test]
 fn what_takes_no_memory(rt: HostRuntime) -> Result<(), Fail> {
-    let settings = defaults()?;
+    let settings = defaults(&rt);
     check_lines(&rt, &settings)?;
     check_value(&rt)?;
     check_made(&rt, &settings)

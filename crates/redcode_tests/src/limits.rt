@@ -5,7 +5,6 @@ use crate::sources::{defaults, printed, repeated, with_length};
 use redcode_asm::assemble;
 use std::alloc::{AllocError, Global};
 use std::process::Abort;
-use std::test::Fail;
 use war_types::{AsmKind, Settings};
 
 /// How many instructions a source gives, or its refusal.
@@ -31,20 +30,18 @@ const COUNTED: [Counted; 7] = [
 ];
 
 /// So many lines give so many instructions, or are refused so.
-fn check_counted(rt: &(impl Abort + AllocGlobal), counted: &Counted) -> Result<(), Fail> {
+fn check_counted(rt: &(impl Abort + AllocGlobal), counted: &Counted) {
     let (length, line, count, answer) = *counted;
-    let source = repeated(rt.alloc(), line, count)?;
-    let found = assembled(rt.alloc(), source.as_slice(), &with_length(length)?);
+    let source = repeated(rt.alloc(), line, count).expect(rt, "there is memory");
+    let found = assembled(rt.alloc(), source.as_slice(), &with_length(rt, length));
     assert_eq!(rt; found, answer, "{count} lines");
-    Ok(())
 }
 
 #[test]
-fn limits(rt: HostRuntime) -> Result<(), Fail> {
+fn limits(rt: HostRuntime) {
     for counted in &COUNTED {
-        check_counted(&rt, counted)?;
+        check_counted(&rt, counted);
     }
-    Ok(())
 }
 
 /// Warriors of as many instructions as settings allow, and of one more.
@@ -57,31 +54,34 @@ const LONGEST: [Counted; 4] = [
 
 /// A warrior has at most as many instructions as the settings say, which is at most 200.
 #[test]
-fn the_longest_warriors(rt: HostRuntime) -> Result<(), Fail> {
+fn the_longest_warriors(rt: HostRuntime) {
     for counted in &LONGEST {
-        check_counted(&rt, counted)?;
+        check_counted(&rt, counted);
     }
-    Ok(())
 }
 
 /// The load text of a warrior of 200 instructions has a line for each.
 #[test]
-fn the_longest_load_text(rt: HostRuntime) -> Result<(), Fail> {
-    let source = repeated(rt.alloc(), b"DAT 0\n", 200)?;
+fn the_longest_load_text(rt: HostRuntime) {
+    let source = repeated(rt.alloc(), b"DAT 0\n", 200).expect(&rt, "there is memory");
     let line = "DAT.F  $     0, $     0\n";
-    let want = source_of(rt.alloc(), "ORG 0\n", line, 200, "END\n")?;
-    let found = printed(rt.alloc(), source.as_slice(), &with_length(200)?)?;
+    let want = source_of(rt.alloc(), "ORG 0\n", line, 200, "END\n").expect(&rt, "there is memory");
+    let found = printed(rt.alloc(), source.as_slice(), &with_length(&rt, 200)).expect(
+        &rt,
+        "there is memory",
+    );
     assert_eq!(rt; found.as_slice(), want.as_slice());
-    Ok(())
 }
 
 /// A line that is one too many is refused for that before its label is.
 #[test]
-fn lines_before_names(rt: HostRuntime) -> Result<(), Fail> {
-    let source = source_of(rt.alloc(), "x ", "DAT 0\n", 4096, "x DAT 0\n")?;
-    let found = assembled(rt.alloc(), source.as_slice(), &defaults()?);
+fn lines_before_names(rt: HostRuntime) {
+    let source = source_of(rt.alloc(), "x ", "DAT 0\n", 4096, "x DAT 0\n").expect(
+        &rt,
+        "there is memory",
+    );
+    let found = assembled(rt.alloc(), source.as_slice(), &defaults(&rt));
     assert_eq!(rt; found, Err((4097, AsmKind::ForLimit)));
-    Ok(())
 }
 
 /// A line, what stands behind it, and what comes of it where it is not too long.
@@ -103,24 +103,30 @@ fn check_sums(
     sign: &str,
     sums: usize,
     answer: Result<usize, (u32, AsmKind)>,
-) -> Result<(), Fail> {
+) {
     let (head, behind, _) = *limited;
-    let mut source = source_of(rt.alloc(), head, sign, 1, "")?;
-    source.extend_from_slice(source_of(rt.alloc(), "", "1+", sums, "1")?.as_slice())?;
-    source.extend_from_slice(behind.as_bytes())?;
-    let found = assembled(rt.alloc(), source.as_slice(), &defaults()?);
+    let mut source = source_of(rt.alloc(), head, sign, 1, "").expect(rt, "there is memory");
+    source
+        .extend_from_slice(
+            source_of(rt.alloc(), "", "1+", sums, "1")
+                .expect(rt, "there is memory")
+                .as_slice(),
+        )
+        .expect(rt, "there is memory");
+    source
+        .extend_from_slice(behind.as_bytes())
+        .expect(rt, "there is memory");
+    let found = assembled(rt.alloc(), source.as_slice(), &defaults(rt));
     assert_eq!(rt; found, answer, "{sums} sums");
-    Ok(())
 }
 
 #[test]
-fn tokens_of_a_line(rt: HostRuntime) -> Result<(), Fail> {
+fn tokens_of_a_line(rt: HostRuntime) {
     let refused = Err((1, AsmKind::EquLimit));
     for limited in &LIMITED {
-        check_sums(&rt, limited, "-", 255, limited.2)?;
-        check_sums(&rt, limited, "", 256, refused)?;
+        check_sums(&rt, limited, "-", 255, limited.2);
+        check_sums(&rt, limited, "", 256, refused);
     }
-    Ok(())
 }
 
 /// A number within so many parentheses.
@@ -137,25 +143,24 @@ fn check_numbers(
     rt: &(impl Abort + AllocGlobal),
     source: &[u8],
     answer: Result<u16, &'static str>,
-) -> Result<(), Fail> {
-    match (assemble(rt.alloc(), source, &defaults()?), answer) {
+) {
+    match (assemble(rt.alloc(), source, &defaults(rt)), answer) {
         (Ok(warrior), Ok(b)) => {
             assert!(rt; warrior.code().iter().all(|instr| instr.b == b));
         }
         (Err(fault), Err(text)) => {
-            let found = format!(in rt.alloc(); "{fault}")?;
+            let found = format!(in rt.alloc(); "{fault}").expect(rt, "there is memory");
             assert_eq!(rt; found.as_str(), text);
         }
         _ => assert!(rt; false, "{source:?}"),
     }
-    Ok(())
 }
 
 /// Within parentheses, so many, the number is read up to 64 of them.
 #[test]
-fn nested_parentheses(rt: HostRuntime) -> Result<(), Fail> {
-    let deepest = nested(rt.alloc(), 64)?;
-    check_numbers(&rt, deepest.as_slice(), Ok(1))?;
-    let deeper = nested(rt.alloc(), 65)?;
-    check_numbers(&rt, deeper.as_slice(), Err("1 BadExpression"))
+fn nested_parentheses(rt: HostRuntime) {
+    let deepest = nested(rt.alloc(), 64).expect(&rt, "there is memory");
+    check_numbers(&rt, deepest.as_slice(), Ok(1));
+    let deeper = nested(rt.alloc(), 65).expect(&rt, "there is memory");
+    check_numbers(&rt, deeper.as_slice(), Err("1 BadExpression"));
 }

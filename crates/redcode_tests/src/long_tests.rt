@@ -4,15 +4,14 @@ use crate::sources::{defaults, repeated};
 use redcode_asm::assemble;
 use std::alloc::{AllocError, Global};
 use std::process::Abort;
-use std::test::Fail;
 use war_types::AsmKind;
 
 /// The refusal of a source, none where it is assembled.
-fn refusal_of(alloc: Global, source: &[u8]) -> Result<Option<(u32, AsmKind)>, Fail> {
-    Ok(match assemble(alloc, source, &defaults()?) {
+fn refusal_of(rt: &(impl Abort + AllocGlobal), source: &[u8]) -> Option<(u32, AsmKind)> {
+    match assemble(rt.alloc(), source, &defaults(rt)) {
         Ok(_) => None,
         Err(fault) => Some((fault.line, fault.kind)),
-    })
+    }
 }
 
 /// A head, so many times a part, and a tail.
@@ -71,20 +70,18 @@ const REFUSED: [Long; 4] = [
 ];
 
 /// Such a source is refused so, or not.
-fn check_long(rt: &(impl Abort + AllocGlobal), long: &Long) -> Result<(), Fail> {
+fn check_long(rt: &(impl Abort + AllocGlobal), long: &Long) {
     let (head, part, count, tail, refusal) = *long;
-    let source = source_of(rt.alloc(), head, part, count, tail)?;
-    let found = refusal_of(rt.alloc(), source.as_slice())?;
+    let source = source_of(rt.alloc(), head, part, count, tail).expect(rt, "there is memory");
+    let found = refusal_of(rt, source.as_slice());
     assert_eq!(rt; found, refusal, "{part:?}");
-    Ok(())
 }
 
 #[test]
-fn long_sources_that_are_refused(rt: HostRuntime) -> Result<(), Fail> {
+fn long_sources_that_are_refused(rt: HostRuntime) {
     for long in &REFUSED {
-        check_long(&rt, long)?;
+        check_long(&rt, long);
     }
-    Ok(())
 }
 
 /// Copies of a line of as many tokens as it may have, which are numbers, a counter or the name of an `EQU`, and of blocks that are dropped.
@@ -115,72 +112,102 @@ const ASSEMBLED: [Long; 5] = [
 ];
 
 #[test]
-fn long_sources_that_are_assembled(rt: HostRuntime) -> Result<(), Fail> {
+fn long_sources_that_are_assembled(rt: HostRuntime) {
     for long in &ASSEMBLED {
-        check_long(&rt, long)?;
+        check_long(&rt, long);
     }
-    Ok(())
 }
 
 /// Eight names, each of which is twice the next one.
-fn doubled(alloc: Global) -> Result<Vec<u8>, Fail> {
-    let mut lines = Vec::new(alloc);
+fn doubled(rt: &(impl Abort + AllocGlobal)) -> Vec<u8> {
+    let mut lines = Vec::new(rt.alloc());
     for i in 0..8u32 {
-        let line = format!(in alloc; "x{} EQU x{}+x{}\n", i, i + 1, i + 1)?;
-        lines.extend_from_slice(line.as_bytes())?;
+        let line = format!(in rt.alloc(); "x{} EQU x{}+x{}\n", i, i + 1, i + 1).expect(
+            rt,
+            "there is memory",
+        );
+        lines
+            .extend_from_slice(line.as_bytes())
+            .expect(rt, "there is memory");
     }
-    Ok(lines)
+    lines
 }
 
 /// As many lines as count, each of which `EQU` makes nearly as many tokens as an operand may have.
 #[test]
-fn lines_made_long(rt: HostRuntime) -> Result<(), Fail> {
-    let mut source = doubled(rt.alloc())?;
-    let lines = source_of(rt.alloc(), "x8 EQU 1\nDAT\n", ";assert x0\n", 4086, "")?;
-    source.extend_from_slice(lines.as_slice())?;
-    assert_eq!(rt; refusal_of(rt.alloc(), source.as_slice())?, None);
-    Ok(())
+fn lines_made_long(rt: HostRuntime) {
+    let mut source = doubled(&rt);
+    let lines = source_of(rt.alloc(), "x8 EQU 1\nDAT\n", ";assert x0\n", 4086, "").expect(
+        &rt,
+        "there is memory",
+    );
+    source
+        .extend_from_slice(lines.as_slice())
+        .expect(&rt, "there is memory");
+    assert_eq!(rt; refusal_of(&rt, source.as_slice()), None);
 }
 
 /// The heads of 63 blocks, each with a counter of its own.
-fn heads(alloc: Global) -> Result<Vec<u8>, Fail> {
-    let mut lines = Vec::new(alloc);
+fn heads(rt: &(impl Abort + AllocGlobal)) -> Vec<u8> {
+    let mut lines = Vec::new(rt.alloc());
     for k in 0..63u32 {
-        let line = format!(in alloc; "c{} FOR 1\n", k)?;
-        lines.extend_from_slice(line.as_bytes())?;
+        let line = format!(in rt.alloc(); "c{} FOR 1\n", k).expect(rt, "there is memory");
+        lines
+            .extend_from_slice(line.as_bytes())
+            .expect(rt, "there is memory");
     }
-    Ok(lines)
+    lines
 }
 
 /// Copies of a line of 256 counters within 63 blocks, each with a counter of its own.
 #[test]
-fn copies_of_a_long_line_within_blocks(rt: HostRuntime) -> Result<(), Fail> {
-    let mut source = Vec::from_slice(rt.alloc(), b"DAT 0\n")?;
-    source.extend_from_slice(heads(rt.alloc())?.as_slice())?;
-    let block = source_of(rt.alloc(), "i FOR 200\n;assert i", "+i", 255, "\n")?;
-    source.extend_from_slice(block.as_slice())?;
-    source.extend_from_slice(repeated(rt.alloc(), b"ROF\n", 64)?.as_slice())?;
-    assert_eq!(rt; refusal_of(rt.alloc(), source.as_slice())?, None);
-    Ok(())
+fn copies_of_a_long_line_within_blocks(rt: HostRuntime) {
+    let mut source = Vec::from_slice(rt.alloc(), b"DAT 0\n").expect(&rt, "there is memory");
+    source
+        .extend_from_slice(heads(&rt).as_slice())
+        .expect(&rt, "there is memory");
+    let block = source_of(rt.alloc(), "i FOR 200\n;assert i", "+i", 255, "\n").expect(
+        &rt,
+        "there is memory",
+    );
+    source
+        .extend_from_slice(block.as_slice())
+        .expect(&rt, "there is memory");
+    source
+        .extend_from_slice(
+            repeated(rt.alloc(), b"ROF\n", 64)
+                .expect(&rt, "there is memory")
+                .as_slice(),
+        )
+        .expect(&rt, "there is memory");
+    assert_eq!(rt; refusal_of(&rt, source.as_slice()), None);
 }
 
 /// Terms that hold of a counter where twice the counter is above each number from 1 to 79.
-fn terms(alloc: Global) -> Result<Vec<u8>, Fail> {
-    let mut terms = Vec::new(alloc);
+fn terms(rt: &(impl Abort + AllocGlobal)) -> Vec<u8> {
+    let mut terms = Vec::new(rt.alloc());
     for k in 1..80u32 {
-        let term = format!(in alloc; " && i>{}-i", k)?;
-        terms.extend_from_slice(term.as_bytes())?;
+        let term = format!(in rt.alloc(); " && i>{}-i", k).expect(rt, "there is memory");
+        terms
+            .extend_from_slice(term.as_bytes())
+            .expect(rt, "there is memory");
     }
-    Ok(terms)
+    terms
 }
 
 /// The first of 3,000 copies of an assertion of 80 terms doesn't hold: 1 isn't greater than 2 less 1.
 #[test]
-fn copies_of_an_assertion_that_fails(rt: HostRuntime) -> Result<(), Fail> {
-    let mut source = Vec::from_slice(rt.alloc(), b"DAT 0\ni FOR 3000\n;assert i>0-i")?;
-    source.extend_from_slice(terms(rt.alloc())?.as_slice())?;
-    source.extend_from_slice(b"\nROF\n")?;
-    let refusal = refusal_of(rt.alloc(), source.as_slice())?;
+fn copies_of_an_assertion_that_fails(rt: HostRuntime) {
+    let mut source = Vec::from_slice(rt.alloc(), b"DAT 0\ni FOR 3000\n;assert i>0-i").expect(
+        &rt,
+        "there is memory",
+    );
+    source
+        .extend_from_slice(terms(&rt).as_slice())
+        .expect(&rt, "there is memory");
+    source
+        .extend_from_slice(b"\nROF\n")
+        .expect(&rt, "there is memory");
+    let refusal = refusal_of(&rt, source.as_slice());
     assert_eq!(rt; refusal, Some((3, AsmKind::AssertFalse)));
-    Ok(())
 }

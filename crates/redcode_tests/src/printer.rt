@@ -3,11 +3,10 @@
 use redcode_asm::load_text;
 use std::alloc::{AllocError, Global};
 use std::process::Abort;
-use std::test::Fail;
 use war_types::{Instr, Mode, Modifier, Op, RawSettings, Settings, Title, Warrior};
 
 /// The load text of a warrior of this code, in a core of this size.
-fn text_of(alloc: Global, core: u16, start: u16, code: &[Instr]) -> Result<Vec<u8>, Fail> {
+fn text_of(rt: &(impl Abort + AllocGlobal), core: u16, start: u16, code: &[Instr]) -> Vec<u8> {
     let settings = Settings::new(RawSettings {
         core: u32::from(core),
         cycles: 80_000,
@@ -19,12 +18,15 @@ fn text_of(alloc: Global, core: u16, start: u16, code: &[Instr]) -> Result<Vec<u
         capacity: 20,
         read_limit: 0,
         write_limit: 0,
-    })?;
+    })
+    .expect(rt, "there is memory");
     let title = Title::new(b"", "Unnamed");
     let author = Title::new(b"", "Anonymous");
-    let code = code.to_vec(alloc)?;
-    let warrior = Warrior::new(code, start, title, author, &settings).ok_or("it does not fit")?;
-    Ok(load_text(alloc, &warrior, settings.core())?)
+    let code = code.to_vec(rt.alloc()).expect(rt, "there is memory");
+    let warrior = Warrior::new(code, start, title, author, &settings)
+        .ok_or("it does not fit")
+        .expect(rt, "there is memory");
+    load_text(rt.alloc(), &warrior, settings.core()).expect(rt, "there is memory")
 }
 
 pub(crate) fn instr(
@@ -46,31 +48,24 @@ pub(crate) fn instr(
 }
 
 #[test]
-fn an_imp(rt: HostRuntime) -> Result<(), Fail> {
+fn an_imp(rt: HostRuntime) {
     let code = [instr(Op::Mov, Modifier::I, Mode::Direct, 0, Mode::Direct, 1)];
     let want = "ORG 0\nMOV.I  $     0, $     1\nEND\n";
-    assert_eq!(rt;
-        text_of(rt.alloc(), 8000, 0, &code)?.as_slice(),
-        want.as_bytes()
-    );
-    Ok(())
+    assert_eq!(rt; text_of(&rt, 8000, 0, &code).as_slice(), want.as_bytes());
 }
 
 /// A number of an instruction in a core is printed as this field.
-fn check_folded(
-    rt: &(impl Abort + AllocGlobal),
-    core: u16,
-    number: u16,
-    field: &str,
-) -> Result<(), Fail> {
+fn check_folded(rt: &(impl Abort + AllocGlobal), core: u16, number: u16, field: &str) {
     let code = [instr(Op::Dat, Modifier::F, Mode::Direct, 0, Mode::Direct, number)];
-    let want = format!(in rt.alloc(); "ORG 0\nDAT.F  $     0, ${field}\nEND\n")?;
+    let want = format!(in rt.alloc(); "ORG 0\nDAT.F  $     0, ${field}\nEND\n").expect(
+        rt,
+        "there is memory",
+    );
     assert_eq!(rt;
-        text_of(rt.alloc(), core, 0, &code)?.as_slice(),
+        text_of(rt, core, 0, &code).as_slice(),
         want.as_bytes(),
         "{number} of {core}"
     );
-    Ok(())
 }
 
 /// Cores, numbers and their fields.
@@ -85,11 +80,10 @@ const FOLDED: [(u16, u16, &str); 7] = [
 ];
 
 #[test]
-fn numbers_are_folded_above_half_the_core(rt: HostRuntime) -> Result<(), Fail> {
+fn numbers_are_folded_above_half_the_core(rt: HostRuntime) {
     for (core, number, field) in &FOLDED {
-        check_folded(&rt, *core, *number, field)?;
+        check_folded(&rt, *core, *number, field);
     }
-    Ok(())
 }
 
 /// An operation, a modifier, the modes of both operands, and the line that is due for these and the numbers 1 and 98.
@@ -231,12 +225,11 @@ fn lines_of(alloc: Global, rows: &[Named]) -> Result<String, AllocError> {
 }
 
 #[test]
-fn every_name_is_printed(rt: HostRuntime) -> Result<(), Fail> {
-    let code = code_of(rt.alloc(), &NAMES)?;
-    let want = lines_of(rt.alloc(), &NAMES)?;
+fn every_name_is_printed(rt: HostRuntime) {
+    let code = code_of(rt.alloc(), &NAMES).expect(&rt, "there is memory");
+    let want = lines_of(rt.alloc(), &NAMES).expect(&rt, "there is memory");
     assert_eq!(rt;
-        text_of(rt.alloc(), 100, 15, code.as_slice())?.as_slice(),
+        text_of(&rt, 100, 15, code.as_slice()).as_slice(),
         want.as_bytes()
     );
-    Ok(())
 }

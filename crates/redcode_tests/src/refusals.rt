@@ -2,32 +2,25 @@
 
 use crate::sources::{defaults, printed};
 use redcode_asm::assemble;
-use std::alloc::Global;
 use std::process::Abort;
-use std::test::Fail;
 use war_types::AsmKind;
 
 /// A source that is refused so.
-fn check_refused(rt: &(impl Abort + AllocGlobal), source: &str, refusal: &str) -> Result<(), Fail> {
-    match printed(rt.alloc(), source.as_bytes(), &defaults()?) {
+fn check_refused(rt: &(impl Abort + AllocGlobal), source: &str, refusal: &str) {
+    match printed(rt.alloc(), source.as_bytes(), &defaults(rt)) {
         Ok(_) => assert!(rt; false, "{source:?} is accepted"),
         Err(fault) => {
-            let found = format!(in rt.alloc(); "{fault}")?;
+            let found = format!(in rt.alloc(); "{fault}").expect(rt, "there is memory");
             assert_eq!(rt; found.as_str(), refusal, "{source:?}");
         }
     }
-    Ok(())
 }
 
 /// Sources that are refused, each with how.
-fn check_rows(
-    rt: &(impl Abort + AllocGlobal),
-    rows: &[(&'static str, &'static str)],
-) -> Result<(), Fail> {
+fn check_rows(rt: &(impl Abort + AllocGlobal), rows: &[(&'static str, &'static str)]) {
     for (source, refusal) in rows {
-        check_refused(rt, source, refusal)?;
+        check_refused(rt, source, refusal);
     }
-    Ok(())
 }
 
 /// Each refusal with a smallest source that earns it, as the document of the language has them; those of many lines are
@@ -60,8 +53,8 @@ const SMALLEST: [(&str, &str); 24] = [
 ];
 
 #[test]
-fn smallest_sources(rt: HostRuntime) -> Result<(), Fail> {
-    check_rows(&rt, &SMALLEST)
+fn smallest_sources(rt: HostRuntime) {
+    check_rows(&rt, &SMALLEST);
 }
 
 /// Sources with a line that has a fault, and how they are refused.
@@ -131,8 +124,8 @@ const FAULTS: [(&str, &str); 59] = [
 ];
 
 #[test]
-fn lines_with_a_fault(rt: HostRuntime) -> Result<(), Fail> {
-    check_rows(&rt, &FAULTS)
+fn lines_with_a_fault(rt: HostRuntime) {
+    check_rows(&rt, &FAULTS);
 }
 
 /// Of several faults the one that is told.
@@ -158,8 +151,8 @@ const ORDERED: [(&str, &str); 17] = [
 ];
 
 #[test]
-fn order_of_faults(rt: HostRuntime) -> Result<(), Fail> {
-    check_rows(&rt, &ORDERED)
+fn order_of_faults(rt: HostRuntime) {
+    check_rows(&rt, &ORDERED);
 }
 
 /// Each of 15 names is the next one.
@@ -184,21 +177,25 @@ const ROUNDS: [(&str, &str, Result<u16, (u32, AsmKind)>); 5] = [
 ];
 
 /// The B-number of the first instruction that a source gives, or its refusal.
-fn first_number(alloc: Global, source: &[u8]) -> Result<Result<u16, (u32, AsmKind)>, Fail> {
-    match assemble(alloc, source, &defaults()?) {
-        Ok(warrior) => Ok(Ok(warrior.code()[0].b)),
-        Err(fault) => Ok(Err((fault.line, fault.kind))),
+fn first_number(rt: &(impl Abort + AllocGlobal), source: &[u8]) -> Result<u16, (u32, AsmKind)> {
+    match assemble(rt.alloc(), source, &defaults(rt)) {
+        Ok(warrior) => Ok(warrior.code()[0].b),
+        Err(fault) => Err((fault.line, fault.kind)),
     }
 }
 
 /// Chains of names are followed 16 deep, and doublings up to 512 tokens. A name that nothing uses is not followed.
 #[test]
-fn rounds_of_replacement(rt: HostRuntime) -> Result<(), Fail> {
+fn rounds_of_replacement(rt: HostRuntime) {
     for (lines, others, answer) in ROUNDS {
-        let mut source = Vec::from_slice(rt.alloc(), lines.as_bytes())?;
-        source.extend_from_slice(others.as_bytes())?;
-        let found = first_number(rt.alloc(), source.as_slice())?;
+        let mut source = Vec::from_slice(rt.alloc(), lines.as_bytes()).expect(
+            &rt,
+            "there is memory",
+        );
+        source
+            .extend_from_slice(others.as_bytes())
+            .expect(&rt, "there is memory");
+        let found = first_number(&rt, source.as_slice());
         assert_eq!(rt; found, answer, "{others:?}");
     }
-    Ok(())
 }

@@ -4,43 +4,28 @@ use crate::expansion::defaults;
 use crate::long_tests::source_of;
 use bumpalo::Bump;
 use redcode_expand::expand;
-use std::alloc::Global;
 use std::process::Abort;
-use std::test::Fail;
 use war_types::{AsmFault, AsmKind, ExprFault};
 
-fn fault_of(alloc: Global, source: &[u8]) -> Result<Option<AsmFault>, Fail> {
-    let settings = defaults()?;
-    let region = Bump::new(alloc);
-    match expand(alloc, &region, source, &settings) {
-        Ok(_) => Ok(None),
-        Err(fault) => Ok(Some(fault)),
+fn fault_of(rt: &(impl Abort + AllocGlobal), source: &[u8]) -> Option<AsmFault> {
+    let settings = defaults(rt);
+    let region = Bump::new(rt.alloc());
+    match expand(rt.alloc(), &region, source, &settings) {
+        Ok(_) => None,
+        Err(fault) => Some(fault),
     }
 }
 
 /// A source that is refused on this line, for this.
-fn check_refused(
-    rt: &(impl Abort + AllocGlobal),
-    source: &[u8],
-    line: u32,
-    kind: AsmKind,
-) -> Result<(), Fail> {
-    assert_eq!(rt;
-        fault_of(rt.alloc(), source)?,
-        Some(AsmFault { line, kind })
-    );
-    Ok(())
+fn check_refused(rt: &(impl Abort + AllocGlobal), source: &[u8], line: u32, kind: AsmKind) {
+    assert_eq!(rt; fault_of(rt, source), Some(AsmFault { line, kind }));
 }
 
 /// Sources that are refused, each with the line and the kind.
-fn check_rows(
-    rt: &(impl Abort + AllocGlobal),
-    rows: &[(&'static [u8], u32, AsmKind)],
-) -> Result<(), Fail> {
+fn check_rows(rt: &(impl Abort + AllocGlobal), rows: &[(&'static [u8], u32, AsmKind)]) {
     for (source, line, kind) in rows {
-        check_refused(rt, source, *line, *kind)?;
+        check_refused(rt, source, *line, *kind);
     }
-    Ok(())
 }
 
 /// Sources that are refused, with the line and the kind.
@@ -60,14 +45,10 @@ const REFUSALS: [(&[u8], u32, AsmKind); 12] = [
 ];
 
 #[test]
-fn refusals(rt: HostRuntime) -> Result<(), Fail> {
-    check_rows(&rt, &REFUSALS)?;
-    assert_eq!(rt; fault_of(rt.alloc(), b"END\nx EQU 1\nROF\nx\nx")?, None);
-    assert_eq!(rt;
-        fault_of(rt.alloc(), b"FOR\nx\n;redcode\nx\n;redcode")?,
-        None
-    );
-    Ok(())
+fn refusals(rt: HostRuntime) {
+    check_rows(&rt, &REFUSALS);
+    assert_eq!(rt; fault_of(&rt, b"END\nx EQU 1\nROF\nx\nx"), None);
+    assert_eq!(rt; fault_of(&rt, b"FOR\nx\n;redcode\nx\n;redcode"), None);
 }
 
 /// Blocks that are refused, with the line and the kind.
@@ -90,8 +71,8 @@ const REFUSED_BLOCKS: [(&[u8], u32, AsmKind); 11] = [
 ];
 
 #[test]
-fn refusals_of_blocks(rt: HostRuntime) -> Result<(), Fail> {
-    check_rows(&rt, &REFUSED_BLOCKS)
+fn refusals_of_blocks(rt: HostRuntime) {
+    check_rows(&rt, &REFUSED_BLOCKS);
 }
 
 /// A head, a part, how often it stands behind the head, what stands behind these, and the refusal if there is one.
@@ -141,17 +122,15 @@ const LIMITED: [Limited; 6] = [
 ];
 
 /// Such a source is refused so, or not.
-fn check_limited(rt: &(impl Abort + AllocGlobal), limited: &Limited) -> Result<(), Fail> {
+fn check_limited(rt: &(impl Abort + AllocGlobal), limited: &Limited) {
     let (head, part, count, behind, refusal) = *limited;
-    let source = source_of(rt.alloc(), head, part, count, behind)?;
-    assert_eq!(rt; fault_of(rt.alloc(), source.as_slice())?, refusal);
-    Ok(())
+    let source = source_of(rt.alloc(), head, part, count, behind).expect(rt, "there is memory");
+    assert_eq!(rt; fault_of(rt, source.as_slice()), refusal);
 }
 
 #[test]
-fn limits(rt: HostRuntime) -> Result<(), Fail> {
+fn limits(rt: HostRuntime) {
     for limited in &LIMITED {
-        check_limited(&rt, limited)?;
+        check_limited(&rt, limited);
     }
-    Ok(())
 }

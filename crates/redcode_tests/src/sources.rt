@@ -3,15 +3,14 @@
 use redcode_asm::{assemble, load_text};
 use std::alloc::{AllocError, Global};
 use std::process::Abort;
-use std::test::Fail;
-use war_types::{AsmFault, AsmKind, RawSettings, Settings, SettingsFault};
+use war_types::{AsmFault, AsmKind, RawSettings, Settings};
 
-pub(crate) fn defaults() -> Result<Settings, SettingsFault> {
-    with_length(100)
+pub(crate) fn defaults(rt: &impl Abort) -> Settings {
+    with_length(rt, 100)
 }
 
 /// Settings of warriors that may have so many instructions, and lie that far apart.
-pub(crate) fn with_length(length: u32) -> Result<Settings, SettingsFault> {
+pub(crate) fn with_length(rt: &impl Abort, length: u32) -> Settings {
     Settings::new(RawSettings {
         core: 8000,
         cycles: 80_000,
@@ -24,6 +23,7 @@ pub(crate) fn with_length(length: u32) -> Result<Settings, SettingsFault> {
         read_limit: 0,
         write_limit: 0,
     })
+    .expect(rt, "they are settings")
 }
 
 /// The load text of what a source gives.
@@ -45,29 +45,27 @@ pub(crate) fn repeated(alloc: Global, line: &[u8], count: usize) -> Result<Vec<u
 }
 
 /// A source that gives this load text.
-fn check_printed(rt: &(impl Abort + AllocGlobal), source: &str, text: &str) -> Result<(), Fail> {
-    match printed(rt.alloc(), source.as_bytes(), &defaults()?) {
+fn check_printed(rt: &(impl Abort + AllocGlobal), source: &str, text: &str) {
+    match printed(rt.alloc(), source.as_bytes(), &defaults(rt)) {
         Ok(found) => assert_eq!(rt; found.as_slice(), text.as_bytes(), "{source:?}"),
         Err(fault) => assert!(rt; false, "{source:?}: {fault}"),
     }
-    Ok(())
 }
 
 /// Sources, each with its load text.
-fn check_rows(
-    rt: &(impl Abort + AllocGlobal),
-    rows: &[(&'static str, &'static str)],
-) -> Result<(), Fail> {
+fn check_rows(rt: &(impl Abort + AllocGlobal), rows: &[(&'static str, &'static str)]) {
     for (source, text) in rows {
-        check_printed(rt, source, text)?;
+        check_printed(rt, source, text);
     }
-    Ok(())
 }
 
 /// Whether a source's warrior has this name and this author.
-fn has_titles(alloc: Global, source: &str, name: &str, author: &str) -> Result<bool, Fail> {
-    let warrior = assemble(alloc, source.as_bytes(), &defaults()?)?;
-    Ok(warrior.name().bytes() == name.as_bytes() && warrior.author().bytes() == author.as_bytes())
+fn has_titles(rt: &(impl Abort + AllocGlobal), source: &str, name: &str, author: &str) -> bool {
+    let warrior = assemble(rt.alloc(), source.as_bytes(), &defaults(rt)).expect(
+        rt,
+        "there is memory",
+    );
+    warrior.name().bytes() == name.as_bytes() && warrior.author().bytes() == author.as_bytes()
 }
 
 /// Labels, a start by a label, and a bomb thrown through one.
@@ -112,8 +110,8 @@ const SOURCES: [(&str, &str); 18] = [
 ];
 
 #[test]
-fn sources_and_load_text(rt: HostRuntime) -> Result<(), Fail> {
-    check_rows(&rt, &SOURCES)
+fn sources_and_load_text(rt: HostRuntime) {
+    check_rows(&rt, &SOURCES);
 }
 
 /// Sources with names and expressions, and their load text.
@@ -170,8 +168,8 @@ const NAMED: [(&str, &str); 14] = [
 ];
 
 #[test]
-fn names_and_expressions(rt: HostRuntime) -> Result<(), Fail> {
-    check_rows(&rt, &NAMED)
+fn names_and_expressions(rt: HostRuntime) {
+    check_rows(&rt, &NAMED);
 }
 
 /// Sources, and the name and the author of the warrior.
@@ -197,22 +195,15 @@ const TITLES: [(&str, &str, &str); 5] = [
 ];
 
 /// A source whose warrior has this name and this author.
-fn check_titles(
-    rt: &(impl Abort + AllocGlobal),
-    source: &str,
-    name: &str,
-    author: &str,
-) -> Result<(), Fail> {
-    assert!(rt; has_titles(rt.alloc(), source, name, author)?, "{source:?}");
-    Ok(())
+fn check_titles(rt: &(impl Abort + AllocGlobal), source: &str, name: &str, author: &str) {
+    assert!(rt; has_titles(rt, source, name, author), "{source:?}");
 }
 
 #[test]
-fn titles(rt: HostRuntime) -> Result<(), Fail> {
+fn titles(rt: HostRuntime) {
     for (source, name, author) in &TITLES {
-        check_titles(&rt, source, name, author)?;
+        check_titles(&rt, source, name, author);
     }
-    Ok(())
 }
 
 /// Whether assembling a source lacks memory.
@@ -224,8 +215,8 @@ fn lacks_memory(alloc: Global, source: &[u8], settings: &Settings) -> bool {
 }
 
 /// No prefix of a source lacks memory.
-fn check_prefixes(rt: &(impl Abort + AllocGlobal), source: &str) -> Result<(), Fail> {
-    let settings = defaults()?;
+fn check_prefixes(rt: &(impl Abort + AllocGlobal), source: &str) {
+    let settings = defaults(rt);
     let bytes = source.as_bytes();
     for end in 0..bytes.len() {
         assert!(rt;
@@ -233,15 +224,14 @@ fn check_prefixes(rt: &(impl Abort + AllocGlobal), source: &str) -> Result<(), F
             "{source:?} up to {end}"
         );
     }
-    Ok(())
 }
 
 /// Each prefix of a source is a warrior or a refusal, and never want of memory.
 #[test]
-fn prefixes(rt: HostRuntime) -> Result<(), Fail> {
-    check_prefixes(&rt, DWARF)?;
-    check_prefixes(&rt, LABELLED)?;
-    check_prefixes(&rt, DIRECTED)
+fn prefixes(rt: HostRuntime) {
+    check_prefixes(&rt, DWARF);
+    check_prefixes(&rt, LABELLED);
+    check_prefixes(&rt, DIRECTED);
 }
 
 /// Sources with `FOR` and `ROF`, and their load text.
@@ -273,6 +263,6 @@ const BLOCKS: [(&str, &str); 6] = [
 ];
 
 #[test]
-fn blocks(rt: HostRuntime) -> Result<(), Fail> {
-    check_rows(&rt, &BLOCKS)
+fn blocks(rt: HostRuntime) {
+    check_rows(&rt, &BLOCKS);
 }

@@ -5,7 +5,6 @@ ghost use Rattle.std.specs.Prelude.{◌≤◌, length};
 use redcode_text::{Names, Token, TokenKind, scan, value};
 use std::alloc::{AllocError, Global};
 use std::process::Abort;
-use std::test::Fail;
 use war_types::ExprFault;
 
 pub(crate) type Row = (TokenKind, &'static [u8], u32);
@@ -38,15 +37,14 @@ pub(crate) const MOVED: [Row; 10] = [
 ];
 
 #[test]
-fn tokens_and_their_places(rt: HostRuntime) -> Result<(), Fail> {
-    let tokens = scan(rt.alloc(), b"MOV.I #-1,>x2 ;c")?;
+fn tokens_and_their_places(rt: HostRuntime) {
+    let tokens = scan(rt.alloc(), b"MOV.I #-1,>x2 ;c").expect(&rt, "there is memory");
     assert!(rt; gives(&tokens, &MOVED));
-    Ok(())
 }
 
 #[test]
-fn longest_symbols_and_bad_bytes(rt: HostRuntime) -> Result<(), Fail> {
-    let tokens = scan(rt.alloc(), b"\t<==&&&|||=1_a\n")?;
+fn longest_symbols_and_bad_bytes(rt: HostRuntime) {
+    let tokens = scan(rt.alloc(), b"\t<==&&&|||=1_a\n").expect(&rt, "there is memory");
     let rows: [Row; 10] = [
         (TokenKind::Symbol, b"<=", 1),
         (TokenKind::Bad, b"=", 3),
@@ -60,16 +58,18 @@ fn longest_symbols_and_bad_bytes(rt: HostRuntime) -> Result<(), Fail> {
         (TokenKind::Bad, b"\n", 14),
     ];
     assert!(rt; gives(&tokens, &rows));
-    Ok(())
 }
 
 #[test]
-fn lines_without_tokens(rt: HostRuntime) -> Result<(), AllocError> {
+fn lines_without_tokens(rt: HostRuntime) {
     let lines: [&[u8]; 2] = [b"", b" \t\r "];
     for line in lines {
-        assert!(rt; scan(rt.alloc(), line)?.is_empty());
+        assert!(rt;
+            scan(rt.alloc(), line)
+                .expect(&rt, "there is memory")
+                .is_empty()
+        );
     }
-    Ok(())
 }
 
 /// Each name has one value, or none has any.
@@ -103,21 +103,19 @@ fn check_value(
     line: &[u8],
     known: Option<i64>,
     wanted: Result<i64, ExprFault>,
-) -> Result<(), AllocError> {
+) {
     assert!(rt; line.len() <= 65536);
-    assert_eq!(rt; value_of_line(rt.alloc(), line, known)?, wanted);
-    Ok(())
+    assert_eq!(rt;
+        value_of_line(rt.alloc(), line, known).expect(rt, "there is memory"),
+        wanted
+    );
 }
 
 /// Expressions in which no name is known, each with what it comes to.
-fn check_rows(
-    rt: &(impl Abort + AllocGlobal),
-    rows: &[(&'static [u8], Result<i64, ExprFault>)],
-) -> Result<(), AllocError> {
+fn check_rows(rt: &(impl Abort + AllocGlobal), rows: &[(&'static [u8], Result<i64, ExprFault>)]) {
     for (line, wanted) in rows {
-        check_value(rt, line, None, *wanted)?;
+        check_value(rt, line, None, *wanted);
     }
-    Ok(())
 }
 
 /// Expressions without a name that is known, and what each comes to.
@@ -143,9 +141,9 @@ const VALUES: [(&[u8], Result<i64, ExprFault>); 18] = [
 ];
 
 #[test]
-fn values_and_faults(rt: HostRuntime) -> Result<(), AllocError> {
-    check_rows(&rt, &VALUES)?;
-    check_value(&rt, b"x*x-1", Some(7), Ok(48))
+fn values_and_faults(rt: HostRuntime) {
+    check_rows(&rt, &VALUES);
+    check_value(&rt, b"x*x-1", Some(7), Ok(48));
 }
 
 /// A number within so many parentheses.
@@ -162,9 +160,9 @@ fn nested(alloc: Global, depth: usize) -> Result<Vec<u8>, AllocError> {
 }
 
 #[test]
-fn parentheses_up_to_64_deep(rt: HostRuntime) -> Result<(), AllocError> {
-    let deepest = nested(rt.alloc(), 64)?;
-    check_value(&rt, &deepest, None, Ok(7))?;
-    let deeper = nested(rt.alloc(), 65)?;
-    check_value(&rt, &deeper, None, Err(ExprFault::BadExpression))
+fn parentheses_up_to_64_deep(rt: HostRuntime) {
+    let deepest = nested(rt.alloc(), 64).expect(&rt, "there is memory");
+    check_value(&rt, &deepest, None, Ok(7));
+    let deeper = nested(rt.alloc(), 65).expect(&rt, "there is memory");
+    check_value(&rt, &deeper, None, Err(ExprFault::BadExpression));
 }

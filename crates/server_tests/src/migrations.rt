@@ -104,7 +104,8 @@ fn files_from_which_no_hill_is_moved(rt: HostRuntime) {
     check_unmoved(&rt, &none[..SECTOR], "TooSmall\n");
     check_unmoved(&rt, &none, "NotAHill\n");
     let mut bytes = earlier_hill::bytes();
-    check_unmoved(&rt, &bytes[..9 * SECTOR], "TooSmall\n");
+    let cut = bytes.get(..9 * SECTOR).expect(&rt, "nine sectors");
+    check_unmoved(&rt, cut, "TooSmall\n");
     let damaged = 3 * SECTOR + 288;
     bytes[damaged] = 1;
     check_unmoved(&rt, &bytes, "Damaged\n");

@@ -3,11 +3,11 @@
 //! A warrior fits its settings, which is what the calls that take one ask for; nothing here says what is expected: that is the tests' part.
 #![tactic(auto)]
 
-ghost use Rattle.std.specs.Prelude.{◌≡◌, IfOk};
+ghost use Rattle.std.specs.Prelude.{◌≡◌};
+ghost use Rattle.std.specs.Option.{IfSome};
 ghost use Rattle.war_types.specs.Warrior.{Fits};
 
 use std::alloc::Global;
-use std::test::Fail;
 use war_types::{Instr, Mode, Modifier, Op, RawSettings, Settings, Title, Warrior};
 
 pub const SMALL: RawSettings = RawSettings {
@@ -77,25 +77,25 @@ pub fn back() -> Instr {
     direct(Op::Mov, Modifier::I, 0, 65534)
 }
 
-/// A warrior of this code that starts at its first instruction, of this name and this author.
+/// A warrior of this code that starts at its first instruction, of this name and this author, if it fits and there is memory.
 pub fn titled(
     alloc: Global,
     code: &[Instr],
     name: &[u8],
     author: &[u8],
     settings: &Settings,
-) -> Result<Warrior<Global>, Fail>
-    ensures { IfOk result (λ w. Fits settings.now w × (w.code ≡ code.now)) }
+) -> Option<Warrior<Global>>
+    ensures { IfSome result (λ w. Fits settings.now w × (w.code ≡ code.now)) }
 {
-    let code = Vec::from_slice(alloc, code)?;
+    let code = Vec::from_slice(alloc, code).ok()?;
     let name = Title::new(name, "Unnamed");
     let author = Title::new(author, "Anonymous");
-    Ok(Warrior::new(code, 0, name, author, settings).ok_or("it fits")?)
+    Warrior::new(code, 0, name, author, settings)
 }
 
 /// The same by the first author of all.
-pub fn warrior(alloc: Global, code: &[Instr], settings: &Settings) -> Result<Warrior<Global>, Fail>
-    ensures { IfOk result (λ w. Fits settings.now w × (w.code ≡ code.now)) }
+pub fn warrior(alloc: Global, code: &[Instr], settings: &Settings) -> Option<Warrior<Global>>
+    ensures { IfSome result (λ w. Fits settings.now w × (w.code ≡ code.now)) }
 {
     titled(alloc, code, b"Imp", b"A. K. Dewdney", settings)
 }

@@ -29,35 +29,32 @@ fn left_over(arena: &Arena<Global>, core: u16, cells: [(u16, Instr); 2]) -> Opti
 }
 
 /// The first cell that is not as a round of `DAT 1, 1` at 0 and `DAT 2, 2` at 20 begins, behind two matches in the same arena.
-fn left_of_matches(alloc: Global, raw: RawSettings) -> Result<Option<u16>, Fail> {
-    let settings = Settings::new(raw)?;
-    if settings.core() < 21 {
-        return Err("they have no room".into());
-    }
-    let older = warrior(alloc, &[imp()], &settings)?;
-    let younger = warrior(alloc, &[stay()], &settings)?;
-    let one = warrior(alloc, &[dat(1, 1)], &settings)?;
-    let two = warrior(alloc, &[dat(2, 2)], &settings)?;
-    let mut arena = Arena::new(alloc, &settings)?;
+fn left_of_matches(rt: &(impl Abort + AllocGlobal), raw: RawSettings) -> Option<u16> {
+    let settings = Settings::new(raw).expect(rt, "they are settings");
+    assert!(rt; settings.core() >= 21, "they have no room");
+    let older = warrior(rt.alloc(), &[imp()], &settings).expect(rt, "it fits");
+    let younger = warrior(rt.alloc(), &[stay()], &settings).expect(rt, "it fits");
+    let one = warrior(rt.alloc(), &[dat(1, 1)], &settings).expect(rt, "it fits");
+    let two = warrior(rt.alloc(), &[dat(2, 2)], &settings).expect(rt, "it fits");
+    let mut arena = Arena::new(rt.alloc(), &settings).expect(rt, "there is memory");
     fight(&mut arena, &older, &younger, &settings);
     fight(&mut arena, &older, &younger, &settings);
     arena.begin(&one, &two, 20, Side::First);
-    Ok(left_over(&arena, settings.core(), [(0, dat(1, 1)), (20, dat(2, 2))]))
+    left_over(&arena, settings.core(), [(0, dat(1, 1)), (20, dat(2, 2))])
 }
 
 #[test]
-fn nothing_is_left_of_a_match(rt: HostRuntime) -> Result<(), Fail> {
-    assert_eq!(rt; left_of_matches(rt.alloc(), SMALL)?, None);
-    assert_eq!(rt; left_of_matches(rt.alloc(), LARGE)?, None);
-    Ok(())
+fn nothing_is_left_of_a_match(rt: HostRuntime) {
+    assert_eq!(rt; left_of_matches(&rt, SMALL), None);
+    assert_eq!(rt; left_of_matches(&rt, LARGE), None);
 }
 
 /// An imp goes from the last cells of the largest core to the first, where the other side then executes it too.
 #[test]
-fn across_the_end_of_the_largest_core(rt: HostRuntime) -> Result<(), Fail> {
-    let settings = Settings::new(LARGE)?;
+fn across_the_end_of_the_largest_core(rt: HostRuntime) {
+    let settings = Settings::new(LARGE).expect(&rt, "they are settings");
     let codes: [&[Instr]; 2] = [&[stay()], &[imp()]];
-    let mut arena = begun(rt.alloc(), &settings, codes, 65533, Side::Second)?;
+    let mut arena = begun(&rt, &settings, codes, 65533, Side::Second);
     for _ in 0..5 {
         arena.turn();
     }
@@ -66,17 +63,16 @@ fn across_the_end_of_the_largest_core(rt: HostRuntime) -> Result<(), Fail> {
     assert!(rt; is_cell(&arena, 0, imp()));
     assert!(rt; is_cell(&arena, 1, imp()));
     assert!(rt; is_cell(&arena, 2, dat(0, 0)));
-    Ok(())
 }
 
 /// A hundred instructions up to the last cell: the first of them goes over the end to where the other side starts, which
 /// then executes it too. So the one cycle is over.
 #[test]
-fn one_cycle_under_the_largest_settings(rt: HostRuntime) -> Result<(), Fail> {
-    let settings = Settings::new(LARGEST)?;
+fn one_cycle_under_the_largest_settings(rt: HostRuntime) {
+    let settings = Settings::new(LARGEST).expect(&rt, "they are settings");
     let over = direct(Op::Mov, Modifier::I, 0, 100);
     let codes: [&[Instr]; 2] = [&[stay()], &[over; 100]];
-    let mut arena = begun(rt.alloc(), &settings, codes, 65435, Side::Second)?;
+    let mut arena = begun(&rt, &settings, codes, 65435, Side::Second);
     check_outcome(&rt, &mut arena, Outcome::Tie);
     check_process(&rt, &arena, Side::First, 0, Some(1));
     check_process(&rt, &arena, Side::Second, 0, Some(65436));
@@ -90,5 +86,4 @@ fn one_cycle_under_the_largest_settings(rt: HostRuntime) -> Result<(), Fail> {
         assert!(rt; is_cell(&arena, at, due), "at {at}");
     }
     check_next(&rt, &mut arena, Turned::Over);
-    Ok(())
 }

@@ -15,17 +15,16 @@ const ROWS: [(Mode, u16, u16, u16); 8] = [
 ];
 
 #[test]
-fn a_operands(rt: HostRuntime) -> Result<(), Fail> {
+fn a_operands(rt: HostRuntime) {
     for (mode, pointer, a, b) in ROWS {
         let i = instr(Op::Jmp, Modifier::B, mode, 1, Mode::Direct, 0);
-        check_turn(&rt, &[i, dat(4, 6)], &[i, dat(a, b)], &[pointer])?;
+        check_turn(&rt, &[i, dat(4, 6)], &[i, dat(a, b)], &[pointer]);
     }
-    Ok(())
 }
 
 /// MOV.A #9 writes 9 over the A number of the cell that the B operand points to.
 #[test]
-fn b_operands(rt: HostRuntime) -> Result<(), Fail> {
+fn b_operands(rt: HostRuntime) {
     for (mode, pointer, a, b) in ROWS {
         let i = instr(Op::Mov, Modifier::A, Mode::Immediate, 9, mode, 1);
         let code = [
@@ -49,15 +48,14 @@ fn b_operands(rt: HostRuntime) -> Result<(), Fail> {
             dat(1, 2),
         ];
         left[usize::from(pointer % 8)].a = 9;
-        check_turn(&rt, &code, &left, &[1])?;
+        check_turn(&rt, &code, &left, &[1]);
     }
-    Ok(())
 }
 
 /// B is evaluated on the core that A left: A's postincrement of cell 1 moves B's pointer.
 #[test]
-fn a_wholly_before_b(rt: HostRuntime) -> Result<(), Fail> {
+fn a_wholly_before_b(rt: HostRuntime) {
     let i = instr(Op::Mov, Modifier::B, Mode::BPost, 1, Mode::BIndirect, 1);
     let code = [i, dat(0, 1), dat(0, 8), dat(0, 0)];
-    check_turn(&rt, &code, &[i, dat(0, 2), dat(0, 8), dat(0, 8)], &[1])
+    check_turn(&rt, &code, &[i, dat(0, 2), dat(0, 8), dat(0, 8)], &[1]);
 }

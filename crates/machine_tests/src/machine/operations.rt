@@ -4,7 +4,7 @@ use super::*;
 
 /// What each modifier, in the order of `MODIFIERS`, makes of a target of 7 and 11 with 2 and 3.
 #[test]
-fn numbers(rt: HostRuntime) -> Result<(), Fail> {
+fn numbers(rt: HostRuntime) {
     let rows: [(Op, [(u16, u16); 7]); 6] = [
         (
             Op::Mov,
@@ -55,15 +55,14 @@ fn numbers(rt: HostRuntime) -> Result<(), Fail> {
                 &[i, dat(2, 3), dat(7, 11)],
                 &[i, dat(2, 3), dat(a, b)],
                 &[1],
-            )?;
+            );
         }
     }
-    Ok(())
 }
 
 /// Under each modifier the process goes to 9, to the next instruction, or past it.
 #[test]
-fn tests_of_numbers(rt: HostRuntime) -> Result<(), Fail> {
+fn tests_of_numbers(rt: HostRuntime) {
     let rows: [(Op, Instr, Instr, [u16; 7]); 5] = [
         (Op::Jmz, dat(9, 9), dat(0, 1), [9, 1, 1, 9, 1, 1, 1]),
         (Op::Jmn, dat(9, 9), dat(0, 1), [1, 9, 9, 1, 9, 9, 9]),
@@ -77,15 +76,14 @@ fn tests_of_numbers(rt: HostRuntime) -> Result<(), Fail> {
                 Op::Jmz | Op::Jmn => direct(op, modifier, 9, 2),
                 _ => direct(op, modifier, 1, 2),
             };
-            check_turn(&rt, &[i, a, b], &[i, a, b], &[next])?;
+            check_turn(&rt, &[i, a, b], &[i, a, b], &[next]);
         }
     }
-    Ok(())
 }
 
 /// DJN on 1 and 2, under each modifier.
 #[test]
-fn djn_lowers_and_tests(rt: HostRuntime) -> Result<(), Fail> {
+fn djn_lowers_and_tests(rt: HostRuntime) {
     let rows = [
         (0, 2, 1),
         (1, 1, 9),
@@ -97,14 +95,13 @@ fn djn_lowers_and_tests(rt: HostRuntime) -> Result<(), Fail> {
     ];
     for (modifier, (a, b, next)) in MODIFIERS.into_iter().zip(rows) {
         let i = direct(Op::Djn, modifier, 9, 1);
-        check_turn(&rt, &[i, dat(1, 2)], &[i, dat(a, b)], &[next])?;
+        check_turn(&rt, &[i, dat(1, 2)], &[i, dat(a, b)], &[next]);
     }
-    Ok(())
 }
 
 /// The operations that no modifier turns.
 #[test]
-fn modifiers_that_say_nothing(rt: HostRuntime) -> Result<(), Fail> {
+fn modifiers_that_say_nothing(rt: HostRuntime) {
     let rows: [(Op, &[u16]); 4] = [
         (Op::Dat, &[]),
         (Op::Jmp, &[9]),
@@ -114,15 +111,14 @@ fn modifiers_that_say_nothing(rt: HostRuntime) -> Result<(), Fail> {
     for (op, queue) in rows {
         for modifier in MODIFIERS {
             let i = direct(op, modifier, 9, 1);
-            check_turn(&rt, &[i, dat(1, 2)], &[i, dat(1, 2)], queue)?;
+            check_turn(&rt, &[i, dat(1, 2)], &[i, dat(1, 2)], queue);
         }
     }
-    Ok(())
 }
 
 /// A pair that is divided by 0 is left as it is, the other is written, and the process ends.
 #[test]
-fn division_by_zero(rt: HostRuntime) -> Result<(), Fail> {
+fn division_by_zero(rt: HostRuntime) {
     for (op, a, b) in [(Op::Div, 3, 3), (Op::Mdl, 1, 2)] {
         let i = direct(op, Modifier::F, 1, 2);
         check_turn(
@@ -130,19 +126,18 @@ fn division_by_zero(rt: HostRuntime) -> Result<(), Fail> {
             &[i, dat(0, 3), dat(7, 11)],
             &[i, dat(0, 3), dat(7, b)],
             &[],
-        )?;
+        );
         check_turn(
             &rt,
             &[i, dat(2, 0), dat(7, 11)],
             &[i, dat(2, 0), dat(a, 11)],
             &[],
-        )?;
+        );
         check_turn(
             &rt,
             &[i, dat(0, 0), dat(7, 11)],
             &[i, dat(0, 0), dat(7, 11)],
             &[],
-        )?;
+        );
     }
-    Ok(())
 }

@@ -3,7 +3,7 @@
 use super::*;
 
 #[test]
-fn moves_and_sums(rt: HostRuntime) -> Result<(), Fail> {
+fn moves_and_sums(rt: HostRuntime) {
     let rows: [(&[Instr], &[Instr], &[u16]); 7] = [
         (
             &[direct(Op::Mov, Modifier::I, 0, 1)],
@@ -61,13 +61,12 @@ fn moves_and_sums(rt: HostRuntime) -> Result<(), Fail> {
         ),
     ];
     for (code, left, queue) in rows {
-        check_turn(&rt, code, left, queue)?;
+        check_turn(&rt, code, left, queue);
     }
-    Ok(())
 }
 
 #[test]
-fn jumps(rt: HostRuntime) -> Result<(), Fail> {
+fn jumps(rt: HostRuntime) {
     let rows: [(&[Instr], &[Instr], &[u16]); 6] = [
         (
             &[
@@ -107,13 +106,12 @@ fn jumps(rt: HostRuntime) -> Result<(), Fail> {
         ),
     ];
     for (code, left, queue) in rows {
-        check_turn(&rt, code, left, queue)?;
+        check_turn(&rt, code, left, queue);
     }
-    Ok(())
 }
 
 #[test]
-fn skips_and_splits(rt: HostRuntime) -> Result<(), Fail> {
+fn skips_and_splits(rt: HostRuntime) {
     let rows: [(&[Instr], &[Instr], &[u16]); 5] = [
         (
             &[
@@ -162,13 +160,12 @@ fn skips_and_splits(rt: HostRuntime) -> Result<(), Fail> {
         ),
     ];
     for (code, left, queue) in rows {
-        check_turn(&rt, code, left, queue)?;
+        check_turn(&rt, code, left, queue);
     }
-    Ok(())
 }
 
 #[test]
-fn operands(rt: HostRuntime) -> Result<(), Fail> {
+fn operands(rt: HostRuntime) {
     let rows: [(&[Instr], &[Instr], &[u16]); 4] = [
         (
             &[instr(Op::Dat, Modifier::F, Mode::BPre, 1, Mode::Direct, 0)],
@@ -209,13 +206,12 @@ fn operands(rt: HostRuntime) -> Result<(), Fail> {
         ),
     ];
     for (code, left, queue) in rows {
-        check_turn(&rt, code, left, queue)?;
+        check_turn(&rt, code, left, queue);
     }
-    Ok(())
 }
 
 #[test]
-fn postincrements_and_zeros(rt: HostRuntime) -> Result<(), Fail> {
+fn postincrements_and_zeros(rt: HostRuntime) {
     let div = direct(Op::Div, Modifier::F, 1, 2);
     let to_itself = instr(Op::Mov, Modifier::B, Mode::Direct, 1, Mode::BPost, 1);
     let from_it = instr(Op::Mov, Modifier::B, Mode::BPost, 1, Mode::Direct, 2);
@@ -233,7 +229,6 @@ fn postincrements_and_zeros(rt: HostRuntime) -> Result<(), Fail> {
         ),
     ];
     for (code, left, queue) in rows {
-        check_turn(&rt, code, left, queue)?;
+        check_turn(&rt, code, left, queue);
     }
-    Ok(())
 }

@@ -3,4 +3,4 @@ use Rattle.std.specs.Prelude.{◌≡◌}
 use Rattle.machine_tests.proofs.hill.full_hill.earned.Given as goal
 
 abbrev pub invariant-loop-other : goal.invariant-loop-other
-invariant-loop-other l = l.arena.settings ≡ l.settings
+invariant-loop-other g l = l.arena.settings ≡ l.settings
