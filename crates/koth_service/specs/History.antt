@@ -163,6 +163,7 @@ with_browser n browser m = record {
   browsers = instead m.browsers n browser;
 }
 
+-- bytes of a browser came; it was given its answer; and bytes went out to it
 abbrev pub browser_came : List ℕ → Browser → Browser
 browser_came bytes b = record { there = b.there; came = b.came ++ bytes; reply = b.reply; went = b.went }
 
