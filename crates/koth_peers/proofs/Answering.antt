@@ -11,7 +11,7 @@ use Rattle.koth_session.specs.Transcript.{Exchange}
 use Rattle.koth_peers.specs.Peer.{AnswersPeer, Says}
 use Rattle.koth_peers.specs.declared.end.PeerEnd.{PeerEnd}
 use Rattle.koth_peers.specs.declared.end.PeerEnd.TheVariants as ends
-use Rattle.koth_peers.proofs.Exchanges.{served_same}
+use Rattle.koth_session.proofs.Exchanges.{served_same}
 use Rattle.koth_peers.proofs.Submissions.{IsExchanged}
 
 module _ {D : Type 0} (facts : DeviceFacts D) where

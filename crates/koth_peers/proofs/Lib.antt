@@ -1,5 +1,4 @@
 mod Answering
-mod Exchanges
 mod Holding
 mod Lengths
 mod Past

@@ -13,7 +13,7 @@ use Rattle.hill_store.specs.declared.reply.Reply.TheVariants as replies
 use Rattle.koth_session.specs.Reply.{reply_line}
 use Rattle.koth_session.specs.Sessions.{AreServed, HasWorn, has_failed}
 use Rattle.koth_session.specs.Transcript.{Exchange, Mark, answer, hill_after}
-use Rattle.koth_peers.proofs.Exchanges.{after_one, served_same}
+use Rattle.koth_session.proofs.Exchanges.{after_one, served_same}
 
 module _ {D : Type 0} (facts : DeviceFacts D) where
   left : (old new : Seen D) (e : Exchange) → new ≡ old → hill_after old.hill (e ∷ []) ≡ old.hill → (HasWorn (e ∷ []) → old.generation ≡ 2 ^ 64 - 1)

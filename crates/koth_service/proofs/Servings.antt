@@ -9,7 +9,7 @@ use Rattle.koth_protocol.specs.Reading.{commands_met}
 use Rattle.koth_protocol.specs.declared.script.Met.{Met}
 use Rattle.koth_protocol.specs.declared.script.Met.TheVariants as met
 use Rattle.koth_session.specs.Sessions.{AreServed, IsLeftOff}
-use Rattle.koth_session.specs.Transcript.{Exchange, answer, command_in, hill_after, hill_next}
+use Rattle.koth_session.specs.Transcript.{Exchange, answer, command_in, hill_after}
 use Rattle.koth_peers.specs.Inbox.{is_met}
 use Rattle.koth_peers.specs.Peer.{AnswersPeer, HasRead, IsPeer, Serves, command_due, command_of, is_due}
 use Rattle.koth_peers.specs.Peers.{Moves, MovesAt, ServesNext, Slots, is_due_in, peer_at, step_after}
@@ -25,10 +25,7 @@ use Rattle.koth_service.specs.Standing.{AreStanding, GoesOn, IsCutOff, StandsAft
 use Rattle.koth_service.specs.declared.connections.Stage.{Stage}
 use Rattle.koth_service.proofs.Steps.{stays}
 use Rattle.koth_service.proofs.Moments.{IsSame, instead_other, instead_same, same, same_stands, standing_at}
-
-hill_append : (hill : Kept) (es fs : List Exchange) → hill_after hill (es ++ fs) ≡ hill_after (hill_after hill es) fs
-hill_append hill [] fs = refl
-hill_append hill (e ∷ es) fs = hill_append (hill_next hill e) es fs
+use Rattle.koth_session.proofs.Exchanges.{hill_append}
 
 -- ---- the command that is due is the next one in what came
 

@@ -19,7 +19,7 @@ use Rattle.koth_session.specs.Sessions.{AnswersCommand, HoldsAt, IsAnsweredTo, I
 use Rattle.koth_session.specs.Transcript.{Exchange, Mark, after_anew, submitted}
 use Rattle.koth_session.specs.declared.sessions.SessionEnd.{SessionEnd}
 use Rattle.koth_session.specs.declared.sessions.SessionEnd.TheVariants as ends
-use Rattle.koth_session.proofs.Serving.{served_on}
+use Rattle.koth_session.proofs.Exchanges.{served_on}
 
 steps_append : (h : Hill) (xs ys : List (List ℕ)) → steps h (xs ++ ys) ≡ steps (steps h xs) ys
 steps_append h [] ys = refl

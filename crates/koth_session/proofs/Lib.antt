@@ -1,4 +1,5 @@
 mod Endings
+pub mod Exchanges
 mod Holding
 mod Living
 mod Serving

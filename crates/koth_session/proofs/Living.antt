@@ -14,7 +14,7 @@ use Rattle.koth_session.specs.Transcript.{Exchange, submitted}
 use Rattle.koth_session.specs.declared.sessions.SessionEnd.{SessionEnd}
 use Rattle.koth_session.specs.declared.sessions.SessionEnd.TheVariants as ends
 use Rattle.koth_session.proofs.Holding.{hill_is}
-use Rattle.koth_session.proofs.Serving.{served_on}
+use Rattle.koth_session.proofs.Exchanges.{served_on}
 
 module _ {D : Type 0} (facts : DeviceFacts D) where
   -- commands were answered

@@ -18,7 +18,7 @@ use Rattle.koth_session.specs.Sessions.{AnswersCommand, HasWorn, AreServed, Scen
 use Rattle.koth_protocol.specs.Written.{WritesPart}
 use Rattle.koth_session.specs.Transcript.{Exchange, Mark, answer, command_in, hill_after}
 use Rattle.koth_session.specs.declared.sessions.SessionEnd.TheVariants as ends
-use Rattle.koth_session.proofs.Serving.{after_one, served_same}
+use Rattle.koth_session.proofs.Exchanges.{after_one, served_same}
 
 module _ {D : Type 0} (facts : DeviceFacts D) where
   -- an exchange was answered by this text, whole or in part

@@ -5,7 +5,8 @@ use Rattle.koth_protocol.specs.Reading.{Reads}
 use Rattle.koth_session.specs.Sessions.{AnswersCommand, said, scene}
 use Rattle.koth_session.specs.Transcript.{Exchange}
 use Rattle.koth_protocol.specs.declared.script.Met.TheVariants as met
-use Rattle.koth_session.proofs.Serving.{command_met, nothing_met, quit_met, served_same}
+use Rattle.koth_session.proofs.Exchanges.{served_same}
+use Rattle.koth_session.proofs.Serving.{command_met, nothing_met, quit_met}
 use Rattle.koth_session.proofs.Submissions.{answers_said}
 use Rattle.koth_session.proofs.sessions.serve_byte.Goals as goal
 

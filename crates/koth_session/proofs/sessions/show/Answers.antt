@@ -1,7 +1,7 @@
 -- The table is answered, whole or in part.
 use Rattle.std.proofs.Common.{refl, ◌∙◌}
 use Rattle.koth_session.specs.Transcript.{Exchange}
-use Rattle.koth_session.proofs.Serving.{served_same}
+use Rattle.koth_session.proofs.Exchanges.{served_same}
 use Rattle.koth_session.proofs.Submissions.{answers_said}
 use Rattle.koth_session.proofs.sessions.show.Goals as goal
 

@@ -15,7 +15,7 @@ pub hill_append : (h : Kept) (es fs : List Exchange) → hill_after h (es ++ fs)
 hill_append h [] fs = refl
 hill_append h (e ∷ es) fs = hill_append (hill_next h e) es fs
 
-transcript_append : (h : Kept) (es fs : List Exchange) → transcript h (es ++ fs) ≡ transcript h es ++ transcript (hill_after h es) fs
+pub transcript_append : (h : Kept) (es fs : List Exchange) → transcript h (es ++ fs) ≡ transcript h es ++ transcript (hill_after h es) fs
 transcript_append h [] fs = refl
 transcript_append h (e ∷ es) fs =
     ap (λ l. answer h e ++ l) (transcript_append (hill_next h e) es fs)
