@@ -1,96 +1,110 @@
 //! How faults are named and written.
 
 use std::alloc::{AllocError, AllocFailed};
-use std::test::Fail;
+use std::fmt::Display;
+use std::process::Abort;
 use war_types::{AsmFault, AsmKind, ExprFault, SettingsFault};
 
-#[test]
-fn faults_are_named(rt: HostRuntime) -> Result<(), Fail> {
-    let rows = [
-        (AsmKind::SourceTooLong, "SourceTooLong"),
-        (AsmKind::UnmatchedFor, "UnmatchedFor"),
-        (AsmKind::UnmatchedRof, "UnmatchedRof"),
-        (AsmKind::ForLimit, "ForLimit"),
-        (AsmKind::DuplicateName, "DuplicateName"),
-        (AsmKind::BadEqu, "BadEqu"),
-        (AsmKind::EquLimit, "EquLimit"),
-        (AsmKind::ForCount(ExprFault::DivideByZero), "DivideByZero"),
-        (AsmKind::Memory, "Memory"),
-        (AsmKind::BadToken, "BadToken"),
-        (AsmKind::BadOperation, "BadOperation"),
-        (AsmKind::Pspace, "Pspace"),
-        (AsmKind::BadModifier, "BadModifier"),
-        (AsmKind::MissingOperand, "MissingOperand"),
-        (AsmKind::Expression(ExprFault::Overflow), "Overflow"),
-        (AsmKind::ExtraText, "ExtraText"),
-        (AsmKind::Empty, "Empty"),
-        (AsmKind::TooLong, "TooLong"),
-        (AsmKind::BadStart, "BadStart"),
-        (AsmKind::AssertFalse, "AssertFalse"),
-    ];
-    for (kind, name) in rows {
-        assert_eq!(rt; kind.name(), name);
-        assert_eq!(rt; kind.to_string(rt.alloc())?.as_str(), name);
-    }
-    Ok(())
+/// A fault is written so.
+fn expect_text(rt: &(impl Abort + AllocGlobal), fault: &impl Display, text: &str) {
+    let written = fault.to_string(rt.alloc()).expect(rt, "there is memory");
+    assert_eq!(rt; written.as_str(), text);
+}
+
+/// Why a source is refused, by name.
+const KINDS: [(AsmKind, &str); 20] = [
+    (AsmKind::SourceTooLong, "SourceTooLong"),
+    (AsmKind::UnmatchedFor, "UnmatchedFor"),
+    (AsmKind::UnmatchedRof, "UnmatchedRof"),
+    (AsmKind::ForLimit, "ForLimit"),
+    (AsmKind::DuplicateName, "DuplicateName"),
+    (AsmKind::BadEqu, "BadEqu"),
+    (AsmKind::EquLimit, "EquLimit"),
+    (AsmKind::ForCount(ExprFault::DivideByZero), "DivideByZero"),
+    (AsmKind::Memory, "Memory"),
+    (AsmKind::BadToken, "BadToken"),
+    (AsmKind::BadOperation, "BadOperation"),
+    (AsmKind::Pspace, "Pspace"),
+    (AsmKind::BadModifier, "BadModifier"),
+    (AsmKind::MissingOperand, "MissingOperand"),
+    (AsmKind::Expression(ExprFault::Overflow), "Overflow"),
+    (AsmKind::ExtraText, "ExtraText"),
+    (AsmKind::Empty, "Empty"),
+    (AsmKind::TooLong, "TooLong"),
+    (AsmKind::BadStart, "BadStart"),
+    (AsmKind::AssertFalse, "AssertFalse"),
+];
+
+fn expect_kind(rt: &(impl Abort + AllocGlobal), kind: AsmKind, name: &str) {
+    assert_eq!(rt; kind.name(), name);
+    expect_text(rt, &kind, name);
 }
 
 #[test]
-fn faults_of_expressions_are_named(rt: HostRuntime) -> Result<(), Fail> {
-    let rows = [
-        (ExprFault::BadExpression, "BadExpression"),
-        (ExprFault::UnknownName, "UnknownName"),
-        (ExprFault::DivideByZero, "DivideByZero"),
-        (ExprFault::Overflow, "Overflow"),
-    ];
-    for (fault, name) in rows {
-        assert_eq!(rt; fault.name(), name);
-        assert_eq!(rt; fault.to_string(rt.alloc())?.as_str(), name);
+fn faults_are_named(rt: HostRuntime) {
+    for (kind, name) in &KINDS {
+        expect_kind(&rt, *kind, name);
     }
-    Ok(())
+}
+
+/// Why an expression has no value, by name.
+const EXPRESSIONS: [(ExprFault, &str); 4] = [
+    (ExprFault::BadExpression, "BadExpression"),
+    (ExprFault::UnknownName, "UnknownName"),
+    (ExprFault::DivideByZero, "DivideByZero"),
+    (ExprFault::Overflow, "Overflow"),
+];
+
+fn expect_expression(rt: &(impl Abort + AllocGlobal), fault: ExprFault, name: &str) {
+    assert_eq!(rt; fault.name(), name);
+    expect_text(rt, &fault, name);
 }
 
 #[test]
-fn faults_of_settings_are_written_as_the_field(rt: HostRuntime) -> Result<(), Fail> {
-    let rows = [
-        (SettingsFault::Core, "Core"),
-        (SettingsFault::Cycles, "Cycles"),
-        (SettingsFault::Processes, "Processes"),
-        (SettingsFault::Length, "Length"),
-        (SettingsFault::Distance, "Distance"),
-        (SettingsFault::Rounds, "Rounds"),
-        (SettingsFault::Seed, "Seed"),
-        (SettingsFault::Capacity, "Capacity"),
-        (SettingsFault::ReadLimit, "ReadLimit"),
-        (SettingsFault::WriteLimit, "WriteLimit"),
-    ];
-    for (fault, name) in rows {
-        assert_eq!(rt; fault.to_string(rt.alloc())?.as_str(), name);
+fn faults_of_expressions_are_named(rt: HostRuntime) {
+    for (fault, name) in &EXPRESSIONS {
+        expect_expression(&rt, *fault, name);
     }
-    Ok(())
+}
+
+/// Which field of settings is refused, by name.
+const FIELDS: [(SettingsFault, &str); 10] = [
+    (SettingsFault::Core, "Core"),
+    (SettingsFault::Cycles, "Cycles"),
+    (SettingsFault::Processes, "Processes"),
+    (SettingsFault::Length, "Length"),
+    (SettingsFault::Distance, "Distance"),
+    (SettingsFault::Rounds, "Rounds"),
+    (SettingsFault::Seed, "Seed"),
+    (SettingsFault::Capacity, "Capacity"),
+    (SettingsFault::ReadLimit, "ReadLimit"),
+    (SettingsFault::WriteLimit, "WriteLimit"),
+];
+
+#[test]
+fn faults_of_settings_are_written_as_the_field(rt: HostRuntime) {
+    for (fault, name) in &FIELDS {
+        expect_text(&rt, fault, name);
+    }
 }
 
 #[test]
-fn a_refusal_is_its_line_and_its_kind(rt: HostRuntime) -> Result<(), Fail> {
+fn a_refusal_is_its_line_and_its_kind(rt: HostRuntime) {
     let refusal = AsmFault {
         line: 12,
         kind: AsmKind::ForCount(ExprFault::UnknownName),
     };
-    assert_eq!(rt; refusal.to_string(rt.alloc())?.as_str(), "12 UnknownName");
-    assert_eq!(rt;
-        AsmFault::MEMORY.to_string(rt.alloc())?.as_str(),
-        "0 Memory"
-    );
-    assert_eq!(rt;
-        AsmFault::from(AllocError),
-        AsmFault {
-            line: 0,
-            kind: AsmKind::Memory
-        }
-    );
-    assert_eq!(rt;
-        AsmFault::from(AllocFailed { value: 7u8 }),
-        AsmFault::MEMORY
-    );
-    Ok(())
+    expect_text(&rt, &refusal, "12 UnknownName");
+    expect_text(&rt, &AsmFault::MEMORY, "0 Memory");
+}
+
+#[test]
+fn want_of_memory_is_a_refusal_of_no_line(rt: HostRuntime) {
+    let memory = AsmFault {
+        line: 0,
+        kind: AsmKind::Memory,
+    };
+    assert_eq!(rt; AsmFault::from(AllocError), memory);
+    assert_eq!(rt; AsmFault::from(AllocFailed { value: 7u8 }), memory);
+    assert_eq!(rt; AsmFault::MEMORY, memory);
 }

@@ -1,6 +1,6 @@
-//! Which settings are accepted, and what is said of others.
+//! Which settings are accepted, and which fields they give.
 
-use std::test::Fail;
+use std::process::Abort;
 use war_types::{RawSettings, Settings, SettingsFault};
 
 pub const SMALL: RawSettings = RawSettings {
@@ -16,13 +16,36 @@ pub const SMALL: RawSettings = RawSettings {
     write_limit: 0,
 };
 
-fn fault_of(raw: RawSettings) -> Option<SettingsFault> {
-    Settings::new(raw).err()
+/// What is said of settings, or nothing if they are accepted.
+pub(crate) fn expect_fault(rt: &impl Abort, raw: &RawSettings, fault: Option<SettingsFault>) {
+    assert_eq!(rt; Settings::new(*raw).err(), fault, "{raw:?}");
+}
+
+/// The fields that settings give.
+fn fields_of(settings: &Settings) -> RawSettings {
+    RawSettings {
+        core: u32::from(settings.core()),
+        cycles: settings.cycles(),
+        processes: u32::from(settings.processes()),
+        length: u32::from(settings.length()),
+        distance: u32::from(settings.distance()),
+        rounds: u32::from(settings.rounds()),
+        seed: settings.seed(),
+        capacity: u32::from(settings.capacity()),
+        read_limit: u32::from(settings.read_limit()),
+        write_limit: u32::from(settings.write_limit()),
+    }
+}
+
+/// Settings of these fields give those.
+fn expect_fields(rt: &impl Abort, raw: RawSettings, fields: RawSettings) {
+    let settings = Settings::new(raw).expect(rt, "they are accepted");
+    assert_eq!(rt; fields_of(&settings), fields);
 }
 
 #[test]
-fn readers_give_their_fields(rt: HostRuntime) -> Result<(), Fail> {
-    let settings = Settings::new(RawSettings {
+fn readers_give_their_fields(rt: HostRuntime) {
+    let raw = RawSettings {
         core: 8000,
         cycles: 80_000,
         processes: 7999,
@@ -33,33 +56,24 @@ fn readers_give_their_fields(rt: HostRuntime) -> Result<(), Fail> {
         capacity: 20,
         read_limit: 400,
         write_limit: 250,
-    })?;
-    assert_eq!(rt; settings.core(), 8000);
-    assert_eq!(rt; settings.cycles(), 80_000);
-    assert_eq!(rt; settings.processes(), 7999);
-    assert_eq!(rt; settings.length(), 99);
-    assert_eq!(rt; settings.distance(), 101);
-    assert_eq!(rt; settings.rounds(), 250);
-    assert_eq!(rt; settings.seed(), 2_000_000_000);
-    assert_eq!(rt; settings.capacity(), 20);
-    assert_eq!(rt; settings.read_limit(), 400);
-    assert_eq!(rt; settings.write_limit(), 250);
-    Ok(())
+    };
+    expect_fields(&rt, raw, raw);
+}
+
+/// Settings under these limits, both the same.
+fn limited(limit: u32) -> RawSettings {
+    RawSettings {
+        read_limit: limit,
+        write_limit: limit,
+        ..SMALL
+    }
 }
 
 /// No limit is one of the core size, and both are the same settings.
 #[test]
-fn a_limit_of_zero_is_the_core_size(rt: HostRuntime) -> Result<(), Fail> {
-    for limit in [0, SMALL.core] {
-        let settings = Settings::new(RawSettings {
-            read_limit: limit,
-            write_limit: limit,
-            ..SMALL
-        })?;
-        assert_eq!(rt; settings.read_limit(), 64);
-        assert_eq!(rt; settings.write_limit(), 64);
-    }
-    Ok(())
+fn a_limit_of_zero_is_the_core_size(rt: HostRuntime) {
+    expect_fields(&rt, limited(0), limited(SMALL.core));
+    expect_fields(&rt, limited(SMALL.core), limited(SMALL.core));
 }
 
 /// Settings with a field at an edge of its range.
@@ -144,212 +158,7 @@ const ACCEPTED: [RawSettings; 19] = [
 
 #[test]
 fn settings_at_the_edges_of_their_ranges(rt: HostRuntime) {
-    for raw in ACCEPTED {
-        assert_eq!(rt; fault_of(raw), None, "{raw:?}");
+    for raw in &ACCEPTED {
+        expect_fault(&rt, raw, None);
     }
-}
-
-/// Settings with a field past an edge of its range, and what is said of them.
-const REFUSED: [(RawSettings, SettingsFault); 25] = [
-    (RawSettings { core: 63, ..SMALL }, SettingsFault::Core),
-    (
-        RawSettings {
-            core: 65_536,
-            ..SMALL
-        },
-        SettingsFault::Core,
-    ),
-    (RawSettings { cycles: 0, ..SMALL }, SettingsFault::Cycles),
-    (
-        RawSettings {
-            cycles: 1_000_001,
-            ..SMALL
-        },
-        SettingsFault::Cycles,
-    ),
-    (
-        RawSettings {
-            processes: 0,
-            ..SMALL
-        },
-        SettingsFault::Processes,
-    ),
-    (
-        RawSettings {
-            processes: 65_536,
-            ..SMALL
-        },
-        SettingsFault::Processes,
-    ),
-    (RawSettings { length: 0, ..SMALL }, SettingsFault::Length),
-    (
-        RawSettings {
-            core: 402,
-            length: 201,
-            distance: 201,
-            ..SMALL
-        },
-        SettingsFault::Length,
-    ),
-    (
-        RawSettings {
-            length: 201,
-            ..SMALL
-        },
-        SettingsFault::Length,
-    ),
-    (
-        RawSettings {
-            length: 200,
-            ..SMALL
-        },
-        SettingsFault::Distance,
-    ),
-    (
-        RawSettings {
-            distance: 9,
-            ..SMALL
-        },
-        SettingsFault::Distance,
-    ),
-    (
-        RawSettings {
-            distance: 33,
-            ..SMALL
-        },
-        SettingsFault::Distance,
-    ),
-    (
-        RawSettings {
-            core: 65,
-            distance: 33,
-            ..SMALL
-        },
-        SettingsFault::Distance,
-    ),
-    (
-        RawSettings {
-            distance: 2_147_483_653,
-            ..SMALL
-        },
-        SettingsFault::Distance,
-    ),
-    (RawSettings { rounds: 0, ..SMALL }, SettingsFault::Rounds),
-    (
-        RawSettings {
-            rounds: 1001,
-            ..SMALL
-        },
-        SettingsFault::Rounds,
-    ),
-    (RawSettings { seed: 0, ..SMALL }, SettingsFault::Seed),
-    (
-        RawSettings {
-            seed: 2_147_483_647,
-            ..SMALL
-        },
-        SettingsFault::Seed,
-    ),
-    (
-        RawSettings {
-            capacity: 0,
-            ..SMALL
-        },
-        SettingsFault::Capacity,
-    ),
-    (
-        RawSettings {
-            capacity: 21,
-            ..SMALL
-        },
-        SettingsFault::Capacity,
-    ),
-    (
-        RawSettings {
-            read_limit: 10,
-            write_limit: 10,
-            ..SMALL
-        },
-        SettingsFault::ReadLimit,
-    ),
-    (
-        RawSettings {
-            read_limit: 65,
-            ..SMALL
-        },
-        SettingsFault::ReadLimit,
-    ),
-    (
-        RawSettings {
-            read_limit: u32::MAX,
-            ..SMALL
-        },
-        SettingsFault::ReadLimit,
-    ),
-    (
-        RawSettings {
-            write_limit: 128,
-            ..SMALL
-        },
-        SettingsFault::WriteLimit,
-    ),
-    (
-        RawSettings {
-            write_limit: 48,
-            ..SMALL
-        },
-        SettingsFault::WriteLimit,
-    ),
-];
-
-#[test]
-fn settings_beyond_their_ranges(rt: HostRuntime) {
-    for (raw, fault) in REFUSED {
-        assert_eq!(rt; fault_of(raw), Some(fault), "{raw:?}");
-    }
-}
-
-#[test]
-fn the_first_field_out_of_its_range_is_named(rt: HostRuntime) {
-    let mut raw = RawSettings {
-        core: 0,
-        cycles: 0,
-        processes: 0,
-        length: 0,
-        distance: 0,
-        rounds: 0,
-        seed: 0,
-        capacity: 0,
-        read_limit: 3,
-        write_limit: 3,
-    };
-    assert_eq!(rt;
-        fault_of(RawSettings {
-            core: 63,
-            cycles: 0,
-            ..SMALL
-        }),
-        Some(SettingsFault::Core)
-    );
-    assert_eq!(rt; fault_of(raw), Some(SettingsFault::Core));
-    raw.core = SMALL.core;
-    assert_eq!(rt; fault_of(raw), Some(SettingsFault::Cycles));
-    raw.cycles = SMALL.cycles;
-    assert_eq!(rt; fault_of(raw), Some(SettingsFault::Processes));
-    raw.processes = SMALL.processes;
-    assert_eq!(rt; fault_of(raw), Some(SettingsFault::Length));
-    raw.length = SMALL.length;
-    assert_eq!(rt; fault_of(raw), Some(SettingsFault::Distance));
-    raw.distance = SMALL.distance;
-    assert_eq!(rt; fault_of(raw), Some(SettingsFault::Rounds));
-    raw.rounds = SMALL.rounds;
-    assert_eq!(rt; fault_of(raw), Some(SettingsFault::Seed));
-    raw.seed = SMALL.seed;
-    assert_eq!(rt; fault_of(raw), Some(SettingsFault::Capacity));
-    raw.capacity = SMALL.capacity;
-    assert_eq!(rt; fault_of(raw), Some(SettingsFault::ReadLimit));
-    raw.read_limit = SMALL.read_limit;
-    assert_eq!(rt; fault_of(raw), Some(SettingsFault::WriteLimit));
-    raw.write_limit = SMALL.write_limit;
-    assert_eq!(rt; fault_of(raw), None);
 }

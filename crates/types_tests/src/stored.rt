@@ -1,6 +1,6 @@
 //! Instructions and titles as they are stored.
 
-use std::test::Fail;
+use std::process::Abort;
 use war_types::{Instr, Mode, Modifier, Op, Title};
 
 const MOV: Instr = Instr {
@@ -31,58 +31,88 @@ const NOP: Instr = Instr {
     b: 258,
 };
 
+/// Instructions, each as it is stored.
+const STORED: [(Instr, [u8; 8]); 3] = [
+    (MOV, [1, 6, 1, 1, 0, 0, 0, 1]),
+    (JMP, [7, 1, 1, 1, 0, 0, 0, 0]),
+    (NOP, [15, 6, 7, 0, 0x1F, 0x3F, 1, 2]),
+];
+
+fn expect_stored(rt: &impl Abort, instr: Instr, bytes: [u8; 8]) {
+    assert_eq!(rt; instr.to_bytes(), bytes);
+    assert_eq!(rt; Instr::from_bytes(&bytes, 8000), Some(instr));
+    let codes = [
+        instr.op.code(),
+        instr.modifier.code(),
+        instr.a_mode.code(),
+        instr.b_mode.code(),
+    ];
+    assert_eq!(rt; codes.as_slice(), &bytes[..4]);
+}
+
 #[test]
 fn instructions_and_their_bytes(rt: HostRuntime) {
-    let rows = [
-        (MOV, [1, 6, 1, 1, 0, 0, 0, 1]),
-        (JMP, [7, 1, 1, 1, 0, 0, 0, 0]),
-        (NOP, [15, 6, 7, 0, 0x1F, 0x3F, 1, 2]),
-    ];
-    for (instr, bytes) in rows {
-        assert_eq!(rt; instr.to_bytes(), bytes);
-        assert_eq!(rt; Instr::from_bytes(&bytes, 8000), Some(instr));
-        assert_eq!(rt; instr.op.code(), bytes[0]);
-        assert_eq!(rt; instr.modifier.code(), bytes[1]);
-        assert_eq!(rt; instr.a_mode.code(), bytes[2]);
-        assert_eq!(rt; instr.b_mode.code(), bytes[3]);
+    for (instr, bytes) in &STORED {
+        expect_stored(&rt, *instr, *bytes);
     }
+}
+
+/// The bytes of an instruction with another one at this place are none.
+fn expect_none(rt: &impl Abort, at: usize, byte: u8) {
+    let mut bytes = NOP.to_bytes();
+    if let Some(place) = bytes.get_mut(at) {
+        *place = byte;
+    }
+    assert_eq!(rt; Instr::from_bytes(&bytes, 8000), None, "{byte} at {at}");
 }
 
 #[test]
 fn bytes_that_are_no_instruction(rt: HostRuntime) {
-    let bytes = NOP.to_bytes();
-    for (at, byte) in [(0, 16), (1, 7), (2, 8), (3, 8), (3, 255)] {
-        let mut other = bytes;
-        other[at] = byte;
-        assert_eq!(rt; Instr::from_bytes(&other, 8000), None, "{byte} at {at}");
-    }
+    expect_none(&rt, 0, 16);
+    expect_none(&rt, 1, 7);
+    expect_none(&rt, 2, 8);
+    expect_none(&rt, 3, 8);
+    expect_none(&rt, 3, 255);
+}
+
+/// A number of 7999 is below a core size of 8000, and not below one of 7999; one of 8000 is below none of these.
+#[test]
+fn numbers_that_are_not_below_the_core_size(rt: HostRuntime) {
+    let mut bytes = NOP.to_bytes();
     assert_eq!(rt; Instr::from_bytes(&bytes, 7999), None);
-    let mut other = bytes;
-    other[6] = 0x1F;
-    other[7] = 0x40;
-    assert_eq!(rt; Instr::from_bytes(&other, 8000), None);
+    bytes[6] = 0x1F;
+    bytes[7] = 0x40;
+    assert_eq!(rt; Instr::from_bytes(&bytes, 8000), None);
+}
+
+/// A title of these bytes with zeros behind them, if there is one.
+fn read(front: &[u8], at: usize, byte: u8) -> Option<Title> {
+    let mut bytes = [0; 48];
+    for (place, letter) in bytes.iter_mut().zip(front) {
+        *place = *letter;
+    }
+    if let Some(place) = bytes.get_mut(at) {
+        *place = byte;
+    }
+    Title::read(&bytes)
 }
 
 #[test]
-fn titles_are_read(rt: HostRuntime) -> Result<(), Fail> {
-    let mut bytes = [0; 48];
-    assert!(rt; Title::read(&bytes).is_none());
-    bytes[0] = b'I';
-    bytes[1] = b' ';
-    bytes[2] = b'~';
-    assert_eq!(rt;
-        Title::read(&bytes).ok_or("a title")?.bytes(),
-        b"I ~".as_slice()
-    );
-    for (at, byte) in [(4, b'x'), (47, b'x'), (3, 1), (3, 0x7F), (0, 0)] {
-        let mut other = bytes;
-        other[at] = byte;
-        assert!(rt; Title::read(&other).is_none(), "{byte} at {at}");
-    }
+fn titles_are_read(rt: HostRuntime) {
+    let title = read(b"I ", 2, b'~').expect(&rt, "a title");
+    assert_eq!(rt; title.bytes(), b"I ~".as_slice());
     let whole = [b'a'; 48];
-    assert_eq!(rt;
-        Title::read(&whole).ok_or("a title")?.bytes(),
-        whole.as_slice()
-    );
-    Ok(())
+    let title = Title::read(&whole).expect(&rt, "a title");
+    assert_eq!(rt; title.bytes(), whole.as_slice());
+}
+
+/// Places and bytes with which `I ~` and zeros are no title.
+const NO_TITLES: [(usize, u8); 5] = [(4, b'x'), (47, b'x'), (3, 1), (3, 0x7F), (0, 0)];
+
+#[test]
+fn bytes_that_are_no_title(rt: HostRuntime) {
+    assert!(rt; read(b"", 0, 0).is_none());
+    for (at, byte) in &NO_TITLES {
+        assert!(rt; read(b"I ~", *at, *byte).is_none(), "{byte} at {at}");
+    }
 }

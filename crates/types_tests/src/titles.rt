@@ -1,55 +1,73 @@
 //! What a text becomes as a title.
 
+use std::process::Abort;
 use war_types::Title;
 
 pub fn unnamed_or(text: &[u8]) -> Title {
     Title::new(text, "Unnamed")
 }
 
-#[test]
-fn titles_are_trimmed_and_shown(rt: HostRuntime) {
-    let rows: [(&[u8], &[u8]); 13] = [
-        (b"Imp", b"Imp"),
-        (b" \t\r Imp \t\r ", b"Imp"),
-        (b"\tx", b"x"),
-        (b"x\r", b"x"),
-        (b"Two  words", b"Two  words"),
-        (b"a\tb\rc", b"a?b?c"),
-        (b"\x07", b"?"),
-        (b"a\x1F \x7E\x7F\xFFb", b"a? ~??b"),
-        (b"\x0A", b"?"),
-        (b"\xC3\xA9", b"??"),
-        (b"", b"Unnamed"),
-        (b" ", b"Unnamed"),
-        (b"\t \r", b"Unnamed"),
-    ];
-    for (text, title) in rows {
-        assert_eq!(rt; unnamed_or(text).bytes(), title, "{text:?}");
-    }
+/// Texts, each with its title.
+const SHOWN: [(&[u8], &[u8]); 13] = [
+    (b"Imp", b"Imp"),
+    (b" \t\r Imp \t\r ", b"Imp"),
+    (b"\tx", b"x"),
+    (b"x\r", b"x"),
+    (b"Two  words", b"Two  words"),
+    (b"a\tb\rc", b"a?b?c"),
+    (b"\x07", b"?"),
+    (b"a\x1F \x7E\x7F\xFFb", b"a? ~??b"),
+    (b"\x0A", b"?"),
+    (b"\xC3\xA9", b"??"),
+    (b"", b"Unnamed"),
+    (b" ", b"Unnamed"),
+    (b"\t \r", b"Unnamed"),
+];
+
+/// A text becomes this title.
+fn expect_title(rt: &impl Abort, text: &[u8], title: &[u8]) {
+    assert_eq!(rt; unnamed_or(text).bytes(), title, "{text:?}");
 }
 
 #[test]
+fn titles_are_trimmed_and_shown(rt: HostRuntime) {
+    for (text, title) in &SHOWN {
+        expect_title(&rt, text, title);
+    }
+}
+
+/// More letters than a title has.
+const LETTERS: [u8; 60] = [b'a'; 60];
+
+#[test]
+fn titles_are_cut(rt: HostRuntime) {
+    expect_title(&rt, &LETTERS[..47], &LETTERS[..47]);
+    expect_title(&rt, &LETTERS[..48], &LETTERS[..48]);
+    expect_title(&rt, &LETTERS[..49], &LETTERS[..48]);
+    expect_title(&rt, &LETTERS, &LETTERS[..48]);
+}
+
+/// The letters with one byte in place of another.
+fn letters_with(at: usize, byte: u8) -> [u8; 60] {
+    let mut letters = LETTERS;
+    if let Some(place) = letters.get_mut(at) {
+        *place = byte;
+    }
+    letters
+}
+
+/// A text becomes the first 48 of these letters.
+fn expect_cut(rt: &impl Abort, text: &[u8], letters: &[u8]) {
+    assert_eq!(rt; Some(unnamed_or(text).bytes()), letters.get(..48));
+}
+
+/// A blank in front is cut off before the text is cut, and one at the end of a title stays.
+#[test]
 fn titles_are_cut_after_they_are_trimmed(rt: HostRuntime) {
-    let letters = [b'a'; 60];
-    assert_eq!(rt; unnamed_or(&letters[..47]).bytes(), &letters[..47]);
-    assert_eq!(rt; unnamed_or(&letters[..48]).bytes(), &letters[..48]);
-    assert_eq!(rt; unnamed_or(&letters[..49]).bytes(), &letters[..48]);
-    assert_eq!(rt; unnamed_or(&letters).bytes(), &letters[..48]);
-
-    let mut blank_in_front = letters;
+    let mut blank_in_front = letters_with(11, b' ');
     blank_in_front[0] = b' ';
-    blank_in_front[11] = b' ';
-    let mut want = [b'a'; 48];
-    want[10] = b' ';
-    assert_eq!(rt; unnamed_or(&blank_in_front).bytes(), want.as_slice());
-
-    let mut blank_at_47 = letters;
-    blank_at_47[47] = b' ';
-    let mut want = [b'a'; 48];
-    want[47] = b' ';
-    assert_eq!(rt; unnamed_or(&blank_at_47).bytes(), want.as_slice());
-
-    blank_at_47[47] = 0x07;
-    want[47] = b'?';
-    assert_eq!(rt; unnamed_or(&blank_at_47).bytes(), want.as_slice());
+    expect_cut(&rt, &blank_in_front, &letters_with(10, b' '));
+    let blank_at_47 = letters_with(47, b' ');
+    expect_cut(&rt, &blank_at_47, &blank_at_47);
+    expect_cut(&rt, &letters_with(47, 0x07), &letters_with(47, b'?'));
 }
