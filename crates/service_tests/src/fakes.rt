@@ -7,12 +7,8 @@ use koth_service::{Arrival, Came, Drained, Sockets, Went};
 use std::alloc::Global;
 use std::net::{Ipv4Addr, SocketAddr};
 
-/// What happens at a time, in milliseconds.
-#[derive(Clone, Copy)]
-pub(crate) struct Cue {
-    pub(crate) at: u64,
-    pub(crate) deed: Deed,
-}
+/// At which millisecond something is done, and what.
+pub(crate) type Cue = (u64, Deed);
 
 /// What peers do. Each of them is named by the port that it calls from.
 #[derive(Clone, Copy)]
@@ -100,11 +96,12 @@ impl<'c> Fakes<'c> {
             let Some((cue, rest)) = self.cues.split_first() else {
                 return;
             };
-            if cue.at > self.time {
+            let (at, deed) = *cue;
+            if at > self.time {
                 return;
             }
             self.cues = rest;
-            self.act(cue.deed);
+            self.act(deed);
         }
     }
 
@@ -181,7 +178,7 @@ impl Sockets for Fakes<'_> {
     fn wait(&mut self, most: u64) {
         self.waits = self.waits.saturating_add(1);
         let until = match self.cues.first() {
-            Some(cue) => cue.at.saturating_sub(self.time),
+            Some((at, _)) => at.saturating_sub(self.time),
             None => most,
         };
         self.time = self.time.saturating_add(most.min(until));
