@@ -5,7 +5,7 @@ ghost use Rattle.war_types.specs.Warrior.{Fits};
 use koth_hill::{Hill, Verdict};
 use koth_match::Bout;
 use mars_core::Arena;
-use small_warriors::{LARGEST, SMALL, back, die, imp, stay, warrior};
+use small_warriors::{BACK, DIE, IMP, LARGEST, SMALL, STAY, warrior};
 use std::alloc::Global;
 use std::process::Abort;
 use war_types::{Instr, Settings, Warrior};
@@ -61,24 +61,30 @@ fn what_was_told(verdict: &Verdict) -> Told {
     }
 }
 
-fn stayed(entry: u64, falls: Option<u64>, score: u32, rank: u32) -> Told {
-    Told {
-        entry,
-        stays: true,
-        falls,
-        score,
-        rank,
-    }
+/// What one is told that stays: its entry, who falls, its score and its rank.
+macro_rules! stayed {
+    ($entry:literal, $falls:expr, $score:literal, $rank:literal) => {
+        Told {
+            entry: $entry,
+            stays: true,
+            falls: $falls,
+            score: $score,
+            rank: $rank,
+        }
+    };
 }
 
-fn fell(entry: u64, score: u32) -> Told {
-    Told {
-        entry,
-        stays: false,
-        falls: Some(entry),
-        score,
-        rank: 0,
-    }
+/// What one is told that falls: its entry and its score.
+macro_rules! fell {
+    ($entry:literal, $score:literal) => {
+        Told {
+            entry: $entry,
+            stays: false,
+            falls: Some($entry),
+            score: $score,
+            rank: 0,
+        }
+    };
 }
 
 /// So many rounds that the older won, that the younger won, and ties.
@@ -139,50 +145,50 @@ fn check_hill(
     check_rows(rt, &hill, rows)
 }
 
+const FOUR: [(Instr, Told); 4] = [
+    (IMP, stayed!(1, None, 0, 1)),
+    (STAY, stayed!(2, None, 2, 2)),
+    (DIE, fell!(3, 0)),
+    (IMP, fell!(4, 4)),
+];
+
 #[test]
 fn three_on_a_hill_of_two(rt: HostRuntime) {
-    let submitted = [
-        (imp(), stayed(1, None, 0, 1)),
-        (stay(), stayed(2, None, 2, 2)),
-        (die(), fell(3, 0)),
-        (imp(), fell(4, 4)),
-    ];
     let rows = [(1, 2, 1), (2, 2, 0)];
-    check_hill(&rt, small(&rt, 2), &submitted[..3], &rows);
-    check_hill(&rt, small(&rt, 2), &submitted, &rows);
+    check_hill(&rt, small(&rt, 2), &FOUR[..3], &rows);
+    check_hill(&rt, small(&rt, 2), &FOUR, &rows);
 }
+
+const EQUALS: [(Instr, Told); 3] = [
+    (DIE, stayed!(1, None, 0, 1)),
+    (DIE, stayed!(2, None, 3, 2)),
+    (STAY, stayed!(3, Some(2), 6, 1)),
+];
 
 #[test]
 fn the_last_of_equals_falls(rt: HostRuntime) {
-    let submitted = [
-        (die(), stayed(1, None, 0, 1)),
-        (die(), stayed(2, None, 3, 2)),
-        (stay(), stayed(3, Some(2), 6, 1)),
-    ];
-    check_hill(&rt, small(&rt, 2), &submitted, &[(3, 6, 0), (1, 0, 2)]);
+    check_hill(&rt, small(&rt, 2), &EQUALS, &[(3, 6, 0), (1, 0, 2)]);
 }
+
+const TWO: [(Instr, Told); 2] = [(IMP, stayed!(1, None, 0, 1)), (DIE, fell!(2, 0))];
 
 #[test]
 fn a_hill_of_one(rt: HostRuntime) {
-    let submitted = [(imp(), stayed(1, None, 0, 1)), (die(), fell(2, 0))];
-    check_hill(&rt, small(&rt, 1), &submitted, &[(1, 0, 0)]);
+    check_hill(&rt, small(&rt, 1), &TWO, &[(1, 0, 0)]);
 }
+
+const LARGEST_HILL: [(Instr, Told); 3] = [
+    (BACK, stayed!(1, None, 0, 1)),
+    (DIE, stayed!(2, None, 0, 2)),
+    (STAY, stayed!(3, None, 4000, 2)),
+];
 
 /// A hill of twenty places, and matches of a thousand rounds: two that live win all against one that dies, and tie with each other.
 #[test]
 fn the_largest_hill(rt: HostRuntime) {
-    let submitted = [
-        (back(), stayed(1, None, 0, 1)),
-        (die(), stayed(2, None, 0, 2)),
-        (stay(), stayed(3, None, 4000, 2)),
-    ];
+    let settings = Settings::new(LARGEST).expect(&rt, "they are settings");
     let rows = [(1, 4000, 2), (3, 4000, 0), (2, 0, 1)];
-    check_hill(
-        &rt,
-        Settings::new(LARGEST).expect(&rt, "they are settings"),
-        &submitted,
-        &rows,
-    );
+    check_hill(&rt, settings, &LARGEST_HILL, &rows);
 }
 
 /// A hill of two with the entries 2, which waits, and 5, which dies at once, of five ever judged, and this result of the two.
@@ -195,8 +201,8 @@ fn hill_put_back(rt: &(impl Abort + AllocGlobal), kept: Bout) -> Hill<Global>
         settings.capacity() == 2 && settings.rounds() == 2 && settings.core() == 64,
         "a hill of two"
     );
-    let first = warrior(rt.alloc(), &[stay()], &settings).expect(rt, "it fits");
-    let second = warrior(rt.alloc(), &[die()], &settings).expect(rt, "it fits");
+    let first = warrior(rt.alloc(), &[STAY], &settings).expect(rt, "it fits");
+    let second = warrior(rt.alloc(), &[DIE], &settings).expect(rt, "it fits");
     let mut hill = Hill::with_counter(rt.alloc(), settings, 5).expect(rt, "there is memory");
     hill.put_back(2, 3, first, &[]);
     hill.put_back(5, 0, second, &[kept]);
@@ -213,7 +219,7 @@ fn check_names(rt: &(impl Abort + AllocGlobal), hill: &Hill<Global>) {
 fn check_members(rt: &impl Abort, hill: &Hill<Global>) {
     let member = hill.member(1).expect(rt, "it is there");
     assert_eq!(rt; (member.entry, member.age), (5, 0));
-    assert_eq!(rt; member.warrior.code(), [die()].as_slice());
+    assert_eq!(rt; member.warrior.code(), [DIE].as_slice());
     assert!(rt; hill.member(2).is_none());
     assert_eq!(rt; hill.counter(), 5);
 }
@@ -267,7 +273,7 @@ fn check_results(
 
 /// What the challenger of such a hill is told, and its results against the two.
 fn check_challenge(rt: &impl Abort, found: &Verdict) {
-    assert_eq!(rt; what_was_told(found), stayed(6, Some(2), 6, 1));
+    assert_eq!(rt; what_was_told(found), stayed!(6, Some(2), 6, 1));
     assert_eq!(rt; found.bouts(), [bout(0, 0, 2), bout(0, 2, 0)].as_slice());
 }
 
@@ -276,7 +282,7 @@ fn check_challenge(rt: &impl Abort, found: &Verdict) {
 fn judged_by_what_is_kept(rt: HostRuntime) {
     let mut hill = hill_put_back(&rt, bout(0, 2, 0));
     let mut arena = Arena::new(rt.alloc(), hill.settings()).expect(&rt, "there is memory");
-    let challenger = warrior(rt.alloc(), &[stay()], hill.settings()).expect(&rt, "it fits");
+    let challenger = warrior(rt.alloc(), &[STAY], hill.settings()).expect(&rt, "it fits");
     let found = challenge(&rt, &mut hill, &mut arena, challenger);
     check_challenge(&rt, &found);
     check_results(&rt, &hill, Some(bout(0, 2, 0)), None);

@@ -1,5 +1,5 @@
 use mars_core::{Arena, Outcome, Side, Turned};
-use small_warriors::{SMALL, dat, direct, imp, instr, stay, warrior};
+use small_warriors::{DIE, IMP, SMALL, STAY, dat, direct, instr, instruction, warrior};
 use std::alloc::Global;
 use std::process::Abort;
 use war_types::{Instr, Mode, Modifier, Op, RawSettings, Settings};
@@ -44,7 +44,7 @@ fn begun(
 /// An arena in which the first side, with this code at 0, is to move; the second has a DAT at 32.
 fn arena_of(rt: &(impl Abort + AllocGlobal), code: &[Instr]) -> Arena<Global> {
     let settings = Settings::new(SMALL).expect(rt, "they are settings");
-    begun(rt, &settings, [code, &[dat(0, 0)]], 32, Side::First)
+    begun(rt, &settings, [code, &[DIE]], 32, Side::First)
 }
 
 fn is_cell(arena: &Arena<Global>, at: u16, due: Instr) -> bool {
@@ -55,12 +55,19 @@ fn is_process(arena: &Arena<Global>, side: Side, i: u32, due: Option<u16>) -> bo
     arena.process(side, i) == due
 }
 
+/// These addresses have these cells.
+fn check_cells(rt: &impl Abort, arena: &Arena<Global>, cells: &[(u16, Instr)]) {
+    for (at, due) in cells {
+        assert!(rt; is_cell(arena, *at, *due), "at {at}");
+    }
+}
+
 /// The first address whose cell is not one of these, or not `DAT 0, 0` behind them.
 fn wrong_cell(arena: &Arena<Global>, due: &[Instr]) -> Option<u16> {
     for at in 0..64u16 {
         let cell = match due.get(usize::from(at)) {
             Some(i) => *i,
-            None => dat(0, 0),
+            None => DIE,
         };
         if !is_cell(arena, at, cell) {
             return Some(at);

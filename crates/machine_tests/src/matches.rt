@@ -1,8 +1,8 @@
 use koth_match::{fight, next_seed, position};
 use mars_core::Arena;
-use small_warriors::{LARGEST, SMALL, back, dat, die, direct, imp, instr, stay, warrior};
+use small_warriors::{BACK, DIE, IMP, LARGEST, SMALL, STAY, dat, instruction, warrior};
 use std::process::Abort;
-use war_types::{Instr, Mode, Modifier, Op, RawSettings, Settings};
+use war_types::{Instr, RawSettings, Settings};
 
 const USUAL: RawSettings = RawSettings {
     core: 8000,
@@ -46,18 +46,16 @@ fn positions(rt: HostRuntime) {
     }
 }
 
-/// Older and younger wins, and ties, of two warriors of one instruction each.
-fn bout(rt: &(impl Abort + AllocGlobal), codes: [Instr; 2], raw: RawSettings) -> (u16, u16, u16) {
-    bout_of(rt, &[codes[0]], &[codes[1]], raw)
-}
+/// Won by the older, won by the younger, and ties.
+type Counts = (u16, u16, u16);
 
-/// The same of two warriors that start at the first of their instructions.
+/// What a match of two warriors that start at the first of their instructions comes to.
 fn bout_of(
     rt: &(impl Abort + AllocGlobal),
     older: &[Instr],
     younger: &[Instr],
     raw: RawSettings,
-) -> (u16, u16, u16) {
+) -> Counts {
     let settings = Settings::new(raw).expect(rt, "they are settings");
     let older = warrior(rt.alloc(), older, &settings).expect(rt, "it fits");
     let younger = warrior(rt.alloc(), younger, &settings).expect(rt, "it fits");
@@ -68,37 +66,79 @@ fn bout_of(
     (first.older_wins, first.younger_wins, first.ties)
 }
 
+/// Two warriors of one instruction each, the older first, come to this.
+fn check_bout(rt: &(impl Abort + AllocGlobal), codes: &[Instr; 2], raw: RawSettings, due: Counts) {
+    let [older, younger] = *codes;
+    assert_eq!(rt; bout_of(rt, &[older], &[younger], raw), due, "{codes:?}");
+}
+
+/// The older and the younger, the rounds, and what they come to.
+const SMALL_MATCHES: [([Instr; 2], u32, Counts); 6] = [
+    ([IMP, STAY], 2, (0, 0, 2)),
+    ([DIE, DIE], 2, (1, 1, 0)),
+    ([STAY, DIE], 2, (2, 0, 0)),
+    ([DIE, STAY], 2, (0, 2, 0)),
+    // The older warrior moves first, and dies first, in two rounds of three.
+    ([DIE, DIE], 3, (1, 2, 0)),
+    ([DIE, STAY], 1000, (0, 1000, 0)),
+];
+
 #[test]
 fn small_matches(rt: HostRuntime) {
-    let rows = [
-        ([imp(), stay()], 2, (0, 0, 2)),
-        ([die(), die()], 2, (1, 1, 0)),
-        ([stay(), die()], 2, (2, 0, 0)),
-        ([die(), stay()], 2, (0, 2, 0)),
-        // The older warrior moves first, and dies first, in two rounds of three.
-        ([die(), die()], 3, (1, 2, 0)),
-        ([die(), stay()], 1000, (0, 1000, 0)),
-    ];
-    for (codes, rounds, due) in rows {
-        let mut raw = SMALL;
-        raw.rounds = rounds;
-        assert_eq!(rt; bout(&rt, codes, raw), due, "{codes:?}");
+    for (codes, rounds, due) in &SMALL_MATCHES {
+        let raw = RawSettings {
+            rounds: *rounds,
+            ..SMALL
+        };
+        check_bout(&rt, codes, raw, *due);
     }
 }
+
+const LARGEST_MATCHES: [([Instr; 2], Counts); 4] = [
+    ([BACK, STAY], (0, 0, 1000)),
+    ([BACK, DIE], (1000, 0, 0)),
+    ([DIE, BACK], (0, 1000, 0)),
+    // The older warrior moves first, and dies first, in every other round.
+    ([DIE, DIE], (500, 500, 0)),
+];
 
 /// In the largest core, where the older goes over its end, a thousand rounds of one turn a side.
 #[test]
 fn largest_matches(rt: HostRuntime) {
-    let rows = [
-        ([back(), stay()], (0, 0, 1000)),
-        ([back(), die()], (1000, 0, 0)),
-        ([die(), back()], (0, 1000, 0)),
-        // The older warrior moves first, and dies first, in every other round.
-        ([die(), die()], (500, 500, 0)),
-    ];
-    for (codes, due) in rows {
-        assert_eq!(rt; bout(&rt, codes, LARGEST), due, "{codes:?}");
+    for (codes, due) in &LARGEST_MATCHES {
+        check_bout(&rt, codes, LARGEST, *due);
     }
+}
+
+/// Drops a bomb on each fourth cell.
+const DROPPING: [Instr; 5] = [
+    instruction!(Jmp.B 1, 0),
+    instruction!(Add.AB Immediate 4, Direct 3),
+    instruction!(Mov.I Direct 2, BIndirect 2),
+    instruction!(Jmp.B 62, 0),
+    dat!(0, 0),
+];
+
+/// The limits of reading and of writing, and what a match under them comes to.
+const UNDER_LIMITS: [(u32, u32, Counts); 7] = [
+    (0, 0, (2, 0, 0)),
+    (64, 64, (2, 0, 0)),
+    (16, 64, (2, 0, 0)),
+    (64, 32, (0, 0, 2)),
+    (64, 16, (0, 0, 2)),
+    (2, 64, (0, 0, 2)),
+    (16, 16, (0, 0, 2)),
+];
+
+fn check_dropping(rt: &(impl Abort + AllocGlobal), read_limit: u32, write_limit: u32, due: Counts) {
+    let raw = RawSettings {
+        distance: 32,
+        read_limit,
+        write_limit,
+        ..SMALL
+    };
+    let found = bout_of(rt, &DROPPING, &[STAY], raw);
+    assert_eq!(rt; found, due, "{read_limit} {write_limit}");
 }
 
 /// A warrior that drops a bomb on each fourth cell, against one that stays where it is, 32 cells ahead of it: without limits the seventh
@@ -107,34 +147,8 @@ fn largest_matches(rt: HostRuntime) {
 /// A read limit of 16 changes nothing. One of 2 lets `ADD #4, 3` add to the number of the `MOV`, so each bomb falls at 10.
 #[test]
 fn matches_under_limits(rt: HostRuntime) {
-    let dropping = [
-        direct(Op::Jmp, Modifier::B, 1, 0),
-        instr(Op::Add, Modifier::AB, Mode::Immediate, 4, Mode::Direct, 3),
-        instr(Op::Mov, Modifier::I, Mode::Direct, 2, Mode::BIndirect, 2),
-        direct(Op::Jmp, Modifier::B, 62, 0),
-        dat(0, 0),
-    ];
-    let rows = [
-        (0, 0, (2, 0, 0)),
-        (64, 64, (2, 0, 0)),
-        (16, 64, (2, 0, 0)),
-        (64, 32, (0, 0, 2)),
-        (64, 16, (0, 0, 2)),
-        (2, 64, (0, 0, 2)),
-        (16, 16, (0, 0, 2)),
-    ];
-    for (read_limit, write_limit, due) in rows {
-        let raw = RawSettings {
-            distance: 32,
-            read_limit,
-            write_limit,
-            ..SMALL
-        };
-        assert_eq!(rt;
-            bout_of(&rt, &dropping, &[stay()], raw),
-            due,
-            "{read_limit} {write_limit}"
-        );
+    for (read_limit, write_limit, due) in &UNDER_LIMITS {
+        check_dropping(&rt, *read_limit, *write_limit, *due);
     }
 }
 
@@ -146,6 +160,6 @@ fn an_imp_under_limits(rt: HostRuntime) {
             write_limit,
             ..SMALL
         };
-        assert_eq!(rt; bout(&rt, [imp(), stay()], raw), due, "{write_limit}");
+        check_bout(&rt, &[IMP, STAY], raw, due);
     }
 }

@@ -6,7 +6,7 @@ ghost use Rattle.war_types.specs.Warrior.{Fits};
 
 use koth_hill::Hill;
 use koth_match::Bout;
-use small_warriors::{SMALL, imp, titled};
+use small_warriors::{IMP, SMALL, titled};
 use std::alloc::Global;
 use std::process::Abort;
 use war_types::{RawSettings, Settings, Warrior};
@@ -42,7 +42,7 @@ pub(crate) fn entrant(
 ) -> Warrior<Global>
     ensures { Fits settings.now result }
 {
-    titled(rt.alloc(), &[imp()], name, author, settings).expect(rt, "it fits")
+    titled(rt.alloc(), &[IMP], name, author, settings).expect(rt, "it fits")
 }
 
 /// The entries 1, 2 and 3, of which the last is the first by rank, and the first the second.

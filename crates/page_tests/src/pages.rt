@@ -1,10 +1,11 @@
 //! Pages of hills.
 
+use crate::growths::check_growth;
 use crate::hills::{hill_of_three, ten_rounds};
 use koth_hill::Hill;
 use koth_page::{Links, hill_page};
 use refusing::{Refusing, refuse_each};
-use std::alloc::{AllocError, Global};
+use std::alloc::Global;
 use std::process::Abort;
 
 /// Each of these stands in the page, and what isn't due doesn't.
@@ -94,12 +95,8 @@ fn growths_of_a_page(rt: HostRuntime) {
 
 fn check_growths(rt: &impl Abort, alloc: Global, hill: &Hill<Global>, links: Links) {
     let memory = Refusing::new(alloc);
-    let runs = refuse_each(&memory, |_k| match hill_page(&memory, hill, links) {
-        Ok(page) => {
-            assert_eq!(rt; memory.refused(), 0);
-            assert!(rt; !page.is_empty());
-        }
-        Err(AllocError) => assert_eq!(rt; memory.refused(), 1),
+    let runs = refuse_each(&memory, |_k| {
+        check_growth(rt, &memory, hill_page(&memory, hill, links))
     });
     assert!(rt; runs > 1);
 }

@@ -8,8 +8,49 @@ ghost use Rattle.std.specs.Option.{IfSome};
 ghost use Rattle.war_types.specs.Warrior.{Fits};
 
 use std::alloc::Global;
-use war_types::{Instr, Mode, Modifier, Op, RawSettings, Settings, Title, Warrior};
+pub use war_types::{Instr, Mode, Modifier, Op};
+use war_types::{RawSettings, Settings, Title, Warrior};
 
+/// An instruction as Redcode writes it, which may stand in a table outside of functions: `instruction!(Add.AB Immediate 5, Direct 1)`.
+/// Operands without a mode are direct.
+#[macro_export]
+macro_rules! instruction {
+    ($op:ident . $modifier:ident $a:literal, $b:literal) => {
+        $crate::instruction!($op.$modifier Direct $a, Direct $b)
+    };
+    ($op:ident . $modifier:ident $a_mode:ident $a:literal, $b_mode:ident $b:literal) => {
+        $crate::Instr {
+            op: $crate::Op::$op,
+            modifier: $crate::Modifier::$modifier,
+            a_mode: $crate::Mode::$a_mode,
+            a: $a,
+            b_mode: $crate::Mode::$b_mode,
+            b: $b,
+        }
+    };
+}
+
+/// A DAT with two direct operands, which may stand in a table outside of functions.
+#[macro_export]
+macro_rules! dat {
+    ($a:literal, $b:literal) => {
+        $crate::instruction!(Dat.F $a, $b)
+    };
+}
+
+/// A warrior that dies in its first turn.
+pub const DIE: Instr = instruction!(Dat.F 0, 0);
+
+/// A warrior that copies itself to the next cell.
+pub const IMP: Instr = instruction!(Mov.I 0, 1);
+
+/// A warrior that stays where it is.
+pub const STAY: Instr = instruction!(Jmp.B 0, 0);
+
+/// A warrior that copies itself to the cell before, in the largest core.
+pub const BACK: Instr = instruction!(Mov.I 0, 65534);
+
+/// The settings of a hill of two, in a core of 64 cells.
 pub const SMALL: RawSettings = RawSettings {
     core: 64,
     cycles: 100,
@@ -55,26 +96,6 @@ pub fn direct(op: Op, modifier: Modifier, a: u16, b: u16) -> Instr {
 
 pub fn dat(a: u16, b: u16) -> Instr {
     direct(Op::Dat, Modifier::F, a, b)
-}
-
-/// DAT 0, 0
-pub fn die() -> Instr {
-    dat(0, 0)
-}
-
-/// MOV 0, 1
-pub fn imp() -> Instr {
-    direct(Op::Mov, Modifier::I, 0, 1)
-}
-
-/// JMP 0
-pub fn stay() -> Instr {
-    direct(Op::Jmp, Modifier::B, 0, 0)
-}
-
-/// MOV 0, -1 in the largest core
-pub fn back() -> Instr {
-    direct(Op::Mov, Modifier::I, 0, 65534)
 }
 
 /// A warrior of this code that starts at its first instruction, of this name and this author, if it fits and there is memory.

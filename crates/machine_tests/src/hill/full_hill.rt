@@ -5,35 +5,32 @@ ghost use Rattle.war_types.specs.Warrior.{Fits};
 
 use super::*;
 use koth_match::fight;
-use small_warriors::{direct, instr};
-use war_types::{Mode, Modifier, Op};
+use small_warriors::instruction;
 
 /// The warrior that enters as number `entry`: every second one bombs at a step of its own, the others go on or wait.
 fn one_of_many(rt: &(impl Abort + AllocGlobal), entry: u16, settings: &Settings) -> Warrior<Global>
     ensures { Fits settings.now result }
 {
     match entry % 4 {
-        0 => warrior(rt.alloc(), &[imp()], settings).expect(rt, "it fits"),
-        1 => warrior(rt.alloc(), &[stay()], settings).expect(rt, "it fits"),
+        0 => warrior(rt.alloc(), &[IMP], settings).expect(rt, "it fits"),
+        1 => warrior(rt.alloc(), &[STAY], settings).expect(rt, "it fits"),
         _ => warrior(rt.alloc(), &dwarf(entry), settings).expect(rt, "it fits"),
     }
 }
 
+/// A warrior that bombs, as yet without a step.
+const DWARF: [Instr; 4] = [
+    instruction!(Add.AB Immediate 0, Direct 3),
+    instruction!(Mov.I Direct 2, BIndirect 2),
+    instruction!(Jmp.B 62, 0),
+    DIE,
+];
+
 /// ADD #step, 3 and MOV 2, @2 and JMP -2 before its bomb.
 fn dwarf(step: u16) -> [Instr; 4] {
-    [
-        instr(
-            Op::Add,
-            Modifier::AB,
-            Mode::Immediate,
-            step % 64,
-            Mode::Direct,
-            3,
-        ),
-        instr(Op::Mov, Modifier::I, Mode::Direct, 2, Mode::BIndirect, 2),
-        direct(Op::Jmp, Modifier::B, 62, 0),
-        direct(Op::Dat, Modifier::F, 0, 0),
-    ]
+    let mut code = DWARF;
+    code[0].a = step % 64;
+    code
 }
 
 /// What `entry` earns in a fight with `other`, the earlier one loaded at address 0.

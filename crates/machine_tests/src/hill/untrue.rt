@@ -7,7 +7,7 @@ use crate::hill::{bout, hill_put_back, small};
 use koth_hill::{Hill, Untrue};
 use koth_match::Bout;
 use mars_core::Arena;
-use small_warriors::{die, stay, warrior};
+use small_warriors::{DIE, STAY, warrior};
 use std::alloc::Global;
 use std::process::Abort;
 
@@ -41,10 +41,10 @@ fn hill_of_four(rt: &(impl Abort + AllocGlobal), kept: [Rounds; 6]) -> Hill<Glob
         settings.capacity() == 4 && settings.rounds() == 2 && settings.core() == 64,
         "a hill of four"
     );
-    let first = warrior(rt.alloc(), &[stay()], &settings).expect(rt, "it fits");
-    let second = warrior(rt.alloc(), &[die()], &settings).expect(rt, "it fits");
-    let third = warrior(rt.alloc(), &[die()], &settings).expect(rt, "it fits");
-    let fourth = warrior(rt.alloc(), &[die()], &settings).expect(rt, "it fits");
+    let first = warrior(rt.alloc(), &[STAY], &settings).expect(rt, "it fits");
+    let second = warrior(rt.alloc(), &[DIE], &settings).expect(rt, "it fits");
+    let third = warrior(rt.alloc(), &[DIE], &settings).expect(rt, "it fits");
+    let fourth = warrior(rt.alloc(), &[DIE], &settings).expect(rt, "it fits");
     let mut hill = Hill::with_counter(rt.alloc(), settings, 9).expect(rt, "there is memory");
     let [a, b, c, d, e, f] = kept;
     hill.put_back(2, 3, first, &[]);

@@ -16,46 +16,54 @@ const ROWS: [(Mode, u16, u16, u16); 8] = [
 
 #[test]
 fn a_operands(rt: HostRuntime) {
-    for (mode, pointer, a, b) in ROWS {
-        let i = instr(Op::Jmp, Modifier::B, mode, 1, Mode::Direct, 0);
-        check_turn(&rt, &[i, dat(4, 6)], &[i, dat(a, b)], &[pointer]);
+    for (mode, pointer, a, b) in &ROWS {
+        let i = instr(Op::Jmp, Modifier::B, *mode, 1, Mode::Direct, 0);
+        check_turn(&rt, &[i, dat!(4, 6)], &[i, dat(*a, *b)], &[*pointer]);
     }
+}
+
+/// The cells around, before they are written.
+const OTHERS: [Instr; 8] = [dat!(1, 2); 8];
+
+/// One turn of `MOV.A #9` in such a mode, in front of a cell of 4 and 6 and six of 1 and 2, leaves this in the first of them, and then
+/// writes here.
+fn check_written(rt: &(impl Abort + AllocGlobal), i: Instr, first: Instr, at: usize) {
+    let mut code = OTHERS;
+    code[0] = i;
+    code[1] = dat!(4, 6);
+    let mut left = OTHERS;
+    left[0] = i;
+    left[1] = first;
+    left[at % 8].a = 9;
+    check_turn(rt, &code, &left, &[1]);
 }
 
 /// MOV.A #9 writes 9 over the A number of the cell that the B operand points to.
 #[test]
 fn b_operands(rt: HostRuntime) {
-    for (mode, pointer, a, b) in ROWS {
-        let i = instr(Op::Mov, Modifier::A, Mode::Immediate, 9, mode, 1);
-        let code = [
-            i,
-            dat(4, 6),
-            dat(1, 2),
-            dat(1, 2),
-            dat(1, 2),
-            dat(1, 2),
-            dat(1, 2),
-            dat(1, 2),
-        ];
-        let mut left = [
-            i,
-            dat(a, b),
-            dat(1, 2),
-            dat(1, 2),
-            dat(1, 2),
-            dat(1, 2),
-            dat(1, 2),
-            dat(1, 2),
-        ];
-        left[usize::from(pointer % 8)].a = 9;
-        check_turn(&rt, &code, &left, &[1]);
+    for (mode, pointer, a, b) in &ROWS {
+        let i = instr(Op::Mov, Modifier::A, Mode::Immediate, 9, *mode, 1);
+        check_written(&rt, i, dat(*a, *b), usize::from(*pointer));
     }
 }
 
 /// B is evaluated on the core that A left: A's postincrement of cell 1 moves B's pointer.
 #[test]
 fn a_wholly_before_b(rt: HostRuntime) {
-    let i = instr(Op::Mov, Modifier::B, Mode::BPost, 1, Mode::BIndirect, 1);
-    let code = [i, dat(0, 1), dat(0, 8), dat(0, 0)];
-    check_turn(&rt, &code, &[i, dat(0, 2), dat(0, 8), dat(0, 8)], &[1]);
+    check_turn(
+        &rt,
+        &[
+            instruction!(Mov.B BPost 1, BIndirect 1),
+            dat!(0, 1),
+            dat!(0, 8),
+            dat!(0, 0),
+        ],
+        &[
+            instruction!(Mov.B BPost 1, BIndirect 1),
+            dat!(0, 2),
+            dat!(0, 8),
+            dat!(0, 8),
+        ],
+        &[1],
+    );
 }

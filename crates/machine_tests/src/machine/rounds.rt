@@ -4,8 +4,8 @@ use super::*;
 
 /// The cells at both ends of the core, and the one that is behind it.
 fn check_cleared(rt: &impl Abort, arena: &Arena<Global>) {
-    assert!(rt; is_cell(arena, 0, dat(0, 0)));
-    assert!(rt; is_cell(arena, 63, dat(0, 0)));
+    assert!(rt; is_cell(arena, 0, DIE));
+    assert!(rt; is_cell(arena, 63, DIE));
     assert!(rt; arena.cell(64).is_none());
 }
 
@@ -20,21 +20,30 @@ fn a_fresh_arena(rt: HostRuntime) {
     check_process(&rt, &arena, Side::Second, 0, None);
 }
 
+/// The older and the younger, ten cells ahead, which of them moves first, and how the round ends.
+type Round = (Instr, Instr, Side, Outcome);
+
+const WHO_WINS: [Round; 7] = [
+    (DIE, STAY, Side::First, Outcome::Second),
+    (STAY, DIE, Side::First, Outcome::First),
+    (DIE, DIE, Side::First, Outcome::Second),
+    (DIE, DIE, Side::Second, Outcome::First),
+    (STAY, STAY, Side::First, Outcome::Tie),
+    (IMP, IMP, Side::Second, Outcome::Tie),
+    (IMP, STAY, Side::First, Outcome::Tie),
+];
+
+fn check_round(rt: &(impl Abort + AllocGlobal), settings: &Settings, round: &Round) {
+    let (older, younger, first, due) = *round;
+    let mut arena = begun(rt, settings, [&[older], &[younger]], 10, first);
+    assert_eq!(rt; arena.play(), due, "{older:?} {younger:?}");
+}
+
 #[test]
 fn who_wins(rt: HostRuntime) {
     let settings = Settings::new(SMALL).expect(&rt, "they are settings");
-    let rows = [
-        (dat(0, 0), stay(), Side::First, Outcome::Second),
-        (stay(), dat(0, 0), Side::First, Outcome::First),
-        (dat(0, 0), dat(0, 0), Side::First, Outcome::Second),
-        (dat(0, 0), dat(0, 0), Side::Second, Outcome::First),
-        (stay(), stay(), Side::First, Outcome::Tie),
-        (imp(), imp(), Side::Second, Outcome::Tie),
-        (imp(), stay(), Side::First, Outcome::Tie),
-    ];
-    for (older, younger, first, due) in rows {
-        let mut arena = begun(&rt, &settings, [&[older], &[younger]], 10, first);
-        assert_eq!(rt; arena.play(), due, "{older:?} {younger:?}");
+    for round in &WHO_WINS {
+        check_round(&rt, &settings, round);
     }
 }
 
@@ -42,7 +51,7 @@ fn who_wins(rt: HostRuntime) {
 #[test]
 fn a_round_that_ends_at_once(rt: HostRuntime) {
     let settings = Settings::new(SMALL).expect(&rt, "they are settings");
-    let codes: [&[Instr]; 2] = [&[dat(0, 0)], &[stay()]];
+    let codes: [&[Instr]; 2] = [&[DIE], &[STAY]];
     let mut arena = begun(&rt, &settings, codes, 10, Side::First);
     check_process(&rt, &arena, Side::First, 0, Some(0));
     check_process(&rt, &arena, Side::Second, 0, Some(10));
@@ -52,6 +61,8 @@ fn a_round_that_ends_at_once(rt: HostRuntime) {
     check_process(&rt, &arena, Side::Second, 0, Some(10));
 }
 
+const SPLIT: Instr = instruction!(Spl.B 0, 0);
+
 /// Where a side may have one process, a SPL queues the next instruction alone.
 #[test]
 fn a_split_past_the_limit(rt: HostRuntime) {
@@ -60,8 +71,7 @@ fn a_split_past_the_limit(rt: HostRuntime) {
         ..SMALL
     })
     .expect(&rt, "they are settings");
-    let split = direct(Op::Spl, Modifier::B, 0, 0);
-    let mut arena = begun(&rt, &settings, [&[split], &[split]], 10, Side::First);
+    let mut arena = begun(&rt, &settings, [&[SPLIT], &[SPLIT]], 10, Side::First);
     check_next(&rt, &mut arena, Turned::Went);
     check_count(&rt, &arena, Side::First, 1);
     check_process(&rt, &arena, Side::First, 0, Some(1));
@@ -72,9 +82,7 @@ fn a_split_past_the_limit(rt: HostRuntime) {
 /// A SPL queues the next instruction before its target.
 #[test]
 fn a_split_queues_the_next_first(rt: HostRuntime) {
-    let split = direct(Op::Spl, Modifier::B, 0, 0);
-    let code = [split, direct(Op::Jmp, Modifier::B, 63, 0)];
-    let mut arena = arena_of(&rt, &code);
+    let mut arena = arena_of(&rt, &[SPLIT, instruction!(Jmp.B 63, 0)]);
     arena.turn();
     check_process(&rt, &arena, Side::First, 0, Some(1));
     check_process(&rt, &arena, Side::First, 1, Some(0));
