@@ -1,11 +1,12 @@
 //! Headers and slots need no memory.
 
-use crate::settings::{SMALL, settings_from};
+use crate::settings::settings_from;
 use crate::slots::MOV;
 use hill_bytes::{
     Header, OldSlot, Slot, Wins, decode_header, decode_old_header, encode_header, encode_old_header,
 };
 use refusing::Refusing;
+use small_warriors::SMALL;
 use std::alloc::Global;
 use std::process::Abort;
 use std::test::Fail;

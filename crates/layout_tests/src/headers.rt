@@ -1,9 +1,10 @@
 //! The bytes of a header, and what is no header.
 
-use crate::settings::{SMALL, of_length, settings_from};
+use crate::settings::{of_length, settings_from};
 use hill_bytes::{
     Header, HeaderEntry, decode_header, decode_old_header, encode_header, encode_old_header,
 };
+use small_warriors::SMALL;
 use std::process::Abort;
 use std::test::Fail;
 use war_types::{RawSettings, Settings};

@@ -1,7 +1,8 @@
 //! The sectors of a slot, and what is no slot's.
 
-use crate::settings::{SMALL, of_length, settings_from};
+use crate::settings::{of_length, settings_from};
 use hill_bytes::{OldSlot, Slot, Wins};
+use small_warriors::SMALL;
 use std::alloc::{AllocError, Global};
 use std::process::Abort;
 use std::test::Fail;

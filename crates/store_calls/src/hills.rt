@@ -3,23 +3,10 @@
 use crate::calls::{create, open, settings_from};
 use hill_store::{Refusal, Store};
 use sector_disk::{Device, FuseDevice, FuseKind, MemoryDevice};
+use small_warriors::SMALL;
 use std::alloc::{AllocError, Allocator, Global};
 use std::test::Fail;
 use war_types::RawSettings;
-
-/// The settings of a hill of two.
-pub const SMALL: RawSettings = RawSettings {
-    core: 64,
-    cycles: 100,
-    processes: 8,
-    length: 10,
-    distance: 10,
-    rounds: 2,
-    seed: 1,
-    capacity: 2,
-    read_limit: 0,
-    write_limit: 0,
-};
 
 /// Sectors that a hill of two needs: two headers, and four for each of three slots.
 pub const SECTORS: u32 = 14;

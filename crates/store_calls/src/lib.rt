@@ -16,8 +16,9 @@ pub use calls::{
 };
 pub use counting::{Counting, calls_of, counted};
 pub use hills::{
-    SECTORS, SMALL, blank, created, created_in, created_with, created_within, opened,
-    refusal_to_create, refusal_to_open,
+    SECTORS, blank, created, created_in, created_with, created_within, opened, refusal_to_create,
+    refusal_to_open,
 };
 pub use sectors::{back, front, holds, put, sector, set_byte, with_zeros};
+pub use small_warriors::SMALL;
 pub use tables::{count_rows, fell, numbers_at, numbers_of, placed, refused};

@@ -1,6 +1,7 @@
 //! What is said of settings that are not accepted.
 
-use crate::settings::{SMALL, expect_fault};
+use crate::settings::expect_fault;
+use small_warriors::SMALL;
 use war_types::{RawSettings, SettingsFault};
 
 /// Settings with a field past an edge of its range, and what is said of them.

@@ -1,20 +1,8 @@
 //! Which settings are accepted, and which fields they give.
 
+use small_warriors::SMALL;
 use std::process::Abort;
 use war_types::{RawSettings, Settings, SettingsFault};
-
-pub const SMALL: RawSettings = RawSettings {
-    core: 64,
-    cycles: 100,
-    processes: 8,
-    length: 10,
-    distance: 10,
-    rounds: 2,
-    seed: 1,
-    capacity: 2,
-    read_limit: 0,
-    write_limit: 0,
-};
 
 /// What is said of settings, or nothing if they are accepted.
 pub(crate) fn expect_fault(rt: &impl Abort, raw: &RawSettings, fault: Option<SettingsFault>) {

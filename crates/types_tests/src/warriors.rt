@@ -1,7 +1,7 @@
 //! Which warriors fit settings.
 
-use crate::settings::SMALL;
 use crate::titles::unnamed_or;
+use small_warriors::SMALL;
 use std::alloc::{AllocError, Global};
 use std::process::Abort;
 use war_types::{Instr, Mode, Modifier, Op, Settings, Warrior};
