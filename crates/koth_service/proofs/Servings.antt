@@ -20,11 +20,11 @@ use Rattle.koth_peers.specs.declared.peer.Peer.{Peer}
 use Rattle.koth_peers.specs.declared.peers.Step.{Step}
 use Rattle.koth_peers.specs.declared.peers.Step.TheVariants as steps
 use Rattle.koth_service.specs.Noted.{Noted, Stays}
-use Rattle.koth_service.specs.History.{Answers, Begins, Breaks, Happening, IsSafe, Moment, Shows, answered, instead, moment, noted, stored}
+use Rattle.koth_service.specs.History.{Answers, Begins, Breaks, Happening, IsSafe, Moment, Session, Shows, answered, moment, noted, session_answered}
 use Rattle.koth_service.specs.Standing.{AreStanding, GoesOn, IsCutOff, StandsAfter, StandsAt}
 use Rattle.koth_service.specs.declared.connections.Stage.{Stage}
 use Rattle.koth_service.proofs.Steps.{stays}
-use Rattle.koth_service.proofs.Moments.{IsSame, instead_other, instead_same, same, same_stands, standing_at}
+use Rattle.koth_service.proofs.Moments.{standing_moved, standing_with}
 use Rattle.koth_session.proofs.Exchanges.{hill_append}
 
 -- ---- the command that is due is the next one in what came
@@ -56,15 +56,6 @@ module _ {A : Type 0} where
 module _ {D : Type 0} (facts : DeviceFacts D) where
   -- ---- what a command makes of a moment
 
-  answered_other : (n : ℕ) (e : Exchange) (new : Seen D) (m : Moment D) (p : ℕ) → p ≢ n → IsSame m (answered n e new m) p
-  answered_other n e new m p other = record {
-    there_is = refl;
-    came_is = refl;
-    done_is = instead_other m.done n (m.done n ++ command_in e ∷ []) p other;
-    owed_is = instead_other m.owed n (m.owed n ++ answer m.now.hill e) p other;
-    went_is = refl;
-  }
-
   -- no stop loses it
   safe_answered : (n : ℕ) (e : Exchange) (new : Seen D) (m : Moment D) → AreServed facts m.now new (e ∷ []) → IsSafe facts m → IsSafe facts (answered n e new m)
   safe_answered n e new m served safe = record {
@@ -93,35 +84,33 @@ module _ {D : Type 0} (facts : DeviceFacts D) where
   same_store ends.Memory command unsent new store now sound is = is.0
 
 module _ {D A : Type 0} (facts : DeviceFacts D) where
-  -- a session that ended by its command, of a moment with another store
-  ended_at : (n : ℕ) (end : PeerEnd) (m now_m : Moment D) (old new : Option (Peer A)) (store now : Seen D) → IsSame m now_m n
-      → Moves (λ p q. Serves facts (Some end) p store q now) old new → StandsAt m n old → StandsAt now_m n new
-  ended_at n end m now_m None new store now is moves stands = subst (λ slot. StandsAt now_m n slot) (sym moves) (same_stands {A = A} m now_m n None is stands)
-  ended_at n end m now_m (Some peer) new store now is moves stands =
+  -- a session that ended by its command
+  ended_at : (end : PeerEnd) (s : Session) (old new : Option (Peer A)) (store now : Seen D) → Moves (λ p q. Serves facts (Some end) p store q now) old new
+      → StandsAt s old → StandsAt s new
+  ended_at end s None new store now moves stands = subst (λ slot. StandsAt s slot) (sym moves) stands
+  ended_at end s (Some peer) new store now moves stands =
       let serves = moves.2 in
-      let ended : StandsAt m n (Some moves.0) = (
-        serves.reads (m.came n) (m.done n) stands.0,
-        ap (λ l. m.went n ++ l) (same_unsent facts end (command_of peer) peer.outbox.unsent moves.0.outbox.unsent store now serves.answers) ∙ stands.1,
-      ) in
-      subst (λ slot. StandsAt now_m n slot) (sym moves.1) (same_stands m now_m n (Some moves.0) is ended)
+      subst (λ slot. StandsAt s slot) (sym moves.1) (
+        serves.reads s.came s.done stands.0,
+        ap (λ l. s.went ++ l) (same_unsent facts end (command_of peer) peer.outbox.unsent moves.0.outbox.unsent store now serves.answers) ∙ stands.1,
+      )
 
-  standing_ended : (n : ℕ) (end : PeerEnd) (m now_m : Moment D) (old new : Slots A) (store now : Seen D) → ((p : ℕ) → IsSame m now_m p)
-      → MovesAt (λ p q. Serves facts (Some end) p store q now) n old new → AreStanding m old → AreStanding now_m new
-  standing_ended n end m now_m old new store now is moves standing =
-      standing_at old new n m now_m moves.only (λ p other. is p) (ended_at n end m now_m (peer_at old n) (peer_at new n) store now (is n) moves.at (standing n)) standing
+  standing_ended : (sessions : ℕ → Session) (n : ℕ) (end : PeerEnd) (old new : Slots A) (store now : Seen D)
+      → MovesAt (λ p q. Serves facts (Some end) p store q now) n old new → AreStanding sessions old → AreStanding sessions new
+  standing_ended sessions n end old new store now moves standing =
+      standing_moved sessions n old new moves.only (ended_at end (sessions n) (peer_at old n) (peer_at new n) store now moves.at (standing n)) standing
 
   -- a command that was answered
-  answered_at : (n : ℕ) (m : Moment D) (peer new : Peer A) (store now : Seen D) → m.now ≡ store → (serves : Serves facts None peer store new now)
-      → StandsAt m n (Some peer) → StandsAt (answered n serves.answers.0 now m) n (Some new)
-  answered_at n m peer new store now is serves stands =
+  answered_at : (s : Session) (peer new : Peer A) (before store now : Seen D) → before ≡ store → (serves : Serves facts None peer store new now)
+      → StandsAt s (Some peer) → StandsAt (session_answered (command_in serves.answers.0) (answer before.hill serves.answers.0) s) (Some new)
+  answered_at s peer new before store now is serves stands =
       let e = serves.answers.0 in
-      let done : m.done n ++ command_of peer ∷ [] ≡ instead m.done n (m.done n ++ command_in e ∷ []) n =
-      ap (λ (k : Command). m.done n ++ k ∷ []) serves.answers.1 ∙ sym (instead_same m.done n (m.done n ++ command_in e ∷ [])) in
+      let done : s.done ++ command_of peer ∷ [] ≡ s.done ++ command_in e ∷ [] = ap (λ (k : Command). s.done ++ k ∷ []) serves.answers.1 in
       let more = answer store.hill e in
-      let all : m.went n ++ new.outbox.unsent ≡ instead m.owed n (m.owed n ++ answer m.now.hill e) n =
-      ap (λ l. m.went n ++ l) serves.answers.3 ∙ sym (append_assoc (m.went n) peer.outbox.unsent more) ∙ ap (λ l. l ++ more) stands.1
-      ∙ ap (λ (s : Seen D). m.owed n ++ answer s.hill e) (sym is) ∙ sym (instead_same m.owed n (m.owed n ++ answer m.now.hill e)) in
-      (subst (λ l. IsPeer new (m.came n) l) done (serves.reads (m.came n) (m.done n) stands.0), all)
+      let all : s.went ++ new.outbox.unsent ≡ s.owed ++ answer before.hill e =
+      ap (λ l. s.went ++ l) serves.answers.3 ∙ sym (append_assoc s.went peer.outbox.unsent more) ∙ ap (λ l. l ++ more) stands.1
+      ∙ ap (λ (k : Seen D). s.owed ++ answer k.hill e) (sym is) in
+      (subst (λ l. IsPeer new s.came l) done (serves.reads s.came s.done stands.0), all)
 
 module _ {S D A : Type 0} (happened : S → List Noted → Type 0) (facts : DeviceFacts D) (shows : Shows D) (start : Seen D) (browsers : ℕ → Option (Stage A)) where
   answered_by : (old_sockets sockets : S) (n : ℕ) (old new : Slots A) (store now : Seen D) (slot : Option (Peer A)) → peer_at old n ≡ slot → is_due_in slot ≡ true
@@ -134,13 +123,15 @@ module _ {S D A : Type 0} (happened : S → List Noted → Type 0) (facts : Devi
       let moved : Moves (λ p q. Serves facts None p store q now) (Some peer) (peer_at new n) =
       subst (λ slot. Moves (λ p q. Serves facts None p store q now) slot (peer_at new n)) is moves.at in
       let e = moved.2.answers.0 in
-      let at : StandsAt m n (Some peer) = subst (λ slot. StandsAt m n slot) is (before.standing n) in
+      let s = m.sessions n in
+      let at : StandsAt s (Some peer) = subst (λ slot. StandsAt s slot) is (before.standing n) in
       let served : AreServed facts m.now now (e ∷ []) = subst (λ (s : Seen D). AreServed facts s now (e ∷ [])) (sym before.now_is) moved.2.answers.2 in
       let safe = safe_answered facts n e now m served on.2 in
-      let here : StandsAt (answered n e now m) n (peer_at new n) =
-      subst (λ slot. StandsAt (answered n e now m) n slot) (sym moved.1) (answered_at facts n m peer moved.0 store now before.now_is moved.2 at) in
+      let after = session_answered (command_in e) (answer m.now.hill e) s in
+      let here : StandsAt after (peer_at new n) =
+      subst (λ slot. StandsAt after slot) (sym moved.1) (answered_at facts s peer moved.0 m.now store now before.now_is moved.2 at) in
       let answers : Answers facts n e now m = record {
-        in_turn = subst (λ (k : Command). Begins (m.done n ++ k ∷ []) (commands_of (m.came n))) moved.2.answers.1 (in_turn peer (m.came n) (m.done n) due at.0);
+        in_turn = subst (λ (k : Command). Begins (s.done ++ k ∷ []) (commands_of s.came)) moved.2.answers.1 (in_turn peer s.came s.done due at.0);
         served = served;
         safe = safe;
       } in (
@@ -148,7 +139,7 @@ module _ {S D A : Type 0} (happened : S → List Noted → Type 0) (facts : Devi
         record {
           logged = kept (noted on.0) before.logged;
           follows = (answers, before.follows);
-          standing = standing_at old new n m (answered n e now m) moves.only (answered_other facts n e now m) here before.standing;
+          standing = standing_with m.sessions n after old new moves.only here before.standing;
           visiting = before.visiting;
           now_is = refl;
         },
@@ -168,7 +159,7 @@ module _ {S D A : Type 0} (happened : S → List Noted → Type 0) (facts : Devi
         record {
           logged = kept (noted on.0) before.logged;
           follows = before.follows;
-          standing = standing_ended facts n end m m old new store now (same m) moves before.standing;
+          standing = standing_ended facts m.sessions n end old new store now moves before.standing;
           visiting = before.visiting;
           now_is = before.now_is ∙ sym (same_store facts end (command_of peer) peer.outbox.unsent moved.0.outbox.unsent store now sound moved.2.answers);
         },
@@ -185,9 +176,10 @@ module _ {S D A : Type 0} (happened : S → List Noted → Type 0) (facts : Devi
       let moved : Moves (λ p q. Serves facts (Some ends.StoreFailed) p store q now) (Some peer) (peer_at new n) =
       subst (λ slot. Moves (λ p q. Serves facts (Some ends.StoreFailed) p store q now) slot (peer_at new n)) is moves.at in
       let source = moved.2.answers.0 in
-      let at : StandsAt m n (Some peer) = subst (λ slot. StandsAt m n slot) is (before.standing n) in
+      let s = m.sessions n in
+      let at : StandsAt s (Some peer) = subst (λ slot. StandsAt s slot) is (before.standing n) in
       let breaks : Breaks facts n source now m = record {
-        in_turn = subst (λ (k : Command). Begins (m.done n ++ k ∷ []) (commands_of (m.came n))) moved.2.answers.1 (in_turn peer (m.came n) (m.done n) due at.0);
+        in_turn = subst (λ (k : Command). Begins (s.done ++ k ∷ []) (commands_of s.came)) moved.2.answers.1 (in_turn peer s.came s.done due at.0);
         left_off = subst (λ (s : Seen D). IsLeftOff facts s now source) (sym before.now_is) moved.2.answers.2;
         safe = on.2;
       } in (
@@ -195,8 +187,7 @@ module _ {S D A : Type 0} (happened : S → List Noted → Type 0) (facts : Devi
         record {
           logged = kept (noted on.0) before.logged;
           follows = (breaks, before.follows);
-          standing = standing_ended facts n ends.StoreFailed m (stored now m) old new store now
-              (λ p. record { there_is = refl; came_is = refl; done_is = refl; owed_is = refl; went_is = refl }) moves before.standing;
+          standing = standing_ended facts m.sessions n ends.StoreFailed old new store now moves before.standing;
           visiting = before.visiting;
           now_is = refl;
         },

@@ -1,13 +1,12 @@
--- What one browser's part of a moment makes of the others' and of the peers'.
+-- What one part of a moment makes of the others.
 use Rattle.std.proofs.Common.{◌≡◌, ◌∙◌, inl, inr, ℕ, ◌==◌, Bool, true, false, if◌then◌else◌, Option, Some, refl, sym, subst}
 use Rattle.std.proofs.lemmas.Bool.{cases_eq}
 use Rattle.sector_disk.specs.Facts.{DeviceFacts}
-use Rattle.koth_peers.specs.Peers.{Slots, peer_at}
-use Rattle.koth_service.specs.History.{Browser, IsSafe, Moment, instead, with_browser}
-use Rattle.koth_service.specs.Standing.{AreAtStages, AreStanding, IsAtStage}
+use Rattle.koth_service.specs.History.{Browser, IsSafe, Moment, Session, instead, with_browser, with_session}
+use Rattle.koth_service.specs.Standing.{AreAtStages, IsAtStage}
 use Rattle.koth_service.specs.declared.connections.Stage.{Stage}
 use Rattle.koth_service.specs.declared.connections.Stage.TheVariants as stages
-use Rattle.koth_service.proofs.Moments.{instead_other, instead_same, same_stands}
+use Rattle.koth_service.proofs.Moments.{instead_other, instead_same}
 
 -- ---- a function that has another value at one place
 
@@ -41,22 +40,22 @@ module _ {A : Type 0} where
   parting_of_one true b stage before is = tt
   parting_of_one false b stage before is = is
 
-module _ {D A : Type 0} (m : Moment D) (browsers : ℕ → Option (Stage A)) (n : ℕ) where
-  pub stage_here : (stage : Option (Stage A)) → AreAtStages m (instead browsers n stage) → IsAtStage (m.browsers n) stage
-  stage_here stage are = subst (λ (s : Option (Stage A)). IsAtStage (m.browsers n) s) (instead_same browsers n stage) (are n)
+module _ {A : Type 0} (visitors : ℕ → Browser) (browsers : ℕ → Option (Stage A)) (n : ℕ) where
+  pub stage_here : (stage : Option (Stage A)) → AreAtStages visitors (instead browsers n stage) → IsAtStage (visitors n) stage
+  stage_here stage are = subst (λ (s : Option (Stage A)). IsAtStage (visitors n) s) (instead_same browsers n stage) (are n)
 
-  pub stages_with : (b : Browser) (before after : Option (Stage A)) → IsAtStage b after → AreAtStages m (instead browsers n before)
-      → AreAtStages (with_browser n b m) (instead browsers n after)
-  stages_with b before after is are = λ p. stage_of_one (p == n) (m.browsers p) b (browsers p) before after (are p) is
+  pub stages_with : (b : Browser) (before after : Option (Stage A)) → IsAtStage b after → AreAtStages visitors (instead browsers n before)
+      → AreAtStages (instead visitors n b) (instead browsers n after)
+  stages_with b before after is are = λ p. stage_of_one (p == n) (visitors p) b (browsers p) before after (are p) is
 
-  pub stages_over : (before : Option (Stage A)) → AreAtStages m (instead browsers n before) → AreAtStages m (instead browsers n (Some stages.Parting))
-  stages_over before are = λ p. parting_of_one (p == n) (m.browsers p) (browsers p) before (are p)
+  pub stages_over : (before : Option (Stage A)) → AreAtStages visitors (instead browsers n before) → AreAtStages visitors (instead browsers n (Some stages.Parting))
+  stages_over before are = λ p. parting_of_one (p == n) (visitors p) (browsers p) before (are p)
 
-module _ {D : Type 0} (m : Moment D) (n : ℕ) (b : Browser) where
-  -- peers stand as they did
-  pub standing_with : {A : Type 0} (slots : Slots A) → AreStanding m slots → AreStanding (with_browser n b m) slots
-  standing_with slots are = λ p. same_stands m (with_browser n b m) p (peer_at slots p)
-      (record { there_is = refl; came_is = refl; done_is = refl; owed_is = refl; went_is = refl }) (are p)
+-- ---- no stop loses what was answered before
 
-  pub safe_with : (facts : DeviceFacts D) → IsSafe facts m → IsSafe facts (with_browser n b m)
-  safe_with facts safe = record { hill = safe.hill; still = safe.still; lawful = safe.lawful; reads = safe.reads }
+module _ {D : Type 0} (facts : DeviceFacts D) (m : Moment D) (n : ℕ) where
+  pub safe_session : (s : Session) → IsSafe facts m → IsSafe facts (with_session n s m)
+  safe_session s safe = record { hill = safe.hill; still = safe.still; lawful = safe.lawful; reads = safe.reads }
+
+  pub safe_browser : (b : Browser) → IsSafe facts m → IsSafe facts (with_browser n b m)
+  safe_browser b safe = record { hill = safe.hill; still = safe.still; lawful = safe.lawful; reads = safe.reads }

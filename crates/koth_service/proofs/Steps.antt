@@ -1,5 +1,5 @@
 -- How a history goes on by what happens on the sockets.
-use Rattle.std.proofs.Common.{◌≡◌, ◌≢◌, ◌∙◌, ◌==◌, ℕ, Bool, true≢false, false, ap, length, List, [], ◌∷◌, take, Option, None, Ok, refl, sym, subst}
+use Rattle.std.proofs.Common.{◌≡◌, ◌≢◌, ◌∙◌, ◌==◌, ℕ, Bool, true, true≢false, false, ap, length, List, [], ◌∷◌, take, Option, None, Ok, refl, sym, subst}
 use Rattle.sector_disk.specs.Facts.{DeviceFacts}
 use Rattle.hill_store.specs.Seen.{Seen}
 use Rattle.koth_peers.specs.Peer.{Closes, Sends, Takes}
@@ -7,13 +7,14 @@ use Rattle.koth_peers.specs.Peers.{Connects, MovesAt, OnlyAt, Slots, peer_at, un
 use Rattle.koth_peers.specs.declared.peer.Peer.{Peer}
 use Rattle.koth_peers.specs.declared.peers.Peers.{Peers}
 use Rattle.koth_service.specs.Noted.{Adds, Noted, Stays}
-use Rattle.koth_service.specs.History.{Happening, IsHistory, Shows, beginning, moment, noted, reopened}
+use Rattle.koth_service.specs.History.{Happening, IsHistory, Shows, beginning, moment, noted, session_anew, session_came, session_went}
 use Rattle.koth_peers.specs.declared.peers.Step.{Step}
 use Rattle.koth_peers.specs.declared.peers.Step.TheVariants as steps
 use Rattle.koth_service.specs.Standing.{GoesOn, IsAtStage, IsCutOff, IsSoundAfter, StandsAfter, StandsAt}
 use Rattle.koth_service.specs.declared.connections.Stage.{Stage}
 use Rattle.koth_service.specs.declared.desk.Desk.{Desk}
-use Rattle.koth_service.proofs.Moments.{free_at, owed_to, same_stands, standing_came, standing_closed, standing_left, standing_new, standing_went}
+use Rattle.koth_service.proofs.Moments.{free_at, owed_to, standing_came, standing_closed, standing_left, standing_new, standing_went}
+use Rattle.koth_service.proofs.Stages.{safe_session}
 
 -- answers that there are
 pub some_unsent : (read unsent : List ℕ) (empty : Bool) → read ≡ unsent → empty ≡ (length read == 0) → empty ≡ false → unsent ≢ []
@@ -43,12 +44,12 @@ module _ {S D A : Type 0} (happened : S → List Noted → Type 0) (facts : Devi
         Happening.On (Noted.Seated n) ∷ on.0,
         record {
           logged = adds (noted on.0) before.logged;
-          follows = (free_at old n m connects.2 before.standing, before.follows);
-          standing = standing_new old new n connects.4 m connects.0 connects.5 connects.6 before.standing;
+          follows = (free_at m.sessions n old connects.2 before.standing, before.follows);
+          standing = standing_new m.sessions n connects.4 old new connects.0 connects.5 connects.6 before.standing;
           visiting = before.visiting;
           now_is = before.now_is;
         },
-        record { hill = on.2.hill; still = on.2.still; lawful = on.2.lawful; reads = on.2.reads },
+        safe_session facts m n (session_anew true) on.2,
       )
 
   -- bytes of a peer came
@@ -62,11 +63,11 @@ module _ {S D A : Type 0} (happened : S → List Noted → Type 0) (facts : Devi
         record {
           logged = adds (noted on.0) before.logged;
           follows = (tt, before.follows);
-          standing = standing_came old new n bytes m moves before.standing;
+          standing = standing_came m.sessions n bytes old new moves before.standing;
           visiting = before.visiting;
           now_is = before.now_is;
         },
-        record { hill = on.2.hill; still = on.2.still; lawful = on.2.lawful; reads = on.2.reads },
+        safe_session facts m n (session_came bytes (m.sessions n)) on.2,
       )
 
   -- a peer's bytes are at their end
@@ -78,7 +79,7 @@ module _ {S D A : Type 0} (happened : S → List Noted → Type 0) (facts : Devi
         record {
           logged = same (noted on.0) before.logged;
           follows = before.follows;
-          standing = standing_closed old new n (moment start on.0) moves before.standing;
+          standing = standing_closed (moment start on.0).sessions n old new moves before.standing;
           visiting = before.visiting;
           now_is = before.now_is;
         },
@@ -95,12 +96,12 @@ module _ {S D A : Type 0} (happened : S → List Noted → Type 0) (facts : Devi
         Happening.On (Noted.Told n (take count (unsent_at old n))) ∷ on.0,
         record {
           logged = adds (noted on.0) before.logged;
-          follows = (owed_to old n count m some before.standing, before.follows);
-          standing = standing_went old new n count m moves before.standing;
+          follows = (owed_to m.sessions n count old some before.standing, before.follows);
+          standing = standing_went m.sessions n count old new moves before.standing;
           visiting = before.visiting;
           now_is = before.now_is;
         },
-        record { hill = on.2.hill; still = on.2.still; lawful = on.2.lawful; reads = on.2.reads },
+        safe_session facts m n (session_went (take count (unsent_at old n)) (m.sessions n)) on.2,
       )
 
   -- a peer was let go
@@ -114,11 +115,11 @@ module _ {S D A : Type 0} (happened : S → List Noted → Type 0) (facts : Devi
         record {
           logged = adds (noted on.0) before.logged;
           follows = (tt, before.follows);
-          standing = standing_left old new n m only free before.standing;
+          standing = standing_left m.sessions n old new only free before.standing;
           visiting = before.visiting;
           now_is = before.now_is;
         },
-        record { hill = on.2.hill; still = on.2.still; lawful = on.2.lawful; reads = on.2.reads },
+        safe_session facts m n (session_anew false) on.2,
       )
 
   -- ---- the beginning, and a hill that was opened again
@@ -130,7 +131,7 @@ module _ {S D A : Type 0} (happened : S → List Noted → Type 0) (facts : Devi
     record {
       logged = none;
       follows = tt;
-      standing = λ p. subst (λ (slot : Option (Peer A)). StandsAt (beginning start) p slot) (sym (nobody p)) refl;
+      standing = λ p. subst (λ (slot : Option (Peer A)). StandsAt ((beginning start).sessions p) slot) (sym (nobody p)) refl;
       visiting = λ p. subst (λ (stage : Option (Stage A)). IsAtStage ((beginning start).browsers p) stage) (sym (nobody_visits p)) refl;
       now_is = sym is;
     },
@@ -140,14 +141,12 @@ module _ {S D A : Type 0} (happened : S → List Noted → Type 0) (facts : Devi
   pub opened_again : (sockets : S) (slots : Slots A) (store now : Seen D) → now.reopen ≡ false → IsCutOff happened facts shows start sockets slots browsers store
       → GoesOn happened facts shows start sockets slots browsers now
   opened_again sockets slots store now sound cut =
-      let before = cut.1 in
-      let m = moment start cut.0 in (
+      let before = cut.1 in (
         Happening.Reopened now ∷ cut.0,
         record {
           logged = before.logged;
           follows = (sound, before.follows);
-          standing = λ p. same_stands m (reopened now m) p (peer_at slots p)
-              (record { there_is = refl; came_is = refl; done_is = refl; owed_is = refl; went_is = refl }) (before.standing p);
+          standing = before.standing;
           visiting = before.visiting;
           now_is = refl;
         },

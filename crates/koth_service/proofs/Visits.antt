@@ -13,7 +13,7 @@ use Rattle.koth_service.specs.declared.sockets.Came.TheVariants as came
 use Rattle.koth_service.specs.declared.connections.Connection.{Connection}
 use Rattle.koth_service.specs.declared.connections.Stage.{Stage}
 use Rattle.koth_service.specs.declared.connections.Stage.TheVariants as stages
-use Rattle.koth_service.proofs.Stages.{instead_kept, instead_twice, safe_with, stage_here, stages_over, stages_with, standing_with}
+use Rattle.koth_service.proofs.Stages.{instead_kept, instead_twice, safe_browser, stage_here, stages_over, stages_with}
 use Rattle.koth_service.proofs.Steps.{stays}
 
 -- ---- what happens with the connection of one number
@@ -36,7 +36,7 @@ module _ {S D A : Type 0} (happened : S → List Noted → Type 0) (facts : Devi
           logged = before.logged;
           follows = before.follows;
           standing = before.standing;
-          visiting = stages_over (moment start on.0) browsers n stage before.visiting;
+          visiting = stages_over (moment start on.0).browsers browsers n stage before.visiting;
           now_is = before.now_is;
         },
         on.2,
@@ -51,12 +51,12 @@ module _ {S D A : Type 0} (happened : S → List Noted → Type 0) (facts : Devi
         Happening.On (Noted.Admitted n) ∷ on.0,
         record {
           logged = adds (noted on.0) before.logged;
-          follows = (stage_here m browsers n None before.visiting, before.follows);
-          standing = standing_with m n b slots before.standing;
-          visiting = stages_with m browsers n b None (Some (stages.Asking [])) refl before.visiting;
+          follows = (stage_here m.browsers browsers n None before.visiting, before.follows);
+          standing = before.standing;
+          visiting = stages_with m.browsers browsers n b None (Some (stages.Asking [])) refl before.visiting;
           now_is = before.now_is;
         },
-        safe_with m n b facts on.2,
+        safe_browser facts m n b on.2,
       )
 
   -- bytes of it came
@@ -66,16 +66,16 @@ module _ {S D A : Type 0} (happened : S → List Noted → Type 0) (facts : Devi
       let before = on.1 in
       let m = moment start on.0 in
       let b = browser_came bytes (m.browsers n) in
-      let here = stage_here m browsers n (Some (stages.Asking visit)) before.visiting in (
+      let here = stage_here m.browsers browsers n (Some (stages.Asking visit)) before.visiting in (
         Happening.On (Noted.Requested n bytes) ∷ on.0,
         record {
           logged = adds (noted on.0) before.logged;
           follows = (tt, before.follows);
-          standing = standing_with m n b slots before.standing;
-          visiting = stages_with m browsers n b (Some (stages.Asking visit)) (Some (stages.Asking (visit ++ bytes))) (ap (λ (x : Browser). browser_came bytes x) here) before.visiting;
+          standing = before.standing;
+          visiting = stages_with m.browsers browsers n b (Some (stages.Asking visit)) (Some (stages.Asking (visit ++ bytes))) (ap (λ (x : Browser). browser_came bytes x) here) before.visiting;
           now_is = before.now_is;
         },
-        safe_with m n b facts on.2,
+        safe_browser facts m n b on.2,
       )
 
   -- bytes of it came that are thrown away
@@ -88,11 +88,11 @@ module _ {S D A : Type 0} (happened : S → List Noted → Type 0) (facts : Devi
         record {
           logged = adds (noted on.0) before.logged;
           follows = (tt, before.follows);
-          standing = standing_with m n b slots before.standing;
-          visiting = stages_with m browsers n b (Some stages.Parting) (Some stages.Parting) tt before.visiting;
+          standing = before.standing;
+          visiting = stages_with m.browsers browsers n b (Some stages.Parting) (Some stages.Parting) tt before.visiting;
           now_is = before.now_is;
         },
-        safe_with m n b facts on.2,
+        safe_browser facts m n b on.2,
       )
 
   -- it was answered
@@ -102,7 +102,7 @@ module _ {S D A : Type 0} (happened : S → List Noted → Type 0) (facts : Devi
       let before = on.1 in
       let m = moment start on.0 in
       let b = browser_replied reply (m.browsers n) in
-      let here = stage_here m browsers n (Some (stages.Asking visit)) before.visiting in
+      let here = stage_here m.browsers browsers n (Some (stages.Asking visit)) before.visiting in
       let came : (m.browsers n).came ≡ visit = ap (λ (x : Browser). x.came) here in
       let of_store : AnswersBytes (shows m.now) visit reply = subst (λ (s : Seen D). AnswersBytes (shows s) visit reply) (sym before.now_is) answers in
       let replies : Replies shows n reply m = record {
@@ -114,11 +114,11 @@ module _ {S D A : Type 0} (happened : S → List Noted → Type 0) (facts : Devi
         record {
           logged = before.logged;
           follows = (replies, before.follows);
-          standing = standing_with m n b slots before.standing;
-          visiting = stages_with m browsers n b (Some (stages.Asking visit)) (Some (stages.Answering reply)) (ap (λ (x : Browser). x.went ++ reply) here) before.visiting;
+          standing = before.standing;
+          visiting = stages_with m.browsers browsers n b (Some (stages.Asking visit)) (Some (stages.Answering reply)) (ap (λ (x : Browser). x.went ++ reply) here) before.visiting;
           now_is = before.now_is;
         },
-        safe_with m n b facts on.2,
+        safe_browser facts m n b on.2,
       )
 
   -- some of its answer went out
@@ -129,18 +129,18 @@ module _ {S D A : Type 0} (happened : S → List Noted → Type 0) (facts : Devi
       let m = moment start on.0 in
       let now = m.browsers n in
       let b = browser_went (take count unsent) now in
-      let here = stage_here m browsers n (Some (stages.Answering unsent)) before.visiting in
+      let here = stage_here m.browsers browsers n (Some (stages.Answering unsent)) before.visiting in
       let all : (now.went ++ take count unsent) ++ drop count unsent ≡ owed_by now.reply =
       append_assoc now.went (take count unsent) (drop count unsent) ∙ ap (λ l. now.went ++ l) (take-append-drop count unsent) ∙ here in (
         Happening.On (Noted.Shown n (take count unsent)) ∷ on.0,
         record {
           logged = adds (noted on.0) before.logged;
           follows = ((drop count unsent, sym all), before.follows);
-          standing = standing_with m n b slots before.standing;
-          visiting = stages_with m browsers n b (Some (stages.Answering unsent)) (Some (stages.Answering (drop count unsent))) all before.visiting;
+          standing = before.standing;
+          visiting = stages_with m.browsers browsers n b (Some (stages.Answering unsent)) (Some (stages.Answering (drop count unsent))) all before.visiting;
           now_is = before.now_is;
         },
-        safe_with m n b facts on.2,
+        safe_browser facts m n b on.2,
       )
 
   -- its socket was closed
@@ -153,11 +153,11 @@ module _ {S D A : Type 0} (happened : S → List Noted → Type 0) (facts : Devi
         record {
           logged = adds (noted on.0) before.logged;
           follows = (tt, before.follows);
-          standing = standing_with m n b slots before.standing;
-          visiting = stages_with m browsers n b stage None refl before.visiting;
+          standing = before.standing;
+          visiting = stages_with m.browsers browsers n b stage None refl before.visiting;
           now_is = before.now_is;
         },
-        safe_with m n b facts on.2,
+        safe_browser facts m n b on.2,
       )
 
   -- ---- what a call of a connection's function makes of it

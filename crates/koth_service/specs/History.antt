@@ -29,6 +29,14 @@ noted (Happening.Replied n reply ∷ older) = noted older
 
 -- ---- how it stands then
 
+-- Of a peer whether it is there, what came of it, which of its commands were carried out, what they were answered, and what went out.
+pub record Session : Type 0 where
+  pub there : Bool
+  pub came : List ℕ
+  pub done : List Command
+  pub owed : List ℕ
+  pub went : List ℕ
+
 -- Of a browser whether it is there, what came of it, its answer once that was given, and what went out.
 pub record Browser : Type 0 where
   pub there : Bool
@@ -36,132 +44,37 @@ pub record Browser : Type 0 where
   pub reply : Option (List ℕ)
   pub went : List ℕ
 
--- Of each peer that is there what came, which commands of it were carried out, what they were answered, and what went out; the store; since it was opened last,
--- how it was then and what was carried out; and the browsers by their numbers.
+-- The peers and the browsers by their numbers; the store; and since it was opened last, how it was then and what was carried out.
 pub record Moment (D : Type 0) : Type 0 where
-  pub there : ℕ → Bool
-  pub came : ℕ → List ℕ
-  pub done : ℕ → List Command
-  pub owed : ℕ → List ℕ
-  pub went : ℕ → List ℕ
+  pub sessions : ℕ → Session
+  pub browsers : ℕ → Browser
   pub now : Seen D
   pub first : Seen D
   pub since : List Exchange
-  pub browsers : ℕ → Browser
+
+-- a peer is there or not, and nothing came of it or went out yet
+abbrev pub session_anew : Bool → Session
+session_anew is = record { there = is; came = []; done = []; owed = []; went = [] }
+
+-- bytes of a peer came; a command of it was carried out, and it is owed the answer; and bytes went out to it
+abbrev pub session_came : List ℕ → Session → Session
+session_came bytes s = record { there = s.there; came = s.came ++ bytes; done = s.done; owed = s.owed; went = s.went }
+
+abbrev pub session_answered : Command → List ℕ → Session → Session
+session_answered command reply s = record {
+  there = s.there;
+  came = s.came;
+  done = s.done ++ command ∷ [];
+  owed = s.owed ++ reply;
+  went = s.went;
+}
+
+abbrev pub session_went : List ℕ → Session → Session
+session_went bytes s = record { there = s.there; came = s.came; done = s.done; owed = s.owed; went = s.went ++ bytes }
 
 -- a browser is there or not, and nothing came of it or went out yet
 abbrev pub browser_anew : Bool → Browser
 browser_anew is = record { there = is; came = []; reply = None; went = [] }
-
-abbrev pub beginning : {D : Type 0} → Seen D → Moment D
-beginning start = record {
-  there = λ p. false;
-  came = λ p. [];
-  done = λ p. [];
-  owed = λ p. [];
-  went = λ p. [];
-  now = start;
-  first = start;
-  since = [];
-  browsers = λ p. browser_anew false;
-}
-
-abbrev pub instead : {T : Type 0} → (ℕ → T) → ℕ → T → ℕ → T
-instead f n value p = if p == n then value else f p
-
--- a peer is there or not, and nothing came of it or went out yet
-abbrev pub anew : {D : Type 0} → ℕ → Bool → Moment D → Moment D
-anew n is m = record {
-  there = instead m.there n is;
-  came = instead m.came n [];
-  done = instead m.done n [];
-  owed = instead m.owed n [];
-  went = instead m.went n [];
-  now = m.now;
-  first = m.first;
-  since = m.since;
-  browsers = m.browsers;
-}
-
-abbrev pub came_of : {D : Type 0} → ℕ → List ℕ → Moment D → Moment D
-came_of n bytes m = record {
-  there = m.there;
-  came = instead m.came n (m.came n ++ bytes);
-  done = m.done;
-  owed = m.owed;
-  went = m.went;
-  now = m.now;
-  first = m.first;
-  since = m.since;
-  browsers = m.browsers;
-}
-
-abbrev pub went_to : {D : Type 0} → ℕ → List ℕ → Moment D → Moment D
-went_to n bytes m = record {
-  there = m.there;
-  came = m.came;
-  done = m.done;
-  owed = m.owed;
-  went = instead m.went n (m.went n ++ bytes);
-  now = m.now;
-  first = m.first;
-  since = m.since;
-  browsers = m.browsers;
-}
-
--- a command was carried out on the store as it was, and its answer is owed to the peer
-abbrev pub answered : {D : Type 0} → ℕ → Exchange → Seen D → Moment D → Moment D
-answered n e new m = record {
-  there = m.there;
-  came = m.came;
-  done = instead m.done n (m.done n ++ command_in e ∷ []);
-  owed = instead m.owed n (m.owed n ++ answer m.now.hill e);
-  went = m.went;
-  now = new;
-  first = m.first;
-  since = m.since ++ e ∷ [];
-  browsers = m.browsers;
-}
-
-abbrev pub stored : {D : Type 0} → Seen D → Moment D → Moment D
-stored new m = record {
-  there = m.there;
-  came = m.came;
-  done = m.done;
-  owed = m.owed;
-  went = m.went;
-  now = new;
-  first = m.first;
-  since = m.since;
-  browsers = m.browsers;
-}
-
-abbrev pub reopened : {D : Type 0} → Seen D → Moment D → Moment D
-reopened new m = record {
-  there = m.there;
-  came = m.came;
-  done = m.done;
-  owed = m.owed;
-  went = m.went;
-  now = new;
-  first = new;
-  since = [];
-  browsers = m.browsers;
-}
-
--- one browser's part is another, and all else as it was
-abbrev pub with_browser : {D : Type 0} → ℕ → Browser → Moment D → Moment D
-with_browser n browser m = record {
-  there = m.there;
-  came = m.came;
-  done = m.done;
-  owed = m.owed;
-  went = m.went;
-  now = m.now;
-  first = m.first;
-  since = m.since;
-  browsers = instead m.browsers n browser;
-}
 
 -- bytes of a browser came; it was given its answer; and bytes went out to it
 abbrev pub browser_came : List ℕ → Browser → Browser
@@ -173,11 +86,70 @@ browser_replied reply b = record { there = b.there; came = b.came; reply = Some 
 abbrev pub browser_went : List ℕ → Browser → Browser
 browser_went bytes b = record { there = b.there; came = b.came; reply = b.reply; went = b.went ++ bytes }
 
+abbrev pub beginning : {D : Type 0} → Seen D → Moment D
+beginning start = record {
+  sessions = λ p. session_anew false;
+  browsers = λ p. browser_anew false;
+  now = start;
+  first = start;
+  since = [];
+}
+
+abbrev pub instead : {T : Type 0} → (ℕ → T) → ℕ → T → ℕ → T
+instead f n value p = if p == n then value else f p
+
+-- one peer's part, or one browser's, is another, and all else as it was
+abbrev pub with_session : {D : Type 0} → ℕ → Session → Moment D → Moment D
+with_session n session m = record {
+  sessions = instead m.sessions n session;
+  browsers = m.browsers;
+  now = m.now;
+  first = m.first;
+  since = m.since;
+}
+
+abbrev pub with_browser : {D : Type 0} → ℕ → Browser → Moment D → Moment D
+with_browser n browser m = record {
+  sessions = m.sessions;
+  browsers = instead m.browsers n browser;
+  now = m.now;
+  first = m.first;
+  since = m.since;
+}
+
+-- a command was carried out on the store as it was, and its answer is owed to the peer
+abbrev pub answered : {D : Type 0} → ℕ → Exchange → Seen D → Moment D → Moment D
+answered n e new m = record {
+  sessions = instead m.sessions n (session_answered (command_in e) (answer m.now.hill e) (m.sessions n));
+  browsers = m.browsers;
+  now = new;
+  first = m.first;
+  since = m.since ++ e ∷ [];
+}
+
+abbrev pub stored : {D : Type 0} → Seen D → Moment D → Moment D
+stored new m = record {
+  sessions = m.sessions;
+  browsers = m.browsers;
+  now = new;
+  first = m.first;
+  since = m.since;
+}
+
+abbrev pub reopened : {D : Type 0} → Seen D → Moment D → Moment D
+reopened new m = record {
+  sessions = m.sessions;
+  browsers = m.browsers;
+  now = new;
+  first = new;
+  since = [];
+}
+
 abbrev pub next : {D : Type 0} → Happening D → Moment D → Moment D
-next (Happening.On (Noted.Seated n)) m = anew n true m
-next (Happening.On (Noted.Heard n bytes)) m = came_of n bytes m
-next (Happening.On (Noted.Told n bytes)) m = went_to n bytes m
-next (Happening.On (Noted.Closed n)) m = anew n false m
+next (Happening.On (Noted.Seated n)) m = with_session n (session_anew true) m
+next (Happening.On (Noted.Heard n bytes)) m = with_session n (session_came bytes (m.sessions n)) m
+next (Happening.On (Noted.Told n bytes)) m = with_session n (session_went bytes (m.sessions n)) m
+next (Happening.On (Noted.Closed n)) m = with_session n (session_anew false) m
 next (Happening.On (Noted.Admitted n)) m = with_browser n (browser_anew true) m
 next (Happening.On (Noted.Requested n bytes)) m = with_browser n (browser_came bytes (m.browsers n)) m
 next (Happening.On (Noted.Shown n bytes)) m = with_browser n (browser_went bytes (m.browsers n)) m
@@ -207,13 +179,13 @@ pub record IsSafe {D : Type 0} (facts : DeviceFacts D) (m : Moment D) : Type 0 w
 
 -- a command of this peer was carried out: it is the next one in what came, and no stop loses it
 pub record Answers {D : Type 0} (facts : DeviceFacts D) (n : ℕ) (e : Exchange) (new : Seen D) (m : Moment D) : Type 0 where
-  pub in_turn : Begins (m.done n ++ command_in e ∷ []) (commands_of (m.came n))
+  pub in_turn : Begins ((m.sessions n).done ++ command_in e ∷ []) (commands_of (m.sessions n).came)
   pub served : AreServed facts m.now new (e ∷ [])
   pub safe : IsSafe facts (answered n e new m)
 
 -- the device failed in a submission of this peer: each image has what was answered, with this submission or without it
 pub record Breaks {D : Type 0} (facts : DeviceFacts D) (n : ℕ) (source : List ℕ) (new : Seen D) (m : Moment D) : Type 0 where
-  pub in_turn : Begins (m.done n ++ Command.Submit source ∷ []) (commands_of (m.came n))
+  pub in_turn : Begins ((m.sessions n).done ++ Command.Submit source ∷ []) (commands_of (m.sessions n).came)
   pub left_off : IsLeftOff facts m.now new source
   pub safe : IsSafe facts m
 
@@ -235,9 +207,9 @@ pub record Replies {D : Type 0} (shows : Shows D) (n : ℕ) (reply : List ℕ) (
 -- What may happen then: a number that is free is given to a peer; what goes out to a peer is the next of what it is owed; and commands are carried out in their order.
 -- So it is of browsers: a number that is free is given to one, each is given one answer at most, and what goes out to it is the next of that.
 abbrev pub Follows : {D : Type 0} → DeviceFacts D → Shows D → Happening D → Moment D → Type 0
-Follows facts shows (Happening.On (Noted.Seated n)) m = m.there n ≡ false
+Follows facts shows (Happening.On (Noted.Seated n)) m = (m.sessions n).there ≡ false
 Follows facts shows (Happening.On (Noted.Heard n bytes)) m = ⊤
-Follows facts shows (Happening.On (Noted.Told n bytes)) m = Begins (m.went n ++ bytes) (m.owed n)
+Follows facts shows (Happening.On (Noted.Told n bytes)) m = Begins ((m.sessions n).went ++ bytes) (m.sessions n).owed
 Follows facts shows (Happening.On (Noted.Closed n)) m = ⊤
 Follows facts shows (Happening.On (Noted.Admitted n)) m = (m.browsers n).there ≡ false
 Follows facts shows (Happening.On (Noted.Requested n bytes)) m = ⊤

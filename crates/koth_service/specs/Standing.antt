@@ -8,18 +8,18 @@ use Rattle.koth_peers.specs.declared.peer.Peer.{Peer}
 use Rattle.koth_peers.specs.declared.peers.Step.{Step}
 use Rattle.koth_peers.specs.declared.peers.Step.TheVariants as steps
 use Rattle.koth_service.specs.Noted.{Noted}
-use Rattle.koth_service.specs.History.{Browser, Happening, IsHistory, IsSafe, Moment, Shows, moment, noted, owed_by}
+use Rattle.koth_service.specs.History.{Browser, Happening, IsHistory, IsSafe, Session, Shows, moment, noted, owed_by}
 use Rattle.koth_service.specs.declared.connections.Stage.{Stage}
 use Rattle.koth_service.specs.declared.connections.Stage.TheVariants as stages
 use Rattle.koth_service.specs.declared.desk.Desk.{Desk}
 
 -- a peer's session read what came, and has what is owed and did not go out
-abbrev pub StandsAt : {D A : Type 0} → Moment D → ℕ → Option (Peer A) → Type 0
-StandsAt m p None = m.there p ≡ false
-StandsAt m p (Some peer) = IsPeer peer (m.came p) (m.done p) × (m.went p ++ peer.outbox.unsent ≡ m.owed p)
+abbrev pub StandsAt : {A : Type 0} → Session → Option (Peer A) → Type 0
+StandsAt s None = s.there ≡ false
+StandsAt s (Some peer) = IsPeer peer s.came s.done × (s.went ++ peer.outbox.unsent ≡ s.owed)
 
-abbrev pub AreStanding : {D A : Type 0} → Moment D → Slots A → Type 0
-AreStanding m slots = (p : ℕ) → StandsAt m p (peer_at slots p)
+abbrev pub AreStanding : {A : Type 0} → (ℕ → Session) → Slots A → Type 0
+AreStanding sessions slots = (p : ℕ) → StandsAt (sessions p) (peer_at slots p)
 
 -- A browser's connection read what came, and was not answered; or has what is owed and did not go out; or nothing more goes out to it. There is none of a number
 -- that is free.
@@ -29,15 +29,15 @@ IsAtStage b (Some (stages.Asking visit)) = b ≡ record { there = true; came = v
 IsAtStage b (Some (stages.Answering unsent)) = b.went ++ unsent ≡ owed_by b.reply
 IsAtStage b (Some stages.Parting) = ⊤
 
-abbrev pub AreAtStages : {D A : Type 0} → Moment D → (ℕ → Option (Stage A)) → Type 0
-AreAtStages m browsers = (p : ℕ) → IsAtStage (m.browsers p) (browsers p)
+abbrev pub AreAtStages : {A : Type 0} → (ℕ → Browser) → (ℕ → Option (Stage A)) → Type 0
+AreAtStages browsers at = (p : ℕ) → IsAtStage (browsers p) (at p)
 
 -- the sessions, the connections and the store came to be so by this history, and it is true of the sockets
 pub record CameToBe {S D A : Type 0} (happened : S → List Noted → Type 0) (facts : DeviceFacts D) (shows : Shows D) (start : Seen D) (sockets : S) (slots : Slots A) (browsers : ℕ → Option (Stage A)) (store : Seen D) (history : List (Happening D)) : Type 0 where
   pub logged : happened sockets (noted history)
   pub follows : IsHistory facts shows start history
-  pub standing : AreStanding (moment start history) slots
-  pub visiting : AreAtStages (moment start history) browsers
+  pub standing : AreStanding (moment start history).sessions slots
+  pub visiting : AreAtStages (moment start history).browsers browsers
   pub now_is : (moment start history).now ≡ store
 
 -- by some history, in which the device is sound
