@@ -1,10 +1,13 @@
 //! Which calls a device over a file makes on it, and that each of them that fails is a fault.
 
-use crate::calls::{expect_faults, remove};
-use crate::files::place;
-use crate::watched::{Calls, WatchedFiles, forget, no_calls};
+use crate::calls::{expect_faults, expect_same};
+use crate::disk::remove;
+use crate::files::sectors_made;
+use crate::places::{AtPath, at_place};
+use crate::watched::{Calls, WatchedFiles, forget, new_calls};
 use sector_disk::{Device, Fault, FileDevice, FileFault};
 use std::cell::Cell;
+use std::fmt::Debug;
 use std::fs::File;
 use std::process::Abort;
 use std::rt::Files;
@@ -15,21 +18,37 @@ const MADE: [u8; 7] = *b"omlyoym";
 /// The number of a call that is not made, so that none fails.
 pub(crate) const NEVER: usize = usize::MAX;
 
+/// What is done at a path, or has to come out there.
+#[derive(Clone, Copy)]
+enum FileCall {
+    /// Making a device of three sectors ends so, after these calls, of which the one of this number fails.
+    Make(usize, Result<u32, FileFault>, &'static [u8]),
+    /// Each call of making one fails once.
+    FailMaking,
+    /// A device is opened, and each call of it is made, and each call of the file fails once.
+    Open,
+    /// The file is removed.
+    Remove,
+}
+
+impl AtPath for FileCall {
+    fn act<R: Files<File = File> + AllocGlobal + Abort>(&self, rt: &R, path: &str) {
+        match *self {
+            FileCall::Make(fails_at, answer, letters) => {
+                expect_made(rt, path, fails_at, answer, Some(letters));
+            }
+            FileCall::FailMaking => fail_making(rt, path),
+            FileCall::Open => expect_each_call(rt, path),
+            FileCall::Remove => remove(rt, path),
+        }
+    }
+}
+
 /// The calls since they were forgotten are these.
 pub(crate) fn expect_calls(rt: &impl Abort, calls: &Cell<Calls>, expected: Option<&[u8]>) {
     let so_far = calls.get();
-    assert_eq!(rt; so_far.letters.get(..so_far.count), expected);
-}
-
-/// The sectors of a device that is made with three.
-fn sectors_made(
-    rt: &(impl Files<File = File> + AllocGlobal),
-    calls: &Cell<Calls>,
-    path: &str,
-) -> Result<u32, FileFault> {
-    let files = WatchedFiles { files: rt, calls };
-    let device = FileDevice::make(&files, rt.alloc(), path, 3)?;
-    Ok(device.sectors())
+    let letters = so_far.letters.get(..so_far.count);
+    expect_same(rt, &letters, &expected, "calls");
 }
 
 /// Making a device of three sectors ends so, after these calls, of which the one of this number fails.
@@ -40,36 +59,49 @@ fn expect_made(
     answer: Result<u32, FileFault>,
     letters: Option<&[u8]>,
 ) {
-    let calls = no_calls();
-    forget(&calls, fails_at);
-    assert_eq!(rt; sectors_made(rt, &calls, path), answer, "at {fails_at}");
+    let calls = new_calls(fails_at);
+    let files = WatchedFiles {
+        files: rt,
+        calls: &calls,
+    };
+    let made = sectors_made(&files, rt.alloc(), path, 3);
+    expect_same(rt, &made, &answer, format_args!("at {fails_at}"));
     expect_calls(rt, &calls, letters);
 }
 
 /// A file that is long enough is synced too: its length may be that of a call that was cut short.
+const SYNCED: [FileCall; 3] = [
+    FileCall::Make(NEVER, Ok(3), &MADE),
+    FileCall::Make(NEVER, Ok(3), b"omyoym"),
+    FileCall::Remove,
+];
+
 #[test]
 fn making_syncs_the_file_and_its_folder(rt: HostRuntime) {
-    let place = place(&rt, "watched-life").expect(&rt, "a place");
-    let path = place.as_str();
-    expect_made(&rt, path, NEVER, Ok(3), Some(&MADE));
-    expect_made(&rt, path, NEVER, Ok(3), Some(b"omyoym"));
-    remove(&rt, path);
+    at_place(&rt, rt.process(), "watched-life", &SYNCED);
 }
 
-/// Each of those seven fails once, and none makes a device then. There is no eighth.
-#[test]
-fn making_stops_where_a_call_fails(rt: HostRuntime) {
-    let place = place(&rt, "watched-cut").expect(&rt, "a place");
-    let path = place.as_str();
+/// Each of those seven fails once, and none makes a device then.
+fn fail_making(rt: &(impl Files<File = File> + AllocGlobal + Abort), path: &str) {
     for fails_at in 0..MADE.len() {
         let letters = MADE.get(..fails_at + 1);
-        expect_made(&rt, path, fails_at, Err(FileFault::Failed), letters);
+        expect_made(rt, path, fails_at, Err(FileFault::Failed), letters);
         if fails_at > 0 {
-            remove(&rt, path);
+            remove(rt, path);
         }
     }
-    expect_made(&rt, path, MADE.len(), Ok(3), Some(&MADE));
-    remove(&rt, path);
+}
+
+/// There is no eighth.
+const FAILED: [FileCall; 3] = [
+    FileCall::FailMaking,
+    FileCall::Make(MADE.len(), Ok(3), &MADE),
+    FileCall::Remove,
+];
+
+#[test]
+fn making_stops_where_a_call_fails(rt: HostRuntime) {
+    at_place(&rt, rt.process(), "watched-cut", &FAILED);
 }
 
 /// A write, a read or a sync of a device of two sectors or more.
@@ -96,7 +128,8 @@ fn expect_answer<D: Device>(
 ) {
     let faults = device.faults().saturating_add(u64::from(answer.is_err()));
     forget(calls, fails_at);
-    assert_eq!(rt; call(device, which), answer, "at {fails_at}");
+    let found = call(device, which);
+    expect_same(rt, &found, &answer, format_args!("at {fails_at}"));
     expect_calls(rt, calls, letters);
     expect_faults(rt, device, faults);
 }
@@ -117,27 +150,43 @@ fn expect_script<D: Device>(
 }
 
 /// A write is one seek and one write of the whole sector, a read one seek and one read, a sync one sync.
-fn expect_each<D: Device>(rt: &impl Abort, calls: &Cell<Calls>, device: &mut D) {
+fn expect_each<D: Device + Drop, E: Debug>(
+    rt: &impl Abort,
+    calls: &Cell<Calls>,
+    opened: Result<D, E>,
+) {
+    let mut device = opened.expect(rt, "it is opened");
     expect_calls(rt, calls, Some(b"om"));
-    expect_faults(rt, device, 0);
-    expect_script(rt, calls, device, b'w', b"sw");
-    expect_script(rt, calls, device, b'r', b"sr");
-    expect_script(rt, calls, device, b'y', b"y");
-    expect_faults(rt, device, 5);
+    expect_faults(rt, &device, 0);
+    expect_script(rt, calls, &mut device, b'w', b"sw");
+    expect_script(rt, calls, &mut device, b'r', b"sr");
+    expect_script(rt, calls, &mut device, b'y', b"y");
+    expect_faults(rt, &device, 5);
 }
+
+/// Each call is made of a device that is opened among these files, which write their calls down.
+fn open_among<R: Files>(rt: &impl Abort, files: &R, calls: &Cell<Calls>, path: &str) {
+    expect_each(rt, calls, FileDevice::open(files, path));
+}
+
+/// Each call is made of a device that is opened.
+fn expect_each_call(rt: &(impl Files<File = File> + Abort), path: &str) {
+    let calls = new_calls(NEVER);
+    let files = WatchedFiles {
+        files: rt,
+        calls: &calls,
+    };
+    open_among(rt, &files, &calls, path);
+}
+
+/// A device of three sectors is made, and each call is made of it when it is opened.
+const OPENED: [FileCall; 3] = [
+    FileCall::Make(NEVER, Ok(3), &MADE),
+    FileCall::Open,
+    FileCall::Remove,
+];
 
 #[test]
 fn each_call_of_a_device(rt: HostRuntime) {
-    let place = place(&rt, "watched-calls").expect(&rt, "a place");
-    let path = place.as_str();
-    expect_made(&rt, path, NEVER, Ok(3), Some(&MADE));
-    let calls = no_calls();
-    let files = WatchedFiles {
-        files: &rt,
-        calls: &calls,
-    };
-    let mut device = FileDevice::open(&files, path).expect(&rt, "it is opened");
-    expect_each(&rt, &calls, &mut device);
-    drop(device);
-    remove(&rt, path);
+    at_place(&rt, rt.process(), "watched-calls", &OPENED);
 }

@@ -1,163 +1,235 @@
 //! The device over a file.
 
-use crate::calls::{
-    expect_bytes, expect_faults, expect_read, expect_sectors, expect_text, read, remove, sync,
-    write,
+use crate::calls::{Step, expect_same, expect_text, read, sectors_of};
+use crate::deeds::Deed;
+use crate::disk::{
+    create_folder, expect_bytes, expect_nothing, remove, remove_folder, write_sixes,
 };
-use sector_disk::{Device, Fault, FileDevice, FileFault};
-use std::fs::{File, OpenFile};
-use std::path::PathBuf;
-use std::process::{Abort, id};
+use crate::places::{AtPath, Turn, at_place, by_turns, on_device};
+use sector_disk::{Device, FileDevice, FileFault};
+use std::alloc::Global;
+use std::fs::File;
+use std::process::Abort;
 use std::rt::Files;
-use std::{env, fs, io};
 
-/// A place for a file of this name, which no other test and no other run uses.
-pub(crate) fn place(rt: &HostRuntime, name: &str) -> io::Result<PathBuf> {
-    let process = id(rt.process());
-    let name = format!(in rt.alloc(); "koth-sector-disk-{process}-{name}")?;
-    Ok(env::temp_dir(rt)?.join(rt.alloc(), name.as_str())?)
-}
-
-/// A device that is made with so many sectors.
-fn made<R: Files<File = File> + AllocGlobal>(
-    rt: &R,
+/// The sectors of a device that is made with so many.
+pub(crate) fn sectors_made<R: Files>(
+    files: &R,
+    alloc: Global,
     path: &str,
     sectors: u32,
-) -> Result<FileDevice<File>, FileFault> {
-    FileDevice::make(rt, rt.alloc(), path, sectors)
+) -> Result<u32, FileFault> {
+    sectors_of(FileDevice::make(files, alloc, path, sectors))
 }
 
-/// A device that is opened.
-fn opened<R: Files<File = File>>(rt: &R, path: &str) -> Result<FileDevice<File>, FileFault> {
-    FileDevice::open(rt, path)
+/// The sectors of a device that is opened.
+fn sectors_opened<R: Files>(files: &R, path: &str) -> Result<u32, FileFault> {
+    sectors_of(FileDevice::open(files, path))
+}
+
+/// What is done at a path, or has to hold there.
+#[derive(Clone, Copy)]
+enum FileDeed {
+    /// These calls are made of a new device of three sectors.
+    OnMade(&'static [Step]),
+    /// These calls are made of a device that is opened.
+    OnOpened(&'static [Step]),
+    /// The file holds what `FILL` writes.
+    HoldsWritten,
+    /// The file holds 1,024 bytes of 6, and as many zeros behind them.
+    HoldsExtended,
+    /// A file of so many bytes is written, each of them 6.
+    WriteSixes(usize),
+    /// A device that is made with so many sectors has so many.
+    Make(u32, u32),
+    /// A device that is opened over a file of so many bytes has so many sectors.
+    Whole(usize, u32),
+    /// The bytes of a part of a sector stay, and zeros follow them.
+    PartFilled,
+    /// Nothing opens, since the system refuses it.
+    NotOpened,
+    /// Nor is one made.
+    NotMade,
+    /// There is nothing.
+    Nothing,
+    /// A folder is made.
+    CreateFolder,
+    /// It is removed.
+    RemoveFolder,
+    /// The file of a new device of two sectors is shortened and removed, while the device is open.
+    Shorten,
+    /// The file is removed.
+    Remove,
+}
+
+impl AtPath for FileDeed {
+    fn act<R: Files<File = File> + AllocGlobal + Abort>(&self, rt: &R, path: &str) {
+        match *self {
+            FileDeed::OnMade(steps) => try_made(rt, path, steps),
+            FileDeed::OnOpened(steps) => try_opened(rt, path, steps),
+            FileDeed::HoldsWritten => expect_written(rt, path),
+            FileDeed::HoldsExtended => expect_extended(rt, path),
+            FileDeed::WriteSixes(count) => write_sixes(rt, path, count),
+            FileDeed::Make(asked, sectors) => expect_made(rt, path, asked, sectors),
+            FileDeed::Whole(count, whole) => expect_whole(rt, path, count, whole),
+            FileDeed::PartFilled => expect_part_filled(rt, path),
+            FileDeed::NotOpened => expect_not_opened(rt, path),
+            FileDeed::NotMade => expect_not_made(rt, path),
+            FileDeed::Nothing => expect_nothing(rt, path),
+            FileDeed::CreateFolder => create_folder(rt, path),
+            FileDeed::RemoveFolder => remove_folder(rt, path),
+            FileDeed::Shorten => shorten(rt, path),
+            FileDeed::Remove => remove(rt, path),
+        }
+    }
+}
+
+/// These calls are made of a new device of three sectors.
+fn try_made(rt: &(impl Files + AllocGlobal + Abort), path: &str, steps: &[Step]) {
+    let made = FileDevice::make(rt, rt.alloc(), path, 3);
+    on_device(rt, made, "it is made", steps);
+}
+
+/// These calls are made of a device that is opened.
+fn try_opened(rt: &(impl Files + Abort), path: &str, steps: &[Step]) {
+    on_device(rt, FileDevice::open(rt, path), "it is opened", steps);
 }
 
 /// Two sectors of a new device of three are written and synced.
-fn fill<D: Device>(rt: &impl Abort, device: &mut D) {
-    expect_sectors(rt, device, 3);
-    write(rt, device, 1, 7);
-    write(rt, device, 2, 8);
-    sync(rt, device);
-    expect_faults(rt, device, 0);
-}
+const FILL: [Step; 5] = [
+    Step::Sectors(3),
+    Step::Write(1, 7),
+    Step::Write(2, 8),
+    Step::Sync,
+    Step::Faults(0),
+];
 
 /// They read as they were written.
-fn expect_filled<D: Device>(rt: &impl Abort, device: &mut D) {
-    expect_sectors(rt, device, 3);
-    expect_read(rt, device, 1, 7);
-    expect_read(rt, device, 0, 0);
-    expect_read(rt, device, 2, 8);
+const FILLED: [Step; 4] = [
+    Step::Sectors(3),
+    Step::Read(1, 7),
+    Step::Read(0, 0),
+    Step::Read(2, 8),
+];
+
+/// What becomes of a file from when it is made until it is removed.
+const LIFE: [FileDeed; 4] = [
+    FileDeed::OnMade(&FILL),
+    FileDeed::HoldsWritten,
+    FileDeed::OnOpened(&FILLED),
+    FileDeed::Remove,
+];
+
+/// The file holds what `FILL` writes.
+fn expect_written(rt: &(impl Files + AllocGlobal + Abort), path: &str) {
+    expect_bytes(rt, path, [[0; 512], [7; 512], [8; 512]].as_flattened());
 }
 
 #[test]
 fn a_file_is_made_written_closed_opened_and_read(rt: HostRuntime) {
-    let place = place(&rt, "life").expect(&rt, "a place");
-    let path = place.as_str();
-    let mut device = made(&rt, path, 3).expect(&rt, "it is made");
-    fill(&rt, &mut device);
-    drop(device);
-    expect_bytes(&rt, path, [[0; 512], [7; 512], [8; 512]].as_flattened());
-    let mut device = opened(&rt, path).expect(&rt, "it is opened");
-    expect_filled(&rt, &mut device);
-    drop(device);
-    remove(&rt, path);
+    at_place(&rt, rt.process(), "life", &LIFE);
 }
 
 /// A device that is made with so many sectors has so many.
-fn expect_made(
-    rt: &(impl Files<File = File> + AllocGlobal + Abort),
-    path: &str,
-    asked: u32,
-    sectors: u32,
-) {
-    let device = made(rt, path, asked).expect(rt, "it is made");
-    assert_eq!(rt; device.sectors(), sectors, "{asked} asked");
-}
-
-/// Writes a file of this many bytes, each of them 6.
-fn write_sixes(rt: &(impl Files + AllocGlobal + Abort), path: &str, count: usize) {
-    let bytes = vec![in rt.alloc(); 6_u8; count].expect(rt, "there is memory");
-    fs::write(rt, path, bytes.as_slice()).expect(rt, "the file is written");
+fn expect_made(rt: &(impl Files + AllocGlobal + Abort), path: &str, asked: u32, sectors: u32) {
+    let made = sectors_made(rt, rt.alloc(), path, asked).expect(rt, "it is made");
+    expect_same(rt, &made, &sectors, format_args!("{asked} asked"));
 }
 
 /// It is never shortened, what it holds stays, and zeros follow it.
+const EXTENDED: [FileDeed; 8] = [
+    FileDeed::WriteSixes(1024),
+    FileDeed::Make(1, 2),
+    FileDeed::Make(0, 2),
+    FileDeed::Make(2, 2),
+    FileDeed::Make(4, 4),
+    FileDeed::Make(3, 4),
+    FileDeed::HoldsExtended,
+    FileDeed::Remove,
+];
+
+/// The file holds 1,024 bytes of 6, and as many zeros behind them.
+fn expect_extended(rt: &(impl Files + AllocGlobal + Abort), path: &str) {
+    expect_bytes(rt, path, [[6; 1024], [0; 1024]].as_flattened());
+}
+
 #[test]
 fn a_file_is_extended(rt: HostRuntime) {
-    let place = place(&rt, "longer").expect(&rt, "a place");
-    let path = place.as_str();
-    write_sixes(&rt, path, 1024);
-    expect_made(&rt, path, 1, 2);
-    expect_made(&rt, path, 0, 2);
-    expect_made(&rt, path, 2, 2);
-    expect_made(&rt, path, 4, 4);
-    expect_made(&rt, path, 3, 4);
-    expect_bytes(&rt, path, [[6; 1024], [0; 1024]].as_flattened());
-    remove(&rt, path);
+    at_place(&rt, rt.process(), "longer", &EXTENDED);
 }
 
 /// A device that is opened over a file of so many bytes has so many sectors.
-fn expect_whole(
-    rt: &(impl Files<File = File> + AllocGlobal + Abort),
-    path: &str,
-    count: usize,
-    whole: u32,
-) {
+fn expect_whole(rt: &(impl Files + AllocGlobal + Abort), path: &str, count: usize, whole: u32) {
     write_sixes(rt, path, count);
-    let device = opened(rt, path).expect(rt, "it is opened");
-    assert_eq!(rt; device.sectors(), whole, "of {count} bytes");
+    let opened = sectors_opened(rt, path).expect(rt, "it is opened");
+    expect_same(rt, &opened, &whole, format_args!("of {count} bytes"));
+}
+
+/// The first sector of a device holds 6 in each byte but the last, and a zero there.
+fn expect_filled_up<D: Device + Drop>(rt: &impl Abort, mut device: D) {
+    let mut expected = [6; 512];
+    expected[511] = 0;
+    expect_same(
+        rt,
+        &read(rt, &mut device, 0),
+        &expected,
+        "a part of a sector",
+    );
 }
 
 /// The bytes of a part of a sector stay, and zeros follow them.
-fn expect_part_filled(rt: &(impl Files<File = File> + AllocGlobal + Abort), path: &str) {
-    let mut expected = [6; 512];
-    expected[511] = 0;
-    let mut device = made(rt, path, 1).expect(rt, "it is made");
-    assert_eq!(rt; read(rt, &mut device, 0), expected);
+fn expect_part_filled(rt: &(impl Files + AllocGlobal + Abort), path: &str) {
+    let made = FileDevice::make(rt, rt.alloc(), path, 1);
+    expect_filled_up(rt, made.expect(rt, "it is made"));
 }
+
+/// Files of whole sectors and of parts of one.
+const WHOLE: [FileDeed; 10] = [
+    FileDeed::Whole(0, 0),
+    FileDeed::Whole(1, 0),
+    FileDeed::Whole(511, 0),
+    FileDeed::Whole(512, 1),
+    FileDeed::Whole(1023, 1),
+    FileDeed::Whole(1024, 2),
+    // A device of no sectors can be made too.
+    FileDeed::WriteSixes(511),
+    FileDeed::Make(0, 0),
+    FileDeed::PartFilled,
+    FileDeed::Remove,
+];
 
 #[test]
 fn whole_sectors_count(rt: HostRuntime) {
-    let place = place(&rt, "parts").expect(&rt, "a place");
-    let path = place.as_str();
-    expect_whole(&rt, path, 0, 0);
-    expect_whole(&rt, path, 1, 0);
-    expect_whole(&rt, path, 511, 0);
-    expect_whole(&rt, path, 512, 1);
-    expect_whole(&rt, path, 1023, 1);
-    expect_whole(&rt, path, 1024, 2);
-    // A device of no sectors can be made too.
-    write_sixes(&rt, path, 511);
-    expect_made(&rt, path, 0, 0);
-    expect_part_filled(&rt, path);
-    remove(&rt, path);
+    at_place(&rt, rt.process(), "parts", &WHOLE);
 }
 
 /// Nothing opens at this path, since the system refuses it.
-fn expect_not_opened(rt: &(impl Files<File = File> + Abort), path: &str) {
-    assert_eq!(rt; opened(rt, path).err(), Some(FileFault::Failed));
+fn expect_not_opened(rt: &(impl Files + Abort), path: &str) {
+    let opened = sectors_opened(rt, path);
+    expect_same(rt, &opened, &Err(FileFault::Failed), "opening");
 }
 
 /// Nor is one made there.
-fn expect_not_made(rt: &(impl Files<File = File> + AllocGlobal + Abort), path: &str) {
-    assert_eq!(rt; made(rt, path, 3).err(), Some(FileFault::Failed));
+fn expect_not_made(rt: &(impl Files + AllocGlobal + Abort), path: &str) {
+    let made = sectors_made(rt, rt.alloc(), path, 3);
+    expect_same(rt, &made, &Err(FileFault::Failed), "making");
 }
 
-/// There is nothing at a path.
-pub(crate) fn expect_nothing(rt: &(impl Files + Abort), path: &str) {
-    assert_eq!(rt; fs::exists(rt, path).ok(), Some(false));
-}
+/// What is tried where nothing is.
+const MISSING: [FileDeed; 2] = [FileDeed::NotOpened, FileDeed::Nothing];
+
+/// What is tried where a folder is.
+const FOLDER: [FileDeed; 4] = [
+    FileDeed::CreateFolder,
+    FileDeed::NotOpened,
+    FileDeed::NotMade,
+    FileDeed::RemoveFolder,
+];
 
 #[test]
 fn no_device_over_it(rt: HostRuntime) {
-    let missing = place(&rt, "missing").expect(&rt, "a place");
-    expect_not_opened(&rt, missing.as_str());
-    expect_nothing(&rt, missing.as_str());
-
-    let folder = place(&rt, "folder").expect(&rt, "a place");
-    fs::create_dir(&rt, folder.as_str()).expect(&rt, "a folder is made");
-    expect_not_opened(&rt, folder.as_str());
-    expect_not_made(&rt, folder.as_str());
-    fs::remove_dir(&rt, folder.as_str()).expect(&rt, "the folder is removed");
+    at_place(&rt, rt.process(), "missing", &MISSING);
+    at_place(&rt, rt.process(), "folder", &FOLDER);
 }
 
 #[test]
@@ -166,40 +238,30 @@ fn texts_of_faults(rt: HostRuntime) {
     expect_text(&rt, &FileFault::Failed, "the file failed");
 }
 
-/// The file has so many bytes from now on.
-pub(crate) fn set_length(rt: &(impl Files + Abort), path: &str, bytes: u64) {
-    let file = File::options()
-        .write(true)
-        .open(rt, path)
-        .expect(rt, "the file is opened");
-    file.set_len(bytes).expect(rt, "its length is set");
-}
-
-/// A read that fails, and counts the first fault.
-fn expect_unread<D: Device>(rt: &impl Abort, device: &mut D, n: u32) {
-    assert!(rt; n < device.sectors());
-    assert_eq!(rt; device.read(n, &mut [0; 512]), Err(Fault));
-    expect_faults(rt, device, 1);
-}
-
 /// The file of a device of two sectors is shortened while the device is open, so its last sector can't be read.
-fn shorten_it<D: Device>(rt: &(impl Files + Abort), device: &mut D, path: &str) {
-    set_length(rt, path, 700);
-    expect_sectors(rt, device, 2);
-    expect_unread(rt, device, 1);
-    expect_read(rt, device, 0, 0);
-    sync(rt, device);
-    expect_faults(rt, device, 1);
+const SHORTENED: [Turn<'static>; 9] = [
+    Turn::At(Deed::SetLength(700)),
+    Turn::On(Step::Sectors(2)),
+    Turn::On(Step::Unread(1)),
+    Turn::On(Step::Read(0, 0)),
+    Turn::On(Step::Sync),
+    Turn::On(Step::Faults(1)),
     // A write makes it whole again.
-    write(rt, device, 1, 4);
-    expect_read(rt, device, 1, 4);
+    Turn::On(Step::Write(1, 4)),
+    Turn::On(Step::Read(1, 4)),
+    Turn::At(Deed::Remove("")),
+];
+
+/// The file of a new device of two sectors is shortened.
+fn shorten(rt: &(impl Files<File = File> + AllocGlobal + Abort), path: &str) {
+    let made = FileDevice::make(rt, rt.alloc(), path, 2);
+    by_turns(rt, made, "it is made", path, &SHORTENED);
 }
+
+/// What is done in `a_read_that_fails`.
+const SHORTEN: [FileDeed; 1] = [FileDeed::Shorten];
 
 #[test]
 fn a_read_that_fails(rt: HostRuntime) {
-    let place = place(&rt, "shortened").expect(&rt, "a place");
-    let mut device = made(&rt, place.as_str(), 2).expect(&rt, "it is made");
-    shorten_it(&rt, &mut device, place.as_str());
-    drop(device);
-    remove(&rt, place.as_str());
+    at_place(&rt, rt.process(), "shortened", &SHORTEN);
 }

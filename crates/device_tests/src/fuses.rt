@@ -1,6 +1,6 @@
 //! Each kind of fuse, at each number of calls, over a script of eight calls.
 
-use crate::calls::{expect_faults, expect_sectors, in_memory, read, stopped};
+use crate::calls::{expect_faults, expect_same, expect_sectors, in_memory, read, stopped};
 use sector_disk::{Device, Fault, FuseDevice, FuseKind, MemoryDevice};
 use std::alloc::Global;
 use std::process::Abort;
@@ -64,37 +64,61 @@ fn expect_call<D: Device>(rt: &impl Abort, fused: &mut D, kind: FuseKind, calls:
     let faults = fused.faults().saturating_add(u64::from(failed));
     let is_err = call(fused, step).is_err();
     let answered = (is_err, fused.faults());
-    assert_eq!(rt;
-        answered,
-        (failed, faults),
-        "{kind:?} of {calls}, call {step}"
+    expect_same(
+        rt,
+        &answered,
+        &(failed, faults),
+        format_args!("{kind:?} of {calls}, call {step}"),
     );
 }
 
 /// A call of the script on a sound device.
 fn expect_done<D: Device>(rt: &impl Abort, sound: &mut D, step: u64) {
-    assert_eq!(rt; call(sound, step), Ok(()));
+    expect_same(rt, &call(sound, step), &Ok(()), "a call");
 }
 
 /// The script on a fuse, beside the calls that are to be made on a sound device.
+fn run_both<F: Device, D: Device>(
+    rt: &impl Abort,
+    fused: &mut F,
+    sound: &mut D,
+    kind: FuseKind,
+    calls: u64,
+) {
+    expect_faults(rt, fused, 0);
+    for step in 0..CALLS {
+        expect_call(rt, fused, kind, calls, step);
+        if is_made(kind, calls, step) {
+            expect_done(rt, sound, step);
+        }
+    }
+    expect_sectors(rt, fused, 2);
+}
+
+/// The device within a fuse met no fault, and has the images of a sound one.
+fn expect_sound(
+    rt: &impl Abort,
+    inner: &MemoryDevice<Global>,
+    sound: &MemoryDevice<Global>,
+    kind: FuseKind,
+    calls: u64,
+) {
+    expect_faults(rt, inner, 0);
+    expect_same(
+        rt,
+        &images(rt, inner),
+        &images(rt, sound),
+        format_args!("{kind:?} of {calls}"),
+    );
+}
+
+/// The script on a fuse over a device in memory.
 fn run(rt: &(impl Abort + AllocGlobal), kind: FuseKind, calls: u64) {
     let mut fused = FuseDevice::new(in_memory(rt, 2), calls, kind);
     let mut sound = in_memory(rt, 2);
-    expect_faults(rt, &fused, 0);
-    for step in 0..CALLS {
-        expect_call(rt, &mut fused, kind, calls, step);
-        if is_made(kind, calls, step) {
-            expect_done(rt, &mut sound, step);
-        }
-    }
-    expect_sectors(rt, &fused, 2);
+    run_both(rt, &mut fused, &mut sound, kind, calls);
     let inner = fused.into_inner();
-    expect_faults(rt, &inner, 0);
-    assert_eq!(rt;
-        images(rt, &inner),
-        images(rt, &sound),
-        "{kind:?} of {calls}"
-    );
+    expect_sound(rt, &inner, &sound, kind, calls);
 }
 
 #[test]
@@ -106,18 +130,20 @@ fn each_fuse_at_each_number_of_calls(rt: HostRuntime) {
     }
 }
 
-/// The images after a fuse at the second sync, counted by hand: kept all, lost all.
-#[test]
-fn a_failed_sync(rt: HostRuntime) {
-    assert_eq!(rt; images_after(&rt, FuseKind::Stop), [3, 2, 1, 0]);
-    assert_eq!(rt; images_after(&rt, FuseKind::FailLost), [3, 4, 1, 0]);
-    assert_eq!(rt; images_after(&rt, FuseKind::FailKept), [3, 4, 3, 2]);
-}
-
-fn images_after(rt: &(impl Abort + AllocGlobal), kind: FuseKind) -> [u8; 4] {
+/// The images after a fuse of this kind at the second sync.
+fn expect_images_after(rt: &(impl Abort + AllocGlobal), kind: FuseKind, due: [u8; 4]) {
     let mut device = FuseDevice::new(in_memory(rt, 2), 6, kind);
     for step in 0..CALLS {
         let _ = call(&mut device, step);
     }
-    images(rt, &device.into_inner())
+    let inner = device.into_inner();
+    expect_same(rt, &images(rt, &inner), &due, format_args!("{kind:?}"));
+}
+
+/// Counted by hand: kept all, lost all.
+#[test]
+fn a_failed_sync(rt: HostRuntime) {
+    expect_images_after(&rt, FuseKind::Stop, [3, 2, 1, 0]);
+    expect_images_after(&rt, FuseKind::FailLost, [3, 4, 1, 0]);
+    expect_images_after(&rt, FuseKind::FailKept, [3, 4, 3, 2]);
 }
