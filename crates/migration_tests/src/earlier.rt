@@ -1,59 +1,65 @@
 //! The hill that an earlier version of the program wrote, moved to the new format.
 
-use crate::expecting::{expect_reply, expect_row, expect_rows, expect_sector};
-use crate::migrations::{moved, moved_from};
+use crate::expecting::{expect_reply, expect_sector, expect_table, expect_true};
+use crate::hills::{blank_of, moved, moved_from, opened_on, put_into};
 use crate::narrowed::narrowed;
 use earlier_hill::sector_of;
 use hill_store::{Refusal, Store};
 use sector_disk::MemoryDevice;
 use std::alloc::Global;
 use std::process::Abort;
-use std::test::Fail;
-use store_calls::{audit, close, fell, open, opened, put};
+use store_calls::{close, fell, open};
 
-fn earlier(alloc: Global) -> Result<MemoryDevice<Global>, Fail> {
-    let mut device = MemoryDevice::new(alloc, 10)?;
+fn earlier(rt: &(impl Abort + AllocGlobal)) -> MemoryDevice<Global> {
+    let mut device = blank_of(rt, 10);
     for n in 0..10 {
-        put(&mut device, n, &sector_of(n))?;
+        put_into(rt, &mut device, n, &sector_of(n));
     }
-    Ok(device)
+    device
 }
 
 /// The device has what that program wrote.
-fn expect_earlier(rt: &impl Abort, mut device: MemoryDevice<Global>) {
+fn expect_earlier(rt: &impl Abort, device: &mut MemoryDevice<Global>) {
     for n in 0..10 {
-        expect_sector(rt, &mut device, n, &sector_of(n));
+        expect_sector(rt, device, n, &sector_of(n));
     }
-    drop(device);
 }
 
 /// No hill is opened on this device, since it holds none in the new format. It comes back.
 fn expect_no_hill(
-    rt: &impl Abort,
-    alloc: Global,
+    rt: &(impl Abort + AllocGlobal),
     device: MemoryDevice<Global>,
-) -> Result<MemoryDevice<Global>, Fail> {
-    match open(alloc, device) {
-        Ok(_) => Err("it holds no hill".into()),
-        Err((device, refusal)) => {
-            assert_eq!(rt; refusal, Refusal::NotAHill);
-            Ok(device)
+) -> MemoryDevice<Global> {
+    let (device, refusal) = match open(rt.alloc(), device) {
+        Ok(store) => {
+            drop(store);
+            None
         }
+        Err(refused) => Some(refused),
     }
+    .expect(rt, "it holds no hill");
+    assert_eq!(rt; refusal, Refusal::NotAHill);
+    device
+}
+
+/// The hill of a device that was moved from the one that the program wrote, to which nothing is written.
+fn moved_from_earlier(rt: &(impl Abort + AllocGlobal)) -> Store<MemoryDevice<Global>, Global> {
+    let old = expect_no_hill(rt, earlier(rt));
+    let (mut old, store) = moved(rt, rt.alloc(), old, blank_of(rt, 18));
+    expect_earlier(rt, &mut old);
+    drop(old);
+    store
 }
 
 /// The table and the reply are what that program said. Nothing is written to the device that it wrote.
 #[test]
-fn a_hill_from_before_limits(rt: HostRuntime) -> Result<(), Fail> {
-    let old = expect_no_hill(&rt, rt.alloc(), earlier(rt.alloc())?)?;
-    let (old, mut store) = moved(rt.alloc(), old, MemoryDevice::new(rt.alloc(), 18)?)?;
-    expect_earlier(&rt, old);
-    expect_table(&rt, &mut store);
-    let mut store = opened(rt.alloc(), close(store))?;
-    expect_table(&rt, &mut store);
+fn a_hill_from_before_limits(rt: HostRuntime) {
+    let mut store = moved_from_earlier(&rt);
+    expect_the_hill(&rt, &mut store);
+    let mut store = opened_on(&rt, close(store));
+    expect_the_hill(&rt, &mut store);
     expect_reply(&rt, &mut store, b"JMP 0", fell(5, 38));
     drop(store);
-    Ok(())
 }
 
 /// The limits of reads and of writes.
@@ -62,24 +68,22 @@ fn limits_of(store: &Store<MemoryDevice<Global>, Global>) -> (u16, u16) {
     (settings.read_limit(), settings.write_limit())
 }
 
+/// The rows of the hill.
+const ROWS: [(u64, u32, u64); 3] = [(4, 92, 0), (2, 35, 2), (1, 21, 3)];
+
 /// The table is that of the hill, and its results are those of the matches.
-fn expect_table(rt: &impl Abort, store: &mut Store<MemoryDevice<Global>, Global>) {
-    assert!(rt; audit(store));
+fn expect_the_hill(rt: &impl Abort, store: &mut Store<MemoryDevice<Global>, Global>) {
+    expect_true(rt, store);
     assert_eq!(rt; limits_of(store), (800, 800));
-    expect_rows(rt, store, 3);
-    expect_row(rt, store, 0, (4, 92, 0));
-    expect_row(rt, store, 1, (2, 35, 2));
-    expect_row(rt, store, 2, (1, 21, 3));
+    expect_table(rt, store, &ROWS);
 }
 
 /// The store that the hill is moved to answers as one that was opened.
 #[test]
-fn a_moved_hill_answers_at_once(rt: HostRuntime) -> Result<(), Fail> {
-    let new = MemoryDevice::new(rt.alloc(), 18)?;
-    let mut store = moved_from(rt.alloc(), earlier(rt.alloc())?, new)?;
+fn a_moved_hill_answers_at_once(rt: HostRuntime) {
+    let mut store = moved_from(&rt, rt.alloc(), earlier(&rt), blank_of(&rt, 18));
     expect_reply(&rt, &mut store, b"JMP 0", fell(5, 38));
     drop(store);
-    Ok(())
 }
 
 /// What was written of the hill as it stands: neither the header before the last nor the slot of the third warrior, which fell, and no
@@ -96,13 +100,13 @@ fn standing_content_of(n: u32) -> [u8; 512] {
 
 /// In the old format the moved hill has the bytes that the program wrote.
 #[test]
-fn a_moved_hill_has_the_same_bytes(rt: HostRuntime) -> Result<(), Fail> {
-    let new = MemoryDevice::new(rt.alloc(), 18)?;
-    let store = moved_from(rt.alloc(), earlier(rt.alloc())?, new)?;
-    let mut again = narrowed(rt.alloc(), &mut close(store), 4)?;
+fn a_moved_hill_has_the_same_bytes(rt: HostRuntime) {
+    let store = moved_from(&rt, rt.alloc(), earlier(&rt), blank_of(&rt, 18));
+    let mut new = close(store);
+    let mut again = narrowed(&rt, &mut new, 4);
+    drop(new);
     for n in 0..10 {
         expect_sector(&rt, &mut again, n, &standing_content_of(n));
     }
     drop(again);
-    Ok(())
 }

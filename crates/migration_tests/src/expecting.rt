@@ -26,7 +26,7 @@ pub(crate) fn expect_rows<D: Device, A: Allocator + Copy>(
 }
 
 /// The row at a place of the table as its entry, its score and its age, if there is one, and memory for the table.
-fn row_at<D: Device, A: Allocator + Copy>(
+pub(crate) fn row_at<D: Device, A: Allocator + Copy>(
     store: &Store<D, A>,
     place: usize,
 ) -> Option<(u64, u32, u64)> {
@@ -37,7 +37,7 @@ fn row_at<D: Device, A: Allocator + Copy>(
 }
 
 /// The row at a place of the table has this entry, this score and this age.
-pub(crate) fn expect_row<D: Device, A: Allocator + Copy>(
+fn expect_row<D: Device, A: Allocator + Copy>(
     rt: &impl Abort,
     store: &Store<D, A>,
     place: usize,
@@ -46,14 +46,27 @@ pub(crate) fn expect_row<D: Device, A: Allocator + Copy>(
     assert_eq!(rt; row_at(store, place), Some(row));
 }
 
+/// The rows of the table have these entries, scores and ages.
+pub(crate) fn expect_table<D: Device, A: Allocator + Copy>(
+    rt: &impl Abort,
+    store: &Store<D, A>,
+    rows: &[(u64, u32, u64)],
+) {
+    expect_rows(rt, store, rows.len());
+    for (place, row) in rows.iter().enumerate() {
+        expect_row(rt, store, place, *row);
+    }
+}
+
 /// Both have two points, and the one that came first is one older.
+const TWO_ROWS: [(u64, u32, u64); 2] = [(1, 2, 1), (2, 2, 0)];
+
+/// The rows of the hill of two stand in the table.
 pub(crate) fn expect_two_rows<D: Device, A: Allocator + Copy>(
     rt: &impl Abort,
     store: &Store<D, A>,
 ) {
-    expect_rows(rt, store, 2);
-    expect_row(rt, store, 0, (1, 2, 1));
-    expect_row(rt, store, 1, (2, 2, 0));
+    expect_table(rt, store, &TWO_ROWS);
 }
 
 /// The two rows of a store, which is let go.
@@ -65,9 +78,17 @@ pub(crate) fn expect_the_rows<D: Device + Drop, A: Allocator + Copy>(
     drop(store);
 }
 
+/// The results that a store keeps are those of the matches.
+pub(crate) fn expect_true<D: Device, A: Allocator + Copy>(
+    rt: &impl Abort,
+    store: &mut Store<D, A>,
+) {
+    assert!(rt; audit(store));
+}
+
 /// The two rows of a store whose results are those of the matches. It is let go.
 pub(crate) fn expect_true_rows<D: Device + Drop>(rt: &impl Abort, mut store: Store<D, Global>) {
-    assert!(rt; audit(&mut store));
+    expect_true(rt, &mut store);
     expect_two_rows(rt, &store);
     drop(store);
 }

@@ -1,13 +1,13 @@
 //! What a stop, or one fault, leaves of a hill of two that is moved to another device.
 
 use crate::expecting::{expect_the_rows, expect_true_rows};
-use crate::migrations::{moved, old_device};
-use hill_store::{MigrateFault, MigrateSide, Refusal};
+use crate::hills::{blank_in, hill_on, image_of, moved, tried};
+use crate::migrations::old_device;
+use hill_store::Refusal;
 use sector_disk::{FuseDevice, FuseKind, MemoryDevice};
 use std::alloc::Global;
 use std::process::Abort;
-use std::test::Fail;
-use store_calls::{blank, close, migrate, open};
+use store_calls::migrate;
 
 /// Calls of the new device: a sync, two headers, four sectors for each of two slots, a sync, the header in sector 1, and a sync.
 const CALLS: u64 = 14;
@@ -23,42 +23,22 @@ fn due(calls: u64) -> (bool, bool) {
 
 /// The devices, of which the new one fails behind so many calls.
 fn fused(
-    rt: &impl Abort,
-    alloc: Global,
+    rt: &(impl Abort + AllocGlobal),
     calls: u64,
     kind: FuseKind,
-) -> Result<(MemoryDevice<Global>, MemoryDevice<Global>), Fail> {
-    let new = FuseDevice::new(blank(alloc)?, calls, kind);
-    match migrate(alloc, old_device(rt, alloc)?, new) {
-        Ok((old, store)) => {
-            assert_eq!(rt; calls, CALLS);
-            Ok((old, close(store).into_inner()))
-        }
-        Err((old, new, fault)) => {
-            assert!(rt; calls < CALLS);
-            expect_new_disk(rt, fault);
-            Ok((old, new.into_inner()))
-        }
-    }
-}
-
-fn expect_new_disk(rt: &impl Abort, fault: MigrateFault) {
-    assert_eq!(rt; fault.side, MigrateSide::New);
-    assert_eq!(rt; fault.refusal, Refusal::Disk);
+) -> (MemoryDevice<Global>, MemoryDevice<Global>) {
+    let new = FuseDevice::new(blank_in(rt, rt.alloc()), calls, kind);
+    tried(rt, old_device(rt), new, calls < CALLS)
 }
 
 /// Whether a device holds the hill. It holds no other.
-fn holds_the_hill(rt: &impl Abort, alloc: Global, device: MemoryDevice<Global>) -> bool {
-    match open(alloc, device) {
-        Ok(store) => {
+fn holds_the_hill(rt: &(impl Abort + AllocGlobal), device: MemoryDevice<Global>) -> bool {
+    match hill_on(rt, device) {
+        Some(store) => {
             expect_true_rows(rt, store);
             true
         }
-        Err((device, refusal)) => {
-            drop(device);
-            assert_eq!(rt; refusal, Refusal::NotAHill);
-            false
-        }
+        None => false,
     }
 }
 
@@ -83,17 +63,11 @@ fn choice_of(kept: u32) -> [u32; 10] {
 }
 
 /// Every image of a device that stopped behind so many calls holds what is due.
-fn expect_images(
-    rt: &impl Abort,
-    alloc: Global,
-    device: &MemoryDevice<Global>,
-    calls: u64,
-) -> Result<(), Fail> {
+fn expect_images(rt: &(impl Abort + AllocGlobal), device: &MemoryDevice<Global>, calls: u64) {
     for image in 0..images_of(calls) {
-        let found = holds_the_hill(rt, alloc, device.stopped(&choice_of(image))?);
+        let found = holds_the_hill(rt, image_of(rt, device, &choice_of(image)));
         assert_eq!(rt; found, due_in(image, calls), "image {image} behind {calls}");
     }
-    Ok(())
 }
 
 /// Whether an image behind so many calls holds the hill: each second one has the header.
@@ -104,23 +78,21 @@ fn due_in(image: u32, calls: u64) -> bool {
 
 /// The old device still holds the hill, which can be moved to a blank one.
 fn expect_moves(
-    rt: &impl Abort,
-    alloc: Global,
+    rt: &(impl Abort + AllocGlobal),
     old: MemoryDevice<Global>,
-) -> Result<MemoryDevice<Global>, Fail> {
-    let (old, store) = moved(alloc, old, blank(alloc)?)?;
+) -> MemoryDevice<Global> {
+    let (old, store) = moved(rt, rt.alloc(), old, blank_in(rt, rt.alloc()));
     expect_true_rows(rt, store);
-    Ok(old)
+    old
 }
 
 /// A new device holds the hill, or it can be moved to that device again.
 fn expect_goes_on(
-    rt: &impl Abort,
-    alloc: Global,
+    rt: &(impl Abort + AllocGlobal),
     old: MemoryDevice<Global>,
     new: MemoryDevice<Global>,
 ) {
-    match migrate(alloc, old, new) {
+    match migrate(rt.alloc(), old, new) {
         Ok((old, store)) => {
             drop(old);
             expect_the_rows(rt, store);
@@ -128,42 +100,35 @@ fn expect_goes_on(
         Err((old, new, fault)) => {
             drop(old);
             assert_eq!(rt; fault.refusal, Refusal::Occupied);
-            assert!(rt; holds_the_hill(rt, alloc, new));
+            assert!(rt; holds_the_hill(rt, new));
         }
     }
 }
 
 /// What is left where the new device fails, and was asked for so many calls that it made.
 fn expect_left(
-    rt: &impl Abort,
-    alloc: Global,
+    rt: &(impl Abort + AllocGlobal),
     devices: (MemoryDevice<Global>, MemoryDevice<Global>),
     calls: u64,
-) -> Result<(), Fail> {
+) {
     let (old, new) = devices;
-    expect_images(rt, alloc, &new, calls)?;
-    let old = expect_moves(rt, alloc, old)?;
-    expect_goes_on(rt, alloc, old, new);
-    Ok(())
+    expect_images(rt, &new, calls);
+    let old = expect_moves(rt, old);
+    expect_goes_on(rt, old, new);
 }
 
 #[test]
-fn a_stop_at_each_call(rt: HostRuntime) -> Result<(), Fail> {
+fn a_stop_at_each_call(rt: HostRuntime) {
     for calls in 0..=CALLS {
-        let devices = fused(&rt, rt.alloc(), calls, FuseKind::Stop)?;
-        expect_left(&rt, rt.alloc(), devices, calls)?;
+        expect_left(&rt, fused(&rt, calls, FuseKind::Stop), calls);
     }
-    Ok(())
 }
 
 /// The call that fails is lost, or it is made all the same.
 #[test]
-fn a_fault_at_each_call(rt: HostRuntime) -> Result<(), Fail> {
+fn a_fault_at_each_call(rt: HostRuntime) {
     for calls in 0..CALLS {
-        let devices = fused(&rt, rt.alloc(), calls, FuseKind::FailLost)?;
-        expect_left(&rt, rt.alloc(), devices, calls)?;
-        let devices = fused(&rt, rt.alloc(), calls, FuseKind::FailKept)?;
-        expect_left(&rt, rt.alloc(), devices, calls + 1)?;
+        expect_left(&rt, fused(&rt, calls, FuseKind::FailLost), calls);
+        expect_left(&rt, fused(&rt, calls, FuseKind::FailKept), calls + 1);
     }
-    Ok(())
 }

@@ -3,58 +3,59 @@
 //! A slot of the old format has two sectors: the first holds instructions 0 to 63, as in the new one, and the other instructions 64 to 99 and
 //! behind them, from 288 on, the fields that stand in the last sector of the new one.
 
+use crate::hills::{blank_of, content_of, put_into};
 use hill_bytes::{decode_header, encode_old_header};
 use sector_disk::MemoryDevice;
 use std::alloc::Global;
-use std::test::Fail;
-use store_calls::{put, sector};
+use std::process::Abort;
 
 /// The device in the old format that holds what this one does in so many slots.
 pub(crate) fn narrowed(
-    alloc: Global,
+    rt: &(impl Abort + AllocGlobal),
     new: &mut MemoryDevice<Global>,
     slots: u8,
-) -> Result<MemoryDevice<Global>, Fail> {
-    let mut old = MemoryDevice::new(alloc, 2 + 2 * u32::from(slots))?;
-    narrow_header(new, &mut old, 0)?;
-    narrow_header(new, &mut old, 1)?;
+) -> MemoryDevice<Global> {
+    let mut old = blank_of(rt, 2 + 2 * u32::from(slots));
+    narrow_header(rt, new, &mut old, 0);
+    narrow_header(rt, new, &mut old, 1);
     for slot in 0..slots {
-        narrow_slot(new, &mut old, slot)?;
+        narrow_slot(rt, new, &mut old, slot);
     }
-    Ok(old)
+    old
 }
 
 /// The header in this sector, if there is one.
 fn narrow_header(
+    rt: &impl Abort,
     new: &mut MemoryDevice<Global>,
     old: &mut MemoryDevice<Global>,
     n: u32,
-) -> Result<(), Fail> {
-    if let Some(content) = narrowed_header(&sector(new, n)?)? {
-        put(old, n, &content)?;
+) {
+    if let Some(content) = narrowed_header(rt, &content_of(rt, new, n)) {
+        put_into(rt, old, n, &content);
     }
-    Ok(())
 }
 
 /// A header in the old format, if this is one in the new one.
-fn narrowed_header(content: &[u8; 512]) -> Result<Option<[u8; 512]>, Fail> {
+fn narrowed_header(rt: &impl Abort, content: &[u8; 512]) -> Option<[u8; 512]> {
     match decode_header(content) {
-        Some(header) => Ok(Some(encode_old_header(&header).ok_or("it has room")?)),
-        None => Ok(None),
+        Some(header) => Some(encode_old_header(&header).expect(rt, "it has room")),
+        None => None,
     }
 }
 
 fn narrow_slot(
+    rt: &impl Abort,
     new: &mut MemoryDevice<Global>,
     old: &mut MemoryDevice<Global>,
     slot: u8,
-) -> Result<(), Fail> {
+) {
     let from = 2 + 4 * u32::from(slot);
     let to = 2 + 2 * u32::from(slot);
-    put(old, to, &sector(new, from)?)?;
-    let content = joined(&sector(new, from + 1)?, &sector(new, from + 3)?);
-    put(old, to + 1, &content)?;
-    Ok(())
+    put_into(rt, old, to, &content_of(rt, new, from));
+    let code = content_of(rt, new, from + 1);
+    let fields = content_of(rt, new, from + 3);
+    put_into(rt, old, to + 1, &joined(&code, &fields));
 }
 
 /// The code of one sector, and behind it the fields of another.

@@ -1,28 +1,23 @@
-//! A hill of twenty, with the results of all its pairs, that is moved to another device.
+//! A hill of twenty, with the results of all its pairs, that is moved to another device. `stops` has what a stop leaves of it.
 //!
 //! Twenty warriors that lose at once come, and two that stay where they are. These win each of their rounds but those against one another, and
 //! the two that came last fall. So the hill has entries 1 to 18 in slots 0 to 17, entry 21 in slot 20 and entry 22 in slot 19, and slot 18
 //! and some places of results hold what was written of those that fell.
 
-use crate::expecting::expect_sector;
-use crate::migrations::{moved, moved_from};
+use crate::expecting::{expect_rows, expect_sector, expect_true, row_at};
+use crate::hills::{blank_of, content_of, created_on, moved_from, opened_on};
 use crate::narrowed::narrowed;
-use hill_store::{MigrateFault, MigrateSide, Refusal, Reply, Store};
-use sector_disk::{Device, FuseDevice, FuseKind, MemoryDevice};
-use std::alloc::{Allocator, Global};
+use hill_store::{Reply, Store};
+use sector_disk::MemoryDevice;
+use std::alloc::Global;
 use std::process::Abort;
-use std::test::Fail;
-use store_calls::{
-    SMALL, audit, back, close, created_with, front, migrate, numbers_of, open, opened, rows_of,
-    sector, submit,
-};
+use store_calls::{SMALL, back, close, front, submit};
 use war_types::RawSettings;
+
+mod stops;
 
 /// Sectors that a hill of twenty needs: two headers, and four for each of twenty-one slots.
 const SECTORS: u32 = 86;
-
-/// Calls that move it: a sync, two headers, four sectors for each of twenty slots, a sync, a header and a sync.
-const CALLS: u64 = 86;
 
 /// The settings of the hill.
 const TWENTY: RawSettings = RawSettings {
@@ -31,12 +26,12 @@ const TWENTY: RawSettings = RawSettings {
 };
 
 /// The device on which they were submitted.
-fn written(rt: &impl Abort, alloc: Global) -> Result<MemoryDevice<Global>, Fail> {
-    let mut store = created_with(alloc, MemoryDevice::new(alloc, SECTORS)?, TWENTY)?;
+fn written(rt: &(impl Abort + AllocGlobal)) -> MemoryDevice<Global> {
+    let mut store = created_on(rt, blank_of(rt, SECTORS), TWENTY);
     for entry in 1..=22 {
         expect_placed(rt, &mut store, entry);
     }
-    Ok(close(store))
+    close(store)
 }
 
 /// The warrior that is submitted as this entry stands on the hill.
@@ -54,8 +49,11 @@ fn placed_as(reply: Reply) -> Option<u64> {
 }
 
 /// The same in the old format.
-fn old_device(rt: &impl Abort, alloc: Global) -> Result<MemoryDevice<Global>, Fail> {
-    narrowed(alloc, &mut written(rt, alloc)?, 21)
+fn old_device(rt: &(impl Abort + AllocGlobal)) -> MemoryDevice<Global> {
+    let mut new = written(rt);
+    let old = narrowed(rt, &mut new, 21);
+    drop(new);
+    old
 }
 
 /// A row of the table: the entry, its points, and its age. The two that stay have two ties with one another, and six points of each other one.
@@ -73,33 +71,24 @@ fn row(place: u64) -> (u64, u32, u64) {
 }
 
 /// The table is that of the hill.
-fn expect_table<D: Device, A: Allocator + Copy>(
-    rt: &impl Abort,
-    store: &Store<D, A>,
-) -> Result<(), Fail> {
-    let rows = rows_of(store)?;
-    assert_eq!(rt; rows.len(), 20);
-    for (place, found) in (0..).zip(rows.as_slice()) {
-        assert_eq!(rt; numbers_of(found), row(place), "place {place}");
+fn expect_table(rt: &impl Abort, store: &Store<MemoryDevice<Global>, Global>) {
+    expect_rows(rt, store, 20);
+    for place in 0..20 {
+        let found = row_at(store, place);
+        assert_eq!(rt; found, Some(row(place as u64)), "place {place}");
     }
-    drop(rows);
-    Ok(())
 }
 
 /// The table is that of the hill, and its results are those of the matches.
-fn expect_the_hill<D: Device, A: Allocator + Copy>(
-    rt: &impl Abort,
-    store: &mut Store<D, A>,
-) -> Result<(), Fail> {
-    assert!(rt; audit(store));
-    expect_table(rt, store)
+fn expect_the_hill(rt: &impl Abort, store: &mut Store<MemoryDevice<Global>, Global>) {
+    expect_true(rt, store);
+    expect_table(rt, store);
 }
 
 /// The store has the hill. It is let go.
-fn expect_in<D: Device + Drop>(rt: &impl Abort, mut store: Store<D, Global>) -> Result<(), Fail> {
-    let found = expect_the_hill(rt, &mut store);
+fn expect_in(rt: &impl Abort, mut store: Store<MemoryDevice<Global>, Global>) {
+    expect_the_hill(rt, &mut store);
     drop(store);
-    found
 }
 
 /// Puts a byte into a sector.
@@ -146,15 +135,12 @@ fn expect_slot(rt: &impl Abort, device: &mut MemoryDevice<Global>, slot: u8) {
 }
 
 /// Twenty-two headers were written behind the first, so the last stands in sector 0. It is moved as it is.
-fn expect_headers(
-    rt: &impl Abort,
-    alloc: Global,
-    new: &mut MemoryDevice<Global>,
-) -> Result<(), Fail> {
-    let header = sector(&mut written(rt, alloc)?, 0)?;
+fn expect_headers(rt: &(impl Abort + AllocGlobal), new: &mut MemoryDevice<Global>) {
+    let mut written = written(rt);
+    let header = content_of(rt, &mut written, 0);
+    drop(written);
     expect_sector(rt, new, 0, &header);
     expect_sector(rt, new, 1, &[0; 512]);
-    Ok(())
 }
 
 fn expect_slots(rt: &impl Abort, new: &mut MemoryDevice<Global>) {
@@ -164,154 +150,11 @@ fn expect_slots(rt: &impl Abort, new: &mut MemoryDevice<Global>) {
 }
 
 #[test]
-fn a_full_hill_is_moved(rt: HostRuntime) -> Result<(), Fail> {
-    let new = MemoryDevice::new(rt.alloc(), SECTORS)?;
-    let mut store = moved_from(rt.alloc(), old_device(&rt, rt.alloc())?, new)?;
-    expect_the_hill(&rt, &mut store)?;
+fn a_full_hill_is_moved(rt: HostRuntime) {
+    let mut store = moved_from(&rt, rt.alloc(), old_device(&rt), blank_of(&rt, SECTORS));
+    expect_the_hill(&rt, &mut store);
     let mut new = close(store);
-    expect_headers(&rt, rt.alloc(), &mut new)?;
+    expect_headers(&rt, &mut new);
     expect_slots(&rt, &mut new);
-    expect_in(&rt, opened(rt.alloc(), new)?)
-}
-
-/// The new device failed before the last of its calls.
-fn expect_new_disk(rt: &impl Abort, fault: MigrateFault, calls: u64) {
-    assert!(rt; calls < CALLS);
-    assert_eq!(rt; fault.side, MigrateSide::New);
-    assert_eq!(rt; fault.refusal, Refusal::Disk);
-}
-
-/// The devices, of which the new one stops behind so many calls.
-fn stopped_behind(
-    rt: &impl Abort,
-    alloc: Global,
-    old: MemoryDevice<Global>,
-    calls: u64,
-) -> Result<(MemoryDevice<Global>, MemoryDevice<Global>), Fail> {
-    let new = FuseDevice::new(MemoryDevice::new(alloc, SECTORS)?, calls, FuseKind::Stop);
-    match migrate(alloc, old, new) {
-        Ok((old, store)) => {
-            assert_eq!(rt; calls, CALLS);
-            Ok((old, close(store).into_inner()))
-        }
-        Err((old, new, fault)) => {
-            expect_new_disk(rt, fault, calls);
-            Ok((old, new.into_inner()))
-        }
-    }
-}
-
-/// The image holds the hill, or none.
-fn expect_image(
-    rt: &impl Abort,
-    alloc: Global,
-    image: MemoryDevice<Global>,
-    holds: bool,
-) -> Result<(), Fail> {
-    match open(alloc, image) {
-        Ok(store) => {
-            assert!(rt; holds);
-            expect_in(rt, store)
-        }
-        Err((device, refusal)) => {
-            drop(device);
-            assert_eq!(rt; (holds, refusal), (false, Refusal::NotAHill));
-            Ok(())
-        }
-    }
-}
-
-/// Whether the images hold the hill where the header is lost, and where it is kept.
-fn due(calls: u64) -> (bool, bool) {
-    match calls {
-        0..=84 => (false, false),
-        85 => (false, true),
-        _ => (true, true),
-    }
-}
-
-/// Choices of each sector: all lost, or all kept.
-const LOST: [u32; 86] = [0; 86];
-
-const KEPT: [u32; 86] = [1; 86];
-
-/// The sectors of the slots, in the order in which they are written: that of the entries.
-fn written_at(place: u64) -> usize {
-    match place {
-        0..=71 => 2 + place as usize,
-        72..=75 => 10 + place as usize,
-        _ => 78 + (place % 4) as usize,
-    }
-}
-
-/// A choice that is another for one sector.
-fn choice_with(choice: &[u32; 86], n: usize, other: u32) -> [u32; 86] {
-    let mut choice = *choice;
-    if let Some(place) = choice.get_mut(n) {
-        *place = other;
-    }
-    choice
-}
-
-/// A sector of a slot alone is kept, or lost: there is no header.
-fn expect_none_with(
-    rt: &impl Abort,
-    alloc: Global,
-    device: &MemoryDevice<Global>,
-    n: usize,
-) -> Result<(), Fail> {
-    let image = device.stopped(&choice_with(&LOST, n, 1))?;
-    expect_image(rt, alloc, image, false)?;
-    let image = device.stopped(&choice_with(&KEPT, n, 0))?;
-    expect_image(rt, alloc, image, false)
-}
-
-/// All that was not synced is lost, all is kept, and of the sectors of slots that were not synced each alone is kept or lost.
-fn expect_images(
-    rt: &impl Abort,
-    alloc: Global,
-    device: &MemoryDevice<Global>,
-    calls: u64,
-) -> Result<(), Fail> {
-    let (lost, kept) = due(calls);
-    expect_image(rt, alloc, device.stopped(&LOST)?, lost)?;
-    expect_image(rt, alloc, device.stopped(&KEPT)?, kept)?;
-    for place in 0..unsynced(calls) {
-        expect_none_with(rt, alloc, device, written_at(place))?;
-    }
-    Ok(())
-}
-
-/// How many sectors of slots are written and not synced behind so many calls.
-fn unsynced(calls: u64) -> u64 {
-    match calls {
-        4..=83 => calls - 3,
-        _ => 0,
-    }
-}
-
-/// The hill is moved to a device that stops behind so many calls, and to a blank one then. The old device comes back.
-fn expect_stop(
-    rt: &impl Abort,
-    alloc: Global,
-    old: MemoryDevice<Global>,
-    calls: u64,
-) -> Result<MemoryDevice<Global>, Fail> {
-    let (old, new) = stopped_behind(rt, alloc, old, calls)?;
-    expect_images(rt, alloc, &new, calls)?;
-    drop(new);
-    let (old, store) = moved(alloc, old, MemoryDevice::new(alloc, SECTORS)?)?;
-    expect_in(rt, store)?;
-    Ok(old)
-}
-
-/// The old device keeps the hill behind each stop, and it can be moved to a blank one.
-#[test]
-fn a_stop_at_each_call(rt: HostRuntime) -> Result<(), Fail> {
-    let mut old = old_device(&rt, rt.alloc())?;
-    for calls in 0..=CALLS {
-        old = expect_stop(&rt, rt.alloc(), old, calls)?;
-    }
-    drop(old);
-    Ok(())
+    expect_in(&rt, opened_on(&rt, new));
 }
