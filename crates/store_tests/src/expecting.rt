@@ -1,57 +1,67 @@
 //! What a store is expected to answer.
 
+use crate::hills::{blank_in, created_on, opened_on};
 use hill_store::{Reply, Store};
 use sector_disk::{Device, MemoryDevice};
 use std::alloc::{AllocError, Allocator, Global};
 use std::process::Abort;
-use std::test::Fail;
-use store_calls::{
-    Counting, calls_of, close, count_rows, created_in, numbers_at, submit, submit_all,
-};
+use store_calls::{Counting, audit, calls_of, close, count_rows, numbers_at, submit, submit_all};
+use war_types::{AsmFault, AsmKind};
 
 /// A source, and what it is answered.
 pub(crate) type Answered = (&'static [u8], Reply);
 
+/// The reply to the first warrior.
+pub(crate) const FIRST: Reply = Reply::Placed {
+    entry: 1,
+    rank: 1,
+    score: 0,
+};
+
+/// The reply to a second one that has two ties with it.
+pub(crate) const SECOND: Reply = Reply::Placed {
+    entry: 2,
+    rank: 2,
+    score: 2,
+};
+
+/// The reply to a third one that both of them win against.
+const THIRD: Reply = Reply::Fell { entry: 3, score: 0 };
+
+/// The reply to a source without a line.
+pub(crate) const EMPTY: Reply = Reply::Refused(AsmFault {
+    line: 0,
+    kind: AsmKind::Empty,
+});
+
 /// Three warriors, of which the third falls.
 pub(crate) const THREE: [Answered; 3] = [
-    (
-        b"MOV 0,1",
-        Reply::Placed {
-            entry: 1,
-            rank: 1,
-            score: 0,
-        },
-    ),
-    (
-        b"JMP 0",
-        Reply::Placed {
-            entry: 2,
-            rank: 2,
-            score: 2,
-        },
-    ),
-    (b"DAT 0,0", Reply::Fell { entry: 3, score: 0 }),
+    (b"MOV 0,1", FIRST),
+    (b"JMP 0", SECOND),
+    (b"DAT 0,0", THIRD),
 ];
 
+/// The first of two warriors that lose at once.
+pub(crate) const LOSER: Answered = (b"DAT 0,0", FIRST);
+
+/// The other one: each of them wins a round.
+pub(crate) const OTHER_LOSER: Answered = (
+    b"DAT 0,0",
+    Reply::Placed {
+        entry: 2,
+        rank: 2,
+        score: 3,
+    },
+);
+
 /// Two warriors that lose at once, and win a round each.
-pub(crate) const LOSERS: [Answered; 2] = [
-    (
-        b"DAT 0,0",
-        Reply::Placed {
-            entry: 1,
-            rank: 1,
-            score: 0,
-        },
-    ),
-    (
-        b"DAT 0,0",
-        Reply::Placed {
-            entry: 2,
-            rank: 2,
-            score: 3,
-        },
-    ),
-];
+pub(crate) const LOSERS: [Answered; 2] = [LOSER, OTHER_LOSER];
+
+/// The sources of a list, of which the third is refused and the fourth falls.
+pub(crate) const SOURCES: [&[u8]; 4] = [b"MOV 0,1", b"JMP 0", b"", b"DAT 0,0"];
+
+/// The replies to them.
+pub(crate) const REPLIES: [Reply; 4] = [FIRST, SECOND, EMPTY, THIRD];
 
 /// The store answers this to a source.
 pub(crate) fn expect_reply<D: Device, A: Allocator + Copy>(
@@ -74,15 +84,23 @@ pub(crate) fn expect_answers<D: Device, A: Allocator + Copy>(
     }
 }
 
-/// The device of a hill of two, which answered this.
-pub(crate) fn answered(
-    rt: &impl Abort,
-    alloc: Global,
+/// The device of a hill of two that was created on it, and answered this.
+pub(crate) fn answered_on<D: Device + Drop>(
+    rt: &(impl Abort + AllocGlobal),
+    device: D,
     answers: &[Answered],
-) -> Result<MemoryDevice<Global>, Fail> {
-    let mut store = created_in(alloc, alloc)?;
+) -> D {
+    let mut store = created_on(rt, rt.alloc(), device);
     expect_answers(rt, &mut store, answers);
-    Ok(close(store))
+    close(store)
+}
+
+/// The same, of a device that was blank.
+pub(crate) fn answered(
+    rt: &(impl Abort + AllocGlobal),
+    answers: &[Answered],
+) -> MemoryDevice<Global> {
+    answered_on(rt, blank_in(rt, rt.alloc()), answers)
 }
 
 /// The store answers this to a list of sources.
@@ -91,11 +109,10 @@ pub(crate) fn expect_replies<D: Device, A: Allocator + Copy>(
     store: &mut Store<D, A>,
     sources: &[&[u8]],
     replies: &[Reply],
-) -> Result<(), Fail> {
-    let found = submit_all(store, sources)?;
+) {
+    let found = submit_all(store, sources).expect(rt, "there is memory");
     assert_eq!(rt; found.as_slice(), replies);
     drop(found);
-    Ok(())
 }
 
 /// So many rows stand in the table.
@@ -119,7 +136,7 @@ pub(crate) fn row_at<D: Device, A: Allocator + Copy>(
 }
 
 /// The row at a place of the table has this entry, this score and this age.
-pub(crate) fn expect_row<D: Device, A: Allocator + Copy>(
+fn expect_row<D: Device, A: Allocator + Copy>(
     rt: &impl Abort,
     store: &Store<D, A>,
     place: usize,
@@ -128,14 +145,35 @@ pub(crate) fn expect_row<D: Device, A: Allocator + Copy>(
     assert_eq!(rt; row_at(store, place), Some(row));
 }
 
-/// Both have two points, and the one that came first is one older.
-pub(crate) fn expect_two_rows<D: Device, A: Allocator + Copy>(
+/// The rows of the table have these entries, scores and ages.
+pub(crate) fn expect_table<D: Device, A: Allocator + Copy>(
     rt: &impl Abort,
     store: &Store<D, A>,
+    rows: &[(u64, u32, u64)],
 ) {
-    expect_rows(rt, store, 2);
-    expect_row(rt, store, 0, (1, 2, 1));
-    expect_row(rt, store, 1, (2, 2, 0));
+    expect_rows(rt, store, rows.len());
+    for (place, row) in rows.iter().enumerate() {
+        expect_row(rt, store, place, *row);
+    }
+}
+
+/// So many rows has the hill that is opened on a device.
+pub(crate) fn expect_opened<D: Device + Drop>(
+    rt: &(impl Abort + AllocGlobal),
+    device: D,
+    count: usize,
+) {
+    let store = opened_on(rt, device);
+    expect_rows(rt, &store, count);
+    drop(store);
+}
+
+/// The results that a store keeps are those of the fights.
+pub(crate) fn expect_true<D: Device, A: Allocator + Copy>(
+    rt: &impl Abort,
+    store: &mut Store<D, A>,
+) {
+    assert!(rt; audit(store));
 }
 
 /// The device of this store was asked for so many calls.
