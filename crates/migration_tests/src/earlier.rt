@@ -5,7 +5,7 @@ use crate::hills::{blank_of, moved, moved_from, opened_on, put_into};
 use crate::narrowed::narrowed;
 use earlier_hill::sector_of;
 use hill_store::{Refusal, Store};
-use sector_disk::MemoryDevice;
+use sector_disk::{Device, MemoryDevice};
 use std::alloc::Global;
 use std::process::Abort;
 use store_calls::{close, fell, open};
@@ -26,10 +26,7 @@ fn expect_earlier(rt: &impl Abort, device: &mut MemoryDevice<Global>) {
 }
 
 /// No hill is opened on this device, since it holds none in the new format. It comes back.
-fn expect_no_hill(
-    rt: &(impl Abort + AllocGlobal),
-    device: MemoryDevice<Global>,
-) -> MemoryDevice<Global> {
+fn expect_no_hill<D: Device + Drop>(rt: &(impl Abort + AllocGlobal), device: D) -> D {
     let (device, refusal) = match open(rt.alloc(), device) {
         Ok(store) => {
             drop(store);
@@ -54,16 +51,25 @@ fn moved_from_earlier(rt: &(impl Abort + AllocGlobal)) -> Store<MemoryDevice<Glo
 /// The table and the reply are what that program said. Nothing is written to the device that it wrote.
 #[test]
 fn a_hill_from_before_limits(rt: HostRuntime) {
-    let mut store = moved_from_earlier(&rt);
-    expect_the_hill(&rt, &mut store);
-    let mut store = opened_on(&rt, close(store));
-    expect_the_hill(&rt, &mut store);
-    expect_reply(&rt, &mut store, b"JMP 0", fell(5, 38));
+    expect_moved(&rt, moved_from_earlier(&rt));
+}
+
+/// The store has the hill, and so has its device, where a warrior falls.
+fn expect_moved<D: Device + Drop>(rt: &(impl Abort + AllocGlobal), mut store: Store<D, Global>) {
+    expect_the_hill(rt, &mut store);
+    let mut store = opened_on(rt, close(store));
+    expect_the_hill(rt, &mut store);
+    expect_fall(rt, store);
+}
+
+/// A warrior falls on the hill of a store, which is let go.
+fn expect_fall<D: Device + Drop>(rt: &impl Abort, mut store: Store<D, Global>) {
+    expect_reply(rt, &mut store, b"JMP 0", fell(5, 38));
     drop(store);
 }
 
 /// The limits of reads and of writes.
-fn limits_of(store: &Store<MemoryDevice<Global>, Global>) -> (u16, u16) {
+fn limits_of<D: Device>(store: &Store<D, Global>) -> (u16, u16) {
     let settings = store.hill().settings();
     (settings.read_limit(), settings.write_limit())
 }
@@ -72,7 +78,7 @@ fn limits_of(store: &Store<MemoryDevice<Global>, Global>) -> (u16, u16) {
 const ROWS: [(u64, u32, u64); 3] = [(4, 92, 0), (2, 35, 2), (1, 21, 3)];
 
 /// The table is that of the hill, and its results are those of the matches.
-fn expect_the_hill(rt: &impl Abort, store: &mut Store<MemoryDevice<Global>, Global>) {
+fn expect_the_hill<D: Device>(rt: &impl Abort, store: &mut Store<D, Global>) {
     expect_true(rt, store);
     assert_eq!(rt; limits_of(store), (800, 800));
     expect_table(rt, store, &ROWS);
@@ -81,9 +87,8 @@ fn expect_the_hill(rt: &impl Abort, store: &mut Store<MemoryDevice<Global>, Glob
 /// The store that the hill is moved to answers as one that was opened.
 #[test]
 fn a_moved_hill_answers_at_once(rt: HostRuntime) {
-    let mut store = moved_from(&rt, rt.alloc(), earlier(&rt), blank_of(&rt, 18));
-    expect_reply(&rt, &mut store, b"JMP 0", fell(5, 38));
-    drop(store);
+    let store = moved_from(&rt, rt.alloc(), earlier(&rt), blank_of(&rt, 18));
+    expect_fall(&rt, store);
 }
 
 /// What was written of the hill as it stands: neither the header before the last nor the slot of the third warrior, which fell, and no

@@ -1,7 +1,7 @@
 //! Devices in memory, and hills on them and moved between them, as the tests make them. What is to be done and isn't ends the test at once.
 
 use hill_store::{MigrateFault, MigrateSide, Refusal, Store};
-use sector_disk::{Device, FuseDevice, MemoryDevice};
+use sector_disk::{Device, MemoryDevice};
 use std::alloc::{Allocator, Global};
 use std::process::Abort;
 use store_calls::{blank, close, create, migrate, open, put, sector, settings_from};
@@ -42,11 +42,11 @@ pub(crate) fn put_into(
 }
 
 /// A hill without warriors, with these settings, on a device that held none.
-pub(crate) fn created_on(
+pub(crate) fn created_on<D: Device + Drop>(
     rt: &(impl Abort + AllocGlobal),
-    device: MemoryDevice<Global>,
+    device: D,
     raw: RawSettings,
-) -> Store<MemoryDevice<Global>, Global> {
+) -> Store<D, Global> {
     let settings = settings_from(raw).expect(rt, "they are settings");
     match create(rt.alloc(), device, settings) {
         Ok(store) => Some(store),
@@ -59,10 +59,10 @@ pub(crate) fn created_on(
 }
 
 /// The hill that a device holds.
-pub(crate) fn opened_on(
+pub(crate) fn opened_on<D: Device + Drop>(
     rt: &(impl Abort + AllocGlobal),
-    device: MemoryDevice<Global>,
-) -> Store<MemoryDevice<Global>, Global> {
+    device: D,
+) -> Store<D, Global> {
     match open(rt.alloc(), device) {
         Ok(store) => Some(store),
         Err((device, _)) => {
@@ -127,18 +127,18 @@ const NEW_FAILS: MigrateFault = MigrateFault {
 };
 
 /// Two devices, behind a move from one to the other, which fails or does not.
-pub(crate) fn tried(
+pub(crate) fn tried<O: Device + Drop, D: Device + Drop>(
     rt: &(impl Abort + AllocGlobal),
-    old: MemoryDevice<Global>,
-    new: FuseDevice<MemoryDevice<Global>>,
+    old: O,
+    new: D,
     fails: bool,
-) -> (MemoryDevice<Global>, MemoryDevice<Global>) {
+) -> (O, D) {
     let (old, new, fault) = match migrate(rt.alloc(), old, new) {
         Ok((old, store)) => (old, close(store), None),
         Err((old, new, fault)) => (old, new, Some(fault)),
     };
     expect_fault(rt, fault, fails);
-    (old, new.into_inner())
+    (old, new)
 }
 
 /// The new device of a move failed, or nothing did.
@@ -147,10 +147,10 @@ fn expect_fault(rt: &impl Abort, fault: Option<MigrateFault>, fails: bool) {
 }
 
 /// The hill that a device holds, if it holds one. What it holds else is no hill.
-pub(crate) fn hill_on(
+pub(crate) fn hill_on<D: Device + Drop>(
     rt: &(impl Abort + AllocGlobal),
-    device: MemoryDevice<Global>,
-) -> Option<Store<MemoryDevice<Global>, Global>> {
+    device: D,
+) -> Option<Store<D, Global>> {
     match open(rt.alloc(), device) {
         Ok(store) => Some(store),
         Err((device, refusal)) => {

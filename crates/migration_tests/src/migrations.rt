@@ -20,7 +20,12 @@ mod refused;
 
 /// A hill of two, on which a third warrior fell: headers of the generations 2 and 3, and two slots.
 fn written(rt: &(impl Abort + AllocGlobal)) -> MemoryDevice<Global> {
-    let mut store = created_on(rt, blank_in(rt, rt.alloc()), SMALL);
+    with_two(rt, blank_in(rt, rt.alloc()))
+}
+
+/// This device, once it holds that hill.
+fn with_two<D: Device + Drop>(rt: &(impl Abort + AllocGlobal), device: D) -> D {
+    let mut store = created_on(rt, device, SMALL);
     expect_reply(rt, &mut store, b"MOV 0,1", placed(1, 1, 0));
     expect_reply(rt, &mut store, b"JMP 0", placed(2, 2, 2));
     expect_reply(rt, &mut store, b"DAT 0,0", fell(3, 0));
@@ -78,7 +83,7 @@ fn expect_moved(
 }
 
 /// The hill of two on this device, on which a fourth warrior falls.
-fn expect_goes_on(rt: &(impl Abort + AllocGlobal), device: MemoryDevice<Global>) {
+fn expect_goes_on<D: Device + Drop>(rt: &(impl Abort + AllocGlobal), device: D) {
     let mut store = opened_on(rt, device);
     expect_two_rows(rt, &store);
     expect_reply(rt, &mut store, b"MOV 0,1", fell(4, 4));
@@ -86,7 +91,7 @@ fn expect_goes_on(rt: &(impl Abort + AllocGlobal), device: MemoryDevice<Global>)
 }
 
 /// The device of the hill of two, whose results are those of the matches.
-fn closed(rt: &impl Abort, mut store: Store<MemoryDevice<Global>, Global>) -> MemoryDevice<Global> {
+fn closed<D: Device + Drop>(rt: &impl Abort, mut store: Store<D, Global>) -> D {
     expect_two_rows(rt, &store);
     expect_true(rt, &mut store);
     close(store)
@@ -112,12 +117,19 @@ fn a_hill_is_moved(rt: HostRuntime) {
 /// of each slot, a sync, a header and a sync, and then for what a warrior that falls makes.
 #[test]
 fn calls_of_both_devices(rt: HostRuntime) {
-    let old = counted(old_device(&rt));
-    let new = counted(blank_in(&rt, rt.alloc()));
-    let (old, mut store) = moved(&rt, rt.alloc(), old, new);
-    expect_asked(&rt, old, 7);
-    expect_reply(&rt, &mut store, b"MOV 0,1", fell(4, 4));
-    expect_calls(&rt, store, 14 + 2);
+    expect_calls_of(&rt, old_device(&rt), blank_in(&rt, rt.alloc()));
+}
+
+/// The hill is moved from one of these devices to the other by those calls.
+fn expect_calls_of<O: Device + Drop, D: Device + Drop>(
+    rt: &(impl Abort + AllocGlobal),
+    old: O,
+    new: D,
+) {
+    let (old, mut store) = moved(rt, rt.alloc(), counted(old), counted(new));
+    expect_asked(rt, old, 7);
+    expect_reply(rt, &mut store, b"MOV 0,1", fell(4, 4));
+    expect_calls(rt, store, 14 + 2);
 }
 
 /// This device was asked for so many calls. It is let go.

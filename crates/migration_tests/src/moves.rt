@@ -28,7 +28,8 @@ fn fused(
     kind: FuseKind,
 ) -> (MemoryDevice<Global>, MemoryDevice<Global>) {
     let new = FuseDevice::new(blank_in(rt, rt.alloc()), calls, kind);
-    tried(rt, old_device(rt), new, calls < CALLS)
+    let (old, new) = tried(rt, old_device(rt), new, calls < CALLS);
+    (old, new.into_inner())
 }
 
 /// Whether a device holds the hill. It holds no other.

@@ -68,9 +68,9 @@ fn with_old_header(rt: &(impl Abort + AllocGlobal), n: u32) -> MemoryDevice<Glob
 }
 
 /// Why no hill of two is created on a device, if none is.
-fn refusal_to_create(
+fn refusal_to_create<D: Device + Drop>(
     rt: &(impl Abort + AllocGlobal),
-    device: MemoryDevice<Global>,
+    device: D,
 ) -> Option<Refusal> {
     let settings = settings_from(SMALL).expect(rt, "they are settings");
     match create(rt.alloc(), device, settings) {
@@ -145,7 +145,14 @@ fn an_old_device_that_fails(rt: HostRuntime) {
     for calls in 0..7 {
         expect_old_refused(&rt, fused(&rt, calls), Refusal::Disk);
     }
-    let new = blank_in(&rt, rt.alloc());
-    let store = moved_from(&rt, rt.alloc(), fused(&rt, 7), new);
-    expect_the_rows(&rt, store);
+    expect_moves(&rt, fused(&rt, 7), blank_in(&rt, rt.alloc()));
+}
+
+/// The hill of two is moved from one of these devices to the other.
+fn expect_moves<O: Device + Drop, D: Device + Drop>(
+    rt: &(impl Abort + AllocGlobal),
+    old: O,
+    new: D,
+) {
+    expect_the_rows(rt, moved_from(rt, rt.alloc(), old, new));
 }

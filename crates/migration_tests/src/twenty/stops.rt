@@ -16,7 +16,8 @@ fn stopped_behind(
     calls: u64,
 ) -> (MemoryDevice<Global>, MemoryDevice<Global>) {
     let new = FuseDevice::new(blank_of(rt, SECTORS), calls, FuseKind::Stop);
-    tried(rt, old, new, calls < CALLS)
+    let (old, new) = tried(rt, old, new, calls < CALLS);
+    (old, new.into_inner())
 }
 
 /// Whether a device holds the hill. It holds no other.
