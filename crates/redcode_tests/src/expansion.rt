@@ -1,147 +1,151 @@
 //! Sources, and the lines and labels of what is written out of them.
 
+use crate::sources::DEFAULTS;
 use bumpalo::Bump;
-use redcode_expand::{Expanded, Line, LineKind, expand, predefined};
+use redcode_expand::{Entry, Expanded, Line, LineKind, expand, predefined};
 use redcode_text::Token;
-use std::alloc::{AllocError, Global};
+use std::alloc::Allocator;
 use std::process::Abort;
 use war_types::{RawSettings, Settings};
 
+/// Settings of which no two numbers that a source may name are the same.
+const DISTINCT: RawSettings = RawSettings {
+    processes: 8001,
+    distance: 101,
+    ..DEFAULTS
+};
+
 pub(crate) fn defaults(rt: &impl Abort) -> Settings {
-    Settings::new(RawSettings {
-        core: 8000,
-        cycles: 80_000,
-        processes: 8001,
-        length: 100,
-        distance: 101,
-        rounds: 10,
-        seed: 1,
-        capacity: 20,
-        read_limit: 0,
-        write_limit: 0,
-    })
-    .expect(rt, "they are settings")
+    Settings::new(DISTINCT).expect(rt, "they are settings")
+}
+
+/// What a source is written out to. A function without clauses, so that the proof of a test carries none of `expand` along.
+pub(crate) fn written_out<'s, A: Allocator + Copy>(
+    rt: &impl Abort,
+    alloc: A,
+    region: &'s Bump<A>,
+    source: &'s [u8],
+) -> Expanded<'s, A> {
+    expand(alloc, region, source, &defaults(rt)).expect(rt, "there is memory")
 }
 
 /// The texts of tokens, one blank before each.
-fn texts(alloc: Global, tokens: &[Token<'_>]) -> Result<Vec<u8>, AllocError> {
-    let mut text = Vec::new(alloc);
+fn texts(rt: &(impl Abort + AllocGlobal), tokens: &[Token<'_>]) -> Vec<u8> {
+    let mut text = Vec::new(rt.alloc());
     for token in tokens {
-        text.push(b' ')?;
-        text.extend_from_slice(token.text)?;
+        text.push(b' ').expect(rt, "there is memory");
+        text.extend_from_slice(token.text)
+            .expect(rt, "there is memory");
     }
-    Ok(text)
+    text
 }
 
-type Row = (u32, LineKind, u32, &'static [u8], &'static [u8]);
+/// The number in the source, the kind, the instructions before, the title and the tokens of a line.
+pub(crate) type Row = (u32, LineKind, u32, &'static [u8], &'static [u8]);
 
-/// Whether a line has this number in the source, this kind and so many instructions before it.
-fn is_place(line: &Line, row: &Row) -> bool {
-    line.source_line == row.0 && line.kind == row.1 && line.before == row.2
-}
-
-/// Whether a line is so.
-fn is_line(
-    rt: &(impl Abort + AllocGlobal),
-    expanded: &Expanded<'_, Global>,
-    i: usize,
-    row: &Row,
-) -> bool {
-    let Some(entry) = expanded.entries().get(i) else {
-        return false;
+/// Whether a line has this place, this kind and this title.
+fn is_line(line: Line, title: &[u8], row: &Row) -> bool {
+    let due = Line {
+        source_line: row.0,
+        kind: row.1,
+        before: row.2,
     };
-    if !is_place(&entry.line, row) || entry.title != row.3 {
-        return false;
-    }
-    let tokens = texts(rt.alloc(), entry.tokens.as_slice()).expect(rt, "there is memory");
-    tokens.as_slice() == row.4
+    line == due && title == row.3
 }
 
-/// Whether these are the lines of what is written out.
-fn have_lines(
+/// A line is so.
+fn check_line<A: Allocator>(rt: &(impl Abort + AllocGlobal), entry: &Entry<'_, A>, row: &Row) {
+    assert!(rt; is_line(entry.line, entry.title, row));
+    assert!(rt; texts(rt, entry.tokens.as_slice()).as_slice() == row.4);
+}
+
+/// These are the lines of what is written out.
+fn check_lines<A: Allocator>(
     rt: &(impl Abort + AllocGlobal),
-    expanded: &Expanded<'_, Global>,
+    entries: &[Entry<'_, A>],
     rows: &[Row],
-) -> bool {
-    if expanded.entries().len() != rows.len() {
-        return false;
+) {
+    assert_eq!(rt; entries.len(), rows.len());
+    for (entry, row) in entries.iter().zip(rows) {
+        check_line(rt, entry, row);
     }
-    for (i, row) in rows.iter().enumerate() {
-        if !is_line(rt, expanded, i, row) {
-            return false;
-        }
-    }
-    true
 }
 
-/// Whether these are the lines: the number in the source, the kind, the instructions before, the title and the tokens.
-fn are_lines(rt: &(impl Abort + AllocGlobal), source: &[u8], rows: &[Row]) -> bool {
-    let settings = defaults(rt);
-    let region = Bump::new(rt.alloc());
-    let expanded = expand(rt.alloc(), &region, source, &settings).expect(rt, "there is memory");
-    have_lines(rt, &expanded, rows)
+/// A name, and the address of its label if it is one.
+pub(crate) type Label = (&'static [u8], Option<u32>);
+
+/// Names are labels of these addresses in what is written out.
+fn check_labels<A: Allocator + Copy>(
+    rt: &impl Abort,
+    expanded: &Expanded<'_, A>,
+    labels: &[Label],
+) {
+    for (name, address) in labels {
+        assert_eq!(rt; expanded.label(name), *address);
+    }
 }
+
+/// These are the lines and the labels of what is written out.
+pub(crate) fn check_written<A: Allocator + Copy>(
+    rt: &(impl Abort + AllocGlobal),
+    written: &Expanded<'_, A>,
+    rows: &[Row],
+    labels: &[Label],
+) {
+    check_lines(rt, written.entries(), rows);
+    check_labels(rt, written, labels);
+}
+
+/// A source is written out to these lines, with these labels.
+fn check_source(rt: &(impl Abort + AllocGlobal), source: &[u8], rows: &[Row], labels: &[Label]) {
+    let region = Bump::new(rt.alloc());
+    let written = written_out(rt, rt.alloc(), &region, source);
+    check_written(rt, &written, rows, labels);
+}
+
+/// Lines of each kind but `;author`, and one behind the end.
+const LINES: &[u8] =
+    b";redcode\n;name  Imp \nORG start\nbomb DAT #0 ; c\n\nstart b: add.f 4\n;assert 1,x;c\nFOO 0\nEND x\nDAT";
+
+const LINES_WRITTEN_OUT: [Row; 7] = [
+    (2, LineKind::Name, 0, b"  Imp ", b""),
+    (3, LineKind::Org, 0, b"", b" ORG start"),
+    (4, LineKind::Operation, 0, b"", b" DAT # 0"),
+    (6, LineKind::Operation, 1, b"", b" add . f 4"),
+    (7, LineKind::Assert, 2, b"", b" 1 , x"),
+    (8, LineKind::Other, 2, b"", b" 0"),
+    (9, LineKind::End, 2, b"", b" END x"),
+];
 
 #[test]
 fn lines_and_their_texts(rt: HostRuntime) {
-    let source =
-        b";redcode\n;name  Imp \nORG start\nbomb DAT #0 ; c\n\nstart b: add.f 4\n;assert 1,x;c\nFOO 0\nEND x\nDAT";
-    let rows: [Row; 7] = [
-        (2, LineKind::Name, 0, b"  Imp ", b""),
-        (3, LineKind::Org, 0, b"", b" ORG start"),
-        (4, LineKind::Operation, 0, b"", b" DAT # 0"),
-        (6, LineKind::Operation, 1, b"", b" add . f 4"),
-        (7, LineKind::Assert, 2, b"", b" 1 , x"),
-        (8, LineKind::Other, 2, b"", b" 0"),
-        (9, LineKind::End, 2, b"", b" END x"),
-    ];
-    assert!(rt; are_lines(&rt, source, &rows));
+    check_source(&rt, LINES, &LINES_WRITTEN_OUT, &[]);
 }
+
+/// Names of `EQU` lines in lines of each kind.
+const NAMES: &[u8] = b";assert n\nDAT.n n+m\nx n EQU 1, m ; c\n+ n\nPIN n\nm EQU ?\nu EQU u\nEND n";
+
+const NAMES_WRITTEN_OUT: [Row; 5] = [
+    (1, LineKind::Assert, 0, b"", b" 1 , ?"),
+    (2, LineKind::Operation, 0, b"", b" DAT . n 1 , ? + ?"),
+    (4, LineKind::Other, 1, b"", b" + n"),
+    (5, LineKind::Other, 1, b"", b" PIN n"),
+    (8, LineKind::End, 1, b"", b" END 1 , ?"),
+];
+
+/// A label before an `EQU`, and its name.
+const NAMES_AS_LABELS: [Label; 2] = [(b"x", Some(1)), (b"n", None)];
 
 #[test]
 fn names_of_equ_lines(rt: HostRuntime) {
-    let source = b";assert n\nDAT.n n+m\nx n EQU 1, m ; c\n+ n\nPIN n\nm EQU ?\nu EQU u\nEND n";
-    let rows: [Row; 5] = [
-        (1, LineKind::Assert, 0, b"", b" 1 , ?"),
-        (2, LineKind::Operation, 0, b"", b" DAT . n 1 , ? + ?"),
-        (4, LineKind::Other, 1, b"", b" + n"),
-        (5, LineKind::Other, 1, b"", b" PIN n"),
-        (8, LineKind::End, 1, b"", b" END 1 , ?"),
-    ];
-    assert!(rt; are_lines(&rt, source, &rows));
-    check_label(&rt, source, b"x", Some(1));
-    check_label(&rt, source, b"n", None);
-}
-
-/// The address of a label of a source.
-fn label_of(rt: &(impl Abort + AllocGlobal), source: &[u8], name: &[u8]) -> Option<u32> {
-    let settings = defaults(rt);
-    let region = Bump::new(rt.alloc());
-    let expanded = expand(rt.alloc(), &region, source, &settings).expect(rt, "there is memory");
-    expanded.label(name)
-}
-
-/// A label of a source that has this address.
-fn check_label(rt: &(impl Abort + AllocGlobal), source: &[u8], name: &[u8], address: Option<u32>) {
-    assert_eq!(rt; label_of(rt, source, name), address);
-}
-
-/// Labels of a source, each with its address.
-fn check_labels(
-    rt: &(impl Abort + AllocGlobal),
-    source: &[u8],
-    rows: &[(&'static [u8], Option<u32>)],
-) {
-    for (name, address) in rows {
-        check_label(rt, source, name, *address);
-    }
+    check_source(&rt, NAMES, &NAMES_WRITTEN_OUT, &NAMES_AS_LABELS);
 }
 
 /// Labels before an instruction, and on lines of their own.
 const LABELS: &[u8] = b"a DAT\nA b: & c DAT\nd\nPIN\nSTP\ne";
 
 /// Names of `LABELS`, and the labels' addresses.
-const ADDRESSES: [(&[u8], Option<u32>); 8] = [
+const ADDRESSES: [Label; 8] = [
     (b"a", Some(0)),
     (b"A", Some(1)),
     (b"b", Some(1)),
@@ -154,7 +158,9 @@ const ADDRESSES: [(&[u8], Option<u32>); 8] = [
 
 #[test]
 fn labels(rt: HostRuntime) {
-    check_labels(&rt, LABELS, &ADDRESSES);
+    let region = Bump::new(rt.alloc());
+    let written = written_out(&rt, rt.alloc(), &region, LABELS);
+    check_labels(&rt, &written, &ADDRESSES);
 }
 
 /// Names, and what is predefined of them on a line behind 7 instructions.
@@ -174,26 +180,39 @@ const PREDEFINED: [(&[u8], Option<i64>); 10] = [
 #[test]
 fn predefined_names(rt: HostRuntime) {
     let settings = defaults(&rt);
-    for (name, value) in PREDEFINED {
-        assert_eq!(rt; predefined(&settings, 7, name), value);
+    for (name, value) in &PREDEFINED {
+        assert_eq!(rt; predefined(&settings, 7, name), *value);
     }
 }
 
+/// A block of two copies, each with a label.
+pub(crate) const COPIED: &[u8] = b"i FOR 2\na&i DAT i\nROF\nJMP a02";
+
+pub(crate) const COPIED_WRITTEN_OUT: [Row; 3] = [
+    (2, LineKind::Operation, 0, b"", b" DAT 1"),
+    (2, LineKind::Operation, 1, b"", b" DAT 2"),
+    (4, LineKind::Operation, 2, b"", b" JMP a02"),
+];
+
+pub(crate) const COPIED_LABELS: [Label; 3] = [(b"a01", Some(0)), (b"a02", Some(1)), (b"a03", None)];
+
 #[test]
 fn blocks(rt: HostRuntime) {
-    let source = b"i FOR 2\na&i DAT i\nROF\nJMP a02";
-    let rows: [Row; 3] = [
-        (2, LineKind::Operation, 0, b"", b" DAT 1"),
-        (2, LineKind::Operation, 1, b"", b" DAT 2"),
-        (4, LineKind::Operation, 2, b"", b" JMP a02"),
-    ];
-    assert!(rt; are_lines(&rt, source, &rows));
-    check_label(&rt, source, b"a01", Some(0));
-    check_label(&rt, source, b"a02", Some(1));
+    check_source(&rt, COPIED, &COPIED_WRITTEN_OUT, &COPIED_LABELS);
 }
 
+/// A block within a block, each with the same counter, and one of no copy.
+const NESTED: &[u8] =
+    b"i FOR 2\nx&i i FOR 1\na&i&i DAT.i i, j\nROF\nROF\nFOR 0\n?? 3 = junk\ny ROF\nEND\nROF";
+
+const NESTED_WRITTEN_OUT: [Row; 3] = [
+    (3, LineKind::Operation, 0, b"", b" DAT . i 1 , j"),
+    (3, LineKind::Operation, 1, b"", b" DAT . i 2 , j"),
+    (9, LineKind::End, 2, b"", b" END"),
+];
+
 /// Labels of copies, and their addresses.
-const COPIED_ADDRESSES: [(&[u8], Option<u32>); 5] = [
+const NESTED_LABELS: [Label; 5] = [
     (b"x01", Some(0)),
     (b"x02", Some(1)),
     (b"a0101", Some(0)),
@@ -203,13 +222,5 @@ const COPIED_ADDRESSES: [(&[u8], Option<u32>); 5] = [
 
 #[test]
 fn copies_and_their_labels(rt: HostRuntime) {
-    let source =
-        b"i FOR 2\nx&i i FOR 1\na&i&i DAT.i i, j\nROF\nROF\nFOR 0\n?? 3 = junk\ny ROF\nEND\nROF";
-    let rows: [Row; 3] = [
-        (3, LineKind::Operation, 0, b"", b" DAT . i 1 , j"),
-        (3, LineKind::Operation, 1, b"", b" DAT . i 2 , j"),
-        (9, LineKind::End, 2, b"", b" END"),
-    ];
-    assert!(rt; are_lines(&rt, source, &rows));
-    check_labels(&rt, source, &COPIED_ADDRESSES);
+    check_source(&rt, NESTED, &NESTED_WRITTEN_OUT, &NESTED_LABELS);
 }

@@ -1,4 +1,4 @@
-//! Tests of the public calls of `redcode_text`, `redcode_expand`, `redcode_asm` and `redcode_diagnosis`: of what no clause of them says.
+//! Tests of the public calls of `redcode_text`, `redcode_expand` and `redcode_asm`: of what no clause of them says.
 //!
 //! No crate stands on this one, so a check of the crates above waits for none of them. A module a subject:
 //!
@@ -10,19 +10,11 @@
 //! - `refusals`: sources that are refused, with the line and the kind;
 //! - `limits`: the limits of a source, of its lines and of a warrior, on both sides;
 //! - `long_tests`: sources that are long once they are written out, on both sides of what an assembly may take;
-//! - `diagnoses`: what people are told of blocks, counts and statements that are refused; `diagnosed_expressions` of the others;
-//! - `diagnosed_texts`: the text and the JSON of refusals, and sources with several faults;
 //! - `growths`: calls that are refused memory, and those that need none.
 //!
 //! What a contract says is proved there and not tried here.
 #![tactic(auto)]
 
-#[cfg(test)]
-mod diagnosed_expressions;
-#[cfg(test)]
-mod diagnosed_texts;
-#[cfg(test)]
-mod diagnoses;
 #[cfg(test)]
 mod expansion;
 #[cfg(test)]

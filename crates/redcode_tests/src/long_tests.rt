@@ -1,32 +1,9 @@
 //! Sources that are long, or met often, once they are written out.
 
-use crate::sources::{defaults, repeated};
-use redcode_asm::assemble;
-use std::alloc::{AllocError, Global};
+use crate::refusals::DOUBLE;
+use crate::sources::{assembled, defaults, source_of};
 use std::process::Abort;
 use war_types::AsmKind;
-
-/// The refusal of a source, none where it is assembled.
-fn refusal_of(rt: &(impl Abort + AllocGlobal), source: &[u8]) -> Option<(u32, AsmKind)> {
-    match assemble(rt.alloc(), source, &defaults(rt)) {
-        Ok(_) => None,
-        Err(fault) => Some((fault.line, fault.kind)),
-    }
-}
-
-/// A head, so many times a part, and a tail.
-pub(crate) fn source_of(
-    alloc: Global,
-    head: &str,
-    part: &str,
-    count: usize,
-    tail: &str,
-) -> Result<Vec<u8>, AllocError> {
-    let mut source = Vec::from_slice(alloc, head.as_bytes())?;
-    source.extend_from_slice(repeated(alloc, part.as_bytes(), count)?.as_slice())?;
-    source.extend_from_slice(tail.as_bytes())?;
-    Ok(source)
-}
 
 /// A head, a part, how often it stands behind the head, what stands behind these, and the refusal of the whole.
 type Long = (
@@ -69,12 +46,22 @@ const REFUSED: [Long; 4] = [
     ),
 ];
 
+/// A source with such a part is refused so, or not.
+fn check_refusal(
+    rt: &(impl Abort + AllocGlobal),
+    source: &str,
+    refusal: Option<(u32, AsmKind)>,
+    part: &str,
+) {
+    let found = assembled(rt, source.as_bytes(), &defaults(rt)).err();
+    assert_eq!(rt; found, refusal, "{part:?}");
+}
+
 /// Such a source is refused so, or not.
 fn check_long(rt: &(impl Abort + AllocGlobal), long: &Long) {
     let (head, part, count, tail, refusal) = *long;
-    let source = source_of(rt.alloc(), head, part, count, tail).expect(rt, "there is memory");
-    let found = refusal_of(rt, source.as_slice());
-    assert_eq!(rt; found, refusal, "{part:?}");
+    let source = source_of(rt, head, part, count, tail);
+    check_refusal(rt, source.as_str(), refusal, part);
 }
 
 #[test]
@@ -118,96 +105,44 @@ fn long_sources_that_are_assembled(rt: HostRuntime) {
     }
 }
 
-/// Eight names, each of which is twice the next one.
-fn doubled(rt: &(impl Abort + AllocGlobal)) -> Vec<u8> {
-    let mut lines = Vec::new(rt.alloc());
-    for i in 0..8u32 {
-        let line = format!(in rt.alloc(); "x{} EQU x{}+x{}\n", i, i + 1, i + 1).expect(
-            rt,
-            "there is memory",
-        );
-        lines
-            .extend_from_slice(line.as_bytes())
-            .expect(rt, "there is memory");
-    }
-    lines
-}
-
 /// As many lines as count, each of which `EQU` makes nearly as many tokens as an operand may have.
 #[test]
 fn lines_made_long(rt: HostRuntime) {
-    let mut source = doubled(&rt);
-    let lines = source_of(rt.alloc(), "x8 EQU 1\nDAT\n", ";assert x0\n", 4086, "").expect(
-        &rt,
-        "there is memory",
-    );
-    source
-        .extend_from_slice(lines.as_slice())
-        .expect(&rt, "there is memory");
-    assert_eq!(rt; refusal_of(&rt, source.as_slice()), None);
+    let lines = source_of(&rt, "DAT\n", ";assert x0\n", 4086, "");
+    let source = source_of(&rt, DOUBLE, lines.as_str(), 1, "");
+    check_refusal(&rt, source.as_str(), None, ";assert x0\n");
 }
 
-/// The heads of 63 blocks, each with a counter of its own.
-fn heads(rt: &(impl Abort + AllocGlobal)) -> Vec<u8> {
-    let mut lines = Vec::new(rt.alloc());
-    for k in 0..63u32 {
-        let line = format!(in rt.alloc(); "c{} FOR 1\n", k).expect(rt, "there is memory");
-        lines
-            .extend_from_slice(line.as_bytes())
-            .expect(rt, "there is memory");
-    }
-    lines
+// A head, each of these numbers between two texts, and a tail.
+macro_rules! numbered {
+    ($head:literal, $before:literal, $after:literal, $tail:literal, $($number:literal)*) => {
+        concat!($head, $($before, $number, $after,)* $tail)
+    };
 }
+
+/// The heads of 63 blocks, each with a counter of its own, and that of a block of an assertion.
+const HEADS: &str = numbered!("DAT 0\n", "c", " FOR 1\n", "i FOR 200\n;assert i",
+    0 1 2 3 4 5 6 7 8 9 10 11 12 13 14 15 16 17 18 19 20 21 22 23 24 25 26 27 28 29 30 31 32 33 34
+    35 36 37 38 39 40 41 42 43 44 45 46 47 48 49 50 51 52 53 54 55 56 57 58 59 60 61 62
+);
 
 /// Copies of a line of 256 counters within 63 blocks, each with a counter of its own.
 #[test]
 fn copies_of_a_long_line_within_blocks(rt: HostRuntime) {
-    let mut source = Vec::from_slice(rt.alloc(), b"DAT 0\n").expect(&rt, "there is memory");
-    source
-        .extend_from_slice(heads(&rt).as_slice())
-        .expect(&rt, "there is memory");
-    let block = source_of(rt.alloc(), "i FOR 200\n;assert i", "+i", 255, "\n").expect(
-        &rt,
-        "there is memory",
-    );
-    source
-        .extend_from_slice(block.as_slice())
-        .expect(&rt, "there is memory");
-    source
-        .extend_from_slice(
-            repeated(rt.alloc(), b"ROF\n", 64)
-                .expect(&rt, "there is memory")
-                .as_slice(),
-        )
-        .expect(&rt, "there is memory");
-    assert_eq!(rt; refusal_of(&rt, source.as_slice()), None);
+    let ends = source_of(&rt, "\n", "ROF\n", 64, "");
+    let source = source_of(&rt, HEADS, "+i", 255, ends.as_str());
+    check_refusal(&rt, source.as_str(), None, "+i");
 }
 
-/// Terms that hold of a counter where twice the counter is above each number from 1 to 79.
-fn terms(rt: &(impl Abort + AllocGlobal)) -> Vec<u8> {
-    let mut terms = Vec::new(rt.alloc());
-    for k in 1..80u32 {
-        let term = format!(in rt.alloc(); " && i>{}-i", k).expect(rt, "there is memory");
-        terms
-            .extend_from_slice(term.as_bytes())
-            .expect(rt, "there is memory");
-    }
-    terms
-}
+/// Copies of an assertion of 80 terms that hold of a counter where twice the counter is above each number from 0 to 79.
+const TERMS: &str = numbered!("DAT 0\ni FOR 3000\n;assert i>0-i", " && i>", "-i", "\nROF\n",
+    1 2 3 4 5 6 7 8 9 10 11 12 13 14 15 16 17 18 19 20 21 22 23 24 25 26 27 28 29 30 31 32 33 34 35
+    36 37 38 39 40 41 42 43 44 45 46 47 48 49 50 51 52 53 54 55 56 57 58 59 60 61 62 63 64 65 66 67
+    68 69 70 71 72 73 74 75 76 77 78 79
+);
 
 /// The first of 3,000 copies of an assertion of 80 terms doesn't hold: 1 isn't greater than 2 less 1.
 #[test]
 fn copies_of_an_assertion_that_fails(rt: HostRuntime) {
-    let mut source = Vec::from_slice(rt.alloc(), b"DAT 0\ni FOR 3000\n;assert i>0-i").expect(
-        &rt,
-        "there is memory",
-    );
-    source
-        .extend_from_slice(terms(&rt).as_slice())
-        .expect(&rt, "there is memory");
-    source
-        .extend_from_slice(b"\nROF\n")
-        .expect(&rt, "there is memory");
-    let refusal = refusal_of(&rt, source.as_slice());
-    assert_eq!(rt; refusal, Some((3, AsmKind::AssertFalse)));
+    check_refusal(&rt, TERMS, Some((3, AsmKind::AssertFalse)), "i>");
 }

@@ -1,7 +1,7 @@
 //! The load text of codes made by hand.
 
+use crate::sources::{DEFAULTS, source_of};
 use redcode_asm::load_text;
-use std::alloc::{AllocError, Global};
 use std::process::Abort;
 use war_types::{Instr, Mode, Modifier, Op, RawSettings, Settings, Title, Warrior};
 
@@ -9,63 +9,52 @@ use war_types::{Instr, Mode, Modifier, Op, RawSettings, Settings, Title, Warrior
 fn text_of(rt: &(impl Abort + AllocGlobal), core: u16, start: u16, code: &[Instr]) -> Vec<u8> {
     let settings = Settings::new(RawSettings {
         core: u32::from(core),
-        cycles: 80_000,
-        processes: 8000,
         length: 20,
         distance: 20,
-        rounds: 10,
-        seed: 1,
-        capacity: 20,
-        read_limit: 0,
-        write_limit: 0,
+        ..DEFAULTS
     })
-    .expect(rt, "there is memory");
-    let title = Title::new(b"", "Unnamed");
+    .expect(rt, "they are settings");
+    let name = Title::new(b"", "Unnamed");
     let author = Title::new(b"", "Anonymous");
-    let code = code.to_vec(rt.alloc()).expect(rt, "there is memory");
-    let warrior = Warrior::new(code, start, title, author, &settings)
-        .ok_or("it does not fit")
-        .expect(rt, "there is memory");
+    let code = Vec::from_slice(rt.alloc(), code).expect(rt, "there is memory");
+    let warrior = Warrior::new(code, start, name, author, &settings).expect(rt, "it fits");
     load_text(rt.alloc(), &warrior, settings.core()).expect(rt, "there is memory")
 }
 
-pub(crate) fn instr(
-    op: Op,
-    modifier: Modifier,
-    a_mode: Mode,
-    a: u16,
-    b_mode: Mode,
-    b: u16,
-) -> Instr {
-    Instr {
-        op,
-        modifier,
-        a_mode,
-        a,
-        b_mode,
-        b,
-    }
-}
+/// MOV 0, 1
+pub(crate) const IMP: Instr = Instr {
+    op: Op::Mov,
+    modifier: Modifier::I,
+    a_mode: Mode::Direct,
+    a: 0,
+    b_mode: Mode::Direct,
+    b: 1,
+};
 
 #[test]
 fn an_imp(rt: HostRuntime) {
-    let code = [instr(Op::Mov, Modifier::I, Mode::Direct, 0, Mode::Direct, 1)];
     let want = "ORG 0\nMOV.I  $     0, $     1\nEND\n";
-    assert_eq!(rt; text_of(&rt, 8000, 0, &code).as_slice(), want.as_bytes());
+    assert_eq!(rt; text_of(&rt, 8000, 0, &[IMP]).as_slice(), want.as_bytes());
+}
+
+/// DAT 0, 0
+pub(crate) const BOMB: Instr = Instr {
+    op: Op::Dat,
+    modifier: Modifier::F,
+    b: 0,
+    ..IMP
+};
+
+/// The load text of a bomb with this B-number, in a core of this size.
+fn bombed(rt: &(impl Abort + AllocGlobal), core: u16, number: u16) -> Vec<u8> {
+    text_of(rt, core, 0, &[Instr { b: number, ..BOMB }])
 }
 
 /// A number of an instruction in a core is printed as this field.
 fn check_folded(rt: &(impl Abort + AllocGlobal), core: u16, number: u16, field: &str) {
-    let code = [instr(Op::Dat, Modifier::F, Mode::Direct, 0, Mode::Direct, number)];
-    let want = format!(in rt.alloc(); "ORG 0\nDAT.F  $     0, ${field}\nEND\n").expect(
-        rt,
-        "there is memory",
-    );
-    assert_eq!(rt;
-        text_of(rt, core, 0, &code).as_slice(),
-        want.as_bytes(),
-        "{number} of {core}"
-    );
+    let want = source_of(rt, "ORG 0\nDAT.F  $     0, $", field, 1, "\nEND\n");
+    let found = bombed(rt, core, number);
+    assert_eq!(rt; found.as_slice(), want.as_bytes(), "{number} of {core}");
 }
 
 /// Cores, numbers and their fields.
@@ -86,150 +75,65 @@ fn numbers_are_folded_above_half_the_core(rt: HostRuntime) {
     }
 }
 
-/// An operation, a modifier, the modes of both operands, and the line that is due for these and the numbers 1 and 98.
-type Named = (Op, Modifier, Mode, Mode, &'static str);
+// An instruction with the numbers 1 and 98.
+macro_rules! instr {
+    ($op:ident . $modifier:ident $a_mode:ident, $b_mode:ident) => {
+        Instr {
+            op: Op::$op,
+            modifier: Modifier::$modifier,
+            a_mode: Mode::$a_mode,
+            a: 1,
+            b_mode: Mode::$b_mode,
+            b: 98,
+        }
+    };
+}
 
 /// Each operation, each modifier and each mode.
-const NAMES: [Named; 16] = [
-    (
-        Op::Dat,
-        Modifier::A,
-        Mode::Immediate,
-        Mode::Direct,
-        "DAT.A  #     1, $    -2\n",
-    ),
-    (
-        Op::Mov,
-        Modifier::B,
-        Mode::AIndirect,
-        Mode::BIndirect,
-        "MOV.B  *     1, @    -2\n",
-    ),
-    (
-        Op::Add,
-        Modifier::AB,
-        Mode::APre,
-        Mode::BPre,
-        "ADD.AB {     1, <    -2\n",
-    ),
-    (
-        Op::Sub,
-        Modifier::BA,
-        Mode::APost,
-        Mode::BPost,
-        "SUB.BA }     1, >    -2\n",
-    ),
-    (
-        Op::Mul,
-        Modifier::F,
-        Mode::Direct,
-        Mode::Immediate,
-        "MUL.F  $     1, #    -2\n",
-    ),
-    (
-        Op::Div,
-        Modifier::X,
-        Mode::BIndirect,
-        Mode::AIndirect,
-        "DIV.X  @     1, *    -2\n",
-    ),
-    (
-        Op::Mdl,
-        Modifier::I,
-        Mode::BPre,
-        Mode::APre,
-        "MOD.I  <     1, {    -2\n",
-    ),
-    (
-        Op::Jmp,
-        Modifier::A,
-        Mode::BPost,
-        Mode::APost,
-        "JMP.A  >     1, }    -2\n",
-    ),
-    (
-        Op::Jmz,
-        Modifier::B,
-        Mode::Immediate,
-        Mode::Immediate,
-        "JMZ.B  #     1, #    -2\n",
-    ),
-    (
-        Op::Jmn,
-        Modifier::AB,
-        Mode::Direct,
-        Mode::Direct,
-        "JMN.AB $     1, $    -2\n",
-    ),
-    (
-        Op::Djn,
-        Modifier::BA,
-        Mode::AIndirect,
-        Mode::AIndirect,
-        "DJN.BA *     1, *    -2\n",
-    ),
-    (
-        Op::Seq,
-        Modifier::F,
-        Mode::BIndirect,
-        Mode::BIndirect,
-        "SEQ.F  @     1, @    -2\n",
-    ),
-    (
-        Op::Sne,
-        Modifier::X,
-        Mode::APre,
-        Mode::APre,
-        "SNE.X  {     1, {    -2\n",
-    ),
-    (
-        Op::Slt,
-        Modifier::I,
-        Mode::BPre,
-        Mode::BPre,
-        "SLT.I  <     1, <    -2\n",
-    ),
-    (
-        Op::Spl,
-        Modifier::A,
-        Mode::APost,
-        Mode::APost,
-        "SPL.A  }     1, }    -2\n",
-    ),
-    (
-        Op::Nop,
-        Modifier::B,
-        Mode::BPost,
-        Mode::BPost,
-        "NOP.B  >     1, >    -2\n",
-    ),
+const NAMES: [Instr; 16] = [
+    instr!(Dat.A Immediate, Direct),
+    instr!(Mov.B AIndirect, BIndirect),
+    instr!(Add.AB APre, BPre),
+    instr!(Sub.BA APost, BPost),
+    instr!(Mul.F Direct, Immediate),
+    instr!(Div.X BIndirect, AIndirect),
+    instr!(Mdl.I BPre, APre),
+    instr!(Jmp.A BPost, APost),
+    instr!(Jmz.B Immediate, Immediate),
+    instr!(Jmn.AB Direct, Direct),
+    instr!(Djn.BA AIndirect, AIndirect),
+    instr!(Seq.F BIndirect, BIndirect),
+    instr!(Sne.X APre, APre),
+    instr!(Slt.I BPre, BPre),
+    instr!(Spl.A APost, APost),
+    instr!(Nop.B BPost, BPost),
 ];
 
-/// The instructions of these rows.
-fn code_of(alloc: Global, rows: &[Named]) -> Result<Vec<Instr>, AllocError> {
-    let mut code = Vec::new(alloc);
-    for (op, modifier, a_mode, b_mode, _) in rows {
-        code.push(instr(*op, *modifier, *a_mode, 1, *b_mode, 98))?;
-    }
-    Ok(code)
-}
-
 /// The load text that is due for them.
-fn lines_of(alloc: Global, rows: &[Named]) -> Result<String, AllocError> {
-    let mut text = String::from_str(alloc, "ORG 15\n")?;
-    for (_, _, _, _, line) in rows {
-        text.push_str(line)?;
-    }
-    text.push_str("END\n")?;
-    Ok(text)
-}
+const NAMES_PRINTED: &str = "ORG 15
+DAT.A  #     1, $    -2
+MOV.B  *     1, @    -2
+ADD.AB {     1, <    -2
+SUB.BA }     1, >    -2
+MUL.F  $     1, #    -2
+DIV.X  @     1, *    -2
+MOD.I  <     1, {    -2
+JMP.A  >     1, }    -2
+JMZ.B  #     1, #    -2
+JMN.AB $     1, $    -2
+DJN.BA *     1, *    -2
+SEQ.F  @     1, @    -2
+SNE.X  {     1, {    -2
+SLT.I  <     1, <    -2
+SPL.A  }     1, }    -2
+NOP.B  >     1, >    -2
+END
+";
 
 #[test]
 fn every_name_is_printed(rt: HostRuntime) {
-    let code = code_of(rt.alloc(), &NAMES).expect(&rt, "there is memory");
-    let want = lines_of(rt.alloc(), &NAMES).expect(&rt, "there is memory");
     assert_eq!(rt;
-        text_of(&rt, 100, 15, code.as_slice()).as_slice(),
-        want.as_bytes()
+        text_of(&rt, 100, 15, &NAMES).as_slice(),
+        NAMES_PRINTED.as_bytes()
     );
 }

@@ -1,27 +1,9 @@
 //! Sources that are refused, with the line and the kind.
 
-use crate::sources::{defaults, printed};
+use crate::sources::{check_rows, defaults, source_of};
 use redcode_asm::assemble;
 use std::process::Abort;
 use war_types::AsmKind;
-
-/// A source that is refused so.
-fn check_refused(rt: &(impl Abort + AllocGlobal), source: &str, refusal: &str) {
-    match printed(rt.alloc(), source.as_bytes(), &defaults(rt)) {
-        Ok(_) => assert!(rt; false, "{source:?} is accepted"),
-        Err(fault) => {
-            let found = format!(in rt.alloc(); "{fault}").expect(rt, "there is memory");
-            assert_eq!(rt; found.as_str(), refusal, "{source:?}");
-        }
-    }
-}
-
-/// Sources that are refused, each with how.
-fn check_rows(rt: &(impl Abort + AllocGlobal), rows: &[(&'static str, &'static str)]) {
-    for (source, refusal) in rows {
-        check_refused(rt, source, refusal);
-    }
-}
 
 /// Each refusal with a smallest source that earns it, as the document of the language has them; those of many lines are
 /// among the limits.
@@ -160,11 +142,14 @@ const CHAIN: &str =
     "y0 EQU y1\ny1 EQU y2\ny2 EQU y3\ny3 EQU y4\ny4 EQU y5\ny5 EQU y6\ny6 EQU y7\ny7 EQU y8\ny8 EQU y9\ny9 EQU y10\ny10 EQU y11\ny11 EQU y12\ny12 EQU y13\ny13 EQU y14\ny14 EQU y15\n";
 
 /// Each of 8 names is twice the next one, and the last is 1.
-const DOUBLE: &str =
+pub(crate) const DOUBLE: &str =
     "x0 EQU x1+x1\nx1 EQU x2+x2\nx2 EQU x3+x3\nx3 EQU x4+x4\nx4 EQU x5+x5\nx5 EQU x6+x6\nx6 EQU x7+x7\nx7 EQU x8+x8\nx8 EQU 1\n";
 
-/// Lines with a chain of names, with doublings or with a name that stands for itself, those behind them, and the B-number of the first instruction, or the refusal.
-const ROUNDS: [(&str, &str, Result<u16, (u32, AsmKind)>); 5] = [
+/// Lines with a chain of names, with doublings or with a name that stands for itself, those behind them, and the B-number of the first
+/// instruction, or the refusal.
+type Round = (&'static str, &'static str, Result<u16, (u32, AsmKind)>);
+
+const ROUNDS: [Round; 5] = [
     (CHAIN, "y15 EQU 7\nDAT y0", Ok(7)),
     (
         CHAIN,
@@ -184,18 +169,17 @@ fn first_number(rt: &(impl Abort + AllocGlobal), source: &[u8]) -> Result<u16, (
     }
 }
 
+fn check_round(rt: &(impl Abort + AllocGlobal), round: &Round) {
+    let (lines, others, answer) = *round;
+    let source = source_of(rt, lines, others, 1, "");
+    let found = first_number(rt, source.as_bytes());
+    assert_eq!(rt; found, answer, "{others:?}");
+}
+
 /// Chains of names are followed 16 deep, and doublings up to 512 tokens. A name that nothing uses is not followed.
 #[test]
 fn rounds_of_replacement(rt: HostRuntime) {
-    for (lines, others, answer) in ROUNDS {
-        let mut source = Vec::from_slice(rt.alloc(), lines.as_bytes()).expect(
-            &rt,
-            "there is memory",
-        );
-        source
-            .extend_from_slice(others.as_bytes())
-            .expect(&rt, "there is memory");
-        let found = first_number(&rt, source.as_slice());
-        assert_eq!(rt; found, answer, "{others:?}");
+    for round in &ROUNDS {
+        check_round(&rt, round);
     }
 }

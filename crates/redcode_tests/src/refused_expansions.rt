@@ -1,30 +1,24 @@
 //! Sources that can't be written out, with the line and the kind, and the limits of what is written out, on both sides.
 
 use crate::expansion::defaults;
-use crate::long_tests::source_of;
+use crate::sources::source_of;
 use bumpalo::Bump;
 use redcode_expand::expand;
 use std::process::Abort;
 use war_types::{AsmFault, AsmKind, ExprFault};
 
-fn fault_of(rt: &(impl Abort + AllocGlobal), source: &[u8]) -> Option<AsmFault> {
-    let settings = defaults(rt);
+/// A source is refused so, or is written out.
+fn check_fault(rt: &(impl Abort + AllocGlobal), source: &[u8], fault: Option<AsmFault>) {
     let region = Bump::new(rt.alloc());
-    match expand(rt.alloc(), &region, source, &settings) {
-        Ok(_) => None,
-        Err(fault) => Some(fault),
-    }
-}
-
-/// A source that is refused on this line, for this.
-fn check_refused(rt: &(impl Abort + AllocGlobal), source: &[u8], line: u32, kind: AsmKind) {
-    assert_eq!(rt; fault_of(rt, source), Some(AsmFault { line, kind }));
+    let found = expand(rt.alloc(), &region, source, &defaults(rt)).err();
+    assert_eq!(rt; found, fault);
 }
 
 /// Sources that are refused, each with the line and the kind.
 fn check_rows(rt: &(impl Abort + AllocGlobal), rows: &[(&'static [u8], u32, AsmKind)]) {
     for (source, line, kind) in rows {
-        check_refused(rt, source, *line, *kind);
+        let (line, kind) = (*line, *kind);
+        check_fault(rt, source, Some(AsmFault { line, kind }));
     }
 }
 
@@ -47,8 +41,8 @@ const REFUSALS: [(&[u8], u32, AsmKind); 12] = [
 #[test]
 fn refusals(rt: HostRuntime) {
     check_rows(&rt, &REFUSALS);
-    assert_eq!(rt; fault_of(&rt, b"END\nx EQU 1\nROF\nx\nx"), None);
-    assert_eq!(rt; fault_of(&rt, b"FOR\nx\n;redcode\nx\n;redcode"), None);
+    check_fault(&rt, b"END\nx EQU 1\nROF\nx\nx", None);
+    check_fault(&rt, b"FOR\nx\n;redcode\nx\n;redcode", None);
 }
 
 /// Blocks that are refused, with the line and the kind.
@@ -124,8 +118,8 @@ const LIMITED: [Limited; 6] = [
 /// Such a source is refused so, or not.
 fn check_limited(rt: &(impl Abort + AllocGlobal), limited: &Limited) {
     let (head, part, count, behind, refusal) = *limited;
-    let source = source_of(rt.alloc(), head, part, count, behind).expect(rt, "there is memory");
-    assert_eq!(rt; fault_of(rt, source.as_slice()), refusal);
+    let source = source_of(rt, head, part, count, behind);
+    check_fault(rt, source.as_bytes(), refusal);
 }
 
 #[test]

@@ -1,71 +1,91 @@
 //! Sources and the load text or the titles that they give.
 
 use redcode_asm::{assemble, load_text};
-use std::alloc::{AllocError, Global};
 use std::process::Abort;
-use war_types::{AsmFault, AsmKind, RawSettings, Settings};
+use war_types::{AsmKind, RawSettings, Settings};
+
+/// The settings of most sources.
+pub(crate) const DEFAULTS: RawSettings = RawSettings {
+    core: 8000,
+    cycles: 80_000,
+    processes: 8000,
+    length: 100,
+    distance: 100,
+    rounds: 10,
+    seed: 1,
+    capacity: 20,
+    read_limit: 0,
+    write_limit: 0,
+};
 
 pub(crate) fn defaults(rt: &impl Abort) -> Settings {
-    with_length(rt, 100)
+    Settings::new(DEFAULTS).expect(rt, "they are settings")
 }
 
 /// Settings of warriors that may have so many instructions, and lie that far apart.
 pub(crate) fn with_length(rt: &impl Abort, length: u32) -> Settings {
     Settings::new(RawSettings {
-        core: 8000,
-        cycles: 80_000,
-        processes: 8000,
         length,
         distance: length,
-        rounds: 10,
-        seed: 1,
-        capacity: 20,
-        read_limit: 0,
-        write_limit: 0,
+        ..DEFAULTS
     })
     .expect(rt, "they are settings")
 }
 
-/// The load text of what a source gives.
-pub(crate) fn printed(
-    alloc: Global,
+/// A head, so many times a part, and a tail.
+pub(crate) fn source_of(
+    rt: &(impl Abort + AllocGlobal),
+    head: &str,
+    part: &str,
+    count: usize,
+    tail: &str,
+) -> String {
+    let parts = part.repeat(rt.alloc(), count).expect(rt, "there is memory");
+    format!(in rt.alloc(); "{head}{parts}{tail}").expect(rt, "there is memory")
+}
+
+/// How many instructions a source gives, or its refusal.
+pub(crate) fn assembled(
+    rt: &(impl Abort + AllocGlobal),
     source: &[u8],
     settings: &Settings,
-) -> Result<Vec<u8>, AsmFault> {
-    let warrior = assemble(alloc, source, settings)?;
-    Ok(load_text(alloc, &warrior, settings.core())?)
-}
-
-pub(crate) fn repeated(alloc: Global, line: &[u8], count: usize) -> Result<Vec<u8>, AllocError> {
-    let mut source = Vec::new(alloc);
-    for _ in 0..count {
-        source.extend_from_slice(line)?;
-    }
-    Ok(source)
-}
-
-/// A source that gives this load text.
-fn check_printed(rt: &(impl Abort + AllocGlobal), source: &str, text: &str) {
-    match printed(rt.alloc(), source.as_bytes(), &defaults(rt)) {
-        Ok(found) => assert_eq!(rt; found.as_slice(), text.as_bytes(), "{source:?}"),
-        Err(fault) => assert!(rt; false, "{source:?}: {fault}"),
+) -> Result<usize, (u32, AsmKind)> {
+    match assemble(rt.alloc(), source, settings) {
+        Ok(warrior) => Ok(warrior.code().len()),
+        Err(fault) => Err((fault.line, fault.kind)),
     }
 }
 
-/// Sources, each with its load text.
-fn check_rows(rt: &(impl Abort + AllocGlobal), rows: &[(&'static str, &'static str)]) {
-    for (source, text) in rows {
-        check_printed(rt, source, text);
+/// The load text that a source gives, or its refusal as text.
+fn answer(rt: &(impl Abort + AllocGlobal), source: &[u8], settings: &Settings) -> Vec<u8> {
+    match assemble(rt.alloc(), source, settings) {
+        Ok(warrior) => {
+            load_text(rt.alloc(), &warrior, settings.core()).expect(rt, "there is memory")
+        }
+        Err(fault) => format!(in rt.alloc(); "{fault}")
+            .expect(rt, "there is memory")
+            .into_bytes(),
     }
 }
 
-/// Whether a source's warrior has this name and this author.
-fn has_titles(rt: &(impl Abort + AllocGlobal), source: &str, name: &str, author: &str) -> bool {
-    let warrior = assemble(rt.alloc(), source.as_bytes(), &defaults(rt)).expect(
-        rt,
-        "there is memory",
-    );
-    warrior.name().bytes() == name.as_bytes() && warrior.author().bytes() == author.as_bytes()
+/// A source gives this load text, or is refused so.
+pub(crate) fn check_answer(
+    rt: &(impl Abort + AllocGlobal),
+    source: &str,
+    due: &str,
+    settings: &Settings,
+) {
+    let found = answer(rt, source.as_bytes(), settings);
+    let text = str::from_utf8(found.as_slice()).expect(rt, "it is text");
+    assert_eq!(rt; text, due, "{source:?}");
+}
+
+/// Sources, each with its load text or how it is refused.
+pub(crate) fn check_rows(rt: &(impl Abort + AllocGlobal), rows: &[(&'static str, &'static str)]) {
+    let settings = defaults(rt);
+    for (source, due) in rows {
+        check_answer(rt, source, due, &settings);
+    }
 }
 
 /// Labels, a start by a label, and a bomb thrown through one.
@@ -194,6 +214,12 @@ const TITLES: [(&str, &str, &str); 5] = [
     ),
 ];
 
+/// Whether a source's warrior has this name and this author.
+fn has_titles(rt: &(impl Abort + AllocGlobal), source: &str, name: &str, author: &str) -> bool {
+    let warrior = assemble(rt.alloc(), source.as_bytes(), &defaults(rt)).expect(rt, "it is one");
+    warrior.name().bytes() == name.as_bytes() && warrior.author().bytes() == author.as_bytes()
+}
+
 /// A source whose warrior has this name and this author.
 fn check_titles(rt: &(impl Abort + AllocGlobal), source: &str, name: &str, author: &str) {
     assert!(rt; has_titles(rt, source, name, author), "{source:?}");
@@ -206,21 +232,14 @@ fn titles(rt: HostRuntime) {
     }
 }
 
-/// Whether assembling a source lacks memory.
-fn lacks_memory(alloc: Global, source: &[u8], settings: &Settings) -> bool {
-    match assemble(alloc, source, settings) {
-        Ok(_) => false,
-        Err(fault) => matches!(fault.kind, AsmKind::Memory),
-    }
-}
-
 /// No prefix of a source lacks memory.
 fn check_prefixes(rt: &(impl Abort + AllocGlobal), source: &str) {
     let settings = defaults(rt);
     let bytes = source.as_bytes();
     for end in 0..bytes.len() {
+        let found = assembled(rt, &bytes[..end], &settings);
         assert!(rt;
-            !lacks_memory(rt.alloc(), &bytes[..end], &settings),
+            !matches!(found, Err((_, AsmKind::Memory))),
             "{source:?} up to {end}"
         );
     }

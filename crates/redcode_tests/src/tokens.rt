@@ -1,11 +1,20 @@
 //! Lines, their tokens, and what expressions come to.
 
-ghost use Rattle.std.specs.Prelude.{◌≤◌, length};
-
+use crate::sources::source_of;
 use redcode_text::{Names, Token, TokenKind, scan, value};
-use std::alloc::{AllocError, Global};
+use std::alloc::Allocator;
 use std::process::Abort;
 use war_types::ExprFault;
+
+/// The tokens of a line. A function without clauses, so that the proof of a test carries none of `scan` along.
+pub(crate) fn tokens_of<'l, A: Allocator + Copy>(
+    rt: &impl Abort,
+    alloc: A,
+    line: &'l [u8],
+) -> Vec<Token<'l>, A> {
+    assert!(rt; line.len() <= 65536);
+    scan(alloc, line).expect(rt, "there is memory")
+}
 
 pub(crate) type Row = (TokenKind, &'static [u8], u32);
 
@@ -36,40 +45,40 @@ pub(crate) const MOVED: [Row; 10] = [
     (TokenKind::Comment, b";c", 14),
 ];
 
-#[test]
-fn tokens_and_their_places(rt: HostRuntime) {
-    let tokens = scan(rt.alloc(), b"MOV.I #-1,>x2 ;c").expect(&rt, "there is memory");
-    assert!(rt; gives(&tokens, &MOVED));
+/// A line has these tokens.
+fn check_tokens(rt: &(impl Abort + AllocGlobal), line: &[u8], rows: &[Row]) {
+    let tokens = tokens_of(rt, rt.alloc(), line);
+    assert!(rt; gives(tokens.as_slice(), rows));
 }
 
 #[test]
+fn tokens_and_their_places(rt: HostRuntime) {
+    check_tokens(&rt, b"MOV.I #-1,>x2 ;c", &MOVED);
+}
+
+/// The tokens of `\t<==&&&|||=1_a\n`.
+const LONGEST: [Row; 10] = [
+    (TokenKind::Symbol, b"<=", 1),
+    (TokenKind::Bad, b"=", 3),
+    (TokenKind::Symbol, b"&&", 4),
+    (TokenKind::Symbol, b"&", 6),
+    (TokenKind::Symbol, b"||", 7),
+    (TokenKind::Bad, b"|", 9),
+    (TokenKind::Bad, b"=", 10),
+    (TokenKind::Number, b"1", 11),
+    (TokenKind::Name, b"_a", 12),
+    (TokenKind::Bad, b"\n", 14),
+];
+
+#[test]
 fn longest_symbols_and_bad_bytes(rt: HostRuntime) {
-    let tokens = scan(rt.alloc(), b"\t<==&&&|||=1_a\n").expect(&rt, "there is memory");
-    let rows: [Row; 10] = [
-        (TokenKind::Symbol, b"<=", 1),
-        (TokenKind::Bad, b"=", 3),
-        (TokenKind::Symbol, b"&&", 4),
-        (TokenKind::Symbol, b"&", 6),
-        (TokenKind::Symbol, b"||", 7),
-        (TokenKind::Bad, b"|", 9),
-        (TokenKind::Bad, b"=", 10),
-        (TokenKind::Number, b"1", 11),
-        (TokenKind::Name, b"_a", 12),
-        (TokenKind::Bad, b"\n", 14),
-    ];
-    assert!(rt; gives(&tokens, &rows));
+    check_tokens(&rt, b"\t<==&&&|||=1_a\n", &LONGEST);
 }
 
 #[test]
 fn lines_without_tokens(rt: HostRuntime) {
-    let lines: [&[u8]; 2] = [b"", b" \t\r "];
-    for line in lines {
-        assert!(rt;
-            scan(rt.alloc(), line)
-                .expect(&rt, "there is memory")
-                .is_empty()
-        );
-    }
+    check_tokens(&rt, b"", &[]);
+    check_tokens(&rt, b" \t\r ", &[]);
 }
 
 /// Each name has one value, or none has any.
@@ -86,36 +95,16 @@ impl Names for Same {
     }
 }
 
-fn value_of_line(
-    alloc: Global,
-    line: &[u8],
-    known: Option<i64>,
-) -> Result<Result<i64, ExprFault>, AllocError>
-    requires { length line.now ≤ 65536 }
-{
-    let tokens = scan(alloc, line)?;
-    Ok(value(&tokens, &Same { value: known }))
-}
-
-/// An expression that comes to this where each name has the value that is known, if one is.
+/// An expression comes to this where each name has the value that is known, if one is.
 fn check_value(
     rt: &(impl Abort + AllocGlobal),
     line: &[u8],
     known: Option<i64>,
     wanted: Result<i64, ExprFault>,
 ) {
-    assert!(rt; line.len() <= 65536);
-    assert_eq!(rt;
-        value_of_line(rt.alloc(), line, known).expect(rt, "there is memory"),
-        wanted
-    );
-}
-
-/// Expressions in which no name is known, each with what it comes to.
-fn check_rows(rt: &(impl Abort + AllocGlobal), rows: &[(&'static [u8], Result<i64, ExprFault>)]) {
-    for (line, wanted) in rows {
-        check_value(rt, line, None, *wanted);
-    }
+    let tokens = tokens_of(rt, rt.alloc(), line);
+    let found = value(tokens.as_slice(), &Same { value: known });
+    assert_eq!(rt; found, wanted);
 }
 
 /// Expressions without a name that is known, and what each comes to.
@@ -142,27 +131,21 @@ const VALUES: [(&[u8], Result<i64, ExprFault>); 18] = [
 
 #[test]
 fn values_and_faults(rt: HostRuntime) {
-    check_rows(&rt, &VALUES);
+    for (line, wanted) in &VALUES {
+        check_value(&rt, line, None, *wanted);
+    }
     check_value(&rt, b"x*x-1", Some(7), Ok(48));
 }
 
-/// A number within so many parentheses.
-fn nested(alloc: Global, depth: usize) -> Result<Vec<u8>, AllocError> {
-    let mut line = Vec::new(alloc);
-    for _ in 0..depth {
-        line.push(b'(')?;
-    }
-    line.push(b'7')?;
-    for _ in 0..depth {
-        line.push(b')')?;
-    }
-    Ok(line)
+/// A number within so many parentheses comes to this.
+fn check_nested(rt: &(impl Abort + AllocGlobal), depth: usize, wanted: Result<i64, ExprFault>) {
+    let opened = source_of(rt, "", "(", depth, "7");
+    let line = source_of(rt, opened.as_str(), ")", depth, "");
+    check_value(rt, line.as_bytes(), None, wanted);
 }
 
 #[test]
 fn parentheses_up_to_64_deep(rt: HostRuntime) {
-    let deepest = nested(rt.alloc(), 64).expect(&rt, "there is memory");
-    check_value(&rt, &deepest, None, Ok(7));
-    let deeper = nested(rt.alloc(), 65).expect(&rt, "there is memory");
-    check_value(&rt, &deeper, None, Err(ExprFault::BadExpression));
+    check_nested(&rt, 64, Ok(7));
+    check_nested(&rt, 65, Err(ExprFault::BadExpression));
 }

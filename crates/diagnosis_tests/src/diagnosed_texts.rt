@@ -1,28 +1,45 @@
 //! The text and the JSON of refusals, and sources with several faults.
 
-use crate::sources::{defaults, repeated};
-use redcode_diagnosis::{diagnose, json_of, text_of};
-use std::alloc::{AllocError, Global};
+use crate::diagnoses::refusals;
+use redcode_diagnosis::{Diagnosis, json_of, text_of};
+use std::alloc::Global;
 use std::process::Abort;
-use std::test::Fail;
-use war_types::Settings;
 
-/// The refusals of a source as text.
-fn texts(alloc: Global, source: &[u8], settings: &Settings) -> Result<Vec<u8>, AllocError> {
-    let mut texts = Vec::new(alloc);
-    for told in &diagnose(alloc, source, settings)? {
-        texts.extend_from_slice(text_of(alloc, b"a.red", source, told)?.as_slice())?;
-    }
-    Ok(texts)
+/// How refusals are written.
+#[derive(Clone, Copy)]
+enum Form {
+    Text,
+    Json,
 }
 
-/// The refusals of a source as JSON.
-fn objects(alloc: Global, source: &[u8], settings: &Settings) -> Result<Vec<u8>, AllocError> {
-    let mut objects = Vec::new(alloc);
-    for told in &diagnose(alloc, source, settings)? {
-        objects.extend_from_slice(json_of(alloc, b"a.red", source, told)?.as_slice())?;
+/// A refusal in this form.
+fn written(
+    rt: &(impl Abort + AllocGlobal),
+    source: &[u8],
+    told: &Diagnosis<Global>,
+    form: Form,
+) -> Vec<u8> {
+    match form {
+        Form::Text => text_of(rt.alloc(), b"a.red", source, told),
+        Form::Json => json_of(rt.alloc(), b"a.red", source, told),
     }
-    Ok(objects)
+    .expect(rt, "there is memory")
+}
+
+/// The refusals of a source in this form.
+fn all_written(rt: &(impl Abort + AllocGlobal), source: &[u8], form: Form) -> Vec<u8> {
+    let mut all = Vec::new(rt.alloc());
+    for told in &refusals(rt, source) {
+        all.extend_from_slice(written(rt, source, told, form).as_slice())
+            .expect(rt, "there is memory");
+    }
+    all
+}
+
+/// The refusals of a source are written so.
+fn check_written(rt: &(impl Abort + AllocGlobal), source: &[u8], form: Form, want: &[u8]) {
+    let found = all_written(rt, source, form);
+    assert_eq!(rt; found.as_slice(), want, "{source:?}");
 }
 
 /// Sources, with the text of their refusals.
@@ -52,16 +69,10 @@ const TEXTS: [(&[u8], &[u8]); 7] = [
     ),
 ];
 
-/// The refusals of a source have this text.
-fn check_text(rt: &(impl Abort + AllocGlobal), source: &[u8], want: &[u8]) {
-    let found = texts(rt.alloc(), source, &defaults(rt)).expect(rt, "there is memory");
-    assert_eq!(rt; found.as_slice(), want, "{source:?}");
-}
-
 #[test]
 fn texts_of_refusals(rt: HostRuntime) {
     for (source, want) in &TEXTS {
-        check_text(&rt, source, want);
+        check_written(&rt, source, Form::Text, want);
     }
 }
 
@@ -82,32 +93,20 @@ const OBJECTS: [(&[u8], &[u8]); 3] = [
     ),
 ];
 
-/// The refusals of a source have this JSON.
-fn check_json(rt: &(impl Abort + AllocGlobal), source: &[u8], want: &[u8]) {
-    let found = objects(rt.alloc(), source, &defaults(rt)).expect(rt, "there is memory");
-    assert_eq!(rt; found.as_slice(), want, "{source:?}");
-}
-
 #[test]
 fn json_of_refusals(rt: HostRuntime) {
     for (source, want) in &OBJECTS {
-        check_json(&rt, source, want);
+        check_written(&rt, source, Form::Json, want);
     }
 }
 
 /// The lines to blame for a source's faults.
-fn lines(alloc: Global, source: &[u8], settings: &Settings) -> Result<Vec<u32>, AllocError> {
-    let mut lines = Vec::new(alloc);
-    for told in &diagnose(alloc, source, settings)? {
-        lines.push(told.fault.line)?;
+fn lines_of(rt: &(impl Abort + AllocGlobal), source: &[u8]) -> Vec<u32> {
+    let mut lines = Vec::new(rt.alloc());
+    for told in &refusals(rt, source) {
+        lines.push(told.fault.line).expect(rt, "there is memory");
     }
-    Ok(lines)
-}
-
-/// These are the lines to blame for a source's faults.
-fn check_lines(rt: &(impl Abort + AllocGlobal), source: &str, want: &[u32]) {
-    let found = lines(rt.alloc(), source.as_bytes(), &defaults(rt)).expect(rt, "there is memory");
-    assert_eq!(rt; found.as_slice(), want, "{source:?}");
+    lines
 }
 
 /// Sources with several faults, and the lines to blame.
@@ -125,30 +124,30 @@ const FAULTY_LINES: [(&str, &[u32]); 4] = [
 #[test]
 fn several_faults(rt: HostRuntime) {
     for (source, want) in &FAULTY_LINES {
-        check_lines(&rt, source, want);
+        let found = lines_of(&rt, source.as_bytes());
+        assert_eq!(rt; found.as_slice(), *want, "{source:?}");
     }
 }
 
-/// How many refusals so many times a line has.
-fn count_of_refusals(rt: &(impl Abort + AllocGlobal), line: &[u8], count: usize) -> usize {
-    let source = repeated(rt.alloc(), line, count).expect(rt, "there is memory");
-    let found = lines(rt.alloc(), source.as_slice(), &defaults(rt));
-    found.expect(rt, "there is memory").len()
+/// So many times a line.
+fn repeated(rt: &(impl Abort + AllocGlobal), line: &str, count: usize) -> String {
+    line.repeat(rt.alloc(), count).expect(rt, "there is memory")
 }
 
 /// So many times a line has refusals of this text.
-fn check_repeated(rt: &(impl Abort + AllocGlobal), line: &[u8], count: usize, want: &[u8]) {
-    let source = repeated(rt.alloc(), line, count).expect(rt, "there is memory");
-    let found = texts(rt.alloc(), source.as_slice(), &defaults(rt)).expect(rt, "there is memory");
+fn check_repeated(rt: &(impl Abort + AllocGlobal), line: &str, count: usize, want: &[u8]) {
+    let source = repeated(rt, line, count);
+    let found = all_written(rt, source.as_bytes(), Form::Text);
     assert_eq!(rt; found.as_slice(), want);
 }
 
 /// No more than 100 refusals are told, and the numbers of a source or a warrior that is too long.
 #[test]
 fn long_sources(rt: HostRuntime) {
-    assert_eq!(rt; count_of_refusals(&rt, b"DAT x\n", 150), 100);
+    let source = repeated(&rt, "DAT x\n", 150);
+    assert_eq!(rt; refusals(&rt, source.as_bytes()).len(), 100);
     let want = b"a.red:0:1: TooLong: the warrior has 101 instructions, and may have 100\n";
-    check_repeated(&rt, b"DAT 0\n", 101, want);
+    check_repeated(&rt, "DAT 0\n", 101, want);
     let want = b"a.red:0:1: SourceTooLong: the source has 65537 bytes, and may have 65536\n";
-    check_repeated(&rt, b"\n", 65_537, want);
+    check_repeated(&rt, "\n", 65_537, want);
 }

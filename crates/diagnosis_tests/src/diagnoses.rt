@@ -1,26 +1,53 @@
 //! What people are told of sources that are refused, the place and the sentence: of blocks, counts and statements.
 
-use crate::sources::defaults;
-use redcode_diagnosis::diagnose;
+use redcode_diagnosis::{Diagnosis, diagnose};
+use std::alloc::Global;
 use std::process::Abort;
+use war_types::{RawSettings, Settings};
 
-/// The refusals of a source, each as its line, column and width, its kind and its sentence.
-fn told(rt: &(impl Abort + AllocGlobal), source: &[u8]) -> String {
-    let mut lines = String::new(rt.alloc());
-    for told in &diagnose(rt.alloc(), source, &defaults(rt)).expect(rt, "there is memory") {
-        let fault = told.fault;
-        let sentence = str::from_utf8(told.sentence.as_slice()).expect(rt, "there is memory");
-        let (line, column, width, kind) = (fault.line, told.column, told.width, fault.kind);
-        writeln!(lines, "{line}:{column}+{width} {kind}: {sentence}").expect(rt, "there is memory");
-    }
-    lines
+/// The settings under which sources are refused.
+const DEFAULTS: RawSettings = RawSettings {
+    core: 8000,
+    cycles: 80_000,
+    processes: 8000,
+    length: 100,
+    distance: 100,
+    rounds: 10,
+    seed: 1,
+    capacity: 20,
+    read_limit: 0,
+    write_limit: 0,
+};
+
+/// The refusals of a source. A function without clauses, so that the proof of a test carries none of `diagnose` along.
+pub(crate) fn refusals(rt: &(impl Abort + AllocGlobal), source: &[u8]) -> Vec<Diagnosis<Global>> {
+    let settings = Settings::new(DEFAULTS).expect(rt, "they are settings");
+    diagnose(rt.alloc(), source, &settings).expect(rt, "there is memory")
+}
+
+/// A refusal as its line, column and width, its kind and its sentence.
+fn line_of(rt: &(impl Abort + AllocGlobal), told: &Diagnosis<Global>) -> String {
+    let fault = told.fault;
+    let sentence = str::from_utf8(told.sentence.as_slice()).expect(rt, "it is text");
+    let (line, column, width, kind) = (fault.line, told.column, told.width, fault.kind);
+    format!(in rt.alloc(); "{line}:{column}+{width} {kind}: {sentence}").expect(
+        rt,
+        "there is memory",
+    )
+}
+
+/// A source is refused once, and this is told of it.
+fn check_refusal(rt: &(impl Abort + AllocGlobal), source: &str, want: &str) {
+    let all = refusals(rt, source.as_bytes());
+    assert_eq!(rt; all.len(), 1, "{source:?}");
+    let found = line_of(rt, &all[0]);
+    assert_eq!(rt; found.as_str(), want, "{source:?}");
 }
 
 /// Sources that are refused once, each with what is told of it.
 pub(crate) fn check_told(rt: &(impl Abort + AllocGlobal), rows: &[(&'static str, &'static str)]) {
     for (source, want) in rows {
-        let found = told(rt, source.as_bytes());
-        assert_eq!(rt; found.as_str().trim_ascii_end(), *want, "{source:?}");
+        check_refusal(rt, source, want);
     }
 }
 
