@@ -1,9 +1,38 @@
-//! Those who call at sockets of no system.
+//! What peers and browsers do, and those of them who call at sockets of no system.
 
 ghost use Rattle.koth_service.specs.Noted.{CameWithin, WentWithin};
 
 use koth_service::{Came, Drained, Went};
 use std::alloc::Global;
+
+/// At which millisecond something is done, and what.
+pub(crate) type Cue = (u64, Deed);
+
+/// What peers do. Each of them is named by the port that it calls from.
+#[derive(Clone, Copy)]
+pub(crate) enum Deed {
+    /// It connects.
+    Calls(u16),
+    /// It connects as a browser.
+    Visits(u16),
+    /// Bytes of it come.
+    Says(u16, &'static str),
+    /// It says the same so many times.
+    Repeats(u16, &'static str, u32),
+    /// Its bytes are at their end.
+    Ends(u16),
+    /// It is gone.
+    Resets(u16),
+    /// It takes so many bytes more of its answers.
+    Takes(u16, usize),
+    /// The next accept of a peer fails.
+    Fails,
+    /// The next accept of a browser fails.
+    FailsBrowser,
+}
+
+/// Bytes that a read takes at most.
+const PIECE: usize = 4096;
 
 /// A peer or a browser, from its call on.
 #[derive(Drop)]
@@ -12,20 +41,17 @@ pub(crate) struct Caller {
     pub(crate) is_browser: bool,
     pub(crate) number: Option<usize>,
     pub(crate) waits: bool,
-    pub(crate) coming: Vec<u8>,
-    /// How many of these bytes were read, and how many a read takes at most.
+    coming: Vec<u8>,
+    /// How many of these bytes were read.
     read: usize,
-    pub(crate) piece: usize,
-    pub(crate) has_ended: bool,
-    pub(crate) is_gone: bool,
+    has_ended: bool,
+    is_gone: bool,
     /// How many bytes it takes still.
-    pub(crate) takes: usize,
+    takes: usize,
     /// What went out to it.
     pub(crate) heard: Vec<u8>,
-    /// When its socket was shut and closed.
-    pub(crate) shut: Option<u64>,
+    /// When its connection was closed.
     pub(crate) closed: Option<u64>,
-    pub(crate) thrown: usize,
 }
 
 impl Caller {
@@ -38,14 +64,29 @@ impl Caller {
             waits: true,
             coming: Vec::new(alloc),
             read: 0,
-            piece: 4096,
             has_ended: false,
             is_gone: false,
             takes: 0,
             heard: Vec::new(alloc),
-            shut: None,
             closed: None,
-            thrown: 0,
+        }
+    }
+
+    /// It does this. What is done before it is there is no deed of it.
+    pub(crate) fn act(&mut self, deed: Deed) {
+        match deed {
+            Deed::Says(_, text) => self.say(text, 1),
+            Deed::Repeats(_, text, times) => self.say(text, times),
+            Deed::Ends(_) => self.has_ended = true,
+            Deed::Resets(_) => self.is_gone = true,
+            Deed::Takes(_, count) => self.takes = self.takes.saturating_add(count),
+            Deed::Calls(_) | Deed::Visits(_) | Deed::Fails | Deed::FailsBrowser => {}
+        }
+    }
+
+    fn say(&mut self, text: &str, times: u32) {
+        for _ in 0..times {
+            let _ = self.coming.extend_from_slice(text.as_bytes());
         }
     }
 
@@ -58,7 +99,7 @@ impl Caller {
         let Some(coming) = self.coming.get(self.read..) else {
             return Came::Gone;
         };
-        let count = coming.len().min(self.piece).min(bytes.len());
+        let count = coming.len().min(PIECE).min(bytes.len());
         if count > 0 {
             bytes[..count].copy_from_slice(&coming[..count]);
             self.read = self.read.saturating_add(count);
@@ -89,10 +130,7 @@ impl Caller {
     pub(crate) fn waste(&mut self) -> Drained {
         let mut chunk = [0; 4096];
         match self.give(&mut chunk) {
-            Came::Bytes(count) => {
-                self.thrown = self.thrown.saturating_add(count);
-                Drained::Bytes(count)
-            }
+            Came::Bytes(count) => Drained::Bytes(count),
             Came::Nothing => Drained::Nothing,
             Came::End | Came::Gone => Drained::End,
         }

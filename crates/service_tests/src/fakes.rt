@@ -2,38 +2,10 @@
 
 ghost use Rattle.std.specs.Prelude.{⊤};
 
-use crate::callers::Caller;
+use crate::callers::{Caller, Cue, Deed};
 use koth_service::{Arrival, Came, Drained, Sockets, Went};
 use std::alloc::Global;
 use std::net::{Ipv4Addr, SocketAddr};
-
-/// At which millisecond something is done, and what.
-pub(crate) type Cue = (u64, Deed);
-
-/// What peers do. Each of them is named by the port that it calls from.
-#[derive(Clone, Copy)]
-pub(crate) enum Deed {
-    /// It connects.
-    Calls(u16),
-    /// It connects as a browser.
-    Visits(u16),
-    /// Bytes of it come.
-    Says(u16, &'static str),
-    /// It says the same so many times.
-    Repeats(u16, &'static str, u32),
-    /// From now on a read takes so many of its bytes at most.
-    Trickles(u16, usize),
-    /// Its bytes are at their end.
-    Ends(u16),
-    /// It is gone.
-    Resets(u16),
-    /// It takes so many bytes more of its answers.
-    Takes(u16, usize),
-    /// The next accept of a peer fails.
-    Fails,
-    /// The next accept of a browser fails.
-    FailsBrowser,
-}
 
 /// Sockets on which these cues happen.
 #[derive(Drop)]
@@ -44,8 +16,7 @@ pub(crate) struct Fakes<'c> {
     fails: usize,
     browser_fails: usize,
     accepted: usize,
-    pub(crate) waits: u64,
-    pub(crate) callers: Vec<Caller>,
+    callers: Vec<Caller>,
 }
 
 impl<'c> Fakes<'c> {
@@ -57,7 +28,6 @@ impl<'c> Fakes<'c> {
             fails: 0,
             browser_fails: 0,
             accepted: 0,
-            waits: 0,
             callers: Vec::new(alloc),
         }
     }
@@ -68,26 +38,18 @@ impl<'c> Fakes<'c> {
     }
 
     fn caller_mut(&mut self, port: u16) -> Option<&mut Caller> {
-        for caller in &mut self.callers {
-            if caller.port == port {
-                return Some(caller);
-            }
-        }
-        None
+        let place = self.callers.iter().position(|caller| caller.port == port)?;
+        self.callers.get_mut(place)
     }
 
-    fn seated(&mut self, number: usize) -> Option<&mut Caller> {
-        self.seated_as(false, number)
-    }
-
-    fn seated_as(&mut self, is_browser: bool, number: usize) -> Option<&mut Caller> {
-        for caller in &mut self.callers {
-            let is_kind = caller.is_browser == is_browser;
-            if is_kind && caller.number == Some(number) && caller.closed.is_none() {
-                return Some(caller);
-            }
-        }
-        None
+    /// The peer or the browser that is there under this number.
+    fn seated(&mut self, is_browser: bool, number: usize) -> Option<&mut Caller> {
+        let place = self.callers.iter().position(|caller| {
+            caller.is_browser == is_browser
+                && caller.number == Some(number)
+                && caller.closed.is_none()
+        })?;
+        self.callers.get_mut(place)
     }
 
     /// What is due by now happens.
@@ -109,30 +71,20 @@ impl<'c> Fakes<'c> {
         match deed {
             Deed::Calls(port) => self.call(port, false),
             Deed::Visits(port) => self.call(port, true),
-            Deed::Says(port, text) => self.say(port, text, 1),
-            Deed::Repeats(port, text, times) => self.say(port, text, times),
-            Deed::Trickles(port, count) => {
-                if let Some(caller) = self.caller_mut(port) {
-                    caller.piece = count;
-                }
-            }
-            Deed::Ends(port) => {
-                if let Some(caller) = self.caller_mut(port) {
-                    caller.has_ended = true;
-                }
-            }
-            Deed::Resets(port) => {
-                if let Some(caller) = self.caller_mut(port) {
-                    caller.is_gone = true;
-                }
-            }
-            Deed::Takes(port, count) => {
-                if let Some(caller) = self.caller_mut(port) {
-                    caller.takes = caller.takes.saturating_add(count);
-                }
-            }
             Deed::Fails => self.fails = self.fails.saturating_add(1),
             Deed::FailsBrowser => self.browser_fails = self.browser_fails.saturating_add(1),
+            Deed::Says(port, _)
+            | Deed::Repeats(port, _, _)
+            | Deed::Ends(port)
+            | Deed::Resets(port)
+            | Deed::Takes(port, _) => self.act_as(port, deed),
+        }
+    }
+
+    /// The caller from this port does this.
+    fn act_as(&mut self, port: u16, deed: Deed) {
+        if let Some(caller) = self.caller_mut(port) {
+            caller.act(deed);
         }
     }
 
@@ -157,14 +109,6 @@ impl<'c> Fakes<'c> {
             .iter()
             .position(|caller| caller.waits && caller.is_browser == is_browser)
     }
-
-    fn say(&mut self, port: u16, text: &'static str, times: u32) {
-        if let Some(caller) = self.caller_mut(port) {
-            for _ in 0..times {
-                let _ = caller.coming.extend_from_slice(text.as_bytes());
-            }
-        }
-    }
 }
 
 impl Sockets for Fakes<'_> {
@@ -176,7 +120,6 @@ impl Sockets for Fakes<'_> {
 
     /// The time goes on to the next cue, or by as much as may be waited.
     fn wait(&mut self, most: u64) {
-        self.waits = self.waits.saturating_add(1);
         let until = match self.cues.first() {
             Some((at, _)) => at.saturating_sub(self.time),
             None => most,
@@ -210,28 +153,23 @@ impl Sockets for Fakes<'_> {
     }
 
     fn read(&mut self, number: usize, bytes: &mut [u8]) -> Came {
-        match self.seated(number) {
+        match self.seated(false, number) {
             Some(caller) => caller.give(bytes),
             None => Came::Gone,
         }
     }
 
     fn write(&mut self, number: usize, bytes: &[u8]) -> Went {
-        match self.seated(number) {
+        match self.seated(false, number) {
             Some(caller) => caller.hear(bytes),
             None => Went::Gone,
         }
     }
 
-    fn shut(&mut self, number: usize) {
-        let time = self.time;
-        if let Some(caller) = self.seated(number) {
-            caller.shut = Some(time);
-        }
-    }
+    fn shut(&mut self, _number: usize) {}
 
     fn drain(&mut self, number: usize) -> Drained {
-        match self.seated(number) {
+        match self.seated(false, number) {
             Some(caller) => caller.waste(),
             None => Drained::End,
         }
@@ -239,7 +177,7 @@ impl Sockets for Fakes<'_> {
 
     fn close(&mut self, number: usize) {
         let time = self.time;
-        if let Some(caller) = self.seated(number) {
+        if let Some(caller) = self.seated(false, number) {
             caller.closed = Some(time);
         }
     }
@@ -259,29 +197,24 @@ impl Sockets for Fakes<'_> {
     }
 
     fn read_browser(&mut self, number: usize, bytes: &mut [u8]) -> Came {
-        match self.seated_as(true, number) {
+        match self.seated(true, number) {
             Some(caller) => caller.give(bytes),
             None => Came::Gone,
         }
     }
 
     fn write_browser(&mut self, number: usize, bytes: &[u8]) -> Went {
-        match self.seated_as(true, number) {
+        match self.seated(true, number) {
             Some(caller) => caller.hear(bytes),
             None => Went::Gone,
         }
     }
 
-    fn shut_browser(&mut self, number: usize) {
-        let time = self.time;
-        if let Some(caller) = self.seated_as(true, number) {
-            caller.shut = Some(time);
-        }
-    }
+    fn shut_browser(&mut self, _number: usize) {}
 
     fn close_browser(&mut self, number: usize) {
         let time = self.time;
-        if let Some(caller) = self.seated_as(true, number) {
+        if let Some(caller) = self.seated(true, number) {
             caller.closed = Some(time);
         }
     }

@@ -63,7 +63,7 @@ impl Clerk {
 }
 
 /// The hill can't be opened again.
-#[derive(Clone, Copy, Debug, PartialEq, Eq)]
+#[derive(Clone, Copy, Debug, PartialEq)]
 pub(crate) struct Shut;
 
 impl Host<Fuse, Global> for Clerk {

@@ -1,57 +1,9 @@
 //! Services whose peers act by a script.
 
-use crate::fakes::{Cue, Deed, Fakes};
-use crate::hosts::{Clerk, Shut, hill};
-use koth_service::{ServiceFault, serve_peers};
-use std::process::Abort;
-
-/// All bytes of answers that a peer may be sent.
-pub(crate) const ALL: usize = 16_777_216;
-
-/// What came of a service.
-#[derive(Drop)]
-pub(crate) struct Served<'c> {
-    pub(crate) sockets: Fakes<'c>,
-    pub(crate) fault: Option<ServiceFault<Shut>>,
-    /// What the host wrote.
-    told: Vec<u8>,
-}
-
-/// Serves these peers and browsers, two of each at once, until as many sessions have ended. The device fails once, after so many calls, and the hill may be
-/// opened again so often.
-pub(crate) fn serve<'c>(
-    rt: &(impl Abort + AllocGlobal),
-    cues: &'c [Cue],
-    connections: u32,
-    calls: u64,
-    openings: u32,
-) -> Served<'c> {
-    let mut sockets = Fakes::new(rt.alloc(), cues);
-    let mut told = Vec::new(rt.alloc());
-    let store = hill(rt.alloc(), calls).expect(rt, "a hill is created");
-    let host = Clerk::new(rt.alloc(), openings);
-    let served = serve_peers(
-        rt.alloc(),
-        &mut sockets,
-        2,
-        2,
-        Some(connections),
-        store,
-        &host,
-        &mut told,
-    );
-    Served {
-        sockets,
-        fault: served.err(),
-        told,
-    }
-}
-
-/// A peer heard these answers.
-pub(crate) fn heard(rt: &impl Abort, sockets: &Fakes<'_>, port: u16, answers: &str) {
-    let caller = sockets.caller(port).expect(rt, "it called");
-    assert_eq!(rt; caller.heard.as_slice(), answers.as_bytes());
-}
+use crate::callers::{Cue, Deed};
+use crate::hosts::Shut;
+use crate::serving::{ALL, Due, act_out, check_served, serve};
+use koth_service::ServiceFault;
 
 /// What is done in `two_at_once`.
 const TWO_AT_ONCE: [Cue; 11] = [
@@ -68,36 +20,15 @@ const TWO_AT_ONCE: [Cue; 11] = [
     (6, Deed::Ends(2)),
 ];
 
+const TWO_AT_ONCE_DUE: [Due; 2] = [
+    Due::Heard(1, "PLACED 2 2 2\nBAD\n"),
+    Due::Heard(2, ".\nPLACED 1 1 0\n1 1 0 0 Unnamed by Anonymous\n.\n"),
+];
+
 /// Two peers speak by turns, in pieces.
 #[test]
 fn two_at_once(rt: HostRuntime) {
-    let served = serve(&rt, &TWO_AT_ONCE, 2, u64::MAX, 0);
-    assert_eq!(rt; served.fault, None);
-    heard(&rt, &served.sockets, 1, "PLACED 2 2 2\nBAD\n");
-    heard(
-        &rt,
-        &served.sockets,
-        2,
-        ".\nPLACED 1 1 0\n1 1 0 0 Unnamed by Anonymous\n.\n",
-    );
-}
-
-/// A peer's socket was closed at this time, and so it was told of it.
-pub(crate) fn closed(rt: &impl Abort, sockets: &Fakes<'_>, port: u16, time: Option<u64>) {
-    let caller = sockets.caller(port).expect(rt, "it called");
-    assert_eq!(rt; caller.closed, time, "{port}");
-}
-
-/// What was told of a peer, line by line.
-fn told(rt: &impl Abort, served: &Served<'_>, peer: &str, events: &[&str]) {
-    let text = str::from_utf8(served.told.as_slice()).expect(rt, "it is text");
-    let mut rest = events.iter();
-    for line in text.lines() {
-        if let Some(event) = line.strip_prefix(peer) {
-            assert_eq!(rt; Some(&event), rest.next());
-        }
-    }
-    assert!(rt; rest.next().is_none());
+    act_out(&rt, &TWO_AT_ONCE, 2, &TWO_AT_ONCE_DUE);
 }
 
 /// What is done in `a_silent_peer`.
@@ -111,17 +42,19 @@ const A_SILENT_PEER: [Cue; 7] = [
     (60_006, Deed::Ends(2)),
 ];
 
+const A_SILENT_PEER_DUE: [Due; 6] = [
+    Due::Heard(1, ""),
+    Due::Heard(2, "BAD\n"),
+    Due::Closed(1, Some(60_007)),
+    Due::Closed(2, Some(60_006)),
+    Due::Told("1 ", &["connected", "Silent"]),
+    Due::Told("2 ", &["connected", "By(Quit)"]),
+];
+
 /// A peer that sent half a command is let go 60 seconds after its last byte. Another one is answered at once.
 #[test]
 fn a_silent_peer(rt: HostRuntime) {
-    let served = serve(&rt, &A_SILENT_PEER, 2, u64::MAX, 0);
-    assert_eq!(rt; served.fault, None);
-    heard(&rt, &served.sockets, 1, "");
-    heard(&rt, &served.sockets, 2, "BAD\n");
-    closed(&rt, &served.sockets, 1, Some(60_007));
-    closed(&rt, &served.sockets, 2, Some(60_006));
-    told(&rt, &served, "1 ", &["connected", "Silent"]);
-    told(&rt, &served, "2 ", &["connected", "By(Quit)"]);
+    act_out(&rt, &A_SILENT_PEER, 2, &A_SILENT_PEER_DUE);
 }
 
 /// What is done in `an_endless_line`.
@@ -135,15 +68,16 @@ const AN_ENDLESS_LINE: [Cue; 7] = [
     (9, Deed::Ends(1)),
 ];
 
+const AN_ENDLESS_LINE_DUE: [Due; 3] = [
+    Due::Heard(2, "BAD\n"),
+    Due::Told("1 ", &["connected", "By(EndOfInput)"]),
+    Due::Line(2, "2 By(Quit)"),
+];
+
 /// While the bytes of a line without an end come, 1,048,576 of them, another one's commands are served.
 #[test]
 fn an_endless_line(rt: HostRuntime) {
-    let served = serve(&rt, &AN_ENDLESS_LINE, 2, u64::MAX, 0);
-    assert_eq!(rt; served.fault, None);
-    heard(&rt, &served.sockets, 2, "BAD\n");
-    told(&rt, &served, "1 ", &["connected", "By(EndOfInput)"]);
-    let text = str::from_utf8(served.told.as_slice()).expect(&rt, "it is text");
-    assert_eq!(rt; text.lines().nth(2), Some("2 By(Quit)"));
+    act_out(&rt, &AN_ENDLESS_LINE, 2, &AN_ENDLESS_LINE_DUE);
 }
 
 /// What is done in `a_peer_that_never_reads`.
@@ -166,16 +100,25 @@ MOV 0,1
 .
 ";
 
+const A_PEER_THAT_NEVER_READS_DUE: [Due; 4] = [
+    Due::Heard(1, ""),
+    Due::Heard(2, "BAD\n"),
+    Due::Closed(1, Some(0)),
+    Due::Told(
+        "1 ",
+        &["connected", "PLACED 1 1 0", "PLACED 2 2 2", "By(Unread)"],
+    ),
+];
+
 /// A peer that takes none of its answers is let go when 1,048,576 bytes of them wait. Another one is answered.
 #[test]
 fn a_peer_that_never_reads(rt: HostRuntime) {
-    let served = serve(&rt, &A_PEER_THAT_NEVER_READS, 2, u64::MAX, 0);
-    assert_eq!(rt; served.fault, None);
-    heard(&rt, &served.sockets, 1, "");
-    heard(&rt, &served.sockets, 2, "BAD\n");
-    closed(&rt, &served.sockets, 1, Some(0));
-    let events = ["connected", "PLACED 1 1 0", "PLACED 2 2 2", "By(Unread)"];
-    told(&rt, &served, "1 ", &events);
+    act_out(
+        &rt,
+        &A_PEER_THAT_NEVER_READS,
+        2,
+        &A_PEER_THAT_NEVER_READS_DUE,
+    );
 }
 
 /// What is done in `a_peer_that_is_reset`.
@@ -190,15 +133,17 @@ const A_PEER_THAT_IS_RESET: [Cue; 8] = [
     (2, Deed::Ends(2)),
 ];
 
+const A_PEER_THAT_IS_RESET_DUE: [Due; 4] = [
+    Due::Heard(1, "PLACED"),
+    Due::Heard(2, "1 1 0 0 Unnamed by Anonymous\n.\n"),
+    Due::Closed(1, Some(1)),
+    Due::Told("1 ", &["connected", "PLACED 1 1 0", "Gone"]),
+];
+
 /// A peer takes six bytes of its answers, and is gone: what it submitted stays.
 #[test]
 fn a_peer_that_is_reset(rt: HostRuntime) {
-    let served = serve(&rt, &A_PEER_THAT_IS_RESET, 2, u64::MAX, 0);
-    assert_eq!(rt; served.fault, None);
-    heard(&rt, &served.sockets, 1, "PLACED");
-    heard(&rt, &served.sockets, 2, "1 1 0 0 Unnamed by Anonymous\n.\n");
-    closed(&rt, &served.sockets, 1, Some(1));
-    told(&rt, &served, "1 ", &["connected", "PLACED 1 1 0", "Gone"]);
+    act_out(&rt, &A_PEER_THAT_IS_RESET, 2, &A_PEER_THAT_IS_RESET_DUE);
 }
 
 /// What is done in `arrivals`.
@@ -218,18 +163,21 @@ const ARRIVALS: [Cue; 13] = [
     (2_100, Deed::Ends(2)),
 ];
 
-/// An accept that fails is tried again after 100 milliseconds. A third peer, of which two may be at once, waits until one of them was let go.
+const ARRIVALS_DUE: [Due; 7] = [
+    Due::Heard(1, ""),
+    Due::Heard(2, "BAD\n"),
+    Due::Heard(3, "BAD\n"),
+    Due::Closed(1, Some(1_400)),
+    Due::Closed(3, Some(1_500)),
+    Due::Closed(2, Some(2_100)),
+    Due::Told("3 ", &["connected", "By(Quit)"]),
+];
+
+/// An accept that fails is tried again after 100 milliseconds. A third peer, of which two may be at once, waits until one of them was let
+/// go.
 #[test]
 fn arrivals(rt: HostRuntime) {
-    let served = serve(&rt, &ARRIVALS, 3, u64::MAX, 0);
-    assert_eq!(rt; served.fault, None);
-    heard(&rt, &served.sockets, 1, "");
-    heard(&rt, &served.sockets, 2, "BAD\n");
-    heard(&rt, &served.sockets, 3, "BAD\n");
-    closed(&rt, &served.sockets, 1, Some(1_400));
-    closed(&rt, &served.sockets, 3, Some(1_500));
-    closed(&rt, &served.sockets, 2, Some(2_100));
-    told(&rt, &served, "3 ", &["connected", "By(Quit)"]);
+    act_out(&rt, &ARRIVALS, 3, &ARRIVALS_DUE);
 }
 
 /// What is done in `a_device_that_fails`.
@@ -244,15 +192,21 @@ const A_DEVICE_THAT_FAILS: [Cue; 8] = [
     (2, Deed::Ends(2)),
 ];
 
+const A_DEVICE_THAT_FAILS_DUE: [Due; 3] = [
+    Due::Heard(1, "BAD\n"),
+    Due::Heard(2, "PLACED 1 1 0\n"),
+    Due::Told("1 ", &["connected", "By(StoreFailed)"]),
+];
+
+/// What comes of it where the hill can't be opened again.
+const A_HILL_THAT_IS_GONE_DUE: [Due; 1] = [Due::Heard(2, "")];
+
 /// The device fails in the first submission, which isn't answered. The hill is opened again, and the other peer is served on it.
 #[test]
 fn a_device_that_fails(rt: HostRuntime) {
     let served = serve(&rt, &A_DEVICE_THAT_FAILS, 2, 8, 1);
-    assert_eq!(rt; served.fault, None);
-    heard(&rt, &served.sockets, 1, "BAD\n");
-    heard(&rt, &served.sockets, 2, "PLACED 1 1 0\n");
-    told(&rt, &served, "1 ", &["connected", "By(StoreFailed)"]);
+    check_served(&rt, &served, None, &A_DEVICE_THAT_FAILS_DUE);
     let gone = serve(&rt, &A_DEVICE_THAT_FAILS, 2, 8, 0);
-    assert_eq!(rt; gone.fault, Some(ServiceFault::Reopening(Shut)));
-    heard(&rt, &gone.sockets, 2, "");
+    let fault = ServiceFault::Reopening(Shut);
+    check_served(&rt, &gone, Some(fault), &A_HILL_THAT_IS_GONE_DUE);
 }
