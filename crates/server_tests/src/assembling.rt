@@ -1,7 +1,6 @@
-use crate::program::{check_on, run_line, status_of, words_of};
+use crate::program::{Ran, check_on, run_on, status_on};
 use failing_streams::{FULL, Full, one_by_one, reader, writer};
 use koth_server::View;
-use std::alloc::{AllocError, Global};
 use std::fs::File;
 use std::net::Net;
 use std::process::Abort;
@@ -13,21 +12,28 @@ fn a_warrior_is_printed(rt: HostRuntime) {
     check_on(&rt, "koth asm", b"MOV 0, 1\n", text, "", 0);
 }
 
+/// A source is refused so, and so much of it is not read.
+fn check_refused(
+    rt: &(impl Abort + Files<File = File> + Net + Clock + AllocGlobal),
+    source: &[u8],
+    output: &str,
+    left: usize,
+) {
+    assert_eq!(rt; check_on(rt, "koth asm", source, output, "", 1), left);
+}
+
 #[test]
 fn refusals(rt: HostRuntime) {
     let long = [b'\n'; 65_537];
-    let empty = "REFUSED 0 Empty\n";
-    let too_long = "REFUSED 0 SourceTooLong\n";
-    assert_eq!(rt; check_on(&rt, "koth asm", b"", empty, "", 1), 0);
-    assert_eq!(rt; check_on(&rt, "koth asm", &long[..65_536], empty, "", 1), 0);
-    assert_eq!(rt; check_on(&rt, "koth asm", &long, too_long, "", 1), 0);
+    check_refused(&rt, b"", "REFUSED 0 Empty\n", 0);
+    check_refused(&rt, &long[..65_536], "REFUSED 0 Empty\n", 0);
+    check_refused(&rt, &long, "REFUSED 0 SourceTooLong\n", 0);
 }
 
 #[test]
 fn a_source_is_read_so_far_and_no_further(rt: HostRuntime) {
     let long = [b'\n'; 65_540];
-    let too_long = "REFUSED 0 SourceTooLong\n";
-    assert_eq!(rt; check_on(&rt, "koth asm", &long, too_long, "", 1), 3);
+    check_refused(&rt, &long, "REFUSED 0 SourceTooLong\n", 3);
 }
 
 /// A source of six bytes that is read so many at a time, where one of the reads fails. How many reads there were is the answer.
@@ -40,11 +46,16 @@ fn check_read(
     status: u8,
 ) -> u64 {
     let mut input = reader(b"\n\n\n\n\n\n", most, fails_at);
-    let ran = run_line(rt, "koth asm", &mut input);
+    let ran = run_on(rt, "koth asm", &mut input);
+    expect_begun(rt, &ran, fails_at, output, errors, status);
+    input.reads
+}
+
+/// A run whose read failed wrote this on its output, told what begins so on its errors, and left with this status.
+fn expect_begun(rt: &impl Abort, ran: &Ran, fails_at: u64, output: &str, errors: &str, status: u8) {
     assert_eq!(rt; ran.output.as_slice(), output.as_bytes());
     assert!(rt; ran.errors.as_slice().starts_with(errors.as_bytes()));
     assert_eq!(rt; ran.status, status, "at read {fails_at}");
-    input.reads
 }
 
 /// A source that is read so many bytes at a time, by so many reads, each of which fails once. The last read is the one that finds the end.
@@ -75,14 +86,12 @@ fn check_write(
     room: usize,
     full: Full,
 ) -> Vec<u8> {
-    let words = words_of(rt.alloc(), line).expect(rt, "there is memory");
     let mut output = writer(rt.alloc(), most, room, full);
     let mut errors = Vec::new(rt.alloc());
-    let status = status_of(
+    let status = status_on(
         rt,
         rt.alloc(),
-        rt.alloc(),
-        words.as_slice(),
+        line,
         View::Plain,
         &mut b"".as_slice(),
         &mut output,
@@ -106,56 +115,67 @@ fn check_room(
     assert_eq!(rt; line.get(..room), Some(taken.as_slice()));
 }
 
+/// The same in each way in which an output is full.
+fn check_full(rt: &(impl Abort + Files<File = File> + Net + Clock + AllocGlobal), room: usize) {
+    for full in &FULL {
+        check_room(rt, usize::MAX, room, *full);
+        check_room(rt, 1, room, *full);
+    }
+}
+
 /// At each byte of the line that is due, and in the first line of the help.
 #[test]
 fn a_write_that_fails(rt: HostRuntime) {
     for room in 0..b"REFUSED 0 Empty\n".len() {
-        for full in &FULL {
-            check_room(&rt, usize::MAX, room, *full);
-            check_room(&rt, 1, room, *full);
-        }
+        check_full(&rt, room);
         check_write(&rt, "koth --help", usize::MAX, room, FULL[0]);
     }
 }
 
 /// A head, so many times a line, and a tail.
 fn text_of(
-    alloc: Global,
+    rt: &(impl Abort + AllocGlobal),
     head: &str,
     line: &str,
     count: usize,
     tail: &str,
-) -> Result<String, AllocError> {
-    let mut text = String::from_str(alloc, head)?;
+) -> String {
+    let mut text = String::from_str(rt.alloc(), head).expect(rt, "there is memory");
     for _ in 0..count {
-        text.push_str(line)?;
+        text.push_str(line).expect(rt, "there is memory");
     }
-    text.push_str(tail)?;
-    Ok(text)
+    text.push_str(tail).expect(rt, "there is memory");
+    text
+}
+
+/// A source of so many lines `DAT 0`, under settings that allow the longest warrior.
+fn check_lines(
+    rt: &(impl Abort + Files<File = File> + Net + Clock + AllocGlobal),
+    count: usize,
+    output: &str,
+    status: u8,
+) {
+    let line = "koth asm --length 200 --distance 200";
+    let source = text_of(rt, "", "DAT 0\n", count, "");
+    check_on(rt, line, source.as_bytes(), output, "", status);
 }
 
 /// The load text of so many lines `DAT 0`, up to the longest warrior that settings allow.
 #[test]
 fn the_longest_warrior(rt: HostRuntime) {
-    let line = "koth asm --length 200 --distance 200";
-    let mut source = text_of(rt.alloc(), "", "DAT 0\n", 200, "").expect(&rt, "there is memory");
-    let printed = "DAT.F  $     0, $     0\n";
-    let text = text_of(rt.alloc(), "ORG 0\n", printed, 200, "END\n").expect(&rt, "there is memory");
-    check_on(&rt, line, source.as_bytes(), text.as_str(), "", 0);
-    source.push_str("DAT 0\n").expect(&rt, "there is memory");
-    check_on(&rt, line, source.as_bytes(), "REFUSED 0 TooLong\n", "", 1);
+    let text = text_of(&rt, "ORG 0\n", "DAT.F  $     0, $     0\n", 200, "END\n");
+    check_lines(&rt, 200, text.as_str(), 0);
+    check_lines(&rt, 201, "REFUSED 0 TooLong\n", 1);
 }
 
 #[test]
 fn signals_end_no_command(rt: HostRuntime) {
-    let words = words_of(rt.alloc(), "koth asm").expect(&rt, "there is memory");
     let mut input = one_by_one(b"");
     let mut output = one_by_one(b"");
-    let status = status_of(
+    let status = status_on(
         &rt,
         rt.alloc(),
-        rt.alloc(),
-        words.as_slice(),
+        "koth asm",
         View::Plain,
         &mut input,
         &mut output,

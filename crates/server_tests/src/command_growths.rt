@@ -1,7 +1,9 @@
 //! Each growth of memory of a command refused in turn: it is told or answered, and with memory the command is done then.
 
-use crate::files::{exists, expect_bytes, put, put_bytes, read, remove};
-use crate::program::{check, run_within, text_in};
+use crate::files::{exists, expect_bytes, put_bytes, read, remove};
+use crate::program::{Ran, check, run_viewed, text_in};
+use crate::steps::{Step, play};
+use koth_server::View;
 use refusing::Refusing;
 use std::alloc::Global;
 use std::fs::File;
@@ -11,9 +13,6 @@ use std::rt::{Clock, Files};
 
 /// The hill of two on which the next commands are run: the first warrior is on it.
 const HILL: &str = "growths.hill";
-
-/// Its table.
-const ONE: &str = "1 1 0 0 Unnamed by Anonymous\n.\n";
 
 /// The second, in a file.
 const SOURCE: &str = "growths.red";
@@ -25,7 +24,7 @@ const OLD_HILL: &str = "old_growths.hill";
 const CREATED: &str = "growing.hill";
 
 /// A command and its input, and what it writes and leaves with where it finds its memory.
-#[derive(Drop)]
+#[derive(Clone, Copy)]
 struct Command {
     line: &'static str,
     input: &'static str,
@@ -33,65 +32,93 @@ struct Command {
     status: u8,
 }
 
-/// A command as the table below has it.
-type Row = (u64, u64, &'static str, &'static str, &'static str, u8);
-
 /// Growths of a command, and then of its submission, which is answered `MEMORY`: without one of the first that is told as a fault. Then
-/// the command, its input, what it writes, and what it leaves with.
-///
+/// the command.
+type Row = (u64, u64, Command);
+
 /// A source is read into a buffer and assembled by 8 growths. A hill is created by 5, the members and an arena's four, behind one for
-/// the path of its file, and opened by these and the code of the one warrior. The hill of the old format that is moved to a file that is made
-/// has three warriors. Texts grow from 8 bytes to 16, 32 and 64, load text from 4.
+/// the path of its file, and opened by these and the code of the one warrior. The hill of the old format that is moved to a file that is
+/// made has three warriors. Texts grow from 8 bytes to 16, 32 and 64, load text from 4.
 const COMMANDS: [Row; 8] = [
     (
         1 + 8 + 5,
         0,
-        "koth asm",
-        "MOV 0, 1\n",
-        "ORG 0\nMOV.I  $     0, $     1\nEND\n",
-        0,
+        Command {
+            line: "koth asm",
+            input: "MOV 0, 1\n",
+            output: "ORG 0\nMOV.I  $     0, $     1\nEND\n",
+            status: 0,
+        },
     ),
     (
         9 + 9 + 4 + 1,
         0,
-        "koth fight growths.red growths.red --core=64 --cycles=100 --processes=8 --length=10 --distance=10 --rounds=2",
-        "",
-        "0 0 2\n",
-        0,
+        Command {
+            line: "koth fight growths.red growths.red --core=64 --cycles=100 --processes=8 --length=10 --distance=10 --rounds=2",
+            input: "",
+            output: "0 0 2\n",
+            status: 0,
+        },
     ),
     (
         1 + 5,
         0,
-        "koth create growing.hill --core=64 --cycles=100 --processes=8 --length=10 --distance=10 --rounds=2 --capacity=2",
-        "",
-        "CREATED\n",
-        0,
+        Command {
+            line: "koth create growing.hill --core=64 --cycles=100 --processes=8 --length=10 --distance=10 --rounds=2 --capacity=2",
+            input: "",
+            output: "CREATED\n",
+            status: 0,
+        },
     ),
-    (6 + 1 + 3, 0, "koth show growths.hill", "", ONE, 0),
+    (
+        6 + 1 + 3,
+        0,
+        Command {
+            line: "koth show growths.hill",
+            input: "",
+            output: "1 1 0 0 Unnamed by Anonymous\n.\n",
+            status: 0,
+        },
+    ),
     (
         6 + 1 + 3 + 1 + 2 + 1,
         0,
-        "koth show growths.hill --matches",
-        "",
-        "1 1 0 0 Unnamed by Anonymous\n.\n    1\n 1  -\n",
-        0,
+        Command {
+            line: "koth show growths.hill --matches",
+            input: "",
+            output: "1 1 0 0 Unnamed by Anonymous\n.\n    1\n 1  -\n",
+            status: 0,
+        },
     ),
-    (6, 0, "koth audit growths.hill", "", "true\n", 0),
+    (
+        6,
+        0,
+        Command {
+            line: "koth audit growths.hill",
+            input: "",
+            output: "true\n",
+            status: 0,
+        },
+    ),
     (
         1 + 5 + 3,
         0,
-        "koth migrate old_growths.hill growing.hill",
-        "",
-        "MIGRATED\n",
-        0,
+        Command {
+            line: "koth migrate old_growths.hill growing.hill",
+            input: "",
+            output: "MIGRATED\n",
+            status: 0,
+        },
     ),
     (
         6 + 1,
         8,
-        "koth submit growths.hill growths.red",
-        "",
-        "PLACED 2 2 2\n",
-        0,
+        Command {
+            line: "koth submit growths.hill growths.red",
+            input: "",
+            output: "PLACED 2 2 2\n",
+            status: 0,
+        },
     ),
 ];
 
@@ -111,8 +138,22 @@ fn expect_files(rt: &(impl Abort + Files<File = File> + Net + Clock + AllocGloba
     }
 }
 
-/// A command, of which growth `k` is refused, writes this on its output and on its errors and leaves with this status. How many were
-/// refused is the answer.
+/// What a command of which growth `k` is refused leaves behind, and how many were refused.
+fn run_without(
+    rt: &(impl Abort + Files<File = File> + Net + Clock + AllocGlobal),
+    memory: &Refusing<Global>,
+    k: u64,
+    line: &str,
+    input: &str,
+) -> (Ran, u64) {
+    memory.refuse(k, 1);
+    let mut left = input.as_bytes();
+    let ran = run_viewed(rt, memory, line, View::Plain, &mut left);
+    (ran, memory.refused())
+}
+
+/// A command, of which growth `k` is refused, writes what is due on its output and this on its errors and leaves with its status. How many
+/// were refused is the answer.
 fn check_run(
     rt: &(impl Abort + Files<File = File> + Net + Clock + AllocGlobal),
     memory: &Refusing<Global>,
@@ -120,20 +161,18 @@ fn check_run(
     command: &Command,
     errors: &str,
 ) -> u64 {
-    memory.refuse(k, 1);
-    let mut input = command.input.as_bytes();
-    let ran = run_within(rt, rt.alloc(), memory, command.line, &mut input).expect(
-        rt,
-        "there is memory",
-    );
-    let refused = memory.refused();
-    memory.refuse(0, 0);
+    let (ran, refused) = run_without(rt, memory, k, command.line, command.input);
+    expect_command(rt, &ran, k, command, errors);
+    refused
+}
+
+/// A run was that of this command, and told this.
+fn expect_command(rt: &impl Abort, ran: &Ran, k: u64, command: &Command, errors: &str) {
     let output = text_in(&ran.output);
     assert_eq!(rt; output, command.output, "{} at growth {k}", command.line);
     assert_eq!(rt; ran.errors.is_empty(), errors.is_empty());
     assert!(rt; ran.errors.as_slice().starts_with(errors.as_bytes()));
     assert_eq!(rt; ran.status, command.status);
-    refused
 }
 
 /// A command, of which growth `k` is refused, writes the one line `MEMORY` and leaves everything as it was. With memory it is done then.
@@ -184,16 +223,23 @@ fn check_command(
 }
 
 /// The hill with its first warrior, the source of the second, and the hill of the old format.
-fn put_hills(rt: &(impl Abort + Files<File = File> + Net + Clock + AllocGlobal)) {
-    let create =
-        "koth create growths.hill --core=64 --cycles=100 --processes=8 --length=10 --distance=10 --rounds=2 --capacity=2";
-    check(rt, create, "CREATED\n", "", 0);
-    put(rt, SOURCE, "MOV 0,1\n");
-    let submit = "koth submit growths.hill growths.red";
-    check(rt, submit, "PLACED 1 1 0\n", "", 0);
-    put(rt, SOURCE, "JMP 0\n");
-    put_bytes(rt, OLD_HILL, &earlier_hill::bytes());
-}
+const HILLS: [Step; 5] = [
+    Step::Run(
+        "koth create growths.hill --core=64 --cycles=100 --processes=8 --length=10 --distance=10 --rounds=2 --capacity=2",
+        "CREATED\n",
+        "",
+        0,
+    ),
+    Step::Put(SOURCE, "MOV 0,1\n"),
+    Step::Run(
+        "koth submit growths.hill growths.red",
+        "PLACED 1 1 0\n",
+        "",
+        0,
+    ),
+    Step::Put(SOURCE, "JMP 0\n"),
+    Step::PutOldHill(OLD_HILL),
+];
 
 /// Each of these commands, on a hill of these bytes.
 fn check_commands(
@@ -202,21 +248,15 @@ fn check_commands(
     rows: &[Row],
 ) {
     let memory = Refusing::new(rt.alloc());
-    for (faults, replies, line, input, output, status) in rows {
-        let command = Command {
-            line: *line,
-            input: *input,
-            output: *output,
-            status: *status,
-        };
-        check_command(rt, &memory, hill, *faults, *replies, &command);
+    for (faults, replies, command) in rows {
+        check_command(rt, &memory, hill, *faults, *replies, command);
     }
 }
 
 /// The words are parsed on the program's heap, which refuses nothing here.
 #[test]
 fn of_commands(rt: HostRuntime) {
-    put_hills(&rt);
+    play(&rt, &HILLS);
     let hill = read(&rt, HILL);
     check_commands(&rt, hill.as_slice(), &COMMANDS);
     put_files(&rt, hill.as_slice());
@@ -231,32 +271,29 @@ fn is_explained(
     memory: &Refusing<Global>,
     k: u64,
 ) -> bool {
-    memory.refuse(k, 1);
-    let mut input = b"MOV 0, 1\nMVO 0, 1\n".as_slice();
-    let ran = run_within(rt, rt.alloc(), memory, "koth asm", &mut input).expect(
-        rt,
-        "there is memory",
-    );
-    let refused = memory.refused();
-    memory.refuse(0, 0);
-    if ran.status == 4 {
-        return false;
+    let input = "MOV 0, 1\nMVO 0, 1\n";
+    let (ran, refused) = run_without(rt, memory, k, "koth asm", input);
+    let has_memory = ran.status != 4;
+    if has_memory {
+        expect_explained(rt, &ran, refused);
     }
+    has_memory && refused == 0
+}
+
+/// A run answered the refusal, and explained it if no growth was refused.
+fn expect_explained(rt: &impl Abort, ran: &Ran, refused: u64) {
     assert_eq!(rt; text_in(&ran.output), "REFUSED 2 BadOperation\n");
     assert_eq!(rt; ran.status, 1);
     assert!(rt; refused > 0 || ran.errors.len() > 0);
-    refused == 0
 }
 
 /// Each growth of an explanation is refused in turn.
 #[test]
 fn of_an_explanation(rt: HostRuntime) {
     let memory = Refusing::new(rt.alloc());
-    let mut growths = None;
+    let mut explained = false;
     for k in 1..1000 {
-        if growths.is_none() && is_explained(&rt, &memory, k) {
-            growths = Some(k);
-        }
+        explained = explained || is_explained(&rt, &memory, k);
     }
-    assert!(rt; growths.is_some(), "it makes a thousand growths");
+    assert!(rt; explained, "it makes a thousand growths");
 }

@@ -14,6 +14,11 @@ pub(crate) fn put_bytes(rt: &(impl Abort + Files), file: &str, bytes: &[u8]) {
     fs::write(rt, file, bytes).expect(rt, "it is written");
 }
 
+/// Writes the hill of the old format into a file.
+pub(crate) fn put_old_hill(rt: &(impl Abort + Files), file: &str) {
+    put_bytes(rt, file, &earlier_hill::bytes());
+}
+
 /// Removes a file.
 pub(crate) fn remove(rt: &(impl Abort + Files), file: &str) {
     fs::remove_file(rt, file).expect(rt, "it is removed");
@@ -29,6 +34,11 @@ pub(crate) fn expect_bytes(rt: &(impl Abort + Files + AllocGlobal), file: &str, 
     assert_eq!(rt; read(rt, file).as_slice(), bytes);
 }
 
+/// A file has the bytes of the hill of the old format.
+pub(crate) fn expect_old_hill(rt: &(impl Abort + Files + AllocGlobal), file: &str) {
+    expect_bytes(rt, file, &earlier_hill::bytes());
+}
+
 /// A file has so many bytes.
 pub(crate) fn expect_length(rt: &(impl Abort + Files), file: &str, length: u64) {
     assert_eq!(rt;
@@ -40,4 +50,23 @@ pub(crate) fn expect_length(rt: &(impl Abort + Files), file: &str, length: u64) 
 /// Whether a file is there.
 pub(crate) fn exists(rt: &(impl Abort + Files), file: &str) -> bool {
     fs::exists(rt, file).expect(rt, "it can be told")
+}
+
+/// Puts another result into the file of a hill, in the last sector of the younger warrior's slot: so many rounds that the older won, and
+/// the younger.
+pub(crate) fn put_result(
+    rt: &(impl Abort + Files + AllocGlobal),
+    file: &str,
+    older: u8,
+    younger: u8,
+) {
+    let mut bytes = read(rt, file);
+    put_byte(rt, bytes.as_mut_slice(), 9 * 512 + 389, older);
+    put_byte(rt, bytes.as_mut_slice(), 9 * 512 + 391, younger);
+    put_bytes(rt, file, bytes.as_slice());
+}
+
+/// Puts another byte in the place of this one.
+fn put_byte(rt: &impl Abort, bytes: &mut [u8], at: usize, byte: u8) {
+    *bytes.get_mut(at).expect(rt, "the slot") = byte;
 }

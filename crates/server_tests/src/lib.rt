@@ -2,7 +2,7 @@
 //!
 //! No crate stands on this one, so a check of the crates above waits for none of them. The helpers come first: `program` runs
 //! the program on words and an input, and `files` has the files of the tests, by functions without clauses, so that the proof of a test
-//! carries none of a call's along. Then a module a subject:
+//! carries none of a call's along; `steps` goes through a table of both, which is most of what a test here does. Then a module a subject:
 //!
 //! - `words`: which words are faults, ask for help, or give settings;
 //! - `assembling`, `fights` and `hills`: what the commands write, how they end, and what they do to files;
@@ -33,6 +33,8 @@ mod migrations;
 mod pages;
 #[cfg(test)]
 mod program;
+#[cfg(test)]
+mod steps;
 #[cfg(test)]
 mod told;
 #[cfg(test)]

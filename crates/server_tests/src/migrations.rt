@@ -1,8 +1,8 @@
 //! Hills of the old format, and how they are moved to the new one.
 
-use crate::files::{exists, expect_bytes, expect_length, put, put_bytes, read, remove};
-use crate::hills::check_no_hill;
+use crate::files::{expect_bytes, put_bytes, put_old_hill, read, remove};
 use crate::program::{check, check_told};
+use crate::steps::{Step, play};
 use earlier_hill::SECTOR;
 use koth_server::View;
 use std::fs::File;
@@ -19,35 +19,48 @@ const NO_HILL: &str = "NotAHill known.hill: it holds no hill\n";
 /// Bytes of a file that has room for any hill: sectors of the headers, and four for each of 21 slots.
 const LARGEST: u64 = (2 + 4 * 21) * 512;
 
+/// The command of the next test.
+const MOVE: &str = "koth migrate moved.hill arrived.hill";
+
+/// What is done first in `a_hill_is_moved`.
+const MOVED: [Step; 6] = [
+    Step::PutOldHill("moved.hill"),
+    Step::Run(MOVE, "MIGRATED\n", "", 0),
+    Step::OldHill("moved.hill"),
+    Step::Length("arrived.hill", LARGEST),
+    Step::Run("koth show arrived.hill", earlier_hill::TABLE, "", 0),
+    Step::Run("koth audit arrived.hill", "true\n", "", 0),
+];
+
+/// What is done at its end.
+const ARRIVED: [Step; 5] = [
+    Step::Put("moved.red", "JMP 0\n"),
+    Step::Run("koth submit arrived.hill moved.red", "FELL 5 38\n", "", 0),
+    Step::Remove("moved.red"),
+    Step::Remove("moved.hill"),
+    Step::Remove("arrived.hill"),
+];
+
 #[test]
 fn a_hill_is_moved(rt: HostRuntime) {
-    let (old, new) = ("moved.hill", "arrived.hill");
-    put_bytes(&rt, old, &earlier_hill::bytes());
-    let line = "koth migrate moved.hill arrived.hill";
-    check(&rt, line, "MIGRATED\n", "", 0);
-    expect_bytes(&rt, old, earlier_hill::bytes().as_slice());
-    expect_length(&rt, new, LARGEST);
-    check(&rt, "koth show arrived.hill", earlier_hill::TABLE, "", 0);
-    check(&rt, "koth audit arrived.hill", "true\n", "", 0);
-    let moved = read(&rt, new);
-    check(&rt, line, "", "Occupied\n", 1);
-    expect_bytes(&rt, new, moved.as_slice());
-    put(&rt, "moved.red", "JMP 0\n");
-    let submit = "koth submit arrived.hill moved.red";
-    check(&rt, submit, "FELL 5 38\n", "", 0);
-    remove(&rt, "moved.red");
-    remove(&rt, old);
-    remove(&rt, new);
+    play(&rt, &MOVED);
+    let arrived = read(&rt, "arrived.hill");
+    check(&rt, MOVE, "", "Occupied\n", 1);
+    expect_bytes(&rt, "arrived.hill", arrived.as_slice());
+    play(&rt, &ARRIVED);
 }
+
+/// What is done in `an_old_hill_is_no_hill_before_it_is_moved`.
+const AN_OLD_HILL_IS_NO_HILL: [Step; 4] = [
+    Step::PutOldHill("unmoved.hill"),
+    Step::NoHill("unmoved.hill", "NotAHill\n", 1),
+    Step::Run("koth create unmoved.hill --capacity=3", "", "Occupied\n", 1),
+    Step::Remove("unmoved.hill"),
+];
 
 #[test]
 fn an_old_hill_is_no_hill_before_it_is_moved(rt: HostRuntime) {
-    let file = "unmoved.hill";
-    put_bytes(&rt, file, &earlier_hill::bytes());
-    check_no_hill(&rt, file, "NotAHill\n", 1);
-    let create = "koth create unmoved.hill --capacity=3";
-    check(&rt, create, "", "Occupied\n", 1);
-    remove(&rt, file);
+    play(&rt, &AN_OLD_HILL_IS_NO_HILL);
 }
 
 /// The file of the next test.
@@ -82,20 +95,42 @@ fn an_old_hill_is_known_by_a_header(rt: HostRuntime) {
     remove(&rt, KNOWN);
 }
 
-/// Moving the hill from a file with these bytes is refused so, and the file stays as it is. A file for it is made, and holds none.
+/// A file for the hill is made, and holds none.
+const UNMOVED: [Step; 4] = [
+    Step::Length("none.hill", LARGEST),
+    Step::Run("koth show none.hill", "", "NotAHill\n", 1),
+    Step::Remove("refused.hill"),
+    Step::Remove("none.hill"),
+];
+
+/// Moving the hill from a file with these bytes is refused so, and the file stays as it is.
 fn check_unmoved(
     rt: &(impl Abort + Files<File = File> + Net + Clock + AllocGlobal),
     bytes: &[u8],
     errors: &str,
 ) {
-    let (old, new) = ("refused.hill", "none.hill");
-    put_bytes(rt, old, bytes);
+    put_bytes(rt, "refused.hill", bytes);
     check(rt, "koth migrate refused.hill none.hill", "", errors, 1);
-    expect_bytes(rt, old, bytes);
-    expect_length(rt, new, LARGEST);
-    check(rt, "koth show none.hill", "", "NotAHill\n", 1);
-    remove(rt, old);
-    remove(rt, new);
+    expect_bytes(rt, "refused.hill", bytes);
+    play(rt, &UNMOVED);
+}
+
+/// The hill of the old format, where the last sector is missing, and where a byte of a slot is another.
+fn check_harmed(rt: &(impl Abort + Files<File = File> + Net + Clock + AllocGlobal)) {
+    let mut bytes = earlier_hill::bytes();
+    let cut = bytes.get(..9 * SECTOR).expect(rt, "nine sectors");
+    check_unmoved(rt, cut, "TooSmall\n");
+    let damaged = 3 * SECTOR + 288;
+    bytes[damaged] = 1;
+    check_unmoved(rt, &bytes, "Damaged\n");
+}
+
+/// A hill of the new format.
+fn check_newer(rt: &(impl Abort + Files<File = File> + Net + Clock + AllocGlobal)) {
+    check(rt, "koth create newer.hill", "CREATED\n", "", 0);
+    let newer = read(rt, "newer.hill");
+    check_unmoved(rt, newer.as_slice(), "NotAHill\n");
+    remove(rt, "newer.hill");
 }
 
 #[test]
@@ -103,16 +138,8 @@ fn files_from_which_no_hill_is_moved(rt: HostRuntime) {
     let none = [0; 10 * SECTOR];
     check_unmoved(&rt, &none[..SECTOR], "TooSmall\n");
     check_unmoved(&rt, &none, "NotAHill\n");
-    let mut bytes = earlier_hill::bytes();
-    let cut = bytes.get(..9 * SECTOR).expect(&rt, "nine sectors");
-    check_unmoved(&rt, cut, "TooSmall\n");
-    let damaged = 3 * SECTOR + 288;
-    bytes[damaged] = 1;
-    check_unmoved(&rt, &bytes, "Damaged\n");
-    check(&rt, "koth create newer.hill", "CREATED\n", "", 0);
-    let newer = read(&rt, "newer.hill");
-    check_unmoved(&rt, newer.as_slice(), "NotAHill\n");
-    remove(&rt, "newer.hill");
+    check_harmed(&rt);
+    check_newer(&rt);
 }
 
 /// A file that holds a hill already, of either format: it stays as it is.
@@ -120,15 +147,14 @@ fn check_occupied(
     rt: &(impl Abort + Files<File = File> + Net + Clock + AllocGlobal),
     bytes: &[u8],
 ) {
-    let (old, new) = ("leaving.hill", "occupied.hill");
-    put_bytes(rt, old, &earlier_hill::bytes());
-    put_bytes(rt, new, bytes);
+    put_old_hill(rt, "leaving.hill");
+    put_bytes(rt, "occupied.hill", bytes);
     let line = "koth migrate leaving.hill occupied.hill";
     check(rt, line, "", "Occupied\n", 1);
-    let after = read(rt, new);
+    let after = read(rt, "occupied.hill");
     assert_eq!(rt; after.as_slice().get(..bytes.len()), Some(bytes));
-    remove(rt, old);
-    remove(rt, new);
+    remove(rt, "leaving.hill");
+    remove(rt, "occupied.hill");
 }
 
 #[test]
@@ -140,26 +166,43 @@ fn files_that_hold_a_hill_already(rt: HostRuntime) {
     remove(&rt, "holding.hill");
 }
 
+/// What is done in `a_file_onto_itself`.
+const A_FILE_ONTO_ITSELF: [Step; 6] = [
+    Step::PutOldHill("itself.hill"),
+    Step::Run("koth migrate itself.hill itself.hill", "", "DISK\n", 3),
+    Step::Run(
+        "koth migrate itself.hill elsewhere.hill",
+        "MIGRATED\n",
+        "",
+        0,
+    ),
+    Step::Run("koth show elsewhere.hill", earlier_hill::TABLE, "", 0),
+    Step::Remove("itself.hill"),
+    Step::Remove("elsewhere.hill"),
+];
+
 /// If both files are one, its lock is taken already, and the hill can be moved as before.
 #[test]
 fn a_file_onto_itself(rt: HostRuntime) {
-    put_bytes(&rt, "itself.hill", &earlier_hill::bytes());
-    check(&rt, "koth migrate itself.hill itself.hill", "", "DISK\n", 3);
-    let elsewhere = "koth migrate itself.hill elsewhere.hill";
-    check(&rt, elsewhere, "MIGRATED\n", "", 0);
-    check(&rt, "koth show elsewhere.hill", earlier_hill::TABLE, "", 0);
-    remove(&rt, "itself.hill");
-    remove(&rt, "elsewhere.hill");
+    play(&rt, &A_FILE_ONTO_ITSELF);
 }
+
+/// What is done in `files_that_cannot_be_opened_or_made`.
+const FILES_THAT_CANNOT_BE_OPENED: [Step; 6] = [
+    Step::Run("koth migrate no_such_file unmade.hill", "", "DISK\n", 3),
+    Step::Missing("unmade.hill"),
+    Step::PutOldHill("staying.hill"),
+    Step::Run(
+        "koth migrate staying.hill no_such_folder/new.hill",
+        "",
+        "DISK\n",
+        3,
+    ),
+    Step::Run("koth migrate staying.hill .", "", "DISK\n", 3),
+    Step::Remove("staying.hill"),
+];
 
 #[test]
 fn files_that_cannot_be_opened_or_made(rt: HostRuntime) {
-    let migrate = "koth migrate no_such_file unmade.hill";
-    check(&rt, migrate, "", "DISK\n", 3);
-    assert!(rt; !exists(&rt, "unmade.hill"));
-    put_bytes(&rt, "staying.hill", &earlier_hill::bytes());
-    let migrate = "koth migrate staying.hill no_such_folder/new.hill";
-    check(&rt, migrate, "", "DISK\n", 3);
-    check(&rt, "koth migrate staying.hill .", "", "DISK\n", 3);
-    remove(&rt, "staying.hill");
+    play(&rt, &FILES_THAT_CANNOT_BE_OPENED);
 }

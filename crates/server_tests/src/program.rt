@@ -1,5 +1,5 @@
 use koth_server::{View, run};
-use std::alloc::{AllocError, Allocator, Global};
+use std::alloc::{Allocator, Global};
 use std::fs::File;
 use std::io::{Read, Write};
 use std::net::Net;
@@ -15,16 +15,17 @@ pub(crate) struct Ran {
 }
 
 /// The words of a command line, in which blanks stand between them.
-pub(crate) fn words_of(alloc: Global, line: &str) -> Result<Vec<String>, AllocError> {
-    let mut words = Vec::new(alloc);
+fn words_of(rt: &(impl Abort + AllocGlobal), line: &str) -> Vec<String> {
+    let mut words = Vec::new(rt.alloc());
     for word in line.split(' ') {
-        words.push(String::from_str(alloc, word)?)?;
+        let word = String::from_str(rt.alloc(), word).expect(rt, "there is memory");
+        words.push(word).expect(rt, "there is memory");
     }
-    Ok(words)
+    words
 }
 
 /// What a run of the program with these words leaves with.
-pub(crate) fn status_of<A: Allocator + Copy>(
+fn status_of<A: Allocator + Copy>(
     rt: &(impl Files<File = File> + Net + Clock),
     heap: Global,
     alloc: A,
@@ -37,63 +38,63 @@ pub(crate) fn status_of<A: Allocator + Copy>(
     run(rt, heap, alloc, words, view, input, output, errors)
 }
 
-/// A run of the program with these words.
-pub(crate) fn run_on(
-    rt: &(impl Files<File = File> + Net + Clock),
-    alloc: Global,
-    line: &str,
-    input: &mut impl Read,
-) -> Result<Ran, AllocError> {
-    run_within(rt, alloc, alloc, line, input)
-}
-
-/// The same where what the program takes besides its words is taken from another allocator.
-pub(crate) fn run_within<A: Allocator + Copy>(
-    rt: &(impl Files<File = File> + Net + Clock),
-    heap: Global,
-    alloc: A,
-    line: &str,
-    input: &mut impl Read,
-) -> Result<Ran, AllocError> {
-    run_viewed(rt, heap, alloc, line, View::Plain, input)
-}
-
-/// The same where tables are in this view, unless the words ask for one.
-pub(crate) fn run_viewed<A: Allocator + Copy>(
-    rt: &(impl Files<File = File> + Net + Clock),
-    heap: Global,
+/// The same with the words of this line, which are on the tests' own memory.
+pub(crate) fn status_on<A: Allocator + Copy>(
+    rt: &(impl Abort + Files<File = File> + Net + Clock + AllocGlobal),
     alloc: A,
     line: &str,
     view: View,
     input: &mut impl Read,
-) -> Result<Ran, AllocError> {
-    let words = words_of(heap, line)?;
-    let mut output = Vec::new(heap);
-    let mut errors = Vec::new(heap);
-    let status = status_of(
+    output: &mut impl Write,
+    errors: &mut impl Write,
+) -> u8 {
+    let words = words_of(rt, line);
+    status_of(
         rt,
-        heap,
+        rt.alloc(),
         alloc,
         words.as_slice(),
         view,
         input,
-        &mut output,
-        &mut errors,
-    );
-    Ok(Ran {
+        output,
+        errors,
+    )
+}
+
+/// A run of the program with these words, where tables are in this view, unless the words ask for one. What the program takes besides its
+/// words is taken from this allocator.
+pub(crate) fn run_viewed<A: Allocator + Copy>(
+    rt: &(impl Abort + Files<File = File> + Net + Clock + AllocGlobal),
+    alloc: A,
+    line: &str,
+    view: View,
+    input: &mut impl Read,
+) -> Ran {
+    let mut output = Vec::new(rt.alloc());
+    let mut errors = Vec::new(rt.alloc());
+    let status = status_on(rt, alloc, line, view, input, &mut output, &mut errors);
+    Ran {
         status,
         output,
         errors,
-    })
+    }
 }
 
 /// A run of the program with these words, on the tests' own memory.
-pub(crate) fn run_line(
+pub(crate) fn run_on(
     rt: &(impl Abort + Files<File = File> + Net + Clock + AllocGlobal),
     line: &str,
     input: &mut impl Read,
 ) -> Ran {
-    run_on(rt, rt.alloc(), line, input).expect(rt, "there is memory")
+    run_viewed(rt, rt.alloc(), line, View::Plain, input)
+}
+
+/// The same without an input.
+pub(crate) fn run_line(
+    rt: &(impl Abort + Files<File = File> + Net + Clock + AllocGlobal),
+    line: &str,
+) -> Ran {
+    run_on(rt, line, &mut b"".as_slice())
 }
 
 /// A run with these words and this input writes this on its output, tells this word on its errors, and leaves with this status. How much
@@ -107,12 +108,17 @@ pub(crate) fn check_on(
     status: u8,
 ) -> usize {
     let mut left = input;
-    let ran = run_line(rt, line, &mut left);
+    let ran = run_on(rt, line, &mut left);
+    expect_ran(rt, &ran, line, output, word, status);
+    left.len()
+}
+
+/// A run with these words wrote this on its output, told this word on its errors, and left with this status.
+fn expect_ran(rt: &impl Abort, ran: &Ran, line: &str, output: &str, word: &str, status: u8) {
     expect_text(rt, &ran.output, output);
     let errors = text_in(&ran.errors);
     assert!(rt; is_told(errors, output, word), "{line}: {errors}");
     assert_eq!(rt; ran.status, status, "{line}");
-    left.len()
 }
 
 /// The text of these bytes, or nothing where they are none in UTF-8.
@@ -121,7 +127,7 @@ pub(crate) fn text_in(bytes: &Vec<u8>) -> &str {
 }
 
 /// These bytes are this text.
-pub(crate) fn expect_text(rt: &impl Abort, bytes: &Vec<u8>, text: &str) {
+fn expect_text(rt: &impl Abort, bytes: &Vec<u8>, text: &str) {
     assert_eq!(rt; text_in(bytes), text);
     assert_eq!(rt; bytes.len(), text.len());
 }
@@ -139,7 +145,7 @@ fn is_told(errors: &str, output: &str, word: &str) -> bool {
     }
 }
 
-/// The same without an input.
+/// The same as `check_on` without an input.
 pub(crate) fn check(
     rt: &(impl Abort + Files<File = File> + Net + Clock + AllocGlobal),
     line: &str,
@@ -159,11 +165,15 @@ pub(crate) fn check_told(
     errors: &str,
     status: u8,
 ) {
-    let ran = run_viewed(rt, rt.alloc(), rt.alloc(), line, view, &mut b"".as_slice()).expect(
-        rt,
-        "there is memory",
-    );
+    let ran = run_viewed(rt, rt.alloc(), line, view, &mut b"".as_slice());
     expect_text(rt, &ran.output, output);
     expect_text(rt, &ran.errors, errors);
     assert_eq!(rt; ran.status, status, "{line}");
+}
+
+/// A run told nothing, and left with status 0.
+pub(crate) fn expect_done(rt: &impl Abort, ran: &Ran) {
+    let text = text_in(&ran.output);
+    assert_eq!(rt; ran.errors.len(), 0, "{text}");
+    assert_eq!(rt; ran.status, 0, "{text}");
 }
