@@ -7,24 +7,12 @@ use hill_store::Store;
 use koth_http::Page;
 use koth_service::{Event, Host};
 use sector_disk::{FuseDevice, FuseKind, MemoryDevice};
+use small_warriors::SMALL;
 use std::alloc::{AllocError, Global};
 use std::cell::Cell;
 use std::io::Write;
 use std::net::SocketAddr;
-use war_types::{RawSettings, Settings};
-
-const SMALL: RawSettings = RawSettings {
-    core: 64,
-    cycles: 100,
-    processes: 8,
-    length: 10,
-    distance: 10,
-    rounds: 2,
-    seed: 1,
-    capacity: 2,
-    read_limit: 0,
-    write_limit: 0,
-};
+use war_types::Settings;
 
 /// Sectors of a hill of two: two headers, and four for each of three slots.
 const SECTORS: u32 = 14;
