@@ -111,8 +111,13 @@ pub(crate) fn expect_replies<D: Device, A: Allocator + Copy>(
     replies: &[Reply],
 ) {
     let found = submit_all(store, sources).expect(rt, "there is memory");
-    assert_eq!(rt; found.as_slice(), replies);
+    expect_same(rt, found.as_slice(), replies);
     drop(found);
+}
+
+/// These replies are those.
+fn expect_same(rt: &impl Abort, found: &[Reply], replies: &[Reply]) {
+    assert_eq!(rt; found, replies);
 }
 
 /// So many rows stand in the table.

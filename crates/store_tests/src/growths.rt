@@ -15,6 +15,11 @@ mod devices;
 mod lists;
 mod stinting;
 
+/// So many growths were refused.
+fn expect_refusals(rt: &impl Abort, memory: &Refusing<Global>, count: u64) {
+    assert_eq!(rt; memory.refused(), count);
+}
+
 /// Where growth `k` is refused, this is found, and so many growths were refused: one, or none where there is no refusal.
 fn expect_refusal(
     rt: &impl Abort,
@@ -89,7 +94,7 @@ fn expect_submission<D: Device>(
 ) {
     memory.refuse(k, 1);
     expect_reply(rt, store, b"MOV 0,1", reply);
-    assert_eq!(rt; memory.refused(), refused);
+    expect_refusals(rt, memory, refused);
 }
 
 /// The eight growths of a warrior that is submitted to an empty hill.

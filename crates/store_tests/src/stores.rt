@@ -9,7 +9,7 @@ use hill_store::{Refusal, Reply};
 use sector_disk::{Device, FuseKind, MemoryDevice};
 use std::alloc::Global;
 use std::process::Abort;
-use store_calls::{close, counted, fell, refusal_to_open};
+use store_calls::{counted, fell, refusal_to_open};
 
 mod headers;
 
@@ -91,8 +91,7 @@ fn devices_that_are_refused(rt: HostRuntime) {
     for (sectors, opening, creation) in &BLANK {
         expect_blank(&rt, *sectors, *opening, *creation);
     }
-    let occupied = close(created_on(&rt, rt.alloc(), blank_in(&rt, rt.alloc())));
-    let found = refusal_to_create(&rt, rt.alloc(), occupied);
+    let found = refusal_to_create(&rt, rt.alloc(), answered(&rt, &[]));
     assert_eq!(rt; found, Some(Refusal::Occupied));
 }
 

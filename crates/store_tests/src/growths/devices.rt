@@ -1,5 +1,6 @@
 //! Growths of a device that takes its memory from an allocator that refuses them.
 
+use super::expect_refusals;
 use crate::expecting::{FIRST, THREE, answered_on, expect_reply, expect_rows};
 use crate::hills::{blank_in, created_on, not_created, opened_on};
 use hill_store::{Refusal, Reply, Store};
@@ -38,7 +39,7 @@ fn expect_disk<D: Device>(
     memory.refuse(k, 1);
     expect_reply(rt, store, b"MOV 0,1", Reply::Disk);
     expect_reply(rt, store, b"MOV 0,1", Reply::Reopen);
-    assert_eq!(rt; memory.refused(), 1);
+    expect_refusals(rt, memory, 1);
     expect_rows(rt, store, 0);
 }
 
@@ -82,7 +83,7 @@ fn expect_no_more<D: Device + Drop>(
     let store = created_on(rt, rt.alloc(), device);
     memory.refuse(5, 1);
     expect_placed(rt, store);
-    assert_eq!(rt; memory.refused(), 0);
+    expect_refusals(rt, memory, 0);
 }
 
 /// A warrior is placed on the hill of a store, which is let go.

@@ -1,5 +1,6 @@
 //! Growths of a list of submissions, to a store whose device takes its memory from the same allocator.
 
+use super::expect_refusals;
 use crate::expecting::{
     EMPTY, FIRST, REPLIES, SECOND, SOURCES, expect_opened, expect_reply, expect_rows,
 };
@@ -19,8 +20,13 @@ fn expect_list<D: Device>(
     expected: &[Reply],
 ) {
     let replies = submit_all(store, &SOURCES).expect(rt, "there is memory");
-    assert_eq!(rt; replies.as_slice(), expected, "at growth {k}");
+    expect_replies(rt, replies.as_slice(), k, expected);
     drop(replies);
+}
+
+/// The replies where growth `k` is refused are these.
+fn expect_replies(rt: &impl Abort, found: &[Reply], k: u64, expected: &[Reply]) {
+    assert_eq!(rt; found, expected, "at growth {k}");
 }
 
 /// The sources are submitted to an empty hill, and growth `k` is refused: these are the replies. Each warrior that
@@ -66,7 +72,7 @@ fn expect_refused<D: Device>(
 ) {
     memory.refuse(0, 1);
     assert!(rt; is_refused(store));
-    assert_eq!(rt; memory.refused(), 1);
+    expect_refusals(rt, memory, 1);
 }
 
 /// The first growth is that of the list of the replies: without it nothing is submitted.
@@ -121,7 +127,12 @@ fn of_a_list(rt: HostRuntime) {
     for (growths, replies) in &GROWTHS {
         k = expect_each(&rt, &memory, k, *growths, *replies);
     }
-    let refused = check_replies(&rt, &memory, blank_in(&rt, &memory), k, &REPLIES);
-    assert_eq!(rt; refused, 0, "it makes {k}");
+    expect_no_more(&rt, &memory, k);
     drop(memory);
+}
+
+/// The list makes so many growths, and no more.
+fn expect_no_more(rt: &(impl Abort + AllocGlobal), memory: &Refusing<Global>, k: u64) {
+    let refused = check_replies(rt, memory, blank_in(rt, memory), k, &REPLIES);
+    assert_eq!(rt; refused, 0, "it makes {k}");
 }

@@ -1,5 +1,6 @@
 //! A device that lets a store take no memory behind its first call.
 
+use super::expect_refusals;
 use crate::expecting::{THREE, expect_opened, expect_reply, expect_true};
 use crate::hills::{blank_in, created_on};
 use hill_store::{Reply, Store};
@@ -45,7 +46,7 @@ impl<D: Device> Device for Stinting<'_, D> {
 
 /// Growths are refused now, and none was asked for since.
 fn expect_stinted(rt: &impl Abort, memory: &Refusing<Global>) {
-    assert_eq!(rt; memory.refused(), 0);
+    expect_refusals(rt, memory, 0);
     assert!(rt; Box::new(memory, 0_u8).is_err());
     memory.refuse(0, 0);
 }
@@ -90,7 +91,7 @@ fn stinted<D: Device + Drop>(rt: &impl Abort, memory: &Refusing<Global>, inner: 
 fn none_behind_the_first_call_of_the_device(rt: HostRuntime) {
     let memory = Refusing::new(rt.alloc());
     let device = stinted(&rt, &memory, blank_in(&rt, rt.alloc()));
-    assert_eq!(rt; memory.refused(), 0);
+    expect_refusals(&rt, &memory, 0);
     memory.refuse(0, 0);
     expect_opened(&rt, device, 2);
     drop(memory);
