@@ -51,7 +51,7 @@ pub fn submit_all<D: Device, A: Allocator + Copy>(
 }
 
 /// `Store::rows`.
-pub fn rows_of<D: Device, A: Allocator + Copy>(
+pub(crate) fn rows_of<D: Device, A: Allocator + Copy>(
     store: &Store<D, A>,
 ) -> Result<Vec<Row<'_>, A>, AllocError> {
     store.rows()

@@ -12,13 +12,10 @@ mod sectors;
 mod tables;
 
 pub use calls::{
-    audit, close, create, first_untrue, migrate, open, rows_of, settings_from, submit, submit_all,
+    audit, close, create, first_untrue, migrate, open, settings_from, submit, submit_all,
 };
 pub use counting::{Counting, calls_of, counted};
-pub use hills::{
-    SECTORS, blank, created, created_in, created_with, created_within, opened, refusal_to_create,
-    refusal_to_open,
-};
+pub use hills::{SECTORS, blank, refusal_to_open};
 pub use sectors::{back, front, holds, put, sector, set_byte, with_zeros};
 pub use small_warriors::SMALL;
-pub use tables::{count_rows, fell, numbers_at, numbers_of, placed, refused};
+pub use tables::{count_rows, fell, numbers_at, placed};

@@ -5,7 +5,6 @@ use hill_store::{Reply, Store};
 use koth_hill::Row;
 use sector_disk::Device;
 use std::alloc::{AllocError, Allocator};
-use war_types::{AsmFault, AsmKind};
 
 /// The answer to a warrior that is on the hill.
 pub fn placed(entry: u64, rank: u32, score: u32) -> Reply {
@@ -17,13 +16,8 @@ pub fn fell(entry: u64, score: u32) -> Reply {
     Reply::Fell { entry, score }
 }
 
-/// The answer to a source that is refused.
-pub fn refused(line: u32, kind: AsmKind) -> Reply {
-    Reply::Refused(AsmFault { line, kind })
-}
-
 /// A row as three numbers: entry, score and age.
-pub fn numbers_of(row: &Row<'_>) -> (u64, u32, u64) {
+fn numbers_of(row: &Row<'_>) -> (u64, u32, u64) {
     (row.entry, row.score, row.age)
 }
 
