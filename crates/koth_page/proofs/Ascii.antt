@@ -11,13 +11,13 @@ use Rattle.koth_hill.specs.Table.{RowParts}
 use Rattle.koth_page.specs.declared.links.Links.{Links}
 use Rattle.koth_page.specs.declared.links.Links.TheVariants as kinds
 use Rattle.koth_page.specs.declared.parts.TheConstants.{END, HEAD}
-use Rattle.koth_page.specs.declared.rounds.Rounds.{Rounds}
+use Rattle.koth_views.specs.declared.tally.Tally.{Tally}
 use Rattle.koth_page.specs.Cells.{name_cell, number_cell}
 use Rattle.koth_page.specs.Escape.{character_text, characters, escaped, plain_text, reference}
 use Rattle.koth_page.specs.Laws.{is_harmless, is_markup, is_page_byte, is_printable}
 use Rattle.koth_page.specs.Matches.{fought_cell, fought_text, link_start, match_cell, matches_heading, matches_row, matches_rows, matches_text, rank_heading, rounds_text, sides_text}
 use Rattle.koth_page.specs.Page.{hill_page, page_of, tables_text}
-use Rattle.koth_page.specs.Rounds.{rounds_against_all, rounds_between}
+use Rattle.koth_views.specs.Tally.{against_all, between}
 use Rattle.koth_page.specs.Settings.{machine_text, rules_text, setting_text, settings_text}
 use Rattle.koth_page.specs.Standing.{standing_heading, standing_row, standing_rows, standing_text}
 
@@ -120,15 +120,15 @@ ascii_settings : (s : RawSettings) → Ascii (settings_text s)
 unfolding machine_text rules_text setting_text settings_text
 ascii_settings s = simp (list_all-append, ascii_decimal)
 
-ascii_standing_row : (rank : ℕ) (row : RowParts) (rounds : Rounds) → Ascii (standing_row rank row rounds)
+ascii_standing_row : (rank : ℕ) (row : RowParts) (rounds : Tally) → Ascii (standing_row rank row rounds)
 unfolding standing_row
 ascii_standing_row rank row rounds = simp (list_all-append, ascii_number_cell, ascii_name_cell)
 
 ascii_standing : (k : Kept) (rows : List RowParts) → Ascii (standing_text k rows)
 unfolding standing_heading standing_text
 ascii_standing k rows =
-    let f = λ (p : ℕ × RowParts). standing_row p.0 p.1 (rounds_against_all k p.1.entry) in
-    let shown : Ascii (standing_rows k rows) = each is_page_byte f (λ p. ascii_standing_row p.0 p.1 (rounds_against_all k p.1.entry)) (enumerate_from 1 rows) in
+    let f = λ (p : ℕ × RowParts). standing_row p.0 p.1 (against_all k p.1.entry) in
+    let shown : Ascii (standing_rows k rows) = each is_page_byte f (λ p. ascii_standing_row p.0 p.1 (against_all k p.1.entry)) (enumerate_from 1 rows) in
     simp (list_all-append, shown)
 
 ascii_rank_heading : (rank : ℕ) (row : RowParts) → Ascii (rank_heading rank row)
@@ -142,18 +142,18 @@ ascii_matches_heading rows =
     let ranks : Ascii (flat_map f (enumerate_from 1 rows)) = each is_page_byte f (λ p. ascii_rank_heading p.0 p.1) (enumerate_from 1 rows) in
     simp (list_all-append, ranks)
 
-ascii_fought : (links : Links) (rounds : Rounds) (row other : RowParts) → Ascii (fought_text links rounds row other)
+ascii_fought : (links : Links) (rounds : Tally) (row other : RowParts) → Ascii (fought_text links rounds row other)
 unfolding fought_text link_start rounds_text
 ascii_fought kinds.None rounds row other = simp (list_all-append, ascii_decimal)
 ascii_fought kinds.Rounds rounds row other = simp (list_all-append, ascii_decimal)
 
-ascii_fought_cell : (links : Links) (rounds : Rounds) (row other : RowParts) → Ascii (fought_cell links rounds row other)
+ascii_fought_cell : (links : Links) (rounds : Tally) (row other : RowParts) → Ascii (fought_cell links rounds row other)
 unfolding fought_cell sides_text
 ascii_fought_cell links rounds row other = simp (list_all-append, ascii_escaped, ascii_fought)
 
 ascii_match_cell : (k : Kept) (links : Links) (row other : RowParts) → Ascii (match_cell k links row other)
 ascii_match_cell k links row other =
-    let rounds = rounds_between k row.entry other.entry in
+    let rounds = between k row.entry other.entry in
     cond_both (eqb row.entry other.entry) (codes "<td class=\"self\">&middot;</td>") (fought_cell links rounds row other) Ascii (λ _. refl) (λ _. ascii_fought_cell links rounds row other)
 
 ascii_matches_row : (k : Kept) (links : Links) (rows : List RowParts) (rank : ℕ) (row : RowParts) → Ascii (matches_row k links rows rank row)

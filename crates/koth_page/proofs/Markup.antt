@@ -6,17 +6,16 @@ use Rattle.std.proofs.lemmas.List.Elements.{filter-append}
 use Rattle.koth_match.specs.declared.bout.Bout.{Bout}
 use Rattle.koth_hill.specs.Kept.{Kept, or_no_rounds, result_of, table_kept}
 use Rattle.koth_hill.specs.Table.{RowParts}
-use Rattle.koth_views.specs.Tally.{no_tally, of_older, of_younger}
+use Rattle.koth_views.specs.Tally.{against_all, between, no_tally, of_older, of_younger}
 use Rattle.koth_page.specs.declared.links.Links.{Links}
 use Rattle.koth_page.specs.declared.links.Links.TheVariants as kinds
 use Rattle.koth_page.specs.declared.parts.TheConstants.{END, HEAD, MATCHES_START, STANDING_START, TABLE_END}
-use Rattle.koth_page.specs.declared.rounds.Rounds.{Rounds}
+use Rattle.koth_views.specs.declared.tally.Tally.{Tally}
 use Rattle.koth_page.specs.Cells.{name_cell, number_cell, number_cells}
 use Rattle.koth_page.specs.Escape.{escaped}
 use Rattle.koth_page.specs.Laws.{is_harmless, is_markup, is_printable, markup_of, nameless}
 use Rattle.koth_page.specs.Matches.{fought_cell, fought_text, match_cell, matches_heading, matches_row, matches_rows, matches_text, rank_heading, sides_text}
 use Rattle.koth_page.specs.Page.{hill_page, page_of, tables_text}
-use Rattle.koth_page.specs.Rounds.{rounds_against_all, rounds_between}
 use Rattle.koth_page.specs.Settings.{settings_text}
 use Rattle.koth_page.specs.Standing.{standing_heading, standing_row, standing_rows, standing_text}
 use Rattle.koth_page.proofs.Ascii.{harmless}
@@ -53,21 +52,20 @@ markup_of-escaped text = markup_of-harmless (escaped text) (harmless text)
 
 -- ---- rounds ask for no name
 
-abbrev between_by : List ℕ → List (List Bout) → ℕ → ℕ → Rounds
+abbrev between_by : List ℕ → List (List Bout) → ℕ → ℕ → Tally
 between_by entries results one other =
-    let t = cond (ltb one other) (of_older (or_no_rounds (result_of entries results one other)))
-    (cond (ltb other one) (of_younger (or_no_rounds (result_of entries results other one))) no_tally) in
-    record { won = t.won; lost = t.lost; tied = t.tied }
+    cond (ltb one other) (of_older (or_no_rounds (result_of entries results one other)))
+    (cond (ltb other one) (of_younger (or_no_rounds (result_of entries results other one))) no_tally)
 
-abbrev against_by : List ℕ → List (List Bout) → ℕ → Rounds
+abbrev against_by : List ℕ → List (List Bout) → ℕ → Tally
 against_by entries results one =
     record { won = sum_by (λ other. (between_by entries results one other).won) entries; lost = sum_by (λ other. (between_by entries results one other).lost) entries; tied = sum_by (λ other. (between_by entries results one other).tied) entries }
 
-rounds_between-nameless : (k : Kept) (one other : ℕ) → rounds_between k one other ≡ rounds_between (nameless k) one other
-rounds_between-nameless k one other = ap (λ es. between_by es k.results one other) (sym (entries_of-nameless k.members))
+between-nameless : (k : Kept) (one other : ℕ) → between k one other ≡ between (nameless k) one other
+between-nameless k one other = ap (λ es. between_by es k.results one other) (sym (entries_of-nameless k.members))
 
-rounds_against_all-nameless : (k : Kept) (one : ℕ) → rounds_against_all k one ≡ rounds_against_all (nameless k) one
-rounds_against_all-nameless k one = ap (λ es. against_by es k.results one) (sym (entries_of-nameless k.members))
+against_all-nameless : (k : Kept) (one : ℕ) → against_all k one ≡ against_all (nameless k) one
+against_all-nameless k one = ap (λ es. against_by es k.results one) (sym (entries_of-nameless k.members))
 
 -- ---- the parts of a page
 
@@ -82,7 +80,7 @@ name_cells name other =
     let end = codes "</td>" in
     both (start ++ escaped name) (start ++ escaped other) end end (both start start (escaped name) (escaped other) refl (names name other)) refl
 
-standing_row-nameless : (rank : ℕ) (row : RowParts) (rounds : Rounds) → Alike (standing_row rank row rounds) (standing_row rank (nameless_row row) rounds)
+standing_row-nameless : (rank : ℕ) (row : RowParts) (rounds : Tally) → Alike (standing_row rank row rounds) (standing_row rank (nameless_row row) rounds)
 unfolding standing_row
 standing_row-nameless rank row rounds =
     let start = codes "<tr>" ++ number_cells (rank ∷ row.entry ∷ row.score ∷ rounds.won ∷ rounds.lost ∷ rounds.tied ∷ row.age ∷ []) in
@@ -95,9 +93,9 @@ standing_row-nameless rank row rounds =
 
 standing_rows-nameless : (k : Kept) (rows : List RowParts) → Alike (standing_rows k rows) (standing_rows (nameless k) (map nameless_row rows))
 standing_rows-nameless k rows =
-    each_ranked (λ (p : ℕ × RowParts). standing_row p.0 p.1 (rounds_against_all k p.1.entry)) (λ (p : ℕ × RowParts). standing_row p.0 p.1 (rounds_against_all (nameless k) p.1.entry))
-    (λ n row. standing_row-nameless n row (rounds_against_all k row.entry)
-    ∙ ap (λ (rounds : Rounds). markup_of (standing_row n (nameless_row row) rounds)) (rounds_against_all-nameless k row.entry))
+    each_ranked (λ (p : ℕ × RowParts). standing_row p.0 p.1 (against_all k p.1.entry)) (λ (p : ℕ × RowParts). standing_row p.0 p.1 (against_all (nameless k) p.1.entry))
+    (λ n row. standing_row-nameless n row (against_all k row.entry)
+    ∙ ap (λ (rounds : Tally). markup_of (standing_row n (nameless_row row) rounds)) (against_all-nameless k row.entry))
     1 rows
 
 standing-nameless : (k : Kept) (rows : List RowParts) → Alike (standing_text k rows) (standing_text (nameless k) (map nameless_row rows))
@@ -138,12 +136,12 @@ sides-nameless row other =
     both (escaped row.name ++ middle) (none ++ middle) (escaped other.name) none (both (escaped row.name) none middle middle (names row.name []) refl) (names other.name [])
 
 -- a link asks for no name
-fought-nameless : (links : Links) (rounds : Rounds) (row other : RowParts) → fought_text links rounds row other ≡ fought_text links rounds (nameless_row row) (nameless_row other)
+fought-nameless : (links : Links) (rounds : Tally) (row other : RowParts) → fought_text links rounds row other ≡ fought_text links rounds (nameless_row row) (nameless_row other)
 unfolding fought_text
 fought-nameless kinds.None rounds row other = refl
 fought-nameless kinds.Rounds rounds row other = refl
 
-fought_cell-nameless : (links : Links) (rounds : Rounds) (row other : RowParts)
+fought_cell-nameless : (links : Links) (rounds : Tally) (row other : RowParts)
     → Alike (fought_cell links rounds row other) (fought_cell links rounds (nameless_row row) (nameless_row other))
 unfolding fought_cell
 fought_cell-nameless links rounds row other =
@@ -167,12 +165,12 @@ either false own some others same = same
 match_cell-nameless : (k : Kept) (links : Links) (row other : RowParts)
     → Alike (match_cell k links row other) (match_cell (nameless k) links (nameless_row row) (nameless_row other))
 match_cell-nameless k links row other =
-    let rounds = rounds_between k row.entry other.entry in
-    let others = rounds_between (nameless k) row.entry other.entry in
+    let rounds = between k row.entry other.entry in
+    let others = between (nameless k) row.entry other.entry in
     let a = nameless_row row in
     let b = nameless_row other in
     either (eqb row.entry other.entry) (codes "<td class=\"self\">&middot;</td>") (fought_cell links rounds row other) (fought_cell links others a b)
-    (fought_cell-nameless links rounds row other ∙ ap (λ (r : Rounds). markup_of (fought_cell links r a b)) (rounds_between-nameless k row.entry other.entry))
+    (fought_cell-nameless links rounds row other ∙ ap (λ (r : Tally). markup_of (fought_cell links r a b)) (between-nameless k row.entry other.entry))
 
 matches_row-nameless : (k : Kept) (links : Links) (rows : List RowParts) (rank : ℕ) (row : RowParts)
     → Alike (matches_row k links rows rank row) (matches_row (nameless k) links (map nameless_row rows) rank (nameless_row row))

@@ -2,8 +2,6 @@
 pub mod Escape
 -- Numbers and names in the cells of a table.
 pub mod Cells
--- Rounds that one entry won, lost and tied against others.
-pub mod Rounds
 -- The settings of a hill, its table, and its matches.
 pub mod Settings
 pub mod Standing

@@ -5,11 +5,11 @@ use Rattle.koth_hill.specs.Kept.{Kept}
 use Rattle.koth_hill.specs.Table.{RowParts}
 use Rattle.koth_page.specs.declared.links.Links.{Links}
 use Rattle.koth_page.specs.declared.links.Links.TheVariants as kinds
-use Rattle.koth_page.specs.declared.rounds.Rounds.{Rounds}
+use Rattle.koth_views.specs.declared.tally.Tally.{Tally}
 use Rattle.koth_page.specs.declared.parts.TheConstants.{MATCHES_START, TABLE_END}
 use Rattle.koth_page.specs.Cells.{name_cell, number_cell}
 use Rattle.koth_page.specs.Escape.{escaped}
-use Rattle.koth_page.specs.Rounds.{rounds_between}
+use Rattle.koth_views.specs.Tally.{between}
 
 -- the heading of the column of a rank, which names the warrior
 unfoldable pub rank_heading : ℕ → RowParts → List ℕ
@@ -22,7 +22,7 @@ matches_heading rows =
     ++ codes "</tr></thead>\n"
 
 -- rounds won, lost and tied
-unfoldable pub rounds_text : Rounds → List ℕ
+unfoldable pub rounds_text : Tally → List ℕ
 rounds_text r = decimal r.won ++ codes "/" ++ decimal r.lost ++ codes "/" ++ decimal r.tied
 
 -- who fought whom
@@ -34,19 +34,19 @@ unfoldable pub link_start : ℕ → ℕ → List ℕ
 link_start older younger = codes "<a href=\"/replay/" ++ decimal older ++ codes "/" ++ decimal younger ++ codes "/1\">"
 
 -- the rounds of two that fought: where rounds are linked, in a link to the first round
-unfoldable pub fought_text : Links → Rounds → RowParts → RowParts → List ℕ
+unfoldable pub fought_text : Links → Tally → RowParts → RowParts → List ℕ
 fought_text kinds.None rounds row other = rounds_text rounds
 fought_text kinds.Rounds rounds row other =
     link_start (min row.entry other.entry) (max row.entry other.entry) ++ rounds_text rounds ++ codes "</a>"
 
 -- the cell of two that fought, from the side of the first
-unfoldable pub fought_cell : Links → Rounds → RowParts → RowParts → List ℕ
+unfoldable pub fought_cell : Links → Tally → RowParts → RowParts → List ℕ
 fought_cell links rounds row other = codes "<td title=\"" ++ sides_text row other ++ codes "\">" ++ fought_text links rounds row other ++ codes "</td>"
 
 -- what the row of one warrior tells of another, and of itself
 abbrev pub match_cell : Kept → Links → RowParts → RowParts → List ℕ
 match_cell k links row other =
-    if row.entry == other.entry then codes "<td class=\"self\">&middot;</td>" else fought_cell links (rounds_between k row.entry other.entry) row other
+    if row.entry == other.entry then codes "<td class=\"self\">&middot;</td>" else fought_cell links (between k row.entry other.entry) row other
 
 -- the row of a warrior with its rank: a cell for each of these rows
 unfoldable pub matches_row : Kept → Links → List RowParts → ℕ → RowParts → List ℕ

@@ -3,7 +3,7 @@
 //! It knows a hill with the results that it keeps, and no store, files or sockets. The modules, in the order in which the data pass:
 //!
 //! - `escape`: what others wrote, as it stands in a page;
-//! - `cells`: numbers and names in the cells of a table; `rounds`: rounds that one entry won, lost and tied; `links`: what they lead to;
+//! - `cells`: numbers and names in the cells of a table; `links`: what the rounds of a match lead to;
 //! - `parts`: what is the same on every page, with the style sheet;
 //! - `settings`, `standing` and `matches`: the settings of a hill, its table, and its matches;
 //! - `page`: all of these.
@@ -18,7 +18,6 @@ mod links;
 mod matches;
 mod page;
 mod parts;
-mod rounds;
 mod settings;
 mod standing;
 

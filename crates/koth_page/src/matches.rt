@@ -9,8 +9,8 @@ use crate::cells::{put_name_cell, put_number, put_number_cell};
 use crate::escape::put_escaped;
 use crate::links::Links;
 use crate::parts::{MATCHES_START, TABLE_END};
-use crate::rounds::{Rounds, between};
 use koth_hill::{Hill, Row};
+use koth_views::{Tally, between};
 use std::alloc::{AllocError, Allocator};
 
 /// Puts the matches of these rows: a row for each warrior by rank, and a column for each other by rank.
@@ -136,7 +136,7 @@ fn put_cell<A: Allocator, B: Allocator>(
 fn put_fought_cell<A: Allocator>(
     page: &mut Vec<u8, A>,
     links: Links,
-    rounds: Rounds,
+    rounds: Tally,
     row: &Row<'_>,
     other: &Row<'_>,
 ) -> Result<(), AllocError>
@@ -155,7 +155,7 @@ fn put_fought_cell<A: Allocator>(
 fn put_fought<A: Allocator>(
     page: &mut Vec<u8, A>,
     links: Links,
-    rounds: Rounds,
+    rounds: Tally,
     row: &Row<'_>,
     other: &Row<'_>,
 ) -> Result<(), AllocError>
@@ -204,7 +204,7 @@ fn put_sides<A: Allocator>(
 }
 
 #[tactic(auto, unfolding(crate::specs::Matches::rounds_text))]
-fn put_rounds<A: Allocator>(page: &mut Vec<u8, A>, rounds: Rounds) -> Result<(), AllocError>
+fn put_rounds<A: Allocator>(page: &mut Vec<u8, A>, rounds: Tally) -> Result<(), AllocError>
     ensures { OnOk result (page.new.items ≡ page.old.items ++ rounds_text rounds) }
 {
     put_number(page, rounds.won)?;

@@ -2,13 +2,13 @@
 
 ghost use Rattle.std.specs.Prelude.{◌≡◌, ◌+◌, ◌<◌, ◌^◌, ◌++◌, ◌∷◌, [], length, codes, OnOk};
 ghost use Rattle.koth_hill.specs.Rows.{row_parts, rows_parts};
-ghost use Rattle.koth_page.specs.Rounds.{rounds_against_all};
+ghost use Rattle.koth_views.specs.Tally.{against_all};
 ghost use Rattle.koth_page.specs.Standing.{standing_heading, standing_row, standing_rows, standing_text};
 
 use crate::cells::{put_name_cell, put_number_cells};
 use crate::parts::{STANDING_START, TABLE_END};
-use crate::rounds::{Rounds, against_all};
 use koth_hill::{Hill, Row};
+use koth_views::{Tally, against_all};
 use std::alloc::{AllocError, Allocator};
 
 /// Puts the table of these rows: by rank, with entry, points, rounds won, lost and tied against all others, age, name and author.
@@ -56,7 +56,7 @@ fn put_row<A: Allocator>(
     page: &mut Vec<u8, A>,
     rank: u64,
     row: &Row<'_>,
-    rounds: Rounds,
+    rounds: Tally,
 ) -> Result<(), AllocError>
     ensures { OnOk result (page.new.items ≡ page.old.items ++ standing_row rank (row_parts row.now) rounds) }
 {

@@ -10,8 +10,10 @@ use std::alloc::Allocator;
 
 /// Rounds of one warrior.
 #[derive(Clone, Copy, Debug, PartialEq, Eq)]
-pub(crate) struct Tally {
+pub struct Tally {
+    /// Rounds that it won.
     pub won: u64,
+    /// Rounds that the other one won.
     pub lost: u64,
     /// Rounds that neither won.
     pub tied: u64,
@@ -47,8 +49,8 @@ impl Tally {
     }
 }
 
-/// What one entry came to in its match against another, as the hill keeps it; no rounds where there was none.
-pub(crate) fn between<B: Allocator>(hill: &Hill<B>, one: u64, other: u64) -> Tally
+/// What one entry came to in its match against another, as the hill keeps it; no rounds if there was no match.
+pub fn between<B: Allocator>(hill: &Hill<B>, one: u64, other: u64) -> Tally
     ensures value { result ≡ between hill.now one other }
     ensures won { result.won ≤ 65535 }
     ensures lost { result.lost ≤ 65535 }
@@ -63,8 +65,8 @@ pub(crate) fn between<B: Allocator>(hill: &Hill<B>, one: u64, other: u64) -> Tal
     }
 }
 
-/// What one entry came to in its matches against all on the hill.
-pub(crate) fn against_all<B: Allocator>(hill: &Hill<B>, one: u64) -> Tally
+/// What one entry came to in its matches against all on the hill: the sums of these.
+pub fn against_all<B: Allocator>(hill: &Hill<B>, one: u64) -> Tally
     ensures { result ≡ against_all hill.now one }
 {
     let mut won = 0;
