@@ -1,0 +1,94 @@
+//! Which warriors fit settings.
+
+use crate::titles::unnamed_or;
+use std::alloc::{AllocError, Global};
+use std::process::Abort;
+use tests_fixtures::{SMALL, rows};
+use war_types::{Instr, Mode, Modifier, Op, Settings, Warrior};
+
+const GOOD: Instr = Instr {
+    op: Op::Mov,
+    modifier: Modifier::I,
+    a_mode: Mode::Direct,
+    a: 0,
+    b_mode: Mode::Direct,
+    b: 63,
+};
+
+/// A bomb.
+const BOMB: Instr = Instr {
+    op: Op::Dat,
+    modifier: Modifier::F,
+    a: 63,
+    b: 5,
+    ..GOOD
+};
+
+/// A warrior of this code and start, if it fits the small settings.
+fn warrior(rt: &impl Abort, code: Vec<Instr>, start: u16) -> Option<Warrior<Global>> {
+    let settings = Settings::new(SMALL).expect(rt, "they are accepted");
+    Warrior::new(
+        code,
+        start,
+        unnamed_or(b"Imp"),
+        unnamed_or(b"A. Author"),
+        &settings,
+    )
+}
+
+#[test]
+fn a_warrior_gives_back_its_parts(rt: HostRuntime) {
+    let code = Vec::from_slice(rt.alloc(), &[GOOD, BOMB]).expect(&rt, "there is memory");
+    let warrior = warrior(&rt, code, 1).expect(&rt, "it fits");
+    assert_eq!(rt; warrior.code(), [GOOD, BOMB].as_slice());
+    assert_eq!(rt; warrior.start(), 1);
+    assert_eq!(rt; warrior.name().bytes(), b"Imp".as_slice());
+    assert_eq!(rt; warrior.author().bytes(), b"A. Author".as_slice());
+}
+
+/// How many instructions, the start, the last instruction, and whether they fit.
+type Fitting = (usize, u16, Instr, bool);
+
+const FITTING: [Fitting; 11] = rows! {
+    1 => 0, GOOD, true;
+    10 => 9, GOOD, true;
+    3 => 0, Instr { a: 63, b: 0, ..GOOD }, true;
+    0 => 0, GOOD, false;
+    11 => 0, GOOD, false;
+    10 => 10, GOOD, false;
+    2 => 2, GOOD, false;
+    1 => 65_535, GOOD, false;
+    3 => 0, Instr { a: 64, ..GOOD }, false;
+    3 => 0, Instr { b: 64, ..GOOD }, false;
+    1 => 0, Instr { a: 65_535, b: 65_535, ..GOOD }, false;
+};
+
+/// So many instructions, of which this is the last.
+fn code_of(alloc: Global, count: usize, last: Instr) -> Result<Vec<Instr>, AllocError> {
+    let mut code = Vec::new(alloc);
+    for _ in 1..count {
+        code.push(GOOD)?;
+    }
+    if count > 0 {
+        code.push(last)?;
+    }
+    Ok(code)
+}
+
+fn expect_fitting(rt: &(impl Abort + AllocGlobal), fitting: &Fitting) {
+    let (count, start, last, fits) = *fitting;
+    let code = code_of(rt.alloc(), count, last).expect(rt, "there is memory");
+    let is_one = warrior(rt, code, start).is_some();
+    assert_eq!(rt;
+        is_one,
+        fits,
+        "{count} instructions, start {start}, last {last:?}"
+    );
+}
+
+#[test]
+fn warriors_that_fit_and_that_do_not(rt: HostRuntime) {
+    for fitting in &FITTING {
+        expect_fitting(&rt, fitting);
+    }
+}
