@@ -30,7 +30,7 @@ const SECOND: HeaderEntry = HeaderEntry {
 
 const BOTH: [HeaderEntry; 2] = [FIRST, SECOND];
 
-/// The whole sector of that header: zeros stand behind.
+/// The whole sector of that header: the rest is zeros.
 fn sector_of_two() -> [u8; 512] {
     let mut content = [0; 512];
     content[..84].copy_from_slice(&BEGINS);
@@ -96,7 +96,7 @@ fn a_header_is_written_and_read(rt: HostRuntime) -> Result<(), Fail> {
     let bytes = bytes_of(SMALL)?;
     assert!(rt; bytes == sector_of_two());
     expect_both(&rt, &decode_header(&bytes).ok_or("its header")?);
-    // Behind the entries.
+    // After the entries.
     assert!(rt; !is_header_with(&bytes, 511, 1));
     // Earlier hills, which kept no results, began otherwise.
     assert!(rt; !is_header_with(&bytes, 7, b'0'));
@@ -108,7 +108,7 @@ fn limited(read_limit: u32, write_limit: u32) -> RawSettings {
     small!(read_limit: read_limit, write_limit: write_limit)
 }
 
-/// Where a header has its limits, from 36 on.
+/// The limits in a header, from 36 on.
 fn limits_in(bytes: &[u8; 512]) -> [u8; 4] {
     [bytes[36], bytes[37], bytes[38], bytes[39]]
 }
@@ -222,7 +222,7 @@ fn lengths_in_a_header(rt: HostRuntime) -> Result<(), Fail> {
     expect_length(&rt, 200, false)
 }
 
-/// One byte makes it none: behind the entries, of what it begins with, and of a limit.
+/// One byte makes it none: after the entries, of what it begins with, and of a limit.
 #[test]
 fn bytes_that_are_no_old_header(rt: HostRuntime) -> Result<(), Fail> {
     let bytes = old_bytes_of(of_length(100))?;

@@ -146,7 +146,7 @@ fn sectors_that_hold_no_warrior(rt: HostRuntime) -> Result<(), Fail> {
 const SPOILT: [(usize, usize, u8); 11] = [
     // A number that is not below the core size.
     (0, 15, 64),
-    // Behind the code, in each of the sectors.
+    // After the code, in each of the sectors.
     (0, 16, 1),
     (1, 0, 1),
     (2, 511, 1),
@@ -157,12 +157,12 @@ const SPOILT: [(usize, usize, u8); 11] = [
     (3, 287, 1),
     // One round more than a match has.
     (3, 399, 1),
-    // Behind the results.
+    // After the results.
     (3, 472, 1),
     (3, 511, 1),
 ];
 
-/// So many instructions `DAT.F #0, #n`, where n counts them.
+/// `count` instructions `DAT.F #0, #n`: n is the index of each.
 fn counting(alloc: Global, length: u16) -> Result<Vec<Instr, Global>, AllocError> {
     let mut code = Vec::new(alloc);
     for n in 0..length {
@@ -171,7 +171,7 @@ fn counting(alloc: Global, length: u16) -> Result<Vec<Instr, Global>, AllocError
     Ok(code)
 }
 
-/// A warrior of so many such instructions that starts at the last one.
+/// A warrior of `count` such instructions that starts at the last one.
 fn counted(alloc: Global, length: u16) -> Result<Warrior<Global>, Fail> {
     let settings = settings_from(of_length(u32::from(length)))?;
     let (name, author) = (
@@ -192,7 +192,7 @@ fn expect_four(rt: &impl Abort, sector: &[u8; 512], at: usize, due: [u8; 4]) {
     assert_eq!(rt; four_at(sector, at), Some(due.as_slice()));
 }
 
-/// Where the numbers of instructions stand in a slot, both of them: the sector, the place, and the B-number. The A-number is zero.
+/// Where both numbers of an instruction are in a slot: the sector, the place, and the B-number. The A-number is zero.
 const NUMBERS: [(usize, usize, u8); 8] = [
     (0, 4, 0),
     (0, 508, 63),
@@ -232,7 +232,7 @@ fn the_longest_warrior(rt: HostRuntime) -> Result<(), Fail> {
     Ok(())
 }
 
-/// A slot in the old format: the second sector has its code, and behind that the fields of the last one.
+/// A slot in the old format: the second sector has its code, and then the fields of the last one.
 fn narrowed(slot: &Slot) -> OldSlot {
     let mut last = slot.sectors[1];
     last[288..].copy_from_slice(&slot.sectors[3][288..]);

@@ -85,7 +85,7 @@ fn numbers_that_are_not_below_the_core_size(rt: HostRuntime) {
     assert_eq!(rt; Instr::from_bytes(&bytes, 8000), None);
 }
 
-/// A title of these bytes with zeros behind them, if there is one.
+/// A title of these bytes and then zeros, if there is one.
 fn read(front: &[u8], at: usize, byte: u8) -> Option<Title> {
     let mut bytes = [0; 48];
     for (place, letter) in bytes.iter_mut().zip(front) {

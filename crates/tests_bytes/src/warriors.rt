@@ -63,7 +63,7 @@ const FITTING: [Fitting; 11] = rows! {
     1 => 0, Instr { a: 65_535, b: 65_535, ..GOOD }, false;
 };
 
-/// So many instructions, of which this is the last.
+/// `count` instructions, the last of which is `last`.
 fn code_of(alloc: Global, count: usize, last: Instr) -> Result<Vec<Instr>, AllocError> {
     let mut code = Vec::new(alloc);
     for _ in 1..count {

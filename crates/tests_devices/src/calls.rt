@@ -6,7 +6,7 @@ use std::alloc::{Allocator, Global};
 use std::fmt::{Debug, Display};
 use std::process::Abort;
 
-/// What was found is what is due. If it isn't, the note tells of what.
+/// What was found is what is due. If it isn't, the note says what was looked at.
 pub(crate) fn expect_same<T: PartialEq + Debug>(
     rt: &impl Abort,
     found: &T,
@@ -21,12 +21,12 @@ pub(crate) fn in_memory(rt: &(impl Abort + AllocGlobal), sectors: u32) -> Memory
     MemoryDevice::new(rt.alloc(), sectors).expect(rt, "there is memory")
 }
 
-/// The device has so many sectors.
+/// The device has `count` sectors.
 pub(crate) fn expect_sectors<D: Device>(rt: &impl Abort, device: &D, count: u32) {
     expect_same(rt, &device.sectors(), &count, "sectors");
 }
 
-/// The device has counted so many faults.
+/// The device has counted `count` faults.
 pub(crate) fn expect_faults<D: Device>(rt: &impl Abort, device: &D, count: u64) {
     expect_same(rt, &device.faults(), &count, "faults");
 }
@@ -48,7 +48,7 @@ pub(crate) fn sync<D: Device>(rt: &impl Abort, device: &mut D) {
     expect_same(rt, &device.sync(), &Ok(()), "a sync");
 }
 
-/// A sync that fails, and counts one fault more than so many.
+/// A sync that fails, and counts one more than `faults`.
 fn expect_refused<D: Device>(rt: &impl Abort, device: &mut D, faults: u64) {
     expect_faults(rt, device, faults);
     expect_same(rt, &device.sync(), &Err(Fault), "a sync");
@@ -77,7 +77,7 @@ fn expect_unread<D: Device>(rt: &impl Abort, device: &mut D, n: u32) {
     expect_faults(rt, device, 1);
 }
 
-/// What a stop leaves of a device in memory, where these are its numbers.
+/// What a stop with these numbers leaves of a device in memory.
 pub(crate) fn stopped<A: Allocator + Copy>(
     rt: &impl Abort,
     device: &MemoryDevice<A>,
@@ -98,7 +98,7 @@ pub(crate) fn expect_stopped<A: Allocator + Copy>(
     expect_read(rt, &mut left, n, byte);
 }
 
-/// The sectors of a device that was made, which is let go.
+/// The sectors of a device that was made. It is dropped.
 pub(crate) fn sectors_of<D: Device + Drop, E>(made: Result<D, E>) -> Result<u32, E> {
     match made {
         Ok(device) => Ok(device.sectors()),
@@ -109,9 +109,9 @@ pub(crate) fn sectors_of<D: Device + Drop, E>(made: Result<D, E>) -> Result<u32,
 /// A call of a device, and what has to come of it.
 #[derive(Clone, Copy)]
 pub(crate) enum Step {
-    /// It has so many sectors.
+    /// The number of its sectors.
     Sectors(u32),
-    /// It has counted so many faults.
+    /// The number of faults that it has counted.
     Faults(u64),
     /// A byte is written all over a sector.
     Write(u32, u8),
@@ -121,7 +121,7 @@ pub(crate) enum Step {
     Unread(u32),
     /// A sync is done.
     Sync,
-    /// A sync fails behind so many faults.
+    /// A sync that fails after this number of faults.
     Refused(u64),
 }
 

@@ -16,18 +16,18 @@ use std::io::ErrorKind;
 use std::process::Abort;
 use std::rt::Files;
 
-/// What is done at a path, or has to hold there. A file beside it is named by what its path has behind this one.
+/// What is done at a path, or has to hold there. A file beside it is named by the suffix of its path.
 #[derive(Clone, Copy)]
 pub(crate) enum Deed<'t> {
     /// The file beside it is removed.
     Remove(&'t str),
     /// A file of these bytes is written.
     Write(&'t [u8]),
-    /// A file of so many zeros is written, with one byte behind them.
+    /// A file is written: the number of its zeros, and the one byte after them.
     WriteZeros(usize, u8),
-    /// The file has so many bytes from now on.
+    /// The file gets another length.
     SetLength(u64),
-    /// A file is made that has so many bytes, and none of them on the disk.
+    /// A file of this length is made, with none of its bytes on the disk.
     MakeHole(u64),
     /// A file like the first one is at the second path from now on.
     Copy(&'t str, &'t str),
@@ -41,15 +41,15 @@ pub(crate) enum Deed<'t> {
     RemoveFolder,
     /// There is nothing.
     Nothing,
-    /// The file holds so many bytes, each of them zero.
+    /// The file has this length, and each byte is zero.
     Zeros(usize),
-    /// It takes less than so many blocks on the disk.
+    /// It takes fewer blocks on the disk than this.
     BlocksBelow(u64),
-    /// It takes so many blocks or more.
+    /// It takes this number of blocks or more.
     BlocksFrom(u64),
     /// It lies on the disk with three sectors, and is its owner's alone.
     Private,
-    /// Making a hill's file with so many sectors ends so.
+    /// Making a hill's file with this number of sectors ends so.
     Make(u32, Existing, Result<u32, OpenFault>),
     /// Making one ends so, whatever may become of a file that is there.
     NoneMade(ErrorKind),

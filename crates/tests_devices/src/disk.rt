@@ -23,7 +23,7 @@ fn are_zeros(bytes: &[u8]) -> bool {
     bytes.iter().all(|byte| *byte == 0)
 }
 
-/// The file holds so many bytes, each of them zero.
+/// The file holds `length` bytes, each of them zero.
 pub(crate) fn expect_zeros(rt: &(impl Files + AllocGlobal + Abort), path: &str, length: usize) {
     let bytes = bytes_of(rt, path);
     expect_same(rt, &bytes.len(), &length, "bytes");
@@ -41,7 +41,7 @@ pub(crate) fn write_sixes(rt: &(impl Files + AllocGlobal + Abort), path: &str, c
     write_file(rt, path, bytes.as_slice());
 }
 
-/// Writes a file of so many zeros, with one byte behind them.
+/// Writes a file of `zeros` zeros, and the byte `last` after them.
 pub(crate) fn write_zeros_and(
     rt: &(impl Files + AllocGlobal + Abort),
     path: &str,
@@ -53,7 +53,7 @@ pub(crate) fn write_zeros_and(
     write_file(rt, path, bytes.as_slice());
 }
 
-/// The file has so many bytes from now on.
+/// The file has `bytes` bytes from now on.
 pub(crate) fn set_length(rt: &(impl Files + Abort), path: &str, bytes: u64) {
     let file = File::options()
         .write(true)
@@ -62,7 +62,7 @@ pub(crate) fn set_length(rt: &(impl Files + Abort), path: &str, bytes: u64) {
     file.set_len(bytes).expect(rt, "its length is set");
 }
 
-/// Makes a file that has so many bytes, and none of them on the disk.
+/// Makes a file that has `bytes` bytes, and none of them on the disk.
 pub(crate) fn make_hole(rt: &(impl Files + Abort), path: &str, bytes: u64) {
     let file = fs::create(rt, path).expect(rt, "a file is made");
     file.set_len(bytes).expect(rt, "its length is set");
@@ -73,12 +73,12 @@ fn blocks(rt: &(impl Files + Abort), path: &str) -> u64 {
     fs::metadata(rt, path).expect(rt, "it is there").blocks()
 }
 
-/// The file takes less than so many blocks on the disk.
+/// The file takes less than `count` blocks on the disk.
 pub(crate) fn expect_blocks_below(rt: &(impl Files + Abort), path: &str, count: u64) {
     assert!(rt; blocks(rt, path) < count);
 }
 
-/// It takes so many blocks or more.
+/// It takes `count` blocks or more.
 pub(crate) fn expect_blocks_from(rt: &(impl Files + Abort), path: &str, count: u64) {
     assert!(rt; blocks(rt, path) >= count);
 }
@@ -111,32 +111,32 @@ pub(crate) fn remove(rt: &(impl Abort + Files), path: &str) {
     fs::remove_file(rt, path).expect(rt, "the file is removed");
 }
 
-/// The path with this behind it.
+/// The path with this suffix.
 pub(crate) fn beside(rt: &(impl AllocGlobal + Abort), path: &str, suffix: &str) -> String {
     format!(in rt.alloc(); "{path}{suffix}").expect(rt, "there is memory")
 }
 
-/// The file whose path has this behind this one is no longer there.
+/// The file whose path has this suffix is no longer there.
 pub(crate) fn remove_beside(rt: &(impl Files + AllocGlobal + Abort), path: &str, suffix: &str) {
     let path = beside(rt, path, suffix);
     remove(rt, path.as_str());
 }
 
-/// A file like that at one path is at another from now on. Both are named by what they have behind this one.
+/// A file like that at one path is at another from now on. Both are named by their suffixes.
 pub(crate) fn copy(rt: &(impl Files + AllocGlobal + Abort), path: &str, from: &str, to: &str) {
     let from = beside(rt, path, from);
     let to = beside(rt, path, to);
     fs::copy(rt, from.as_str(), to.as_str()).expect(rt, "the file is copied");
 }
 
-/// What is at one path is at another from now on. Both are named by what they have behind this one.
+/// What is at one path is at another from now on. Both are named by their suffixes.
 pub(crate) fn rename(rt: &(impl Files + AllocGlobal + Abort), path: &str, from: &str, to: &str) {
     let from = beside(rt, path, from);
     let to = beside(rt, path, to);
     fs::rename(rt, from.as_str(), to.as_str()).expect(rt, "the file is renamed");
 }
 
-/// A path leads to another, which has this behind it, from now on.
+/// A path leads to another, which has this suffix, from now on.
 pub(crate) fn link(rt: &(impl Files + AllocGlobal + Abort), path: &str, to: &str) {
     let to = beside(rt, path, to);
     symlink(rt, to.as_str(), path).expect(rt, "the link is made");

@@ -12,7 +12,7 @@ use std::fs::File;
 use std::process::Abort;
 use std::rt::Files;
 
-/// The sectors of a device that is made with so many.
+/// The sectors of a device that is made with `sectors`.
 pub(crate) fn sectors_made<R: Files>(
     files: &R,
     alloc: Global,
@@ -36,13 +36,13 @@ enum FileDeed {
     OnOpened(&'static [Step]),
     /// The file holds what `FILL` writes.
     HoldsWritten,
-    /// The file holds 1,024 bytes of 6, and as many zeros behind them.
+    /// The file holds 1,024 bytes of 6, and then as many zeros.
     HoldsExtended,
-    /// A file of so many bytes is written, each of them 6.
+    /// A file of this length is written, each byte 6.
     WriteSixes(usize),
-    /// A device that is made with so many sectors has so many.
+    /// The sectors that a device is made with, and those that it has.
     Make(u32, u32),
-    /// A device that is opened over a file of so many bytes has so many sectors.
+    /// The bytes of a file, and the sectors of a device that is opened over it.
     Whole(usize, u32),
     /// The bytes of a part of a sector stay, and zeros follow them.
     PartFilled,
@@ -130,7 +130,7 @@ fn a_file_is_made_written_closed_opened_and_read(rt: HostRuntime) {
     at_place(&rt, rt.process(), "life", &LIFE);
 }
 
-/// A device that is made with so many sectors has so many.
+/// A device that is made with `asked` sectors has `sectors`.
 fn expect_made(rt: &(impl Files + AllocGlobal + Abort), path: &str, asked: u32, sectors: u32) {
     let made = sectors_made(rt, rt.alloc(), path, asked).expect(rt, "it is made");
     expect_same(rt, &made, &sectors, format_args!("{asked} asked"));
@@ -148,7 +148,7 @@ const EXTENDED: [FileDeed; 8] = [
     FileDeed::Remove,
 ];
 
-/// The file holds 1,024 bytes of 6, and as many zeros behind them.
+/// The file holds 1,024 bytes of 6, and then as many zeros.
 fn expect_extended(rt: &(impl Files + AllocGlobal + Abort), path: &str) {
     expect_bytes(rt, path, [[6; 1024], [0; 1024]].as_flattened());
 }
@@ -158,7 +158,7 @@ fn a_file_is_extended(rt: HostRuntime) {
     at_place(&rt, rt.process(), "longer", &EXTENDED);
 }
 
-/// A device that is opened over a file of so many bytes has so many sectors.
+/// A device that is opened over a file of `count` bytes has `whole` sectors.
 fn expect_whole(rt: &(impl Files + AllocGlobal + Abort), path: &str, count: usize, whole: u32) {
     write_sixes(rt, path, count);
     let opened = sectors_opened(rt, path).expect(rt, "it is opened");
@@ -215,10 +215,10 @@ fn expect_not_made(rt: &(impl Files + AllocGlobal + Abort), path: &str) {
     expect_same(rt, &made, &Err(FileFault::Failed), "making");
 }
 
-/// What is tried where nothing is.
+/// What is tried at a path with nothing.
 const MISSING: [FileDeed; 2] = [FileDeed::NotOpened, FileDeed::Nothing];
 
-/// What is tried where a folder is.
+/// What is tried at the path of a folder.
 const FOLDER: [FileDeed; 4] = [
     FileDeed::CreateFolder,
     FileDeed::NotOpened,

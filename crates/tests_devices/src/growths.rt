@@ -11,7 +11,7 @@ use tests_fixtures::{Refusing, refuse_each};
 /// A device that takes its memory of this.
 type Counted<'m> = MemoryDevice<&'m Refusing<Global>>;
 
-/// A new device, where nothing is refused, of which these calls are made.
+/// A new device of which these calls are made, without a refusal.
 fn made<'m>(
     rt: &impl Abort,
     memory: &'m Refusing<Global>,
@@ -23,7 +23,7 @@ fn made<'m>(
     device
 }
 
-/// So many growths were refused.
+/// `count` growths were refused.
 fn expect_refusals(rt: &impl Abort, memory: &Refusing<Global>, count: u64) {
     expect_same(rt, &memory.refused(), &count, "refusals");
 }
@@ -85,7 +85,7 @@ fn expect_nine_contents(rt: &impl Abort, device: &Counted<'_>) {
     }
 }
 
-/// Writes a number all over the one sector, behind the number before it. A refused write is made again.
+/// Writes a number all over the one sector, after the number before it. A refused write is made again.
 fn write_number<D: Device>(rt: &impl Abort, device: &mut D, number: u8) {
     assert!(rt; 0 < device.sectors());
     if device.write(0, &[number; 512]).is_err() {
@@ -112,7 +112,7 @@ fn write_nine<D: Device>(
     refused
 }
 
-/// Nine writes of which this growth is refused: then each image is that of a device that met no refusal, and so many were refused.
+/// Nine writes of which this growth is refused: then each image is that of a device that met no refusal, and `refusals` were refused.
 fn expect_writes(rt: &impl Abort, memory: &Refusing<Global>, growth: u64, refusals: u64) {
     let mut device = made(rt, memory, 1, &[]);
     let refused = write_nine(rt, memory, &mut device, growth);

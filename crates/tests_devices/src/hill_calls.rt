@@ -20,7 +20,7 @@ use std::rt::Files;
 /// device, measured, and looked for.
 const MADE: [u8; 15] = *b"okmmrswwwyoyomm";
 
-/// What is told where a call fails.
+/// What is reported if a call fails.
 const FAILED: Result<u32, OpenFault> = Err(OpenFault::Failed(ErrorKind::Other));
 
 /// What is done at a path, or has to come out there.
@@ -28,7 +28,7 @@ const FAILED: Result<u32, OpenFault> = Err(OpenFault::Failed(ErrorKind::Other));
 enum HillCall {
     /// Making a hill's file ends so, after these calls, of which the one of this number fails.
     Make(Existing, usize, Result<u32, OpenFault>, &'static [u8]),
-    /// Making one stops where the call of this number fails.
+    /// Making one stops at the call of this number, which fails.
     StopMaking(usize),
     /// It stops at each of the calls.
     StopEach,
@@ -38,7 +38,7 @@ enum HillCall {
     MakeAndCall,
     /// A file of these bytes is written.
     Write(&'static [u8]),
-    /// The file holds so many bytes, each of them zero.
+    /// The file has this length, and each byte is zero.
     Zeros(usize),
     /// It is removed.
     Remove,
@@ -123,7 +123,7 @@ fn making_locks_and_looks_before_it_writes(rt: HostRuntime) {
     at_place(&rt, rt.process(), "hill-calls", &LOCKED);
 }
 
-/// Making a hill's file stops where the call of this number fails.
+/// Making a hill's file stops at the call of this number, which fails.
 fn stop_making<R: Files>(
     rt: &(impl AllocGlobal + Abort),
     files: &R,

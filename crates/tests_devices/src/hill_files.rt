@@ -11,7 +11,7 @@ use std::io::ErrorKind;
 use std::process::Abort;
 use std::rt::Files;
 
-/// The sectors of a hill's file that is made with so many.
+/// The sectors of a hill's file that is made with `sectors`.
 pub(crate) fn sectors_made<R: Files>(
     files: &R,
     alloc: Global,
@@ -37,7 +37,7 @@ where
     sectors_of(HillFile::open(files, path, sharing))
 }
 
-/// Making a hill's file with so many sectors ends so.
+/// Making a hill's file with `asked` sectors ends so.
 pub(crate) fn expect_made(
     rt: &(impl Files<File = File> + AllocGlobal + Abort),
     path: &str,
@@ -85,7 +85,7 @@ const LOCKED: [Turn<'static>; 5] = [
     Turn::At(Deed::Open(Sharing::Shared, Ok(3))),
 ];
 
-/// When it is let go, another takes the lock.
+/// When it is closed, another takes the lock.
 const UNLOCKED: [Deed<'static>; 3] = [
     Deed::Open(Sharing::Alone, Ok(3)),
     Deed::OpenBeside,
@@ -199,10 +199,10 @@ pub(crate) fn expect_none_made(
     expect_made(rt, path, 3, Existing::Overwritten, failed);
 }
 
-/// What is told where nothing is.
+/// What is reported at a path with nothing.
 const MISSING: Result<u32, OpenFault> = Err(OpenFault::Failed(ErrorKind::NotFound));
 
-/// What is told where a folder is.
+/// What is reported at the path of a folder.
 const FOLDER: Result<u32, OpenFault> = Err(OpenFault::Failed(ErrorKind::IsADirectory));
 
 /// None is made in a folder that is missing.

@@ -1,4 +1,4 @@
-//! The syncs of the device over a hill's file: none is done where the path leads elsewhere, or the file is too short.
+//! The syncs of the device over a hill's file: none is done if the path leads elsewhere, or the file is too short.
 
 use crate::calls::{Step, expect_faults};
 use crate::deeds::Deed;

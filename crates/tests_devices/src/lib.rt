@@ -1,12 +1,15 @@
 //! Tests of the public calls of `sector_disk` and `hill_file`.
 //!
-//! No crate stands on this one, so `sector_disk` is proved once, without tests, and the tests are proved over it. `devices` tries the
-//! device in memory call by call, `images` has each image that a stop leaves of it, `fuses` the one that fails, `files` the one over a
-//! file, and `growths` refuses each growth in turn. `file_calls` counts, by the files in `watched`, the calls that reach a file. Of the
-//! device over a hill's file, `hill_files` has its lock and what becomes of a file that is there, `hill_syncs` the syncs that are refused,
-//! and `hill_calls` the calls that reach the file. `calls` has the calls of a device as the tests make them, `disk` what they do to files,
-//! and `places` goes through tables of both, where `deeds` has those of a hill's file. What they expect was counted by hand. A test here
-//! must not show what a contract could say instead.
+//! No crate stands on this one, so those are proved once, without tests, and the tests are proved over them. A module a subject:
+//!
+//! - `devices`, `images` and `fuses`: the device in memory, each image that a stop leaves of it, and the device that fails;
+//! - `files` and `file_calls`: the device over a file, and the calls that reach the file, counted by the files in `watched`;
+//! - `hill_files`, `hill_syncs` and `hill_calls`: of the device over a hill's file its lock and what becomes of a file that is there, the
+//!   syncs that are refused, and the calls that reach the file;
+//! - `growths`: each growth of memory refused in turn.
+//!
+//! `calls` has the calls of a device as the tests make them, and `disk` what they do to files. `places` goes through tables of both, and
+//! `deeds` has those of a hill's file. What they expect was counted by hand. A test here must not show what a contract could say instead.
 #![tactic(auto)]
 
 #[cfg(test)]

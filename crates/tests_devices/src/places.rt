@@ -72,7 +72,7 @@ pub(crate) fn take_turns<D: Device>(
     }
 }
 
-/// These calls are made of a device, which has to be made or opened, as `what` says, and is let go behind them.
+/// These calls are made of a device, which has to be made or opened, as `what` says, and is dropped then.
 pub(crate) fn on_device<D: Device + Drop, E: Debug>(
     rt: &impl Abort,
     got: Result<D, E>,
@@ -83,7 +83,7 @@ pub(crate) fn on_device<D: Device + Drop, E: Debug>(
     take_all(rt, &mut device, steps);
 }
 
-/// These turns are taken on a device at a path, which has to be made or opened, as `what` says, and is let go behind them.
+/// These turns are taken on a device at a path, which has to be made or opened, as `what` says, and is dropped then.
 pub(crate) fn by_turns<D: Device + Drop, E: Debug>(
     rt: &(impl Files<File = File> + AllocGlobal + Abort),
     got: Result<D, E>,
@@ -105,7 +105,7 @@ fn on_new_hill<'f, R: Files<File = File> + AllocGlobal + Abort>(
     by_turns(rt, hill, "it is made", path, turns);
 }
 
-/// Before a hill's file of three sectors is made at a place of this name, and behind the turns that are taken on it, these deeds are done.
+/// Before a hill's file of three sectors is made at a place of this name, and after the turns that are taken on it, these deeds are done.
 pub(crate) fn on_hill(
     rt: &(impl Files<File = File> + Env + AllocGlobal + Abort),
     process: Process,

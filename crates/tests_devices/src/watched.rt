@@ -56,7 +56,7 @@ pub(crate) fn new_calls(fails_at: usize) -> Cell<Calls> {
     Cell::new(Calls::none(fails_at))
 }
 
-/// Writes a call down, and fails where it is that one's turn.
+/// Writes a call down, and fails if it is the one that is to fail.
 fn note(calls: &Cell<Calls>, letter: u8) -> io::Result<()> {
     let mut so_far = calls.get();
     let number = so_far.count;

@@ -45,7 +45,7 @@ module _ (Z : Al) where
   abbrev pub by_ref : Slot 2
   by_ref = RefOf (0 ∷ []) tt (plain (λ _. wrapper.the_row (param 0 Z.row))) (λ _. tt)
 
-  -- where the first field lies, and the second behind it
+  -- where the first field lies, and the second after it
   abbrev pub inner_at : ℕ × ℕ → ℕ × ℕ
   inner_at r = (r.0, r.1 + up (align (α Z)) 0)
 

@@ -15,7 +15,7 @@ pub struct FailingReader<'b> {
     fails_at: u64,
 }
 
-/// Such a reader that gives so many bytes at a time. It never fails where `fails_at` is 0.
+/// Such a reader that gives `most` bytes at a time. It never fails if `fails_at` is 0.
 pub fn reader(left: &[u8], most: usize, fails_at: u64) -> FailingReader<'_> {
     FailingReader {
         left,

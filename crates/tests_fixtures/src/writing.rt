@@ -6,7 +6,7 @@ use std::alloc::Global;
 use std::io;
 use std::io::{ErrorKind, Write};
 
-/// What a writer does once it is full: it answers with 0 or fails, at each call from then on, or at one, behind which it has
+/// What a writer does once it is full: it answers with 0 or fails, at each call from then on, or at one, after which it has
 /// room again.
 #[derive(Clone, Copy, Debug, PartialEq, Eq)]
 pub struct Full {
@@ -44,7 +44,7 @@ pub struct FullWriter {
     full: Full,
 }
 
-/// Such a writer that takes so many bytes at a time, and so many in all.
+/// Such a writer that takes `most` bytes at a time, and `room` in all.
 pub fn writer(alloc: Global, most: usize, room: usize, full: Full) -> FullWriter {
     FullWriter {
         taken: Vec::new(alloc),
@@ -70,7 +70,7 @@ impl Write for FullWriter {
 }
 
 impl FullWriter {
-    /// What it answers where it is full.
+    /// What it answers once it is full.
     fn refuse(&mut self) -> io::Result<usize>
         ensures { IfOk result (λ count. count ≡ 0) }
     {

@@ -59,7 +59,7 @@ fn matches_and_rounds_need_none(rt: HostRuntime) {
     assert_eq!(rt; memory.refused(), 0);
 }
 
-/// The counter of a new hill of so many, if there is memory for one.
+/// The counter of a new hill whose counter is this, if there is memory for one.
 fn counted(memory: &Refusing<Global>, settings: Settings, counter: u64) -> Option<u64> {
     let hill = Hill::with_counter(memory, settings, counter).ok()?;
     Some(hill.counter())

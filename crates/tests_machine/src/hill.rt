@@ -242,7 +242,7 @@ fn results_of_pairs(rt: HostRuntime) {
     assert_eq!(rt; hill.bout(2, 4), None);
 }
 
-/// A table goes by what is kept, and an audit tells whether the fights say so too.
+/// A table goes by what is kept, and an audit says whether the fights agree.
 fn check_audit(rt: &(impl Abort + AllocGlobal), kept: Bout, rows: &[(u64, u32, u64)], is_true: bool)
     requires { rounds_in kept ≡ 2 }
 {

@@ -62,7 +62,7 @@ fn check_cells(rt: &impl Abort, arena: &Arena<Global>, cells: &[(u16, Instr)]) {
     }
 }
 
-/// The first address whose cell is not one of these, or not `DAT 0, 0` behind them.
+/// The first address whose cell is not one of these, or not `DAT 0, 0` after them.
 fn wrong_cell(arena: &Arena<Global>, due: &[Instr]) -> Option<u16> {
     for at in 0..64u16 {
         let cell = match due.get(usize::from(at)) {
@@ -104,7 +104,7 @@ fn check_outcome(rt: &impl Abort, arena: &mut Arena<Global>, due: Outcome) {
     assert_eq!(rt; arena.play(), due);
 }
 
-/// The core has these cells and none behind them, the first side this queue, and the second its one process.
+/// The core has these cells and none after them, the first side this queue, and the second its one process.
 fn check_left(
     rt: &impl Abort,
     arena: &Arena<Global>,
@@ -120,7 +120,7 @@ fn check_left(
     check_process(rt, arena, Side::Second, 0, Some(32));
 }
 
-/// One turn of this code leaves these cells, none behind them, and this queue.
+/// One turn of this code leaves these cells, none after them, and this queue.
 fn check_turn(rt: &(impl Abort + AllocGlobal), code: &[Instr], left: &[Instr], queue: &[u16]) {
     let mut arena = arena_of(rt, code);
     let due = if queue.is_empty() {

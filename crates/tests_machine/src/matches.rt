@@ -38,7 +38,7 @@ fn positions(rt: HostRuntime) {
 /// Won by the older, won by the younger, and ties.
 type Counts = (u16, u16, u16);
 
-/// What a match of two warriors that start at the first of their instructions comes to.
+/// The result of a match of two warriors that start at their first instructions.
 fn bout_of(
     rt: &(impl Abort + AllocGlobal),
     older: &[Instr],
@@ -55,13 +55,13 @@ fn bout_of(
     (first.older_wins, first.younger_wins, first.ties)
 }
 
-/// Two warriors of one instruction each, the older first, come to this.
+/// Two warriors of one instruction each, the older first, have this result.
 fn check_bout(rt: &(impl Abort + AllocGlobal), codes: &[Instr; 2], raw: RawSettings, due: Counts) {
     let [older, younger] = *codes;
     assert_eq!(rt; bout_of(rt, &[older], &[younger], raw), due, "{codes:?}");
 }
 
-/// The older and the younger, the rounds, and what they come to.
+/// The older and the younger, the rounds, and their result.
 const SMALL_MATCHES: [([Instr; 2], u32, Counts); 6] = [
     ([IMP, STAY], 2, (0, 0, 2)),
     ([DIE, DIE], 2, (1, 1, 0)),
@@ -88,7 +88,7 @@ const LARGEST_MATCHES: [([Instr; 2], Counts); 4] = [
     ([DIE, DIE], (500, 500, 0)),
 ];
 
-/// In the largest core, where the older goes over its end, a thousand rounds of one turn a side.
+/// In the largest core, over whose end the older goes, a thousand rounds of one turn a side.
 #[test]
 fn largest_matches(rt: HostRuntime) {
     for (codes, due) in &LARGEST_MATCHES {
@@ -105,7 +105,7 @@ const DROPPING: [Instr; 5] = [
     dat!(0, 0),
 ];
 
-/// The limits of reading and of writing, and what a match under them comes to.
+/// The limits of reading and of writing, and the result of a match under them.
 const UNDER_LIMITS: [(u32, u32, Counts); 7] = [
     (0, 0, (2, 0, 0)),
     (64, 64, (2, 0, 0)),

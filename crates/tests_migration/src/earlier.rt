@@ -47,7 +47,7 @@ fn a_hill_from_before_limits(rt: HostRuntime) {
     expect_moved(&rt, moved_from_earlier(&rt));
 }
 
-/// The store has the hill, and so has its device, where a warrior falls.
+/// The store has the hill, and so has its device. Then a warrior falls on it.
 fn expect_moved<D: Device + Drop>(rt: &(impl Abort + AllocGlobal), mut store: Store<D, Global>) {
     expect_the_hill(rt, &mut store);
     let mut store = opened_on(rt, close(store));
@@ -55,7 +55,7 @@ fn expect_moved<D: Device + Drop>(rt: &(impl Abort + AllocGlobal), mut store: St
     expect_fall(rt, store);
 }
 
-/// A warrior falls on the hill of a store, which is let go.
+/// A warrior falls on the hill of a store, which is dropped.
 fn expect_fall<D: Device + Drop>(rt: &impl Abort, mut store: Store<D, Global>) {
     expect_reply(rt, &mut store, b"JMP 0", fell!(5, 38));
     drop(store);

@@ -16,7 +16,7 @@ pub(crate) fn expect_reply<D: Device, A: Allocator + Copy>(
     assert_eq!(rt; submit(store, source), reply);
 }
 
-/// So many rows stand in the table.
+/// The table has `count` rows.
 pub(crate) fn expect_rows<D: Device, A: Allocator + Copy>(
     rt: &impl Abort,
     store: &Store<D, A>,
@@ -46,7 +46,7 @@ pub(crate) fn expect_two_rows<D: Device, A: Allocator + Copy>(
     expect_table(rt, store, &TWO_ROWS);
 }
 
-/// The two rows of a store, which is let go.
+/// The two rows of a store, which is dropped.
 pub(crate) fn expect_the_rows<D: Device + Drop, A: Allocator + Copy>(
     rt: &impl Abort,
     store: Store<D, A>,
@@ -63,14 +63,14 @@ pub(crate) fn expect_true<D: Device, A: Allocator + Copy>(
     assert!(rt; audit(store));
 }
 
-/// The two rows of a store whose results are those of the matches. It is let go.
+/// The two rows of a store whose results are those of the matches. It is dropped.
 pub(crate) fn expect_true_rows<D: Device + Drop>(rt: &impl Abort, mut store: Store<D, Global>) {
     expect_true(rt, &mut store);
     expect_two_rows(rt, &store);
     drop(store);
 }
 
-/// The device of this store was asked for so many calls.
+/// The device of this store was asked for `calls` calls.
 pub(crate) fn expect_calls<D: Device + Drop, A: Allocator + Copy>(
     rt: &impl Abort,
     store: Store<Counting<D>, A>,

@@ -7,7 +7,7 @@ use std::process::Abort;
 use tests_stores::{blank, close, created, migrate, open, opened, put, sector, settings_from};
 use war_types::RawSettings;
 
-/// A blank device of so many sectors.
+/// A blank device of `sectors` sectors.
 pub(crate) fn blank_of(rt: &(impl Abort + AllocGlobal), sectors: u32) -> MemoryDevice<Global> {
     MemoryDevice::new(rt.alloc(), sectors).expect(rt, "there is memory")
 }
@@ -17,7 +17,7 @@ pub(crate) fn blank_in<A: Allocator + Copy>(rt: &impl Abort, alloc: A) -> Memory
     blank(alloc).expect(rt, "there is memory")
 }
 
-/// What a device keeps that stops, where this is chosen of what it need not keep.
+/// What a device keeps that stops, if this is chosen of what it need not keep.
 pub(crate) fn image_of(
     rt: &impl Abort,
     device: &MemoryDevice<Global>,
@@ -112,7 +112,7 @@ const NEW_FAILS: MigrateFault = MigrateFault {
     refusal: Refusal::Disk,
 };
 
-/// Two devices, behind a move from one to the other, which fails or does not.
+/// Two devices, after a move from one to the other, which fails or does not.
 pub(crate) fn tried<O: Device + Drop, D: Device + Drop>(
     rt: &(impl Abort + AllocGlobal),
     old: O,

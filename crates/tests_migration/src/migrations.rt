@@ -54,7 +54,7 @@ fn expect_same(
     }
 }
 
-/// These devices hold the same from one sector on. They are let go.
+/// These devices hold the same from one sector on. They are dropped.
 fn expect_equal(
     rt: &impl Abort,
     mut device: MemoryDevice<Global>,
@@ -133,7 +133,7 @@ fn expect_calls_of<O: Device + Drop, D: Device + Drop>(
     expect_calls(rt, store, 14 + 2);
 }
 
-/// This device was asked for so many calls. It is let go.
+/// This device was asked for `calls` calls. It is dropped.
 fn expect_asked<D: Device + Drop>(rt: &impl Abort, device: Counting<D>, calls: u32) {
     assert_eq!(rt; device.calls, calls);
     drop(device);
@@ -163,12 +163,12 @@ fn a_warrior_that_fills_its_slot(rt: HostRuntime) {
     expect_equal(&rt, close(store), written, 1);
 }
 
-/// This device has so many sectors.
+/// This device has `sectors` sectors.
 fn expect_sectors(rt: &impl Abort, device: &MemoryDevice<Global>, sectors: u32) {
     assert_eq!(rt; device.sectors(), sectors);
 }
 
-/// Copies a sector of one device to the other, where it is not synced.
+/// Copies a sector of one device to the other, and does not sync it.
 fn write_copy(
     rt: &impl Abort,
     from: &mut MemoryDevice<Global>,

@@ -12,7 +12,7 @@ use tests_stores::migrate;
 /// Calls of the new device: a sync, two headers, four sectors for each of two slots, a sync, the header in sector 1, and a sync.
 const CALLS: u64 = 14;
 
-/// Whether a new device holds the hill that stopped behind so many calls: without the header that is written and not synced, and with it.
+/// Whether a new device that stopped after `calls` calls holds the hill: without the header that is written and not synced, and with it.
 fn due(calls: u64) -> (bool, bool) {
     match calls {
         0..=12 => (false, false),
@@ -21,7 +21,7 @@ fn due(calls: u64) -> (bool, bool) {
     }
 }
 
-/// The devices, of which the new one fails behind so many calls.
+/// The devices. The new one fails after `calls` calls.
 fn fused(
     rt: &(impl Abort + AllocGlobal),
     calls: u64,
@@ -43,7 +43,7 @@ fn holds_the_hill(rt: &(impl Abort + AllocGlobal), device: MemoryDevice<Global>)
     }
 }
 
-/// How many images there are of what is written and not synced behind so many calls: up to eight sectors of slots, or a header.
+/// How many images there are of what is written and not synced after `calls` calls: up to eight sectors of slots, or a header.
 fn images_of(calls: u64) -> u32 {
     match calls {
         4..=11 => 1 << (calls - 3),
@@ -52,7 +52,7 @@ fn images_of(calls: u64) -> u32 {
     }
 }
 
-/// Keeps or loses each of the sectors 2 to 9, which are written first, and the header in sector 1, which is written behind their sync.
+/// Keeps or loses each of the sectors 2 to 9, which are written first, and the header in sector 1, which is written after their sync.
 fn choice_of(kept: u32) -> [u32; 10] {
     let first = [kept % 2, kept / 2 % 2, kept / 4 % 2, kept / 8 % 2];
     let second = [kept / 16 % 2, kept / 32 % 2, kept / 64 % 2, kept / 128 % 2];
@@ -63,7 +63,7 @@ fn choice_of(kept: u32) -> [u32; 10] {
     choice
 }
 
-/// Every image of a device that stopped behind so many calls holds what is due.
+/// Every image of a device that stopped after `calls` calls holds what is due.
 fn expect_images(rt: &(impl Abort + AllocGlobal), device: &MemoryDevice<Global>, calls: u64) {
     for image in 0..images_of(calls) {
         let found = holds_the_hill(rt, image_of(rt, device, &choice_of(image)));
@@ -71,7 +71,7 @@ fn expect_images(rt: &(impl Abort + AllocGlobal), device: &MemoryDevice<Global>,
     }
 }
 
-/// Whether an image behind so many calls holds the hill: each second one has the header.
+/// Whether an image after `calls` calls holds the hill: each second one has the header.
 fn due_in(image: u32, calls: u64) -> bool {
     let (lost, kept) = due(calls);
     if image % 2 == 0 { lost } else { kept }
@@ -106,7 +106,7 @@ fn expect_goes_on(
     }
 }
 
-/// What is left where the new device fails, and was asked for so many calls that it made.
+/// What is left if the new device fails after it made `calls` calls.
 fn expect_left(
     rt: &(impl Abort + AllocGlobal),
     devices: (MemoryDevice<Global>, MemoryDevice<Global>),

@@ -1,7 +1,7 @@
 //! Devices in the old format, made from those in the new one that hold the same.
 //!
-//! A slot of the old format has two sectors: the first holds instructions 0 to 63, as in the new one, and the other instructions 64 to 99 and
-//! behind them, from 288 on, the fields that stand in the last sector of the new one.
+//! A slot of the old format has two sectors. The first holds instructions 0 to 63, as in the new one. The other holds instructions 64 to 99
+//! and, from 288 on, the fields that the last sector of the new one has.
 
 use crate::hills::{blank_of, content_of, put_into};
 use hill_bytes::{decode_header, encode_old_header};
@@ -9,7 +9,7 @@ use sector_disk::MemoryDevice;
 use std::alloc::Global;
 use std::process::Abort;
 
-/// The device in the old format that holds what this one does in so many slots.
+/// The device in the old format that holds what this one does in its first `slots` slots.
 pub(crate) fn narrowed(
     rt: &(impl Abort + AllocGlobal),
     new: &mut MemoryDevice<Global>,
@@ -58,7 +58,7 @@ fn narrow_slot(
     put_into(rt, old, to + 1, &joined(&code, &fields));
 }
 
-/// The code of one sector, and behind it the fields of another.
+/// The code of one sector, and then the fields of another.
 fn joined(code: &[u8; 512], fields: &[u8; 512]) -> [u8; 512] {
     let mut content = *code;
     content[288..].copy_from_slice(&fields[288..]);

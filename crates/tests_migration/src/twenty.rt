@@ -83,7 +83,7 @@ fn expect_the_hill(rt: &impl Abort, store: &mut Store<MemoryDevice<Global>, Glob
     expect_table(rt, store);
 }
 
-/// The store has the hill. It is let go.
+/// The store has the hill. It is dropped.
 fn expect_in(rt: &impl Abort, mut store: Store<MemoryDevice<Global>, Global>) {
     expect_the_hill(rt, &mut store);
     drop(store);
@@ -96,7 +96,7 @@ fn set(content: &mut [u8; 512], at: usize, byte: u8) {
     }
 }
 
-/// The last sector of a slot: the warriors in so many slots won some rounds of their matches, and this one some.
+/// The last sector of a slot: the rounds that the warriors in the slots before `older` won of their matches, and those that this one won.
 fn last_sector(older: u8, older_wins: u8, younger_wins: u8) -> [u8; 512] {
     let mut content = back();
     for place in 0..usize::from(older) {
@@ -132,7 +132,7 @@ fn expect_slot(rt: &impl Abort, device: &mut MemoryDevice<Global>, slot: u8) {
     expect_sector(rt, device, from + 3, &last_of(slot));
 }
 
-/// Twenty-two headers were written behind the first, so the last stands in sector 0. It is moved as it is.
+/// Twenty-two headers were written after the first, so the last is in sector 0. It is moved as it is.
 fn expect_headers(rt: &(impl Abort + AllocGlobal), new: &mut MemoryDevice<Global>) {
     let mut written = written(rt);
     let header = content_of(rt, &mut written, 0);

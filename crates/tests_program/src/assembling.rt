@@ -28,7 +28,7 @@ fn a_source_is_read_so_far_and_no_further(rt: HostRuntime) {
     check_refused(&rt, &long, "REFUSED 0 SourceTooLong\n", 3);
 }
 
-/// A source of six bytes that is read so many at a time, where one of the reads fails. How many reads there were is the answer.
+/// A source of six bytes that is read `most` at a time, with one read that fails. How many reads there were is the answer.
 fn check_read(
     rt: &impl Host,
     most: usize,
@@ -50,7 +50,7 @@ fn expect_begun(rt: &impl Abort, ran: &Ran, fails_at: u64, output: &str, errors:
     assert_eq!(rt; ran.status, status, "at read {fails_at}");
 }
 
-/// A source that is read so many bytes at a time, by so many reads, each of which fails once. The last read is the one that finds the end.
+/// A source that is read `most` bytes at a time, by `reads` reads, each of which fails once. The last read finds the end.
 fn check_reads(rt: &impl Host, most: usize, reads: u64) {
     for fails_at in 1..=reads {
         let made = check_read(rt, most, fails_at, "", "DISK standard input: ", 3);
@@ -66,7 +66,7 @@ fn a_read_that_fails(rt: HostRuntime) {
     check_reads(&rt, 1, 7);
 }
 
-/// A run whose output takes so many bytes, so many at a time, and then is full. What it took is the answer.
+/// A run whose output takes `room` bytes, `most` at a time, and then is full. What it took is the answer.
 fn check_write(rt: &impl Host, line: &str, most: usize, room: usize, full: Full) -> Vec<u8> {
     let mut output = writer(rt.alloc(), most, room, full);
     let mut errors = Vec::new(rt.alloc());
@@ -85,7 +85,7 @@ fn check_write(rt: &impl Host, line: &str, most: usize, room: usize, full: Full)
     output.taken
 }
 
-/// What a run for an empty source writes where its output takes so many bytes.
+/// What a run for an empty source writes if its output takes `room` bytes.
 fn check_room(rt: &impl Host, most: usize, room: usize, full: Full) {
     let line = b"REFUSED 0 Empty\n".as_slice();
     let taken = check_write(rt, "koth asm", most, room, full);
@@ -109,7 +109,7 @@ fn a_write_that_fails(rt: HostRuntime) {
     }
 }
 
-/// A head, so many times a line, and a tail.
+/// A head, `count` times a line, and a tail.
 fn text_of(
     rt: &(impl Abort + AllocGlobal),
     head: &str,
@@ -125,14 +125,14 @@ fn text_of(
     text
 }
 
-/// A source of so many lines `DAT 0`, under settings that allow the longest warrior.
+/// A source of `count` lines `DAT 0`, under settings that allow the longest warrior.
 fn check_lines(rt: &impl Host, count: usize, output: &str, status: u8) {
     let line = "koth asm --length 200 --distance 200";
     let source = text_of(rt, "", "DAT 0\n", count, "");
     check_on(rt, line, source.as_bytes(), output, "", status);
 }
 
-/// The load text of so many lines `DAT 0`, up to the longest warrior that settings allow.
+/// The load text of lines `DAT 0`, up to the longest warrior that settings allow.
 #[test]
 fn the_longest_warrior(rt: HostRuntime) {
     let text = text_of(&rt, "ORG 0\n", "DAT.F  $     0, $     0\n", 200, "END\n");

@@ -1,6 +1,6 @@
 //! The results that a hill keeps, shown, audited, and changed in its file.
 //!
-//! Where warriors stand on a hill here it is one of two, and they lose at once: of their two rounds each won one.
+//! If a hill has warriors here it is one of two, and they lose at once: of their two rounds each won one.
 
 use crate::steps::{Step, play, small, steps};
 use koth_server::View;

@@ -21,7 +21,7 @@ const OLD_HILL: &str = "old_growths.hill";
 /// A hill that is created, or moved there.
 const CREATED: &str = "growing.hill";
 
-/// A command and its input, and what it writes and leaves with where it finds its memory.
+/// A command and its input, and what it writes and its status if it finds its memory.
 #[derive(Clone, Copy)]
 struct Command {
     line: &'static str,
@@ -41,7 +41,7 @@ macro_rules! commands {
 /// the command.
 type Row = (u64, u64, Command);
 
-/// A source is read into a buffer and assembled by 8 growths. A hill is created by 5, the members and an arena's four, behind one for
+/// A source is read into a buffer and assembled by 8 growths. A hill is created by 5, the members and an arena's four, after one for
 /// the path of its file, and opened by these and the code of the one warrior. The hill of the old format that is moved to a file that is
 /// made has three warriors. Texts grow from 8 bytes to 16, 32 and 64, load text from 4.
 const COMMANDS: [Row; 8] = commands! {
@@ -72,7 +72,7 @@ fn expect_files(rt: &impl Host, hill: &[u8]) {
     }
 }
 
-/// What a command of which growth `k` is refused leaves behind, and how many were refused.
+/// The run of a command of which growth `k` is refused, and how many were refused.
 fn run_without(
     rt: &impl Host,
     memory: &Refusing<Global>,
@@ -135,7 +135,7 @@ fn check_refused(
     assert_eq!(rt; check_run(rt, memory, u64::MAX, command, ""), 0);
 }
 
-/// Each growth of a command is refused in turn, these as faults and then so many as replies.
+/// Each growth of a command is refused in turn: `faults` of them as faults, and then `replies` as replies.
 fn check_command(
     rt: &impl Host,
     memory: &Refusing<Global>,

@@ -4,7 +4,7 @@ use crate::steps::{Step, play, steps};
 use koth_server::View;
 use std::process::Abort;
 
-/// These words with small settings, and others behind them.
+/// These words with small settings, and then others.
 macro_rules! small {
     ($words:literal) => {
         small!($words, "")

@@ -39,7 +39,7 @@ pub(crate) fn expect_old_hill(rt: &(impl Abort + Files + AllocGlobal), file: &st
     expect_bytes(rt, file, &tests_fixtures::earlier_hill::bytes());
 }
 
-/// A file has so many bytes.
+/// A file has `length` bytes.
 pub(crate) fn expect_length(rt: &(impl Abort + Files), file: &str, length: u64) {
     assert_eq!(rt;
         fs::metadata(rt, file).expect(rt, "it is there").len(),
@@ -52,7 +52,7 @@ pub(crate) fn exists(rt: &(impl Abort + Files), file: &str) -> bool {
     fs::exists(rt, file).expect(rt, "it can be told")
 }
 
-/// Puts another result into the file of a hill, in the last sector of the younger warrior's slot: so many rounds that the older won, and
+/// Puts another result into the file of a hill, in the last sector of the younger warrior's slot: the rounds that the older won, and
 /// the younger.
 pub(crate) fn put_result(
     rt: &(impl Abort + Files + AllocGlobal),

@@ -85,7 +85,7 @@ fn files_that_are_no_hills(rt: HostRuntime) {
     remove(&rt, "no.hill");
 }
 
-/// The port that a line tells, if it tells one.
+/// The port that a line names, if it names one.
 fn port_in(line: &str) -> Option<u16> {
     let port = line.strip_prefix("LISTENING ")?.strip_suffix('\n')?;
     port.parse::<u16>().ok()

@@ -102,7 +102,7 @@ fn check_unmoved(rt: &impl Host, bytes: &[u8], errors: &str) {
     play(rt, &UNMOVED);
 }
 
-/// The hill of the old format, where the last sector is missing, and where a byte of a slot is another.
+/// The hill of the old format without its last sector, and with another byte in a slot.
 fn check_harmed(rt: &impl Host) {
     let mut bytes = tests_fixtures::earlier_hill::bytes();
     let cut = bytes.get(..9 * SECTOR).expect(rt, "nine sectors");

@@ -11,7 +11,7 @@ pub(crate) trait Host: Abort + Files<File = File> + Net + Clock + AllocGlobal {}
 
 impl<T: Abort + Files<File = File> + Net + Clock + AllocGlobal> Host for T {}
 
-/// What a run left behind.
+/// The outcome of a run.
 #[derive(Drop)]
 pub(crate) struct Ran {
     pub status: u8,
@@ -66,7 +66,7 @@ pub(crate) fn status_on<A: Allocator + Copy>(
     )
 }
 
-/// A run of the program with these words, where tables are in this view, unless the words ask for one. What the program takes besides its
+/// A run of the program with these words, with tables in this view unless the words ask for one. What the program takes besides its
 /// words is taken from this allocator.
 pub(crate) fn run_viewed<A: Allocator + Copy>(
     rt: &impl Host,
@@ -95,7 +95,7 @@ pub(crate) fn run_line(rt: &impl Host, line: &str) -> Ran {
     run_on(rt, line, &mut b"".as_slice())
 }
 
-/// A run with these words and this input writes this on its output, tells this word on its errors, and leaves with this status. How much
+/// A run with these words and this input writes this to its output and this word to standard error, and has this status. How much
 /// of the input is left then is the answer.
 pub(crate) fn check_on(
     rt: &impl Host,
@@ -111,7 +111,7 @@ pub(crate) fn check_on(
     left.len()
 }
 
-/// A run with these words wrote this on its output, told this word on its errors, and left with this status.
+/// A run with these words wrote this to its output and this word to standard error, and had this status.
 fn expect_ran(rt: &impl Abort, ran: &Ran, line: &str, output: &str, word: &str, status: u8) {
     expect_text(rt, &ran.output, output);
     let errors = text_in(&ran.errors);
@@ -119,7 +119,7 @@ fn expect_ran(rt: &impl Abort, ran: &Ran, line: &str, output: &str, word: &str, 
     assert_eq!(rt; ran.status, status, "{line}");
 }
 
-/// The text of these bytes, or nothing where they are none in UTF-8.
+/// The text of these bytes, or nothing if they are not UTF-8.
 pub(crate) fn text_in(bytes: &Vec<u8>) -> &str {
     str::from_utf8(bytes.as_slice()).unwrap_or("")
 }
@@ -130,7 +130,7 @@ fn expect_text(rt: &impl Abort, bytes: &Vec<u8>, text: &str) {
     assert_eq!(rt; bytes.len(), text.len());
 }
 
-/// The errors begin with this word, and behind it stands a text for people or nothing. Where no word is due they are empty, but for the
+/// Standard error begins with this word, and then has a text for people or nothing. If no word is due it is empty, but for the
 /// explanation of a refusal that is on the output.
 fn is_told(errors: &str, output: &str, word: &str) -> bool {
     if output.starts_with("REFUSED") {
@@ -148,7 +148,7 @@ pub(crate) fn check(rt: &impl Host, line: &str, output: &str, word: &str, status
     check_on(rt, line, b"", output, word, status);
 }
 
-/// A run with these words writes this on its output and exactly this on its errors, and leaves with this status.
+/// A run with these words writes this to its output and exactly this to standard error, and has this status.
 pub(crate) fn check_told(
     rt: &impl Host,
     line: &str,
@@ -163,7 +163,7 @@ pub(crate) fn check_told(
     assert_eq!(rt; ran.status, status, "{line}");
 }
 
-/// A run told nothing, and left with status 0.
+/// A run wrote nothing to standard error, and had status 0.
 pub(crate) fn expect_done(rt: &impl Abort, ran: &Ran) {
     let text = text_in(&ran.output);
     assert_eq!(rt; ran.errors.len(), 0, "{text}");

@@ -22,7 +22,7 @@ pub(crate) enum Step {
     Text(&'static str, &'static str),
     /// A file has the bytes of the hill of the old format.
     OldHill(&'static str),
-    /// A file has so many bytes.
+    /// A file has this length.
     Length(&'static str, u64),
     /// A file is not there.
     Missing(&'static str),
@@ -112,7 +112,7 @@ pub(crate) fn check_no_hill(rt: &impl Host, file: &str, word: &str, status: u8) 
     check_file(rt, "serve", file, nobody, word, status);
 }
 
-/// A command on this file, with this behind it, writes nothing, tells this word and leaves with this status.
+/// A command on this file, with these further words, writes nothing, reports this word and has this status.
 fn check_file(rt: &impl Host, command: &str, file: &str, behind: &str, word: &str, status: u8) {
     let line = format!(in rt.alloc(); "koth {command} {file}{behind}").expect(
         rt,

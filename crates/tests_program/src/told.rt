@@ -132,7 +132,7 @@ const USED: [Step; 5] = steps! {
     Run("koth show told_lock.hill", ".\n", "", 0);
 };
 
-/// What is done behind that.
+/// What is done after that.
 const FREE: [Step; 2] = steps! {
     Run("koth audit told_lock.hill", "true\n", "", 0);
     Remove("told_lock.hill");

@@ -2,7 +2,7 @@ use crate::program::{Host, Ran, check_on, expect_done, run_line, run_on, text_in
 use crate::steps::{Step, play, steps};
 use std::process::Abort;
 
-/// Words that have a fault: its message is written on the errors, and nothing is read.
+/// Words that have a fault: its message is written to standard error, and nothing is read.
 pub(crate) fn check_fault(rt: &impl Host, line: &str, part: &str) {
     let mut input = b"MOV 0, 1\n".as_slice();
     let ran = run_on(rt, line, &mut input);
@@ -10,7 +10,7 @@ pub(crate) fn check_fault(rt: &impl Host, line: &str, part: &str) {
     assert_eq!(rt; input.len(), 9);
 }
 
-/// A run told of a fault of its words by a message that has this part, and wrote nothing.
+/// A run reported a fault of its words by a message that has this part, and wrote nothing.
 fn expect_fault(rt: &impl Abort, ran: &Ran, part: &str) {
     let message = text_in(&ran.errors);
     assert!(rt; message.contains(part), "{message}");
@@ -144,7 +144,7 @@ const COMMANDS: [&str; 4] = [
     "create no_such_file",
 ];
 
-/// A command with these options tells this, before anything is read.
+/// A command with these options reports this, before anything is read.
 fn check_refused(rt: &impl Host, command: &str, options: &str, told: &str) {
     let line = format!(in rt.alloc(); "koth {command} {options}").expect(rt, "there is memory");
     let left = check_on(rt, line.as_str(), b"MOV 0, 1\n", "", told, 1);

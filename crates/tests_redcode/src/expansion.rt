@@ -103,7 +103,7 @@ fn check_source(rt: &(impl Abort + AllocGlobal), source: &[u8], rows: &[Row], la
     check_written(rt, &written, rows, labels);
 }
 
-/// Lines of each kind but `;author`, and one behind the end.
+/// Lines of each kind but `;author`, and one after the end.
 const LINES: &[u8] =
     b";redcode\n;name  Imp \nORG start\nbomb DAT #0 ; c\n\nstart b: add.f 4\n;assert 1,x;c\nFOO 0\nEND x\nDAT";
 
@@ -163,7 +163,7 @@ fn labels(rt: HostRuntime) {
     check_labels(&rt, &written, &ADDRESSES);
 }
 
-/// Names, and what is predefined of them on a line behind 7 instructions.
+/// Names, and what is predefined of them on a line after 7 instructions.
 const PREDEFINED: [(&[u8], Option<i64>); 10] = [
     (b"CORESIZE", Some(8000)),
     (b"MAXPROCESSES", Some(8001)),

@@ -106,7 +106,7 @@ fn answer(
     }
 }
 
-/// So many growths were refused.
+/// `count` growths were refused.
 fn check_refusals(rt: &impl Abort, memory: &Refusing<Global>, count: u64) {
     assert_eq!(rt; memory.refused(), count);
 }
@@ -131,7 +131,7 @@ fn check_run(rt: &(impl Abort + AllocGlobal), memory: &Refusing<Global>, call: C
     }
 }
 
-/// Calls and their names, and how many growths each takes where that is plain: room for four tokens, then for eight and for sixteen; and
+/// Calls and their names, and how many growths each takes if that is plain: room for four tokens, then for eight and for sixteen; and
 /// for four bytes of a load text of 34, then for twice as many up to 64.
 const CALLS: [(Call, &str, Option<u64>); 5] = [
     (Call::Scan, "Scan", Some(3)),
@@ -141,7 +141,7 @@ const CALLS: [(Call, &str, Option<u64>); 5] = [
     (Call::LoadText, "LoadText", Some(5)),
 ];
 
-/// So many runs tell of so many growths, where that is plain.
+/// There was one run more than growths, if their number is known.
 fn check_runs(rt: &impl Abort, runs: u64, growths: Option<u64>, name: &str) {
     assert!(rt; 1 < runs && runs < MOST_RUNS, "{name}");
     if let Some(growths) = growths {
@@ -158,7 +158,7 @@ fn each_growth_of_a_call(rt: HostRuntime) {
     }
 }
 
-/// A source is written out to lines and labels that are found where nothing more is allocated.
+/// A source is written out to lines and labels that are found without another growth.
 fn check_found(
     rt: &(impl Abort + AllocGlobal),
     memory: &Refusing<Global>,
@@ -185,7 +185,7 @@ const TITLED_WRITTEN_OUT: [Row; 3] = [
     (3, LineKind::Operation, 0, b"", b" MOV 0 , 1"),
 ];
 
-/// An expression comes to its value where nothing more is allocated.
+/// An expression has its value without another growth.
 fn check_value(rt: &impl Abort, memory: &Refusing<Global>) {
     memory.refuse(0, 0);
     let tokens = tokens_of(rt, memory, b"1+2*3==7 && !0");
@@ -204,7 +204,7 @@ fn is_made(code: Vec<Instr, &Refusing<Global>>, settings: &Settings) -> bool {
     }
 }
 
-/// A warrior is made of its code where nothing more is allocated.
+/// A warrior is made of its code without another growth.
 fn check_made(rt: &impl Abort, memory: &Refusing<Global>) {
     memory.refuse(0, 0);
     let code = Vec::from_slice(memory, &[IMP]).expect(rt, "there is memory");

@@ -18,7 +18,7 @@ const COUNTED: [Counted; 7] = [
     (100, "\n", 65_537, Err((0, AsmKind::SourceTooLong))),
 ];
 
-/// So many lines give so many instructions, or are refused so.
+/// The lines give the instructions that are due, or are refused so.
 fn check_counted(rt: &(impl Abort + AllocGlobal), counted: &Counted) {
     let (length, line, count, answer) = *counted;
     let source = source_of(rt, "", line, count, "");
@@ -65,10 +65,10 @@ fn lines_before_names(rt: HostRuntime) {
     assert_eq!(rt; found, Err((4097, AsmKind::ForLimit)));
 }
 
-/// A line, what stands behind it, and what comes of it where it is not too long.
+/// A line, what follows it, and the answer if it is not too long.
 type Limited = (&'static str, &'static str, Result<usize, (u32, AsmKind)>);
 
-/// Lines that have at most 512 tokens behind the word, or behind its modifier.
+/// Lines that have at most 512 tokens after the word, or after its modifier.
 const LIMITED: [Limited; 5] = [
     ("DAT ", "", Ok(1)),
     ("DAT.F ", "", Ok(1)),
@@ -77,7 +77,7 @@ const LIMITED: [Limited; 5] = [
     (";assert ", "\nDAT 0", Ok(1)),
 ];
 
-/// A line of so many sums behind a sign gives so many instructions, or is refused so.
+/// A line of `sums` sums after a sign is answered so.
 fn check_sums(
     rt: &(impl Abort + AllocGlobal),
     limited: &Limited,
@@ -101,14 +101,14 @@ fn tokens_of_a_line(rt: HostRuntime) {
     }
 }
 
-/// A number within so many parentheses gives this load text, or is refused so.
+/// A number within `depth` parentheses gives this load text, or is refused so.
 fn check_nested(rt: &(impl Abort + AllocGlobal), depth: usize, due: &str) {
     let opened = source_of(rt, "DAT ", "(", depth, "1");
     let source = source_of(rt, opened.as_str(), ")", depth, "");
     check_answer(rt, source.as_str(), due, &defaults(rt));
 }
 
-/// Within parentheses, so many, the number is read up to 64 of them.
+/// A number is read within up to 64 parentheses.
 #[test]
 fn nested_parentheses(rt: HostRuntime) {
     check_nested(&rt, 64, "ORG 0\nDAT.F  $     0, $     1\nEND\n");

@@ -6,7 +6,7 @@ use std::process::Abort;
 use tests_fixtures::rows;
 use war_types::AsmKind;
 
-/// A head, a part, how often it stands behind the head, what stands behind these, and the refusal of the whole.
+/// A head, a part, how often it follows the head, the tail, and the refusal of the whole.
 type Long = (
     &'static str,
     &'static str,
@@ -93,7 +93,7 @@ fn copies_of_a_long_line_within_blocks(rt: HostRuntime) {
     check_refusal(&rt, source.as_str(), None, "+i");
 }
 
-/// Copies of an assertion of 80 terms that hold of a counter where twice the counter is above each number from 0 to 79.
+/// Copies of an assertion of 80 terms that hold of a counter if twice the counter is above each number from 0 to 79.
 const TERMS: &str = numbered!("DAT 0\ni FOR 3000\n;assert i>0-i", " && i>", "-i", "\nROF\n",
     1 2 3 4 5 6 7 8 9 10 11 12 13 14 15 16 17 18 19 20 21 22 23 24 25 26 27 28 29 30 31 32 33 34 35
     36 37 38 39 40 41 42 43 44 45 46 47 48 49 50 51 52 53 54 55 56 57 58 59 60 61 62 63 64 65 66 67

@@ -127,7 +127,7 @@ const ORDERED: [(&str, &str); 17] = [
     (";assert 0\nDAT 0\nEND 1", "3 BadStart"),
     (";assert 1\n;assert 0\n;assert 0\nDAT 0", "2 AssertFalse"),
     (";assert 0\nDAT 0\n;assert 1/0", "3 DivideByZero"),
-    // LDP and STP are instructions to those behind them, PIN is none
+    // LDP and STP are instructions to the lines after them, PIN is none
     ("LDP\nFOR 4097*CURLINE\nROF\nDAT", "2 ForLimit"),
     ("STP\nFOR 4097*CURLINE\nROF\nDAT", "2 ForLimit"),
     ("PIN\nFOR 4097*CURLINE\nROF\nDAT", "1 Pspace"),
@@ -146,7 +146,7 @@ const CHAIN: &str =
 pub(crate) const DOUBLE: &str =
     "x0 EQU x1+x1\nx1 EQU x2+x2\nx2 EQU x3+x3\nx3 EQU x4+x4\nx4 EQU x5+x5\nx5 EQU x6+x6\nx6 EQU x7+x7\nx7 EQU x8+x8\nx8 EQU 1\n";
 
-/// Lines with a chain of names, with doublings or with a name that stands for itself, those behind them, and the B-number of the first
+/// Lines with a chain of names, with doublings or with a name that stands for itself, the lines after them, and the B-number of the first
 /// instruction, or the refusal.
 type Round = (&'static str, &'static str, Result<u16, (u32, AsmKind)>);
 

@@ -66,7 +66,7 @@ fn refusals_of_blocks(rt: HostRuntime) {
     check_rows(&rt, &REFUSED_BLOCKS);
 }
 
-/// A head, a part, how often it stands behind the head, what stands behind these, and the refusal if there is one.
+/// A head, a part, how often it follows the head, the tail, and the refusal if there is one.
 type Limited = (
     &'static str,
     &'static str,

@@ -9,7 +9,7 @@ pub(crate) fn defaults(rt: &impl Abort) -> Settings {
     Settings::new(USUAL).expect(rt, "they are settings")
 }
 
-/// Settings of warriors that may have so many instructions, and lie that far apart.
+/// Settings of warriors that may have `length` instructions, and lie that far apart.
 pub(crate) fn with_length(rt: &impl Abort, length: u32) -> Settings {
     Settings::new(RawSettings {
         length,
@@ -19,7 +19,7 @@ pub(crate) fn with_length(rt: &impl Abort, length: u32) -> Settings {
     .expect(rt, "they are settings")
 }
 
-/// A head, so many times a part, and a tail.
+/// A head, `count` times a part, and a tail.
 pub(crate) fn source_of(
     rt: &(impl Abort + AllocGlobal),
     head: &str,
@@ -119,7 +119,7 @@ const NAMED: [(&str, &str); 14] = rows! {
         => "ORG 1\nDAT.F  #     0, #     0\nADD.AB #     4, $    -1\nMOV.I  $    -2, @    -2\nJMP.B  $    -2, $     0\nEND\n";
     LABELLED => "ORG 0\nJMP.B  $     0, $     0\nEND\n";
     DIRECTED => "ORG 0\nSPL.B  $    -6, <     1\nEND\n";
-    // a label behind the last instruction stands at the next one, which need not exist
+    // a label after the last instruction is at the next one, which need not exist
     "JMP x\nx" => "ORG 0\nJMP.B  $     1, $     0\nEND\n";
     // CURLINE is absolute, a label is relative
     "DAT 0\nx DAT CURLINE, x" => "ORG 0\nDAT.F  $     0, $     0\nDAT.F  $     1, $     0\nEND\n";
@@ -185,7 +185,7 @@ fn check_prefixes(rt: &(impl Abort + AllocGlobal), source: &str) {
     }
 }
 
-/// Each prefix of a source is a warrior or a refusal, and never want of memory.
+/// Each prefix of a source is a warrior or a refusal, and never lack of memory.
 #[test]
 fn prefixes(rt: HostRuntime) {
     check_prefixes(&rt, DWARF);

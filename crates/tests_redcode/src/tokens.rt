@@ -1,4 +1,4 @@
-//! Lines, their tokens, and what expressions come to.
+//! Lines, their tokens, and the values of expressions.
 
 use crate::sources::source_of;
 use redcode_text::{Names, Token, TokenKind, scan, value};
@@ -95,7 +95,7 @@ impl Names for Same {
     }
 }
 
-/// An expression comes to this where each name has the value that is known, if one is.
+/// The value of an expression if each name has the value that is known, if one is.
 fn check_value(
     rt: &(impl Abort + AllocGlobal),
     line: &[u8],
@@ -107,7 +107,7 @@ fn check_value(
     assert_eq!(rt; found, wanted);
 }
 
-/// Expressions without a name that is known, and what each comes to.
+/// Expressions without a name that is known, and the value of each.
 const VALUES: [(&[u8], Result<i64, ExprFault>); 18] = [
     (b"1+2*3==7 && !0", Ok(1)),
     (b"10-4-3", Ok(3)),
@@ -137,7 +137,7 @@ fn values_and_faults(rt: HostRuntime) {
     check_value(&rt, b"x*x-1", Some(7), Ok(48));
 }
 
-/// A number within so many parentheses comes to this.
+/// A number within `depth` parentheses has this value.
 fn check_nested(rt: &(impl Abort + AllocGlobal), depth: usize, wanted: Result<i64, ExprFault>) {
     let opened = source_of(rt, "", "(", depth, "7");
     let line = source_of(rt, opened.as_str(), ")", depth, "");

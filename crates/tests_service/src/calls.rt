@@ -41,7 +41,7 @@ pub(crate) fn reopened<D: Device + Drop, A: Allocator + Copy>(
     opened(alloc, close(store)).expect(rt, "it opens")
 }
 
-/// So many warriors stand on a hill.
+/// `count` warriors are on a hill.
 pub(crate) fn expect_count<D: Device, A: Allocator + Copy>(
     rt: &impl Abort,
     store: &Store<D, A>,
@@ -72,7 +72,7 @@ pub(crate) fn answers_to<D: Device, A: Allocator + Copy>(
     (ended, output.into_inner())
 }
 
-/// A session on an empty hill that is given these lines answers so, and ends so, and its input had so many faults.
+/// A session on an empty hill that is given these lines answers so, and ends so, and its input had `faults` faults.
 pub(crate) fn expect_session(
     rt: &(impl Abort + AllocGlobal),
     lines: impl Read + Drop,
@@ -83,7 +83,7 @@ pub(crate) fn expect_session(
     expect_slow_session(rt, lines, usize::MAX, answers, end, faults);
 }
 
-/// The same where the output takes so many bytes at a time.
+/// The same if the output takes `most` bytes at a time.
 pub(crate) fn expect_slow_session(
     rt: &(impl Abort + AllocGlobal),
     lines: impl Read + Drop,

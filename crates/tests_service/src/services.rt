@@ -61,7 +61,7 @@ const A_SILENT_PEER_DUE: [Due; 6] = [
     Due::Told("2 ", &["connected", "By(Quit)"]),
 ];
 
-/// A peer that sent half a command is let go 60 seconds after its last byte. Another one is answered at once.
+/// A peer that sent half a command is disconnected 60 seconds after its last byte. Another one is answered at once.
 #[test]
 fn a_silent_peer(rt: HostRuntime) {
     act_out(&rt, &A_SILENT_PEER, 2, &A_SILENT_PEER_DUE);
@@ -120,7 +120,7 @@ const A_PEER_THAT_NEVER_READS_DUE: [Due; 4] = [
     ),
 ];
 
-/// A peer that takes none of its answers is let go when 1,048,576 bytes of them wait. Another one is answered.
+/// A peer that takes none of its answers is disconnected when 1,048,576 bytes of them wait. Another one is answered.
 #[test]
 fn a_peer_that_never_reads(rt: HostRuntime) {
     act_out(
@@ -208,7 +208,7 @@ const A_DEVICE_THAT_FAILS_DUE: [Due; 3] = [
     Due::Told("1 ", &["connected", "By(StoreFailed)"]),
 ];
 
-/// What comes of it where the hill can't be opened again.
+/// What comes of it if the hill can't be opened again.
 const A_HILL_THAT_IS_GONE_DUE: [Due; 1] = [Due::Heard(2, "")];
 
 /// The device fails in the first submission, which isn't answered. The hill is opened again, and the other peer is served on it.

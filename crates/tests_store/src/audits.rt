@@ -20,7 +20,7 @@ fn with_two<D: Device + Drop>(rt: &(impl Abort + AllocGlobal), device: D) -> D {
     close(store)
 }
 
-/// The same with another result: so many rounds that the older won, and the younger.
+/// The same with another result: the rounds that the older won, and the younger.
 fn device_with(rt: &(impl Abort + AllocGlobal), older: u8, younger: u8) -> MemoryDevice<Global> {
     let mut device = with_two(rt, blank_in(rt, rt.alloc()));
     set_byte(&mut device, 9, 389, older).expect(rt, "it has the byte");
@@ -46,7 +46,7 @@ fn true_results_open_true(rt: HostRuntime) {
     expect_all_true(&rt, device_with(&rt, 1, 1));
 }
 
-/// The hill with this result opens on the device, its audit tells that it isn't the fights', and its table goes by it.
+/// The hill with this result opens on the device, its audit says that it isn't the fights', and its table goes by it.
 fn expect_untrue<D: Device + Drop>(
     rt: &(impl Abort + AllocGlobal),
     device: D,
@@ -60,7 +60,7 @@ fn expect_untrue<D: Device + Drop>(
     drop(store);
 }
 
-/// An audit of this result tells that it isn't the fights', and which one it is.
+/// An audit of this result says that it isn't the fights', and which one it is.
 fn expect_audit<D: Device>(rt: &impl Abort, store: &mut Store<D, Global>, older: u8, younger: u8) {
     assert!(rt; !audit(store), "{older} and {younger}");
     expect_told(rt, first_untrue(store), older, younger);
@@ -74,7 +74,7 @@ const UNTRUE: [(u8, u8, (u32, u32)); 4] = [
     (0, 0, (2, 2)),
 ];
 
-/// The table and the replies go by what is kept, and an audit tells that it isn't the fights'.
+/// The table and the replies go by what is kept, and an audit says that it isn't the fights'.
 #[test]
 fn untrue_results_open_and_are_told(rt: HostRuntime) {
     for (older, younger, points) in &UNTRUE {

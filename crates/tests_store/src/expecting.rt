@@ -108,7 +108,7 @@ fn expect_same(rt: &impl Abort, found: &[Reply], replies: &[Reply]) {
     assert_eq!(rt; found, replies);
 }
 
-/// So many rows stand in the table.
+/// The table has `count` rows.
 pub(crate) fn expect_rows<D: Device, A: Allocator + Copy>(
     rt: &impl Abort,
     store: &Store<D, A>,
@@ -127,7 +127,7 @@ pub(crate) fn expect_table<D: Device, A: Allocator + Copy>(
     assert_eq!(rt; other_row(store, rows), None);
 }
 
-/// So many rows has the hill that is opened on a device.
+/// The hill that is opened on a device has `count` rows.
 pub(crate) fn expect_opened<D: Device + Drop>(
     rt: &(impl Abort + AllocGlobal),
     device: D,
@@ -146,7 +146,7 @@ pub(crate) fn expect_true<D: Device, A: Allocator + Copy>(
     assert!(rt; audit(store));
 }
 
-/// The device of this store was asked for so many calls.
+/// The device of this store was asked for `calls` calls.
 pub(crate) fn expect_calls<D: Device + Drop, A: Allocator + Copy>(
     rt: &impl Abort,
     store: Store<Counting<D>, A>,

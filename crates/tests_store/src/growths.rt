@@ -1,5 +1,5 @@
-//! Growths of memory that are refused, one by one, of a creation, an opening, a submission and a table. `devices` has those of a device
-//! that takes its memory from the same allocator, `lists` those of a list of submissions, and `stinting` that there are none behind the
+//! Growths of memory that are refused, one by one, of a creation, an opening, a submission and a table. `devices` has growths of a device
+//! that takes its memory from the same allocator, and `lists` growths of a list of submissions. `stinting` shows that there are none after the
 //! first call of the device.
 
 use crate::expecting::{FIRST, THREE, answered, expect_calls, expect_reply};
@@ -15,12 +15,12 @@ mod devices;
 mod lists;
 mod stinting;
 
-/// So many growths were refused.
+/// `count` growths were refused.
 fn expect_refusals(rt: &impl Abort, memory: &Refusing<Global>, count: u64) {
     assert_eq!(rt; memory.refused(), count);
 }
 
-/// Where growth `k` is refused, this is found, and so many growths were refused: one, or none where there is no refusal.
+/// If growth `k` is refused, this is found, and one growth was refused, or none if there is no refusal.
 fn expect_refusal(
     rt: &impl Abort,
     k: u64,
@@ -32,7 +32,7 @@ fn expect_refusal(
     assert_eq!(rt; (found, refused), (refusal, count), "at growth {k}");
 }
 
-/// A hill is created where growth `k` is refused: that is answered `Memory`, or there is no such growth.
+/// A hill is created with growth `k` refused: that is answered `Memory`, or there is no such growth.
 fn expect_creation(
     rt: &(impl Abort + AllocGlobal),
     memory: &Refusing<Global>,
@@ -56,7 +56,7 @@ fn each_growth_of_a_creation(rt: HostRuntime) {
     drop(memory);
 }
 
-/// The hill of a device is opened where growth `k` is refused: that is answered `Memory`, or there is no such growth.
+/// The hill of a device is opened with growth `k` refused: that is answered `Memory`, or there is no such growth.
 fn expect_opening(
     rt: &impl Abort,
     device: &MemoryDevice<Global>,
@@ -83,7 +83,7 @@ fn each_growth_of_an_opening(rt: HostRuntime) {
     drop(memory);
 }
 
-/// A warrior is answered so where growth `k` is refused, and so many growths are.
+/// A warrior is answered so if growth `k` is refused, and `refused` growths are.
 fn expect_submission<D: Device>(
     rt: &impl Abort,
     store: &mut Store<D, &Refusing<Global>>,
@@ -124,7 +124,7 @@ fn expect_submissions<D: Device + Drop>(rt: &impl Abort, memory: &Refusing<Globa
     expect_calls(rt, store, 5 + 7);
 }
 
-/// The first row of the table where growth `k` is refused, if there is memory for the table then, and how many growths were refused.
+/// The first row of the table with growth `k` refused, if there is memory for the table then, and how many growths were refused.
 fn expect_first_row<D: Device>(
     rt: &impl Abort,
     memory: &Refusing<Global>,

@@ -37,7 +37,7 @@ fn failed<D: Device + Drop>(rt: &(impl Abort + AllocGlobal), device: D) -> D {
     close(store)
 }
 
-/// The device stops behind the four writes of a fourth warrior's slot.
+/// The device stops after the four writes of a fourth warrior's slot.
 fn stopped_in_a_slot(
     rt: &(impl Abort + AllocGlobal),
     device: MemoryDevice<Global>,

@@ -60,12 +60,12 @@ fn a_stopped_image_opens(rt: HostRuntime) {
     drop(device);
 }
 
-/// A blank device of so many sectors.
+/// A blank device of `sectors` sectors.
 fn blank_of(rt: &(impl Abort + AllocGlobal), sectors: u32) -> MemoryDevice<Global> {
     MemoryDevice::new(rt.alloc(), sectors).expect(rt, "there is memory")
 }
 
-/// A device of so many sectors, and nothing on them, is refused so: to open, and to create.
+/// A device of `sectors` sectors, and nothing on them, is refused so: to open, and to create.
 fn expect_blank(
     rt: &(impl Abort + AllocGlobal),
     sectors: u32,

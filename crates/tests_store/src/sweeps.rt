@@ -35,7 +35,7 @@ const TWO: Opens = Ok([1, 2, 3]);
 /// What is due of a hill of two on which a third fell.
 const FALLEN: Opens = Ok([1, 2, 4]);
 
-/// What is due where the device stops behind so many calls: without the header that is written and not synced, and with it. Counted by
+/// What is due if the device stops after `calls` calls: without the header that is written and not synced, and with it. Counted by
 /// hand from the order of the calls: sync, two reads, header, sync; for each warrior that is placed four sectors of its slot, sync, header
 /// and sync; for the one that falls header and sync.
 fn due(calls: u64) -> (Opens, Opens) {
@@ -52,7 +52,7 @@ fn due(calls: u64) -> (Opens, Opens) {
     }
 }
 
-/// The sector of the header that is written and not synced behind so many calls, where one is.
+/// The sector of the header that is written and not synced after `calls` calls, if one is.
 fn unsynced_header(calls: u64) -> usize {
     match calls {
         11 | 20 => 1,
@@ -60,7 +60,7 @@ fn unsynced_header(calls: u64) -> usize {
     }
 }
 
-/// What is due where of all that was not synced one sector alone is kept.
+/// What is due if one sector alone is kept of all that was not synced.
 fn due_with(n: usize, calls: u64) -> Opens {
     let (lost, kept) = due(calls);
     if n == unsynced_header(calls) {
@@ -77,12 +77,12 @@ fn submitted_to<D: Device + Drop>(rt: &impl Abort, mut store: Store<D, Global>) 
     close(store)
 }
 
-/// The device within a fuse of so many calls, behind a creation and the four submissions.
+/// The device within a fuse of `calls` calls, after a creation and the four submissions.
 fn stopped_behind(rt: &(impl Abort + AllocGlobal), calls: u64) -> MemoryDevice<Global> {
     submitted_on(rt, blank_within(rt, calls, FuseKind::Stop)).into_inner()
 }
 
-/// The same device, behind a creation and the four submissions.
+/// The same device, after a creation and the four submissions.
 fn submitted_on<D: Device + Drop>(rt: &(impl Abort + AllocGlobal), device: D) -> D {
     match create(rt.alloc(), device, small(rt)) {
         Ok(store) => submitted_to(rt, store),
@@ -101,7 +101,7 @@ fn opens_to<D: Device + Drop>(rt: &(impl Abort + AllocGlobal), device: D) -> Ope
     }
 }
 
-/// The hill of a store, which is let go. The entry that comes next is that of a warrior which is submitted.
+/// The hill of a store, which is dropped. The entry that comes next is that of a warrior which is submitted.
 fn hill_of<D: Device + Drop>(rt: &impl Abort, mut store: Store<D, Global>) -> [u64; 3] {
     let [first, second] = entries(rt, &store);
     let reply = submit(&mut store, b"DAT 0,0");
@@ -130,7 +130,7 @@ fn entry_at<D: Device>(rt: &impl Abort, store: &Store<D, Global>, place: usize) 
     }
 }
 
-/// An image of a device that stopped behind so many calls opens to what is due.
+/// An image of a device that stopped after `calls` calls opens to what is due.
 fn expect_image(
     rt: &(impl Abort + AllocGlobal),
     device: &MemoryDevice<Global>,
@@ -170,17 +170,17 @@ fn a_stop_at_each_call(rt: HostRuntime) {
     }
 }
 
-/// What the list is answered where the device fails once, behind 17 calls.
+/// What the list is answered if the device fails once, after 17 calls.
 const CUT_SHORT: [Reply; 2] = [FIRST, Reply::Disk];
 
-/// A device that failed once, behind 17 calls of the script.
+/// A device that failed once, after 17 calls of the script.
 fn failed_once<D: Device + Drop>(rt: &(impl Abort + AllocGlobal), device: D) -> D {
     let mut store = created_on(rt, rt.alloc(), device);
     expect_replies(rt, &mut store, &SOURCES, &CUT_SHORT);
     close(store)
 }
 
-/// The entries on the hill, once it is opened again behind a fault of its device, and what `JMP 0` is answered there.
+/// The entries on the hill, once it is opened again after a fault of its device, and what `JMP 0` is answered there.
 fn answered_around_a_fault<D: Device + Drop>(
     rt: &(impl Abort + AllocGlobal),
     device: D,

@@ -18,7 +18,7 @@ fn expect_sector(rt: &impl Abort, device: &mut MemoryDevice<Global>, n: u32, con
     assert!(rt; holds(device, n, content) == Ok(true), "sector {n}");
 }
 
-/// So many sectors of the device, from this one on, hold zeros alone.
+/// `count` sectors of the device, from this one on, hold zeros alone.
 fn expect_zeros(rt: &impl Abort, device: &mut MemoryDevice<Global>, from: u32, count: u32) {
     for n in from..from.saturating_add(count) {
         expect_sector(rt, device, n, &[0; 512]);

@@ -1,4 +1,4 @@
-//! Kept results that no match comes to, found by fighting them anew.
+//! Kept results that no match gives, found by fighting the matches again.
 
 ghost use Rattle.std.specs.Prelude.{◌≡◌};
 ghost use Rattle.koth_match.specs.Match.{rounds_in};

@@ -24,7 +24,7 @@ fn left_over(arena: &Arena<Global>, core: u16, cells: [(u16, Instr); 2]) -> Opti
     None
 }
 
-/// The first cell that is not as a round of `DAT 1, 1` at 0 and `DAT 2, 2` at 20 begins, behind two matches in the same arena.
+/// The first cell that is not as a round of `DAT 1, 1` at 0 and `DAT 2, 2` at 20 begins, after two matches in the same arena.
 fn left_of_matches(rt: &(impl Abort + AllocGlobal), raw: RawSettings) -> Option<u16> {
     let settings = Settings::new(raw).expect(rt, "they are settings");
     assert!(rt; settings.core() >= 21, "they have no room");

@@ -3,7 +3,7 @@
 use super::*;
 use tests_fixtures::{SMALL, small};
 
-/// The cells at both ends of the core, and the one that is behind it.
+/// The cells at both ends of the core, and the one after its end.
 fn check_cleared(rt: &impl Abort, arena: &Arena<Global>) {
     assert!(rt; is_cell(arena, 0, DIE));
     assert!(rt; is_cell(arena, 63, DIE));
@@ -64,7 +64,7 @@ fn a_round_that_ends_at_once(rt: HostRuntime) {
 
 const SPLIT: Instr = instruction!(Spl.B 0, 0);
 
-/// Where a side may have one process, a SPL queues the next instruction alone.
+/// If a side may have one process, a SPL queues the next instruction alone.
 #[test]
 fn a_split_past_the_limit(rt: HostRuntime) {
     let settings = Settings::new(small!(processes: 1)).expect(&rt, "they are settings");

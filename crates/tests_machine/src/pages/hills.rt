@@ -65,7 +65,7 @@ pub(crate) fn hill_of_two(rt: &(impl Abort + AllocGlobal)) -> Hill<Global> {
     hill
 }
 
-/// A warrior whose author's name is cut behind a blank, in its 48th byte.
+/// A warrior whose author's name is cut after a blank, in its 48th byte.
 pub(crate) fn hill_of_one(rt: &(impl Abort + AllocGlobal)) -> Hill<Global> {
     let settings = ten_rounds(rt);
     assert!(rt;

@@ -10,7 +10,7 @@ use std::process::Abort;
 use tests_fixtures::{DIE, IMP, Refusing, SMALL, STAY, instruction, warrior};
 use war_types::{Instr, Settings, Warrior};
 
-/// A round of these two codes in a core of 64 cells, with so many turns kept at most. The younger is loaded at 11 in round 0 and at 32 in round 1.
+/// A round of these two codes in a core of 64 cells, with `most` turns kept at most. The younger is loaded at 11 in round 0 and at 32 in round 1.
 fn replayed(
     rt: &(impl Abort + AllocGlobal),
     codes: [&[Instr]; 2],
@@ -51,7 +51,7 @@ const OPENING: Opening = Opening {
     first: Side::First,
 };
 
-/// What the second side does where it stays at 11.
+/// What the second side does if it stays at 11.
 const STAYS: &[Event] = &[Event::Turn(Side::Second, 11), Event::Process(11)];
 
 const IMP_TURNS: [&[Event]; 4] = [
@@ -104,7 +104,7 @@ const ENDING_TURNS: [&[Event]; 2] = [
     &[Event::Turn(Side::First, 0)],
 ];
 
-/// In round 1 the younger warrior moves first. The older one is a `DAT 0, 0`, which no event tells of.
+/// In round 1 the younger warrior moves first. The older one is a `DAT 0, 0`, which has no event.
 #[test]
 fn a_process_that_ends(rt: HostRuntime) {
     let replay = replayed(&rt, [&[DIE], &[STAY]], 1, 1000);
@@ -113,7 +113,7 @@ fn a_process_that_ends(rt: HostRuntime) {
     check_end(&rt, &replay, false, Outcome::Second);
 }
 
-/// The same round, of two turns, has so many where so many are kept at most.
+/// The same round, of two turns, has `turns` if `most` are kept at most.
 fn check_kept(rt: &(impl Abort + AllocGlobal), most: u32, turns: usize, is_cut: bool) {
     let replay = replayed(rt, [&[DIE], &[STAY]], 1, most);
     assert_eq!(rt; replay.turns(), turns, "{most}");
@@ -147,7 +147,7 @@ const SPLITTING_TURNS: [&[Event]; 5] = [
     ],
 ];
 
-/// A SPL adds two processes behind the others, the next instruction's first.
+/// A SPL adds two processes after the others, the next instruction's first.
 #[test]
 fn a_process_that_splits(rt: HostRuntime) {
     let replay = replayed(&rt, [&[SPLIT, STAY], &[STAY]], 0, 5);
@@ -180,7 +180,7 @@ const DWARF_TURNS: [&[Event]; 5] = [
     &[Event::Turn(Side::First, 2), Event::Process(0)],
 ];
 
-/// A dwarf: the `ADD` at 0 raises its bomb at 3, the `MOV` at 1 throws it four cells behind that, and the `JMP` at 2 goes back.
+/// A dwarf: the `ADD` at 0 raises its bomb at 3, the `MOV` at 1 throws it four cells further, and the `JMP` at 2 goes back.
 #[test]
 fn a_dwarf(rt: HostRuntime) {
     let replay = replayed(&rt, [&DWARF, &[STAY]], 0, 5);

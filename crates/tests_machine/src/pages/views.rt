@@ -99,7 +99,7 @@ fn counts_of_a_match(rt: HostRuntime) {
     check_lines(&rt, text.expect(&rt, "there is memory").as_slice(), &COUNTS);
 }
 
-/// What is said of this reply, where a hill of three was before and one of two is now.
+/// What is said of this reply, after which a hill of three has two warriors.
 fn check_placing(rt: &(impl Abort + AllocGlobal), reply: &Reply, due: &[&str]) {
     let before = roster(rt.alloc(), &hill_of_three(rt, b"Scanner", b"koth"));
     let before = before.expect(rt, "there is memory");

@@ -90,7 +90,7 @@ fn expect_old_refused<O: Device + Drop>(rt: &(impl Abort + AllocGlobal), old: O,
     expect_asked(rt, new, 0);
 }
 
-/// So many sectors of the device in the old format.
+/// The first `sectors` sectors of the device in the old format.
 fn cut(rt: &(impl Abort + AllocGlobal), sectors: u32) -> MemoryDevice<Global> {
     let mut whole = old_device(rt);
     let mut device = blank_of(rt, sectors);
@@ -101,7 +101,7 @@ fn cut(rt: &(impl Abort + AllocGlobal), sectors: u32) -> MemoryDevice<Global> {
     device
 }
 
-/// So many sectors of the device in the old format, with a byte that its last slot does not have.
+/// The first `sectors` sectors of the device in the old format, with a byte that its last slot does not have.
 fn cut_and_spoilt(rt: &(impl Abort + AllocGlobal), sectors: u32) -> MemoryDevice<Global> {
     let mut device = cut(rt, sectors);
     set_byte(&mut device, 5, 511, 1).expect(rt, "it has the byte");
@@ -117,7 +117,7 @@ fn old_devices_that_are_refused(rt: HostRuntime) {
     expect_old_refused(&rt, cut_and_spoilt(&rt, 8), Refusal::Damaged);
 }
 
-/// The device in the old format, which stops behind so many calls.
+/// The device in the old format, which stops after `calls` calls.
 fn fused(rt: &(impl Abort + AllocGlobal), calls: u64) -> FuseDevice<MemoryDevice<Global>> {
     FuseDevice::new(old_device(rt), calls, FuseKind::Stop)
 }

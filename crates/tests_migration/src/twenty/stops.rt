@@ -9,7 +9,7 @@ use std::process::Abort;
 /// Calls that move it: a sync, two headers, four sectors for each of twenty slots, a sync, a header and a sync.
 const CALLS: u64 = 86;
 
-/// The devices, of which the new one stops behind so many calls.
+/// The devices. The new one stops after `calls` calls.
 fn stopped_behind(
     rt: &(impl Abort + AllocGlobal),
     old: MemoryDevice<Global>,
@@ -42,7 +42,7 @@ fn expect_image(
     assert_eq!(rt; found, holds);
 }
 
-/// Whether the images hold the hill where the header is lost, and where it is kept.
+/// Whether the images hold the hill if the header is lost, and if it is kept.
 fn due(calls: u64) -> (bool, bool) {
     match calls {
         0..=84 => (false, false),
@@ -90,7 +90,7 @@ fn expect_images(rt: &(impl Abort + AllocGlobal), device: &MemoryDevice<Global>,
     }
 }
 
-/// How many sectors of slots are written and not synced behind so many calls.
+/// How many sectors of slots are written and not synced after `calls` calls.
 fn unsynced(calls: u64) -> u64 {
     match calls {
         4..=83 => calls - 3,
@@ -98,7 +98,7 @@ fn unsynced(calls: u64) -> u64 {
     }
 }
 
-/// The hill is moved to a device that stops behind so many calls, and to a blank one then. The old device comes back.
+/// The hill is moved to a device that stops after `calls` calls, and to a blank one then. The old device comes back.
 fn expect_stop(
     rt: &(impl Abort + AllocGlobal),
     old: MemoryDevice<Global>,
@@ -112,7 +112,7 @@ fn expect_stop(
     old
 }
 
-/// The old device keeps the hill behind each stop, and it can be moved to a blank one.
+/// The old device keeps the hill after each stop, and it can be moved to a blank one.
 #[test]
 fn a_stop_at_each_call(rt: HostRuntime) {
     let mut old = old_device(&rt);

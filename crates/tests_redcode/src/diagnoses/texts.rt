@@ -101,7 +101,7 @@ const FAULTY_LINES: [(&str, &[u32]); 4] = rows! {
     "DAT foo\nx\nx" => &[3];
 };
 
-/// Each faulty line is told once, the assembler's first, where the source can be written out.
+/// Each faulty line is reported once, the assembler's first, if the source can be written out.
 #[test]
 fn several_faults(rt: HostRuntime) {
     for (source, want) in &FAULTY_LINES {
@@ -110,12 +110,12 @@ fn several_faults(rt: HostRuntime) {
     }
 }
 
-/// So many times a line.
+/// `count` times a line.
 fn repeated(rt: &(impl Abort + AllocGlobal), line: &str, count: usize) -> String {
     line.repeat(rt.alloc(), count).expect(rt, "there is memory")
 }
 
-/// So many times a line has refusals of this text.
+/// `count` times a line has refusals of this text.
 fn check_repeated(rt: &(impl Abort + AllocGlobal), line: &str, count: usize, want: &[u8]) {
     let source = repeated(rt, line, count);
     let found = all_written(rt, source.as_bytes(), Form::Text);

@@ -16,7 +16,7 @@ macro_rules! page {
     };
 }
 
-/// The page of a hill with so many warriors.
+/// The pages of a hill without warriors, and with one.
 const NOBODY: &str = page!("0 here\n");
 
 const ONE: &str = page!("1 here\n");
@@ -46,13 +46,13 @@ const THE_HILL_THAT_STANDS_DUE: [Due; 5] = [
     Due::Closed(8, Some(5)),
 ];
 
-/// Browsers see the hill as it stands when they ask: one before a submission, whose request comes in pieces, and one behind it.
+/// Browsers see the hill as it is when they ask: one before a submission, whose request comes in pieces, and one after it.
 #[test]
 fn the_hill_that_stands(rt: HostRuntime) {
     act_out(&rt, &THE_HILL_THAT_STANDS, 1, &THE_HILL_THAT_STANDS_DUE);
 }
 
-// What is done where a browser asks so, and a peer calls later.
+// What is done if a browser asks so, and a peer calls later.
 macro_rules! asking {
     ($request:literal) => {
         [
@@ -66,7 +66,7 @@ macro_rules! asking {
     };
 }
 
-// A request, what is done where a browser asks so, and what it hears first.
+// A request, what is done if a browser asks so, and what it hears first.
 macro_rules! refused {
     ($request:literal, $start:literal) => {
         ($request, asking!($request), $start)
@@ -143,7 +143,7 @@ const SLOW_BROWSERS_DUE: [Due; 7] = [
     Due::Closed(1, Some(69_500)),
 ];
 
-/// A browser whose request isn't there in 10 seconds is let go, and so is one that hasn't taken its answer in 60, and one that never closes
+/// A browser whose request isn't there in 10 seconds is disconnected, and so is one that hasn't taken its answer in 60, and one that never closes
 /// its connection. A third one waits for a place, and a peer for none of them.
 #[test]
 fn slow_browsers(rt: HostRuntime) {

@@ -17,13 +17,13 @@ pub(crate) enum Deed {
     Visits(u16),
     /// Bytes of it come.
     Says(u16, &'static str),
-    /// It says the same so many times.
+    /// It says the same this number of times.
     Repeats(u16, &'static str, u32),
     /// Its bytes are at their end.
     Ends(u16),
     /// It is gone.
     Resets(u16),
-    /// It takes so many bytes more of its answers.
+    /// It takes this number of bytes more of its answers.
     Takes(u16, usize),
     /// The next accept of a peer fails.
     Fails,

@@ -17,7 +17,7 @@ use war_types::Settings;
 /// A device in memory that may fail.
 pub(crate) type Fuse = FuseDevice<MemoryDevice<Global>>;
 
-/// An empty hill of two, over a device that fails once, behind so many calls, of which creating the hill makes five.
+/// An empty hill of two, over a device that fails once, after `calls` calls. Creating the hill makes five.
 pub(crate) fn hill(alloc: Global, calls: u64) -> Option<Store<Fuse, Global>>
     ensures { IfSome result (λ store. store.reopen ≡ false) }
 {
@@ -67,7 +67,7 @@ impl Host<Fuse, Global> for Clerk {
         hill(self.alloc, u64::MAX).ok_or(Shut)
     }
 
-    /// The page of the hill tells how many are on it. No round has one.
+    /// The page of the hill says how many are on it. No round has one.
     fn page(&self, store: &Store<Fuse, Global>, page: Page) -> Result<Option<Vec<u8>>, AllocError> {
         match page {
             Page::Hill => Ok(Some(counted(self.alloc, store.hill().len())?)),

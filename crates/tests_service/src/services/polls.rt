@@ -30,7 +30,7 @@ fn say(
     stream
 }
 
-/// Serves these sockets, so many peers at once and a browser, until as many sessions have ended.
+/// Serves these sockets, `peers` peers at once and a browser, until `sessions` sessions have ended.
 fn serve(rt: &(impl Abort + AllocGlobal), sockets: &mut impl Sockets, peers: usize, sessions: u32) {
     let (fault, _told) = serve_on(rt, sockets, (peers, 1), sessions, u64::MAX, 0);
     assert_eq!(rt; fault, None);
@@ -46,7 +46,7 @@ fn expect(rt: &(impl Abort + AllocGlobal), stream: TcpStream, answers: &str) {
     assert_eq!(rt; heard(rt, stream).as_str(), answers);
 }
 
-/// The second peer sends 5,000 bytes behind its `QUIT`, and has its answers all the same. The third one says nothing before it ends.
+/// The second peer sends 5,000 bytes after its `QUIT`, and has its answers all the same. The third one says nothing before it ends.
 #[test]
 fn over_sockets(rt: HostRuntime) {
     let here = SocketAddr::from((Ipv4Addr::LOCALHOST, 0));

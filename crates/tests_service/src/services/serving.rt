@@ -9,8 +9,8 @@ use std::process::Abort;
 /// All bytes of answers that a peer may be sent.
 pub(crate) const ALL: usize = 16_777_216;
 
-/// Serves an empty hill on these sockets, to so many peers and browsers at once, until as many sessions have ended. The device fails once,
-/// after so many calls, and the hill may be opened again so often. What ended the service before its time comes back, if something did, and
+/// Serves an empty hill on these sockets, to `most` peers and browsers at once, until `connections` sessions have ended. The device fails
+/// once, after `calls` calls, and the hill may be opened again `openings` times. What ended the service early comes back, if something did, and
 /// what the host wrote.
 pub(crate) fn serve_on<S: Sockets>(
     rt: &(impl Abort + AllocGlobal),

@@ -16,7 +16,7 @@ use tests_stores::count_rows;
 /// A session of which these tests take parts.
 pub(crate) const LINES: &[u8] = b"SUBMIT\nMOV 0,1\n.\nBOGUS\nQUIT\n";
 
-/// What is answered to so many bytes of it.
+/// What is answered to its first `count` bytes.
 fn answers(count: usize) -> &'static str {
     if count < 17 {
         ""
@@ -40,7 +40,7 @@ fn every_prefix(rt: HostRuntime) {
     }
 }
 
-/// So many reads of so many bytes, each of which fails once.
+/// `reads` reads of `most` bytes, each of which fails once.
 fn expect_reads(rt: &(impl Abort + AllocGlobal), most: usize, reads: u64) {
     for fails_at in 1..=reads {
         let came = reads_before(fails_at).saturating_mul(most);
@@ -64,7 +64,7 @@ fn reads_before(read: u64) -> usize {
     read.saturating_sub(1) as usize
 }
 
-/// A session of one warrior whose output takes so many bytes, so many at a time, and then is full: it takes the first ones of the
+/// A session of one warrior whose output takes `room` bytes, `most` at a time, and then is full: it takes the first bytes of the
 /// answers, and the warrior stands, on the device too.
 fn expect_full(
     rt: &(impl Abort + AllocGlobal),
@@ -91,7 +91,7 @@ fn expect_full(
     expect_count(rt, &reopened(rt, rt.alloc(), store), 1);
 }
 
-/// An output of so many bytes, whatever it does then.
+/// An output of `room` bytes, whatever it does then.
 fn expect_room(rt: &(impl Abort + AllocGlobal), lines: &[u8], answers: &str, room: usize) {
     for full in &FULL {
         expect_full(rt, lines, answers, 1, room, *full);
@@ -128,7 +128,7 @@ fn expect_on_failed<D: Device>(
     expect_text(rt, &answered, answers);
 }
 
-/// A session whose device fails once, behind so many calls: nothing is answered, and the table stays empty. How many warriors stand on
+/// A session whose device fails once, after `calls` calls: nothing is answered, and the table stays empty. How many warriors are on
 /// the hill that is opened on the device then is the answer.
 fn count_behind_a_fault(
     rt: &(impl Abort + AllocGlobal),

@@ -11,7 +11,7 @@ use std::alloc::{Allocator, Global};
 use std::process::Abort;
 use tests_fixtures::{Refusing, rows};
 
-/// What a session answers, how it ends, and the table of the hill behind it.
+/// What a session answers, how it ends, and the table of the hill after it.
 #[derive(Clone, Copy)]
 struct Ending {
     answers: &'static str,
@@ -29,15 +29,15 @@ const TIED: &str = "1 1 2 1 Unnamed by Anonymous\n2 2 2 0 Unnamed by Anonymous\n
 /// Of one that won both against the other.
 const WON: &str = "1 1 6 1 Unnamed by Anonymous\n2 2 0 0 Unnamed by Anonymous\n.\n";
 
-/// How a session on one warrior ends where it meets no refusal.
+/// How a session on one warrior ends without a refusal.
 const OF_ONE: Ending = Ending {
     answers: "PLACED 1 1 0\nBAD\n",
     end: SessionEnd::Quit,
     table: ONE,
 };
 
-/// So many growths of it, in their order, and how it ends where one of them is refused: the two buffers, without which nothing is read,
-/// those of the assembler, and, where the device has its memory there too, the first writes to the four sectors of a slot and to a header's.
+/// Numbers of its growths, in their order, and how it ends if one of them is refused: the two buffers, without which nothing is read,
+/// those of the assembler, and, if the device has its memory there too, the first writes to the four sectors of a slot and to a header's.
 const WITHOUT_ONE: [(u64, &str, SessionEnd, &str); 3] = [
     (2, "", SessionEnd::Memory, NONE),
     (8, "MEMORY\nBAD\n", SessionEnd::Quit, NONE),
@@ -98,7 +98,7 @@ struct Memories<'m> {
     device: &'m Refusing<Global>,
 }
 
-/// A session on an empty hill, of which growth `k` is refused, ends so, and so many were refused.
+/// A session on an empty hill, of which growth `k` is refused, ends so, and `refused` were refused.
 fn expect_ending(
     rt: &(impl Abort + AllocGlobal),
     memories: Memories<'_>,

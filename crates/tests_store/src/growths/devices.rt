@@ -62,7 +62,7 @@ fn expect_empty<D: Device + Drop>(rt: &(impl Abort + AllocGlobal), device: D) {
     expect_placed(rt, store);
 }
 
-/// Growth `k` of the device's memory is refused while a warrior is submitted, and the device was asked for so many calls.
+/// Growth `k` of the device's memory is refused while a warrior is submitted, and the device was asked for `calls` calls.
 fn expect_refused<D: Device + Drop>(
     rt: &(impl Abort + AllocGlobal),
     memory: &Refusing<Global>,
@@ -75,7 +75,7 @@ fn expect_refused<D: Device + Drop>(
     expect_empty(rt, closed(rt, store, calls));
 }
 
-/// The device of a store, which was asked for so many calls.
+/// The device of a store, which was asked for `calls` calls.
 fn closed<D: Device + Drop>(
     rt: &impl Abort,
     store: Store<Counting<D>, Global>,
@@ -98,16 +98,16 @@ fn expect_no_more<D: Device + Drop>(
     expect_refusals(rt, memory, 0);
 }
 
-/// A warrior is placed on the hill of a store, which is let go.
+/// A warrior is placed on the hill of a store, which is dropped.
 fn expect_placed<D: Device + Drop>(rt: &impl Abort, mut store: Store<D, Global>) {
     expect_reply(rt, &mut store, b"MOV 0,1", FIRST);
     drop(store);
 }
 
-/// Growths of the device's memory, and the calls that it was asked for where one of them is refused.
+/// Growths of the device's memory, and the calls that it was asked for if one of them is refused.
 const REFUSED: [(u64, u32); 5] = [(0, 5 + 1), (1, 5 + 2), (2, 5 + 3), (3, 5 + 4), (4, 5 + 6)];
 
-/// A warrior is placed by the first writes to the four sectors of a slot, and, behind a sync, to a header's: five growths. The store whose
+/// A warrior is placed by the first writes to the four sectors of a slot, and, after a sync, to a header's: five growths. The store whose
 /// device found no memory is as it was before, and so is the hill that is opened on its device. It calls its device no more: creating
 /// the hill made five calls.
 #[test]

@@ -24,7 +24,7 @@ fn expect_list<D: Device>(
     drop(replies);
 }
 
-/// The replies where growth `k` is refused are these.
+/// The replies with growth `k` refused are these.
 fn expect_replies(rt: &impl Abort, found: &[Reply], k: u64, expected: &[Reply]) {
     assert_eq!(rt; found, expected, "at growth {k}");
 }
@@ -84,7 +84,7 @@ fn expect_no_list<D: Device + Drop>(rt: &impl Abort, memory: &Refusing<Global>, 
     drop(store);
 }
 
-/// Each of so many growths from growth `from` on is refused, and these are the replies. The growth behind them is the answer.
+/// Each of `count` growths from growth `from` on is refused, and these are the replies. The growth after them is the answer.
 fn expect_each(
     rt: &(impl Abort + AllocGlobal),
     memory: &Refusing<Global>,
@@ -103,9 +103,9 @@ fn expect_each(
 /// The reply to a second warrior that loses both rounds.
 const LOSES: Reply = placed!(2, 2, 0);
 
-/// So many growths of the list, in their order, and the replies where one of them is refused: growths of the first source, of the device's
+/// Numbers of growths of the list, in their order, and the replies if one of them is refused: growths of the first source, of the device's
 /// writes for it, and so on. The third, without a line, takes none, and the fourth writes to a sector that was written before. A warrior
-/// that finds no memory leaves its entry and its place to the next. Behind `Disk` stands nothing.
+/// that finds no memory leaves its entry and its place to the next. Nothing follows `Disk`.
 const GROWTHS: [(u64, &[Reply]); 5] = [
     (8, &[Reply::Memory, FIRST, EMPTY, LOSES]),
     (5, &[Reply::Disk]),
@@ -114,7 +114,7 @@ const GROWTHS: [(u64, &[Reply]); 5] = [
     (8, &[FIRST, SECOND, EMPTY, Reply::Memory]),
 ];
 
-/// Each growth behind that of the list of the replies, and then none.
+/// Each growth after that of the list of the replies, and then none.
 #[test]
 fn of_a_list(rt: HostRuntime) {
     let memory = Refusing::new(rt.alloc());
@@ -127,7 +127,7 @@ fn of_a_list(rt: HostRuntime) {
     drop(memory);
 }
 
-/// The list makes so many growths, and no more.
+/// The list makes `k` growths, and no more.
 fn expect_no_more(rt: &(impl Abort + AllocGlobal), memory: &Refusing<Global>, k: u64) {
     let refused = check_replies(rt, memory, blank_in(rt, memory), k, &REPLIES);
     assert_eq!(rt; refused, 0, "it makes {k}");

@@ -1,4 +1,4 @@
-//! A device that lets a store take no memory behind its first call.
+//! A device that lets a store take no memory after its first call.
 
 use super::expect_refusals;
 use crate::expecting::{THREE, expect_opened, expect_reply, expect_true};

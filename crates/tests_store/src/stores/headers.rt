@@ -42,21 +42,21 @@ fn device_with(
     device
 }
 
-/// A device whose header names two slots, in which there are no warriors, that stops behind so many calls is refused so.
+/// A device whose header names two slots, in which there are no warriors, is refused so if it stops after `calls` calls.
 fn expect_bad_slots(rt: &(impl Abort + AllocGlobal), calls: u64, refusal: Refusal) {
     let device = device_with(rt, 0, &header_of(rt, 2, 2, &ENTRIES));
     let found = refusal_to_open(rt.alloc(), FuseDevice::new(device, calls, FuseKind::Stop));
     assert_eq!(rt; found, Some(refusal), "behind {calls} calls");
 }
 
-/// A sync, two headers and the four sectors of the first slot are seven calls: where the eighth fails, the first slot is told of all the same.
+/// A sync, two headers and the four sectors of the first slot are seven calls: if the eighth fails, the first slot is reported all the same.
 #[test]
 fn slots_are_refused_in_their_order(rt: HostRuntime) {
     expect_bad_slots(&rt, 6, Refusal::Disk);
     expect_bad_slots(&rt, 7, Refusal::Damaged);
 }
 
-/// Opening makes three calls where the hill is empty, and what follows none.
+/// Opening makes three calls if the hill is empty, and what follows none.
 fn expect_worn<D: Device + Drop>(rt: &(impl Abort + AllocGlobal), device: D) {
     let mut store = opened_on(rt, counted(device));
     expect_reply(rt, &mut store, b"", EMPTY);
