@@ -34,12 +34,15 @@ fn call_each(rt: &impl Abort, device: &mut MemoryDevice<Global>) {
 fn each_call_once(rt: HostRuntime) {
     let mut device = in_memory(&rt, 3);
     call_each(&rt, &mut device);
+    drop(device);
 }
 
 #[test]
 fn laws_are_called(rt: HostRuntime) {
     laws_of_images();
-    each_image_is_chosen(&in_memory(&rt, 1));
+    let device = in_memory(&rt, 1);
+    each_image_is_chosen(&device);
+    drop(device);
 }
 
 #[test]

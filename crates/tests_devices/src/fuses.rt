@@ -119,6 +119,8 @@ fn run(rt: &(impl Abort + AllocGlobal), kind: FuseKind, calls: u64) {
     run_both(rt, &mut fused, &mut sound, kind, calls);
     let inner = fused.into_inner();
     expect_sound(rt, &inner, &sound, kind, calls);
+    drop(inner);
+    drop(sound);
 }
 
 #[test]

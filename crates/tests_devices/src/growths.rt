@@ -39,6 +39,7 @@ fn expect_either<D: Device + Drop>(
         Ok(mut device) => {
             expect_refusals(rt, memory, 0);
             take_all(rt, &mut device, steps);
+            drop(device);
         }
         Err(AllocError) => expect_refusals(rt, memory, 1),
     }
@@ -56,6 +57,7 @@ fn try_new(rt: &impl Abort, memory: &Refusing<Global>) {
 fn a_new_device(rt: HostRuntime) {
     let memory = Refusing::new(rt.alloc());
     let runs = refuse_each(&memory, |_k| try_new(&rt, &memory));
+    drop(memory);
     expect_same(&rt, &runs, &2, "runs");
 }
 
@@ -75,6 +77,8 @@ fn a_stopped_device(rt: HostRuntime) {
     let memory = Refusing::new(rt.alloc());
     let device = made(&rt, &memory, 2, &WRITTEN_TWICE);
     let runs = refuse_each(&memory, |_k| try_stopped(&rt, &memory, &device));
+    drop(device);
+    drop(memory);
     expect_same(&rt, &runs, &2, "runs");
 }
 
@@ -117,6 +121,7 @@ fn expect_writes(rt: &impl Abort, memory: &Refusing<Global>, growth: u64, refusa
     let mut device = made(rt, memory, 1, &[]);
     let refused = write_nine(rt, memory, &mut device, growth);
     expect_nine_contents(rt, &device);
+    drop(device);
     expect_same(rt, &refused, &refusals, format_args!("growth {growth}"));
 }
 
@@ -129,6 +134,7 @@ fn writes(rt: HostRuntime) {
         expect_writes(&rt, &memory, growth, 1);
     }
     expect_writes(&rt, &memory, 3, 0);
+    drop(memory);
 }
 
 /// One write to each of two sectors.
@@ -169,4 +175,6 @@ fn what_takes_no_memory(rt: HostRuntime) {
     call_without_memory(&rt, &memory, &mut device);
     let device = call_within(&rt, device);
     expect_no_refusal(&rt, &memory, &device);
+    drop(device);
+    drop(memory);
 }

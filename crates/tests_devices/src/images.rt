@@ -68,6 +68,7 @@ fn every_image_of_four_sectors(rt: HostRuntime) {
     let mut device = in_memory(&rt, 4);
     take_all(&rt, &mut device, &WRITTEN);
     let made = count_images(&rt, &device);
+    drop(device);
     expect_same(&rt, &made, &[16, 16, 32, 48, 48, 96], "images");
 }
 
@@ -88,5 +89,7 @@ fn a_missing_number_is_0_and_one_too_many_names_nothing(rt: HostRuntime) {
     let image = image_at(&rt, &device, &[1]);
     expect_same(&rt, &image, &[1, 0, 0, 0], "a missing number");
     let mut left = stopped(&rt, &device, &[0, 0, 0, 4_294_967_295, 1]);
+    drop(device);
     expect_left(&rt, &mut left);
+    drop(left);
 }

@@ -81,6 +81,7 @@ pub(crate) fn on_device<D: Device + Drop, E: Debug>(
 ) {
     let mut device = got.expect(rt, what);
     take_all(rt, &mut device, steps);
+    drop(device);
 }
 
 /// These turns are taken on a device at a path, which has to be made or opened, as `what` says, and is dropped then.
@@ -93,6 +94,7 @@ pub(crate) fn by_turns<D: Device + Drop, E: Debug>(
 ) {
     let mut device = got.expect(rt, what);
     take_turns(rt, &mut device, path, turns);
+    drop(device);
 }
 
 /// These turns are taken on a new hill's file of three sectors.
@@ -119,4 +121,5 @@ pub(crate) fn on_hill(
     act_all(rt, path, before);
     on_new_hill(rt, path, turns);
     act_all(rt, path, behind);
+    drop(place);
 }
