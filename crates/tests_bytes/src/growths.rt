@@ -1,34 +1,30 @@
 //! Headers and slots need no memory.
 
 use crate::settings::settings_from;
-use crate::slots::MOV;
 use hill_bytes::{
     Header, OldSlot, Slot, Wins, decode_header, decode_old_header, encode_header, encode_old_header,
 };
 use std::alloc::Global;
 use std::process::Abort;
-use std::test::Fail;
-use tests_fixtures::{Refusing, SMALL};
+use tests_fixtures::{IMP, Refusing, SMALL};
 use war_types::{Title, Warrior};
 
 /// The generation that a header has in the new format, and the capacity that it has in the old one, written and read.
-fn header_in_both() -> Result<(u64, u16), Fail> {
-    let header = Header::new(0, settings_from(SMALL)?, 0, &[]).ok_or("a header")?;
-    let bytes = encode_old_header(&header).ok_or("it has room")?;
-    Ok((
-        generation_in(&encode_header(&header))?,
-        capacity_in(&bytes)?,
-    ))
+fn header_in_both(rt: &impl Abort) -> (u64, u16) {
+    let header = Header::new(0, settings_from(rt, SMALL), 0, &[]).expect(rt, "a header");
+    let bytes = encode_header(&header);
+    let old_bytes = encode_old_header(&header).expect(rt, "it has room");
+    drop(header);
+    (generation_in(rt, &bytes), capacity_in(rt, &old_bytes))
 }
 
-fn generation_in(bytes: &[u8; 512]) -> Result<u64, Fail> {
-    let read = decode_header(bytes).ok_or("its header")?;
-    Ok(read.generation())
+fn generation_in(rt: &impl Abort, bytes: &[u8; 512]) -> u64 {
+    decode_header(bytes).expect(rt, "its header").generation()
 }
 
-fn capacity_in(bytes: &[u8; 512]) -> Result<u16, Fail> {
-    let read = decode_old_header(bytes).ok_or("its header")?;
-    Ok(read.settings().capacity())
+fn capacity_in(rt: &impl Abort, bytes: &[u8; 512]) -> u16 {
+    let read = decode_old_header(bytes).expect(rt, "its header");
+    read.settings().capacity()
 }
 
 /// Slots of both formats hold the warrior, which has no results.
@@ -43,32 +39,26 @@ fn expect_slot(rt: &impl Abort, warrior: &Warrior<&Refusing<Global>>) {
 }
 
 /// A warrior of one instruction, which has its memory from here.
-fn warrior(memory: &Refusing<Global>) -> Result<Warrior<&Refusing<Global>>, Fail> {
-    let mut code = Vec::new(memory);
-    code.push(MOV)?;
+fn warrior_in<'m>(rt: &impl Abort, memory: &'m Refusing<Global>) -> Warrior<&'m Refusing<Global>> {
+    let code = Vec::from_slice(memory, &[IMP]).expect(rt, "there is memory");
     let (name, author) = (Title::new(b"", "Unnamed"), Title::new(b"", "Anonymous"));
-    Ok(Warrior::new(code, 0, name, author, &settings_from(SMALL)?).ok_or("it fits")?)
+    Warrior::new(code, 0, name, author, &settings_from(rt, SMALL)).expect(rt, "it fits")
 }
 
 /// With every growth refused, headers and the slots of a warrior are made and read.
-fn expect_bytes(
-    rt: &impl Abort,
-    memory: &Refusing<Global>,
-    warrior: &Warrior<&Refusing<Global>>,
-) -> Result<(), Fail> {
+fn expect_bytes(rt: &impl Abort, memory: &Refusing<Global>, warrior: &Warrior<&Refusing<Global>>) {
     memory.refuse(0, u64::MAX);
-    assert_eq!(rt; header_in_both()?, (0, 2));
+    assert_eq!(rt; header_in_both(rt), (0, 2));
     expect_slot(rt, warrior);
     assert_eq!(rt; memory.refused(), 0);
     memory.refuse(0, 0);
-    Ok(())
 }
 
 #[test]
-fn headers_and_slots_need_none(rt: HostRuntime) -> Result<(), Fail> {
+fn headers_and_slots_need_none(rt: HostRuntime) {
     let memory = Refusing::new(rt.alloc());
-    let warrior = warrior(&memory)?;
-    expect_bytes(&rt, &memory, &warrior)?;
+    let warrior = warrior_in(&rt, &memory);
+    expect_bytes(&rt, &memory, &warrior);
     drop(warrior);
-    Ok(())
+    drop(memory);
 }

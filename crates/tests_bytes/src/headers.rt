@@ -5,7 +5,6 @@ use hill_bytes::{
     Header, HeaderEntry, decode_header, decode_old_header, encode_header, encode_old_header,
 };
 use std::process::Abort;
-use std::test::Fail;
 use tests_fixtures::{SMALL, small};
 use war_types::{RawSettings, Settings};
 
@@ -38,18 +37,18 @@ fn sector_of_two() -> [u8; 512] {
 }
 
 /// The header of two warriors, of a hill with these settings.
-fn header_of(raw: RawSettings) -> Result<Header, Fail> {
-    Ok(Header::new(2, settings_from(raw)?, 2, &BOTH).ok_or("a header")?)
+fn header_of(rt: &impl Abort, raw: RawSettings) -> Header {
+    Header::new(2, settings_from(rt, raw), 2, &BOTH).expect(rt, "a header")
 }
 
 /// The same, as it is stored.
-fn bytes_of(raw: RawSettings) -> Result<[u8; 512], Fail> {
-    Ok(encode_header(&header_of(raw)?))
+fn bytes_of(rt: &impl Abort, raw: RawSettings) -> [u8; 512] {
+    encode_header(&header_of(rt, raw))
 }
 
 /// The same in the old format.
-fn old_bytes_of(raw: RawSettings) -> Result<[u8; 512], Fail> {
-    Ok(encode_old_header(&header_of(raw)?).ok_or("it has room")?)
+fn old_bytes_of(rt: &impl Abort, raw: RawSettings) -> [u8; 512] {
+    encode_old_header(&header_of(rt, raw)).expect(rt, "it has room")
 }
 
 fn is_header(bytes: &[u8; 512]) -> bool {
@@ -92,16 +91,15 @@ fn capacity_of(header: &Header) -> u16 {
 }
 
 #[test]
-fn a_header_is_written_and_read(rt: HostRuntime) -> Result<(), Fail> {
-    let bytes = bytes_of(SMALL)?;
+fn a_header_is_written_and_read(rt: HostRuntime) {
+    let bytes = bytes_of(&rt, SMALL);
     assert!(rt; bytes == sector_of_two());
-    expect_both(&rt, &decode_header(&bytes).ok_or("its header")?);
+    expect_both(&rt, &decode_header(&bytes).expect(&rt, "its header"));
     // After the entries.
     assert!(rt; !is_header_with(&bytes, 511, 1));
     // Earlier hills, which kept no results, began otherwise.
     assert!(rt; !is_header_with(&bytes, 7, b'0'));
     assert!(rt; !is_header(&[0; 512]));
-    Ok(())
 }
 
 fn limited(read_limit: u32, write_limit: u32) -> RawSettings {
@@ -122,14 +120,13 @@ fn limits_of(bytes: &[u8; 512]) -> Option<(u16, u16)> {
 
 /// Limits stand at 36 and 38, and one of the core size as zero.
 #[test]
-fn limits_in_a_header(rt: HostRuntime) -> Result<(), Fail> {
-    let bytes = bytes_of(limited(64, 64))?;
+fn limits_in_a_header(rt: HostRuntime) {
+    let bytes = bytes_of(&rt, limited(64, 64));
     assert!(rt; bytes == sector_of_two());
-    let bytes = bytes_of(limited(16, 8))?;
+    let bytes = bytes_of(&rt, limited(16, 8));
     assert_eq!(rt; limits_in(&bytes), [0, 16, 0, 8]);
     assert_eq!(rt; limits_of(&bytes), Some((16, 8)));
     expect_no_limits(&rt, &bytes);
-    Ok(())
 }
 
 /// The core size is no limit in a header, nor is what doesn't divide it.
@@ -164,8 +161,8 @@ const FAR: HeaderEntry = HeaderEntry { slot: 3, ..SECOND };
 const SAME: HeaderEntry = HeaderEntry { slot: 0, ..SECOND };
 
 #[test]
-fn headers_that_are_none(rt: HostRuntime) -> Result<(), Fail> {
-    let settings = settings_from(SMALL)?;
+fn headers_that_are_none(rt: HostRuntime) {
+    let settings = settings_from(&rt, SMALL);
     assert!(rt; !is_made(settings, 1, 2, &[]));
     assert!(rt; !is_made(settings, 2, 2, &[ZERO]));
     assert!(rt; !is_made(settings, 2, 2, &[OLD]));
@@ -175,20 +172,18 @@ fn headers_that_are_none(rt: HostRuntime) -> Result<(), Fail> {
     assert!(rt; !is_made(settings, 2, 2, &[SECOND, FIRST]));
     assert!(rt; !is_made(settings, 3, 3, &[FIRST, SECOND, THIRD]));
     assert!(rt; is_made(settings, 3, 3, &[FIRST, THIRD]));
-    Ok(())
 }
 
 /// In the old format one byte is another. Each format reads its own headers alone.
 #[test]
-fn a_header_in_the_old_format(rt: HostRuntime) -> Result<(), Fail> {
-    let bytes = old_bytes_of(SMALL)?;
-    let mut expected = bytes_of(SMALL)?;
+fn a_header_in_the_old_format(rt: HostRuntime) {
+    let bytes = old_bytes_of(&rt, SMALL);
+    let mut expected = bytes_of(&rt, SMALL);
     assert!(rt; !is_old_header(&expected));
     set(&mut expected, 7, b'1');
     assert!(rt; bytes == expected);
     assert!(rt; !is_header(&bytes));
-    expect_both(&rt, &decode_old_header(&bytes).ok_or("its header")?);
-    Ok(())
+    expect_both(&rt, &decode_old_header(&bytes).expect(&rt, "its header"));
 }
 
 /// The length of the warriors of a hill that a header is of.
@@ -203,34 +198,39 @@ fn has_room(header: &Header) -> bool {
 }
 
 /// The header of a hill with a length, in the new format, and in the old one, if it has room for such warriors.
-fn expect_length(rt: &impl Abort, length: u16, room: bool) -> Result<(), Fail> {
-    let header = header_of(of_length(u32::from(length)))?;
-    assert_eq!(rt; has_room(&header), room, "{length}");
+fn expect_length(rt: &impl Abort, length: u16, room: bool) {
+    let header = header_of(rt, of_length(u32::from(length)));
+    let has_room = has_room(&header);
     let bytes = encode_header(&header);
-    assert_eq!(rt; u16::from(bytes[25]), length);
-    assert_eq!(rt; length_of(&bytes), Some(length));
-    assert_eq!(rt; is_old_header_with(&bytes, 7, b'1'), room, "{length}");
-    Ok(())
+    drop(header);
+    expect_length_in(rt, &bytes, length);
+    let rooms = (has_room, is_old_header_with(&bytes, 7, b'1'));
+    assert_eq!(rt; rooms, (room, room), "{length}");
+}
+
+/// The bytes of a header have this length.
+fn expect_length_in(rt: &impl Abort, bytes: &[u8; 512], length: u16) {
+    let found = (u16::from(bytes[25]), length_of(bytes));
+    assert_eq!(rt; found, (length, Some(length)));
 }
 
 /// A slot of the old format has no room for more than 100 instructions.
 #[test]
-fn lengths_in_a_header(rt: HostRuntime) -> Result<(), Fail> {
-    expect_length(&rt, 1, true)?;
-    expect_length(&rt, 100, true)?;
-    expect_length(&rt, 101, false)?;
-    expect_length(&rt, 200, false)
+fn lengths_in_a_header(rt: HostRuntime) {
+    expect_length(&rt, 1, true);
+    expect_length(&rt, 100, true);
+    expect_length(&rt, 101, false);
+    expect_length(&rt, 200, false);
 }
 
 /// One byte makes it none: after the entries, of what it begins with, and of a limit.
 #[test]
-fn bytes_that_are_no_old_header(rt: HostRuntime) -> Result<(), Fail> {
-    let bytes = old_bytes_of(of_length(100))?;
+fn bytes_that_are_no_old_header(rt: HostRuntime) {
+    let bytes = old_bytes_of(&rt, of_length(100));
     assert!(rt; !is_old_header_with(&bytes, 511, 1));
     assert!(rt; !is_old_header_with(&bytes, 7, b'0'));
     assert!(rt; !is_old_header_with(&bytes, 7, b'3'));
     assert!(rt; !is_old_header_with(&bytes, 36, 1));
     assert!(rt; is_old_header(&bytes));
     assert!(rt; !is_old_header(&[0; 512]));
-    Ok(())
 }

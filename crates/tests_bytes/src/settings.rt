@@ -1,15 +1,14 @@
 //! Which settings are accepted, and which fields they give.
 
 use std::process::Abort;
-use std::test::Fail;
 use tests_fixtures::{SMALL, small};
 use war_types::{RawSettings, Settings, SettingsFault};
 
 mod refused;
 
 /// Settings that are accepted.
-pub(crate) fn settings_from(raw: RawSettings) -> Result<Settings, Fail> {
-    Ok(Settings::new(raw)?)
+pub(crate) fn settings_from(rt: &impl Abort, raw: RawSettings) -> Settings {
+    Settings::new(raw).expect(rt, "they are accepted")
 }
 
 /// Settings of warriors of at most `length` instructions.
@@ -40,8 +39,7 @@ fn fields_of(settings: &Settings) -> RawSettings {
 
 /// Settings of these fields give those.
 fn expect_fields(rt: &impl Abort, raw: RawSettings, fields: RawSettings) {
-    let settings = Settings::new(raw).expect(rt, "they are accepted");
-    assert_eq!(rt; fields_of(&settings), fields);
+    assert_eq!(rt; fields_of(&settings_from(rt, raw)), fields);
 }
 
 #[test]

@@ -1,33 +1,17 @@
 //! The sectors of a slot, and what is no slot's.
 
 use crate::settings::{of_length, settings_from};
+use crate::warriors::expect_parts;
 use hill_bytes::{OldSlot, Slot, Wins};
 use std::alloc::{AllocError, Global};
 use std::process::Abort;
-use std::test::Fail;
-use tests_fixtures::SMALL;
-use war_types::{Instr, Mode, Modifier, Op, Settings, Title, Warrior};
+use tests_fixtures::{IMP, SMALL, instruction};
+use war_types::{Instr, Settings, Title, Warrior};
 
 /// `MOV.I $0, $1` as it is stored, and `DAT.F #0, #63`.
 const STORED: [u8; 16] = [1, 6, 1, 1, 0, 0, 0, 1, 0, 4, 0, 0, 0, 0, 0, 63];
 
-pub(crate) const MOV: Instr = Instr {
-    op: Op::Mov,
-    modifier: Modifier::I,
-    a_mode: Mode::Direct,
-    a: 0,
-    b_mode: Mode::Direct,
-    b: 1,
-};
-
-const DAT: Instr = Instr {
-    op: Op::Dat,
-    modifier: Modifier::F,
-    a_mode: Mode::Immediate,
-    a: 0,
-    b_mode: Mode::Immediate,
-    b: 63,
-};
+const DAT: Instr = instruction!(Dat.F Immediate 0, Immediate 63);
 
 /// Puts bytes into a sector, from a place on.
 fn put(content: &mut [u8; 512], at: usize, bytes: &[u8]) {
@@ -76,8 +60,9 @@ fn results() -> [Wins; 21] {
 }
 
 /// The warrior that a slot holds.
-fn read(alloc: Global, settings: &Settings, slot: &Slot) -> Result<Warrior<Global>, Fail> {
-    Ok(slot.decode(alloc, settings)?.ok_or("its warrior")?)
+fn read(rt: &(impl Abort + AllocGlobal), settings: &Settings, slot: &Slot) -> Warrior<Global> {
+    let read = slot.decode(rt.alloc(), settings);
+    read.expect(rt, "there is memory").expect(rt, "its warrior")
 }
 
 /// Whether the warrior and its results are stored as this slot.
@@ -92,54 +77,50 @@ fn has_results(slot: &Slot, results: &[Wins; 21]) -> bool {
 
 /// The warrior is that of the slot above.
 fn expect_imp(rt: &impl Abort, warrior: &Warrior<Global>) {
-    assert_eq!(rt; warrior.code(), [MOV, DAT].as_slice());
-    assert_eq!(rt; warrior.start(), 1);
-    assert_eq!(rt; warrior.name().bytes(), b"Imp".as_slice());
-    assert_eq!(rt; warrior.author().bytes(), b"Ann".as_slice());
+    expect_parts(rt, warrior, &[IMP, DAT], 1, b"Imp", b"Ann");
 }
 
 #[test]
-fn a_slot_is_read_and_written(rt: HostRuntime) -> Result<(), Fail> {
+fn a_slot_is_read_and_written(rt: HostRuntime) {
     let slot = stored();
-    let warrior = read(rt.alloc(), &settings_from(SMALL)?, &slot)?;
+    let warrior = read(&rt, &settings_from(&rt, SMALL), &slot);
     expect_imp(&rt, &warrior);
     let results = results();
     assert!(rt; has_results(&slot, &results));
     assert!(rt; is_stored_as(&warrior, &results, &slot));
     drop(warrior);
-    Ok(())
 }
 
 /// Whether a slot holds a warrior.
-fn is_warrior(alloc: Global, settings: &Settings, slot: &Slot) -> Result<bool, AllocError> {
-    Ok(slot.decode(alloc, settings)?.is_some())
+fn is_warrior(rt: &(impl Abort + AllocGlobal), settings: &Settings, slot: &Slot) -> bool {
+    let read = slot
+        .decode(rt.alloc(), settings)
+        .expect(rt, "there is memory");
+    read.is_some()
 }
 
 /// The slot above holds none, once it has another byte.
 fn expect_spoilt(
-    rt: &impl Abort,
-    alloc: Global,
+    rt: &(impl Abort + AllocGlobal),
     settings: &Settings,
     n: usize,
     at: usize,
     byte: u8,
-) -> Result<(), Fail> {
+) {
     let mut slot = stored();
-    put(slot.sectors.get_mut(n).ok_or("a sector")?, at, &[byte]);
-    let holds = is_warrior(alloc, settings, &slot)?;
+    put(slot.sectors.get_mut(n).expect(rt, "a sector"), at, &[byte]);
+    let holds = is_warrior(rt, settings, &slot);
     assert!(rt; !holds, "{byte} at {at} of sector {n}");
-    Ok(())
 }
 
 #[test]
-fn sectors_that_hold_no_warrior(rt: HostRuntime) -> Result<(), Fail> {
-    let settings = settings_from(SMALL)?;
-    assert!(rt; !is_warrior(rt.alloc(), &settings, &Slot::blank())?);
-    assert!(rt; is_warrior(rt.alloc(), &settings, &stored())?);
+fn sectors_that_hold_no_warrior(rt: HostRuntime) {
+    let settings = settings_from(&rt, SMALL);
+    assert!(rt; !is_warrior(&rt, &settings, &Slot::blank()));
+    assert!(rt; is_warrior(&rt, &settings, &stored()));
     for (n, at, byte) in &SPOILT {
-        expect_spoilt(&rt, rt.alloc(), &settings, *n, *at, *byte)?;
+        expect_spoilt(&rt, &settings, *n, *at, *byte);
     }
-    Ok(())
 }
 
 /// The sector, the place in it, and a byte that makes the slot none.
@@ -162,7 +143,7 @@ const SPOILT: [(usize, usize, u8); 11] = [
     (3, 511, 1),
 ];
 
-/// `count` instructions `DAT.F #0, #n`: n is the index of each.
+/// `length` instructions `DAT.F #0, #n`: n is the index of each.
 fn counting(alloc: Global, length: u16) -> Result<Vec<Instr, Global>, AllocError> {
     let mut code = Vec::new(alloc);
     for n in 0..length {
@@ -171,16 +152,14 @@ fn counting(alloc: Global, length: u16) -> Result<Vec<Instr, Global>, AllocError
     Ok(code)
 }
 
-/// A warrior of `count` such instructions that starts at the last one.
-fn counted(alloc: Global, length: u16) -> Result<Warrior<Global>, Fail> {
-    let settings = settings_from(of_length(u32::from(length)))?;
-    let (name, author) = (
-        Title::new(b"Imp", "Unnamed"),
-        Title::new(b"Ann", "Anonymous"),
-    );
+/// A warrior of `length` such instructions that starts at the last one.
+fn counted(rt: &(impl Abort + AllocGlobal), length: u16) -> Warrior<Global> {
+    let settings = settings_from(rt, of_length(u32::from(length)));
+    let name = Title::new(b"Imp", "Unnamed");
+    let author = Title::new(b"Ann", "Anonymous");
     let start = length.saturating_sub(1);
-    let code = counting(alloc, length)?;
-    Ok(Warrior::new(code, start, name, author, &settings).ok_or("it fits")?)
+    let code = counting(rt.alloc(), length).expect(rt, "there is memory");
+    Warrior::new(code, start, name, author, &settings).expect(rt, "it fits")
 }
 
 /// Four bytes of a sector from one on.
@@ -210,26 +189,29 @@ fn is_zero_between(last: &[u8; 512]) -> bool {
 }
 
 /// The sectors of a warrior of 200 instructions.
-fn expect_longest(rt: &impl Abort, slot: &Slot) -> Result<(), Fail> {
+fn expect_longest(rt: &impl Abort, slot: &Slot) {
     for (n, at, number) in &NUMBERS {
-        let sector = slot.sectors.get(*n).ok_or("a sector")?;
+        let sector = slot.sectors.get(*n).expect(rt, "a sector");
         expect_four(rt, sector, *at, [0, 0, 0, *number]);
     }
     assert!(rt; is_zero_between(&slot.sectors[3]));
     expect_four(rt, &slot.sectors[3], 288, [0, 200, 0, 199]);
-    Ok(())
 }
 
 #[test]
-fn the_longest_warrior(rt: HostRuntime) -> Result<(), Fail> {
-    let warrior = counted(rt.alloc(), 200)?;
+fn the_longest_warrior(rt: HostRuntime) {
+    let warrior = counted(&rt, 200);
     let slot = Slot::encode(&warrior, &[Wins::NONE; 21]);
-    expect_longest(&rt, &slot)?;
-    let again = read(rt.alloc(), &settings_from(of_length(200))?, &slot)?;
-    assert_eq!(rt; again.code(), warrior.code());
+    expect_longest(&rt, &slot);
+    let again = read(&rt, &settings_from(&rt, of_length(200)), &slot);
+    expect_same_code(&rt, &again, &warrior);
     drop(again);
     drop(warrior);
-    Ok(())
+}
+
+/// Both warriors have one code.
+fn expect_same_code(rt: &impl Abort, found: &Warrior<Global>, due: &Warrior<Global>) {
+    assert_eq!(rt; found.code(), due.code());
 }
 
 /// A slot in the old format: the second sector has its code, and then the fields of the last one.
@@ -242,11 +224,11 @@ fn narrowed(slot: &Slot) -> OldSlot {
 }
 
 /// The slot of a warrior of 100 instructions, with the results above.
-fn slot_of_hundred(alloc: Global) -> Result<Slot, Fail> {
-    let warrior = counted(alloc, 100)?;
+fn slot_of_hundred(rt: &(impl Abort + AllocGlobal)) -> Slot {
+    let warrior = counted(rt, 100);
     let slot = Slot::encode(&warrior, &results());
     drop(warrior);
-    Ok(slot)
+    slot
 }
 
 /// Whether a slot of the old format holds the same as this one.
@@ -256,12 +238,11 @@ fn is_widened_to(old: &OldSlot, slot: &Slot) -> bool {
 
 /// In the old format instructions 64 to 99 stand in front of the fields.
 #[test]
-fn a_slot_of_the_old_format(rt: HostRuntime) -> Result<(), Fail> {
-    let slot = slot_of_hundred(rt.alloc())?;
+fn a_slot_of_the_old_format(rt: HostRuntime) {
+    let slot = slot_of_hundred(&rt);
     let old = narrowed(&slot);
     expect_four(&rt, &old.sectors[1], 4, [0, 0, 0, 64]);
     expect_four(&rt, &old.sectors[1], 284, [0, 0, 0, 99]);
     expect_four(&rt, &old.sectors[1], 288, [0, 100, 0, 99]);
     assert!(rt; is_widened_to(&old, &slot));
-    Ok(())
 }

@@ -1,53 +1,34 @@
 //! Instructions and titles as they are stored.
 
 use std::process::Abort;
-use war_types::{Instr, Mode, Modifier, Op, Title};
-
-const MOV: Instr = Instr {
-    op: Op::Mov,
-    modifier: Modifier::I,
-    a_mode: Mode::Direct,
-    a: 0,
-    b_mode: Mode::Direct,
-    b: 1,
-};
-
-const JMP: Instr = Instr {
-    op: Op::Jmp,
-    modifier: Modifier::B,
-    a_mode: Mode::Direct,
-    a: 0,
-    b_mode: Mode::Direct,
-    b: 0,
-};
+use tests_fixtures::{IMP, STAY, instruction};
+use war_types::{Instr, Title};
 
 /// The last of each type, an A number of 7999 and a B number of 258.
-const NOP: Instr = Instr {
-    op: Op::Nop,
-    modifier: Modifier::I,
-    a_mode: Mode::BPost,
-    a: 7999,
-    b_mode: Mode::Immediate,
-    b: 258,
-};
+const NOP: Instr = instruction!(Nop.I BPost 7999, Immediate 258);
 
 /// Instructions, each as it is stored.
 const STORED: [(Instr, [u8; 8]); 3] = [
-    (MOV, [1, 6, 1, 1, 0, 0, 0, 1]),
-    (JMP, [7, 1, 1, 1, 0, 0, 0, 0]),
+    (IMP, [1, 6, 1, 1, 0, 0, 0, 1]),
+    (STAY, [7, 1, 1, 1, 0, 0, 0, 0]),
     (NOP, [15, 6, 7, 0, 0x1F, 0x3F, 1, 2]),
 ];
 
 fn expect_stored(rt: &impl Abort, instr: Instr, bytes: [u8; 8]) {
-    assert_eq!(rt; instr.to_bytes(), bytes);
-    assert_eq!(rt; Instr::from_bytes(&bytes, 8000), Some(instr));
+    let found = (instr.to_bytes(), Instr::from_bytes(&bytes, 8000));
+    assert_eq!(rt; found, (bytes, Some(instr)));
+    expect_codes(rt, instr, &bytes[..4]);
+}
+
+/// The codes of an instruction's operation, modifier and modes are these.
+fn expect_codes(rt: &impl Abort, instr: Instr, due: &[u8]) {
     let codes = [
         instr.op.code(),
         instr.modifier.code(),
         instr.a_mode.code(),
         instr.b_mode.code(),
     ];
-    assert_eq!(rt; codes.as_slice(), &bytes[..4]);
+    assert_eq!(rt; codes.as_slice(), due);
 }
 
 #[test]

@@ -3,26 +3,13 @@
 use crate::titles::unnamed_or;
 use std::alloc::{AllocError, Global};
 use std::process::Abort;
-use tests_fixtures::{SMALL, rows};
-use war_types::{Instr, Mode, Modifier, Op, Settings, Warrior};
+use tests_fixtures::{SMALL, instruction, rows};
+use war_types::{Instr, Settings, Warrior};
 
-const GOOD: Instr = Instr {
-    op: Op::Mov,
-    modifier: Modifier::I,
-    a_mode: Mode::Direct,
-    a: 0,
-    b_mode: Mode::Direct,
-    b: 63,
-};
+const GOOD: Instr = instruction!(Mov.I 0, 63);
 
 /// A bomb.
-const BOMB: Instr = Instr {
-    op: Op::Dat,
-    modifier: Modifier::F,
-    a: 63,
-    b: 5,
-    ..GOOD
-};
+const BOMB: Instr = instruction!(Dat.F 63, 5);
 
 /// A warrior of this code and start, if it fits the small settings.
 fn warrior(rt: &impl Abort, code: Vec<Instr>, start: u16) -> Option<Warrior<Global>> {
@@ -36,14 +23,32 @@ fn warrior(rt: &impl Abort, code: Vec<Instr>, start: u16) -> Option<Warrior<Glob
     )
 }
 
+/// A warrior has this code, this start, this name and this author.
+pub(crate) fn expect_parts(
+    rt: &impl Abort,
+    warrior: &Warrior<Global>,
+    code: &[Instr],
+    start: u16,
+    name: &[u8],
+    author: &[u8],
+) {
+    assert_eq!(rt; (warrior.code(), warrior.start()), (code, start));
+    expect_titles(rt, warrior, name, author);
+}
+
+fn expect_titles(rt: &impl Abort, warrior: &Warrior<Global>, name: &[u8], author: &[u8]) {
+    assert_eq!(rt;
+        (warrior.name().bytes(), warrior.author().bytes()),
+        (name, author)
+    );
+}
+
 #[test]
 fn a_warrior_gives_back_its_parts(rt: HostRuntime) {
     let code = Vec::from_slice(rt.alloc(), &[GOOD, BOMB]).expect(&rt, "there is memory");
     let warrior = warrior(&rt, code, 1).expect(&rt, "it fits");
-    assert_eq!(rt; warrior.code(), [GOOD, BOMB].as_slice());
-    assert_eq!(rt; warrior.start(), 1);
-    assert_eq!(rt; warrior.name().bytes(), b"Imp".as_slice());
-    assert_eq!(rt; warrior.author().bytes(), b"A. Author".as_slice());
+    expect_parts(&rt, &warrior, &[GOOD, BOMB], 1, b"Imp", b"A. Author");
+    drop(warrior);
 }
 
 /// How many instructions, the start, the last instruction, and whether they fit.
@@ -75,13 +80,21 @@ fn code_of(alloc: Global, count: usize, last: Instr) -> Result<Vec<Instr>, Alloc
     Ok(code)
 }
 
-fn expect_fitting(rt: &(impl Abort + AllocGlobal), fitting: &Fitting) {
-    let (count, start, last, fits) = *fitting;
+/// Whether `count` instructions fit that start at `start` and end with `last`.
+fn fits(rt: &(impl Abort + AllocGlobal), count: usize, start: u16, last: Instr) -> bool {
     let code = code_of(rt.alloc(), count, last).expect(rt, "there is memory");
-    let is_one = warrior(rt, code, start).is_some();
+    let warrior = warrior(rt, code, start);
+    let fits = warrior.is_some();
+    drop(warrior);
+    fits
+}
+
+fn expect_fitting(rt: &(impl Abort + AllocGlobal), fitting: &Fitting) {
+    let (count, start, last, is_due) = *fitting;
+    let fits = fits(rt, count, start, last);
     assert_eq!(rt;
-        is_one,
         fits,
+        is_due,
         "{count} instructions, start {start}, last {last:?}"
     );
 }

@@ -101,10 +101,12 @@ pub(crate) fn bout(older_wins: u16, younger_wins: u16, ties: u16) -> Bout
 /// Entry, score and age of each row.
 fn table(rt: &(impl Abort + AllocGlobal), hill: &Hill<Global>) -> Vec<(u64, u32, u64)> {
     let mut lines = Vec::new(rt.alloc());
-    for row in &hill.rows(rt.alloc()).expect(rt, "there is memory") {
+    let rows = hill.rows(rt.alloc()).expect(rt, "there is memory");
+    for row in &rows {
         let line = (row.entry, row.score, row.age);
         lines.push(line).expect(rt, "there is memory");
     }
+    drop(rows);
     lines
 }
 
@@ -120,15 +122,22 @@ fn check_verdicts(
     for (instr, due) in submitted {
         let challenger = warrior(rt.alloc(), &[*instr], hill.settings()).expect(rt, "it fits");
         let found = challenge(rt, hill, arena, challenger);
-        assert_eq!(rt; what_was_told(&found), *due);
+        let told = what_was_told(&found);
+        drop(found);
+        assert_eq!(rt; told, *due);
     }
 }
 
 /// The rows have this entry, score and age each.
 fn check_rows(rt: &(impl Abort + AllocGlobal), hill: &Hill<Global>, due: &[(u64, u32, u64)]) {
     let rows = table(rt, hill);
-    assert_eq!(rt; rows.as_slice(), due);
+    expect_table(rt, rows.as_slice(), due);
+    drop(rows);
     assert_eq!(rt; hill.len(), due.len());
+}
+
+fn expect_table(rt: &impl Abort, found: &[(u64, u32, u64)], due: &[(u64, u32, u64)]) {
+    assert_eq!(rt; found, due);
 }
 
 /// A hill of these settings judges warriors of one instruction each as it is due, and then has these rows.
@@ -142,7 +151,9 @@ fn check_hill(
     let mut hill = Hill::new(rt.alloc(), settings).expect(rt, "there is memory");
     check_verdicts(rt, &mut hill, &mut arena, submitted);
     assert_eq!(rt; hill.counter(), submitted.len() as u64);
-    check_rows(rt, &hill, rows)
+    check_rows(rt, &hill, rows);
+    drop(hill);
+    drop(arena);
 }
 
 const FOUR: [(Instr, Told); 4] = [
@@ -212,8 +223,9 @@ fn hill_put_back(rt: &(impl Abort + AllocGlobal), kept: Bout) -> Hill<Global>
 fn check_names(rt: &(impl Abort + AllocGlobal), hill: &Hill<Global>) {
     let rows = hill.rows(rt.alloc()).expect(rt, "there is memory");
     assert_eq!(rt; rows.len(), 2);
-    assert_eq!(rt; rows[0].name.bytes(), b"Imp".as_slice());
-    assert_eq!(rt; rows[1].author.bytes(), b"A. K. Dewdney".as_slice());
+    let names = (rows[0].name.bytes(), rows[1].author.bytes());
+    assert_eq!(rt; names, (b"Imp".as_slice(), b"A. K. Dewdney".as_slice()));
+    drop(rows);
 }
 
 fn check_members(rt: &impl Abort, hill: &Hill<Global>) {
@@ -230,16 +242,21 @@ fn put_back_as_it_was(rt: HostRuntime) {
     check_names(&rt, &hill);
     check_rows(&rt, &hill, &[(2, 6, 3), (5, 0, 0)]);
     check_members(&rt, &hill);
+    drop(hill);
 }
 
 /// A result is found by the two entries, the older first, and there is no other.
 #[test]
 fn results_of_pairs(rt: HostRuntime) {
     let hill = hill_put_back(&rt, bout(2, 0, 0));
-    assert_eq!(rt; hill.bout(2, 5), Some(bout(2, 0, 0)));
-    assert_eq!(rt; hill.bout(5, 2), None);
-    assert_eq!(rt; hill.bout(2, 2), None);
-    assert_eq!(rt; hill.bout(2, 4), None);
+    let found = [
+        hill.bout(2, 5),
+        hill.bout(5, 2),
+        hill.bout(2, 2),
+        hill.bout(2, 4),
+    ];
+    drop(hill);
+    assert_eq!(rt; found, [Some(bout(2, 0, 0)), None, None, None]);
 }
 
 /// A table goes by what is kept, and an audit says whether the fights agree.
@@ -249,7 +266,10 @@ fn check_audit(rt: &(impl Abort + AllocGlobal), kept: Bout, rows: &[(u64, u32, u
     let hill = hill_put_back(rt, kept);
     check_rows(rt, &hill, rows);
     let mut arena = Arena::new(rt.alloc(), hill.settings()).expect(rt, "there is memory");
-    assert_eq!(rt; hill.audit(&mut arena), is_true);
+    let found = hill.audit(&mut arena);
+    drop(arena);
+    drop(hill);
+    assert_eq!(rt; found, is_true);
 }
 
 #[test]
@@ -288,4 +308,7 @@ fn judged_by_what_is_kept(rt: HostRuntime) {
     check_results(&rt, &hill, Some(bout(0, 2, 0)), None);
     check_rows(&rt, &hill, &[(6, 6, 0), (5, 0, 1)]);
     assert!(rt; hill.audit(&mut arena));
+    drop(found);
+    drop(arena);
+    drop(hill);
 }

@@ -38,6 +38,8 @@ fn begun(
     let younger = warrior(rt.alloc(), codes[1], settings).expect(rt, "it fits");
     let mut arena = Arena::new(rt.alloc(), settings).expect(rt, "there is memory");
     arena.begin(&older, &younger, place, first);
+    drop(younger);
+    drop(older);
     arena
 }
 
@@ -130,4 +132,5 @@ fn check_turn(rt: &(impl Abort + AllocGlobal), code: &[Instr], left: &[Instr], q
     };
     assert_eq!(rt; arena.turn(), due, "{code:?}");
     check_left(rt, &arena, code, left, queue);
+    drop(arena);
 }

@@ -27,9 +27,7 @@ fn positions(rt: HostRuntime) {
     let small = Settings::new(SMALL).expect(&rt, "they are settings");
     assert_eq!(rt; position(1, &small), 11);
     assert_eq!(rt; position(16_807, &small), 32);
-    let mut raw = SMALL;
-    raw.distance = 32;
-    let only = Settings::new(raw).expect(&rt, "they are settings");
+    let only = Settings::new(small!(distance: 32)).expect(&rt, "they are settings");
     for seed in [1, 2, 16_807, 282_475_249, 2_147_483_646] {
         assert_eq!(rt; position(seed, &only), 32, "seed {seed}");
     }
@@ -51,6 +49,9 @@ fn bout_of(
     let mut arena = Arena::new(rt.alloc(), &settings).expect(rt, "there is memory");
     let first = fight(&mut arena, &older, &younger, &settings);
     let again = fight(&mut arena, &older, &younger, &settings);
+    drop(arena);
+    drop(younger);
+    drop(older);
     assert_eq!(rt; first, again, "a match is the same again");
     (first.older_wins, first.younger_wins, first.ties)
 }

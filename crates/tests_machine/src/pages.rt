@@ -41,6 +41,8 @@ fn page_of_an_empty_hill(rt: HostRuntime) {
         "<div><dt>places</dt><dd>3</dd></div>\n</dl>\n<p>No warrior stands on this hill yet.</p>\n</main>\n",
     ];
     check_page(&rt, page.as_slice(), &due, &["<table", "271828", "<script"]);
+    drop(page);
+    drop(hill);
 }
 
 #[test]
@@ -61,6 +63,8 @@ fn page_of_three_warriors(rt: HostRuntime) {
         &due,
         &["No warrior", "271828", "<script", "<a "],
     );
+    drop(page);
+    drop(hill);
 }
 
 /// Each result leads to the first round of its match by the older warrior's entry and the younger's, from both sides; nothing else leads
@@ -77,8 +81,15 @@ fn page_with_links_to_rounds(rt: HostRuntime) {
         <td title=\"Dwarf against Imp\"><a href=\"/replay/1/2/1\">3/6/1</a></td><td class=\"self\">&middot;</td></tr>\n",
     ];
     check_page(&rt, page.as_slice(), &due, &["271828", "<script"]);
-    let text = str::from_utf8(page.as_slice()).expect(&rt, "it is text");
-    assert_eq!(rt; text.matches("<a ").count(), 6);
+    check_links(&rt, page.as_slice(), 6);
+    drop(page);
+    drop(hill);
+}
+
+/// A page has `count` links.
+fn check_links(rt: &impl Abort, page: &[u8], count: usize) {
+    let text = str::from_utf8(page).expect(rt, "it is text");
+    assert_eq!(rt; text.matches("<a ").count(), count);
 }
 
 /// A name is cut to printable ASCII before it comes to a hill, so its letter of two bytes is two question marks.
@@ -91,6 +102,8 @@ fn page_with_hostile_names(rt: HostRuntime) {
         "<td title=\"Imp against &quot;&gt;&lt;script&gt;alert(&#39;??&#39;)&lt;/script&gt;\">1/9/0</td>",
     ];
     check_page(&rt, page.as_slice(), &due, &["<script", "</td></td>"]);
+    drop(page);
+    drop(hill);
 }
 
 /// Each growth that is refused is the error.
@@ -99,6 +112,7 @@ fn growths_of_a_page(rt: HostRuntime) {
     let hill = hill_of_three(&rt, b"Scanner", b"koth");
     check_growths(&rt, rt.alloc(), &hill, Links::None);
     check_growths(&rt, rt.alloc(), &hill, Links::Rounds);
+    drop(hill);
 }
 
 fn check_growths(rt: &impl Abort, alloc: Global, hill: &Hill<Global>, links: Links) {
@@ -106,5 +120,6 @@ fn check_growths(rt: &impl Abort, alloc: Global, hill: &Hill<Global>, links: Lin
     let runs = refuse_each(&memory, |_k| {
         check_growth(rt, &memory, hill_page(&memory, hill, links))
     });
+    drop(memory);
     assert!(rt; runs > 1);
 }

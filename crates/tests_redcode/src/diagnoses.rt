@@ -34,7 +34,14 @@ fn check_refusal(rt: &(impl Abort + AllocGlobal), source: &str, want: &str) {
     let all = refusals(rt, source.as_bytes());
     assert_eq!(rt; all.len(), 1, "{source:?}");
     let found = line_of(rt, &all[0]);
-    assert_eq!(rt; found.as_str(), want, "{source:?}");
+    drop(all);
+    expect_text(rt, found.as_str(), want, source);
+    drop(found);
+}
+
+/// This text is what is due of a source.
+fn expect_text(rt: &impl Abort, found: &str, want: &str, source: &str) {
+    assert_eq!(rt; found, want, "{source:?}");
 }
 
 /// Sources that are refused once, each with what is told of it.

@@ -56,7 +56,10 @@ fn is_line(line: Line, title: &[u8], row: &Row) -> bool {
 /// A line is so.
 fn check_line<A: Allocator>(rt: &(impl Abort + AllocGlobal), entry: &Entry<'_, A>, row: &Row) {
     assert!(rt; is_line(entry.line, entry.title, row));
-    assert!(rt; texts(rt, entry.tokens.as_slice()).as_slice() == row.4);
+    let texts = texts(rt, entry.tokens.as_slice());
+    let has_texts = texts.as_slice() == row.4;
+    drop(texts);
+    assert!(rt; has_texts);
 }
 
 /// These are the lines of what is written out.
@@ -101,6 +104,8 @@ fn check_source(rt: &(impl Abort + AllocGlobal), source: &[u8], rows: &[Row], la
     let region = Bump::new(rt.alloc());
     let written = written_out(rt, rt.alloc(), &region, source);
     check_written(rt, &written, rows, labels);
+    drop(written);
+    drop(region);
 }
 
 /// Lines of each kind but `;author`, and one after the end.
@@ -161,6 +166,8 @@ fn labels(rt: HostRuntime) {
     let region = Bump::new(rt.alloc());
     let written = written_out(&rt, rt.alloc(), &region, LABELS);
     check_labels(&rt, &written, &ADDRESSES);
+    drop(written);
+    drop(region);
 }
 
 /// Names, and what is predefined of them on a line after 7 instructions.

@@ -5,7 +5,6 @@
 use crate::expansion::{
     COPIED, COPIED_LABELS, COPIED_WRITTEN_OUT, Label, Row, check_written, written_out,
 };
-use crate::printer::{BOMB, IMP};
 use crate::sources::defaults;
 use crate::tokens::{MOVED, Same, gives, tokens_of};
 use bumpalo::Bump;
@@ -14,8 +13,8 @@ use redcode_expand::{Expanded, LineKind, expand};
 use redcode_text::{scan, value};
 use std::alloc::{AllocError, Global};
 use std::process::Abort;
-use tests_fixtures::{MOST_RUNS, Refusing, refuse_each};
-use war_types::{AsmFault, Instr, Modifier, Op, Settings, Title, Warrior};
+use tests_fixtures::{IMP, MOST_RUNS, Refusing, dat, instruction, refuse_each};
+use war_types::{AsmFault, Instr, Settings, Title, Warrior};
 
 /// A call that takes memory.
 #[derive(Clone, Copy)]
@@ -30,23 +29,16 @@ enum Call {
 /// A name and what it stands for.
 const NAMED: &[u8] = b"x EQU 3+4\nDAT 0, x*2";
 
-const NAMED_CODE: [Instr; 1] = [Instr { b: 11, ..BOMB }];
+const NAMED_CODE: [Instr; 1] = [dat!(0, 11)];
 
-const COPIED_CODE: [Instr; 3] = [
-    Instr { b: 1, ..BOMB },
-    Instr { b: 2, ..BOMB },
-    Instr {
-        op: Op::Jmp,
-        modifier: Modifier::B,
-        a: 7999,
-        ..BOMB
-    },
-];
+const COPIED_CODE: [Instr; 3] = [dat!(0, 1), dat!(0, 2), instruction!(Jmp.B 7999, 0)];
 
 /// Whether a line gives its tokens.
 fn is_scanned(memory: &Refusing<Global>) -> Result<bool, AsmFault> {
     let tokens = scan(memory, b"MOV.I #-1,>x2 ;c")?;
-    Ok(gives(tokens.as_slice(), &MOVED))
+    let gives = gives(tokens.as_slice(), &MOVED);
+    drop(tokens);
+    Ok(gives)
 }
 
 /// These are the copies of a block.
@@ -75,7 +67,16 @@ fn has_code(
     code: &[Instr],
 ) -> Result<bool, AsmFault> {
     let warrior = assemble(memory, source, &defaults(rt))?;
-    Ok(warrior.code() == code && warrior.start() == 0)
+    let is_due = warrior.code() == code && warrior.start() == 0;
+    drop(warrior);
+    Ok(is_due)
+}
+
+/// Whether this is the load text of an imp.
+fn is_imp(text: Vec<u8, &Refusing<Global>>) -> bool {
+    let is_imp = text.as_slice() == b"ORG 0\nMOV.I  $     0, $     1\nEND\n".as_slice();
+    drop(text);
+    is_imp
 }
 
 /// Whether the load text of an imp is right.
@@ -86,7 +87,7 @@ fn is_printed(
     let settings = defaults(rt);
     let warrior = assemble(rt.alloc(), b"MOV 0, 1", &settings).expect(rt, "there is memory");
     match load_text(memory, &warrior, settings.core()) {
-        Ok(text) => Ok(text.as_slice() == b"ORG 0\nMOV.I  $     0, $     1\nEND\n".as_slice()),
+        Ok(text) => Ok(is_imp(text)),
         Err(AllocError) => Err(AsmFault::MEMORY),
     }
 }
@@ -156,6 +157,7 @@ fn each_growth_of_a_call(rt: HostRuntime) {
         let runs = refuse_each(&memory, |_k| check_run(&rt, &memory, *call, name));
         check_runs(&rt, runs, *growths, name);
     }
+    drop(memory);
 }
 
 /// A source is written out to lines and labels that are found without another growth.
@@ -190,8 +192,10 @@ fn check_value(rt: &impl Abort, memory: &Refusing<Global>) {
     memory.refuse(0, 0);
     let tokens = tokens_of(rt, memory, b"1+2*3==7 && !0");
     memory.refuse(0, u64::MAX);
-    assert_eq!(rt; value(tokens.as_slice(), &Same { value: None }), Ok(1));
+    let found = value(tokens.as_slice(), &Same { value: None });
     check_refusals(rt, memory, 0);
+    drop(tokens);
+    assert_eq!(rt; found, Ok(1));
 }
 
 /// Whether a warrior can be made of this code, and fits.
@@ -221,4 +225,5 @@ fn what_takes_no_memory(rt: HostRuntime) {
     check_found(&rt, &memory, TITLED, &TITLED_WRITTEN_OUT, &[]);
     check_value(&rt, &memory);
     check_made(&rt, &memory);
+    drop(memory);
 }

@@ -23,6 +23,7 @@ fn check_counted(rt: &(impl Abort + AllocGlobal), counted: &Counted) {
     let (length, line, count, answer) = *counted;
     let source = source_of(rt, "", line, count, "");
     let found = assembled(rt, source.as_bytes(), &with_length(rt, length));
+    drop(source);
     assert_eq!(rt; found, answer, "{count} lines");
 }
 
@@ -55,6 +56,8 @@ fn the_longest_load_text(rt: HostRuntime) {
     let source = source_of(&rt, "", "DAT 0\n", 200, "");
     let due = source_of(&rt, "ORG 0\n", "DAT.F  $     0, $     0\n", 200, "END\n");
     check_answer(&rt, source.as_str(), due.as_str(), &with_length(&rt, 200));
+    drop(due);
+    drop(source);
 }
 
 /// A line that is one too many is refused for that before its label is.
@@ -62,6 +65,7 @@ fn the_longest_load_text(rt: HostRuntime) {
 fn lines_before_names(rt: HostRuntime) {
     let source = source_of(&rt, "x ", "DAT 0\n", 4096, "x DAT 0\n");
     let found = assembled(&rt, source.as_bytes(), &defaults(&rt));
+    drop(source);
     assert_eq!(rt; found, Err((4097, AsmKind::ForLimit)));
 }
 
@@ -89,6 +93,8 @@ fn check_sums(
     let summed = source_of(rt, sign, "1+", sums, "1");
     let source = source_of(rt, head, summed.as_str(), 1, behind);
     let found = assembled(rt, source.as_bytes(), &defaults(rt));
+    drop(source);
+    drop(summed);
     assert_eq!(rt; found, answer, "{sums} sums");
 }
 
@@ -106,6 +112,8 @@ fn check_nested(rt: &(impl Abort + AllocGlobal), depth: usize, due: &str) {
     let opened = source_of(rt, "DAT ", "(", depth, "1");
     let source = source_of(rt, opened.as_str(), ")", depth, "");
     check_answer(rt, source.as_str(), due, &defaults(rt));
+    drop(source);
+    drop(opened);
 }
 
 /// A number is read within up to 64 parentheses.

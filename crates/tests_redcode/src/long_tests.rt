@@ -39,6 +39,7 @@ fn check_long(rt: &(impl Abort + AllocGlobal), long: &Long) {
     let (head, part, count, tail, refusal) = *long;
     let source = source_of(rt, head, part, count, tail);
     check_refusal(rt, source.as_str(), refusal, part);
+    drop(source);
 }
 
 #[test]
@@ -70,6 +71,8 @@ fn lines_made_long(rt: HostRuntime) {
     let lines = source_of(&rt, "DAT\n", ";assert x0\n", 4086, "");
     let source = source_of(&rt, DOUBLE, lines.as_str(), 1, "");
     check_refusal(&rt, source.as_str(), None, ";assert x0\n");
+    drop(source);
+    drop(lines);
 }
 
 // A head, each of these numbers between two texts, and a tail.
@@ -91,6 +94,8 @@ fn copies_of_a_long_line_within_blocks(rt: HostRuntime) {
     let ends = source_of(&rt, "\n", "ROF\n", 64, "");
     let source = source_of(&rt, HEADS, "+i", 255, ends.as_str());
     check_refusal(&rt, source.as_str(), None, "+i");
+    drop(source);
+    drop(ends);
 }
 
 /// Copies of an assertion of 80 terms that hold of a counter if twice the counter is above each number from 0 to 79.

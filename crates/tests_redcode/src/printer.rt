@@ -3,8 +3,8 @@
 use crate::sources::source_of;
 use redcode_asm::load_text;
 use std::process::Abort;
-use tests_fixtures::USUAL;
-use war_types::{Instr, Mode, Modifier, Op, RawSettings, Settings, Title, Warrior};
+use tests_fixtures::{IMP, USUAL, dat, instruction};
+use war_types::{Instr, RawSettings, Settings, Title, Warrior};
 
 /// The load text of a warrior of this code, in a core of this size.
 fn text_of(rt: &(impl Abort + AllocGlobal), core: u16, start: u16, code: &[Instr]) -> Vec<u8> {
@@ -19,43 +19,33 @@ fn text_of(rt: &(impl Abort + AllocGlobal), core: u16, start: u16, code: &[Instr
     let author = Title::new(b"", "Anonymous");
     let code = Vec::from_slice(rt.alloc(), code).expect(rt, "there is memory");
     let warrior = Warrior::new(code, start, name, author, &settings).expect(rt, "it fits");
-    load_text(rt.alloc(), &warrior, settings.core()).expect(rt, "there is memory")
+    let text = load_text(rt.alloc(), &warrior, settings.core());
+    drop(warrior);
+    text.expect(rt, "there is memory")
 }
 
-/// MOV 0, 1
-pub(crate) const IMP: Instr = Instr {
-    op: Op::Mov,
-    modifier: Modifier::I,
-    a_mode: Mode::Direct,
-    a: 0,
-    b_mode: Mode::Direct,
-    b: 1,
-};
+/// A warrior of this code has this load text, in a core of this size.
+fn check_text(rt: &(impl Abort + AllocGlobal), core: u16, start: u16, code: &[Instr], want: &str) {
+    let found = text_of(rt, core, start, code);
+    expect_text(rt, found.as_slice(), want);
+    drop(found);
+}
+
+fn expect_text(rt: &impl Abort, found: &[u8], want: &str) {
+    assert_eq!(rt; found, want.as_bytes());
+}
 
 #[test]
 fn an_imp(rt: HostRuntime) {
     let want = "ORG 0\nMOV.I  $     0, $     1\nEND\n";
-    assert_eq!(rt; text_of(&rt, 8000, 0, &[IMP]).as_slice(), want.as_bytes());
-}
-
-/// DAT 0, 0
-pub(crate) const BOMB: Instr = Instr {
-    op: Op::Dat,
-    modifier: Modifier::F,
-    b: 0,
-    ..IMP
-};
-
-/// The load text of a bomb with this B-number, in a core of this size.
-fn bombed(rt: &(impl Abort + AllocGlobal), core: u16, number: u16) -> Vec<u8> {
-    text_of(rt, core, 0, &[Instr { b: number, ..BOMB }])
+    check_text(&rt, 8000, 0, &[IMP], want);
 }
 
 /// A number of an instruction in a core is printed as this field.
 fn check_folded(rt: &(impl Abort + AllocGlobal), core: u16, number: u16, field: &str) {
     let want = source_of(rt, "ORG 0\nDAT.F  $     0, $", field, 1, "\nEND\n");
-    let found = bombed(rt, core, number);
-    assert_eq!(rt; found.as_slice(), want.as_bytes(), "{number} of {core}");
+    check_text(rt, core, 0, &[dat(0, number)], want.as_str());
+    drop(want);
 }
 
 /// Cores, numbers and their fields.
@@ -76,38 +66,24 @@ fn numbers_are_folded_above_half_the_core(rt: HostRuntime) {
     }
 }
 
-// An instruction with the numbers 1 and 98.
-macro_rules! instr {
-    ($op:ident . $modifier:ident $a_mode:ident, $b_mode:ident) => {
-        Instr {
-            op: Op::$op,
-            modifier: Modifier::$modifier,
-            a_mode: Mode::$a_mode,
-            a: 1,
-            b_mode: Mode::$b_mode,
-            b: 98,
-        }
-    };
-}
-
 /// Each operation, each modifier and each mode.
 const NAMES: [Instr; 16] = [
-    instr!(Dat.A Immediate, Direct),
-    instr!(Mov.B AIndirect, BIndirect),
-    instr!(Add.AB APre, BPre),
-    instr!(Sub.BA APost, BPost),
-    instr!(Mul.F Direct, Immediate),
-    instr!(Div.X BIndirect, AIndirect),
-    instr!(Mdl.I BPre, APre),
-    instr!(Jmp.A BPost, APost),
-    instr!(Jmz.B Immediate, Immediate),
-    instr!(Jmn.AB Direct, Direct),
-    instr!(Djn.BA AIndirect, AIndirect),
-    instr!(Seq.F BIndirect, BIndirect),
-    instr!(Sne.X APre, APre),
-    instr!(Slt.I BPre, BPre),
-    instr!(Spl.A APost, APost),
-    instr!(Nop.B BPost, BPost),
+    instruction!(Dat.A Immediate 1, Direct 98),
+    instruction!(Mov.B AIndirect 1, BIndirect 98),
+    instruction!(Add.AB APre 1, BPre 98),
+    instruction!(Sub.BA APost 1, BPost 98),
+    instruction!(Mul.F Direct 1, Immediate 98),
+    instruction!(Div.X BIndirect 1, AIndirect 98),
+    instruction!(Mdl.I BPre 1, APre 98),
+    instruction!(Jmp.A BPost 1, APost 98),
+    instruction!(Jmz.B Immediate 1, Immediate 98),
+    instruction!(Jmn.AB Direct 1, Direct 98),
+    instruction!(Djn.BA AIndirect 1, AIndirect 98),
+    instruction!(Seq.F BIndirect 1, BIndirect 98),
+    instruction!(Sne.X APre 1, APre 98),
+    instruction!(Slt.I BPre 1, BPre 98),
+    instruction!(Spl.A APost 1, APost 98),
+    instruction!(Nop.B BPost 1, BPost 98),
 ];
 
 /// The load text that is due for them.
@@ -133,8 +109,5 @@ END
 
 #[test]
 fn every_name_is_printed(rt: HostRuntime) {
-    assert_eq!(rt;
-        text_of(&rt, 100, 15, &NAMES).as_slice(),
-        NAMES_PRINTED.as_bytes()
-    );
+    check_text(&rt, 100, 15, &NAMES, NAMES_PRINTED);
 }

@@ -161,7 +161,11 @@ const ROUNDS: [Round; 5] = rows! {
 /// The B-number of the first instruction that a source gives, or its refusal.
 fn first_number(rt: &(impl Abort + AllocGlobal), source: &[u8]) -> Result<u16, (u32, AsmKind)> {
     match assemble(rt.alloc(), source, &defaults(rt)) {
-        Ok(warrior) => Ok(warrior.code()[0].b),
+        Ok(warrior) => {
+            let number = warrior.code()[0].b;
+            drop(warrior);
+            Ok(number)
+        }
         Err(fault) => Err((fault.line, fault.kind)),
     }
 }
@@ -170,6 +174,7 @@ fn check_round(rt: &(impl Abort + AllocGlobal), round: &Round) {
     let (lines, others, answer) = *round;
     let source = source_of(rt, lines, others, 1, "");
     let found = first_number(rt, source.as_bytes());
+    drop(source);
     assert_eq!(rt; found, answer, "{others:?}");
 }
 

@@ -12,6 +12,7 @@ use war_types::{AsmFault, AsmKind, ExprFault};
 fn check_fault(rt: &(impl Abort + AllocGlobal), source: &[u8], fault: Option<AsmFault>) {
     let region = Bump::new(rt.alloc());
     let found = expand(rt.alloc(), &region, source, &defaults(rt)).err();
+    drop(region);
     assert_eq!(rt; found, fault);
 }
 
@@ -90,6 +91,7 @@ fn check_limited(rt: &(impl Abort + AllocGlobal), limited: &Limited) {
     let (head, part, count, behind, refusal) = *limited;
     let source = source_of(rt, head, part, count, behind);
     check_fault(rt, source.as_bytes(), refusal);
+    drop(source);
 }
 
 #[test]

@@ -38,7 +38,11 @@ pub(crate) fn assembled(
     settings: &Settings,
 ) -> Result<usize, (u32, AsmKind)> {
     match assemble(rt.alloc(), source, settings) {
-        Ok(warrior) => Ok(warrior.code().len()),
+        Ok(warrior) => {
+            let count = warrior.code().len();
+            drop(warrior);
+            Ok(count)
+        }
         Err(fault) => Err((fault.line, fault.kind)),
     }
 }
@@ -63,8 +67,13 @@ pub(crate) fn check_answer(
     settings: &Settings,
 ) {
     let found = answer(rt, source.as_bytes(), settings);
-    let text = str::from_utf8(found.as_slice()).expect(rt, "it is text");
-    assert_eq!(rt; text, due, "{source:?}");
+    expect_text(rt, found.as_slice(), due, source);
+    drop(found);
+}
+
+/// This text is what is due of a source.
+fn expect_text(rt: &impl Abort, found: &[u8], due: &str, source: &str) {
+    assert_eq!(rt; str::from_utf8(found).ok(), Some(due), "{source:?}");
 }
 
 /// Sources, each with its load text or how it is refused.
@@ -157,7 +166,10 @@ const TITLES: [(&str, &str, &str); 5] = rows! {
 /// Whether a source's warrior has this name and this author.
 fn has_titles(rt: &(impl Abort + AllocGlobal), source: &str, name: &str, author: &str) -> bool {
     let warrior = assemble(rt.alloc(), source.as_bytes(), &defaults(rt)).expect(rt, "it is one");
-    warrior.name().bytes() == name.as_bytes() && warrior.author().bytes() == author.as_bytes()
+    let titles = (warrior.name().bytes(), warrior.author().bytes());
+    let has_titles = titles == (name.as_bytes(), author.as_bytes());
+    drop(warrior);
+    has_titles
 }
 
 /// A source whose warrior has this name and this author.

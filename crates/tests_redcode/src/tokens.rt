@@ -48,7 +48,9 @@ pub(crate) const MOVED: [Row; 10] = [
 /// A line has these tokens.
 fn check_tokens(rt: &(impl Abort + AllocGlobal), line: &[u8], rows: &[Row]) {
     let tokens = tokens_of(rt, rt.alloc(), line);
-    assert!(rt; gives(tokens.as_slice(), rows));
+    let gives = gives(tokens.as_slice(), rows);
+    drop(tokens);
+    assert!(rt; gives);
 }
 
 #[test]
@@ -104,6 +106,7 @@ fn check_value(
 ) {
     let tokens = tokens_of(rt, rt.alloc(), line);
     let found = value(tokens.as_slice(), &Same { value: known });
+    drop(tokens);
     assert_eq!(rt; found, wanted);
 }
 
@@ -142,6 +145,8 @@ fn check_nested(rt: &(impl Abort + AllocGlobal), depth: usize, wanted: Result<i6
     let opened = source_of(rt, "", "(", depth, "7");
     let line = source_of(rt, opened.as_str(), ")", depth, "");
     check_value(rt, line.as_bytes(), None, wanted);
+    drop(line);
+    drop(opened);
 }
 
 #[test]

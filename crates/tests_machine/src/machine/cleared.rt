@@ -36,7 +36,9 @@ fn left_of_matches(rt: &(impl Abort + AllocGlobal), raw: RawSettings) -> Option<
     fight(&mut arena, &older, &younger, &settings);
     fight(&mut arena, &older, &younger, &settings);
     arena.begin(&one, &two, 20, Side::First);
-    left_over(&arena, settings.core(), [(0, dat!(1, 1)), (20, dat!(2, 2))])
+    let left = left_over(&arena, settings.core(), [(0, dat!(1, 1)), (20, dat!(2, 2))]);
+    drop(arena);
+    left
 }
 
 #[test]
@@ -58,6 +60,7 @@ fn across_the_end_of_the_largest_core(rt: HostRuntime) {
     }
     check_process(&rt, &arena, Side::Second, 0, Some(1));
     check_cells(&rt, &arena, &ACROSS);
+    drop(arena);
 }
 
 /// Copies itself a hundred cells ahead, from 65435 over the end of the largest core to 0.
@@ -83,4 +86,5 @@ fn one_cycle_under_the_largest_settings(rt: HostRuntime) {
     check_process(&rt, &arena, Side::Second, 0, Some(65436));
     check_cells(&rt, &arena, &OVER_THE_END);
     check_next(&rt, &mut arena, Turned::Over);
+    drop(arena);
 }

@@ -26,6 +26,7 @@ fn check_within(rt: &(impl Abort + AllocGlobal), within: &Within) {
     check_cells(rt, &arena, left);
     check_count(rt, &arena, Side::First, 1);
     check_process(rt, &arena, Side::First, 0, Some(*process));
+    drop(arena);
 }
 
 #[test]

@@ -19,6 +19,7 @@ fn a_fresh_arena(rt: HostRuntime) {
     check_cleared(&rt, &arena);
     check_count(&rt, &arena, Side::First, 0);
     check_process(&rt, &arena, Side::Second, 0, None);
+    drop(arena);
 }
 
 /// The older and the younger, ten cells ahead, which of them moves first, and how the round ends.
@@ -37,7 +38,9 @@ const WHO_WINS: [Round; 7] = [
 fn check_round(rt: &(impl Abort + AllocGlobal), settings: &Settings, round: &Round) {
     let (older, younger, first, due) = *round;
     let mut arena = begun(rt, settings, [&[older], &[younger]], 10, first);
-    assert_eq!(rt; arena.play(), due, "{older:?} {younger:?}");
+    let outcome = arena.play();
+    drop(arena);
+    assert_eq!(rt; outcome, due, "{older:?} {younger:?}");
 }
 
 #[test]
@@ -60,6 +63,7 @@ fn a_round_that_ends_at_once(rt: HostRuntime) {
     check_next(&rt, &mut arena, Turned::Over);
     check_outcome(&rt, &mut arena, Outcome::Second);
     check_process(&rt, &arena, Side::Second, 0, Some(10));
+    drop(arena);
 }
 
 const SPLIT: Instr = instruction!(Spl.B 0, 0);
@@ -74,6 +78,7 @@ fn a_split_past_the_limit(rt: HostRuntime) {
     check_process(&rt, &arena, Side::First, 0, Some(1));
     check_next(&rt, &mut arena, Turned::Went);
     check_process(&rt, &arena, Side::Second, 0, Some(11));
+    drop(arena);
 }
 
 /// A SPL queues the next instruction before its target.
@@ -86,4 +91,5 @@ fn a_split_queues_the_next_first(rt: HostRuntime) {
     check_next(&rt, &mut arena, Turned::Died);
     check_next(&rt, &mut arena, Turned::Over);
     check_outcome(&rt, &mut arena, Outcome::First);
+    drop(arena);
 }

@@ -8,8 +8,14 @@ use tests_fixtures::Refusing;
 type Text<'a> = Result<Vec<u8, &'a Refusing<Global>>, AllocError>;
 
 fn is_empty(text: Text<'_>) -> Option<bool> {
-    let text = text.ok()?;
-    Some(text.is_empty())
+    match text {
+        Ok(text) => {
+            let is_empty = text.is_empty();
+            drop(text);
+            Some(is_empty)
+        }
+        Err(AllocError) => None,
+    }
 }
 
 /// The text is there if no growth was refused, and is the error if one was.

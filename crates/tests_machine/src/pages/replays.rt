@@ -22,7 +22,7 @@ fn replayed(
     let older = warrior(rt.alloc(), codes[0], &settings).expect(rt, "it fits");
     let younger = warrior(rt.alloc(), codes[1], &settings).expect(rt, "it fits");
     let mut arena = Arena::new(rt.alloc(), &settings).expect(rt, "there is memory");
-    replay(
+    let found = replay(
         rt.alloc(),
         &mut arena,
         &older,
@@ -30,8 +30,11 @@ fn replayed(
         &settings,
         round,
         most,
-    )
-    .expect(rt, "there is memory")
+    );
+    drop(arena);
+    drop(younger);
+    drop(older);
+    found.expect(rt, "there is memory")
 }
 
 /// There are these turns, and no others.
@@ -88,6 +91,7 @@ fn an_imp_and_one_that_stays(rt: HostRuntime) {
     check_opening(&rt, &replay, OPENING, &loaded);
     check_turns(&rt, &replay, &IMP_TURNS);
     check_end(&rt, &replay, true, Outcome::Tie);
+    drop(replay);
 }
 
 /// How round 1 begins, with the younger at 32.
@@ -111,6 +115,7 @@ fn a_process_that_ends(rt: HostRuntime) {
     check_opening(&rt, &replay, SECOND_OPENING, &[Event::Cell(32, STAY)]);
     check_turns(&rt, &replay, &ENDING_TURNS);
     check_end(&rt, &replay, false, Outcome::Second);
+    drop(replay);
 }
 
 /// The same round, of two turns, has `turns` if `most` are kept at most.
@@ -118,6 +123,7 @@ fn check_kept(rt: &(impl Abort + AllocGlobal), most: u32, turns: usize, is_cut: 
     let replay = replayed(rt, [&[DIE], &[STAY]], 1, most);
     assert_eq!(rt; replay.turns(), turns, "{most}");
     check_end(rt, &replay, is_cut, Outcome::Second);
+    drop(replay);
 }
 
 /// It is cut if fewer are kept.
@@ -152,6 +158,7 @@ const SPLITTING_TURNS: [&[Event]; 5] = [
 fn a_process_that_splits(rt: HostRuntime) {
     let replay = replayed(&rt, [&[SPLIT, STAY], &[STAY]], 0, 5);
     check_turns(&rt, &replay, &SPLITTING_TURNS);
+    drop(replay);
 }
 
 const DWARF: [Instr; 4] = [
@@ -185,6 +192,7 @@ const DWARF_TURNS: [&[Event]; 5] = [
 fn a_dwarf(rt: HostRuntime) {
     let replay = replayed(&rt, [&DWARF, &[STAY]], 0, 5);
     check_turns(&rt, &replay, &DWARF_TURNS);
+    drop(replay);
 }
 
 /// How many turns a replay has that finds its memory here, if it finds enough.
@@ -196,7 +204,11 @@ fn turns_within(
     let older = warrior(rt.alloc(), &[DIE], settings).expect(rt, "it fits");
     let younger = warrior(rt.alloc(), &[STAY], settings).expect(rt, "it fits");
     let mut arena = Arena::new(rt.alloc(), settings).expect(rt, "there is memory");
-    turns_of(memory, &mut arena, &older, &younger, settings)
+    let turns = turns_of(memory, &mut arena, &older, &younger, settings);
+    drop(arena);
+    drop(younger);
+    drop(older);
+    turns
 }
 
 fn turns_of(
@@ -211,8 +223,14 @@ fn turns_of(
     requires younger { Fits settings.now younger.now }
     requires round { 0 < settings.now.rounds }
 {
-    let replay = replay(memory, arena, older, younger, settings, 0, 9).ok()?;
-    Some(replay.turns())
+    match replay(memory, arena, older, younger, settings, 0, 9) {
+        Ok(replay) => {
+            let turns = replay.turns();
+            drop(replay);
+            Some(turns)
+        }
+        Err(_) => None,
+    }
 }
 
 /// For a round of one turn: what is loaded, the turn's events, and the list of turns.
@@ -228,4 +246,5 @@ fn a_replay_takes_memory(rt: HostRuntime) {
     memory.refuse(3, 1);
     assert_eq!(rt; turns_within(&rt, &memory, &settings), Some(1));
     assert_eq!(rt; memory.refused(), 0);
+    drop(memory);
 }

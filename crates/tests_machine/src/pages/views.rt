@@ -19,17 +19,24 @@ fn check_lines(rt: &(impl Abort + AllocGlobal), text: &[u8], due: &[&str]) {
             .expect(rt, "there is memory");
         whole.push(b'\n').expect(rt, "there is memory");
     }
-    assert_eq!(rt; text, whole.as_slice());
+    expect_same(rt, text, whole.as_slice());
+    drop(whole);
+}
+
+fn expect_same(rt: &impl Abort, found: &[u8], due: &[u8]) {
+    assert_eq!(rt; found, due);
 }
 
 fn check_table(rt: &(impl Abort + AllocGlobal), hill: &Hill<Global>, due: &[&str]) {
     let text = hill_view(rt.alloc(), hill).expect(rt, "there is memory");
     check_lines(rt, text.as_slice(), due);
+    drop(text);
 }
 
 fn check_matrix(rt: &(impl Abort + AllocGlobal), hill: &Hill<Global>, due: &[&str]) {
     let text = matches_view(rt.alloc(), hill).expect(rt, "there is memory");
     check_lines(rt, text.as_slice(), due);
+    drop(text);
 }
 
 const TABLE_OF_THREE: [&str; 4] = [
@@ -46,12 +53,12 @@ const TABLE_OF_ONE: [&str; 2] = [
 
 #[test]
 fn tables(rt: HostRuntime) {
-    check_table(
-        &rt,
-        &hill_of_three(&rt, b"Scanner", b"koth"),
-        &TABLE_OF_THREE,
-    );
-    check_table(&rt, &hill_of_one(&rt), &TABLE_OF_ONE);
+    let hill = hill_of_three(&rt, b"Scanner", b"koth");
+    check_table(&rt, &hill, &TABLE_OF_THREE);
+    drop(hill);
+    let hill = hill_of_one(&rt);
+    check_table(&rt, &hill, &TABLE_OF_ONE);
+    drop(hill);
 }
 
 const MATRIX_OF_THREE: [&str; 4] = [
@@ -63,11 +70,9 @@ const MATRIX_OF_THREE: [&str; 4] = [
 
 #[test]
 fn matrices(rt: HostRuntime) {
-    check_matrix(
-        &rt,
-        &hill_of_three(&rt, b"Scanner", b"koth"),
-        &MATRIX_OF_THREE,
-    );
+    let hill = hill_of_three(&rt, b"Scanner", b"koth");
+    check_matrix(&rt, &hill, &MATRIX_OF_THREE);
+    drop(hill);
 }
 
 const TABLE_OF_NONE: [&str; 2] = [
@@ -82,6 +87,7 @@ fn hills_without_warriors(rt: HostRuntime) {
     let hill = Hill::new(rt.alloc(), ten_rounds(&rt)).expect(&rt, "there is memory");
     check_table(&rt, &hill, &TABLE_OF_NONE);
     check_matrix(&rt, &hill, &MATRIX_OF_NONE);
+    drop(hill);
 }
 
 const COUNTS: [&str; 3] = [
@@ -96,15 +102,25 @@ fn counts_of_a_match(rt: HostRuntime) {
     let older = entrant(&rt, b"Imp", b"A. K. Dewdney", &settings);
     let younger = entrant(&rt, b"Scanner", b"koth", &settings);
     let text = bout_view(rt.alloc(), &older, &younger, bout(1, 109, 0));
-    check_lines(&rt, text.expect(&rt, "there is memory").as_slice(), &COUNTS);
+    drop(younger);
+    drop(older);
+    let text = text.expect(&rt, "there is memory");
+    check_lines(&rt, text.as_slice(), &COUNTS);
+    drop(text);
 }
 
 /// What is said of this reply, after which a hill of three has two warriors.
 fn check_placing(rt: &(impl Abort + AllocGlobal), reply: &Reply, due: &[&str]) {
-    let before = roster(rt.alloc(), &hill_of_three(rt, b"Scanner", b"koth"));
-    let before = before.expect(rt, "there is memory");
-    let text = placing_view(rt.alloc(), before.as_slice(), &hill_of_two(rt), reply);
-    check_lines(rt, text.expect(rt, "there is memory").as_slice(), due);
+    let hill = hill_of_three(rt, b"Scanner", b"koth");
+    let before = roster(rt.alloc(), &hill).expect(rt, "there is memory");
+    drop(hill);
+    let hill = hill_of_two(rt);
+    let text = placing_view(rt.alloc(), before.as_slice(), &hill, reply);
+    drop(hill);
+    drop(before);
+    let text = text.expect(rt, "there is memory");
+    check_lines(rt, text.as_slice(), due);
+    drop(text);
 }
 
 /// The reply, and the lines, of the entry 3 as it came and the entry 1 fell.
@@ -144,5 +160,7 @@ fn growths_of_a_table(rt: HostRuntime) {
     let runs = refuse_each(&memory, |_k| {
         check_growth(&rt, &memory, hill_view(&memory, &hill))
     });
+    drop(hill);
+    drop(memory);
     assert!(rt; runs > 1);
 }

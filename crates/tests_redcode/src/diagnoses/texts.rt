@@ -40,7 +40,13 @@ fn all_written(rt: &(impl Abort + AllocGlobal), source: &[u8], form: Form) -> Ve
 /// The refusals of a source are written so.
 fn check_written(rt: &(impl Abort + AllocGlobal), source: &[u8], form: Form, want: &[u8]) {
     let found = all_written(rt, source, form);
-    assert_eq!(rt; found.as_slice(), want, "{source:?}");
+    expect_same(rt, found.as_slice(), want, source);
+    drop(found);
+}
+
+/// What was found of a source is what is due.
+fn expect_same(rt: &impl Abort, found: &[u8], want: &[u8], source: &[u8]) {
+    assert_eq!(rt; found, want, "{source:?}");
 }
 
 /// Sources, with the text of their refusals.
@@ -118,8 +124,8 @@ fn repeated(rt: &(impl Abort + AllocGlobal), line: &str, count: usize) -> String
 /// `count` times a line has refusals of this text.
 fn check_repeated(rt: &(impl Abort + AllocGlobal), line: &str, count: usize, want: &[u8]) {
     let source = repeated(rt, line, count);
-    let found = all_written(rt, source.as_bytes(), Form::Text);
-    assert_eq!(rt; found.as_slice(), want);
+    check_written(rt, source.as_bytes(), Form::Text, want);
+    drop(source);
 }
 
 /// No more than 100 refusals are told, and the numbers of a source or a warrior that is too long.
