@@ -40,7 +40,10 @@ fn check_read(
     let mut input = reader(b"\n\n\n\n\n\n", most, fails_at);
     let ran = run_on(rt, "koth asm", &mut input);
     expect_begun(rt, &ran, fails_at, output, errors, status);
-    input.reads
+    drop(ran);
+    let reads = input.reads;
+    drop(input);
+    reads
 }
 
 /// A run whose read failed wrote this on its output, told what begins so on its errors, and left with this status.
@@ -79,17 +82,20 @@ fn check_write(rt: &impl Host, line: &str, most: usize, room: usize, full: Full)
         &mut output,
         &mut errors,
     );
-    assert!(rt; errors.as_slice().starts_with(b"DISK standard output: "));
-    assert_eq!(rt; status, 3);
-    assert_eq!(rt; output.taken.len(), room);
-    output.taken
+    let is_told = errors.as_slice().starts_with(b"DISK standard output: ");
+    drop(errors);
+    let taken = output.taken;
+    assert_eq!(rt; (is_told, status, taken.len()), (true, 3, room));
+    taken
 }
 
 /// What a run for an empty source writes if its output takes `room` bytes.
 fn check_room(rt: &impl Host, most: usize, room: usize, full: Full) {
     let line = b"REFUSED 0 Empty\n".as_slice();
     let taken = check_write(rt, "koth asm", most, room, full);
-    assert_eq!(rt; line.get(..room), Some(taken.as_slice()));
+    let is_begun = line.get(..room) == Some(taken.as_slice());
+    drop(taken);
+    assert!(rt; is_begun, "{room}");
 }
 
 /// The same in each way in which an output is full.
@@ -130,6 +136,7 @@ fn check_lines(rt: &impl Host, count: usize, output: &str, status: u8) {
     let line = "koth asm --length 200 --distance 200";
     let source = text_of(rt, "", "DAT 0\n", count, "");
     check_on(rt, line, source.as_bytes(), output, "", status);
+    drop(source);
 }
 
 /// The load text of lines `DAT 0`, up to the longest warrior that settings allow.
@@ -138,6 +145,7 @@ fn the_longest_warrior(rt: HostRuntime) {
     let text = text_of(&rt, "ORG 0\n", "DAT.F  $     0, $     0\n", 200, "END\n");
     check_lines(&rt, 200, text.as_str(), 0);
     check_lines(&rt, 201, "REFUSED 0 TooLong\n", 1);
+    drop(text);
 }
 
 #[test]

@@ -54,16 +54,19 @@ pub(crate) fn status_on<A: Allocator + Copy>(
     errors: &mut impl Write,
 ) -> u8 {
     let words = words_of(rt, line);
-    status_of(
+    let heap = rt.alloc();
+    let status = status_of(
         rt,
-        rt.alloc(),
+        heap,
         alloc,
         words.as_slice(),
         view,
         input,
         output,
         errors,
-    )
+    );
+    drop(words);
+    status
 }
 
 /// A run of the program with these words, with tables in this view unless the words ask for one. What the program takes besides its
@@ -108,6 +111,7 @@ pub(crate) fn check_on(
     let mut left = input;
     let ran = run_on(rt, line, &mut left);
     expect_ran(rt, &ran, line, output, word, status);
+    drop(ran);
     left.len()
 }
 
@@ -160,7 +164,9 @@ pub(crate) fn check_told(
     let ran = run_viewed(rt, rt.alloc(), line, view, &mut b"".as_slice());
     expect_text(rt, &ran.output, output);
     expect_text(rt, &ran.errors, errors);
-    assert_eq!(rt; ran.status, status, "{line}");
+    let found = ran.status;
+    drop(ran);
+    assert_eq!(rt; found, status, "{line}");
 }
 
 /// A run wrote nothing to standard error, and had status 0.

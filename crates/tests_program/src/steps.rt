@@ -6,6 +6,7 @@ use crate::files::{
 use crate::program::{Host, check, check_told, expect_done, run_line, text_in};
 use crate::words::{check_fault, check_help, check_options};
 use koth_server::View;
+use std::process::Abort;
 
 /// What is done to a file or looked at in it, or a command that is tried.
 #[derive(Clone, Copy)]
@@ -96,11 +97,15 @@ fn act(rt: &impl Host, step: Step) {
 /// These words write a page that has this text, and nothing but the page.
 fn check_page(rt: &impl Host, line: &str, part: &str) {
     let ran = run_line(rt, line);
-    let page = text_in(&ran.output);
+    expect_page(rt, text_in(&ran.output), part);
+    expect_done(rt, &ran);
+    drop(ran);
+}
+
+fn expect_page(rt: &impl Abort, page: &str, part: &str) {
     assert!(rt; page.starts_with("<!DOCTYPE html>\n"), "{page}");
     assert!(rt; page.ends_with("</html>\n"), "{page}");
     assert!(rt; page.contains(part), "{page}");
-    expect_done(rt, &ran);
 }
 
 /// Each command on a file without a hill, which is tried before the source is read or the port is bound.

@@ -1,6 +1,6 @@
 //! What people are told of each likely mistake, word for word.
 
-use crate::program::{run_line, text_in};
+use crate::program::check_told;
 use crate::steps::{Step, play, small, steps};
 use koth_server::View;
 use std::fs;
@@ -151,7 +151,5 @@ fn a_hill_that_is_worked_on(rt: HostRuntime) {
 
 #[test]
 fn the_version(rt: HostRuntime) {
-    let ran = run_line(&rt, "koth --version");
-    assert_eq!(rt; text_in(&ran.output), "koth 1.0.0\n");
-    assert_eq!(rt; ran.status, 0);
+    check_told(&rt, "koth --version", View::Plain, "koth 1.0.0\n", "", 0);
 }

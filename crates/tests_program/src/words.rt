@@ -7,6 +7,7 @@ pub(crate) fn check_fault(rt: &impl Host, line: &str, part: &str) {
     let mut input = b"MOV 0, 1\n".as_slice();
     let ran = run_on(rt, line, &mut input);
     expect_fault(rt, &ran, part);
+    drop(ran);
     assert_eq!(rt; input.len(), 9);
 }
 
@@ -70,9 +71,13 @@ fn faults_of_the_words(rt: HostRuntime) {
 /// Words that ask for help: it is written on the output.
 pub(crate) fn check_help(rt: &impl Host, line: &str, part: &str) {
     let ran = run_line(rt, line);
-    let text = text_in(&ran.output);
-    assert!(rt; text.contains(part), "{text}");
+    expect_part(rt, text_in(&ran.output), part);
     expect_done(rt, &ran);
+    drop(ran);
+}
+
+fn expect_part(rt: &impl Abort, text: &str, part: &str) {
+    assert!(rt; text.contains(part), "{text}");
 }
 
 /// Words that ask for help, and a part of it.
@@ -148,6 +153,7 @@ const COMMANDS: [&str; 4] = [
 fn check_refused(rt: &impl Host, command: &str, options: &str, told: &str) {
     let line = format!(in rt.alloc(); "koth {command} {options}").expect(rt, "there is memory");
     let left = check_on(rt, line.as_str(), b"MOV 0, 1\n", "", told, 1);
+    drop(line);
     assert_eq!(rt; left, 9);
 }
 
@@ -157,6 +163,7 @@ pub(crate) fn check_options(rt: &impl Host, options: &str, field: &str) {
     for command in &COMMANDS {
         check_refused(rt, command, options, told.as_str());
     }
+    drop(told);
 }
 
 #[test]

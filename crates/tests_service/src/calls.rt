@@ -68,7 +68,9 @@ pub(crate) fn answers_to<D: Device, A: Allocator + Copy>(
     store: &mut Store<D, A>,
 ) -> (SessionEnd, Vec<u8>) {
     let mut output = Counted::new(Vec::new(rt.alloc()));
-    let ended = end_of(alloc, &mut Counted::new(lines), &mut output, store);
+    let mut input = Counted::new(lines);
+    let ended = end_of(alloc, &mut input, &mut output, store);
+    drop(input);
     (ended, output.into_inner())
 }
 
@@ -96,9 +98,13 @@ pub(crate) fn expect_slow_session(
     let mut input = Counted::new(lines);
     let mut output = Counted::new(writer(rt.alloc(), most, usize::MAX, FULL[0]));
     let ended = end_of(rt.alloc(), &mut input, &mut output, &mut store);
-    assert_eq!(rt; ended, end, "at {answers}");
-    assert_eq!(rt; (input.faults(), output.faults()), (faults, 0));
-    expect_text(rt, &output.into_inner().taken, answers);
+    drop(store);
+    let found = (ended, input.faults(), output.faults());
+    drop(input);
+    let taken = output.into_inner().taken;
+    expect_text(rt, &taken, answers);
+    drop(taken);
+    assert_eq!(rt; found, (end, faults, 0), "at {answers}");
 }
 
 /// These bytes are this text.

@@ -216,7 +216,9 @@ const A_HILL_THAT_IS_GONE_DUE: [Due; 1] = [Due::Heard(2, "")];
 fn a_device_that_fails(rt: HostRuntime) {
     let served = serve(&rt, &A_DEVICE_THAT_FAILS, 2, 8, 1);
     check_served(&rt, &served, None, &A_DEVICE_THAT_FAILS_DUE);
+    drop(served);
     let gone = serve(&rt, &A_DEVICE_THAT_FAILS, 2, 8, 0);
     let fault = ServiceFault::Reopening(Shut);
     check_served(&rt, &gone, Some(fault), &A_HILL_THAT_IS_GONE_DUE);
+    drop(gone);
 }

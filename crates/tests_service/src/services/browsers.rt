@@ -90,10 +90,9 @@ const REFUSED: [(&str, [Cue; 6], &str); 4] = [
 fn check_start(rt: &(impl Abort + AllocGlobal), request: &str, cues: &[Cue], start: &str) {
     let served = serve(rt, cues, 1, u64::MAX, 0);
     let caller = served.sockets.caller(7).expect(rt, "it called");
-    assert!(rt;
-        caller.heard.as_slice().starts_with(start.as_bytes()),
-        "{request}"
-    );
+    let begins = caller.heard.as_slice().starts_with(start.as_bytes());
+    drop(served);
+    assert!(rt; begins, "{request}");
 }
 
 /// Each refusal, and a page without its body.

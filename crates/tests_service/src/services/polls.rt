@@ -32,7 +32,8 @@ fn say(
 
 /// Serves these sockets, `peers` peers at once and a browser, until `sessions` sessions have ended.
 fn serve(rt: &(impl Abort + AllocGlobal), sockets: &mut impl Sockets, peers: usize, sessions: u32) {
-    let (fault, _told) = serve_on(rt, sockets, (peers, 1), sessions, u64::MAX, 0);
+    let (fault, told) = serve_on(rt, sockets, (peers, 1), sessions, u64::MAX, 0);
+    drop(told);
     assert_eq!(rt; fault, None);
 }
 
@@ -43,7 +44,13 @@ fn heard(rt: &(impl Abort + AllocGlobal), stream: TcpStream) -> String {
 
 /// What comes on this connection up to its end is this.
 fn expect(rt: &(impl Abort + AllocGlobal), stream: TcpStream, answers: &str) {
-    assert_eq!(rt; heard(rt, stream).as_str(), answers);
+    let heard = heard(rt, stream);
+    expect_same(rt, heard.as_str(), answers);
+    drop(heard);
+}
+
+fn expect_same(rt: &impl Abort, found: &str, due: &str) {
+    assert_eq!(rt; found, due);
 }
 
 /// The second peer sends 5,000 bytes after its `QUIT`, and has its answers all the same. The third one says nothing before it ends.
@@ -64,6 +71,7 @@ fn over_sockets(rt: HostRuntime) {
     );
     expect(&rt, second, "BAD\n");
     expect(&rt, third, "");
+    drop(sockets);
 }
 
 /// A browser is answered over sockets of the system while a peer is there, and its connection is closed.
@@ -81,5 +89,8 @@ fn a_browser_over_sockets(rt: HostRuntime) {
     serve(&rt, &mut sockets, 1, 1);
     expect(&rt, peer, "BAD\n");
     let text = heard(&rt, browser);
-    assert!(rt; text.as_str().ends_with("\r\n\r\n0 here\n"));
+    let is_page = text.as_str().ends_with("\r\n\r\n0 here\n");
+    drop(text);
+    drop(sockets);
+    assert!(rt; is_page);
 }

@@ -129,4 +129,5 @@ pub(crate) fn act_out(
 ) {
     let served = serve(rt, cues, connections, u64::MAX, 0);
     check_served(rt, &served, None, dues);
+    drop(served);
 }

@@ -83,12 +83,30 @@ fn expect_full(
     } else {
         (SessionEnd::Quit, 0)
     };
-    assert_eq!(rt; ended, end, "{most} at a time, {room} in all, {full:?}");
-    assert_eq!(rt; output.faults(), faults);
+    drop(input);
+    let found = (ended, output.faults());
     let taken = output.into_inner().taken;
-    assert_eq!(rt; answers.as_bytes().get(..room), Some(taken.as_slice()));
+    expect_begun(rt, answers, room, taken.as_slice());
+    drop(taken);
+    expect_one(rt, store);
+    assert_eq!(rt;
+        found,
+        (end, faults),
+        "{most} at a time, {room} in all, {full:?}"
+    );
+}
+
+/// The first `room` bytes of the answers were taken.
+fn expect_begun(rt: &impl Abort, answers: &str, room: usize, taken: &[u8]) {
+    assert_eq!(rt; answers.as_bytes().get(..room), Some(taken));
+}
+
+/// One warrior is on the hill of a store, and on the one that is opened on its device.
+fn expect_one<D: Device + Drop>(rt: &(impl Abort + AllocGlobal), store: Store<D, Global>) {
     expect_count(rt, &store, 1);
-    expect_count(rt, &reopened(rt, rt.alloc(), store), 1);
+    let store = reopened(rt, rt.alloc(), store);
+    expect_count(rt, &store, 1);
+    drop(store);
 }
 
 /// An output of `room` bytes, whatever it does then.
@@ -124,8 +142,9 @@ fn expect_on_failed<D: Device>(
     end: SessionEnd,
 ) {
     let (ended, answered) = answers_to(rt, rt.alloc(), lines.as_bytes(), store);
-    assert_eq!(rt; ended, end, "at {lines}");
     expect_text(rt, &answered, answers);
+    drop(answered);
+    assert_eq!(rt; ended, end, "at {lines}");
 }
 
 /// A session whose device fails once, after `calls` calls: nothing is answered, and the table stays empty. How many warriors are on
@@ -138,14 +157,18 @@ fn count_behind_a_fault(
     let device = FuseDevice::new(blank_in(rt, rt.alloc()), calls, kind);
     let mut store = empty_hill_on(rt, rt.alloc(), device);
     let (ended, answered) = answers_to(rt, rt.alloc(), LINES, &mut store);
-    assert_eq!(rt; ended, SessionEnd::StoreFailed);
-    assert!(rt; answered.is_empty());
+    let found = (ended, answered.is_empty());
+    drop(answered);
+    assert_eq!(rt; found, (SessionEnd::StoreFailed, true));
     expect_count(rt, &store, 0);
     // The store stays so: a table is answered on it, and no submission.
     for (lines, answers, end) in &ON_A_FAILED_STORE {
         expect_on_failed(rt, &mut store, lines, answers, *end);
     }
-    count_rows(&reopened(rt, rt.alloc(), store)).ok()
+    let store = reopened(rt, rt.alloc(), store);
+    let count = count_rows(&store).ok();
+    drop(store);
+    count
 }
 
 /// Five calls create the hill. Then come those of the warrior: four sectors of its slot, a sync, the header and a sync.

@@ -78,6 +78,7 @@ fn expect_shown<A: Allocator + Copy>(
 ) {
     let (_, shown) = answers_to(rt, alloc, b"SHOW\n", store);
     expect_text(rt, &shown, table);
+    drop(shown);
 }
 
 /// The table of a store is this, and so is that of the hill that is opened on its device.
@@ -88,7 +89,9 @@ fn expect_table<A: Allocator + Copy>(
     table: &str,
 ) {
     expect_shown(rt, alloc, &mut store, table);
-    expect_shown(rt, alloc, &mut reopened(rt, alloc, store), table);
+    let mut store = reopened(rt, alloc, store);
+    expect_shown(rt, alloc, &mut store, table);
+    drop(store);
 }
 
 /// Where a session takes its memory from, and where its device does.
@@ -111,10 +114,14 @@ fn expect_ending(
     let mut store = empty_hill_on(rt, memory, blank_in(rt, memories.device));
     memory.refuse(k, 1);
     let (end, answers) = answers_to(rt, memory, lines, &mut store);
-    assert_eq!(rt; memory.refused(), refused, "at growth {k}");
+    assert_eq!(rt;
+        (memory.refused(), end),
+        (refused, ending.end),
+        "at growth {k}"
+    );
     memory.refuse(0, 0);
-    assert_eq!(rt; end, ending.end, "at growth {k}");
     expect_text(rt, &answers, ending.answers);
+    drop(answers);
     expect_table(rt, memory, store, ending.table);
 }
 
@@ -170,4 +177,6 @@ fn of_sessions(rt: HostRuntime) {
     expect_growths(&rt, alone, LINES, &WITHOUT_ONE[..2], OF_ONE);
     expect_growths(&rt, both, LINES, &WITHOUT_ONE, OF_ONE);
     expect_growths(&rt, both, three.as_bytes(), &WITHOUT_THREE, OF_THREE);
+    drop(ample);
+    drop(memory);
 }

@@ -70,9 +70,11 @@ fn no_answer_is_held_back(rt: HostRuntime) {
     });
     let mut store = empty_hill(&rt);
     let ended = end_of(rt.alloc(), &mut input, &mut output, &mut store);
-    assert_eq!(rt; ended, SessionEnd::Quit);
-    assert_eq!(rt; answered.get(), 4);
-    assert_eq!(rt; input.faults(), 0);
+    let found = (ended, answered.get(), input.faults());
+    drop(store);
+    drop(output);
+    drop(input);
+    assert_eq!(rt; found, (SessionEnd::Quit, 4, 0));
 }
 
 #[test]
@@ -81,7 +83,12 @@ fn signals_end_no_session(rt: HostRuntime) {
     let mut output = Counted::new(one_by_one(b""));
     let mut store = empty_hill(&rt);
     let ended = end_of(rt.alloc(), &mut input, &mut output, &mut store);
-    assert_eq!(rt; ended, SessionEnd::Quit);
-    assert_eq!(rt; (input.faults(), output.faults()), (0, 0));
-    assert_eq!(rt; output.into_inner().written, "PLACED 1 1 0\nBAD\n".len());
+    let faults = (input.faults(), output.faults());
+    let output = output.into_inner();
+    let written = output.written;
+    drop(store);
+    drop(output);
+    drop(input);
+    assert_eq!(rt; (ended, faults), (SessionEnd::Quit, (0, 0)));
+    assert_eq!(rt; written, "PLACED 1 1 0\nBAD\n".len());
 }
