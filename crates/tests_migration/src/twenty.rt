@@ -12,7 +12,7 @@ use sector_disk::MemoryDevice;
 use std::alloc::Global;
 use std::process::Abort;
 use tests_fixtures::small;
-use tests_stores::{Numbers, SMALL, back, close, front, row_at, submit};
+use tests_stores::{Numbers, back, close, front, row_at, submit};
 use war_types::RawSettings;
 
 mod stops;

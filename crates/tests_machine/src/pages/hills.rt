@@ -7,7 +7,7 @@ use koth_hill::Hill;
 use std::alloc::Global;
 use std::process::Abort;
 use tests_fixtures::{IMP, small, titled};
-use war_types::{RawSettings, Settings, Warrior};
+use war_types::{Settings, Warrior};
 
 /// Settings of ten rounds, with room for three, of a seed that nobody is to see.
 pub(crate) fn ten_rounds(rt: &impl Abort) -> Settings {
