@@ -243,6 +243,7 @@ fn growths(rt: HostRuntime) {
     refuse_growths(&rt, &memory, &mut peers, &mut store);
     drop(peers);
     drop(store);
+    drop(memory);
 }
 
 fn refuse_growths<'m, D: Device>(
