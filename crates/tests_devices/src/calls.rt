@@ -1,5 +1,5 @@
 //! The calls of devices, as the tests make them. These functions have no clauses, so the proof of a test carries none of a
-//! call's along; and a call that is to be done and isn't ends the test at once, so a test has no way out of its middle.
+//! call's along. A call that is to be done and isn't ends the test at once, so a test has no way out of its middle.
 
 use sector_disk::{Device, Fault, MemoryDevice};
 use std::alloc::{Allocator, Global};

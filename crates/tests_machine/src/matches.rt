@@ -123,7 +123,7 @@ fn check_dropping(rt: &(impl Abort + AllocGlobal), read_limit: u32, write_limit:
     assert_eq!(rt; found, due, "{read_limit} {write_limit}");
 }
 
-/// A warrior that drops a bomb on each fourth cell, against one that stays where it is, 32 cells ahead of it: without limits the seventh
+/// A warrior that drops a bomb on each fourth cell, against one that stays where it is, 32 cells ahead of it. Without limits the seventh
 /// bomb, at 4 + 7 * 4, hits. Counted by hand from the draft's text: the bombs fall 2 + 4k cells ahead of the `MOV` at 2, for k from 1 on.
 /// A write limit of 32 folds them to 8, 12, 16, 52, 56, 60, 0, 4, and one of 16 to 8, 60, 0, 4, over and over.
 /// A read limit of 16 changes nothing. One of 2 lets `ADD #4, 3` add to the number of the `MOV`, so each bomb falls at 10.

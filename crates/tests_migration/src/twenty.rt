@@ -1,8 +1,8 @@
 //! A hill of twenty, with the results of all its pairs, that is moved to another device. `stops` has what a stop leaves of it.
 //!
 //! Twenty warriors that lose at once come, and two that stay where they are. These win each of their rounds but those against one another, and
-//! the two that came last fall. So the hill has entries 1 to 18 in slots 0 to 17, entry 21 in slot 20 and entry 22 in slot 19, and slot 18
-//! and some places of results hold what was written of those that fell.
+//! the two that came last fall. So the hill has entries 1 to 18 in slots 0 to 17, entry 21 in slot 20 and entry 22 in slot 19. Slot 18 and
+//! some places of results hold what was written of those that fell.
 
 use crate::expecting::{expect_rows, expect_sector, expect_true};
 use crate::hills::{blank_of, content_of, created_on, moved_from, opened_on};

@@ -132,8 +132,8 @@ fn check_run(rt: &(impl Abort + AllocGlobal), memory: &Refusing<Global>, call: C
     }
 }
 
-/// Calls and their names, and how many growths each takes if that is plain: room for four tokens, then for eight and for sixteen; and
-/// for four bytes of a load text of 34, then for twice as many up to 64.
+/// Calls and their names, and how many growths each takes if that is plain. A scan takes room for four tokens, then for eight and for
+/// sixteen. A load text of 34 bytes takes room for four of them, then for twice as many up to 64.
 const CALLS: [(Call, &str, Option<u64>); 5] = [
     (Call::Scan, "Scan", Some(3)),
     (Call::Expand, "Expand", None),

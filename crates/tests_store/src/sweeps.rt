@@ -36,8 +36,8 @@ const TWO: Opens = Ok([1, 2, 3]);
 const FALLEN: Opens = Ok([1, 2, 4]);
 
 /// What is due if the device stops after `calls` calls: without the header that is written and not synced, and with it. Counted by
-/// hand from the order of the calls: sync, two reads, header, sync; for each warrior that is placed four sectors of its slot, sync, header
-/// and sync; for the one that falls header and sync.
+/// hand from the order of the calls. A creation is a sync, two reads, the header and a sync. Each warrior that is placed is the four sectors
+/// of its slot, a sync, the header and a sync, and the one that falls the header and a sync.
 fn due(calls: u64) -> (Opens, Opens) {
     match calls {
         0..=3 => (NO_HILL, NO_HILL),

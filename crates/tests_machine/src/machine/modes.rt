@@ -25,8 +25,8 @@ fn a_operands(rt: HostRuntime) {
 /// The cells around, before they are written.
 const OTHERS: [Instr; 8] = [dat!(1, 2); 8];
 
-/// One turn of `MOV.A #9` in such a mode, in front of a cell of 4 and 6 and six of 1 and 2, leaves this in the first of them, and then
-/// writes here.
+/// One turn of `MOV.A #9` in such a mode leaves `first` in the next cell, which had 4 and 6, and then writes to the cell `at`. Six more cells
+/// have 1 and 2.
 fn check_written(rt: &(impl Abort + AllocGlobal), i: Instr, first: Instr, at: usize) {
     let mut code = OTHERS;
     code[0] = i;

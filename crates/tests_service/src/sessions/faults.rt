@@ -64,8 +64,8 @@ fn reads_before(read: u64) -> usize {
     read.saturating_sub(1) as usize
 }
 
-/// A session of one warrior whose output takes `room` bytes, `most` at a time, and then is full: it takes the first bytes of the
-/// answers, and the warrior stands, on the device too.
+/// A session of one warrior whose output takes `room` bytes, `most` at a time, and then is full. It takes the first bytes of the
+/// answers, and the warrior stays, on the device too.
 fn expect_full(
     rt: &(impl Abort + AllocGlobal),
     lines: &[u8],

@@ -36,8 +36,9 @@ const OF_ONE: Ending = Ending {
     table: ONE,
 };
 
-/// Numbers of its growths, in their order, and how it ends if one of them is refused: the two buffers, without which nothing is read,
-/// those of the assembler, and, if the device has its memory there too, the first writes to the four sectors of a slot and to a header's.
+/// Numbers of its growths, in their order, and how it ends if one of them is refused. First come the two buffers, without which nothing is
+/// read, and then those of the assembler. If the device has its memory there too, the first writes to the four sectors of a slot and to a
+/// header's follow.
 const WITHOUT_ONE: [(u64, &str, SessionEnd, &str); 3] = [
     (2, "", SessionEnd::Memory, NONE),
     (8, "MEMORY\nBAD\n", SessionEnd::Quit, NONE),
@@ -51,7 +52,7 @@ const OF_THREE: Ending = Ending {
     table: TIED,
 };
 
-/// The same of its growths. The second header is written to a sector that was written before, as is the third, and the table is a list
+/// The same of its growths. The second header is written to a sector that was written before, as is the third. The table is a list
 /// of rows and a text of 60 bytes, which grows from 8 to 64.
 const WITHOUT_THREE: [(u64, &str, SessionEnd, &str); 7] = rows! {
     2 => "", SessionEnd::Memory, NONE;
