@@ -44,8 +44,11 @@ fn an_imp(rt: HostRuntime) {
 /// A number of an instruction in a core is printed as this field.
 fn check_folded(rt: &(impl Abort + AllocGlobal), core: u16, number: u16, field: &str) {
     let want = source_of(rt, "ORG 0\nDAT.F  $     0, $", field, 1, "\nEND\n");
-    check_text(rt, core, 0, &[dat(0, number)], want.as_str());
+    let found = text_of(rt, core, 0, &[dat(0, number)]);
+    let is_due = found.as_slice() == want.as_bytes();
+    drop(found);
     drop(want);
+    assert!(rt; is_due, "{number} of {core}");
 }
 
 /// Cores, numbers and their fields.
