@@ -1,0 +1,64 @@
+//! Headers and slots need no memory.
+
+use crate::settings::settings_from;
+use hill_bytes::{
+    Header, OldSlot, Slot, Wins, decode_header, decode_old_header, encode_header, encode_old_header,
+};
+use std::alloc::Global;
+use std::process::Abort;
+use tests_fixtures::{IMP, Refusing, SMALL};
+use war_types::{Title, Warrior};
+
+/// The generation that a header has in the new format, and the capacity that it has in the old one, written and read.
+fn header_in_both(rt: &impl Abort) -> (u64, u16) {
+    let header = Header::new(0, settings_from(rt, SMALL), 0, &[]).expect(rt, "a header");
+    let bytes = encode_header(&header);
+    let old_bytes = encode_old_header(&header).expect(rt, "it has room");
+    drop(header);
+    (generation_in(rt, &bytes), capacity_in(rt, &old_bytes))
+}
+
+fn generation_in(rt: &impl Abort, bytes: &[u8; 512]) -> u64 {
+    decode_header(bytes).expect(rt, "its header").generation()
+}
+
+fn capacity_in(rt: &impl Abort, bytes: &[u8; 512]) -> u16 {
+    let read = decode_old_header(bytes).expect(rt, "its header");
+    read.settings().capacity()
+}
+
+/// Slots of both formats hold the warrior, which has no results.
+fn expect_slot(rt: &impl Abort, warrior: &Warrior<&Refusing<Global>>) {
+    let slot = Slot::encode(warrior, &[Wins::NONE; 21]);
+    assert!(rt; slot.results() == [Wins::NONE; 21]);
+    let old = OldSlot {
+        sectors: [slot.sectors[0], slot.sectors[3]],
+    };
+    assert!(rt; old.widened().sectors == slot.sectors);
+    assert!(rt; Slot::blank().sectors != slot.sectors);
+}
+
+/// A warrior of one instruction, which has its memory from here.
+fn warrior_in<'m>(rt: &impl Abort, memory: &'m Refusing<Global>) -> Warrior<&'m Refusing<Global>> {
+    let code = Vec::from_slice(memory, &[IMP]).expect(rt, "there is memory");
+    let (name, author) = (Title::new(b"", "Unnamed"), Title::new(b"", "Anonymous"));
+    Warrior::new(code, 0, name, author, &settings_from(rt, SMALL)).expect(rt, "it fits")
+}
+
+/// With every growth refused, headers and the slots of a warrior are made and read.
+fn expect_bytes(rt: &impl Abort, memory: &Refusing<Global>, warrior: &Warrior<&Refusing<Global>>) {
+    memory.refuse(0, u64::MAX);
+    assert_eq!(rt; header_in_both(rt), (0, 2));
+    expect_slot(rt, warrior);
+    assert_eq!(rt; memory.refused(), 0);
+    memory.refuse(0, 0);
+}
+
+#[test]
+fn headers_and_slots_need_none(rt: HostRuntime) {
+    let memory = Refusing::new(rt.alloc());
+    let warrior = warrior_in(&rt, &memory);
+    expect_bytes(&rt, &memory, &warrior);
+    drop(warrior);
+    drop(memory);
+}

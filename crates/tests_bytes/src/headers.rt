@@ -1,0 +1,236 @@
+//! The bytes of a header, and what is no header.
+
+use crate::settings::{of_length, settings_from};
+use hill_bytes::{
+    Header, HeaderEntry, decode_header, decode_old_header, encode_header, encode_old_header,
+};
+use std::process::Abort;
+use tests_fixtures::{SMALL, small};
+use war_types::{RawSettings, Settings};
+
+/// How the header of two warriors begins: all that is not zero, and the places between.
+const BEGINS: [u8; 84] = [
+    0x4B, 0x4F, 0x54, 0x48, 0x48, 0x49, 0x4C, 0x32, 0, 0, 0, 0, 0, 0, 0, 2, 0, 0x40, 0, 0, 0, 0x64,
+    0, 8, 0, 10, 0, 10, 0, 2, 0, 0, 0, 1, 0, 2, 0, 0, 0, 0, 0, 0, 0, 0, 0, 0, 0, 2, 0, 2, 0, 0, 0,
+    0, 0, 0, 0, 1, 0, 0, 0, 0, 0, 0, 0, 0, 1, 0, 0, 0, 0, 0, 0, 0, 2, 1, 0, 0, 0, 0, 0, 0, 0, 0,
+];
+
+const FIRST: HeaderEntry = HeaderEntry {
+    entry: 1,
+    slot: 0,
+    age: 1,
+};
+
+const SECOND: HeaderEntry = HeaderEntry {
+    entry: 2,
+    slot: 1,
+    age: 0,
+};
+
+const BOTH: [HeaderEntry; 2] = [FIRST, SECOND];
+
+/// The whole sector of that header: the rest is zeros.
+fn sector_of_two() -> [u8; 512] {
+    let mut content = [0; 512];
+    content[..84].copy_from_slice(&BEGINS);
+    content
+}
+
+/// The header of two warriors, of a hill with these settings.
+fn header_of(rt: &impl Abort, raw: RawSettings) -> Header {
+    Header::new(2, settings_from(rt, raw), 2, &BOTH).expect(rt, "a header")
+}
+
+/// The same, as it is stored.
+fn bytes_of(rt: &impl Abort, raw: RawSettings) -> [u8; 512] {
+    encode_header(&header_of(rt, raw))
+}
+
+/// The same in the old format.
+fn old_bytes_of(rt: &impl Abort, raw: RawSettings) -> [u8; 512] {
+    encode_old_header(&header_of(rt, raw)).expect(rt, "it has room")
+}
+
+fn is_header(bytes: &[u8; 512]) -> bool {
+    decode_header(bytes).is_some()
+}
+
+fn is_old_header(bytes: &[u8; 512]) -> bool {
+    decode_old_header(bytes).is_some()
+}
+
+/// Whether these are a header, once they have another byte.
+fn is_header_with(bytes: &[u8; 512], at: usize, byte: u8) -> bool {
+    let mut other = *bytes;
+    set(&mut other, at, byte);
+    is_header(&other)
+}
+
+/// Whether these are a header in the old format, once they have another byte.
+fn is_old_header_with(bytes: &[u8; 512], at: usize, byte: u8) -> bool {
+    let mut other = *bytes;
+    set(&mut other, at, byte);
+    is_old_header(&other)
+}
+
+fn set(bytes: &mut [u8; 512], at: usize, byte: u8) {
+    if let Some(place) = bytes.get_mut(at) {
+        *place = byte;
+    }
+}
+
+/// What is read of the header of two warriors: its generation, its counter, and the capacity.
+fn expect_both(rt: &impl Abort, read: &Header) {
+    let numbers = (read.generation(), read.counter(), capacity_of(read));
+    assert_eq!(rt; numbers, (2, 2, 2));
+    assert_eq!(rt; read.entries(), BOTH.as_slice());
+}
+
+fn capacity_of(header: &Header) -> u16 {
+    header.settings().capacity()
+}
+
+#[test]
+fn a_header_is_written_and_read(rt: HostRuntime) {
+    let bytes = bytes_of(&rt, SMALL);
+    assert!(rt; bytes == sector_of_two());
+    expect_both(&rt, &decode_header(&bytes).expect(&rt, "its header"));
+    // After the entries.
+    assert!(rt; !is_header_with(&bytes, 511, 1));
+    // Earlier hills, which kept no results, began otherwise.
+    assert!(rt; !is_header_with(&bytes, 7, b'0'));
+    assert!(rt; !is_header(&[0; 512]));
+}
+
+fn limited(read_limit: u32, write_limit: u32) -> RawSettings {
+    small!(read_limit: read_limit, write_limit: write_limit)
+}
+
+/// The limits in a header, from 36 on.
+fn limits_in(bytes: &[u8; 512]) -> [u8; 4] {
+    [bytes[36], bytes[37], bytes[38], bytes[39]]
+}
+
+/// The limits of the hill that a header is of.
+fn limits_of(bytes: &[u8; 512]) -> Option<(u16, u16)> {
+    let read = decode_header(bytes)?;
+    let settings = read.settings();
+    Some((settings.read_limit(), settings.write_limit()))
+}
+
+/// Limits stand at 36 and 38, and one of the core size as zero.
+#[test]
+fn limits_in_a_header(rt: HostRuntime) {
+    let bytes = bytes_of(&rt, limited(64, 64));
+    assert!(rt; bytes == sector_of_two());
+    let bytes = bytes_of(&rt, limited(16, 8));
+    assert_eq!(rt; limits_in(&bytes), [0, 16, 0, 8]);
+    assert_eq!(rt; limits_of(&bytes), Some((16, 8)));
+    expect_no_limits(&rt, &bytes);
+}
+
+/// The core size is no limit in a header, nor is what doesn't divide it.
+fn expect_no_limits(rt: &impl Abort, bytes: &[u8; 512]) {
+    let mut other = *bytes;
+    set(&mut other, 37, 64);
+    assert!(rt; !is_header(&other));
+    set(&mut other, 37, 0);
+    assert!(rt; is_header(&other));
+    set(&mut other, 39, 10);
+    assert!(rt; !is_header(&other));
+}
+
+/// Whether there is a header of this generation, this counter and these warriors.
+fn is_made(settings: Settings, generation: u64, counter: u64, entries: &[HeaderEntry]) -> bool {
+    Header::new(generation, settings, counter, entries).is_some()
+}
+
+const THIRD: HeaderEntry = HeaderEntry {
+    entry: 3,
+    slot: 2,
+    age: 0,
+};
+
+/// An entry that no warrior has, an age that the first can't have, a slot that the hill doesn't have, and one that the first has.
+const ZERO: HeaderEntry = HeaderEntry { entry: 0, ..FIRST };
+
+const OLD: HeaderEntry = HeaderEntry { age: 2, ..FIRST };
+
+const FAR: HeaderEntry = HeaderEntry { slot: 3, ..SECOND };
+
+const SAME: HeaderEntry = HeaderEntry { slot: 0, ..SECOND };
+
+#[test]
+fn headers_that_are_none(rt: HostRuntime) {
+    let settings = settings_from(&rt, SMALL);
+    assert!(rt; !is_made(settings, 1, 2, &[]));
+    assert!(rt; !is_made(settings, 2, 2, &[ZERO]));
+    assert!(rt; !is_made(settings, 2, 2, &[OLD]));
+    assert!(rt; !is_made(settings, 2, 2, &[FAR]));
+    assert!(rt; !is_made(settings, 2, 2, &[THIRD]));
+    assert!(rt; !is_made(settings, 2, 2, &[FIRST, SAME]));
+    assert!(rt; !is_made(settings, 2, 2, &[SECOND, FIRST]));
+    assert!(rt; !is_made(settings, 3, 3, &[FIRST, SECOND, THIRD]));
+    assert!(rt; is_made(settings, 3, 3, &[FIRST, THIRD]));
+}
+
+/// In the old format one byte is another. Each format reads its own headers alone.
+#[test]
+fn a_header_in_the_old_format(rt: HostRuntime) {
+    let bytes = old_bytes_of(&rt, SMALL);
+    let mut expected = bytes_of(&rt, SMALL);
+    assert!(rt; !is_old_header(&expected));
+    set(&mut expected, 7, b'1');
+    assert!(rt; bytes == expected);
+    assert!(rt; !is_header(&bytes));
+    expect_both(&rt, &decode_old_header(&bytes).expect(&rt, "its header"));
+}
+
+/// The length of the warriors of a hill that a header is of.
+fn length_of(bytes: &[u8; 512]) -> Option<u16> {
+    let read = decode_header(bytes)?;
+    Some(read.settings().length())
+}
+
+/// Whether the old format has room for this header.
+fn has_room(header: &Header) -> bool {
+    encode_old_header(header).is_some()
+}
+
+/// The header of a hill with a length, in the new format, and in the old one, if it has room for such warriors.
+fn expect_length(rt: &impl Abort, length: u16, room: bool) {
+    let header = header_of(rt, of_length(u32::from(length)));
+    let has_room = has_room(&header);
+    let bytes = encode_header(&header);
+    drop(header);
+    expect_length_in(rt, &bytes, length);
+    let rooms = (has_room, is_old_header_with(&bytes, 7, b'1'));
+    assert_eq!(rt; rooms, (room, room), "{length}");
+}
+
+/// The bytes of a header have this length.
+fn expect_length_in(rt: &impl Abort, bytes: &[u8; 512], length: u16) {
+    let found = (u16::from(bytes[25]), length_of(bytes));
+    assert_eq!(rt; found, (length, Some(length)));
+}
+
+/// A slot of the old format has no room for more than 100 instructions.
+#[test]
+fn lengths_in_a_header(rt: HostRuntime) {
+    expect_length(&rt, 1, true);
+    expect_length(&rt, 100, true);
+    expect_length(&rt, 101, false);
+    expect_length(&rt, 200, false);
+}
+
+/// One byte makes it none: after the entries, of what it begins with, and of a limit.
+#[test]
+fn bytes_that_are_no_old_header(rt: HostRuntime) {
+    let bytes = old_bytes_of(&rt, of_length(100));
+    assert!(rt; !is_old_header_with(&bytes, 511, 1));
+    assert!(rt; !is_old_header_with(&bytes, 7, b'0'));
+    assert!(rt; !is_old_header_with(&bytes, 7, b'3'));
+    assert!(rt; !is_old_header_with(&bytes, 36, 1));
+    assert!(rt; is_old_header(&bytes));
+    assert!(rt; !is_old_header(&[0; 512]));
+}

@@ -1,0 +1,180 @@
+//! Each growth refused in turn.
+
+use crate::calls::{
+    Step, expect_faults, expect_read, expect_same, expect_stopped, set, take_all, write,
+};
+use sector_disk::{Device, FuseDevice, FuseKind, MemoryDevice};
+use std::alloc::{AllocError, Global};
+use std::process::Abort;
+use tests_fixtures::{Refusing, refuse_each};
+
+/// A device that takes its memory of this.
+type Counted<'m> = MemoryDevice<&'m Refusing<Global>>;
+
+/// A new device of which these calls are made, without a refusal.
+fn made<'m>(
+    rt: &impl Abort,
+    memory: &'m Refusing<Global>,
+    sectors: u32,
+    steps: &[Step],
+) -> Counted<'m> {
+    let mut device = MemoryDevice::new(memory, sectors).expect(rt, "there is memory");
+    take_all(rt, &mut device, steps);
+    device
+}
+
+/// `count` growths were refused.
+fn expect_refusals(rt: &impl Abort, memory: &Refusing<Global>, count: u64) {
+    expect_same(rt, &memory.refused(), &count, "refusals");
+}
+
+/// A device is there of which these calls can be made, or a growth was refused.
+fn expect_either<D: Device + Drop>(
+    rt: &impl Abort,
+    memory: &Refusing<Global>,
+    made: Result<D, AllocError>,
+    steps: &[Step],
+) {
+    match made {
+        Ok(mut device) => {
+            expect_refusals(rt, memory, 0);
+            take_all(rt, &mut device, steps);
+            drop(device);
+        }
+        Err(AllocError) => expect_refusals(rt, memory, 1),
+    }
+}
+
+/// What a new device of eight sectors is.
+const NEW: [Step; 2] = [Step::Sectors(8), Step::Read(7, 0)];
+
+/// A device of eight sectors is made, or a growth was refused.
+fn try_new(rt: &impl Abort, memory: &Refusing<Global>) {
+    expect_either(rt, memory, MemoryDevice::new(memory, 8), &NEW);
+}
+
+#[test]
+fn a_new_device(rt: HostRuntime) {
+    let memory = Refusing::new(rt.alloc());
+    let runs = refuse_each(&memory, |_k| try_new(&rt, &memory));
+    drop(memory);
+    expect_same(&rt, &runs, &2, "runs");
+}
+
+/// Two writes to the second sector.
+const WRITTEN_TWICE: [Step; 2] = [Step::Write(1, 1), Step::Write(1, 2)];
+
+/// What a stop that keeps the first of them leaves.
+const KEPT_FIRST: [Step; 2] = [Step::Sectors(2), Step::Read(1, 1)];
+
+/// A stop that keeps the first of the writes to the second sector of two, or a growth was refused.
+fn try_stopped(rt: &impl Abort, memory: &Refusing<Global>, device: &Counted<'_>) {
+    expect_either(rt, memory, device.stopped(&[0, 1]), &KEPT_FIRST);
+}
+
+#[test]
+fn a_stopped_device(rt: HostRuntime) {
+    let memory = Refusing::new(rt.alloc());
+    let device = made(&rt, &memory, 2, &WRITTEN_TWICE);
+    let runs = refuse_each(&memory, |_k| try_stopped(&rt, &memory, &device));
+    drop(device);
+    drop(memory);
+    expect_same(&rt, &runs, &2, "runs");
+}
+
+/// The one sector holds 0 for good, and 1 to 9 were written to it in this order.
+fn expect_nine_contents(rt: &impl Abort, device: &Counted<'_>) {
+    for number in 0..=9_u8 {
+        expect_stopped(rt, device, &[u32::from(number)], 0, number);
+    }
+}
+
+/// Writes a number all over the one sector, after the number before it. A refused write is made again.
+fn write_number<D: Device>(rt: &impl Abort, device: &mut D, number: u8) {
+    assert!(rt; 0 < device.sectors());
+    if device.write(0, &[number; 512]).is_err() {
+        expect_faults(rt, device, 1);
+        expect_read(rt, device, 0, number.saturating_sub(1));
+        write(rt, device, 0, number);
+    }
+}
+
+/// Nine writes of which this growth is refused. Answers how many were refused.
+fn write_nine<D: Device>(
+    rt: &impl Abort,
+    memory: &Refusing<Global>,
+    device: &mut D,
+    growth: u64,
+) -> u64 {
+    memory.refuse(growth, 1);
+    for number in 1..=9_u8 {
+        write_number(rt, device, number);
+    }
+    let refused = memory.refused();
+    expect_faults(rt, device, refused);
+    memory.refuse(0, 0);
+    refused
+}
+
+/// Nine writes of which this growth is refused: then each image is that of a device that met no refusal, and `refusals` were refused.
+fn expect_writes(rt: &impl Abort, memory: &Refusing<Global>, growth: u64, refusals: u64) {
+    let mut device = made(rt, memory, 1, &[]);
+    let refused = write_nine(rt, memory, &mut device, growth);
+    expect_nine_contents(rt, &device);
+    drop(device);
+    expect_same(rt, &refused, &refusals, format_args!("growth {growth}"));
+}
+
+/// A sector's list of contents doubles from 4, so nine writes are three growths. A refused one is a counted fault that changes
+/// nothing, and the same write passes once there is memory.
+#[test]
+fn writes(rt: HostRuntime) {
+    let memory = Refusing::new(rt.alloc());
+    for growth in 0..3 {
+        expect_writes(&rt, &memory, growth, 1);
+    }
+    expect_writes(&rt, &memory, 3, 0);
+    drop(memory);
+}
+
+/// One write to each of two sectors.
+const WRITTEN: [Step; 2] = [Step::Write(0, 1), Step::Write(1, 2)];
+
+/// A read and a sync of a device of two sectors whose first holds 1.
+const SYNCED: [Step; 3] = [Step::Sectors(2), Step::Read(0, 1), Step::Sync];
+
+/// They need no memory, and nor does it that the second sector holds 3 then.
+fn call_without_memory(rt: &impl Abort, memory: &Refusing<Global>, device: &mut Counted<'_>) {
+    memory.refuse(0, u64::MAX);
+    take_all(rt, device, &SYNCED);
+    set(rt, device, 1, 3);
+}
+
+/// A read and two syncs of a device whose second sector holds 3, of which the last fails.
+const FUSED: [Step; 3] = [Step::Read(1, 3), Step::Sync, Step::Refused(0)];
+
+/// These calls are made of the device within one whose third call fails.
+fn call_within<D: Device + Drop>(rt: &impl Abort, device: D) -> D {
+    let mut fused = FuseDevice::new(device, 2, FuseKind::FailLost);
+    take_all(rt, &mut fused, &FUSED);
+    fused.into_inner()
+}
+
+/// The device met no fault, and no growth was refused. Its first sector holds 1 when it is stopped.
+fn expect_no_refusal(rt: &impl Abort, memory: &Refusing<Global>, device: &Counted<'_>) {
+    expect_faults(rt, device, 0);
+    expect_refusals(rt, memory, 0);
+    memory.refuse(0, 0);
+    expect_stopped(rt, device, &[], 0, 1);
+}
+
+#[test]
+fn what_takes_no_memory(rt: HostRuntime) {
+    let memory = Refusing::new(rt.alloc());
+    let mut device = made(&rt, &memory, 2, &WRITTEN);
+    call_without_memory(&rt, &memory, &mut device);
+    let device = call_within(&rt, device);
+    expect_no_refusal(&rt, &memory, &device);
+    drop(device);
+    drop(memory);
+}

@@ -1,0 +1,241 @@
+//! The device over a hill's file: its lock, and what becomes of a file that is there.
+
+use crate::calls::{Step, expect_same, expect_text, sectors_of};
+use crate::deeds::Deed;
+use crate::disk::{beside, bytes_of, expect_bytes};
+use crate::places::{Turn, at_place, on_hill};
+use hill_file::{Existing, HillFile, OpenFault, Sharing, TryLock};
+use std::alloc::Global;
+use std::fs::File;
+use std::io::ErrorKind;
+use std::process::Abort;
+use std::rt::Files;
+
+/// The sectors of a hill's file that is made with `sectors`.
+pub(crate) fn sectors_made<R: Files>(
+    files: &R,
+    alloc: Global,
+    path: &str,
+    sectors: u32,
+    existing: Existing,
+) -> Result<u32, OpenFault>
+where
+    R::File: TryLock,
+{
+    sectors_of(HillFile::make(files, alloc, path, sectors, existing))
+}
+
+/// The sectors of a hill's file that is opened.
+pub(crate) fn sectors_opened<R: Files>(
+    files: &R,
+    path: &str,
+    sharing: Sharing,
+) -> Result<u32, OpenFault>
+where
+    R::File: TryLock,
+{
+    sectors_of(HillFile::open(files, path, sharing))
+}
+
+/// Making a hill's file with `asked` sectors ends so.
+pub(crate) fn expect_made(
+    rt: &(impl Files<File = File> + AllocGlobal + Abort),
+    path: &str,
+    asked: u32,
+    existing: Existing,
+    answer: Result<u32, OpenFault>,
+) {
+    let made = sectors_made(rt, rt.alloc(), path, asked, existing);
+    expect_same(rt, &made, &answer, format_args!("{existing:?}"));
+}
+
+/// Opening one ends so.
+pub(crate) fn expect_opened(
+    rt: &(impl Files<File = File> + Abort),
+    path: &str,
+    sharing: Sharing,
+    answer: Result<u32, OpenFault>,
+) {
+    let opened = sectors_opened(rt, path, sharing);
+    expect_same(rt, &opened, &answer, format_args!("{sharing:?}"));
+}
+
+/// While another device has the lock, none takes it, and nothing of the file changes.
+pub(crate) fn expect_locked(rt: &(impl Files<File = File> + AllocGlobal + Abort), path: &str) {
+    let before = bytes_of(rt, path);
+    expect_opened(rt, path, Sharing::Alone, Err(OpenFault::Locked));
+    expect_made(rt, path, 5, Existing::Kept, Err(OpenFault::Locked));
+    expect_made(rt, path, 5, Existing::Overwritten, Err(OpenFault::Locked));
+    expect_bytes(rt, path, before.as_slice());
+}
+
+/// One that takes no lock keeps none from taking it.
+pub(crate) fn expect_opened_beside(rt: &(impl Files<File = File> + Abort), path: &str) {
+    let shared = HillFile::open(rt, path, Sharing::Shared).expect(rt, "it is opened");
+    expect_opened(rt, path, Sharing::Alone, Ok(3));
+    drop(shared);
+}
+
+/// While a device of three sectors has the lock, no other takes it, but one that takes none reads beside it.
+const LOCKED: [Turn<'static>; 5] = [
+    Turn::On(Step::Sectors(3)),
+    Turn::On(Step::Write(1, 7)),
+    Turn::On(Step::Sync),
+    Turn::At(Deed::Locked),
+    Turn::At(Deed::Open(Sharing::Shared, Ok(3))),
+];
+
+/// When it is closed, another takes the lock.
+const UNLOCKED: [Deed<'static>; 3] = [
+    Deed::Open(Sharing::Alone, Ok(3)),
+    Deed::OpenBeside,
+    Deed::Remove(""),
+];
+
+#[test]
+fn one_program_at_a_time(rt: HostRuntime) {
+    on_hill(&rt, rt.process(), "hill-lock", &[], &LOCKED, &UNLOCKED);
+}
+
+/// It has its exact length, lies on the disk, and is its owner's alone. What is written to it is read.
+const NEW: [Turn<'static>; 8] = [
+    Turn::At(Deed::Zeros(1536)),
+    Turn::At(Deed::Private),
+    Turn::On(Step::Sectors(3)),
+    Turn::On(Step::Read(2, 0)),
+    Turn::On(Step::Write(2, 8)),
+    Turn::On(Step::Sync),
+    Turn::On(Step::Read(2, 8)),
+    Turn::On(Step::Faults(0)),
+];
+
+/// The file is removed.
+const REMOVED: [Deed<'static>; 1] = [Deed::Remove("")];
+
+#[test]
+fn a_new_file(rt: HostRuntime) {
+    on_hill(&rt, rt.process(), "hill-new", &[], &NEW, &REMOVED);
+}
+
+/// A file of zeros alone, as an earlier call that was cut short leaves one, is none that holds something. It is not shortened.
+const OF_ZEROS: [Deed<'static>; 15] = [
+    Deed::Write(b""),
+    Deed::Make(3, Existing::Kept, Ok(3)),
+    Deed::Zeros(1536),
+    Deed::Write(b""),
+    Deed::Make(3, Existing::Overwritten, Ok(3)),
+    Deed::Zeros(1536),
+    Deed::WriteZeros(699, 0),
+    Deed::Make(3, Existing::Kept, Ok(3)),
+    Deed::Zeros(1536),
+    Deed::WriteZeros(9000, 0),
+    Deed::Make(3, Existing::Kept, Ok(17)),
+    Deed::Zeros(9001),
+    Deed::Make(3, Existing::Overwritten, Ok(3)),
+    Deed::Zeros(1536),
+    Deed::Remove(""),
+];
+
+#[test]
+fn files_of_zeros(rt: HostRuntime) {
+    at_place(&rt, rt.process(), "hill-zeros", &OF_ZEROS);
+}
+
+/// Zeros that were only counted in the file's length are written.
+const HOLE: [Deed<'static>; 6] = [
+    Deed::MakeHole(1 << 20),
+    Deed::BlocksBelow(2048),
+    Deed::Make(2048, Existing::Kept, Ok(2048)),
+    Deed::BlocksFrom(2048),
+    Deed::Zeros(1 << 20),
+    Deed::Remove(""),
+];
+
+#[test]
+fn a_file_with_a_hole(rt: HostRuntime) {
+    at_place(&rt, rt.process(), "hill-hole", &HOLE);
+}
+
+/// A file that holds something is refused, and each of its bytes stays.
+pub(crate) fn expect_kept(rt: &(impl Files<File = File> + AllocGlobal + Abort), path: &str) {
+    let before = bytes_of(rt, path);
+    expect_made(rt, path, 3, Existing::Kept, Err(OpenFault::Occupied));
+    expect_bytes(rt, path, before.as_slice());
+}
+
+/// It stays until it is said that it may be overwritten.
+const OCCUPIED: [Deed<'static>; 15] = [
+    Deed::Write(b"a letter"),
+    Deed::Kept,
+    Deed::Make(3, Existing::Overwritten, Ok(3)),
+    Deed::Zeros(1536),
+    // One byte is enough, wherever it is.
+    Deed::WriteZeros(0, 1),
+    Deed::Kept,
+    Deed::WriteZeros(1535, 1),
+    Deed::Kept,
+    Deed::WriteZeros(4095, 1),
+    Deed::Kept,
+    Deed::WriteZeros(4096, 1),
+    Deed::Kept,
+    Deed::WriteZeros(9000, 1),
+    Deed::Kept,
+    Deed::Remove(""),
+];
+
+#[test]
+fn a_file_that_holds_something(rt: HostRuntime) {
+    at_place(&rt, rt.process(), "hill-text", &OCCUPIED);
+}
+
+/// None is made at a path, for this reason.
+pub(crate) fn expect_none_made(
+    rt: &(impl Files<File = File> + AllocGlobal + Abort),
+    path: &str,
+    kind: ErrorKind,
+) {
+    let failed = Err(OpenFault::Failed(kind));
+    expect_made(rt, path, 3, Existing::Kept, failed);
+    expect_made(rt, path, 3, Existing::Overwritten, failed);
+}
+
+/// What is reported at a path with nothing.
+const MISSING: Result<u32, OpenFault> = Err(OpenFault::Failed(ErrorKind::NotFound));
+
+/// What is reported at the path of a folder.
+const FOLDER: Result<u32, OpenFault> = Err(OpenFault::Failed(ErrorKind::IsADirectory));
+
+/// None is made in a folder that is missing.
+pub(crate) fn expect_none_within(rt: &(impl Files<File = File> + AllocGlobal + Abort), path: &str) {
+    let within = beside(rt, path, "/hill");
+    expect_made(rt, within.as_str(), 3, Existing::Kept, MISSING);
+}
+
+/// Nothing is there, or a folder is.
+const NO_FILE: [Deed<'static>; 8] = [
+    Deed::Open(Sharing::Alone, MISSING),
+    Deed::Open(Sharing::Shared, MISSING),
+    Deed::Nothing,
+    Deed::NoneWithin,
+    Deed::CreateFolder,
+    Deed::Open(Sharing::Alone, FOLDER),
+    Deed::NoneMade(ErrorKind::IsADirectory),
+    Deed::RemoveFolder,
+];
+
+/// Nothing is there, a folder is, or what no hill can lie in.
+#[test]
+fn no_file(rt: HostRuntime) {
+    at_place(&rt, rt.process(), "hill-none", &NO_FILE);
+    expect_none_made(&rt, "/dev/zero", ErrorKind::InvalidInput);
+}
+
+/// What is told of a fault.
+#[test]
+fn texts_of_faults(rt: HostRuntime) {
+    let failed = OpenFault::Failed(ErrorKind::NotFound);
+    expect_text(&rt, &OpenFault::Memory, "no memory for the file");
+    expect_text(&rt, &OpenFault::Locked, "another program works on the file");
+    expect_text(&rt, &OpenFault::Occupied, "the file holds something else");
+    expect_text(&rt, &failed, "the file failed: entity not found");
+}

@@ -1,0 +1,120 @@
+//! The syncs of the device over a hill's file: none is done if the path leads elsewhere, or the file is too short.
+
+use crate::calls::{Step, expect_faults};
+use crate::deeds::Deed;
+use crate::hill_files::expect_made;
+use crate::places::{Turn, by_turns, on_hill, place, take_turns};
+use hill_file::{Existing, HillFile, Sharing};
+use sector_disk::{Device, FuseDevice, FuseKind};
+use std::fmt::Debug;
+use std::fs::File;
+use std::process::Abort;
+use std::rt::Files;
+
+/// The file of a device of three sectors is removed: reads and writes go on, and each of two syncs fails.
+const REMOVED: [Turn<'static>; 7] = [
+    Turn::On(Step::Sectors(3)),
+    Turn::On(Step::Sync),
+    Turn::At(Deed::Remove("")),
+    Turn::On(Step::Write(1, 7)),
+    Turn::On(Step::Refused(0)),
+    Turn::On(Step::Refused(1)),
+    Turn::On(Step::Sectors(3)),
+];
+
+#[test]
+fn a_removed_file(rt: HostRuntime) {
+    on_hill(&rt, rt.process(), "hill-removed", &[], &REMOVED, &[]);
+}
+
+/// Another file of the same length and content is at the path. When the first is back, its syncs are done.
+const REPLACED: [Turn<'static>; 9] = [
+    Turn::At(Deed::Copy("", "-other")),
+    Turn::At(Deed::Rename("", "-aside")),
+    Turn::On(Step::Refused(0)),
+    Turn::At(Deed::Rename("-other", "")),
+    Turn::On(Step::Refused(1)),
+    Turn::At(Deed::Rename("-aside", "")),
+    Turn::On(Step::Sync),
+    Turn::On(Step::Faults(2)),
+    Turn::At(Deed::Remove("")),
+];
+
+#[test]
+fn a_replaced_file(rt: HostRuntime) {
+    on_hill(&rt, rt.process(), "hill-one", &[], &REPLACED, &[]);
+}
+
+/// One byte is missing of the last sector of three. When that is written again, a sync is done.
+const CUT: [Turn<'static>; 9] = [
+    Turn::On(Step::Sectors(3)),
+    Turn::At(Deed::SetLength(1535)),
+    Turn::On(Step::Refused(0)),
+    Turn::On(Step::Write(2, 7)),
+    Turn::On(Step::Sync),
+    Turn::On(Step::Faults(1)),
+    // A file that others made longer holds its sectors.
+    Turn::At(Deed::SetLength(2000)),
+    Turn::On(Step::Sync),
+    Turn::At(Deed::Remove("")),
+];
+
+#[test]
+fn a_cut_file(rt: HostRuntime) {
+    let place = place(&rt, rt.process(), "hill-cut");
+    let path = place.as_str();
+    expect_made(&rt, path, 3, Existing::Kept, Ok(3));
+    let hill = HillFile::open(&rt, path, Sharing::Alone);
+    by_turns(&rt, hill, "it is opened", path, &CUT);
+}
+
+/// A path that is a link leads to the file.
+const LINK: [Deed<'static>; 1] = [Deed::Link("-target")];
+
+/// It does until the link leads elsewhere.
+const LINKED: [Turn<'static>; 8] = [
+    Turn::On(Step::Sync),
+    Turn::At(Deed::Copy("-target", "-elsewhere")),
+    Turn::At(Deed::Remove("")),
+    Turn::At(Deed::Link("-elsewhere")),
+    Turn::On(Step::Refused(0)),
+    Turn::At(Deed::Remove("-target")),
+    Turn::At(Deed::Remove("-elsewhere")),
+    Turn::At(Deed::Remove("")),
+];
+
+#[test]
+fn a_link(rt: HostRuntime) {
+    on_hill(&rt, rt.process(), "hill-link", &LINK, &LINKED, &[]);
+}
+
+/// It is a device as others are, within one whose third call fails.
+const FAILED: [Turn<'static>; 6] = [
+    Turn::On(Step::Sectors(3)),
+    Turn::On(Step::Write(0, 1)),
+    Turn::On(Step::Sync),
+    Turn::On(Step::Refused(0)),
+    Turn::At(Deed::Remove("")),
+    Turn::On(Step::Refused(1)),
+];
+
+/// One of the two faults of `FAILED` is the device's own.
+fn fail_within<D: Device + Drop, E: Debug>(
+    rt: &(impl Files<File = File> + AllocGlobal + Abort),
+    made: Result<D, E>,
+    path: &str,
+) {
+    let made = made.expect(rt, "it is made");
+    let mut device = FuseDevice::new(made, 2, FuseKind::FailLost);
+    take_turns(rt, &mut device, path, &FAILED);
+    let inner = device.into_inner();
+    expect_faults(rt, &inner, 1);
+}
+
+#[test]
+fn within_another_device(rt: HostRuntime) {
+    let place = place(&rt, rt.process(), "hill-within");
+    let path = place.as_str();
+    let hill = HillFile::make(&rt, rt.alloc(), path, 3, Existing::Kept);
+    fail_within(&rt, hill, path);
+}

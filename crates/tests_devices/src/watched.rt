@@ -1,0 +1,216 @@
+//! A file system that writes down which calls reach a file, in place of the real one, and hands them on to it.
+
+use hill_file::{OpenFault, TryLock};
+use std::alloc::Allocator;
+use std::cell::Cell;
+use std::fs::{Files, Metadata, OpenFile, OpenOptions, Permissions};
+use std::io;
+use std::io::{ErrorKind, PipeReader, PipeWriter, Read, Seek, SeekFrom, Write};
+use std::os::fd::BorrowedFd;
+use std::os::unix::net::SocketAddr;
+use std::path::PathBuf;
+
+/// Calls that are written down at most.
+pub(crate) const MOST: usize = 16;
+
+/// The calls on files since the last time that they were read, each a letter: `o`pened, loc`k`ed, `m`easured, `l`engthened, `s`ought,
+/// `r`ead, `w`ritten whole, written in `p`art, s`y`nced. The call of this number fails, counted from 0.
+#[derive(Clone, Copy)]
+pub(crate) struct Calls {
+    pub letters: [u8; MOST],
+    pub count: usize,
+    pub fails_at: usize,
+}
+
+impl Calls {
+    fn none(fails_at: usize) -> Calls {
+        Calls {
+            letters: [b' '; MOST],
+            count: 0,
+            fails_at,
+        }
+    }
+}
+
+/// Files, watched.
+#[derive(Drop)]
+pub(crate) struct WatchedFiles<'c, R> {
+    pub files: &'c R,
+    pub calls: &'c Cell<Calls>,
+}
+
+/// A file, watched.
+#[derive(Drop)]
+pub(crate) struct WatchedFile<'c, F> {
+    file: F,
+    calls: &'c Cell<Calls>,
+}
+
+/// Forgets the calls so far. The call of this number from now on fails.
+pub(crate) fn forget(calls: &Cell<Calls>, fails_at: usize) {
+    calls.set(Calls::none(fails_at));
+}
+
+/// A place for calls, of which the one of this number fails.
+pub(crate) fn new_calls(fails_at: usize) -> Cell<Calls> {
+    Cell::new(Calls::none(fails_at))
+}
+
+/// Writes a call down, and fails if it is the one that is to fail.
+fn note(calls: &Cell<Calls>, letter: u8) -> io::Result<()> {
+    let mut so_far = calls.get();
+    let number = so_far.count;
+    if number < MOST {
+        so_far.letters[number] = letter;
+        so_far.count = number + 1;
+    }
+    calls.set(so_far);
+    if number == so_far.fails_at {
+        return Err(io::Error::from(ErrorKind::Other));
+    }
+    Ok(())
+}
+
+impl<'c, R: Files> Files for WatchedFiles<'c, R> {
+    type File = WatchedFile<'c, R::File>;
+
+    type Dir = R::Dir;
+
+    fn open_file(&self, how: &OpenOptions, path: &str) -> io::Result<WatchedFile<'c, R::File>> {
+        note(self.calls, b'o')?;
+        let file = self.files.open_file(how, path)?;
+        Ok(WatchedFile {
+            file,
+            calls: self.calls,
+        })
+    }
+
+    fn open_dir(&self, path: &str) -> io::Result<R::Dir> {
+        self.files.open_dir(path)
+    }
+
+    fn metadata(&self, path: &str) -> io::Result<Metadata> {
+        self.files.metadata(path)
+    }
+
+    fn symlink_metadata(&self, path: &str) -> io::Result<Metadata> {
+        self.files.symlink_metadata(path)
+    }
+
+    fn copy(&self, from: &str, to: &str) -> io::Result<u64> {
+        self.files.copy(from, to)
+    }
+
+    fn rename(&self, from: &str, to: &str) -> io::Result<()> {
+        self.files.rename(from, to)
+    }
+
+    fn remove_file(&self, path: &str) -> io::Result<()> {
+        self.files.remove_file(path)
+    }
+
+    fn create_dir(&self, path: &str) -> io::Result<()> {
+        self.files.create_dir(path)
+    }
+
+    fn remove_dir(&self, path: &str) -> io::Result<()> {
+        self.files.remove_dir(path)
+    }
+
+    fn remove_dir_all<B: Allocator>(&self, alloc: B, path: &str) -> io::Result<()> {
+        self.files.remove_dir_all(alloc, path)
+    }
+
+    fn canonicalize<B: Allocator>(&self, alloc: B, path: &str) -> io::Result<PathBuf<B>> {
+        self.files.canonicalize(alloc, path)
+    }
+
+    fn read_link<B: Allocator>(&self, alloc: B, path: &str) -> io::Result<PathBuf<B>> {
+        self.files.read_link(alloc, path)
+    }
+
+    fn hard_link(&self, original: &str, link: &str) -> io::Result<()> {
+        self.files.hard_link(original, link)
+    }
+
+    fn set_permissions(&self, path: &str, perm: Permissions) -> io::Result<()> {
+        self.files.set_permissions(path, perm)
+    }
+
+    fn symlink(&self, original: &str, link: &str) -> io::Result<()> {
+        self.files.symlink(original, link)
+    }
+
+    fn pipe(&self) -> io::Result<(PipeReader, PipeWriter)> {
+        self.files.pipe()
+    }
+
+    fn chown(&self, path: &str, uid: Option<u32>, gid: Option<u32>) -> io::Result<()> {
+        self.files.chown(path, uid, gid)
+    }
+
+    fn lchown(&self, path: &str, uid: Option<u32>, gid: Option<u32>) -> io::Result<()> {
+        self.files.lchown(path, uid, gid)
+    }
+
+    fn create_dir_with_mode(&self, path: &str, mode: u32) -> io::Result<()> {
+        self.files.create_dir_with_mode(path, mode)
+    }
+
+    fn bind_unix(&self, socket: BorrowedFd<'_>, addr: &SocketAddr) -> io::Result<()> {
+        self.files.bind_unix(socket, addr)
+    }
+}
+
+impl<F: OpenFile> OpenFile for WatchedFile<'_, F> {
+    fn metadata(&self) -> io::Result<Metadata> {
+        note(self.calls, b'm')?;
+        self.file.metadata()
+    }
+
+    fn set_len(&self, size: u64) -> io::Result<()> {
+        note(self.calls, b'l')?;
+        self.file.set_len(size)
+    }
+
+    fn sync_all(&self) -> io::Result<()> {
+        note(self.calls, b'y')?;
+        self.file.sync_all()
+    }
+
+    fn sync_data(&self) -> io::Result<()> {
+        self.file.sync_data()
+    }
+}
+
+impl<F: Read> Read for WatchedFile<'_, F> {
+    fn read(&mut self, buf: &mut [u8]) -> io::Result<usize> {
+        note(self.calls, b'r')?;
+        self.file.read(buf)
+    }
+}
+
+impl<F: Write> Write for WatchedFile<'_, F> {
+    fn write(&mut self, buf: &[u8]) -> io::Result<usize> {
+        note(self.calls, if buf.len() == 512 { b'w' } else { b'p' })?;
+        self.file.write(buf)
+    }
+
+    fn flush(&mut self) -> io::Result<()> {
+        self.file.flush()
+    }
+}
+
+impl<F: Seek> Seek for WatchedFile<'_, F> {
+    fn seek(&mut self, to: SeekFrom) -> io::Result<u64> {
+        note(self.calls, b's')?;
+        self.file.seek(to)
+    }
+}
+
+impl<F: TryLock> TryLock for WatchedFile<'_, F> {
+    fn lock_now(&self) -> Result<(), OpenFault> {
+        note(self.calls, b'k')?;
+        self.file.lock_now()
+    }
+}

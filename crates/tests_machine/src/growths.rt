@@ -1,0 +1,105 @@
+//! Growths that are refused: which calls take memory, how often, and which need none.
+
+use koth_hill::Hill;
+use koth_match::fight;
+use mars_core::{Arena, Outcome, Side};
+use std::alloc::Global;
+use std::fmt::Debug;
+use std::process::Abort;
+use tests_fixtures::{IMP, Refusing, SMALL, STAY, refuse_each, warrior};
+use war_types::Settings;
+
+/// This was found if no growth was refused, and nothing if one was.
+fn check_growth<T: Debug + PartialEq>(
+    rt: &impl Abort,
+    memory: &Refusing<Global>,
+    found: &Option<T>,
+    due: &T,
+) {
+    match found {
+        Some(found) => {
+            assert_eq!(rt; memory.refused(), 0);
+            assert_eq!(rt; found, due);
+        }
+        None => assert_eq!(rt; memory.refused(), 1),
+    }
+}
+
+/// How a round ends in a new arena, if there is memory for one.
+fn played(memory: &Refusing<Global>, settings: &Settings) -> Option<Outcome> {
+    let mut arena = Arena::new(memory, settings).ok()?;
+    Some(arena.play())
+}
+
+/// Its cells, the list of those that were written, and two queues.
+#[test]
+fn a_new_arena(rt: HostRuntime) {
+    let memory = Refusing::new(rt.alloc());
+    let settings = Settings::new(SMALL).expect(&rt, "they are settings");
+    let runs = refuse_each(&memory, |_k| {
+        check_growth(&rt, &memory, &played(&memory, &settings), &Outcome::Tie)
+    });
+    assert_eq!(rt; runs, 5);
+}
+
+#[test]
+fn matches_and_rounds_need_none(rt: HostRuntime) {
+    let memory = Refusing::new(rt.alloc());
+    let settings = Settings::new(SMALL).expect(&rt, "they are settings");
+    assert!(rt; settings.core() >= 21, "they have no room");
+    let older = warrior(rt.alloc(), &[IMP], &settings).expect(&rt, "it fits");
+    let younger = warrior(rt.alloc(), &[STAY], &settings).expect(&rt, "it fits");
+    let mut arena = Arena::new(&memory, &settings).expect(&rt, "there is memory");
+    memory.refuse(0, u64::MAX);
+    let bout = fight(&mut arena, &older, &younger, &settings);
+    arena.begin(&older, &younger, 20, Side::First);
+    arena.turn();
+    assert_eq!(rt; arena.play(), Outcome::Tie);
+    assert_eq!(rt; bout.ties, 2);
+    assert_eq!(rt; memory.refused(), 0);
+}
+
+/// The counter of a new hill whose counter is this, if there is memory for one.
+fn counted(memory: &Refusing<Global>, settings: Settings, counter: u64) -> Option<u64> {
+    let hill = Hill::with_counter(memory, settings, counter).ok()?;
+    Some(hill.counter())
+}
+
+#[test]
+fn a_new_hill(rt: HostRuntime) {
+    let memory = Refusing::new(rt.alloc());
+    let settings = Settings::new(SMALL).expect(&rt, "they are settings");
+    let runs = refuse_each(&memory, |_k| {
+        check_growth(&rt, &memory, &counted(&memory, settings, 7), &7)
+    });
+    assert_eq!(rt; runs, 2);
+}
+
+/// A hill of one warrior, on which nobody has a point.
+fn hill_of_one(rt: &(impl Abort + AllocGlobal)) -> Hill<Global> {
+    let settings = Settings::new(SMALL).expect(rt, "they are settings");
+    let mut hill = Hill::new(rt.alloc(), settings).expect(rt, "there is memory");
+    let mut arena = Arena::new(rt.alloc(), &settings).expect(rt, "there is memory");
+    let only = warrior(rt.alloc(), &[IMP], &settings).expect(rt, "it fits");
+    let verdict = hill.judge(&mut arena, &only);
+    if verdict.stays {
+        hill.admit(only, &verdict);
+    }
+    hill
+}
+
+/// How many rows its table has, if there is memory for it.
+fn rows_of(memory: &Refusing<Global>, hill: &Hill<Global>) -> Option<usize> {
+    let rows = hill.rows(memory).ok()?;
+    Some(rows.len())
+}
+
+#[test]
+fn a_table(rt: HostRuntime) {
+    let memory = Refusing::new(rt.alloc());
+    let hill = hill_of_one(&rt);
+    let runs = refuse_each(&memory, |_k| {
+        check_growth(&rt, &memory, &rows_of(&memory, &hill), &1)
+    });
+    assert_eq!(rt; runs, 2);
+}

@@ -1,0 +1,314 @@
+ghost use Rattle.std.specs.Prelude.{◌≡◌, ◌+◌};
+ghost use Rattle.koth_match.specs.Match.{rounds_in};
+ghost use Rattle.war_types.specs.Warrior.{Fits};
+
+use koth_hill::{Hill, Verdict};
+use koth_match::Bout;
+use mars_core::Arena;
+use std::alloc::Global;
+use std::process::Abort;
+use tests_fixtures::{BACK, DIE, IMP, LARGEST, SMALL, STAY, warrior};
+use war_types::{Instr, Settings, Warrior};
+
+mod full_hill;
+mod untrue;
+
+fn small(rt: &impl Abort, capacity: u32) -> Settings {
+    let mut raw = SMALL;
+    raw.capacity = capacity;
+    Settings::new(raw).expect(rt, "they are settings")
+}
+
+/// Judges a warrior, and lets it in or counts it.
+fn challenge(
+    rt: &impl Abort,
+    hill: &mut Hill<Global>,
+    arena: &mut Arena<Global>,
+    challenger: Warrior<Global>,
+) -> Verdict
+    requires settings { arena.old.settings ≡ hill.old.settings }
+    requires fits { Fits hill.old.settings challenger }
+    ensures arena { arena.new.settings ≡ arena.old.settings }
+    ensures hill { hill.new.settings ≡ hill.old.settings }
+{
+    assert!(rt; hill.counter() < u64::MAX, "no more is counted");
+    let verdict = hill.judge(arena, &challenger);
+    if verdict.stays {
+        hill.admit(challenger, &verdict);
+    } else {
+        hill.pass(&verdict);
+    }
+    verdict
+}
+
+/// What a challenger is told: its entry, whether it stays, who falls, its score and its rank.
+#[derive(Clone, Copy, Debug, PartialEq, Eq)]
+struct Told {
+    entry: u64,
+    stays: bool,
+    falls: Option<u64>,
+    score: u32,
+    rank: u32,
+}
+
+fn what_was_told(verdict: &Verdict) -> Told {
+    Told {
+        entry: verdict.entry,
+        stays: verdict.stays,
+        falls: verdict.falls,
+        score: verdict.score,
+        rank: verdict.rank,
+    }
+}
+
+/// What one is told that stays: its entry, who falls, its score and its rank.
+macro_rules! stayed {
+    ($entry:literal, $falls:expr, $score:literal, $rank:literal) => {
+        Told {
+            entry: $entry,
+            stays: true,
+            falls: $falls,
+            score: $score,
+            rank: $rank,
+        }
+    };
+}
+
+/// What one is told that falls: its entry and its score.
+macro_rules! fell {
+    ($entry:literal, $score:literal) => {
+        Told {
+            entry: $entry,
+            stays: false,
+            falls: Some($entry),
+            score: $score,
+            rank: 0,
+        }
+    };
+}
+
+/// The rounds that the older won, those that the younger won, and ties.
+pub(crate) fn bout(older_wins: u16, younger_wins: u16, ties: u16) -> Bout
+    ensures { rounds_in result ≡ older_wins + younger_wins + ties }
+{
+    Bout {
+        older_wins,
+        younger_wins,
+        ties,
+    }
+}
+
+/// Entry, score and age of each row.
+fn table(rt: &(impl Abort + AllocGlobal), hill: &Hill<Global>) -> Vec<(u64, u32, u64)> {
+    let mut lines = Vec::new(rt.alloc());
+    let rows = hill.rows(rt.alloc()).expect(rt, "there is memory");
+    for row in &rows {
+        let line = (row.entry, row.score, row.age);
+        lines.push(line).expect(rt, "there is memory");
+    }
+    drop(rows);
+    lines
+}
+
+/// Each of these is judged as it is due.
+fn check_verdicts(
+    rt: &(impl Abort + AllocGlobal),
+    hill: &mut Hill<Global>,
+    arena: &mut Arena<Global>,
+    submitted: &[(Instr, Told)],
+)
+    requires { arena.old.settings ≡ hill.old.settings }
+{
+    for (instr, due) in submitted {
+        let challenger = warrior(rt.alloc(), &[*instr], hill.settings()).expect(rt, "it fits");
+        let found = challenge(rt, hill, arena, challenger);
+        let told = what_was_told(&found);
+        drop(found);
+        assert_eq!(rt; told, *due);
+    }
+}
+
+/// The rows have this entry, score and age each.
+fn check_rows(rt: &(impl Abort + AllocGlobal), hill: &Hill<Global>, due: &[(u64, u32, u64)]) {
+    let rows = table(rt, hill);
+    expect_table(rt, rows.as_slice(), due);
+    drop(rows);
+    assert_eq!(rt; hill.len(), due.len());
+}
+
+fn expect_table(rt: &impl Abort, found: &[(u64, u32, u64)], due: &[(u64, u32, u64)]) {
+    assert_eq!(rt; found, due);
+}
+
+/// A hill of these settings judges warriors of one instruction each as it is due, and then has these rows.
+fn check_hill(
+    rt: &(impl Abort + AllocGlobal),
+    settings: Settings,
+    submitted: &[(Instr, Told)],
+    rows: &[(u64, u32, u64)],
+) {
+    let mut arena = Arena::new(rt.alloc(), &settings).expect(rt, "there is memory");
+    let mut hill = Hill::new(rt.alloc(), settings).expect(rt, "there is memory");
+    check_verdicts(rt, &mut hill, &mut arena, submitted);
+    assert_eq!(rt; hill.counter(), submitted.len() as u64);
+    check_rows(rt, &hill, rows);
+    drop(hill);
+    drop(arena);
+}
+
+const FOUR: [(Instr, Told); 4] = [
+    (IMP, stayed!(1, None, 0, 1)),
+    (STAY, stayed!(2, None, 2, 2)),
+    (DIE, fell!(3, 0)),
+    (IMP, fell!(4, 4)),
+];
+
+#[test]
+fn three_on_a_hill_of_two(rt: HostRuntime) {
+    let rows = [(1, 2, 1), (2, 2, 0)];
+    check_hill(&rt, small(&rt, 2), &FOUR[..3], &rows);
+    check_hill(&rt, small(&rt, 2), &FOUR, &rows);
+}
+
+const EQUALS: [(Instr, Told); 3] = [
+    (DIE, stayed!(1, None, 0, 1)),
+    (DIE, stayed!(2, None, 3, 2)),
+    (STAY, stayed!(3, Some(2), 6, 1)),
+];
+
+#[test]
+fn the_last_of_equals_falls(rt: HostRuntime) {
+    check_hill(&rt, small(&rt, 2), &EQUALS, &[(3, 6, 0), (1, 0, 2)]);
+}
+
+const TWO: [(Instr, Told); 2] = [(IMP, stayed!(1, None, 0, 1)), (DIE, fell!(2, 0))];
+
+#[test]
+fn a_hill_of_one(rt: HostRuntime) {
+    check_hill(&rt, small(&rt, 1), &TWO, &[(1, 0, 0)]);
+}
+
+const LARGEST_HILL: [(Instr, Told); 3] = [
+    (BACK, stayed!(1, None, 0, 1)),
+    (DIE, stayed!(2, None, 0, 2)),
+    (STAY, stayed!(3, None, 4000, 2)),
+];
+
+/// A hill of twenty places, and matches of a thousand rounds: two that live win all against one that dies, and tie with each other.
+#[test]
+fn the_largest_hill(rt: HostRuntime) {
+    let settings = Settings::new(LARGEST).expect(&rt, "they are settings");
+    let rows = [(1, 4000, 2), (3, 4000, 0), (2, 0, 1)];
+    check_hill(&rt, settings, &LARGEST_HILL, &rows);
+}
+
+/// A hill of two with the entries 2, which waits, and 5, which dies at once, of five ever judged, and this result of the two.
+fn hill_put_back(rt: &(impl Abort + AllocGlobal), kept: Bout) -> Hill<Global>
+    requires { rounds_in kept ≡ 2 }
+    ensures { result.settings.core ≡ 64 }
+{
+    let settings = small(rt, 2);
+    assert!(rt;
+        settings.capacity() == 2 && settings.rounds() == 2 && settings.core() == 64,
+        "a hill of two"
+    );
+    let first = warrior(rt.alloc(), &[STAY], &settings).expect(rt, "it fits");
+    let second = warrior(rt.alloc(), &[DIE], &settings).expect(rt, "it fits");
+    let mut hill = Hill::with_counter(rt.alloc(), settings, 5).expect(rt, "there is memory");
+    hill.put_back(2, 3, first, &[]);
+    hill.put_back(5, 0, second, &[kept]);
+    hill
+}
+
+fn check_names(rt: &(impl Abort + AllocGlobal), hill: &Hill<Global>) {
+    let rows = hill.rows(rt.alloc()).expect(rt, "there is memory");
+    assert_eq!(rt; rows.len(), 2);
+    let names = (rows[0].name.bytes(), rows[1].author.bytes());
+    assert_eq!(rt; names, (b"Imp".as_slice(), b"A. K. Dewdney".as_slice()));
+    drop(rows);
+}
+
+fn check_members(rt: &impl Abort, hill: &Hill<Global>) {
+    let member = hill.member(1).expect(rt, "it is there");
+    assert_eq!(rt; (member.entry, member.age), (5, 0));
+    assert_eq!(rt; member.warrior.code(), [DIE].as_slice());
+    assert!(rt; hill.member(2).is_none());
+    assert_eq!(rt; hill.counter(), 5);
+}
+
+#[test]
+fn put_back_as_it_was(rt: HostRuntime) {
+    let hill = hill_put_back(&rt, bout(2, 0, 0));
+    check_names(&rt, &hill);
+    check_rows(&rt, &hill, &[(2, 6, 3), (5, 0, 0)]);
+    check_members(&rt, &hill);
+    drop(hill);
+}
+
+/// A result is found by the two entries, the older first, and there is no other.
+#[test]
+fn results_of_pairs(rt: HostRuntime) {
+    let hill = hill_put_back(&rt, bout(2, 0, 0));
+    let found = [
+        hill.bout(2, 5),
+        hill.bout(5, 2),
+        hill.bout(2, 2),
+        hill.bout(2, 4),
+    ];
+    drop(hill);
+    assert_eq!(rt; found, [Some(bout(2, 0, 0)), None, None, None]);
+}
+
+/// A table goes by what is kept, and an audit says whether the fights agree.
+fn check_audit(rt: &(impl Abort + AllocGlobal), kept: Bout, rows: &[(u64, u32, u64)], is_true: bool)
+    requires { rounds_in kept ≡ 2 }
+{
+    let hill = hill_put_back(rt, kept);
+    check_rows(rt, &hill, rows);
+    let mut arena = Arena::new(rt.alloc(), hill.settings()).expect(rt, "there is memory");
+    let found = hill.audit(&mut arena);
+    drop(arena);
+    drop(hill);
+    assert_eq!(rt; found, is_true);
+}
+
+#[test]
+fn results_that_no_fight_gives(rt: HostRuntime) {
+    check_audit(&rt, bout(2, 0, 0), &[(2, 6, 3), (5, 0, 0)], true);
+    check_audit(&rt, bout(0, 2, 0), &[(5, 6, 0), (2, 0, 3)], false);
+    check_audit(&rt, bout(0, 0, 2), &[(2, 2, 3), (5, 2, 0)], false);
+    check_audit(&rt, bout(1, 1, 0), &[(2, 3, 3), (5, 3, 0)], false);
+}
+
+/// The hill has these results of the entries 5 and 2, the older, with the entry 6.
+fn check_results(
+    rt: &impl Abort,
+    hill: &Hill<Global>,
+    of_five: Option<Bout>,
+    of_two: Option<Bout>,
+) {
+    assert_eq!(rt; hill.bout(5, 6), of_five);
+    assert_eq!(rt; hill.bout(2, 6), of_two);
+}
+
+/// What the challenger of such a hill is told, and its results against the two.
+fn check_challenge(rt: &impl Abort, found: &Verdict) {
+    assert_eq!(rt; what_was_told(found), stayed!(6, Some(2), 6, 1));
+    assert_eq!(rt; found.bouts(), [bout(0, 0, 2), bout(0, 2, 0)].as_slice());
+}
+
+/// A challenger is judged by what is kept of the others: the one that waits is said to have lost, and falls.
+#[test]
+fn judged_by_what_is_kept(rt: HostRuntime) {
+    let mut hill = hill_put_back(&rt, bout(0, 2, 0));
+    let mut arena = Arena::new(rt.alloc(), hill.settings()).expect(&rt, "there is memory");
+    let challenger = warrior(rt.alloc(), &[STAY], hill.settings()).expect(&rt, "it fits");
+    let found = challenge(&rt, &mut hill, &mut arena, challenger);
+    check_challenge(&rt, &found);
+    check_results(&rt, &hill, Some(bout(0, 2, 0)), None);
+    check_rows(&rt, &hill, &[(6, 6, 0), (5, 0, 1)]);
+    assert!(rt; hill.audit(&mut arena));
+    drop(found);
+    drop(arena);
+    drop(hill);
+}

@@ -1,0 +1,144 @@
+use koth_match::{fight, next_seed, position};
+use mars_core::Arena;
+use std::process::Abort;
+use tests_fixtures::{
+    BACK, DIE, IMP, LARGEST, SMALL, STAY, USUAL, dat, instruction, small, warrior,
+};
+use war_types::{Instr, RawSettings, Settings};
+
+#[test]
+fn seeds_follow_one_another(rt: HostRuntime) {
+    assert_eq!(rt; next_seed(1), 16_807);
+    assert_eq!(rt; next_seed(16_807), 282_475_249);
+    assert_eq!(rt; next_seed(2_147_483_646), 2_147_466_840);
+    let mut seed = 1;
+    for _ in 0..10_000 {
+        seed = next_seed(seed);
+    }
+    assert_eq!(rt; seed, 1_043_618_065);
+}
+
+#[test]
+fn positions(rt: HostRuntime) {
+    let usual = Settings::new(USUAL).expect(&rt, "they are settings");
+    assert_eq!(rt; position(1, &usual), 101);
+    assert_eq!(rt; position(16_807, &usual), 1305);
+    assert_eq!(rt; position(282_475_249, &usual), 1139);
+    let small = Settings::new(SMALL).expect(&rt, "they are settings");
+    assert_eq!(rt; position(1, &small), 11);
+    assert_eq!(rt; position(16_807, &small), 32);
+    let only = Settings::new(small!(distance: 32)).expect(&rt, "they are settings");
+    for seed in [1, 2, 16_807, 282_475_249, 2_147_483_646] {
+        assert_eq!(rt; position(seed, &only), 32, "seed {seed}");
+    }
+}
+
+/// Won by the older, won by the younger, and ties.
+type Counts = (u16, u16, u16);
+
+/// The result of a match of two warriors that start at their first instructions.
+fn bout_of(
+    rt: &(impl Abort + AllocGlobal),
+    older: &[Instr],
+    younger: &[Instr],
+    raw: RawSettings,
+) -> Counts {
+    let settings = Settings::new(raw).expect(rt, "they are settings");
+    let older = warrior(rt.alloc(), older, &settings).expect(rt, "it fits");
+    let younger = warrior(rt.alloc(), younger, &settings).expect(rt, "it fits");
+    let mut arena = Arena::new(rt.alloc(), &settings).expect(rt, "there is memory");
+    let first = fight(&mut arena, &older, &younger, &settings);
+    let again = fight(&mut arena, &older, &younger, &settings);
+    drop(arena);
+    drop(younger);
+    drop(older);
+    assert_eq!(rt; first, again, "a match is the same again");
+    (first.older_wins, first.younger_wins, first.ties)
+}
+
+/// Two warriors of one instruction each, the older first, have this result.
+fn check_bout(rt: &(impl Abort + AllocGlobal), codes: &[Instr; 2], raw: RawSettings, due: Counts) {
+    let [older, younger] = *codes;
+    assert_eq!(rt; bout_of(rt, &[older], &[younger], raw), due, "{codes:?}");
+}
+
+/// The older and the younger, the rounds, and their result.
+const SMALL_MATCHES: [([Instr; 2], u32, Counts); 6] = [
+    ([IMP, STAY], 2, (0, 0, 2)),
+    ([DIE, DIE], 2, (1, 1, 0)),
+    ([STAY, DIE], 2, (2, 0, 0)),
+    ([DIE, STAY], 2, (0, 2, 0)),
+    // The older warrior moves first, and dies first, in two rounds of three.
+    ([DIE, DIE], 3, (1, 2, 0)),
+    ([DIE, STAY], 1000, (0, 1000, 0)),
+];
+
+#[test]
+fn small_matches(rt: HostRuntime) {
+    for (codes, rounds, due) in &SMALL_MATCHES {
+        let raw = small!(rounds: *rounds);
+        check_bout(&rt, codes, raw, *due);
+    }
+}
+
+const LARGEST_MATCHES: [([Instr; 2], Counts); 4] = [
+    ([BACK, STAY], (0, 0, 1000)),
+    ([BACK, DIE], (1000, 0, 0)),
+    ([DIE, BACK], (0, 1000, 0)),
+    // The older warrior moves first, and dies first, in every other round.
+    ([DIE, DIE], (500, 500, 0)),
+];
+
+/// In the largest core, over whose end the older goes, a thousand rounds of one turn a side.
+#[test]
+fn largest_matches(rt: HostRuntime) {
+    for (codes, due) in &LARGEST_MATCHES {
+        check_bout(&rt, codes, LARGEST, *due);
+    }
+}
+
+/// Drops a bomb on each fourth cell.
+const DROPPING: [Instr; 5] = [
+    instruction!(Jmp.B 1, 0),
+    instruction!(Add.AB Immediate 4, Direct 3),
+    instruction!(Mov.I Direct 2, BIndirect 2),
+    instruction!(Jmp.B 62, 0),
+    dat!(0, 0),
+];
+
+/// The limits of reading and of writing, and the result of a match under them.
+const UNDER_LIMITS: [(u32, u32, Counts); 7] = [
+    (0, 0, (2, 0, 0)),
+    (64, 64, (2, 0, 0)),
+    (16, 64, (2, 0, 0)),
+    (64, 32, (0, 0, 2)),
+    (64, 16, (0, 0, 2)),
+    (2, 64, (0, 0, 2)),
+    (16, 16, (0, 0, 2)),
+];
+
+fn check_dropping(rt: &(impl Abort + AllocGlobal), read_limit: u32, write_limit: u32, due: Counts) {
+    let raw = small!(distance: 32, read_limit: read_limit, write_limit: write_limit);
+    let found = bout_of(rt, &DROPPING, &[STAY], raw);
+    assert_eq!(rt; found, due, "{read_limit} {write_limit}");
+}
+
+/// A warrior that drops a bomb on each fourth cell, against one that stays where it is, 32 cells ahead of it. Without limits the seventh
+/// bomb, at 4 + 7 * 4, hits. Counted by hand from the draft's text: the bombs fall 2 + 4k cells ahead of the `MOV` at 2, for k from 1 on.
+/// A write limit of 32 folds them to 8, 12, 16, 52, 56, 60, 0, 4, and one of 16 to 8, 60, 0, 4, over and over.
+/// A read limit of 16 changes nothing. One of 2 lets `ADD #4, 3` add to the number of the `MOV`, so each bomb falls at 10.
+#[test]
+fn matches_under_limits(rt: HostRuntime) {
+    for (read_limit, write_limit, due) in &UNDER_LIMITS {
+        check_dropping(&rt, *read_limit, *write_limit, *due);
+    }
+}
+
+/// An imp needs a write limit of 2: within 1 it copies itself onto itself, and its next process meets an empty cell.
+#[test]
+fn an_imp_under_limits(rt: HostRuntime) {
+    for (write_limit, due) in [(1, (0, 2, 0)), (2, (0, 0, 2)), (64, (0, 0, 2))] {
+        let raw = small!(write_limit: write_limit);
+        check_bout(&rt, &[IMP, STAY], raw, due);
+    }
+}

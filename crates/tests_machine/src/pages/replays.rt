@@ -1,0 +1,250 @@
+//! Replays: the events of a round's turns, worked by hand.
+
+ghost use Rattle.std.specs.Prelude.{◌≡◌, ◌<◌};
+ghost use Rattle.war_types.specs.Warrior.{Fits};
+
+use koth_replay::{Event, Opening, Replay, replay};
+use mars_core::{Arena, Outcome, Side};
+use std::alloc::Global;
+use std::process::Abort;
+use tests_fixtures::{DIE, IMP, Refusing, SMALL, STAY, instruction, warrior};
+use war_types::{Instr, Settings, Warrior};
+
+/// A round of these two codes in a core of 64 cells, with `most` turns kept at most. The younger is loaded at 11 in round 0 and at 32 in round 1.
+fn replayed(
+    rt: &(impl Abort + AllocGlobal),
+    codes: [&[Instr]; 2],
+    round: u16,
+    most: u32,
+) -> Replay<Global> {
+    let settings = Settings::new(SMALL).expect(rt, "they are settings");
+    assert!(rt; round < settings.rounds(), "there is no such round");
+    let older = warrior(rt.alloc(), codes[0], &settings).expect(rt, "it fits");
+    let younger = warrior(rt.alloc(), codes[1], &settings).expect(rt, "it fits");
+    let mut arena = Arena::new(rt.alloc(), &settings).expect(rt, "there is memory");
+    let found = replay(
+        rt.alloc(),
+        &mut arena,
+        &older,
+        &younger,
+        &settings,
+        round,
+        most,
+    );
+    drop(arena);
+    drop(younger);
+    drop(older);
+    found.expect(rt, "there is memory")
+}
+
+/// There are these turns, and no others.
+fn check_turns(rt: &impl Abort, replay: &Replay<Global>, due: &[&[Event]]) {
+    assert_eq!(rt; replay.turns(), due.len());
+    for turn in 0..due.len() {
+        assert_eq!(rt; replay.events_of(turn), due[turn], "turn {turn}");
+    }
+}
+
+/// How a round begins with the older at 0 and the younger at 11.
+const OPENING: Opening = Opening {
+    core: 64,
+    position: 11,
+    older: 0,
+    younger: 11,
+    first: Side::First,
+};
+
+/// What the second side does if it stays at 11.
+const STAYS: &[Event] = &[Event::Turn(Side::Second, 11), Event::Process(11)];
+
+const IMP_TURNS: [&[Event]; 4] = [
+    &[
+        Event::Turn(Side::First, 0),
+        Event::Cell(1, IMP),
+        Event::Process(1),
+    ],
+    STAYS,
+    &[
+        Event::Turn(Side::First, 1),
+        Event::Cell(2, IMP),
+        Event::Process(2),
+    ],
+    STAYS,
+];
+
+/// How it begins: its opening, and what is loaded.
+fn check_opening(rt: &impl Abort, replay: &Replay<Global>, opening: Opening, loaded: &[Event]) {
+    assert_eq!(rt; replay.opening(), opening);
+    assert_eq!(rt; replay.loaded(), loaded);
+}
+
+/// How it ends: whether turns are left out, and who has won.
+fn check_end(rt: &impl Abort, replay: &Replay<Global>, is_cut: bool, outcome: Outcome) {
+    assert_eq!(rt; replay.is_cut(), is_cut);
+    assert_eq!(rt; replay.outcome(), outcome);
+}
+
+#[test]
+fn an_imp_and_one_that_stays(rt: HostRuntime) {
+    let replay = replayed(&rt, [&[IMP], &[STAY]], 0, 4);
+    let loaded = [Event::Cell(0, IMP), Event::Cell(11, STAY)];
+    check_opening(&rt, &replay, OPENING, &loaded);
+    check_turns(&rt, &replay, &IMP_TURNS);
+    check_end(&rt, &replay, true, Outcome::Tie);
+    drop(replay);
+}
+
+/// How round 1 begins, with the younger at 32.
+const SECOND_OPENING: Opening = Opening {
+    core: 64,
+    position: 32,
+    older: 0,
+    younger: 32,
+    first: Side::Second,
+};
+
+const ENDING_TURNS: [&[Event]; 2] = [
+    &[Event::Turn(Side::Second, 32), Event::Process(32)],
+    &[Event::Turn(Side::First, 0)],
+];
+
+/// In round 1 the younger warrior moves first. The older one is a `DAT 0, 0`, which has no event.
+#[test]
+fn a_process_that_ends(rt: HostRuntime) {
+    let replay = replayed(&rt, [&[DIE], &[STAY]], 1, 1000);
+    check_opening(&rt, &replay, SECOND_OPENING, &[Event::Cell(32, STAY)]);
+    check_turns(&rt, &replay, &ENDING_TURNS);
+    check_end(&rt, &replay, false, Outcome::Second);
+    drop(replay);
+}
+
+/// The same round, of two turns, has `turns` if `most` are kept at most.
+fn check_kept(rt: &(impl Abort + AllocGlobal), most: u32, turns: usize, is_cut: bool) {
+    let replay = replayed(rt, [&[DIE], &[STAY]], 1, most);
+    assert_eq!(rt; replay.turns(), turns, "{most}");
+    check_end(rt, &replay, is_cut, Outcome::Second);
+    drop(replay);
+}
+
+/// It is cut if fewer are kept.
+#[test]
+fn as_many_turns_as_are_kept(rt: HostRuntime) {
+    check_kept(&rt, 0, 0, true);
+    check_kept(&rt, 1, 1, true);
+    check_kept(&rt, 2, 2, false);
+    check_kept(&rt, 3, 2, false);
+}
+
+const SPLIT: Instr = instruction!(Spl.B 0, 0);
+
+const SPLITTING_TURNS: [&[Event]; 5] = [
+    &[
+        Event::Turn(Side::First, 0),
+        Event::Process(1),
+        Event::Process(0),
+    ],
+    STAYS,
+    &[Event::Turn(Side::First, 1), Event::Process(1)],
+    STAYS,
+    &[
+        Event::Turn(Side::First, 0),
+        Event::Process(1),
+        Event::Process(0),
+    ],
+];
+
+/// A SPL adds two processes after the others, the next instruction's first.
+#[test]
+fn a_process_that_splits(rt: HostRuntime) {
+    let replay = replayed(&rt, [&[SPLIT, STAY], &[STAY]], 0, 5);
+    check_turns(&rt, &replay, &SPLITTING_TURNS);
+    drop(replay);
+}
+
+const DWARF: [Instr; 4] = [
+    instruction!(Add.AB Immediate 4, Direct 3),
+    instruction!(Mov.I Direct 2, BIndirect 2),
+    instruction!(Jmp.B 62, 0),
+    instruction!(Dat.F Immediate 0, Immediate 0),
+];
+
+/// Its bomb, raised once.
+const RAISED: Instr = instruction!(Dat.F Immediate 0, Immediate 4);
+
+const DWARF_TURNS: [&[Event]; 5] = [
+    &[
+        Event::Turn(Side::First, 0),
+        Event::Cell(3, RAISED),
+        Event::Process(1),
+    ],
+    STAYS,
+    &[
+        Event::Turn(Side::First, 1),
+        Event::Cell(7, RAISED),
+        Event::Process(2),
+    ],
+    STAYS,
+    &[Event::Turn(Side::First, 2), Event::Process(0)],
+];
+
+/// A dwarf: the `ADD` at 0 raises its bomb at 3, the `MOV` at 1 throws it four cells further, and the `JMP` at 2 goes back.
+#[test]
+fn a_dwarf(rt: HostRuntime) {
+    let replay = replayed(&rt, [&DWARF, &[STAY]], 0, 5);
+    check_turns(&rt, &replay, &DWARF_TURNS);
+    drop(replay);
+}
+
+/// How many turns a replay has that finds its memory here, if it finds enough.
+fn turns_within(
+    rt: &(impl Abort + AllocGlobal),
+    memory: &Refusing<Global>,
+    settings: &Settings,
+) -> Option<usize> {
+    let older = warrior(rt.alloc(), &[DIE], settings).expect(rt, "it fits");
+    let younger = warrior(rt.alloc(), &[STAY], settings).expect(rt, "it fits");
+    let mut arena = Arena::new(rt.alloc(), settings).expect(rt, "there is memory");
+    let turns = turns_of(memory, &mut arena, &older, &younger, settings);
+    drop(arena);
+    drop(younger);
+    drop(older);
+    turns
+}
+
+fn turns_of(
+    memory: &Refusing<Global>,
+    arena: &mut Arena<Global>,
+    older: &Warrior<Global>,
+    younger: &Warrior<Global>,
+    settings: &Settings,
+) -> Option<usize>
+    requires settings { arena.old.settings ≡ settings.now }
+    requires older { Fits settings.now older.now }
+    requires younger { Fits settings.now younger.now }
+    requires round { 0 < settings.now.rounds }
+{
+    match replay(memory, arena, older, younger, settings, 0, 9) {
+        Ok(replay) => {
+            let turns = replay.turns();
+            drop(replay);
+            Some(turns)
+        }
+        Err(_) => None,
+    }
+}
+
+/// For a round of one turn: what is loaded, the turn's events, and the list of turns.
+#[test]
+fn a_replay_takes_memory(rt: HostRuntime) {
+    let memory = Refusing::new(rt.alloc());
+    let settings = Settings::new(SMALL).expect(&rt, "they are settings");
+    for k in 0..3 {
+        memory.refuse(k, 1);
+        assert_eq!(rt; turns_within(&rt, &memory, &settings), None);
+        assert_eq!(rt; memory.refused(), 1);
+    }
+    memory.refuse(3, 1);
+    assert_eq!(rt; turns_within(&rt, &memory, &settings), Some(1));
+    assert_eq!(rt; memory.refused(), 0);
+    drop(memory);
+}

@@ -1,0 +1,110 @@
+//! The hill that an earlier version of the program wrote, moved to the new format.
+
+use crate::expecting::{expect_reply, expect_sector, expect_table, expect_true};
+use crate::hills::{blank_of, moved, moved_from, opened_on, put_into};
+use crate::narrowed::narrowed;
+use hill_store::{Refusal, Store};
+use sector_disk::{Device, MemoryDevice};
+use std::alloc::Global;
+use std::process::Abort;
+use tests_fixtures::earlier_hill::sector_of;
+use tests_stores::{Numbers, close, fell, unopened};
+
+fn earlier(rt: &(impl Abort + AllocGlobal)) -> MemoryDevice<Global> {
+    let mut device = blank_of(rt, 10);
+    for n in 0..10 {
+        put_into(rt, &mut device, n, &sector_of(n));
+    }
+    device
+}
+
+/// The device has what that program wrote.
+fn expect_earlier(rt: &impl Abort, device: &mut MemoryDevice<Global>) {
+    for n in 0..10 {
+        expect_sector(rt, device, n, &sector_of(n));
+    }
+}
+
+/// No hill is opened on this device, since it holds none in the new format. It comes back.
+fn expect_no_hill<D: Device + Drop>(rt: &(impl Abort + AllocGlobal), device: D) -> D {
+    let (device, refusal) = unopened(rt.alloc(), device).expect(rt, "it holds no hill");
+    assert_eq!(rt; refusal, Refusal::NotAHill);
+    device
+}
+
+/// The hill of a device that was moved from the one that the program wrote, to which nothing is written.
+fn moved_from_earlier(rt: &(impl Abort + AllocGlobal)) -> Store<MemoryDevice<Global>, Global> {
+    let old = expect_no_hill(rt, earlier(rt));
+    let (mut old, store) = moved(rt, rt.alloc(), old, blank_of(rt, 18));
+    expect_earlier(rt, &mut old);
+    drop(old);
+    store
+}
+
+/// The table and the reply are what that program said. Nothing is written to the device that it wrote.
+#[test]
+fn a_hill_from_before_limits(rt: HostRuntime) {
+    expect_moved(&rt, moved_from_earlier(&rt));
+}
+
+/// The store has the hill, and so has its device. Then a warrior falls on it.
+fn expect_moved<D: Device + Drop>(rt: &(impl Abort + AllocGlobal), mut store: Store<D, Global>) {
+    expect_the_hill(rt, &mut store);
+    let mut store = opened_on(rt, close(store));
+    expect_the_hill(rt, &mut store);
+    expect_fall(rt, store);
+}
+
+/// A warrior falls on the hill of a store, which is dropped.
+fn expect_fall<D: Device + Drop>(rt: &impl Abort, mut store: Store<D, Global>) {
+    expect_reply(rt, &mut store, b"JMP 0", fell!(5, 38));
+    drop(store);
+}
+
+/// The limits of reads and of writes.
+fn limits_of<D: Device>(store: &Store<D, Global>) -> (u16, u16) {
+    let settings = store.hill().settings();
+    (settings.read_limit(), settings.write_limit())
+}
+
+/// The rows of the hill.
+const ROWS: [Numbers; 3] = [(4, 92, 0), (2, 35, 2), (1, 21, 3)];
+
+/// The table is that of the hill, and its results are those of the matches.
+fn expect_the_hill<D: Device>(rt: &impl Abort, store: &mut Store<D, Global>) {
+    expect_true(rt, store);
+    assert_eq!(rt; limits_of(store), (800, 800));
+    expect_table(rt, store, &ROWS);
+}
+
+/// The store that the hill is moved to answers as one that was opened.
+#[test]
+fn a_moved_hill_answers_at_once(rt: HostRuntime) {
+    let store = moved_from(&rt, rt.alloc(), earlier(&rt), blank_of(&rt, 18));
+    expect_fall(&rt, store);
+}
+
+/// What was written of the hill as it stands: neither the header before the last nor the slot of the third warrior, which fell, and no
+/// result against that one.
+fn standing_content_of(n: u32) -> [u8; 512] {
+    let mut content = sector_of(n);
+    match n {
+        1 | 6 | 7 => content = [0; 512],
+        9 => content[399] = 0,
+        _ => {}
+    }
+    content
+}
+
+/// In the old format the moved hill has the bytes that the program wrote.
+#[test]
+fn a_moved_hill_has_the_same_bytes(rt: HostRuntime) {
+    let store = moved_from(&rt, rt.alloc(), earlier(&rt), blank_of(&rt, 18));
+    let mut new = close(store);
+    let mut again = narrowed(&rt, &mut new, 4);
+    drop(new);
+    for n in 0..10 {
+        expect_sector(&rt, &mut again, n, &standing_content_of(n));
+    }
+    drop(again);
+}

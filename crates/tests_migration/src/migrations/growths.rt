@@ -1,0 +1,60 @@
+//! Growths of memory of a move that are refused.
+
+use super::old_device;
+use super::refused::{new_side, old_side};
+use crate::expecting::expect_the_rows;
+use crate::hills::{blank_in, moved_from};
+use hill_store::{MigrateFault, Refusal};
+use sector_disk::Device;
+use std::alloc::Global;
+use std::process::Abort;
+use tests_fixtures::Refusing;
+use tests_stores::migrate;
+
+/// An arena takes four growths, the members one and the codes of two warriors two, to open the hill. The eight sectors of their slots and a
+/// header's take one each in the new device.
+fn fault_at(k: u64) -> Option<MigrateFault> {
+    match k {
+        0..=6 => Some(old_side(Refusal::Memory)),
+        7..=15 => Some(new_side(Refusal::Disk)),
+        _ => None,
+    }
+}
+
+/// Growth `k` was refused with this fault, or there is no such growth. None is refused from now on.
+fn expect_fault(rt: &impl Abort, memory: &Refusing<Global>, k: u64, fault: Option<MigrateFault>) {
+    let found = (fault, memory.refused() == 1);
+    assert_eq!(rt; found, (fault_at(k), fault.is_some()), "at growth {k}");
+    memory.refuse(0, 0);
+}
+
+/// Growth `k` of a move to this device is refused, and then none.
+fn expect_growth<D: Device + Drop>(
+    rt: &(impl Abort + AllocGlobal),
+    memory: &Refusing<Global>,
+    new: D,
+    k: u64,
+) {
+    let old = old_device(rt);
+    memory.refuse(k, 1);
+    match migrate(memory, old, new) {
+        Ok((old, store)) => {
+            drop(old);
+            expect_fault(rt, memory, k, None);
+            expect_the_rows(rt, store);
+        }
+        Err((old, new, fault)) => {
+            expect_fault(rt, memory, k, Some(fault));
+            expect_the_rows(rt, moved_from(rt, memory, old, new));
+        }
+    }
+}
+
+#[test]
+fn each_growth_of_a_move(rt: HostRuntime) {
+    let memory = Refusing::new(rt.alloc());
+    for k in 0..=16 {
+        expect_growth(&rt, &memory, blank_in(&rt, &memory), k);
+    }
+    drop(memory);
+}

@@ -1,0 +1,135 @@
+//! What a stop, or one fault, leaves of a hill of two that is moved to another device.
+
+use crate::expecting::{expect_the_rows, expect_true_rows};
+use crate::hills::{blank_in, hill_on, image_of, moved, tried};
+use crate::migrations::old_device;
+use hill_store::Refusal;
+use sector_disk::{FuseDevice, FuseKind, MemoryDevice};
+use std::alloc::Global;
+use std::process::Abort;
+use tests_stores::migrate;
+
+/// Calls of the new device: a sync, two headers, four sectors for each of two slots, a sync, the header in sector 1, and a sync.
+const CALLS: u64 = 14;
+
+/// Whether a new device that stopped after `calls` calls holds the hill: without the header that is written and not synced, and with it.
+fn due(calls: u64) -> (bool, bool) {
+    match calls {
+        0..=12 => (false, false),
+        13 => (false, true),
+        _ => (true, true),
+    }
+}
+
+/// The devices. The new one fails after `calls` calls.
+fn fused(
+    rt: &(impl Abort + AllocGlobal),
+    calls: u64,
+    kind: FuseKind,
+) -> (MemoryDevice<Global>, MemoryDevice<Global>) {
+    let new = FuseDevice::new(blank_in(rt, rt.alloc()), calls, kind);
+    let (old, new) = tried(rt, old_device(rt), new, calls < CALLS);
+    (old, new.into_inner())
+}
+
+/// Whether a device holds the hill. It holds no other.
+fn holds_the_hill(rt: &(impl Abort + AllocGlobal), device: MemoryDevice<Global>) -> bool {
+    match hill_on(rt, device) {
+        Some(store) => {
+            expect_true_rows(rt, store);
+            true
+        }
+        None => false,
+    }
+}
+
+/// How many images there are of what is written and not synced after `calls` calls: up to eight sectors of slots, or a header.
+fn images_of(calls: u64) -> u32 {
+    match calls {
+        4..=11 => 1 << (calls - 3),
+        13 => 2,
+        _ => 1,
+    }
+}
+
+/// Keeps or loses each of the sectors 2 to 9, which are written first, and the header in sector 1, which is written after their sync.
+fn choice_of(kept: u32) -> [u32; 10] {
+    let first = [kept % 2, kept / 2 % 2, kept / 4 % 2, kept / 8 % 2];
+    let second = [kept / 16 % 2, kept / 32 % 2, kept / 64 % 2, kept / 128 % 2];
+    let mut choice = [0; 10];
+    choice[1] = kept % 2;
+    choice[2..6].copy_from_slice(&first);
+    choice[6..].copy_from_slice(&second);
+    choice
+}
+
+/// Every image of a device that stopped after `calls` calls holds what is due.
+fn expect_images(rt: &(impl Abort + AllocGlobal), device: &MemoryDevice<Global>, calls: u64) {
+    for image in 0..images_of(calls) {
+        let found = holds_the_hill(rt, image_of(rt, device, &choice_of(image)));
+        assert_eq!(rt; found, due_in(image, calls), "image {image} behind {calls}");
+    }
+}
+
+/// Whether an image after `calls` calls holds the hill: each second one has the header.
+fn due_in(image: u32, calls: u64) -> bool {
+    let (lost, kept) = due(calls);
+    if image % 2 == 0 { lost } else { kept }
+}
+
+/// The old device still holds the hill, which can be moved to a blank one.
+fn expect_moves(
+    rt: &(impl Abort + AllocGlobal),
+    old: MemoryDevice<Global>,
+) -> MemoryDevice<Global> {
+    let (old, store) = moved(rt, rt.alloc(), old, blank_in(rt, rt.alloc()));
+    expect_true_rows(rt, store);
+    old
+}
+
+/// A new device holds the hill, or it can be moved to that device again.
+fn expect_goes_on(
+    rt: &(impl Abort + AllocGlobal),
+    old: MemoryDevice<Global>,
+    new: MemoryDevice<Global>,
+) {
+    match migrate(rt.alloc(), old, new) {
+        Ok((old, store)) => {
+            drop(old);
+            expect_the_rows(rt, store);
+        }
+        Err((old, new, fault)) => {
+            drop(old);
+            assert_eq!(rt; fault.refusal, Refusal::Occupied);
+            assert!(rt; holds_the_hill(rt, new));
+        }
+    }
+}
+
+/// What is left if the new device fails after it made `calls` calls.
+fn expect_left(
+    rt: &(impl Abort + AllocGlobal),
+    devices: (MemoryDevice<Global>, MemoryDevice<Global>),
+    calls: u64,
+) {
+    let (old, new) = devices;
+    expect_images(rt, &new, calls);
+    let old = expect_moves(rt, old);
+    expect_goes_on(rt, old, new);
+}
+
+#[test]
+fn a_stop_at_each_call(rt: HostRuntime) {
+    for calls in 0..=CALLS {
+        expect_left(&rt, fused(&rt, calls, FuseKind::Stop), calls);
+    }
+}
+
+/// The call that fails is lost, or it is made all the same.
+#[test]
+fn a_fault_at_each_call(rt: HostRuntime) {
+    for calls in 0..CALLS {
+        expect_left(&rt, fused(&rt, calls, FuseKind::FailLost), calls);
+        expect_left(&rt, fused(&rt, calls, FuseKind::FailKept), calls + 1);
+    }
+}

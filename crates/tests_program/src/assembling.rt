@@ -1,0 +1,166 @@
+use crate::program::{Host, Ran, check_on, run_on, status_on};
+use koth_server::View;
+use std::process::Abort;
+use tests_fixtures::{FULL, Full, one_by_one, reader, writer};
+
+#[test]
+fn a_warrior_is_printed(rt: HostRuntime) {
+    let text = "ORG 0\nMOV.I  $     0, $     1\nEND\n";
+    check_on(&rt, "koth asm", b"MOV 0, 1\n", text, "", 0);
+}
+
+/// A source is refused so, and so much of it is not read.
+fn check_refused(rt: &impl Host, source: &[u8], output: &str, left: usize) {
+    assert_eq!(rt; check_on(rt, "koth asm", source, output, "", 1), left);
+}
+
+#[test]
+fn refusals(rt: HostRuntime) {
+    let long = [b'\n'; 65_537];
+    check_refused(&rt, b"", "REFUSED 0 Empty\n", 0);
+    check_refused(&rt, &long[..65_536], "REFUSED 0 Empty\n", 0);
+    check_refused(&rt, &long, "REFUSED 0 SourceTooLong\n", 0);
+}
+
+#[test]
+fn a_source_is_read_so_far_and_no_further(rt: HostRuntime) {
+    let long = [b'\n'; 65_540];
+    check_refused(&rt, &long, "REFUSED 0 SourceTooLong\n", 3);
+}
+
+/// A source of six bytes that is read `most` at a time, with one read that fails. How many reads there were is the answer.
+fn check_read(
+    rt: &impl Host,
+    most: usize,
+    fails_at: u64,
+    output: &str,
+    errors: &str,
+    status: u8,
+) -> u64 {
+    let mut input = reader(b"\n\n\n\n\n\n", most, fails_at);
+    let ran = run_on(rt, "koth asm", &mut input);
+    expect_begun(rt, &ran, fails_at, output, errors, status);
+    drop(ran);
+    let reads = input.reads;
+    drop(input);
+    reads
+}
+
+/// A run whose read failed wrote this on its output, told what begins so on its errors, and left with this status.
+fn expect_begun(rt: &impl Abort, ran: &Ran, fails_at: u64, output: &str, errors: &str, status: u8) {
+    assert_eq!(rt; ran.output.as_slice(), output.as_bytes());
+    assert!(rt; ran.errors.as_slice().starts_with(errors.as_bytes()));
+    assert_eq!(rt; ran.status, status, "at read {fails_at}");
+}
+
+/// A source that is read `most` bytes at a time, by `reads` reads, each of which fails once. The last read finds the end.
+fn check_reads(rt: &impl Host, most: usize, reads: u64) {
+    for fails_at in 1..=reads {
+        let made = check_read(rt, most, fails_at, "", "DISK standard input: ", 3);
+        assert_eq!(rt; made, fails_at);
+    }
+    let made = check_read(rt, most, 0, "REFUSED 0 Empty\n", "", 1);
+    assert_eq!(rt; made, reads);
+}
+
+#[test]
+fn a_read_that_fails(rt: HostRuntime) {
+    check_reads(&rt, 4, 3);
+    check_reads(&rt, 1, 7);
+}
+
+/// A run whose output takes `room` bytes, `most` at a time, and then is full. What it took is the answer.
+fn check_write(rt: &impl Host, line: &str, most: usize, room: usize, full: Full) -> Vec<u8> {
+    let mut output = writer(rt.alloc(), most, room, full);
+    let mut errors = Vec::new(rt.alloc());
+    let status = status_on(
+        rt,
+        rt.alloc(),
+        line,
+        View::Plain,
+        &mut b"".as_slice(),
+        &mut output,
+        &mut errors,
+    );
+    let is_told = errors.as_slice().starts_with(b"DISK standard output: ");
+    drop(errors);
+    let taken = output.taken;
+    assert_eq!(rt; (is_told, status, taken.len()), (true, 3, room));
+    taken
+}
+
+/// What a run for an empty source writes if its output takes `room` bytes.
+fn check_room(rt: &impl Host, most: usize, room: usize, full: Full) {
+    let line = b"REFUSED 0 Empty\n".as_slice();
+    let taken = check_write(rt, "koth asm", most, room, full);
+    let is_begun = line.get(..room) == Some(taken.as_slice());
+    drop(taken);
+    assert!(rt; is_begun, "{room}");
+}
+
+/// The same in each way in which an output is full.
+fn check_full(rt: &impl Host, room: usize) {
+    for full in &FULL {
+        check_room(rt, usize::MAX, room, *full);
+        check_room(rt, 1, room, *full);
+    }
+}
+
+/// At each byte of the line that is due, and in the first line of the help.
+#[test]
+fn a_write_that_fails(rt: HostRuntime) {
+    for room in 0..b"REFUSED 0 Empty\n".len() {
+        check_full(&rt, room);
+        check_write(&rt, "koth --help", usize::MAX, room, FULL[0]);
+    }
+}
+
+/// A head, `count` times a line, and a tail.
+fn text_of(
+    rt: &(impl Abort + AllocGlobal),
+    head: &str,
+    line: &str,
+    count: usize,
+    tail: &str,
+) -> String {
+    let mut text = String::from_str(rt.alloc(), head).expect(rt, "there is memory");
+    for _ in 0..count {
+        text.push_str(line).expect(rt, "there is memory");
+    }
+    text.push_str(tail).expect(rt, "there is memory");
+    text
+}
+
+/// A source of `count` lines `DAT 0`, under settings that allow the longest warrior.
+fn check_lines(rt: &impl Host, count: usize, output: &str, status: u8) {
+    let line = "koth asm --length 200 --distance 200";
+    let source = text_of(rt, "", "DAT 0\n", count, "");
+    check_on(rt, line, source.as_bytes(), output, "", status);
+    drop(source);
+}
+
+/// The load text of lines `DAT 0`, up to the longest warrior that settings allow.
+#[test]
+fn the_longest_warrior(rt: HostRuntime) {
+    let text = text_of(&rt, "ORG 0\n", "DAT.F  $     0, $     0\n", 200, "END\n");
+    check_lines(&rt, 200, text.as_str(), 0);
+    check_lines(&rt, 201, "REFUSED 0 TooLong\n", 1);
+    drop(text);
+}
+
+#[test]
+fn signals_end_no_command(rt: HostRuntime) {
+    let mut input = one_by_one(b"");
+    let mut output = one_by_one(b"");
+    let status = status_on(
+        &rt,
+        rt.alloc(),
+        "koth asm",
+        View::Plain,
+        &mut input,
+        &mut output,
+        &mut Vec::new(rt.alloc()),
+    );
+    assert_eq!(rt; status, 1);
+    assert_eq!(rt; output.written, "REFUSED 0 Empty\n".len());
+}

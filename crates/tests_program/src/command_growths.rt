@@ -1,0 +1,215 @@
+//! Each growth of memory of a command refused in turn: it is told or answered, and with memory the command is done then.
+
+use crate::files::{exists, expect_bytes, put_bytes, read, remove};
+use crate::program::{Host, Ran, check, run_viewed, text_in};
+use crate::steps::{Step, play, small, steps};
+use koth_server::View;
+use std::alloc::Global;
+use std::process::Abort;
+use std::rt::Files;
+use tests_fixtures::Refusing;
+
+/// The hill of two on which the next commands are run: the first warrior is on it.
+const HILL: &str = "growths.hill";
+
+/// The second, in a file.
+const SOURCE: &str = "growths.red";
+
+/// A hill of the old format, in a file that no command changes.
+const OLD_HILL: &str = "old_growths.hill";
+
+/// A hill that is created, or moved there.
+const CREATED: &str = "growing.hill";
+
+/// A command and its input, and what it writes and its status if it finds its memory.
+#[derive(Clone, Copy)]
+struct Command {
+    line: &'static str,
+    input: &'static str,
+    output: &'static str,
+    status: u8,
+}
+
+// Growths of a command, and then of its submission, its line and its input; what it writes, and its status.
+macro_rules! commands {
+    ($($faults:expr, $replies:expr => $line:expr, $input:expr => $output:expr, $status:expr;)*) => {
+        [$(($faults, $replies, Command { line: $line, input: $input, output: $output, status: $status })),*]
+    };
+}
+
+/// Growths of a command, and then of its submission, which is answered `MEMORY`: without one of the first that is told as a fault. Then
+/// the command.
+type Row = (u64, u64, Command);
+
+/// A source is read into a buffer and assembled by 8 growths. A hill is created by 5, the members and an arena's four, after one for
+/// the path of its file, and opened by these and the code of the one warrior. The hill of the old format that is moved to a file that is
+/// made has three warriors. Texts grow from 8 bytes to 16, 32 and 64, load text from 4.
+const COMMANDS: [Row; 8] = commands! {
+    1 + 8 + 5, 0 => "koth asm", "MOV 0, 1\n" => "ORG 0\nMOV.I  $     0, $     1\nEND\n", 0;
+    9 + 9 + 4 + 1, 0 => "koth fight growths.red growths.red --core=64 --cycles=100 --processes=8 --length=10 --distance=10 --rounds=2", ""
+        => "0 0 2\n", 0;
+    1 + 5, 0 => small!("koth create growing.hill"), "" => "CREATED\n", 0;
+    6 + 1 + 3, 0 => "koth show growths.hill", "" => "1 1 0 0 Unnamed by Anonymous\n.\n", 0;
+    6 + 1 + 3 + 1 + 2 + 1, 0 => "koth show growths.hill --matches", "" => "1 1 0 0 Unnamed by Anonymous\n.\n    1\n 1  -\n", 0;
+    6, 0 => "koth audit growths.hill", "" => "true\n", 0;
+    1 + 5 + 3, 0 => "koth migrate old_growths.hill growing.hill", "" => "MIGRATED\n", 0;
+    6 + 1, 8 => "koth submit growths.hill growths.red", "" => "PLACED 2 2 2\n", 0;
+};
+
+/// The files as the commands find them: the hill has these bytes, and the other one is not there.
+fn put_files(rt: &(impl Abort + Files), hill: &[u8]) {
+    put_bytes(rt, HILL, hill);
+    if exists(rt, CREATED) {
+        remove(rt, CREATED);
+    }
+}
+
+/// Nothing became of a command that found no memory: the hill has these bytes, and none was created.
+fn expect_files(rt: &impl Host, hill: &[u8]) {
+    expect_bytes(rt, HILL, hill);
+    if exists(rt, CREATED) {
+        check(rt, "koth show growing.hill", "", "NotAHill\n", 1);
+    }
+}
+
+/// The run of a command of which growth `k` is refused, and how many were refused.
+fn run_without(
+    rt: &impl Host,
+    memory: &Refusing<Global>,
+    k: u64,
+    line: &str,
+    input: &str,
+) -> (Ran, u64) {
+    memory.refuse(k, 1);
+    let mut left = input.as_bytes();
+    let ran = run_viewed(rt, memory, line, View::Plain, &mut left);
+    (ran, memory.refused())
+}
+
+/// A command, of which growth `k` is refused, writes what is due on its output and this on its errors and leaves with its status. How many
+/// were refused is the answer.
+fn check_run(
+    rt: &impl Host,
+    memory: &Refusing<Global>,
+    k: u64,
+    command: &Command,
+    errors: &str,
+) -> u64 {
+    let (ran, refused) = run_without(rt, memory, k, command.line, command.input);
+    expect_command(rt, &ran, k, command, errors);
+    refused
+}
+
+/// A run was that of this command, and told this.
+fn expect_command(rt: &impl Abort, ran: &Ran, k: u64, command: &Command, errors: &str) {
+    let output = text_in(&ran.output);
+    assert_eq!(rt; output, command.output, "{} at growth {k}", command.line);
+    assert_eq!(rt; ran.errors.is_empty(), errors.is_empty());
+    assert!(rt; ran.errors.as_slice().starts_with(errors.as_bytes()));
+    assert_eq!(rt; ran.status, command.status);
+}
+
+/// A command, of which growth `k` is refused, writes the one line `MEMORY` and leaves everything as it was. With memory it is done then.
+fn check_refused(
+    rt: &impl Host,
+    memory: &Refusing<Global>,
+    hill: &[u8],
+    k: u64,
+    command: &Command,
+    is_reply: bool,
+) {
+    let (output, errors) = if is_reply {
+        ("MEMORY\n", "")
+    } else {
+        ("", "MEMORY")
+    };
+    let refused = Command {
+        line: command.line,
+        input: command.input,
+        output,
+        status: 4,
+    };
+    put_files(rt, hill);
+    assert_eq!(rt; check_run(rt, memory, k, &refused, errors), 1);
+    expect_files(rt, hill);
+    assert_eq!(rt; check_run(rt, memory, u64::MAX, command, ""), 0);
+}
+
+/// Each growth of a command is refused in turn: `faults` of them as faults, and then `replies` as replies.
+fn check_command(
+    rt: &impl Host,
+    memory: &Refusing<Global>,
+    hill: &[u8],
+    faults: u64,
+    replies: u64,
+    command: &Command,
+) {
+    let growths = faults.saturating_add(replies);
+    for k in 0..growths {
+        check_refused(rt, memory, hill, k, command, k >= faults);
+    }
+    put_files(rt, hill);
+    assert_eq!(rt;
+        check_run(rt, memory, growths, command, ""),
+        0,
+        "it makes {growths}"
+    );
+}
+
+/// The hill with its first warrior, the source of the second, and the hill of the old format.
+const HILLS: [Step; 5] = steps! {
+    Run(small!("koth create growths.hill"), "CREATED\n", "", 0);
+    Put(SOURCE, "MOV 0,1\n");
+    Run("koth submit growths.hill growths.red", "PLACED 1 1 0\n", "", 0);
+    Put(SOURCE, "JMP 0\n");
+    PutOldHill(OLD_HILL);
+};
+
+/// Each of these commands, on a hill of these bytes.
+fn check_commands(rt: &impl Host, hill: &[u8], rows: &[Row]) {
+    let memory = Refusing::new(rt.alloc());
+    for (faults, replies, command) in rows {
+        check_command(rt, &memory, hill, *faults, *replies, command);
+    }
+}
+
+/// The words are parsed on the program's heap, which refuses nothing here.
+#[test]
+fn of_commands(rt: HostRuntime) {
+    play(&rt, &HILLS);
+    let hill = read(&rt, HILL);
+    check_commands(&rt, hill.as_slice(), &COMMANDS);
+    put_files(&rt, hill.as_slice());
+    remove(&rt, HILL);
+    remove(&rt, OLD_HILL);
+    remove(&rt, SOURCE);
+}
+
+/// An explanation, of which growth `k` is refused: the refusal is answered all the same. Whether it took no more growths is the answer.
+fn is_explained(rt: &impl Host, memory: &Refusing<Global>, k: u64) -> bool {
+    let input = "MOV 0, 1\nMVO 0, 1\n";
+    let (ran, refused) = run_without(rt, memory, k, "koth asm", input);
+    let has_memory = ran.status != 4;
+    if has_memory {
+        expect_explained(rt, &ran, refused);
+    }
+    has_memory && refused == 0
+}
+
+/// A run answered the refusal, and explained it if no growth was refused.
+fn expect_explained(rt: &impl Abort, ran: &Ran, refused: u64) {
+    assert_eq!(rt; text_in(&ran.output), "REFUSED 2 BadOperation\n");
+    assert_eq!(rt; ran.status, 1);
+    assert!(rt; refused > 0 || ran.errors.len() > 0);
+}
+
+/// Each growth of an explanation is refused in turn.
+#[test]
+fn of_an_explanation(rt: HostRuntime) {
+    let memory = Refusing::new(rt.alloc());
+    let mut explained = false;
+    for k in 1..1000 {
+        explained = explained || is_explained(&rt, &memory, k);
+    }
+    assert!(rt; explained, "it makes a thousand growths");
+}

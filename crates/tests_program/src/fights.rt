@@ -1,0 +1,127 @@
+use crate::files::{put, remove};
+use crate::program::{Host, Ran, expect_done, run_line, text_in};
+use crate::steps::{Step, play, steps};
+use koth_server::View;
+use std::process::Abort;
+
+/// These words with small settings, and then others.
+macro_rules! small {
+    ($words:literal) => {
+        small!($words, "")
+    };
+    ($words:literal, $behind:literal) => {
+        concat!(
+            $words,
+            " --core=64 --cycles=100 --processes=8 --length=10 --distance=10 --rounds=2 --seed=1 --capacity=2",
+            $behind
+        )
+    };
+}
+
+/// A fight of two files under small settings.
+const FIGHT: &str = small!("koth fight older.red younger.red");
+
+/// What is done in `fights`.
+const FIGHTS: [Step; 14] = steps! {
+    Put("older.red", "DAT 0,0\n");
+    Put("younger.red", "DAT 0,0\n");
+    Run(FIGHT, "1 1 0\n", "", 0);
+    Put("older.red", "MOV 0,1\n");
+    Put("younger.red", "JMP 0\n");
+    Run(FIGHT, "0 0 2\n", "", 0);
+    Put("older.red", "JMP 0\n");
+    Put("younger.red", "DAT 0,0\n");
+    Run(FIGHT, "2 0 0\n", "", 0);
+    Put("older.red", "DAT 0,0\n");
+    Put("younger.red", "JMP 0\n");
+    Run(FIGHT, "0 2 0\n", "", 0);
+    Remove("older.red");
+    Remove("younger.red");
+};
+
+#[test]
+fn fights(rt: HostRuntime) {
+    play(&rt, &FIGHTS);
+}
+
+/// What is done in `a_fight_under_limits`: how a fight of an imp and a warrior that stays goes.
+const A_FIGHT_UNDER_LIMITS: [Step; 6] = steps! {
+    Put("imp.red", "MOV 0,1\n");
+    Put("stays.red", "JMP 0\n");
+    Run(small!("koth fight imp.red stays.red", " --read-limit=8 --write-limit=1"), "0 2 0\n", "", 0);
+    Run(small!("koth fight imp.red stays.red", " --read-limit=1 --write-limit=2"), "0 0 2\n", "", 0);
+    Remove("imp.red");
+    Remove("stays.red");
+};
+
+/// Within one cell an imp copies itself onto itself, and dies.
+#[test]
+fn a_fight_under_limits(rt: HostRuntime) {
+    play(&rt, &A_FIGHT_UNDER_LIMITS);
+}
+
+/// What is done in `the_older_source_is_refused_first`. In the second fight there is no younger one.
+const THE_OLDER_SOURCE_IS_REFUSED_FIRST: [Step; 11] = steps! {
+    Put("older.red", "");
+    Put("younger.red", "JMP\n");
+    Run(FIGHT, "REFUSED 0 Empty\n", "", 1);
+    Put("older.red", "DAT 0\nJMP\n");
+    Remove("younger.red");
+    Run(FIGHT, "REFUSED 2 MissingOperand\n", "", 1);
+    Put("older.red", "DAT 0\n");
+    Put("younger.red", "JMP\n");
+    Run(FIGHT, "REFUSED 1 MissingOperand\n", "", 1);
+    Remove("older.red");
+    Remove("younger.red");
+};
+
+#[test]
+fn the_older_source_is_refused_first(rt: HostRuntime) {
+    play(&rt, &THE_OLDER_SOURCE_IS_REFUSED_FIRST);
+}
+
+/// A fight of which a file is missing.
+fn check_missing(rt: &impl Host) {
+    let ran = run_line(rt, small!("koth fight first.red second.red"));
+    expect_missing(rt, &ran);
+}
+
+/// A run told that a source is missing, and wrote nothing.
+fn expect_missing(rt: &impl Abort, ran: &Ran) {
+    assert_eq!(rt; ran.output.len(), 0);
+    let errors = ran.errors.as_slice();
+    assert!(rt; errors.starts_with(b"DISK "));
+    assert!(rt; errors.ends_with(b".red: no such file or folder\n"));
+    assert_eq!(rt; ran.status, 3);
+}
+
+/// The older one is missing, the younger, and both.
+#[test]
+fn files_that_are_not_there(rt: HostRuntime) {
+    put(&rt, "second.red", "JMP\n");
+    check_missing(&rt);
+    remove(&rt, "second.red");
+    put(&rt, "first.red", "DAT 0\n");
+    check_missing(&rt);
+    remove(&rt, "first.red");
+    check_missing(&rt);
+}
+
+/// What is done last in `a_round_is_shown`.
+const THIRD: [Step; 2] = steps! {
+    Tell(small!("koth replay watched.red watched.red --round=3"), View::Plain, "",
+        "BadSettings Rounds: --round is 3, and must be 1 to --rounds 2\n", 1);
+    Remove("watched.red");
+};
+
+#[test]
+fn a_round_is_shown(rt: HostRuntime) {
+    put(&rt, "watched.red", ";name Watched\nMOV 0, 1\n");
+    let second = small!("koth replay watched.red watched.red --round=2");
+    let ran = run_line(&rt, second);
+    let page = text_in(&ran.output);
+    assert!(rt; page.starts_with("<!DOCTYPE html>"));
+    assert!(rt; page.contains("Watched"));
+    expect_done(&rt, &ran);
+    play(&rt, &THIRD);
+}

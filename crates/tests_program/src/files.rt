@@ -1,0 +1,72 @@
+//! The files of the tests. A call that is to be done and isn't ends the test at once.
+
+use std::fs;
+use std::process::Abort;
+use std::rt::Files;
+
+/// Writes a text into a file.
+pub(crate) fn put(rt: &(impl Abort + Files), file: &str, text: &str) {
+    put_bytes(rt, file, text.as_bytes());
+}
+
+/// Writes these bytes into a file.
+pub(crate) fn put_bytes(rt: &(impl Abort + Files), file: &str, bytes: &[u8]) {
+    fs::write(rt, file, bytes).expect(rt, "it is written");
+}
+
+/// Writes the hill of the old format into a file.
+pub(crate) fn put_old_hill(rt: &(impl Abort + Files), file: &str) {
+    put_bytes(rt, file, &tests_fixtures::earlier_hill::bytes());
+}
+
+/// Removes a file.
+pub(crate) fn remove(rt: &(impl Abort + Files), file: &str) {
+    fs::remove_file(rt, file).expect(rt, "it is removed");
+}
+
+/// The bytes of a file.
+pub(crate) fn read(rt: &(impl Abort + Files + AllocGlobal), file: &str) -> Vec<u8> {
+    fs::read(rt, file).expect(rt, "it is read")
+}
+
+/// A file has these bytes.
+pub(crate) fn expect_bytes(rt: &(impl Abort + Files + AllocGlobal), file: &str, bytes: &[u8]) {
+    assert_eq!(rt; read(rt, file).as_slice(), bytes);
+}
+
+/// A file has the bytes of the hill of the old format.
+pub(crate) fn expect_old_hill(rt: &(impl Abort + Files + AllocGlobal), file: &str) {
+    expect_bytes(rt, file, &tests_fixtures::earlier_hill::bytes());
+}
+
+/// A file has `length` bytes.
+pub(crate) fn expect_length(rt: &(impl Abort + Files), file: &str, length: u64) {
+    assert_eq!(rt;
+        fs::metadata(rt, file).expect(rt, "it is there").len(),
+        length
+    );
+}
+
+/// Whether a file is there.
+pub(crate) fn exists(rt: &(impl Abort + Files), file: &str) -> bool {
+    fs::exists(rt, file).expect(rt, "it can be told")
+}
+
+/// Puts another result into the file of a hill, in the last sector of the younger warrior's slot: the rounds that the older won, and
+/// the younger.
+pub(crate) fn put_result(
+    rt: &(impl Abort + Files + AllocGlobal),
+    file: &str,
+    older: u8,
+    younger: u8,
+) {
+    let mut bytes = read(rt, file);
+    put_byte(rt, bytes.as_mut_slice(), 9 * 512 + 389, older);
+    put_byte(rt, bytes.as_mut_slice(), 9 * 512 + 391, younger);
+    put_bytes(rt, file, bytes.as_slice());
+}
+
+/// Puts another byte in the place of this one.
+fn put_byte(rt: &impl Abort, bytes: &mut [u8], at: usize, byte: u8) {
+    *bytes.get_mut(at).expect(rt, "the slot") = byte;
+}

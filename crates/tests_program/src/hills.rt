@@ -1,0 +1,125 @@
+use crate::files::{put_bytes, remove};
+use crate::program::{Host, check, expect_done, run_line, text_in};
+use crate::steps::{Step, check_no_hill, play, small, steps};
+use std::net::{Ipv4Addr, SocketAddr, TcpListener};
+
+/// What is done in `a_hill_is_created_once`.
+const A_HILL_IS_CREATED_ONCE: [Step; 5] = steps! {
+    Run(small!("koth create created.hill"), "CREATED\n", "", 0);
+    Length("created.hill", 14 * 512);
+    Run("koth show created.hill", ".\n", "", 0);
+    Run(small!("koth create created.hill"), "", "Occupied\n", 1);
+    Remove("created.hill");
+};
+
+#[test]
+fn a_hill_is_created_once(rt: HostRuntime) {
+    play(&rt, &A_HILL_IS_CREATED_ONCE);
+}
+
+/// What is done in `a_hill_that_cannot_be_created`.
+const A_HILL_THAT_CANNOT_BE_CREATED: [Step; 2] = steps! {
+    Run(small!("koth create ."), "", "DISK\n", 3);
+    Run(small!("koth create no_such_folder/new.hill"), "", "DISK\n", 3);
+};
+
+#[test]
+fn a_hill_that_cannot_be_created(rt: HostRuntime) {
+    play(&rt, &A_HILL_THAT_CANNOT_BE_CREATED);
+}
+
+/// Submits what is in the file of sources.
+const SUBMIT: &str = "koth submit submitted.hill submitted.red";
+
+/// What is done in `warriors_are_submitted`.
+const WARRIORS_ARE_SUBMITTED: [Step; 14] = steps! {
+    Run(small!("koth create submitted.hill"), "CREATED\n", "", 0);
+    Put("submitted.red", ";name Imp\nMOV 0,1\n");
+    Run(SUBMIT, "PLACED 1 1 0\n", "", 0);
+    Put("submitted.red", "JMP 0\n");
+    Run(SUBMIT, "PLACED 2 2 2\n", "", 0);
+    Put("submitted.red", "DAT 0,0\n");
+    Run(SUBMIT, "FELL 3 0\n", "", 0);
+    Put("submitted.red", "");
+    Run(SUBMIT, "REFUSED 0 Empty\n", "", 1);
+    Put("submitted.red", "JMP\n");
+    Run(SUBMIT, "REFUSED 1 MissingOperand\n", "", 1);
+    Run("koth show submitted.hill", "1 1 2 1 Imp by Anonymous\n2 2 2 0 Unnamed by Anonymous\n.\n", "", 0);
+    Remove("submitted.red");
+    Remove("submitted.hill");
+};
+
+#[test]
+fn warriors_are_submitted(rt: HostRuntime) {
+    play(&rt, &WARRIORS_ARE_SUBMITTED);
+}
+
+/// What is done in `sources_that_cannot_be_read`.
+const SOURCES_THAT_CANNOT_BE_READ: [Step; 5] = steps! {
+    Run(small!("koth create unread.hill"), "CREATED\n", "", 0);
+    Run("koth submit unread.hill no_such_file", "", "DISK\n", 3);
+    Run("koth submit unread.hill .", "", "DISK\n", 3);
+    Run("koth show unread.hill", ".\n", "", 0);
+    Remove("unread.hill");
+};
+
+#[test]
+fn sources_that_cannot_be_read(rt: HostRuntime) {
+    play(&rt, &SOURCES_THAT_CANNOT_BE_READ);
+}
+
+/// What is done first in `files_that_are_no_hills`.
+const NO_FILES: [Step; 2] = steps! {
+    NoHill("no_such_file", "DISK\n", 3);
+    NoHill(".", "DISK\n", 3);
+};
+
+#[test]
+fn files_that_are_no_hills(rt: HostRuntime) {
+    play(&rt, &NO_FILES);
+    let zeros = [0; 1024];
+    put_bytes(&rt, "no.hill", &zeros[..512]);
+    check_no_hill(&rt, "no.hill", "TooSmall\n", 1);
+    put_bytes(&rt, "no.hill", &zeros);
+    check_no_hill(&rt, "no.hill", "NotAHill\n", 1);
+    remove(&rt, "no.hill");
+}
+
+/// The port that a line names, if it names one.
+fn port_in(line: &str) -> Option<u16> {
+    let port = line.strip_prefix("LISTENING ")?.strip_suffix('\n')?;
+    port.parse::<u16>().ok()
+}
+
+#[test]
+fn the_port_is_told(rt: HostRuntime) {
+    let create = small!("koth create told.hill");
+    check(&rt, create, "CREATED\n", "", 0);
+    let ran = run_line(&rt, "koth serve told.hill --port=0 --connections=0");
+    let line = text_in(&ran.output);
+    assert!(rt; port_in(line).unwrap_or(0) > 0, "{line}");
+    expect_done(&rt, &ran);
+    remove(&rt, "told.hill");
+}
+
+/// A service on this port, which is in use.
+fn check_port(rt: &impl Host, port: u16) {
+    let line = format!(in rt.alloc();
+        "koth serve in_use.hill --connections=1 --port {port}"
+    ).expect(rt, "there is memory");
+    check(rt, line.as_str(), "", "DISK\n", 3);
+}
+
+#[test]
+fn a_port_in_use(rt: HostRuntime) {
+    let create = small!("koth create in_use.hill");
+    check(&rt, create, "CREATED\n", "", 0);
+    let here = SocketAddr::from((Ipv4Addr::LOCALHOST, 0));
+    let listener = TcpListener::bind(&rt, here).expect(&rt, "it is bound");
+    let port = listener
+        .local_addr()
+        .expect(&rt, "it has an address")
+        .port();
+    check_port(&rt, port);
+    remove(&rt, "in_use.hill");
+}

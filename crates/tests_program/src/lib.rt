@@ -1,0 +1,41 @@
+//! Tests of the public calls of `koth_server`: of what no clause of them says.
+//!
+//! No crate stands on this one, so a check of the crates above waits for none of these tests. The helpers come first. `program` runs the
+//! program on words and an input, and `files` has the files of the tests, by functions without clauses, so that the proof of a test carries
+//! none of a call's along. `steps` goes through a table of both, which is most of what a test here does. Then a module a subject:
+//!
+//! - `words`: which words are faults, ask for help, or give settings;
+//! - `assembling`, `fights` and `hills`: what the commands write, how they end, and what they do to files;
+//! - `audits`: the results that a hill keeps, shown, audited, and changed in its file;
+//! - `pages`: the page of a hill;
+//! - `migrations`: a hill of the old format, which `tests_fixtures` has, and how it is moved to the new one;
+//! - `command_growths`: commands with each growth of memory refused in turn;
+//! - `told`: what people are told of each likely mistake, and output in columns.
+//!
+//! What a contract says is proved there and not tried here.
+#![tactic(auto)]
+
+#[cfg(test)]
+mod assembling;
+#[cfg(test)]
+mod audits;
+#[cfg(test)]
+mod command_growths;
+#[cfg(test)]
+mod fights;
+#[cfg(test)]
+mod files;
+#[cfg(test)]
+mod hills;
+#[cfg(test)]
+mod migrations;
+#[cfg(test)]
+mod pages;
+#[cfg(test)]
+mod program;
+#[cfg(test)]
+mod steps;
+#[cfg(test)]
+mod told;
+#[cfg(test)]
+mod words;

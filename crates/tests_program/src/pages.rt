@@ -1,0 +1,31 @@
+use crate::steps::{Step, play, steps};
+
+/// What is done in `the_page_of_a_hill`.
+const THE_PAGE_OF_A_HILL: [Step; 8] = steps! {
+    Run("koth create paged.hill --rounds=2 --capacity=2", "CREATED\n", "", 0);
+    Page("koth page paged.hill", "<p>No warrior stands on this hill yet.</p>\n");
+    Put("paged.red", ";name <i>Imp\n;author \"A\" & B\nMOV 0, 1\n");
+    Run("koth submit paged.hill paged.red", "PLACED 1 1 0\n", "", 0);
+    Page("koth page paged.hill", "&lt;i&gt;Imp");
+    Page("koth page paged.hill", "&quot;A&quot; &amp; B");
+    Remove("paged.hill");
+    Remove("paged.red");
+};
+
+#[test]
+fn the_page_of_a_hill(rt: HostRuntime) {
+    play(&rt, &THE_PAGE_OF_A_HILL);
+}
+
+/// What is done in `a_page_of_no_hill`.
+const A_PAGE_OF_NO_HILL: [Step; 4] = steps! {
+    Run("koth page nothing.hill", "", "DISK\n", 3);
+    Put("page_of.red", "MOV 0, 1\n");
+    Run("koth page page_of.red", "", "TooSmall\n", 1);
+    Remove("page_of.red");
+};
+
+#[test]
+fn a_page_of_no_hill(rt: HostRuntime) {
+    play(&rt, &A_PAGE_OF_NO_HILL);
+}

@@ -1,0 +1,127 @@
+//! What tests do, step by step. A test of which each step is known beforehand is a table of them.
+
+use crate::files::{
+    exists, expect_bytes, expect_length, expect_old_hill, put, put_old_hill, put_result, remove,
+};
+use crate::program::{Host, check, check_told, expect_done, run_line, text_in};
+use crate::words::{check_fault, check_help, check_options};
+use koth_server::View;
+use std::process::Abort;
+
+/// What is done to a file or looked at in it, or a command that is tried.
+#[derive(Clone, Copy)]
+pub(crate) enum Step {
+    /// A text is written into a file.
+    Put(&'static str, &'static str),
+    /// The hill of the old format is written into a file.
+    PutOldHill(&'static str),
+    /// Another result is put into the file of a hill: the rounds that the older won, and the younger.
+    PutResult(&'static str, u8, u8),
+    /// A file is removed.
+    Remove(&'static str),
+    /// A file has this text.
+    Text(&'static str, &'static str),
+    /// A file has the bytes of the hill of the old format.
+    OldHill(&'static str),
+    /// A file has this length.
+    Length(&'static str, u64),
+    /// A file is not there.
+    Missing(&'static str),
+    /// Words, what they write, the word that they tell, and their status, as `check` has them.
+    Run(&'static str, &'static str, &'static str, u8),
+    /// Words, a view, what they write, all that they tell, and their status, as `check_told` has them.
+    Tell(&'static str, View, &'static str, &'static str, u8),
+    /// Words that write a page, and a part of it.
+    Page(&'static str, &'static str),
+    /// Words that have a fault, and a part of what is told of it.
+    Fault(&'static str, &'static str),
+    /// Words that ask for help, and a part of it.
+    Help(&'static str, &'static str),
+    /// Options that are refused by each command that takes settings, and the field for which they are.
+    Refused(&'static str, &'static str),
+    /// A file without a hill, the word that commands on it tell, and their status.
+    NoHill(&'static str, &'static str, u8),
+}
+
+/// A table of steps: the kind of each with what it takes.
+macro_rules! steps {
+    ($($kind:ident($($taken:expr),*);)*) => { [$(Step::$kind($($taken),*)),*] };
+}
+
+pub(crate) use steps;
+
+/// These words with the settings of a small hill of two.
+macro_rules! small {
+    ($words:literal) => {
+        concat!(
+            $words,
+            " --core=64 --cycles=100 --processes=8 --length=10 --distance=10 --rounds=2 --capacity=2"
+        )
+    };
+}
+
+pub(crate) use small;
+
+/// Does these steps.
+pub(crate) fn play(rt: &impl Host, steps: &[Step]) {
+    for step in steps {
+        act(rt, *step);
+    }
+}
+
+/// Does a step.
+fn act(rt: &impl Host, step: Step) {
+    match step {
+        Step::Put(file, text) => put(rt, file, text),
+        Step::PutOldHill(file) => put_old_hill(rt, file),
+        Step::PutResult(file, older, younger) => put_result(rt, file, older, younger),
+        Step::Remove(file) => remove(rt, file),
+        Step::Text(file, text) => expect_bytes(rt, file, text.as_bytes()),
+        Step::OldHill(file) => expect_old_hill(rt, file),
+        Step::Length(file, length) => expect_length(rt, file, length),
+        Step::Missing(file) => {
+            assert!(rt; !exists(rt, file), "{file}");
+        }
+        Step::Run(line, output, word, status) => check(rt, line, output, word, status),
+        Step::Tell(line, view, output, errors, status) => {
+            check_told(rt, line, view, output, errors, status);
+        }
+        Step::Page(line, part) => check_page(rt, line, part),
+        Step::Fault(line, part) => check_fault(rt, line, part),
+        Step::Help(line, part) => check_help(rt, line, part),
+        Step::Refused(options, field) => check_options(rt, options, field),
+        Step::NoHill(file, word, status) => check_no_hill(rt, file, word, status),
+    }
+}
+
+/// These words write a page that has this text, and nothing but the page.
+fn check_page(rt: &impl Host, line: &str, part: &str) {
+    let ran = run_line(rt, line);
+    expect_page(rt, text_in(&ran.output), part);
+    expect_done(rt, &ran);
+    drop(ran);
+}
+
+fn expect_page(rt: &impl Abort, page: &str, part: &str) {
+    assert!(rt; page.starts_with("<!DOCTYPE html>\n"), "{page}");
+    assert!(rt; page.ends_with("</html>\n"), "{page}");
+    assert!(rt; page.contains(part), "{page}");
+}
+
+/// Each command on a file without a hill, which is tried before the source is read or the port is bound.
+pub(crate) fn check_no_hill(rt: &impl Host, file: &str, word: &str, status: u8) {
+    check_file(rt, "show", file, "", word, status);
+    check_file(rt, "submit", file, " no_such_file", word, status);
+    check_file(rt, "audit", file, "", word, status);
+    let nobody = " --port=0 --connections=0";
+    check_file(rt, "serve", file, nobody, word, status);
+}
+
+/// A command on this file, with these further words, writes nothing, reports this word and has this status.
+fn check_file(rt: &impl Host, command: &str, file: &str, behind: &str, word: &str, status: u8) {
+    let line = format!(in rt.alloc(); "koth {command} {file}{behind}").expect(
+        rt,
+        "there is memory",
+    );
+    check(rt, line.as_str(), "", word, status);
+}

@@ -1,0 +1,155 @@
+//! What people are told of each likely mistake, word for word.
+
+use crate::program::check_told;
+use crate::steps::{Step, play, small, steps};
+use koth_server::View;
+use std::fs;
+
+/// What is told of a file that is missing.
+const MISSING: &str = "DISK told_missing: no such file or folder\n";
+
+/// What is done in `files_that_fail`.
+const FILES_THAT_FAIL: [Step; 6] = steps! {
+    Tell("koth show told_missing", View::Table, "", MISSING, 3);
+    Tell("koth submit told_missing x", View::Table, "", MISSING, 3);
+    Tell("koth asm told_missing", View::Table, "", MISSING, 3);
+    Tell("koth check told_missing", View::Table, "", MISSING, 3);
+    Tell("koth fight told_missing x", View::Table, "", MISSING, 3);
+    Tell("koth create no_folder/x", View::Table, "", "DISK no_folder/x: no such file or folder\n", 3);
+};
+
+#[test]
+fn files_that_fail(rt: HostRuntime) {
+    play(&rt, &FILES_THAT_FAIL);
+}
+
+/// A text that is no hill.
+const TEXT: &str = "MOV 0, 1 ; a warrior, and no hill at all\n";
+
+/// What is done in `files_that_hold_something_else`.
+const FILES_THAT_HOLD_SOMETHING_ELSE: [Step; 9] = steps! {
+    Put("told.red", TEXT);
+    Tell("koth create told.red", View::Table, "",
+        "Occupied told.red: it isn't empty; --overwrite makes a hill of it all the same\n", 1);
+    Text("told.red", TEXT);
+    Tell("koth show told.red", View::Table, "", "TooSmall told.red: it is too short for its hill\n", 1);
+    Run("koth create told.red --overwrite --capacity 1", "CREATED\n", "", 0);
+    Run("koth show told.red", ".\n", "", 0);
+    Run("koth create told.red --overwrite --capacity 2", "CREATED\n", "", 0);
+    Length("told.red", 14 * 512);
+    Remove("told.red");
+};
+
+#[test]
+fn files_that_hold_something_else(rt: HostRuntime) {
+    play(&rt, &FILES_THAT_HOLD_SOMETHING_ELSE);
+}
+
+/// Settings out of their ranges, and what is told of them.
+const OUT_OF_RANGE: [Step; 4] = steps! {
+    Tell("koth create x --rounds 2000", View::Table, "", "BadSettings Rounds: --rounds is 2000, and must be 1 to 1000\n", 1);
+    Tell("koth create x --core 100", View::Table, "",
+        "BadSettings Distance: --distance is 100 (its default), and must be --length 100 (its default) to half of --core 100\n",
+        1);
+    Tell("koth create x --length 200", View::Table, "",
+        "BadSettings Distance: --distance is 100 (its default), and must be --length 200 to half of --core 8000 (its default)\n",
+        1);
+    Tell("koth create x --read-limit 3000", View::Table, "",
+        "BadSettings ReadLimit: --read-limit is 3000, and must be 0 or a divisor of --core 8000\n", 1);
+};
+
+#[test]
+fn settings_out_of_range(rt: HostRuntime) {
+    play(&rt, &OUT_OF_RANGE);
+}
+
+/// What is told of a source with a name that nothing has.
+const TYPO: &str =
+    "told_typo.red:2:11: UnknownName: nothing is called `strat`; did you mean `start`?\n    2 |       JMP strat\n      |           ^^^^^\n";
+
+/// What is written of it.
+const UNKNOWN: &str = "REFUSED 2 UnknownName\n";
+
+/// What is done in `refusals`.
+const REFUSALS: [Step; 9] = steps! {
+    Put("told_good.red", "MOV 0, 1\n");
+    Put("told_typo.red", "start SPL 0\n      JMP strat\n");
+    Tell("koth fight told_good.red told_typo.red", View::Table, UNKNOWN, TYPO, 1);
+    Tell("koth fight told_typo.red told_good.red", View::Table, UNKNOWN, TYPO, 1);
+    Tell("koth asm told_typo.red", View::Table, UNKNOWN, TYPO, 1);
+    Tell("koth check told_good.red told_typo.red", View::Plain, TYPO, "", 1);
+    Tell("koth check told_good.red", View::Plain, "", "", 0);
+    Remove("told_good.red");
+    Remove("told_typo.red");
+};
+
+/// A refusal names the file that it is of.
+#[test]
+fn refusals(rt: HostRuntime) {
+    play(&rt, &REFUSALS);
+}
+
+/// What is done in `columns_for_people`: a hill with one warrior, the second that is submitted, both tables, and a fight of both.
+const COLUMNS_FOR_PEOPLE: [Step; 11] = steps! {
+    Run(small!("koth create told.hill"), "CREATED\n", "", 0);
+    Put("told_dat.red", ";name Dat\nDAT 0\n");
+    Put("told_jmp.red", ";name Jmp\nJMP 0\n");
+    Run("koth submit told.hill told_dat.red", "PLACED 1 1 0\n", "", 0);
+    Tell("koth submit told.hill told_jmp.red", View::Table,
+        "PLACED 2 1 6\nJmp by Anonymous is warrior 2 of this hill: rank 1 of 2, 6 points\nwarrior  author     won  lost  tied\nDat      Anonymous    2     0     0\n",
+        "", 0);
+    Tell("koth show told.hill --table", View::Plain,
+        "rank  entry  points  won  lost  tied  age  warrior  author\n   1      2       6    2     0     0    0  Jmp      Anonymous\n   2      1       0    0     2     0    1  Dat      Anonymous\n",
+        "", 0);
+    Tell("koth show told.hill --plain", View::Table, "1 2 6 0 Jmp by Anonymous\n2 1 0 1 Dat by Anonymous\n.\n", "", 0);
+    Tell("koth fight told_dat.red told_jmp.red --core=64 --cycles=100 --processes=8 --length=10 --distance=10 --rounds=2",
+        View::Table,
+        "warrior  author     won  lost  tied\nDat      Anonymous    0     2     0\nJmp      Anonymous    2     0     0\n", "", 0);
+    Remove("told.hill");
+    Remove("told_dat.red");
+    Remove("told_jmp.red");
+};
+
+#[test]
+fn columns_for_people(rt: HostRuntime) {
+    play(&rt, &COLUMNS_FOR_PEOPLE);
+}
+
+/// A hill is made.
+const MADE: [Step; 1] = steps! {
+    Run("koth create told_lock.hill --capacity 1", "CREATED\n", "", 0);
+};
+
+/// What is told of a hill that another program uses.
+const IN_USE: &str = "DISK told_lock.hill: another program uses it\n";
+
+/// What is done while it is used.
+const USED: [Step; 5] = steps! {
+    Tell("koth audit told_lock.hill", View::Table, "", IN_USE, 3);
+    Tell("koth submit told_lock.hill x", View::Table, "", IN_USE, 3);
+    Tell("koth create told_lock.hill --overwrite", View::Table, "", IN_USE, 3);
+    Tell("koth serve told_lock.hill --port 0", View::Table, "", IN_USE, 3);
+    Run("koth show told_lock.hill", ".\n", "", 0);
+};
+
+/// What is done after that.
+const FREE: [Step; 2] = steps! {
+    Run("koth audit told_lock.hill", "true\n", "", 0);
+    Remove("told_lock.hill");
+};
+
+/// Two programs don't work on one hill, but it can be shown.
+#[test]
+fn a_hill_that_is_worked_on(rt: HostRuntime) {
+    play(&rt, &MADE);
+    let held = fs::open(&rt, "told_lock.hill").expect(&rt, "it is opened");
+    assert!(rt; held.try_lock().is_ok());
+    play(&rt, &USED);
+    drop(held);
+    play(&rt, &FREE);
+}
+
+#[test]
+fn the_version(rt: HostRuntime) {
+    check_told(&rt, "koth --version", View::Plain, "koth 1.0.0\n", "", 0);
+}

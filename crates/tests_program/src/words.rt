@@ -1,0 +1,172 @@
+use crate::program::{Host, Ran, check_on, expect_done, run_line, run_on, text_in};
+use crate::steps::{Step, play, steps};
+use std::process::Abort;
+
+/// Words that have a fault: its message is written to standard error, and nothing is read.
+pub(crate) fn check_fault(rt: &impl Host, line: &str, part: &str) {
+    let mut input = b"MOV 0, 1\n".as_slice();
+    let ran = run_on(rt, line, &mut input);
+    expect_fault(rt, &ran, part);
+    drop(ran);
+    assert_eq!(rt; input.len(), 9);
+}
+
+/// A run reported a fault of its words by a message that has this part, and wrote nothing.
+fn expect_fault(rt: &impl Abort, ran: &Ran, part: &str) {
+    let message = text_in(&ran.errors);
+    assert!(rt; message.contains(part), "{message}");
+    assert!(rt; message.ends_with('\n'), "{message}");
+    assert_eq!(rt; ran.output.len(), 0);
+    assert_eq!(rt; ran.status, 2, "{message}");
+}
+
+/// Words with a fault, and a part of what is told of it.
+const FAULTS: [Step; 39] = steps! {
+    Fault("koth", "requires a subcommand");
+    Fault("koth fly", "unrecognized subcommand 'fly'");
+    Fault("koth ASM", "unrecognized subcommand 'ASM'");
+    Fault("koth asm a extra", "unexpected argument 'extra'");
+    Fault("koth check", "<FILE>");
+    Fault("koth check a --format xml", "takes 'text' or 'json'");
+    Fault("koth show f --plain --table", "--table");
+    Fault("koth asm --size 64", "unexpected argument '--size'");
+    Fault("koth asm --core", "a value is required for");
+    Fault("koth asm --core x", "invalid value 'x'");
+    Fault("koth asm --core=", "--core");
+    Fault("koth asm --core=-1", "invalid value '-1'");
+    Fault("koth fight a b --seed 4294967296", "invalid value '4294967296'");
+    Fault("koth asm --core 64 --core 64", "cannot be used multiple times");
+    Fault("koth fight a", "<B>");
+    Fault("koth fight a b c", "unexpected argument 'c'");
+    Fault("koth create", "<FILE>");
+    Fault("koth submit f", "<SOURCE>");
+    Fault("koth show f g", "unexpected argument 'g'");
+    Fault("koth show f --matches=true", "unexpected value 'true' for '--matches'");
+    Fault("koth audit", "<FILE>");
+    Fault("koth serve f --connections 0", "--port <NUMBER>");
+    Fault("koth serve f --port=65536 --connections=0", "invalid value '65536'");
+    Fault("koth audit f --matches", "unexpected argument '--matches'");
+    Fault("koth migrate f", "<NEW>");
+    Fault("koth page", "<FILE>");
+    Fault("koth migrate f g h", "unexpected argument 'h'");
+    Fault("koth serve f --port 0 --peers 0", "0 is not in 1..=1024");
+    Fault("koth serve f --port 0 --peers 1025", "1025 is not in 1..=1024");
+    Fault("koth serve f --port 0 --peers x", "invalid value 'x'");
+    Fault("koth serve f --port 0 --http 65536", "65536 is not in 0..=65535");
+    Fault("koth serve f --port 0 --listen here", "'--listen <ADDRESS>' takes an IPv4 or IPv6 address");
+    Fault("koth serve f --port 0 --listen 0.0.0.0:80", "without a port");
+    Fault("koth serve f --port 0 --listen", "a value is required for '--listen <ADDRESS>'");
+    Fault("koth replay a", "<B>");
+    Fault("koth replay a b --round 0", "0 is not in 1..=1000");
+    Fault("koth replay a b --round 1001", "1001 is not in 1..=1000");
+    Fault("koth replay a b --plain", "unexpected argument '--plain'");
+    Fault("koth fight a b --round 1", "unexpected argument '--round'");
+};
+
+#[test]
+fn faults_of_the_words(rt: HostRuntime) {
+    play(&rt, &FAULTS);
+}
+
+/// Words that ask for help: it is written on the output.
+pub(crate) fn check_help(rt: &impl Host, line: &str, part: &str) {
+    let ran = run_line(rt, line);
+    expect_part(rt, text_in(&ran.output), part);
+    expect_done(rt, &ran);
+    drop(ran);
+}
+
+fn expect_part(rt: &impl Abort, text: &str, part: &str) {
+    assert!(rt; text.contains(part), "{text}");
+}
+
+/// Words that ask for help, and a part of it.
+const HELPS: [Step; 23] = steps! {
+    Help("koth --help", "Usage: koth <COMMAND>");
+    Help("koth -h", "Usage: koth <COMMAND>");
+    Help("koth help", "Usage: koth <COMMAND>");
+    Help("koth asm --help", "Usage: koth asm");
+    Help("koth help asm", "Usage: koth asm");
+    Help("koth fight -h", "Usage: koth fight");
+    Help("koth fight --help", "1 to 1000000 [default: 80000]");
+    Help("koth create --help", "FILE");
+    Help("koth create --help", "--write-limit");
+    Help("koth submit --help", "<FILE> <SOURCE>");
+    Help("koth help show", "Usage: koth show [OPTIONS] <FILE>");
+    Help("koth show -h", "--matches");
+    Help("koth audit --help", "Usage: koth audit <FILE>");
+    Help("koth migrate --help", "Usage: koth migrate <FILE> <NEW>");
+    Help("koth asm --help", "1 to 200 [default: 100]");
+    Help("koth serve --help", "0 to 65535");
+    Help("koth serve --help", "1 to 1024");
+    Help("koth serve -h", "--listen <ADDRESS>");
+    Help("koth help serve", "--peers <NUMBER>");
+    Help("koth help serve", "--http <NUMBER>");
+    Help("koth replay --help", "Usage: koth replay [OPTIONS] <A> <B>");
+    Help("koth replay -h", "--round <NUMBER>");
+    Help("koth replay --help", "1 to 1000000 [default: 80000]");
+};
+
+#[test]
+fn help_is_written_to_the_output(rt: HostRuntime) {
+    play(&rt, &HELPS);
+}
+
+#[test]
+fn options_give_settings(rt: HostRuntime) {
+    let text = "ORG 0\nDAT.F  $     0, $    -1\nEND\n";
+    let small = "koth asm --core 64 --length 10 --distance=10";
+    check_on(&rt, small, b"DAT 0, 63\n", text, "", 0);
+    check_on(&rt, "koth asm --core=+256", b"DAT 0, 255\n", text, "", 0);
+    let short = "koth asm --length 1";
+    check_on(&rt, short, b"DAT 0\nDAT 0\n", "REFUSED 0 TooLong\n", "", 1);
+}
+
+/// Options that give settings out of their ranges, and the first such field. No file is made.
+const OUT_OF_RANGE: [Step; 15] = steps! {
+    Refused("--core 63 --cycles 0", "Core");
+    Refused("--core 4294967295", "Core");
+    Refused("--cycles 0", "Cycles");
+    Refused("--processes 65536", "Processes");
+    Refused("--length 201 --distance 201", "Length");
+    Refused("--length 200", "Distance");
+    Refused("--distance 99", "Distance");
+    Refused("--core 64", "Distance");
+    Refused("--rounds 1001", "Rounds");
+    Refused("--seed 0", "Seed");
+    Refused("--capacity 21", "Capacity");
+    Refused("--read-limit 3 --write-limit 3", "ReadLimit");
+    Refused("--read-limit 16000", "ReadLimit");
+    Refused("--core 200 --read-limit 8 --write-limit 16", "WriteLimit");
+    Missing("no_such_file");
+};
+
+/// The commands that take settings.
+const COMMANDS: [&str; 4] = [
+    "asm",
+    "fight no_such_file no_such_file",
+    "replay no_such_file no_such_file",
+    "create no_such_file",
+];
+
+/// A command with these options reports this, before anything is read.
+fn check_refused(rt: &impl Host, command: &str, options: &str, told: &str) {
+    let line = format!(in rt.alloc(); "koth {command} {options}").expect(rt, "there is memory");
+    let left = check_on(rt, line.as_str(), b"MOV 0, 1\n", "", told, 1);
+    drop(line);
+    assert_eq!(rt; left, 9);
+}
+
+/// Each command that takes settings is refused with these options, for this field.
+pub(crate) fn check_options(rt: &impl Host, options: &str, field: &str) {
+    let told = format!(in rt.alloc(); "BadSettings {field}\n").expect(rt, "there is memory");
+    for command in &COMMANDS {
+        check_refused(rt, command, options, told.as_str());
+    }
+    drop(told);
+}
+
+#[test]
+fn settings_are_refused_before_anything_is_read(rt: HostRuntime) {
+    play(&rt, &OUT_OF_RANGE);
+}

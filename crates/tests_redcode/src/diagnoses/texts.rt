@@ -1,0 +1,140 @@
+//! The text and the JSON of refusals, and sources with several faults.
+
+use crate::diagnoses::refusals;
+use redcode_diagnosis::{Diagnosis, json_of, text_of};
+use std::alloc::Global;
+use std::process::Abort;
+use tests_fixtures::rows;
+
+/// How refusals are written.
+#[derive(Clone, Copy)]
+enum Form {
+    Text,
+    Json,
+}
+
+/// A refusal in this form.
+fn written(
+    rt: &(impl Abort + AllocGlobal),
+    source: &[u8],
+    told: &Diagnosis<Global>,
+    form: Form,
+) -> Vec<u8> {
+    match form {
+        Form::Text => text_of(rt.alloc(), b"a.red", source, told),
+        Form::Json => json_of(rt.alloc(), b"a.red", source, told),
+    }
+    .expect(rt, "there is memory")
+}
+
+/// The refusals of a source in this form.
+fn all_written(rt: &(impl Abort + AllocGlobal), source: &[u8], form: Form) -> Vec<u8> {
+    let mut all = Vec::new(rt.alloc());
+    for told in &refusals(rt, source) {
+        all.extend_from_slice(written(rt, source, told, form).as_slice())
+            .expect(rt, "there is memory");
+    }
+    all
+}
+
+/// The refusals of a source are written so.
+fn check_written(rt: &(impl Abort + AllocGlobal), source: &[u8], form: Form, want: &[u8]) {
+    let found = all_written(rt, source, form);
+    expect_same(rt, found.as_slice(), want, source);
+    drop(found);
+}
+
+/// What was found of a source is what is due.
+fn expect_same(rt: &impl Abort, found: &[u8], want: &[u8], source: &[u8]) {
+    assert_eq!(rt; found, want, "{source:?}");
+}
+
+/// Sources, with the text of their refusals.
+const TEXTS: [(&[u8], &[u8]); 7] = rows! {
+    b"MOV 0, 1\n" => b"";
+    b"" => b"a.red:0:1: Empty: the source is empty\n";
+    b"start\nMOV 0, 1\n      JMP strat\n"
+        => b"a.red:3:11: UnknownName: nothing is called `strat`; did you mean `start`?\n    3 |       JMP strat\n      |           ^^^^^\n";
+    b"\tDAT\t1/0\r\n" => b"a.red:1:6: DivideByZero: a division by zero\n    1 | \tDAT\t1/0\n      | \t   \t^^^\n";
+    b"i FOR 3\n    DAT 1/(i-2)\nROF\n"
+        => b"a.red:2:9: DivideByZero: a division by zero\n    2 |     DAT 1/(i-2)\n      |         ^^^^^^^\n      | in copy 2 of the block of line 1, where it reads: DAT 1 / ( 2 - 2 )\n";
+    b"i FOR 2\nj FOR 2\nDAT 1/(i+j-4)\nROF\nROF"
+        => b"a.red:3:5: DivideByZero: a division by zero\n    3 | DAT 1/(i+j-4)\n      |     ^^^^^^^^^\n      | in copy 4 of this line, in the block of line 2 and those around it, where it reads: DAT 1 / ( 2 + 2 - 4 )\n";
+    // a caret for a character of two bytes, and no byte of control
+    b"DAT 0 \x01\xc3\xa4"
+        => b"a.red:1:7: BadToken: the byte 1 is no symbol; it may stand in a comment\n    1 | DAT 0 ?\xc3\xa4\n      |       ^\n";
+};
+
+#[test]
+fn texts_of_refusals(rt: HostRuntime) {
+    for (source, want) in &TEXTS {
+        check_written(&rt, source, Form::Text, want);
+    }
+}
+
+/// Sources, with the JSON of their refusals.
+const OBJECTS: [(&[u8], &[u8]); 3] = rows! {
+    b"DAT x ; \"\\\"\n"
+        => br#"{"file":"a.red","line":1,"column":5,"width":1,"kind":"UnknownName","message":"nothing is called `x`","text":"DAT x ; \"\\\""}
+"#;
+    b"\tDAT x ; \xc3\xa4 \xff"
+        => b"{\"file\":\"a.red\",\"line\":1,\"column\":6,\"width\":1,\"kind\":\"UnknownName\",\"message\":\"nothing is called `x`\",\"text\":\"\\u0009DAT x ; \xc3\xa4 \xef\xbf\xbd\"}\n";
+    b"i FOR 1\nDAT 1/0\nROF"
+        => b"{\"file\":\"a.red\",\"line\":2,\"column\":5,\"width\":3,\"kind\":\"DivideByZero\",\"message\":\"a division by zero\",\"text\":\"DAT 1/0\",\"copy\":1,\"block\":1,\"reads\":\"DAT 1 / 0\"}\n";
+};
+
+#[test]
+fn json_of_refusals(rt: HostRuntime) {
+    for (source, want) in &OBJECTS {
+        check_written(&rt, source, Form::Json, want);
+    }
+}
+
+/// The lines to blame for a source's faults.
+fn lines_of(rt: &(impl Abort + AllocGlobal), source: &[u8]) -> Vec<u32> {
+    let mut lines = Vec::new(rt.alloc());
+    for told in &refusals(rt, source) {
+        lines.push(told.fault.line).expect(rt, "there is memory");
+    }
+    lines
+}
+
+/// Sources with several faults, and the lines to blame.
+const FAULTY_LINES: [(&str, &[u32]); 4] = rows! {
+    "DAT foo\nDAT ok\nok\nDAT 1/0\n;assert 0\nJMP\n" => &[1, 4, 5, 6];
+    ";assert 0\nDAT 0\nEND 1" => &[3, 1];
+    "i FOR 3\nDAT 1/(i-2)\nDAT x\nROF" => &[3, 2];
+    "DAT foo\nx\nx" => &[3];
+};
+
+/// Each faulty line is reported once, the assembler's first, if the source can be written out.
+#[test]
+fn several_faults(rt: HostRuntime) {
+    for (source, want) in &FAULTY_LINES {
+        let found = lines_of(&rt, source.as_bytes());
+        assert_eq!(rt; found.as_slice(), *want, "{source:?}");
+    }
+}
+
+/// `count` times a line.
+fn repeated(rt: &(impl Abort + AllocGlobal), line: &str, count: usize) -> String {
+    line.repeat(rt.alloc(), count).expect(rt, "there is memory")
+}
+
+/// `count` times a line has refusals of this text.
+fn check_repeated(rt: &(impl Abort + AllocGlobal), line: &str, count: usize, want: &[u8]) {
+    let source = repeated(rt, line, count);
+    check_written(rt, source.as_bytes(), Form::Text, want);
+    drop(source);
+}
+
+/// No more than 100 refusals are told, and the numbers of a source or a warrior that is too long.
+#[test]
+fn long_sources(rt: HostRuntime) {
+    let source = repeated(&rt, "DAT x\n", 150);
+    assert_eq!(rt; refusals(&rt, source.as_bytes()).len(), 100);
+    let want = b"a.red:0:1: TooLong: the warrior has 101 instructions, and may have 100\n";
+    check_repeated(&rt, "DAT 0\n", 101, want);
+    let want = b"a.red:0:1: SourceTooLong: the source has 65537 bytes, and may have 65536\n";
+    check_repeated(&rt, "\n", 65_537, want);
+}

@@ -1,0 +1,268 @@
+//! Peers on a hill of two, on a device in memory.
+
+use crate::calls::{blank_in, empty_hill, empty_hill_on, reopened};
+use hill_store::Store;
+use koth_peers::{NotConnected, PeerEnd, Peers, Step};
+use sector_disk::{Device, FuseDevice, FuseKind};
+use std::alloc::{Allocator, Global};
+use std::process::Abort;
+use tests_fixtures::Refusing;
+
+/// Room for `most` peers.
+fn room_for<A: Allocator + Copy>(rt: &impl Abort, alloc: A, most: usize) -> Peers<A> {
+    Peers::new(alloc, most).expect(rt, "there is memory")
+}
+
+/// A session begins with this number, or none does for this reason.
+fn connect<A: Allocator + Copy>(
+    rt: &impl Abort,
+    peers: &mut Peers<A>,
+    number: Result<usize, NotConnected>,
+) {
+    assert_eq!(rt; peers.connect(), number);
+}
+
+/// A step serves this.
+fn serve<D: Device, A: Allocator + Copy>(
+    rt: &impl Abort,
+    peers: &mut Peers<A>,
+    store: &mut Store<D, A>,
+    step: Step,
+) {
+    assert_eq!(rt; peers.serve_next(store), step);
+}
+
+/// A peer's session has ended so, or goes on.
+fn ended<A: Allocator>(rt: &impl Abort, peers: &Peers<A>, number: usize, end: Option<PeerEnd>) {
+    assert_eq!(rt; peers.end(number), end);
+}
+
+/// `count` bytes of answers wait for a peer.
+fn waits<A: Allocator>(rt: &impl Abort, peers: &Peers<A>, number: usize, count: usize) {
+    assert_eq!(rt; peers.unsent(number).len(), count);
+}
+
+/// A peer has sent all of its bytes, and nothing more of it may come.
+fn close<A: Allocator>(rt: &impl Abort, peers: &mut Peers<A>, number: usize) {
+    peers.close(number);
+    assert!(rt; !peers.is_finished(number));
+    assert_eq!(rt; peers.room(number), 0);
+}
+
+/// These bytes of a peer come.
+fn come<A: Allocator>(rt: &impl Abort, peers: &mut Peers<A>, number: usize, text: &str) {
+    let room = peers.room(number);
+    assert!(rt; text.len() <= room);
+    peers.take(number, text.as_bytes());
+}
+
+/// A peer was given these answers, and they are sent.
+fn send<A: Allocator>(rt: &impl Abort, peers: &mut Peers<A>, number: usize, answers: &str) {
+    assert_eq!(rt; peers.unsent(number), answers.as_bytes());
+    let count = peers.unsent(number).len();
+    peers.sent(number, count);
+    assert_eq!(rt; peers.unsent(number).len(), 0);
+}
+
+/// Of a peer with many commands one is served, and then the others' come.
+#[test]
+fn in_turn(rt: HostRuntime) {
+    let mut store = empty_hill(&rt);
+    let mut peers = room_for(&rt, rt.alloc(), 3);
+    serve_in_turn(&rt, &mut peers, &mut store);
+    drop(peers);
+    drop(store);
+}
+
+fn serve_in_turn<D: Device>(
+    rt: &impl Abort,
+    peers: &mut Peers<Global>,
+    store: &mut Store<D, Global>,
+) {
+    for number in 0..3 {
+        connect(rt, peers, Ok(number));
+    }
+    connect(rt, peers, Err(NotConnected::Full));
+    serve(rt, peers, store, Step::Nobody);
+    come(rt, peers, 0, "a\nb\nc\nd");
+    come(rt, peers, 2, "SHOW\nSH");
+    for number in [0, 2, 0] {
+        serve(rt, peers, store, Step::Served(number));
+    }
+    come(rt, peers, 1, "\n");
+    come(rt, peers, 2, "OW\n");
+    for number in [1, 2, 0] {
+        serve(rt, peers, store, Step::Served(number));
+    }
+    serve(rt, peers, store, Step::Nobody);
+    send(rt, peers, 0, "BAD\nBAD\nBAD\n");
+    send(rt, peers, 1, "BAD\n");
+    send(rt, peers, 2, ".\n.\n");
+}
+
+/// Three peers submit, the first one byte for byte, and a fourth asks for the table. It ends by `QUIT`, the others by the end of their input.
+#[test]
+fn one_hill(rt: HostRuntime) {
+    let mut store = empty_hill(&rt);
+    let mut peers = room_for(&rt, rt.alloc(), 4);
+    submit_and_show(&rt, &mut peers, &mut store);
+    end_each(&rt, &mut peers, &mut store);
+    drop(peers);
+    drop(store);
+}
+
+fn submit_and_show<D: Device>(
+    rt: &impl Abort,
+    peers: &mut Peers<Global>,
+    store: &mut Store<D, Global>,
+) {
+    for number in 0..4 {
+        connect(rt, peers, Ok(number));
+    }
+    for byte in ["S", "U", "B", "M", "I", "T", "\r", "\n", "MOV 0,1\n", "."] {
+        come(rt, peers, 0, byte);
+        serve(rt, peers, store, Step::Nobody);
+    }
+    come(rt, peers, 0, "\n");
+    come(rt, peers, 1, "SUBMIT\nJMP 0\n.\n");
+    come(rt, peers, 2, "SUBMIT\nDAT 0,0\n.\nSUBMIT\nDAT 0,0\n");
+    come(rt, peers, 3, "SHOW\nQUIT\nSHOW\n");
+    for number in 0..4 {
+        close(rt, peers, number);
+        serve(rt, peers, store, Step::Served(number));
+    }
+}
+
+/// How the four sessions end.
+const ENDS: [PeerEnd; 4] = [
+    PeerEnd::EndOfInput,
+    PeerEnd::EndOfInput,
+    PeerEnd::EndOfInput,
+    PeerEnd::Quit,
+];
+
+fn end_each<D: Device>(rt: &impl Abort, peers: &mut Peers<Global>, store: &mut Store<D, Global>) {
+    ended(rt, peers, 3, None);
+    serve(rt, peers, store, Step::Served(3));
+    serve(rt, peers, store, Step::Nobody);
+    send(rt, peers, 0, "PLACED 1 1 0\n");
+    send(rt, peers, 1, "PLACED 2 2 2\n");
+    send(rt, peers, 2, "FELL 3 0\n");
+    let table = "1 1 2 1 Unnamed by Anonymous\n2 2 2 0 Unnamed by Anonymous\n.\n";
+    send(rt, peers, 3, table);
+    for (number, end) in ENDS.iter().enumerate() {
+        ended(rt, peers, number, Some(*end));
+        assert!(rt; peers.is_finished(number));
+    }
+    peers.leave(1);
+    connect(rt, peers, Ok(1));
+}
+
+/// A peer that reads none of its answers is disconnected at 1,048,576 bytes of them: 262,144 lines of four bytes. The other one is served
+/// still.
+#[test]
+fn unread(rt: HostRuntime) {
+    let mut store = empty_hill(&rt);
+    let mut peers = room_for(&rt, rt.alloc(), 2);
+    connect_two(&rt, &mut peers);
+    leave_unread(&rt, &mut peers, &mut store);
+    drop(peers);
+    drop(store);
+}
+
+fn connect_two(rt: &impl Abort, peers: &mut Peers<Global>) {
+    connect(rt, peers, Ok(0));
+    connect(rt, peers, Ok(1));
+}
+
+fn leave_unread<D: Device>(
+    rt: &impl Abort,
+    peers: &mut Peers<Global>,
+    store: &mut Store<D, Global>,
+) {
+    for _ in 0..262_144 {
+        come(rt, peers, 0, "\n");
+        serve(rt, peers, store, Step::Served(0));
+    }
+    waits(rt, peers, 0, 1_048_576);
+    ended(rt, peers, 0, None);
+    come(rt, peers, 0, "\n");
+    come(rt, peers, 1, "\n");
+    serve(rt, peers, store, Step::Served(1));
+    serve(rt, peers, store, Step::Served(0));
+    ended(rt, peers, 0, Some(PeerEnd::Unread));
+    waits(rt, peers, 0, 1_048_576);
+    assert!(rt; !peers.is_finished(0));
+    send(rt, peers, 1, "BAD\n");
+}
+
+/// The device fails at the header of a submission, after ten calls: five make the hill, and five write a slot and sync. Nothing is answered to
+/// its peer, and another one is served on the hill that is opened again.
+#[test]
+fn a_device_that_fails(rt: HostRuntime) {
+    let device = FuseDevice::new(blank_in(&rt, rt.alloc()), 10, FuseKind::FailKept);
+    let mut store = empty_hill_on(&rt, rt.alloc(), device);
+    let mut peers = room_for(&rt, rt.alloc(), 2);
+    connect_two(&rt, &mut peers);
+    fail_the_first(&rt, &mut peers, &mut store);
+    let mut store = reopened(&rt, rt.alloc(), store);
+    serve_the_second(&rt, &mut peers, &mut store);
+    drop(peers);
+    drop(store);
+}
+
+fn fail_the_first<D: Device>(
+    rt: &impl Abort,
+    peers: &mut Peers<Global>,
+    store: &mut Store<D, Global>,
+) {
+    come(rt, peers, 0, "SUBMIT\nMOV 0,1\n.\nSHOW\n");
+    come(rt, peers, 1, "SHOW\n");
+    serve(rt, peers, store, Step::StoreFailed(0));
+    waits(rt, peers, 0, 0);
+    ended(rt, peers, 0, Some(PeerEnd::StoreFailed));
+    assert!(rt; peers.is_finished(0));
+}
+
+fn serve_the_second<D: Device>(
+    rt: &impl Abort,
+    peers: &mut Peers<Global>,
+    store: &mut Store<D, Global>,
+) {
+    serve(rt, peers, store, Step::Served(1));
+    send(rt, peers, 1, "1 1 0 0 Unnamed by Anonymous\n.\n");
+    serve(rt, peers, store, Step::Nobody);
+}
+
+/// A peer takes three growths: for a line, a source and the bytes that wait. Then one is taken for an answer of four bytes.
+#[test]
+fn growths(rt: HostRuntime) {
+    let memory = Refusing::new(rt.alloc());
+    let mut store = empty_hill_on(&rt, &memory, blank_in(&rt, rt.alloc()));
+    let mut peers = room_for(&rt, &memory, 1);
+    refuse_growths(&rt, &memory, &mut peers, &mut store);
+    drop(peers);
+    drop(store);
+    drop(memory);
+}
+
+fn refuse_growths<'m, D: Device>(
+    rt: &impl Abort,
+    memory: &'m Refusing<Global>,
+    peers: &mut Peers<&'m Refusing<Global>>,
+    store: &mut Store<D, &'m Refusing<Global>>,
+) {
+    for passed in 0..3 {
+        memory.refuse(passed, 1);
+        connect(rt, peers, Err(NotConnected::Memory));
+        assert_eq!(rt; memory.refused(), 1);
+    }
+    memory.refuse(3, 1);
+    connect(rt, peers, Ok(0));
+    assert_eq!(rt; memory.refused(), 0);
+    come(rt, peers, 0, "\n");
+    serve(rt, peers, store, Step::Served(0));
+    assert_eq!(rt; memory.refused(), 1);
+    ended(rt, peers, 0, Some(PeerEnd::Memory));
+    waits(rt, peers, 0, 0);
+}

@@ -1,0 +1,224 @@
+//! Services whose peers act by a script.
+//!
+//! `callers`, `fakes` and `hosts` have sockets of no system, those who call at them, and the host of a service. `serving` says what has to
+//! come of a service over these, which `browsers` tries with browsers. `polls` tries sockets of the system.
+
+use callers::{Cue, Deed};
+use hosts::Shut;
+use koth_service::ServiceFault;
+use serving::{ALL, Due, act_out, check_served, serve};
+
+mod browsers;
+mod callers;
+mod fakes;
+mod hosts;
+mod polls;
+mod serving;
+
+/// What is done in `two_at_once`.
+const TWO_AT_ONCE: [Cue; 11] = [
+    (0, Deed::Calls(1)),
+    (0, Deed::Takes(1, ALL)),
+    (0, Deed::Says(1, "SUBMIT\nMOV ")),
+    (1, Deed::Calls(2)),
+    (1, Deed::Takes(2, ALL)),
+    (1, Deed::Says(2, "SHOW\nSUBMIT\nJMP 0")),
+    (2, Deed::Says(1, "0,1\n.")),
+    (3, Deed::Says(2, "\n.\nSHOW\nQUIT\n")),
+    (4, Deed::Says(1, "\nBOGUS\n")),
+    (5, Deed::Ends(1)),
+    (6, Deed::Ends(2)),
+];
+
+const TWO_AT_ONCE_DUE: [Due; 2] = [
+    Due::Heard(1, "PLACED 2 2 2\nBAD\n"),
+    Due::Heard(2, ".\nPLACED 1 1 0\n1 1 0 0 Unnamed by Anonymous\n.\n"),
+];
+
+/// Two peers speak by turns, in pieces.
+#[test]
+fn two_at_once(rt: HostRuntime) {
+    act_out(&rt, &TWO_AT_ONCE, 2, &TWO_AT_ONCE_DUE);
+}
+
+/// What is done in `a_silent_peer`.
+const A_SILENT_PEER: [Cue; 7] = [
+    (0, Deed::Calls(1)),
+    (0, Deed::Takes(1, ALL)),
+    (7, Deed::Says(1, "SUB")),
+    (9, Deed::Calls(2)),
+    (9, Deed::Takes(2, ALL)),
+    (60_006, Deed::Says(2, "BOGUS\nQUIT\n")),
+    (60_006, Deed::Ends(2)),
+];
+
+const A_SILENT_PEER_DUE: [Due; 6] = [
+    Due::Heard(1, ""),
+    Due::Heard(2, "BAD\n"),
+    Due::Closed(1, Some(60_007)),
+    Due::Closed(2, Some(60_006)),
+    Due::Told("1 ", &["connected", "Silent"]),
+    Due::Told("2 ", &["connected", "By(Quit)"]),
+];
+
+/// A peer that sent half a command is disconnected 60 seconds after its last byte. Another one is answered at once.
+#[test]
+fn a_silent_peer(rt: HostRuntime) {
+    act_out(&rt, &A_SILENT_PEER, 2, &A_SILENT_PEER_DUE);
+}
+
+/// What is done in `an_endless_line`.
+const AN_ENDLESS_LINE: [Cue; 7] = [
+    (0, Deed::Calls(1)),
+    (0, Deed::Repeats(1, "0123456789abcdef", 65_536)),
+    (0, Deed::Calls(2)),
+    (0, Deed::Takes(2, ALL)),
+    (0, Deed::Says(2, "BOGUS\nQUIT\n")),
+    (0, Deed::Ends(2)),
+    (9, Deed::Ends(1)),
+];
+
+const AN_ENDLESS_LINE_DUE: [Due; 3] = [
+    Due::Heard(2, "BAD\n"),
+    Due::Told("1 ", &["connected", "By(EndOfInput)"]),
+    Due::Line(2, "2 By(Quit)"),
+];
+
+/// While the bytes of a line without an end come, 1,048,576 of them, another one's commands are served.
+#[test]
+fn an_endless_line(rt: HostRuntime) {
+    act_out(&rt, &AN_ENDLESS_LINE, 2, &AN_ENDLESS_LINE_DUE);
+}
+
+/// What is done in `a_peer_that_never_reads`.
+const A_PEER_THAT_NEVER_READS: [Cue; 8] = [
+    (0, Deed::Calls(1)),
+    (0, Deed::Says(1, TITLED)),
+    (0, Deed::Says(1, TITLED)),
+    (0, Deed::Repeats(1, "SHOW\n", 4_800)),
+    (0, Deed::Calls(2)),
+    (0, Deed::Takes(2, ALL)),
+    (0, Deed::Says(2, "BOGUS\nQUIT\n")),
+    (0, Deed::Ends(2)),
+];
+
+/// A warrior with a name and an author of 48 bytes each: the table of two such takes 220 bytes.
+const TITLED: &str = "SUBMIT
+;name 012345678901234567890123456789012345678901234567
+;author 012345678901234567890123456789012345678901234567
+MOV 0,1
+.
+";
+
+const A_PEER_THAT_NEVER_READS_DUE: [Due; 4] = [
+    Due::Heard(1, ""),
+    Due::Heard(2, "BAD\n"),
+    Due::Closed(1, Some(0)),
+    Due::Told(
+        "1 ",
+        &["connected", "PLACED 1 1 0", "PLACED 2 2 2", "By(Unread)"],
+    ),
+];
+
+/// A peer that takes none of its answers is disconnected when 1,048,576 bytes of them wait. Another one is answered.
+#[test]
+fn a_peer_that_never_reads(rt: HostRuntime) {
+    act_out(
+        &rt,
+        &A_PEER_THAT_NEVER_READS,
+        2,
+        &A_PEER_THAT_NEVER_READS_DUE,
+    );
+}
+
+/// What is done in `a_peer_that_is_reset`.
+const A_PEER_THAT_IS_RESET: [Cue; 8] = [
+    (0, Deed::Calls(1)),
+    (0, Deed::Takes(1, 6)),
+    (0, Deed::Says(1, "SUBMIT\nMOV 0,1\n.\nSHOW\n")),
+    (1, Deed::Resets(1)),
+    (2, Deed::Calls(2)),
+    (2, Deed::Takes(2, ALL)),
+    (2, Deed::Says(2, "SHOW\n")),
+    (2, Deed::Ends(2)),
+];
+
+const A_PEER_THAT_IS_RESET_DUE: [Due; 4] = [
+    Due::Heard(1, "PLACED"),
+    Due::Heard(2, "1 1 0 0 Unnamed by Anonymous\n.\n"),
+    Due::Closed(1, Some(1)),
+    Due::Told("1 ", &["connected", "PLACED 1 1 0", "Gone"]),
+];
+
+/// A peer takes six bytes of its answers, and is gone: what it submitted stays.
+#[test]
+fn a_peer_that_is_reset(rt: HostRuntime) {
+    act_out(&rt, &A_PEER_THAT_IS_RESET, 2, &A_PEER_THAT_IS_RESET_DUE);
+}
+
+/// What is done in `arrivals`.
+const ARRIVALS: [Cue; 13] = [
+    (0, Deed::Fails),
+    (0, Deed::Calls(1)),
+    (0, Deed::Takes(1, ALL)),
+    (200, Deed::Calls(2)),
+    (200, Deed::Takes(2, ALL)),
+    (300, Deed::Calls(3)),
+    (300, Deed::Takes(3, ALL)),
+    (300, Deed::Says(3, "BOGUS\nQUIT\n")),
+    (400, Deed::Says(1, "QUIT\nSHOW\n")),
+    (1_000, Deed::Says(1, "SHOW\n")),
+    (1_500, Deed::Ends(3)),
+    (2_000, Deed::Says(2, "BOGUS\nQUIT\n")),
+    (2_100, Deed::Ends(2)),
+];
+
+const ARRIVALS_DUE: [Due; 7] = [
+    Due::Heard(1, ""),
+    Due::Heard(2, "BAD\n"),
+    Due::Heard(3, "BAD\n"),
+    Due::Closed(1, Some(1_400)),
+    Due::Closed(3, Some(1_500)),
+    Due::Closed(2, Some(2_100)),
+    Due::Told("3 ", &["connected", "By(Quit)"]),
+];
+
+/// An accept that fails is tried again after 100 milliseconds. A third peer, of which two may be at once, waits until one of them was let
+/// go.
+#[test]
+fn arrivals(rt: HostRuntime) {
+    act_out(&rt, &ARRIVALS, 3, &ARRIVALS_DUE);
+}
+
+/// What is done in `a_device_that_fails`.
+const A_DEVICE_THAT_FAILS: [Cue; 8] = [
+    (0, Deed::Calls(1)),
+    (0, Deed::Takes(1, ALL)),
+    (0, Deed::Calls(2)),
+    (0, Deed::Takes(2, ALL)),
+    (0, Deed::Says(1, "BOGUS\nSUBMIT\nMOV 0,1\n.\nSHOW\n")),
+    (0, Deed::Ends(1)),
+    (1, Deed::Says(2, "SUBMIT\nMOV 0,1\n.\n")),
+    (2, Deed::Ends(2)),
+];
+
+const A_DEVICE_THAT_FAILS_DUE: [Due; 3] = [
+    Due::Heard(1, "BAD\n"),
+    Due::Heard(2, "PLACED 1 1 0\n"),
+    Due::Told("1 ", &["connected", "By(StoreFailed)"]),
+];
+
+/// What comes of it if the hill can't be opened again.
+const A_HILL_THAT_IS_GONE_DUE: [Due; 1] = [Due::Heard(2, "")];
+
+/// The device fails in the first submission, which isn't answered. The hill is opened again, and the other peer is served on it.
+#[test]
+fn a_device_that_fails(rt: HostRuntime) {
+    let served = serve(&rt, &A_DEVICE_THAT_FAILS, 2, 8, 1);
+    check_served(&rt, &served, None, &A_DEVICE_THAT_FAILS_DUE);
+    drop(served);
+    let gone = serve(&rt, &A_DEVICE_THAT_FAILS, 2, 8, 0);
+    let fault = ServiceFault::Reopening(Shut);
+    check_served(&rt, &gone, Some(fault), &A_HILL_THAT_IS_GONE_DUE);
+    drop(gone);
+}

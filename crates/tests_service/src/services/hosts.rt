@@ -1,0 +1,104 @@
+//! A host that writes what it is told, and hills in memory.
+
+ghost use Rattle.std.specs.Prelude.{◌≡◌, false, IfOk, IfSome};
+ghost use Rattle.koth_http.specs.declared.target.Page.TheVariants as pages;
+
+use hill_store::Store;
+use koth_http::Page;
+use koth_service::{Event, Host};
+use sector_disk::{FuseDevice, FuseKind, MemoryDevice};
+use std::alloc::{AllocError, Global};
+use std::cell::Cell;
+use std::io::Write;
+use std::net::SocketAddr;
+use tests_stores::{SECTORS, SMALL};
+use war_types::Settings;
+
+/// A device in memory that may fail.
+pub(crate) type Fuse = FuseDevice<MemoryDevice<Global>>;
+
+/// An empty hill of two, over a device that fails once, after `calls` calls. Creating the hill makes five.
+pub(crate) fn hill(alloc: Global, calls: u64) -> Option<Store<Fuse, Global>>
+    ensures { IfSome result (λ store. store.reopen ≡ false) }
+{
+    let settings = Settings::new(SMALL).ok()?;
+    let memory = MemoryDevice::new(alloc, SECTORS).ok()?;
+    Store::create(
+        alloc,
+        FuseDevice::new(memory, calls, FuseKind::FailLost),
+        settings,
+    )
+    .ok()
+}
+
+/// It writes a line for each event, with the peer's port before it, and opens an empty hill each time, as often as it may.
+#[derive(Drop)]
+pub(crate) struct Clerk {
+    alloc: Global,
+    openings: Cell<u32>,
+}
+
+impl Clerk {
+    pub(crate) fn new(alloc: Global, openings: u32) -> Clerk {
+        Clerk {
+            alloc,
+            openings: Cell::new(openings),
+        }
+    }
+}
+
+/// The hill can't be opened again.
+#[derive(Clone, Copy, Debug, PartialEq)]
+pub(crate) struct Shut;
+
+impl Host<Fuse, Global> for Clerk {
+    type Fault = Shut;
+
+    ghost shows = { λ _ _ page _. page ≡ pages.Hill };
+
+    fn reopen(&self) -> Result<Store<Fuse, Global>, Shut>
+        ensures { IfOk result (λ store. store.reopen ≡ false) }
+    {
+        let openings = self.openings.get();
+        if openings == 0 {
+            return Err(Shut);
+        }
+        self.openings.set(openings.saturating_sub(1));
+        hill(self.alloc, u64::MAX).ok_or(Shut)
+    }
+
+    /// The page of the hill says how many are on it. No round has one.
+    fn page(&self, store: &Store<Fuse, Global>, page: Page) -> Result<Option<Vec<u8>>, AllocError> {
+        match page {
+            Page::Hill => Ok(Some(counted(self.alloc, store.hill().len())?)),
+            Page::Round { .. } => Ok(None),
+        }
+    }
+
+    fn tell<E: Write>(&self, peer: SocketAddr, event: Event<'_>, errors: &mut E) {
+        if let Ok(line) = line_of(self.alloc, peer, event) {
+            let _ = errors.write(line.as_bytes());
+        }
+    }
+}
+
+fn counted(alloc: Global, warriors: usize) -> Result<Vec<u8>, AllocError> {
+    let text = format!(in alloc; "{} here\n", warriors)?;
+    Ok(text.into_bytes())
+}
+
+fn line_of(
+    alloc: Global,
+    peer: SocketAddr,
+    event: Event<'_>,
+) -> Result<String<Global>, AllocError> {
+    let port = peer.port();
+    match event {
+        Event::Connected => format!(in alloc; "{} connected\n", port),
+        Event::Answered(line) => {
+            let line = str::from_utf8(line).unwrap_or("");
+            format!(in alloc; "{} {}\n", port, line)
+        }
+        Event::Ended(how) => format!(in alloc; "{} {:?}\n", port, how),
+    }
+}

@@ -1,0 +1,156 @@
+//! What a store is expected to answer.
+
+use crate::hills::{blank_in, created_on, opened_on};
+use hill_store::{Reply, Store};
+use sector_disk::{Device, MemoryDevice};
+use std::alloc::{Allocator, Global};
+use std::process::Abort;
+use tests_stores::{
+    Counting, Numbers, audit, calls_of, close, count_rows, fell, other_row, placed, submit,
+    submit_all,
+};
+use war_types::{AsmFault, AsmKind};
+
+/// A source, and what it is answered.
+pub(crate) type Answered = (&'static [u8], Reply);
+
+/// The reply to the first warrior.
+pub(crate) const FIRST: Reply = placed!(1, 1, 0);
+
+/// The reply to a second one that has two ties with it.
+pub(crate) const SECOND: Reply = placed!(2, 2, 2);
+
+/// The reply to a third one that both of them win against.
+const THIRD: Reply = fell!(3, 0);
+
+/// The reply to a source without a line.
+pub(crate) const EMPTY: Reply = Reply::Refused(AsmFault {
+    line: 0,
+    kind: AsmKind::Empty,
+});
+
+/// Three warriors, of which the third falls.
+pub(crate) const THREE: [Answered; 3] = [
+    (b"MOV 0,1", FIRST),
+    (b"JMP 0", SECOND),
+    (b"DAT 0,0", THIRD),
+];
+
+/// The first of two warriors that lose at once.
+pub(crate) const LOSER: Answered = (b"DAT 0,0", FIRST);
+
+/// The other one: each of them wins a round.
+pub(crate) const OTHER_LOSER: Answered = (b"DAT 0,0", placed!(2, 2, 3));
+
+/// Two warriors that lose at once, and win a round each.
+pub(crate) const LOSERS: [Answered; 2] = [LOSER, OTHER_LOSER];
+
+/// The sources of a list, of which the third is refused and the fourth falls.
+pub(crate) const SOURCES: [&[u8]; 4] = [b"MOV 0,1", b"JMP 0", b"", b"DAT 0,0"];
+
+/// The replies to them.
+pub(crate) const REPLIES: [Reply; 4] = [FIRST, SECOND, EMPTY, THIRD];
+
+/// The store answers this to a source.
+pub(crate) fn expect_reply<D: Device, A: Allocator + Copy>(
+    rt: &impl Abort,
+    store: &mut Store<D, A>,
+    source: &[u8],
+    reply: Reply,
+) {
+    assert_eq!(rt; submit(store, source), reply);
+}
+
+/// The store answers this to sources, one after the other.
+pub(crate) fn expect_answers<D: Device, A: Allocator + Copy>(
+    rt: &impl Abort,
+    store: &mut Store<D, A>,
+    answers: &[Answered],
+) {
+    for (source, reply) in answers {
+        expect_reply(rt, store, *source, *reply);
+    }
+}
+
+/// The device of a hill of two that was created on it, and answered this.
+pub(crate) fn answered_on<D: Device + Drop>(
+    rt: &(impl Abort + AllocGlobal),
+    device: D,
+    answers: &[Answered],
+) -> D {
+    let mut store = created_on(rt, rt.alloc(), device);
+    expect_answers(rt, &mut store, answers);
+    close(store)
+}
+
+/// The same, of a device that was blank.
+pub(crate) fn answered(
+    rt: &(impl Abort + AllocGlobal),
+    answers: &[Answered],
+) -> MemoryDevice<Global> {
+    answered_on(rt, blank_in(rt, rt.alloc()), answers)
+}
+
+/// The store answers this to a list of sources.
+pub(crate) fn expect_replies<D: Device, A: Allocator + Copy>(
+    rt: &impl Abort,
+    store: &mut Store<D, A>,
+    sources: &[&[u8]],
+    replies: &[Reply],
+) {
+    let found = submit_all(store, sources).expect(rt, "there is memory");
+    expect_same(rt, found.as_slice(), replies);
+    drop(found);
+}
+
+/// These replies are those.
+fn expect_same(rt: &impl Abort, found: &[Reply], replies: &[Reply]) {
+    assert_eq!(rt; found, replies);
+}
+
+/// The table has `count` rows.
+pub(crate) fn expect_rows<D: Device, A: Allocator + Copy>(
+    rt: &impl Abort,
+    store: &Store<D, A>,
+    count: usize,
+) {
+    assert_eq!(rt; count_rows(store).ok(), Some(count));
+}
+
+/// The rows of the table are these.
+pub(crate) fn expect_table<D: Device, A: Allocator + Copy>(
+    rt: &impl Abort,
+    store: &Store<D, A>,
+    rows: &[Numbers],
+) {
+    expect_rows(rt, store, rows.len());
+    assert_eq!(rt; other_row(store, rows), None);
+}
+
+/// The hill that is opened on a device has `count` rows.
+pub(crate) fn expect_opened<D: Device + Drop>(
+    rt: &(impl Abort + AllocGlobal),
+    device: D,
+    count: usize,
+) {
+    let store = opened_on(rt, device);
+    expect_rows(rt, &store, count);
+    drop(store);
+}
+
+/// The results that a store keeps are those of the fights.
+pub(crate) fn expect_true<D: Device, A: Allocator + Copy>(
+    rt: &impl Abort,
+    store: &mut Store<D, A>,
+) {
+    assert!(rt; audit(store));
+}
+
+/// The device of this store was asked for `calls` calls.
+pub(crate) fn expect_calls<D: Device + Drop, A: Allocator + Copy>(
+    rt: &impl Abort,
+    store: Store<Counting<D>, A>,
+    calls: u32,
+) {
+    assert_eq!(rt; calls_of(store), calls);
+}

@@ -1,0 +1,70 @@
+//! The bytes in the sectors of a device.
+
+use sector_disk::{Device, Fault, MemoryDevice};
+use std::alloc::Global;
+
+/// What a device reads at one of its sectors.
+pub fn sector(device: &mut MemoryDevice<Global>, n: u32) -> Result<[u8; 512], Fault> {
+    if n >= device.sectors() {
+        return Err(Fault);
+    }
+    let mut content = [9; 512];
+    device.read(n, &mut content)?;
+    Ok(content)
+}
+
+/// Whether a device reads this at one of its sectors.
+pub fn holds(
+    device: &mut MemoryDevice<Global>,
+    n: u32,
+    content: &[u8; 512],
+) -> Result<bool, Fault> {
+    Ok(sector(device, n)? == *content)
+}
+
+/// Puts a content into one of a device's sectors.
+pub fn put(device: &mut MemoryDevice<Global>, n: u32, content: &[u8; 512]) -> Result<(), Fault> {
+    if n >= device.sectors() {
+        return Err(Fault);
+    }
+    device.set(n, content);
+    Ok(())
+}
+
+/// Puts a byte into one of a device's sectors, and leaves the others as they are.
+pub fn set_byte(
+    device: &mut MemoryDevice<Global>,
+    n: u32,
+    at: usize,
+    byte: u8,
+) -> Result<(), Fault> {
+    let mut content = sector(device, n)?;
+    match content.get_mut(at) {
+        Some(place) => *place = byte,
+        None => return Err(Fault),
+    }
+    put(device, n, &content)
+}
+
+/// These bytes, and then zeros.
+pub fn with_zeros(begins: &[u8]) -> [u8; 512] {
+    let mut content = [0; 512];
+    for (place, byte) in content.iter_mut().zip(begins) {
+        *place = *byte;
+    }
+    content
+}
+
+/// The first sector of a slot begins with the code, one instruction here.
+pub fn front(instruction: [u8; 8]) -> [u8; 512] {
+    with_zeros(instruction.as_slice())
+}
+
+/// The last sector of a slot: the length 1, the start 0, the name and the author, and no round that anybody won.
+pub fn back() -> [u8; 512] {
+    let mut content = [0; 512];
+    content[289] = 1;
+    content[292..299].copy_from_slice(b"Unnamed");
+    content[340..349].copy_from_slice(b"Anonymous");
+    content
+}
