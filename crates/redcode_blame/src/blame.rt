@@ -9,7 +9,7 @@ use crate::said::{Part, sentence};
 use crate::scene::{Row, Scene};
 use crate::statements::{bad_modifier, bad_operation, bad_token, pspace};
 use crate::warriors::{assert_false, bad_start, empty, source_too_long, too_long};
-use redcode_places::Span;
+use redcode_lines::Span;
 use std::alloc::{AllocError, Allocator};
 use war_types::{AsmFault, AsmKind};
 

@@ -7,8 +7,7 @@ use crate::nearest::nearest_word;
 use crate::said::{Part, say, sentence};
 use crate::scene::{Row, Scene};
 use redcode_expand::predefined;
-use redcode_lines::{has_and, is_name};
-use redcode_places::Span;
+use redcode_lines::{Span, has_and, is_name};
 use redcode_text::{Token, Word};
 use std::alloc::{AllocError, Allocator};
 

@@ -5,8 +5,7 @@ use crate::definitions::{Role, definition, nearest_name};
 use crate::nearest::is_reserved;
 use crate::said::{Part, say, sentence};
 use crate::scene::{Row, Scene};
-use redcode_lines::{has_text, is_name};
-use redcode_places::Span;
+use redcode_lines::{Span, has_text, is_name};
 use redcode_text::{Names, Token};
 use std::alloc::{AllocError, Allocator};
 

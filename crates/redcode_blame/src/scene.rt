@@ -2,8 +2,10 @@
 
 use bumpalo::Bump;
 use redcode_expand::{Expanded, SOURCE_LIMIT, expand};
-use redcode_lines::{LineForm, Reading, SourceLine, live_source, source_lines};
-use redcode_places::{Span, blanks_before, line_text, span_of, spans_of, whole};
+use redcode_lines::{
+    LineForm, Reading, SourceLine, Span, blanks_before, line_text, live_source, source_lines,
+    span_of, spans_of, whole,
+};
 use redcode_text::Token;
 use std::alloc::{AllocError, Allocator};
 use war_types::{AsmFault, AsmKind, Settings};

@@ -4,8 +4,7 @@ use crate::blame::{Blame, blamed};
 use crate::equs::first_equ;
 use crate::said::Part;
 use crate::scene::{Row, Scene};
-use redcode_lines::has_text;
-use redcode_places::{Span, line_text, part_of};
+use redcode_lines::{Span, has_text, line_text, part_of};
 use redcode_text::{Token, TokenKind, mode_named};
 use std::alloc::{AllocError, Allocator};
 

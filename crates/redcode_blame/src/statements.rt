@@ -4,8 +4,7 @@ use crate::blame::{Blame, blamed};
 use crate::nearest::{is_operation, nearest_word};
 use crate::said::Part;
 use crate::scene::{Row, Scene};
-use redcode_lines::{LineForm, has_text, is_name};
-use redcode_places::{line_text, part_of};
+use redcode_lines::{LineForm, has_text, is_name, line_text, part_of};
 use redcode_text::{Token, TokenKind};
 use std::alloc::{AllocError, Allocator};
 

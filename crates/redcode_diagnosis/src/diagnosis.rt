@@ -3,12 +3,12 @@
 ghost use Rattle.std.specs.Prelude.{◌≡◌, All, IfOk, map};
 ghost use Rattle.redcode_asm.specs.Assembly.{assembly};
 ghost use Rattle.redcode_diagnosis.specs.Told.{AreToldFrom, IsFirst, Tells, is_memory};
-ghost use Rattle.redcode_places.specs.Line.{IsPlaceIn, line_text};
+ghost use Rattle.redcode_lines.specs.Place.{IsPlaceIn, line_text};
 
 use bumpalo::Bump;
 use redcode_asm::assemble;
 use redcode_blame::{Copied, Scene, blame_of, copy_of, further_faults};
-use redcode_places::{line_text, place_in};
+use redcode_lines::{line_text, place_in};
 use std::alloc::{AllocError, Allocator};
 use war_types::{AsmFault, AsmKind, Settings};
 

@@ -6,7 +6,7 @@ ghost use Rattle.redcode_diagnosis.specs.Text.{IsJson, members, numbered};
 use crate::diagnosis::Diagnosis;
 use itoa::Buffer;
 use redcode_blame::Copied;
-use redcode_places::line_text;
+use redcode_lines::line_text;
 use std::alloc::{AllocError, Allocator};
 use std::str::from_utf8;
 

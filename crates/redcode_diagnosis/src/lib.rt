@@ -13,5 +13,5 @@ mod text;
 pub use diagnosis::{Diagnosis, diagnose};
 pub use json::json_of;
 pub use redcode_blame::Copied;
-pub use redcode_places::line_text;
+pub use redcode_lines::line_text;
 pub use text::text_of;

@@ -6,7 +6,7 @@ ghost use Rattle.redcode_diagnosis.specs.Text.{Begins, heading};
 use crate::diagnosis::Diagnosis;
 use itoa::Buffer;
 use redcode_blame::{Copied, Part, append_shown, say};
-use redcode_places::{Span, line_text, part_of};
+use redcode_lines::{Span, line_text, part_of};
 use std::alloc::{AllocError, Allocator};
 use war_types::AsmFault;
 
