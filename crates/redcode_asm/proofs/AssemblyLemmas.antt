@@ -17,7 +17,7 @@ use Rattle.redcode_asm.specs.Said.{said_by}
 use Rattle.redcode_asm.specs.Assembly.{Placed, all_said, code_of, org_of, last_of, all_hold, of_length, last_text, is_name, is_author, warrior_with, assembly_of}
 use Rattle.redcode_asm.proofs.LoadLemmas.{end_tokens, org_tokens, code_lines, load_lines}
 
--- what the lines of so many instructions and END say, from this line number on
+-- what the lines of this code and END say, from this line number on
 abbrev said_lines : ℕ → List Instr → List Placed
 said_lines n [] = (n, statements.Nothing) ∷ []
 said_lines n (i ∷ is) = (n, statements.Instruction i) ∷ said_lines (n + 1) is
@@ -64,7 +64,7 @@ no_title : (is_kind : LineKind → Bool) (core n before : ℕ) (code : List Inst
 no_title is_kind core n before [] operation end = rw end refl
 no_title is_kind core n before (i ∷ is) operation end = rw (no_title is_kind core (n + 1) (before + 1) is operation end, operation) refl
 
--- code of 1 to so many instructions is not refused
+-- code of 1 to limit instructions is not refused
 of_length-fits : (limit : ℕ) (code : List Instr) → 0 < length code → length code ≤ limit → of_length limit code ≡ Ok tt
 of_length-fits limit code some few = grind (arith, nat_tests)
 

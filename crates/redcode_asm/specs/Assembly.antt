@@ -44,7 +44,7 @@ all_said s labels (line ∷ others) = said_on s labels line >>= λ first. all_sa
 abbrev pub code_of : List Placed → List Instr
 code_of said = flat_map (λ s. instr_said s.1) said
 
--- code of 1 to so many instructions
+-- code of 1 to `limit` instructions
 abbrev pub of_length : ℕ → List Instr → Result (Unit {0}) AsmFault
 of_length limit [] = Err (fault_at 0 kinds.Empty)
 of_length limit (i ∷ is) = if nat_lt limit (length (i ∷ is)) then Err (fault_at 0 kinds.TooLong) else Ok tt
@@ -75,7 +75,7 @@ end_of said = end_at said.0 said.1
 abbrev pub given_start : List Placed → Option (ℕ × ℤ)
 given_start said = option_or (last_of org_of said) (last_of end_of said)
 
--- the start among so many instructions, 0 where none is given
+-- the start among `count` instructions, 0 if none is given
 abbrev pub start_of : ℕ → Option (ℕ × ℤ) → Result ℕ AsmFault
 start_of count None = Ok 0
 start_of count (Some (line, pos n)) = if nat_lt n count then Ok n else Err (fault_at line kinds.BadStart)
@@ -106,7 +106,7 @@ abbrev pub is_author : LineKind → Bool
 is_author lines.Author = true
 is_author _ = false
 
--- the text of the last line of a kind, none where no line is of that kind
+-- the text of the last line of a kind, none if no line is of that kind
 abbrev pub last_text : (LineKind → Bool) → List ExpandedLine → Option (List ℕ)
 last_text is_kind all = last_of (λ line. title_if (is_kind line.kind) line.title) all
 
@@ -122,7 +122,7 @@ author_of all = title_of (unwrap_or (last_text is_author all) []) (codes "Anonym
 abbrev pub warrior_with : List Instr → ℕ → WarriorParts
 warrior_with code start = warrior_parts code start (codes "Unnamed") (codes "Anonymous")
 
--- the start of code that is neither too short nor too long, where no assertion fails
+-- the start of code that is neither too short nor too long, if no assertion fails
 abbrev pub checked_start : ℕ → List Placed → Result ℕ AsmFault
 checked_start limit said =
     of_length limit (code_of said) >>= λ _.

@@ -24,7 +24,7 @@ said_by_kind s labels lines.Assert word before tokens = assert_said (values_of s
 said_by_kind s labels lines.Other word before tokens = other_said word
 said_by_kind s labels _ word before tokens = Ok statements.Nothing
 
--- what a line of this kind, word and tokens says, with so many instructions before it, or the first of its faults in the order of
+-- what a line of this kind, word and tokens says, with `before` instructions before it, or the first of its faults in the order of
 -- their kinds
 unfoldable pub said_by : RawSettings → LabelList → LineKind → Option Word → ℕ → List Piece → Result Statement AsmKind
 said_by s labels kind word before tokens = if list_any is_bad tokens then Err kinds.BadToken else said_by_kind s labels kind word before tokens

@@ -22,10 +22,9 @@ type Said = (u32, Statement);
 
 /// Assembles a source of Redcode under these settings.
 ///
-/// The first refusal that is due is answered: those of the expansion, then the first expanded line with a fault, and in
-/// it the first fault in the order of `AsmKind`, then `Empty`, `TooLong`, `BadStart`, and the first assertion that doesn't
-/// hold. It names a line of the source, counted from 1, or 0 where none is to blame; `AsmKind::Memory` stands only
-/// where a growth was refused.
+/// The first refusal that is due is answered: that of the expansion; then the first fault of the first expanded line that has one, in
+/// the order of `AsmKind`; then `Empty`, `TooLong`, `BadStart`, and the first assertion that doesn't hold. It names a line of the
+/// source, counted from 1, or 0 if none is to blame. `AsmKind::Memory` stands only if memory ran out.
 #[tactic(auto, unfolding(crate::specs::Assembly::assembly))]
 pub fn assemble<A: Allocator + Copy>(
     alloc: A,
@@ -61,7 +60,7 @@ fn warrior_of<A: Allocator + Copy>(
     Ok(Warrior::new(code, start, name, author, settings).unwrap())
 }
 
-/// The start of the code of these lines, where that is neither too short nor too long and no assertion fails.
+/// The start of the code of these lines, if that is neither too short nor too long and no assertion fails.
 fn checked_start(code: &[Instr], said: &[Said], limit: u16) -> Result<u16, AsmFault>
     requires code { code.now ≡ code_of said.now }
     ensures { result ≡ checked_start limit said.now }
@@ -102,9 +101,9 @@ fn all_said<A: Allocator + Copy>(
     Ok(all)
 }
 
-/// What a line says, or the first of its faults.
+/// What a line of an expanded source says, or the first of its faults.
 #[tactic(auto, unfolding(crate::specs::Said::said_by))]
-fn said_by<A: Allocator + Copy>(
+pub fn said_by<A: Allocator + Copy>(
     expanded: &Expanded<'_, A>,
     settings: &Settings,
     entry: &Entry<'_, A>,
@@ -153,7 +152,7 @@ fn code_of<A: Allocator>(alloc: A, said: &[Said]) -> Result<Vec<Instr, A>, AsmFa
     Ok(code)
 }
 
-/// The start among so many instructions: that of the last `ORG`, else that of the `END`, else 0. It has to be an instruction.
+/// The start among `count` instructions: that of the last `ORG`, else that of the `END`, else 0. It has to be an instruction.
 fn start_of(said: &[Said], count: usize) -> Result<u16, AsmFault>
     requires { count < 2 ^ 16 }
     ensures { result ≡ start_of count (given_start said.now) }
@@ -188,7 +187,7 @@ fn check_assertions(said: &[Said]) -> Result<(), AsmFault>
     Ok(())
 }
 
-/// The texts of the last `;name` and of the last `;author`, nothing of one that is not there.
+/// The texts of the last `;name` and of the last `;author`, each empty if there is none.
 fn last_texts<'e, A: Allocator + Copy>(expanded: &'e Expanded<'_, A>) -> (&'e [u8], &'e [u8])
     ensures name { result.0.now ≡ unwrap_or (last_text is_name expanded.now.lines) [] }
     ensures author { result.1.now ≡ unwrap_or (last_text is_author expanded.now.lines) [] }

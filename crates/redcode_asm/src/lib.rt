@@ -1,17 +1,21 @@
 //! The assembler: from the source of a warrior to the warrior, and back to its load text.
 //!
-//! `assembler` has the source written out in lines by `redcode_expand`, has `redcode_statement` say what each line says, with
-//! what `names` stand for on it, and makes a warrior of that: its code, its start, its assertions and its titles. `printer`
-//! writes a warrior as load text.
+//! Data passes through the modules in this order: `assembler` has `redcode_expand` write out the lines of the source, and has
+//! `redcode_statement` say what each line says, with what `names` stand for on it. Of that it makes a warrior: its code, its start,
+//! its assertions and its titles. `printer` writes a warrior as load text.
 //!
-//! The main clauses: `assemble` is the definition of `Assembly` in `specs` or lacks memory, and a warrior that it answers fits
-//! the settings; `load_text` is the definition of `LoadText`, and by `RoundTrip` it assembles to its warrior's code and start.
+//! The main clauses: `assemble` is the definition of `Assembly` in `specs` unless memory runs out, and a warrior that it answers fits
+//! the settings. `load_text` is the definition of `LoadText`, and by `RoundTrip` it assembles to its warrior's code and start.
+//! `said_by` says what one line says, for those who explain a refusal.
+//!
+//! Nothing here explains a refusal: it answers a line and a kind.
 #![tactic(auto)]
 
 mod assembler;
 mod names;
 mod printer;
 
-pub use assembler::assemble;
+pub use assembler::{assemble, said_by};
+pub use names::Labels;
 pub use printer::load_text;
 pub use redcode_expand::SOURCE_LIMIT;

@@ -9,7 +9,7 @@ use war_types::Settings;
 
 /// What names stand for: a label is its address as seen from the origin, and the predefined names have their values.
 #[derive(Clone, Copy)]
-pub(crate) struct Labels<'e, 's, A: Allocator + Copy> {
+pub struct Labels<'e, 's, A: Allocator + Copy> {
     pub expanded: &'e Expanded<'s, A>,
     pub settings: &'e Settings,
     /// Instructions before the line.

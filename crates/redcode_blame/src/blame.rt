@@ -1,6 +1,6 @@
-//! What is to blame for a refusal, and the sentence that tells of it.
+//! What is to blame for a refusal, and the sentence that explains it.
 
-use crate::blocks::{duplicate_name, for_limit, unmatched_for, unmatched_rof};
+use crate::blocks::{duplicate_name, for_limit, unmatched};
 use crate::counts::count;
 use crate::equs::{bad_equ, equ_limit};
 use crate::expressions::expression;
@@ -9,23 +9,47 @@ use crate::said::{Part, sentence};
 use crate::scene::{Row, Scene};
 use crate::statements::{bad_modifier, bad_operation, bad_token, pspace};
 use crate::warriors::{assert_false, bad_start, empty, source_too_long, too_long};
-use redcode_places::Span;
+use redcode_lines::Span;
 use std::alloc::{AllocError, Allocator};
 use war_types::{AsmFault, AsmKind};
 
-/// What is to blame for a refusal, and the sentence that tells of it.
+/// What is to blame for a refusal, and the sentence that explains it.
 #[derive(Drop)]
 pub struct Blame<A: Allocator> {
     pub span: Span,
     pub sentence: Vec<u8, A>,
 }
 
-/// The blame with a sentence of these parts.
-pub(crate) fn blamed<A: Allocator>(
+/// A blame, unless memory runs out.
+pub(crate) type Answer<A> = Result<Blame<A>, AllocError>;
+
+/// The blame with this sentence.
+pub(crate) fn blamed_text<A: Allocator>(alloc: A, span: Span, text: &str) -> Answer<A> {
+    blamed(alloc, span, &[Part::Text(text)])
+}
+
+/// The blame with a sentence that begins with a word of the source.
+pub(crate) fn blamed_word<A: Allocator>(
     alloc: A,
     span: Span,
-    parts: &[Part<'_>],
-) -> Result<Blame<A>, AllocError> {
+    word: &[u8],
+    text: &str,
+) -> Answer<A> {
+    blamed(alloc, span, &[Part::Word(word), Part::Text(text)])
+}
+
+/// The blame with a sentence that ends with a word of the source.
+pub(crate) fn blamed_before<A: Allocator>(
+    alloc: A,
+    span: Span,
+    text: &str,
+    word: &[u8],
+) -> Answer<A> {
+    blamed(alloc, span, &[Part::Text(text), Part::Word(word)])
+}
+
+/// The blame with a sentence of these parts.
+pub(crate) fn blamed<A: Allocator>(alloc: A, span: Span, parts: &[Part<'_>]) -> Answer<A> {
     Ok(Blame {
         span,
         sentence: sentence(alloc, parts)?,
@@ -43,11 +67,7 @@ pub fn blame_of<A: Allocator + Copy>(
         AsmKind::TooLong => too_long(scene),
         kind => match scene.row(fault.line) {
             Some(row) => blame_on(scene, &row, fault),
-            None => blamed(
-                scene.alloc,
-                scene.whole(fault.line),
-                &[Part::Text(kind.name())],
-            ),
+            None => blamed_text(scene.alloc, scene.whole(fault.line), kind.name()),
         },
     }
 }
@@ -57,10 +77,9 @@ fn blame_on<'s, A: Allocator + Copy>(
     scene: &Scene<'s, A>,
     row: &Row<'_, 's>,
     fault: AsmFault,
-) -> Result<Blame<A>, AllocError> {
+) -> Answer<A> {
     match fault.kind {
-        AsmKind::UnmatchedFor => unmatched_for(scene, row),
-        AsmKind::UnmatchedRof => unmatched_rof(scene, row),
+        AsmKind::UnmatchedFor | AsmKind::UnmatchedRof => unmatched(scene, row),
         AsmKind::ForLimit => for_limit(scene, row),
         AsmKind::DuplicateName => duplicate_name(scene, row),
         AsmKind::BadEqu => bad_equ(scene, row),
@@ -76,7 +95,7 @@ fn blame_on<'s, A: Allocator + Copy>(
         AsmKind::BadStart => bad_start(scene, row),
         AsmKind::AssertFalse => assert_false(scene, row, fault),
         AsmKind::SourceTooLong | AsmKind::Empty | AsmKind::TooLong | AsmKind::Memory => {
-            blamed(scene.alloc, row.whole(), &[Part::Text(fault.kind.name())])
+            blamed_text(scene.alloc, row.whole(), fault.kind.name())
         }
     }
 }

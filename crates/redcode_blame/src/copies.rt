@@ -11,13 +11,13 @@ use war_types::AsmFault;
 /// A line as it reads in a copy of a block.
 #[derive(Drop)]
 pub struct Copied<A: Allocator> {
-    /// How often the line has been written out, this time included: the number of the copy, where no block stands around its block.
+    /// How often the line has been written out, this time included: the number of the copy, if no block stands around its block.
     pub times: u32,
     /// The line of the `FOR` of the innermost block around it.
     pub block: u32,
     /// Whether a block stands around that block.
     pub is_nested: bool,
-    /// Its tokens with a blank between two, counters and the names of `EQU` lines replaced.
+    /// Its tokens with a blank between two of them; counters and the names of `EQU` lines are replaced.
     pub text: Vec<u8, A>,
 }
 
@@ -32,46 +32,60 @@ pub fn copy_of<A: Allocator + Copy>(
     let Some(faulty) = faulty_line(expanded, scene.settings, fault) else {
         return Ok(None);
     };
-    let open = blocks_around(scene.alloc, scene.lines.as_slice(), fault.line)?;
-    let Some(block) = open.last() else {
+    let around = blocks_around(scene.lines.as_slice(), fault.line);
+    let Some(block) = around.innermost else {
         return Ok(None);
     };
     Ok(Some(Copied {
         times: faulty.times,
-        block: *block,
-        is_nested: open.len() > 1,
+        block,
+        is_nested: around.count > 1,
         text: text_of(scene.alloc, &faulty)?,
     }))
 }
 
-/// The lines of the `FOR`s whose blocks are open before the line of this number, the innermost last.
-pub(crate) fn blocks_around<A: Allocator + Copy>(
-    alloc: A,
-    lines: &[SourceLine<'_, A>],
-    number: u32,
-) -> Result<Vec<u32, A>, AllocError> {
-    let mut open = Vec::new(alloc);
-    for line in lines {
-        if line.number() >= number {
-            break;
-        }
+/// The blocks around a line.
+#[derive(Clone, Copy)]
+pub(crate) struct Around {
+    /// The line of the innermost block's `FOR`.
+    pub innermost: Option<u32>,
+    pub count: u32,
+}
+
+/// The blocks that are open before the line of this number.
+pub(crate) fn blocks_around<A: Allocator>(lines: &[SourceLine<'_, A>], number: u32) -> Around {
+    let mut closed: u32 = 0;
+    let mut around = Around {
+        innermost: None,
+        count: 0,
+    };
+    for line in lines.iter().rev() {
         match line.word() {
-            Some(Word::For) => open.push(line.number())?,
-            Some(Word::Rof) => {
-                open.pop();
+            _ if line.number() >= number => {}
+            Some(Word::Rof) => closed = closed.saturating_add(1),
+            Some(Word::For) if closed > 0 => closed = closed.saturating_sub(1),
+            Some(Word::For) => {
+                around.innermost = around.innermost.or(Some(line.number()));
+                around.count = around.count.saturating_add(1);
             }
             _ => {}
         }
     }
-    Ok(open)
+    around
 }
 
 /// A line as it reads.
-fn text_of<A: Allocator + Copy>(
-    alloc: A,
-    faulty: &Faulty<'_, '_>,
-) -> Result<Vec<u8, A>, AllocError> {
+fn text_of<A: Allocator>(alloc: A, faulty: &Faulty<'_, '_>) -> Result<Vec<u8, A>, AllocError> {
     let mut text = Vec::new(alloc);
+    append_line(&mut text, faulty)?;
+    Ok(text)
+}
+
+/// Appends a line as it reads.
+fn append_line<A: Allocator>(
+    text: &mut Vec<u8, A>,
+    faulty: &Faulty<'_, '_>,
+) -> Result<(), AllocError> {
     if let LineKind::Assert = faulty.line.kind {
         text.extend_from_slice(b";assert")?;
     }
@@ -81,5 +95,5 @@ fn text_of<A: Allocator + Copy>(
         }
         text.extend_from_slice(token.text)?;
     }
-    Ok(text)
+    Ok(())
 }

@@ -1,17 +1,16 @@
 //! Counts of blocks.
 
-use crate::blame::{Blame, blamed};
+use crate::blame::{Answer, blamed_text, blamed_word};
 use crate::blocks::word_of_row;
 use crate::definitions::{Role, definition};
 use crate::expressions::{division_by_zero, overflow};
 use crate::names::unknown_name;
-use crate::said::Part;
 use crate::scene::{Row, Scene};
 use crate::shape::{Shaped, no_expression};
 use redcode_expand::predefined;
 use redcode_lines::{behind_first, is_name};
 use redcode_text::Token;
-use std::alloc::{AllocError, Allocator};
+use std::alloc::Allocator;
 use war_types::ExprFault;
 
 /// The count of a block that has no value.
@@ -19,21 +18,14 @@ pub(crate) fn count<A: Allocator + Copy>(
     scene: &Scene<'_, A>,
     row: &Row<'_, '_>,
     kind: ExprFault,
-) -> Result<Blame<A>, AllocError> {
+) -> Answer<A> {
     let tokens = behind_first(row.reading.tokens);
     if tokens.is_empty() {
         let said = "a count is due behind `FOR`";
-        return blamed(scene.alloc, word_of_row(row), &[Part::Text(said)]);
+        return blamed_text(scene.alloc, word_of_row(row), said);
     }
     match kind {
-        ExprFault::BadExpression => {
-            let shaped = Shaped {
-                operand: tokens,
-                tokens,
-                may_part: false,
-            };
-            no_expression(scene, row, shaped)
-        }
+        ExprFault::BadExpression => no_expression(scene, row, Shaped::of(tokens)),
         ExprFault::UnknownName => unknown_in_count(scene, row, tokens),
         ExprFault::DivideByZero => division_by_zero(scene, row, tokens),
         ExprFault::Overflow => overflow(scene, row, tokens),
@@ -45,23 +37,26 @@ fn unknown_in_count<A: Allocator + Copy>(
     scene: &Scene<'_, A>,
     row: &Row<'_, '_>,
     tokens: &[Token<'_>],
-) -> Result<Blame<A>, AllocError> {
+) -> Answer<A> {
     let number = row.reading.number;
     let Some(name) = first_unknown(scene, tokens, number) else {
         let said =
             "a count knows numbers, predefined names and the names of `EQU` lines above it, and a name here is none of these";
-        return blamed(scene.alloc, row.spans(tokens), &[Part::Text(said)]);
+        return blamed_text(scene.alloc, row.spans(tokens), said);
     };
-    let why = match (
-        definition(scene, Role::Label, name.text, u32::MAX),
-        definition(scene, Role::Equ, name.text, u32::MAX),
-    ) {
-        (Some(_), _) => " is a label, and labels are not known in a count",
-        (None, Some(_)) => " is defined by an `EQU` below, and is not known here",
-        (None, None) => return unknown_name(scene, row, tokens, name.text),
-    };
-    let parts = [Part::Word(name.text), Part::Text(why)];
-    blamed(scene.alloc, row.span(name), &parts)
+    match unknown_why(scene, name.text) {
+        Some(why) => blamed_word(scene.alloc, row.span(name), name.text, why),
+        None => unknown_name(scene, row, tokens, name.text),
+    }
+}
+
+/// Why a name that the source defines is not known in a count.
+fn unknown_why<A: Allocator + Copy>(scene: &Scene<'_, A>, name: &[u8]) -> Option<&'static str> {
+    if definition(scene, Role::Label, name, u32::MAX).is_some() {
+        return Some(" is a label, and labels are not known in a count");
+    }
+    definition(scene, Role::Equ, name, u32::MAX)?;
+    Some(" is defined by an `EQU` below, and is not known here")
 }
 
 /// The first name among these tokens that is neither predefined nor a counter or the name of an `EQU` above this line.
@@ -71,13 +66,16 @@ fn first_unknown<'t, 's, A: Allocator + Copy>(
     number: u32,
 ) -> Option<&'t Token<'s>> {
     for token in tokens {
-        if is_name(token)
-            && predefined(scene.settings, 0, token.text).is_none()
-            && definition(scene, Role::Equ, token.text, number).is_none()
-            && definition(scene, Role::Counter, token.text, number).is_none()
-        {
+        if is_name(token) && !is_known(scene, token.text, number) {
             return Some(token);
         }
     }
     None
+}
+
+/// Whether a name is known in a count on the line of this number.
+fn is_known<A: Allocator + Copy>(scene: &Scene<'_, A>, name: &[u8], number: u32) -> bool {
+    predefined(scene.settings, 0, name).is_some()
+        || definition(scene, Role::Equ, name, number).is_some()
+        || definition(scene, Role::Counter, name, number).is_some()
 }

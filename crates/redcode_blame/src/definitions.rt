@@ -2,6 +2,7 @@
 
 use crate::nearest::Nearest;
 use crate::scene::Scene;
+use redcode_expand::Expanded;
 use redcode_lines::{LineForm, Reading, is_name};
 use redcode_text::{Token, Word};
 use std::alloc::{AllocError, Allocator};
@@ -19,7 +20,7 @@ const PREDEFINED: [&str; 8] = [
 ];
 
 /// What a name may be.
-#[derive(Clone, Copy, Debug)]
+#[derive(Clone, Copy)]
 pub(crate) enum Role {
     Label,
     /// The name of an `EQU`.
@@ -88,33 +89,42 @@ pub(crate) fn nearest_name<'n, A: Allocator + Copy>(
 ) -> Result<Option<&'n [u8]>, AllocError> {
     let mut nearest = Nearest::new(name);
     for line in &scene.lines {
-        let reading = line.reading();
-        if matches!(reading.form, LineForm::Statement) {
-            offer_labels(scene, &mut nearest, reading.labels(), reading.word)?;
-        }
+        offer_labels(scene, &mut nearest, line.reading())?;
     }
-    for predefined in PREDEFINED {
+    for predefined in &PREDEFINED {
         nearest.offer(scene.alloc, predefined.as_bytes())?;
     }
     Ok(nearest.found())
 }
 
-/// Offers the names that a line with this word defines.
+/// Offers the names that a line defines.
 fn offer_labels<'n, A: Allocator + Copy>(
     scene: &'n Scene<'_, A>,
-    nearest: &mut Nearest<'n>,
-    labels: &'n [Token<'_>],
-    word: Option<Word>,
+    nearest: &mut Nearest<'n, 'n>,
+    line: Reading<'n, '_>,
 ) -> Result<(), AllocError> {
-    if let (Some(Word::Equ), Some(name)) = (word, last_name(labels)) {
+    if !matches!(line.form, LineForm::Statement) {
+        return Ok(());
+    }
+    if let (Some(Word::Equ), Some(name)) = (line.word, last_name(line.labels())) {
         nearest.offer(scene.alloc, name)?;
     }
-    let Some(expanded) = &scene.expanded else {
-        return Ok(());
-    };
+    match &scene.expanded {
+        Some(expanded) => offer_defined(scene.alloc, expanded, nearest, line.labels()),
+        None => Ok(()),
+    }
+}
+
+/// Offers those of these names that are labels.
+fn offer_defined<'n, A: Allocator + Copy>(
+    alloc: A,
+    expanded: &Expanded<'_, A>,
+    nearest: &mut Nearest<'n, 'n>,
+    labels: &'n [Token<'_>],
+) -> Result<(), AllocError> {
     for label in labels {
         if is_name(label) && expanded.label(label.text).is_some() {
-            nearest.offer(scene.alloc, label.text)?;
+            nearest.offer(alloc, label.text)?;
         }
     }
     Ok(())

@@ -1,42 +1,38 @@
 //! Faults of `EQU` lines, and of what their names stand for.
 
-use crate::blame::{Blame, blamed};
+use crate::blame::{Answer, blamed_before, blamed_text, blamed_word};
 use crate::blocks::word_of_row;
 use crate::definitions::{Role, definition, last_name};
 use crate::operands::operands_in;
-use crate::said::Part;
 use crate::scene::{Row, Scene};
 use redcode_lines::{behind_first, is_name, word_at};
 use redcode_text::{Token, Word};
-use std::alloc::{AllocError, Allocator};
+use std::alloc::Allocator;
 
 /// Tokens that operands may have, before and after their names are replaced.
 const TOKEN_LIMIT: usize = 512;
 
 /// An `EQU` without a name or a body, or with a reserved word in its body.
-pub(crate) fn bad_equ<A: Allocator + Copy>(
-    scene: &Scene<'_, A>,
-    row: &Row<'_, '_>,
-) -> Result<Blame<A>, AllocError> {
-    let Some(name) = last_name(row.reading.labels()) else {
-        let said = "a name is due before `EQU`, as in `step EQU 4`";
-        return blamed(scene.alloc, word_of_row(row), &[Part::Text(said)]);
-    };
-    match reserved_in(behind_first(row.reading.tokens)) {
-        Some(word) => {
-            let parts = [
-                Part::Word(word.text),
-                Part::Text(" is a reserved word, and can't stand in the body of an `EQU`"),
-            ];
-            blamed(scene.alloc, row.span(word), &parts)
+pub(crate) fn bad_equ<A: Allocator + Copy>(scene: &Scene<'_, A>, row: &Row<'_, '_>) -> Answer<A> {
+    let word = word_of_row(row);
+    match (
+        last_name(row.reading.labels()),
+        reserved_in(behind_first(row.reading.tokens)),
+    ) {
+        (None, _) => {
+            let said = "a name is due before `EQU`, as in `step EQU 4`";
+            blamed_text(scene.alloc, word, said)
         }
-        None => {
-            let parts = [
-                Part::Text("nothing stands behind the `EQU` of "),
-                Part::Word(name),
-            ];
-            blamed(scene.alloc, word_of_row(row), &parts)
+        (Some(_), Some(reserved)) => {
+            let said = " is a reserved word, and can't stand in the body of an `EQU`";
+            blamed_word(scene.alloc, row.span(reserved), reserved.text, said)
         }
+        (Some(name), None) => blamed_before(
+            scene.alloc,
+            word,
+            "nothing stands behind the `EQU` of ",
+            name,
+        ),
     }
 }
 
@@ -72,29 +68,21 @@ pub(crate) fn first_equ<'t, 's, A: Allocator + Copy>(
 }
 
 /// Operands of too many tokens, or a name that is left after the last round.
-pub(crate) fn equ_limit<A: Allocator + Copy>(
-    scene: &Scene<'_, A>,
-    row: &Row<'_, '_>,
-) -> Result<Blame<A>, AllocError> {
+pub(crate) fn equ_limit<A: Allocator + Copy>(scene: &Scene<'_, A>, row: &Row<'_, '_>) -> Answer<A> {
     let tokens = replaced_in(row);
     if tokens.len() > TOKEN_LIMIT {
         let said = "there are more than 512 tokens here";
-        return blamed(scene.alloc, row.spans(tokens), &[Part::Text(said)]);
+        return blamed_text(scene.alloc, row.spans(tokens), said);
     }
     match first_equ(scene, tokens) {
         Some(name) => {
-            let parts = [
-                Part::Word(name.text),
-                Part::Text(
-                    " leads to itself again, or more than 16 deep, or to more than 512 tokens",
-                ),
-            ];
-            blamed(scene.alloc, row.span(name), &parts)
+            let said = " leads to itself again, or more than 16 deep, or to more than 512 tokens";
+            blamed_word(scene.alloc, row.span(name), name.text, said)
         }
         None => {
             let said =
                 "there are more than 512 tokens here, or names of `EQU` lines more than 16 deep";
-            blamed(scene.alloc, row.spans(tokens), &[Part::Text(said)])
+            blamed_text(scene.alloc, row.spans(tokens), said)
         }
     }
 }

@@ -1,6 +1,6 @@
 //! Expressions without a value.
 
-use crate::blame::{Blame, blamed};
+use crate::blame::{Answer, blamed, blamed_text};
 use crate::judge::{Faulty, faulty_line, labels_on};
 use crate::names::{first_unknown, unknown_name};
 use crate::operands::{at_comma, operand_at, operands_in, without_mode};
@@ -10,7 +10,7 @@ use crate::shape::{Shaped, no_expression};
 use redcode_expand::{Expanded, LineKind};
 use redcode_lines::{has_text, operands_of};
 use redcode_text::{Names, Token, TokenKind, value};
-use std::alloc::{AllocError, Allocator};
+use std::alloc::Allocator;
 use war_types::{AsmFault, ExprFault, Settings};
 
 /// The expression of an operand, of `ORG`, of `END` or of an assertion.
@@ -19,14 +19,14 @@ pub(crate) fn expression<A: Allocator + Copy>(
     row: &Row<'_, '_>,
     fault: AsmFault,
     kind: ExprFault,
-) -> Result<Blame<A>, AllocError> {
+) -> Answer<A> {
     if let Some(expanded) = &scene.expanded
         && let Some(faulty) = faulty_line(expanded, scene.settings, fault)
     {
         return expression_on(scene, expanded, row, faulty, kind);
     }
     let span = row.spans(operands_in(&row.reading));
-    blamed(scene.alloc, span, &[Part::Text(kind.name())])
+    blamed_text(scene.alloc, span, kind.name())
 }
 
 /// The expression of a line that reads so.
@@ -36,36 +36,43 @@ fn expression_on<A: Allocator + Copy>(
     row: &Row<'_, '_>,
     faulty: Faulty<'_, '_>,
     kind: ExprFault,
-) -> Result<Blame<A>, AllocError> {
+) -> Answer<A> {
     let is_second = is_second(expanded, scene.settings, faulty);
-    let operands = operands_in(&row.reading);
-    let operand = operand_at(operands, is_second);
-    let is_operation = matches!(faulty.line.kind, LineKind::Operation);
-    let tokens = if is_operation {
-        without_mode(operand)
-    } else {
-        operand
-    };
+    let shaped = shaped_in(operands_in(&row.reading), faulty.line.kind, is_second);
     match kind {
-        ExprFault::BadExpression => {
-            let shaped = Shaped {
-                operand,
-                tokens,
-                may_part: is_operation && at_comma(operands).is_none(),
-            };
-            no_expression(scene, row, shaped)
-        }
-        ExprFault::UnknownName => {
-            let names = labels_on(expanded, scene.settings, faulty.line);
-            let read = operand_at(operands_of(faulty.line.kind, faulty.tokens), is_second);
-            match first_unknown(read, &names) {
-                Some(name) => unknown_name(scene, row, operand, name),
-                None => blamed(scene.alloc, row.spans(operand), &[Part::Text(kind.name())]),
-            }
-        }
-        ExprFault::DivideByZero => division_by_zero(scene, row, tokens),
-        ExprFault::Overflow => overflow(scene, row, tokens),
+        ExprFault::BadExpression => no_expression(scene, row, shaped),
+        ExprFault::DivideByZero => division_by_zero(scene, row, shaped.tokens),
+        ExprFault::Overflow => overflow(scene, row, shaped.tokens),
+        ExprFault::UnknownName => match unknown_on(expanded, scene.settings, faulty, is_second) {
+            Some(name) => unknown_name(scene, row, shaped.operand, name),
+            None => blamed_text(scene.alloc, row.spans(shaped.operand), kind.name()),
+        },
     }
+}
+
+/// The second operand or the first one of a line of this kind, as it is written.
+fn shaped_in<'l, 's>(operands: &'l [Token<'s>], kind: LineKind, is_second: bool) -> Shaped<'l, 's> {
+    let operand = operand_at(operands, is_second);
+    match kind {
+        LineKind::Operation => Shaped {
+            operand,
+            tokens: without_mode(operand),
+            may_part: at_comma(operands).is_none(),
+        },
+        _ => Shaped::of(operand),
+    }
+}
+
+/// The first name without a value in the second operand of a line or in the first one.
+fn unknown_on<'s, A: Allocator + Copy>(
+    expanded: &Expanded<'_, A>,
+    settings: &Settings,
+    faulty: Faulty<'_, 's>,
+    is_second: bool,
+) -> Option<&'s [u8]> {
+    let names = labels_on(expanded, settings, faulty.line);
+    let operands = operands_of(faulty.line.kind, faulty.tokens);
+    first_unknown(operand_at(operands, is_second), &names)
 }
 
 /// Whether the first operand of a line has a value, so that the fault is the second one's.
@@ -89,23 +96,18 @@ pub(crate) fn division_by_zero<A: Allocator + Copy>(
     scene: &Scene<'_, A>,
     row: &Row<'_, '_>,
     tokens: &[Token<'_>],
-) -> Result<Blame<A>, AllocError> {
+) -> Answer<A> {
     let said = match (is_among(tokens, b"/"), is_among(tokens, b"%")) {
         (true, false) => "a division by zero",
         (false, true) => "a remainder of a division by zero",
         _ => "a division by zero, or a remainder of one",
     };
-    blamed(scene.alloc, row.spans(tokens), &[Part::Text(said)])
+    blamed_text(scene.alloc, row.spans(tokens), said)
 }
 
 /// Whether a symbol is among these tokens.
 fn is_among(tokens: &[Token<'_>], symbol: &[u8]) -> bool {
-    for token in tokens {
-        if has_text(token, symbol) {
-            return true;
-        }
-    }
-    false
+    tokens.iter().any(|token| has_text(token, symbol))
 }
 
 /// A number or a result that is too large in these tokens.
@@ -113,23 +115,35 @@ pub(crate) fn overflow<A: Allocator + Copy>(
     scene: &Scene<'_, A>,
     row: &Row<'_, '_>,
     tokens: &[Token<'_>],
-) -> Result<Blame<A>, AllocError> {
-    for token in tokens {
-        if is_too_large(token) {
+) -> Answer<A> {
+    match first_too_large(tokens) {
+        Some(token) => {
             let parts = [
                 Part::Word(token.text),
                 Part::Text(" is past the largest number, "),
                 Part::Number(i64::MAX),
             ];
-            return blamed(scene.alloc, row.span(token), &parts);
+            blamed(scene.alloc, row.span(token), &parts)
+        }
+        None => {
+            let said = "a result here is no 64-bit signed number";
+            blamed_text(scene.alloc, row.spans(tokens), said)
         }
     }
-    let said = "a result here is no 64-bit signed number";
-    blamed(scene.alloc, row.spans(tokens), &[Part::Text(said)])
+}
+
+/// The first of the tokens that is a number of more than 63 bits.
+fn first_too_large<'t, 's>(tokens: &'t [Token<'s>]) -> Option<&'t Token<'s>> {
+    for token in tokens {
+        if is_too_large(token) {
+            return Some(token);
+        }
+    }
+    None
 }
 
 /// Names that stand for nothing.
-#[derive(Clone, Copy, Debug)]
+#[derive(Clone, Copy)]
 struct NoNames;
 
 impl Names for NoNames {

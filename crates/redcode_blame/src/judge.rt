@@ -1,41 +1,15 @@
 //! The faults of a source's lines, each line judged by itself.
 
 use crate::scene::Scene;
-use redcode_expand::{Entry, Expanded, Line, LineKind, predefined};
-use redcode_lines::behind_first;
-use redcode_statement::{
-    Statement, assert_said, end_said, has_bad_token, instruction_of, org_said, other_said,
-};
-use redcode_text::{Names, Token};
+use redcode_asm::{Labels, said_by};
+use redcode_expand::{Entry, Expanded, Line, LineKind};
+use redcode_statement::Statement;
+use redcode_text::Token;
 use std::alloc::{AllocError, Allocator};
 use war_types::{AsmFault, AsmKind, Settings};
 
-/// Refusals that are told at most.
+/// Refusals that are reported at most.
 const FAULT_LIMIT: usize = 100;
-
-/// What names stand for on a line.
-#[derive(Clone, Copy)]
-pub(crate) struct Labels<'e, 's, A: Allocator + Copy> {
-    pub expanded: &'e Expanded<'s, A>,
-    pub settings: &'e Settings,
-    /// Instructions before the line.
-    pub before: u32,
-    /// The instruction's own address in an operand, and 0 in `ORG`, `END` and `;assert`.
-    pub origin: u32,
-}
-
-impl<'e, 's, A: Allocator + Copy> Names for Labels<'e, 's, A> {
-    ghost use Rattle.redcode_asm.specs.Names.{values_of};
-
-    ghost values = { λ it. values_of it.settings.now it.expanded.now.labels it.before it.origin };
-
-    fn value_of(&self, name: &[u8]) -> Option<i64> {
-        match self.expanded.label(name) {
-            Some(address) => Some(i64::from(address) - i64::from(self.origin)),
-            None => predefined(self.settings, self.before, name),
-        }
-    }
-}
 
 /// What names stand for on a line.
 pub(crate) fn labels_on<'e, 's, A: Allocator + Copy>(
@@ -53,31 +27,6 @@ pub(crate) fn labels_on<'e, 's, A: Allocator + Copy>(
         settings,
         before,
         origin,
-    }
-}
-
-/// What a line says, or the first of its faults.
-pub(crate) fn said_by<A: Allocator + Copy>(
-    expanded: &Expanded<'_, A>,
-    settings: &Settings,
-    entry: &Entry<'_, A>,
-) -> Result<Statement, AsmKind> {
-    let tokens = entry.tokens.as_slice();
-    if has_bad_token(tokens) {
-        return Err(AsmKind::BadToken);
-    }
-    let names = labels_on(expanded, settings, entry.line);
-    match entry.line.kind {
-        LineKind::Operation => {
-            let operands = behind_first(tokens);
-            let instr = instruction_of(settings.core(), entry.word, operands, &names)?;
-            Ok(Statement::Instruction(instr))
-        }
-        LineKind::Org => org_said(behind_first(tokens), &names),
-        LineKind::End => end_said(behind_first(tokens), &names),
-        LineKind::Assert => assert_said(tokens, &names),
-        LineKind::Name | LineKind::Author => Ok(Statement::Nothing),
-        LineKind::Other => other_said(entry.word),
     }
 }
 
@@ -118,7 +67,7 @@ pub fn further_faults<A: Allocator + Copy>(
     Ok(faults)
 }
 
-/// Whether a fault of this line is among those.
+/// Whether a fault of this line is among the faults.
 fn is_told(faults: &[AsmFault], line: u32) -> bool {
     for fault in faults {
         if fault.line == line {
@@ -129,7 +78,7 @@ fn is_told(faults: &[AsmFault], line: u32) -> bool {
 }
 
 /// A line of the expanded source with a fault.
-#[derive(Clone, Copy, Debug)]
+#[derive(Clone, Copy)]
 pub(crate) struct Faulty<'e, 's> {
     pub line: Line,
     /// As they stand in `Expanded`.

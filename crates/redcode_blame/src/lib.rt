@@ -1,10 +1,12 @@
-//! What is to blame for a refusal of a source, and the sentence that tells of it.
+//! What is to blame for a refusal of a source, and the sentence that explains it.
 //!
-//! `scene` knows the source: its lines as they stand, and written out. `judge` has the faults of further lines; `blame` asks, for each kind, who
-//! is to blame: `warriors`, `blocks`, `equs`, `counts`, `statements`, `operands`, `expressions`, and within those `shape` and `names`. `said`
-//! puts sentences together, `definitions` and `nearest` find names, and `copies` the copy of a block.
+//! `scene` knows the source: its lines as they stand, and written out. `judge` has the faults of further lines; `blame` asks, for each
+//! kind of fault, what is to blame: `warriors`, `blocks`, `equs`, `counts`, `statements`, `operands`, `expressions`, and within those
+//! `shape` and `names`. `said` puts sentences together, `definitions` and `nearest` find names, and `copies` the copy of a block.
 //!
-//! Which part of a line is blamed, the sentences, and the refusals behind the first are help and no promise: no clause speaks of them, and
+//! What a line says and stands for is `redcode_asm`'s, so that nothing here can disagree with the assembler.
+//!
+//! Which part of a line is blamed, the sentences, and the refusals after the first are help and no promise: no clause speaks of them, and
 //! tests compare them word for word. Nothing here changes what is refused.
 #![tactic(auto)]
 

@@ -1,14 +1,13 @@
 //! Names that nothing defines.
 
-use crate::blame::{Blame, blamed};
+use crate::blame::{Answer, blamed};
 use crate::definitions::{Role, definition, nearest_name};
 use crate::nearest::is_reserved;
-use crate::said::{Part, say, sentence};
+use crate::said::Part;
 use crate::scene::{Row, Scene};
-use redcode_lines::{has_text, is_name};
-use redcode_places::Span;
+use redcode_lines::{Span, has_text, is_name};
 use redcode_text::{Names, Token};
-use std::alloc::{AllocError, Allocator};
+use std::alloc::Allocator;
 
 /// The first name among these tokens without a value.
 pub(crate) fn first_unknown<'s, N: Names>(tokens: &[Token<'s>], names: &N) -> Option<&'s [u8]> {
@@ -26,30 +25,23 @@ pub(crate) fn unknown_name<A: Allocator + Copy>(
     row: &Row<'_, '_>,
     tokens: &[Token<'_>],
     name: &[u8],
-) -> Result<Blame<A>, AllocError> {
-    if let Some(span) = written_at(row, tokens, name) {
-        return Ok(Blame {
-            span,
-            sentence: sentence_on(scene, name)?,
-        });
+) -> Answer<A> {
+    let written = written_at(row, tokens, name);
+    match (written, joined_at(row, tokens, name)) {
+        (Some(span), _) => not_defined(scene, span, name, ""),
+        (None, Some(span)) => {
+            let parts = [
+                NOTHING,
+                Part::Word(name),
+                Part::Text(", which is joined here"),
+            ];
+            blamed(scene.alloc, span, &parts)
+        }
+        (None, None) => {
+            let said = " (the body of an `EQU` that is used here names it)";
+            not_defined(scene, row.spans(tokens), name, said)
+        }
     }
-    if let Some(span) = joined_at(row, tokens, name) {
-        let parts = [
-            Part::Text("nothing is called "),
-            Part::Word(name),
-            Part::Text(", which is joined here"),
-        ];
-        return blamed(scene.alloc, span, &parts);
-    }
-    let mut sentence = sentence_on(scene, name)?;
-    say(
-        &mut sentence,
-        &[Part::Text(" (the body of an `EQU` that is used here names it)")],
-    )?;
-    Ok(Blame {
-        span: row.spans(tokens),
-        sentence,
-    })
 }
 
 /// Where a name stands among the tokens of a line.
@@ -77,52 +69,74 @@ fn joined_at(row: &Row<'_, '_>, tokens: &[Token<'_>], name: &[u8]) -> Option<Spa
     None
 }
 
-/// What is told of a name that nothing defines.
-fn sentence_on<A: Allocator + Copy>(
+/// A name that nothing defines, with a text at the end of the sentence.
+fn not_defined<'p, A: Allocator + Copy>(
     scene: &Scene<'_, A>,
-    name: &[u8],
-) -> Result<Vec<u8, A>, AllocError> {
+    span: Span,
+    name: &'p [u8],
+    end: &'p str,
+) -> Answer<A> {
     if is_reserved(name) {
         let parts = [
             Part::Word(name),
             Part::Text(" is a reserved word, and no name"),
+            Part::Text(end),
         ];
-        return sentence(scene.alloc, &parts);
+        return blamed(scene.alloc, span, &parts);
     }
-    if let Some(line) = definition(scene, Role::Counter, name, u32::MAX) {
-        let parts = [
-            Part::Word(name),
-            Part::Text(" is the counter of the block of line "),
-            Part::Number(i64::from(line)),
-            Part::Text(", and is replaced in the lines of that block alone"),
-        ];
-        return sentence(scene.alloc, &parts);
+    match definition(scene, Role::Counter, name, u32::MAX) {
+        Some(line) => counter_outside(scene.alloc, span, name, line, end),
+        None => match nearest_name(scene, name)? {
+            Some(nearest) => did_you_mean(scene.alloc, span, name, nearest, end),
+            None => {
+                let parts = [NOTHING, Part::Word(name), Part::Text(end)];
+                blamed(scene.alloc, span, &parts)
+            }
+        },
     }
-    let parts = [Part::Text("nothing is called "), Part::Word(name)];
-    let mut said = sentence(scene.alloc, &parts)?;
-    if let Some(nearest) = nearest_name(scene, name)? {
-        say_nearest(&mut said, name, nearest)?;
-    }
-    Ok(said)
 }
 
-/// Says which name was probably meant.
-pub(crate) fn say_nearest<A: Allocator>(
-    said: &mut Vec<u8, A>,
-    name: &[u8],
-    nearest: &[u8],
-) -> Result<(), AllocError> {
+/// What is said before a name that nothing defines.
+const NOTHING: Part<'static> = Part::Text("nothing is called ");
+
+/// A counter that is named outside its block.
+fn counter_outside<'p, A: Allocator>(
+    alloc: A,
+    span: Span,
+    name: &'p [u8],
+    line: u32,
+    end: &'p str,
+) -> Answer<A> {
     let parts = [
+        Part::Word(name),
+        Part::Text(" is the counter of the block of line "),
+        Part::Number(i64::from(line)),
+        Part::Text(", and is replaced in the lines of that block alone"),
+        Part::Text(end),
+    ];
+    blamed(alloc, span, &parts)
+}
+
+/// A name that nothing defines, and the name that was probably meant.
+fn did_you_mean<'p, A: Allocator>(
+    alloc: A,
+    span: Span,
+    name: &'p [u8],
+    nearest: &'p [u8],
+    end: &'p str,
+) -> Answer<A> {
+    let question = if name.eq_ignore_ascii_case(nearest) {
+        "? Upper and lower case differ in names."
+    } else {
+        "?"
+    };
+    let parts = [
+        NOTHING,
+        Part::Word(name),
         Part::Text("; did you mean "),
         Part::Word(nearest),
-        Part::Text("?"),
+        Part::Text(question),
+        Part::Text(end),
     ];
-    say(said, &parts)?;
-    if name.eq_ignore_ascii_case(nearest) {
-        say(
-            said,
-            &[Part::Text(" Upper and lower case differ in names.")],
-        )?;
-    }
-    Ok(())
+    blamed(alloc, span, &parts)
 }

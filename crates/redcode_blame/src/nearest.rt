@@ -5,7 +5,7 @@ use std::alloc::{AllocError, Allocator};
 use std::str::from_utf8;
 use strsim::osa_distance;
 
-/// Bytes of a name that a nearest one is looked for.
+/// Bytes of the longest name that a nearest one is looked for.
 const NAME_LIMIT: usize = 32;
 
 /// How many edits are too many.
@@ -19,15 +19,15 @@ const WORDS: [&str; 25] = [
 
 /// The search for the name that is nearest to a misspelt one: at most two letters may be put in, left out, replaced or exchanged with their
 /// neighbour, and less than half of its letters. Of two that are as near the first counts.
-#[derive(Clone, Copy, Debug)]
-pub(crate) struct Nearest<'n> {
-    word: &'n [u8],
+#[derive(Clone, Copy)]
+pub(crate) struct Nearest<'w, 'n> {
+    word: &'w [u8],
     found: Option<&'n [u8]>,
     distance: usize,
 }
 
-impl<'n> Nearest<'n> {
-    pub(crate) fn new(word: &'n [u8]) -> Nearest<'n> {
+impl<'w, 'n> Nearest<'w, 'n> {
+    pub(crate) fn new(word: &'w [u8]) -> Nearest<'w, 'n> {
         Nearest {
             word,
             found: None,
@@ -73,26 +73,29 @@ fn edits<A: Allocator + Copy>(alloc: A, from: &[u8], to: &[u8]) -> Result<usize,
 pub(crate) fn nearest_word<A: Allocator + Copy>(
     alloc: A,
     text: &[u8],
-) -> Result<Option<&'static str>, AllocError> {
+) -> Result<Option<&'static [u8]>, AllocError> {
     let mut upper = Vec::from_slice(alloc, text)?;
     for byte in upper.iter_mut() {
         *byte = byte.to_ascii_uppercase();
     }
-    let mut found = None;
-    let mut least = TOO_FAR;
-    for word in WORDS {
-        let distance = edits(alloc, upper.as_slice(), word.as_bytes())?;
-        if distance < least && 2 * distance.min(TOO_FAR) < text.len() {
-            found = Some(word);
-            least = distance;
-        }
+    nearest_upper(alloc, upper.as_slice())
+}
+
+/// The reserved word that is nearest to a text without small letters.
+fn nearest_upper<A: Allocator + Copy>(
+    alloc: A,
+    text: &[u8],
+) -> Result<Option<&'static [u8]>, AllocError> {
+    let mut nearest = Nearest::new(text);
+    for word in &WORDS {
+        nearest.offer(alloc, word.as_bytes())?;
     }
-    Ok(found)
+    Ok(nearest.found())
 }
 
 /// Whether a name is an operation.
-pub(crate) fn is_operation(name: &str) -> bool {
-    matches!(word_of(name.as_bytes()), Some(Word::Operation(_)))
+pub(crate) fn is_operation(name: &[u8]) -> bool {
+    matches!(word_of(name), Some(Word::Operation(_)))
 }
 
 /// Whether a name is a reserved word.

@@ -1,12 +1,11 @@
 //! Operands that are missing, or too many.
 
-use crate::blame::{Blame, blamed};
-use crate::said::Part;
+use crate::blame::{Answer, blamed_text, blamed_word};
 use crate::scene::{Row, Scene};
 use redcode_expand::LineKind;
 use redcode_lines::{LineForm, Reading, has_text, operands_of};
 use redcode_text::{Token, Word, mode_named};
-use std::alloc::{AllocError, Allocator};
+use std::alloc::Allocator;
 
 /// What kind of line this is.
 pub(crate) fn kind_of(line: &Reading<'_, '_>) -> LineKind {
@@ -27,7 +26,7 @@ pub(crate) fn operands_in<'l, 's>(line: &Reading<'l, 's>) -> &'l [Token<'s>] {
 }
 
 /// Tokens with a comma among them.
-#[derive(Clone, Copy, Debug)]
+#[derive(Clone, Copy)]
 pub(crate) struct Parted<'l, 's> {
     pub before: &'l [Token<'s>],
     pub comma: &'l Token<'s>,
@@ -74,28 +73,27 @@ pub(crate) fn without_mode<'l, 's>(operand: &'l [Token<'s>]) -> &'l [Token<'s>] 
 pub(crate) fn missing_operand<A: Allocator + Copy>(
     scene: &Scene<'_, A>,
     row: &Row<'_, '_>,
-) -> Result<Blame<A>, AllocError> {
+) -> Answer<A> {
     let operands = operands_in(&row.reading);
     match (at_comma(operands), row.reading.tokens) {
+        (Some(found), _) if found.before.is_empty() => {
+            let said = "nothing stands before this comma";
+            blamed_text(scene.alloc, row.span(found.comma), said)
+        }
         (Some(found), _) => {
-            let side = if found.before.is_empty() {
-                "nothing stands before this comma"
-            } else {
-                "nothing stands behind this comma"
-            };
-            blamed(scene.alloc, row.span(found.comma), &[Part::Text(side)])
+            let said = "nothing stands behind this comma";
+            blamed_text(scene.alloc, row.span(found.comma), said)
         }
         (None, [word, ..]) if operands.is_empty() => {
             let needs = match row.reading.word {
                 Some(Word::Org) => " needs the address of an instruction",
                 _ => " needs an operand",
             };
-            let parts = [Part::Word(word.text), Part::Text(needs)];
-            blamed(scene.alloc, row.span(word), &parts)
+            blamed_word(scene.alloc, row.span(word), word.text, needs)
         }
         _ => {
             let said = "an operand is missing once the names of `EQU` lines are replaced";
-            blamed(scene.alloc, row.whole(), &[Part::Text(said)])
+            blamed_text(scene.alloc, row.whole(), said)
         }
     }
 }
@@ -104,7 +102,7 @@ pub(crate) fn missing_operand<A: Allocator + Copy>(
 pub(crate) fn extra_text<A: Allocator + Copy>(
     scene: &Scene<'_, A>,
     row: &Row<'_, '_>,
-) -> Result<Blame<A>, AllocError> {
+) -> Answer<A> {
     let operands = operands_in(&row.reading);
     let (most, extra) = match (kind_of(&row.reading), at_comma(operands)) {
         (LineKind::Operation, Some(first)) => (
@@ -114,10 +112,10 @@ pub(crate) fn extra_text<A: Allocator + Copy>(
         (_, first) => ("a comma: one expression stands here, and no more", first),
     };
     match extra {
-        Some(found) => blamed(scene.alloc, row.span(found.comma), &[Part::Text(most)]),
+        Some(found) => blamed_text(scene.alloc, row.span(found.comma), most),
         None => {
             let said = "there is a comma too many once the names of `EQU` lines are replaced";
-            blamed(scene.alloc, row.spans(operands), &[Part::Text(said)])
+            blamed_text(scene.alloc, row.spans(operands), said)
         }
     }
 }

@@ -4,7 +4,7 @@ use itoa::Buffer;
 use std::alloc::{AllocError, Allocator};
 
 /// A part of a sentence.
-#[derive(Clone, Copy, Debug)]
+#[derive(Clone, Copy)]
 pub enum Part<'p> {
     /// Words of the sentence itself.
     Text(&'p str),
@@ -28,16 +28,21 @@ pub(crate) fn sentence<A: Allocator>(
 /// Appends these parts to a sentence.
 pub fn say<A: Allocator>(sentence: &mut Vec<u8, A>, parts: &[Part<'_>]) -> Result<(), AllocError> {
     for part in parts {
-        match part {
-            Part::Text(text) => sentence.extend_from_slice(text.as_bytes())?,
-            Part::Word(word) => quote(sentence, word)?,
-            Part::Bytes(bytes) => append_shown(sentence, bytes)?,
-            Part::Number(number) => {
-                sentence.extend_from_slice(Buffer::new().format(*number).as_bytes())?
-            }
-        }
+        say_part(sentence, *part)?;
     }
     Ok(())
+}
+
+/// Appends a part to a sentence.
+fn say_part<A: Allocator>(sentence: &mut Vec<u8, A>, part: Part<'_>) -> Result<(), AllocError> {
+    match part {
+        Part::Text(text) => sentence.extend_from_slice(text.as_bytes()),
+        Part::Word(word) => quote(sentence, word),
+        Part::Bytes(bytes) => append_shown(sentence, bytes),
+        Part::Number(number) => {
+            sentence.extend_from_slice(Buffer::new().format(number).as_bytes())
+        }
+    }
 }
 
 /// Appends a word between backticks.
@@ -56,7 +61,7 @@ pub fn append_shown<A: Allocator>(shown: &mut Vec<u8, A>, text: &[u8]) -> Result
     Ok(())
 }
 
-/// The byte, or a question mark for one of control other than the tab.
+/// The byte, or a question mark for a control byte other than the tab.
 fn shown_byte(byte: u8) -> u8 {
     if byte.is_ascii_control() && byte != b'\t' {
         b'?'

@@ -2,8 +2,10 @@
 
 use bumpalo::Bump;
 use redcode_expand::{Expanded, SOURCE_LIMIT, expand};
-use redcode_lines::{LineForm, Reading, SourceLine, live_source, source_lines};
-use redcode_places::{Span, blanks_before, line_text, span_of, spans_of, whole};
+use redcode_lines::{
+    LineForm, Reading, SourceLine, Span, blanks_before, line_text, live_source, source_lines,
+    span_of, spans_of, whole,
+};
 use redcode_text::Token;
 use std::alloc::{AllocError, Allocator};
 use war_types::{AsmFault, AsmKind, Settings};
@@ -17,14 +19,14 @@ pub struct Scene<'s, A: Allocator + Copy> {
     pub alloc: A,
     pub source: &'s [u8],
     pub settings: &'s Settings,
-    /// Its lines as they stand, none where it is too long.
+    /// Its lines as they stand, none if it is too long.
     pub lines: Vec<SourceLine<'s, A>, A>,
-    /// Its lines written out, where that was not refused.
+    /// Its lines written out, if that was not refused.
     pub expanded: Option<Expanded<'s, A>>,
 }
 
 impl<'s, A: Allocator + Copy> Scene<'s, A> {
-    /// What is known of a source. An error is want of memory.
+    /// What is known of a source. It fails when memory runs out.
     pub fn new(
         alloc: A,
         region: &'s Bump<A>,
@@ -62,7 +64,7 @@ impl<'s, A: Allocator + Copy> Scene<'s, A> {
 }
 
 /// A line as it stands in the source.
-#[derive(Clone, Copy, Debug)]
+#[derive(Clone, Copy)]
 pub(crate) struct Row<'l, 's> {
     pub reading: Reading<'l, 's>,
     /// Bytes of the line before the text that its tokens come from.
@@ -75,7 +77,7 @@ impl<'l, 's> Row<'l, 's> {
         span_of(self.shift, token)
     }
 
-    /// From the first of some of its tokens to the last; the whole statement where there are none.
+    /// From the first of some of its tokens to the last; the whole statement if there are none.
     pub(crate) fn spans(&self, tokens: &[Token<'_>]) -> Span {
         match spans_of(self.shift, tokens) {
             Some(span) => span,
@@ -83,7 +85,7 @@ impl<'l, 's> Row<'l, 's> {
         }
     }
 
-    /// From its first token to its last; all of the line where it has none.
+    /// From its first token to its last; all of the line if it has none.
     pub(crate) fn whole(&self) -> Span {
         let front = spans_of(self.shift, self.reading.front);
         let others = spans_of(self.shift, self.reading.tokens);
@@ -98,7 +100,7 @@ impl<'l, 's> Row<'l, 's> {
     }
 }
 
-/// The lines of a source that say something, none where it is too long.
+/// The lines of a source that say something, none if it is too long.
 fn lines_of<'s, A: Allocator + Copy>(
     alloc: A,
     source: &'s [u8],
@@ -110,7 +112,7 @@ fn lines_of<'s, A: Allocator + Copy>(
     source_lines(alloc, number, live)
 }
 
-/// The source written out, where that is not refused.
+/// The source written out, if that is not refused.
 fn expanded_of<'s, A: Allocator + Copy>(
     alloc: A,
     region: &'s Bump<A>,
@@ -129,7 +131,7 @@ fn expanded_of<'s, A: Allocator + Copy>(
     }
 }
 
-/// How many bytes of a line stand before the text that its tokens come from: those up to the end of the word `;assert`.
+/// How many bytes of a line stand before the text that its tokens come from: the bytes up to the end of the word `;assert`, if it has one.
 fn shift_of(text: &[u8], form: LineForm) -> u32 {
     match form {
         LineForm::Assert => blanks_before(text).saturating_add(ASSERT_BYTES),

@@ -1,16 +1,14 @@
 //! Tokens that make no expression.
 
-use crate::blame::{Blame, blamed};
+use crate::blame::{Answer, blamed_before, blamed_text, blamed_word};
 use crate::equs::first_equ;
-use crate::said::Part;
 use crate::scene::{Row, Scene};
-use redcode_lines::has_text;
-use redcode_places::{Span, line_text, part_of};
+use redcode_lines::{Span, has_text, line_text, part_of};
 use redcode_text::{Token, TokenKind, mode_named};
-use std::alloc::{AllocError, Allocator};
+use std::alloc::Allocator;
 
 /// Tokens of a line that make no expression.
-#[derive(Clone, Copy, Debug)]
+#[derive(Clone, Copy)]
 pub(crate) struct Shaped<'l, 's> {
     /// With the mode in front, if there is one.
     pub operand: &'l [Token<'s>],
@@ -20,8 +18,19 @@ pub(crate) struct Shaped<'l, 's> {
     pub may_part: bool,
 }
 
+impl<'l, 's> Shaped<'l, 's> {
+    /// Tokens without a mode, in which no comma may stand.
+    pub(crate) fn of(tokens: &'l [Token<'s>]) -> Shaped<'l, 's> {
+        Shaped {
+            operand: tokens,
+            tokens,
+            may_part: false,
+        }
+    }
+}
+
 /// What a token is in an expression.
-#[derive(Clone, Copy, Debug)]
+#[derive(Clone, Copy)]
 enum Role {
     /// A number or a name.
     Value,
@@ -35,24 +44,24 @@ enum Role {
 }
 
 /// Why tokens make no expression.
-#[derive(Clone, Copy, Debug)]
+#[derive(Clone, Copy)]
 enum Flaw<'l, 's> {
     SideBySide(&'l Token<'s>, &'l Token<'s>),
     Stranger(&'l Token<'s>),
-    /// A `!` behind a value.
+    /// A `!` after a value.
     Behind(&'l Token<'s>),
     /// A `)` without its `(`.
     Unopened(&'l Token<'s>),
     /// A `(` without its `)`.
     Unclosed(&'l Token<'s>),
-    /// Something else where a value is due.
+    /// Something else at the place of a value.
     NoValue(&'l Token<'s>),
-    /// The last token, behind which a value is due.
+    /// The last token, after which a value is due.
     NoEnd(&'l Token<'s>),
 }
 
 /// How far an expression is read.
-#[derive(Clone, Copy, Debug)]
+#[derive(Clone, Copy)]
 struct Reader<'l, 's> {
     last: Option<&'l Token<'s>>,
     /// Whether a value ends with the last token.
@@ -90,7 +99,7 @@ impl<'l, 's> Reader<'l, 's> {
         }
     }
 
-    /// The reader behind a further token.
+    /// The reader after a further token.
     fn behind(self, token: &'l Token<'s>) -> Reader<'l, 's> {
         let role = role_of(token);
         Reader {
@@ -105,7 +114,7 @@ impl<'l, 's> Reader<'l, 's> {
     }
 }
 
-/// The first flaw of some tokens, where their order shows one.
+/// The first flaw of some tokens, if their order shows one.
 fn flaw_of<'l, 's>(tokens: &'l [Token<'s>]) -> Option<Flaw<'l, 's>> {
     let mut reader = Reader {
         last: None,
@@ -143,26 +152,22 @@ pub(crate) fn no_expression<A: Allocator + Copy>(
     scene: &Scene<'_, A>,
     row: &Row<'_, '_>,
     shaped: Shaped<'_, '_>,
-) -> Result<Blame<A>, AllocError> {
-    let span = row.spans(shaped.operand);
-    if let [mode, ..] = shaped.operand
-        && shaped.tokens.is_empty()
-    {
-        let parts = [
-            Part::Text("an expression is due behind "),
-            Part::Word(mode.text),
-        ];
-        return blamed(scene.alloc, span, &parts);
+) -> Answer<A> {
+    match (shaped.operand, flaw_of(shaped.tokens)) {
+        ([mode, ..], _) if shaped.tokens.is_empty() => {
+            let said = "an expression is due behind ";
+            blamed_before(scene.alloc, row.spans(shaped.operand), said, mode.text)
+        }
+        (_, Some(flaw)) => flawed(scene, row, flaw, shaped.may_part),
+        (_, None) => {
+            let said = if first_equ(scene, shaped.tokens).is_some() {
+                "this is no expression once the names of `EQU` lines are replaced"
+            } else {
+                "more than 64 parentheses, signs and `!` stand around a value"
+            };
+            blamed_text(scene.alloc, row.spans(shaped.operand), said)
+        }
     }
-    if let Some(flaw) = flaw_of(shaped.tokens) {
-        return flawed(scene, row, flaw, shaped.may_part);
-    }
-    let said = if first_equ(scene, shaped.tokens).is_some() {
-        "this is no expression once the names of `EQU` lines are replaced"
-    } else {
-        "more than 64 parentheses, signs and `!` stand around a value"
-    };
-    blamed(scene.alloc, span, &[Part::Text(said)])
 }
 
 /// A flaw of an expression.
@@ -171,32 +176,26 @@ fn flawed<A: Allocator + Copy>(
     row: &Row<'_, '_>,
     flaw: Flaw<'_, '_>,
     may_part: bool,
-) -> Result<Blame<A>, AllocError> {
+) -> Answer<A> {
     let alloc = scene.alloc;
     match flaw {
         Flaw::SideBySide(first, second) => side_by_side(scene, row, first, second, may_part),
         Flaw::Stranger(token) => stranger(alloc, row.span(token), token, may_part),
         Flaw::Behind(token) => {
             let said = "`!` stands behind a value, and belongs before one";
-            blamed(alloc, row.span(token), &[Part::Text(said)])
+            blamed_text(alloc, row.span(token), said)
         }
-        Flaw::Unopened(token) => {
-            blamed(alloc, row.span(token), &[Part::Text("no `(` is open here")])
-        }
+        Flaw::Unopened(token) => blamed_text(alloc, row.span(token), "no `(` is open here"),
         Flaw::Unclosed(token) => {
             let said = "no `)` closes this within the expression";
-            blamed(alloc, row.span(token), &[Part::Text(said)])
+            blamed_text(alloc, row.span(token), said)
         }
         Flaw::NoValue(token) => {
-            let parts = [
-                Part::Word(token.text),
-                Part::Text(" stands where a value is due"),
-            ];
-            blamed(alloc, row.span(token), &parts)
+            let said = " stands where a value is due";
+            blamed_word(alloc, row.span(token), token.text, said)
         }
         Flaw::NoEnd(token) => {
-            let parts = [Part::Text("a value is due behind "), Part::Word(token.text)];
-            blamed(alloc, row.span(token), &parts)
+            blamed_before(alloc, row.span(token), "a value is due behind ", token.text)
         }
     }
 }
@@ -208,7 +207,7 @@ fn side_by_side<A: Allocator + Copy>(
     first: &Token<'_>,
     second: &Token<'_>,
     may_part: bool,
-) -> Result<Blame<A>, AllocError> {
+) -> Answer<A> {
     let span = row.span(first).to(row.span(second));
     let both = part_of(line_text(scene.source, row.reading.number), span);
     let said = match (first.kind, second.kind) {
@@ -219,7 +218,7 @@ fn side_by_side<A: Allocator + Copy>(
         _ if may_part => ": two values side by side; a comma between operands?",
         _ => ": two values side by side; an operator between them?",
     };
-    blamed(scene.alloc, span, &[Part::Word(both), Part::Text(said)])
+    blamed_word(scene.alloc, span, both, said)
 }
 
 /// A token that is no part of any expression.
@@ -228,7 +227,7 @@ fn stranger<A: Allocator + Copy>(
     span: Span,
     token: &Token<'_>,
     may_part: bool,
-) -> Result<Blame<A>, AllocError> {
+) -> Answer<A> {
     let said = if has_text(token, b"&") {
         " joins a name to the counter of a block, and there is none here; `and` is `&&`"
     } else if mode_named(token.text).is_some() && may_part {
@@ -238,5 +237,5 @@ fn stranger<A: Allocator + Copy>(
     } else {
         " is no part of an expression"
     };
-    blamed(alloc, span, &[Part::Word(token.text), Part::Text(said)])
+    blamed_word(alloc, span, token.text, said)
 }

@@ -1,11 +1,10 @@
 //! Statements that are none: tokens, operations and modifiers.
 
-use crate::blame::{Blame, blamed};
+use crate::blame::{Answer, blamed, blamed_text, blamed_word};
 use crate::nearest::{is_operation, nearest_word};
 use crate::said::Part;
 use crate::scene::{Row, Scene};
-use redcode_lines::{LineForm, has_text, is_name};
-use redcode_places::{line_text, part_of};
+use redcode_lines::{LineForm, Span, has_text, is_name, line_text, part_of};
 use redcode_text::{Token, TokenKind};
 use std::alloc::{AllocError, Allocator};
 
@@ -13,7 +12,7 @@ use std::alloc::{AllocError, Allocator};
 pub(crate) fn bad_token<'s, A: Allocator + Copy>(
     scene: &Scene<'s, A>,
     row: &Row<'_, 's>,
-) -> Result<Blame<A>, AllocError> {
+) -> Answer<A> {
     if let ([name, sign, body @ ..], LineForm::Statement) = (row.reading.tokens, row.reading.form)
         && is_name(name)
         && has_text(sign, b"=")
@@ -21,10 +20,10 @@ pub(crate) fn bad_token<'s, A: Allocator + Copy>(
         return assigned(scene, row, name, sign, body);
     }
     match first_bad(row.reading.tokens) {
-        Some(token) => unknown_byte(scene, row, token),
+        Some(token) => unknown_byte(scene.alloc, row.span(token), token.text),
         None => {
             let said = "the body of an `EQU` that is used here has a byte that is no symbol";
-            blamed(scene.alloc, row.whole(), &[Part::Text(said)])
+            blamed_text(scene.alloc, row.whole(), said)
         }
     }
 }
@@ -39,14 +38,14 @@ fn first_bad<'t, 's>(tokens: &'t [Token<'s>]) -> Option<&'t Token<'s>> {
     None
 }
 
-/// A name with a `=` behind it, as in other dialects.
+/// A name with a `=` after it, as in other dialects.
 fn assigned<'s, A: Allocator + Copy>(
     scene: &Scene<'s, A>,
     row: &Row<'_, '_>,
     name: &Token<'s>,
     sign: &Token<'_>,
     body: &[Token<'_>],
-) -> Result<Blame<A>, AllocError> {
+) -> Answer<A> {
     let text = line_text(scene.source, row.reading.number);
     let value = match body {
         [] => b"0",
@@ -63,91 +62,93 @@ fn assigned<'s, A: Allocator + Copy>(
 }
 
 /// A byte that is no symbol.
-fn unknown_byte<A: Allocator + Copy>(
-    scene: &Scene<'_, A>,
-    row: &Row<'_, '_>,
-    token: &Token<'_>,
-) -> Result<Blame<A>, AllocError> {
-    let span = row.span(token);
-    match token.text {
-        [b'='] => {
-            let said = "`=` is no symbol; two values are compared by `==`";
-            blamed(scene.alloc, span, &[Part::Text(said)])
-        }
+fn unknown_byte<A: Allocator>(alloc: A, span: Span, text: &[u8]) -> Answer<A> {
+    match text {
+        [b'='] => blamed_text(
+            alloc,
+            span,
+            "`=` is no symbol; two values are compared by `==`",
+        ),
         [byte] if !byte.is_ascii_graphic() => {
             let parts = [
                 Part::Text("the byte "),
                 Part::Number(i64::from(*byte)),
                 Part::Text(" is no symbol; it may stand in a comment"),
             ];
-            blamed(scene.alloc, span, &parts)
+            blamed(alloc, span, &parts)
         }
-        text => {
-            let parts = [
-                Part::Word(text),
-                Part::Text(" is no symbol; it may stand in a comment"),
-            ];
-            blamed(scene.alloc, span, &parts)
-        }
+        _ => blamed_word(
+            alloc,
+            span,
+            text,
+            " is no symbol; it may stand in a comment",
+        ),
     }
 }
 
-/// Something else than an operation behind the labels.
+/// Something else than an operation after the labels.
 pub(crate) fn bad_operation<A: Allocator + Copy>(
     scene: &Scene<'_, A>,
     row: &Row<'_, '_>,
-) -> Result<Blame<A>, AllocError> {
-    let tokens = row.reading.tokens;
-    let front = front_of(tokens);
-    if let Some((token, word)) = misspelt(scene.alloc, front)? {
-        let parts = [
-            Part::Word(token.text),
-            Part::Text(" is no operation; did you mean "),
-            Part::Word(word.as_bytes()),
-            Part::Text("?"),
-        ];
-        return blamed(scene.alloc, row.span(&token), &parts);
-    }
-    match (front, tokens) {
-        ([], [first, ..]) => {
+) -> Answer<A> {
+    let front = front_of(row.reading.tokens);
+    match misspelt(scene.alloc, front)? {
+        Some((token, word)) => {
             let parts = [
-                Part::Word(first.text),
-                Part::Text(" stands where an operation is due"),
+                Part::Word(token.text),
+                Part::Text(" is no operation; did you mean "),
+                Part::Word(word),
+                Part::Text("?"),
             ];
-            blamed(scene.alloc, row.span(first), &parts)
+            blamed(scene.alloc, row.span(token), &parts)
+        }
+        None => no_operation(scene.alloc, row, front),
+    }
+}
+
+/// No operation after the names at the front of a line, nor a word that is nearly one.
+fn no_operation<A: Allocator>(alloc: A, row: &Row<'_, '_>, front: &[Token<'_>]) -> Answer<A> {
+    match (front, row.reading.tokens) {
+        ([], [first, ..]) => {
+            let said = " stands where an operation is due";
+            blamed_word(alloc, row.span(first), first.text, said)
         }
         ([.., last], _) if is_name(last) => {
-            let parts = [Part::Word(last.text), Part::Text(" is no operation")];
-            blamed(scene.alloc, row.span(last), &parts)
+            blamed_word(alloc, row.span(last), last.text, " is no operation")
         }
         _ => {
             let said = "no operation stands behind the labels; labels alone have no `:`";
-            blamed(scene.alloc, row.whole(), &[Part::Text(said)])
+            blamed_text(alloc, row.whole(), said)
         }
     }
 }
 
 /// The first of the tokens that is nearly an operation, else the first that is nearly another reserved word, and that word.
-fn misspelt<'s, A: Allocator + Copy>(
+fn misspelt<'t, 's, A: Allocator + Copy>(
     alloc: A,
-    tokens: &[Token<'s>],
-) -> Result<Option<(Token<'s>, &'static str)>, AllocError> {
+    tokens: &'t [Token<'s>],
+) -> Result<Option<(&'t Token<'s>, &'static [u8])>, AllocError> {
     let mut found = None;
     for token in tokens {
-        if !is_name(token) {
-            continue;
-        }
-        let Some(word) = nearest_word(alloc, token.text)? else {
-            continue;
-        };
-        if is_operation(word) {
-            return Ok(Some((*token, word)));
-        }
-        if found.is_none() {
-            found = Some((*token, word));
+        match word_meant(alloc, token)? {
+            Some(word) if is_operation(word) => return Ok(Some((token, word))),
+            Some(word) if found.is_none() => found = Some((token, word)),
+            _ => {}
         }
     }
     Ok(found)
+}
+
+/// The reserved word that is nearest to a token that is a name.
+fn word_meant<A: Allocator + Copy>(
+    alloc: A,
+    token: &Token<'_>,
+) -> Result<Option<&'static [u8]>, AllocError> {
+    if is_name(token) {
+        nearest_word(alloc, token.text)
+    } else {
+        Ok(None)
+    }
 }
 
 /// The names at the front, with the `:` and `&` among them.
@@ -161,38 +162,32 @@ fn front_of<'t, 's>(tokens: &'t [Token<'s>]) -> &'t [Token<'s>] {
 }
 
 /// An instruction of P-space.
-pub(crate) fn pspace<A: Allocator + Copy>(
-    scene: &Scene<'_, A>,
-    row: &Row<'_, '_>,
-) -> Result<Blame<A>, AllocError> {
+pub(crate) fn pspace<A: Allocator + Copy>(scene: &Scene<'_, A>, row: &Row<'_, '_>) -> Answer<A> {
     let span = match row.reading.tokens {
         [word, ..] => row.span(word),
         [] => row.whole(),
     };
     let said = "there is no P-space here: `LDP`, `STP` and `PIN` are refused";
-    blamed(scene.alloc, span, &[Part::Text(said)])
+    blamed_text(scene.alloc, span, said)
 }
 
 /// A dot without a modifier's name.
 pub(crate) fn bad_modifier<A: Allocator + Copy>(
     scene: &Scene<'_, A>,
     row: &Row<'_, '_>,
-) -> Result<Blame<A>, AllocError> {
+) -> Answer<A> {
     match row.reading.tokens {
         [_, dot, name, ..] if has_text(dot, b".") => {
-            let parts = [
-                Part::Word(name.text),
-                Part::Text(" is no modifier; they are A, B, AB, BA, F, X and I"),
-            ];
-            blamed(scene.alloc, row.span(name), &parts)
+            let said = " is no modifier; they are A, B, AB, BA, F, X and I";
+            blamed_word(scene.alloc, row.span(name), name.text, said)
         }
         [_, dot] if has_text(dot, b".") => {
             let said = "a modifier is due behind the dot: A, B, AB, BA, F, X or I";
-            blamed(scene.alloc, row.span(dot), &[Part::Text(said)])
+            blamed_text(scene.alloc, row.span(dot), said)
         }
         _ => {
             let said = "a dot in the body of an `EQU` that is used here has no modifier behind it";
-            blamed(scene.alloc, row.whole(), &[Part::Text(said)])
+            blamed_text(scene.alloc, row.whole(), said)
         }
     }
 }

@@ -1,13 +1,13 @@
 //! What is wrong with a warrior, or with a source as a whole.
 
-use crate::blame::{Blame, blamed};
-use crate::judge::{faulty_line, said_by};
+use crate::blame::{Answer, Blame, blamed, blamed_text};
+use crate::judge::faulty_line;
 use crate::operands::operands_in;
 use crate::said::{Part, say, sentence};
 use crate::scene::{Row, Scene};
+use redcode_asm::said_by;
 use redcode_expand::{LineKind, SOURCE_LIMIT, predefined};
-use redcode_lines::{has_text, is_name};
-use redcode_places::Span;
+use redcode_lines::{Span, has_text, is_name};
 use redcode_statement::Statement;
 use redcode_text::Token;
 use std::alloc::{AllocError, Allocator};
@@ -17,9 +17,7 @@ use war_types::{AsmFault, Settings};
 const NOWHERE: Span = Span { from: 0, width: 0 };
 
 /// A source of too many bytes.
-pub(crate) fn source_too_long<A: Allocator + Copy>(
-    scene: &Scene<'_, A>,
-) -> Result<Blame<A>, AllocError> {
+pub(crate) fn source_too_long<A: Allocator + Copy>(scene: &Scene<'_, A>) -> Answer<A> {
     let parts = [
         Part::Text("the source has "),
         Part::Number(count_of(scene.source.len())),
@@ -30,17 +28,17 @@ pub(crate) fn source_too_long<A: Allocator + Copy>(
 }
 
 /// A source without an instruction.
-pub(crate) fn empty<A: Allocator + Copy>(scene: &Scene<'_, A>) -> Result<Blame<A>, AllocError> {
-    let sentence = if scene.source.is_empty() {
+pub(crate) fn empty<A: Allocator + Copy>(scene: &Scene<'_, A>) -> Answer<A> {
+    let said = if scene.source.is_empty() {
         "the source is empty"
     } else {
         "no line of the source gives an instruction"
     };
-    blamed(scene.alloc, NOWHERE, &[Part::Text(sentence)])
+    blamed_text(scene.alloc, NOWHERE, said)
 }
 
 /// A warrior of too many instructions.
-pub(crate) fn too_long<A: Allocator + Copy>(scene: &Scene<'_, A>) -> Result<Blame<A>, AllocError> {
+pub(crate) fn too_long<A: Allocator + Copy>(scene: &Scene<'_, A>) -> Answer<A> {
     let parts = [
         Part::Text("the warrior has "),
         Part::Number(instructions(scene)),
@@ -51,16 +49,25 @@ pub(crate) fn too_long<A: Allocator + Copy>(scene: &Scene<'_, A>) -> Result<Blam
 }
 
 /// A start that is no instruction.
-pub(crate) fn bad_start<A: Allocator + Copy>(
-    scene: &Scene<'_, A>,
-    row: &Row<'_, '_>,
-) -> Result<Blame<A>, AllocError> {
+pub(crate) fn bad_start<A: Allocator + Copy>(scene: &Scene<'_, A>, row: &Row<'_, '_>) -> Answer<A> {
     let span = row.spans(operands_in(&row.reading));
-    let Some(start) = start_on(scene, row.reading.number) else {
-        let parts = [Part::Text("the start is no instruction of the warrior")];
-        return blamed(scene.alloc, span, &parts);
-    };
-    let last = instructions(scene).saturating_sub(1);
+    match start_on(scene, row.reading.number) {
+        Some(start) => start_outside(
+            scene.alloc,
+            span,
+            start,
+            instructions(scene).saturating_sub(1),
+        ),
+        None => blamed_text(
+            scene.alloc,
+            span,
+            "the start is no instruction of the warrior",
+        ),
+    }
+}
+
+/// A start that is none of the instructions up to the last one.
+fn start_outside<A: Allocator>(alloc: A, span: Span, start: i64, last: i64) -> Answer<A> {
     let others = if last == 0 {
         ", and the only instruction is "
     } else {
@@ -72,7 +79,7 @@ pub(crate) fn bad_start<A: Allocator + Copy>(
         Part::Text(others),
         Part::Number(last),
     ];
-    blamed(scene.alloc, span, &parts)
+    blamed(alloc, span, &parts)
 }
 
 /// An assertion that doesn't hold.
@@ -80,18 +87,28 @@ pub(crate) fn assert_false<A: Allocator + Copy>(
     scene: &Scene<'_, A>,
     row: &Row<'_, '_>,
     fault: AsmFault,
-) -> Result<Blame<A>, AllocError> {
-    let span = row.spans(row.reading.tokens);
+) -> Answer<A> {
     let mut said = sentence(scene.alloc, &[Part::Text("the assertion doesn't hold")])?;
-    if let Some(expanded) = &scene.expanded
-        && let Some(faulty) = faulty_line(expanded, scene.settings, fault)
-    {
-        say_values(&mut said, scene.settings, faulty.line.before, faulty.tokens)?;
-    }
+    say_assertion(&mut said, scene, fault)?;
     Ok(Blame {
-        span,
+        span: row.spans(row.reading.tokens),
         sentence: said,
     })
+}
+
+/// Says what stands in an assertion that doesn't hold.
+fn say_assertion<A: Allocator + Copy>(
+    said: &mut Vec<u8, A>,
+    scene: &Scene<'_, A>,
+    fault: AsmFault,
+) -> Result<(), AllocError> {
+    let Some(expanded) = &scene.expanded else {
+        return Ok(());
+    };
+    match faulty_line(expanded, scene.settings, fault) {
+        Some(faulty) => say_values(said, scene.settings, faulty.line.before, faulty.tokens),
+        None => Ok(()),
+    }
 }
 
 /// Says the values of the predefined names among these tokens.
@@ -120,7 +137,7 @@ fn say_values<A: Allocator>(
     Ok(())
 }
 
-/// Whether a token of this text is among those.
+/// Whether a token with this text is among the tokens.
 fn stands_in(tokens: &[Token<'_>], text: &[u8]) -> bool {
     for token in tokens {
         if has_text(token, text) {

@@ -1,4 +1,4 @@
--- the refusals that are told of a source
+-- the refusals that are reported for a source
 pub mod Told
 -- what a refusal's text begins with
 pub mod Text

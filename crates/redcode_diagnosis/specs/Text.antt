@@ -3,7 +3,7 @@ use Rattle.std.specs.Prelude.{◌≡◌, ℕ, List, ◌++◌, codes, decimal}
 use Rattle.war_types.specs.declared.fault.AsmFault.{AsmFault}
 use Rattle.war_types.specs.Fault.{kind_name}
 
--- a text that begins so
+-- a text that begins with the front
 abbrev pub Begins : List ℕ → List ℕ → Type 0
 Begins front text = (rest : List ℕ) × (text ≡ front ++ rest)
 
@@ -11,16 +11,16 @@ Begins front text = (rest : List ℕ) × (text ≡ front ++ rest)
 unfoldable pub heading : List ℕ → AsmFault → ℕ → List ℕ
 heading path fault column = path ++ codes ":" ++ decimal fault.line ++ codes ":" ++ decimal column ++ codes ": " ++ kind_name fault.kind ++ codes ": "
 
--- a name with a number behind it
+-- a name with a number after it
 abbrev pub numbered : List ℕ → ℕ → List ℕ
 numbered name number = name ++ decimal number
 
--- behind some text ,"line":LINE,"column":COLUMN,"width":WIDTH,"kind":"Kind","message":
+-- after some text: ,"line":LINE,"column":COLUMN,"width":WIDTH,"kind":"Kind","message":
 unfoldable pub members : List ℕ → AsmFault → ℕ → ℕ → List ℕ
 members front fault column width =
     front ++ numbered (codes ",\"line\":") fault.line ++ numbered (codes ",\"column\":") column ++ numbered (codes ",\"width\":") width
     ++ codes ",\"kind\":\"" ++ kind_name fault.kind ++ codes "\",\"message\":"
 
--- a line of JSON with some file, and these members behind it
+-- a line of JSON with some file, and these members after it
 abbrev pub IsJson : AsmFault → ℕ → ℕ → List ℕ → Type 0
 IsJson fault column width text = (file : List ℕ) × Begins (members (codes "{\"file\":" ++ file) fault column width) text

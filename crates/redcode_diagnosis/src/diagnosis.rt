@@ -3,35 +3,35 @@
 ghost use Rattle.std.specs.Prelude.{◌≡◌, All, IfOk, map};
 ghost use Rattle.redcode_asm.specs.Assembly.{assembly};
 ghost use Rattle.redcode_diagnosis.specs.Told.{AreToldFrom, IsFirst, Tells, is_memory};
-ghost use Rattle.redcode_places.specs.Line.{IsPlaceIn, line_text};
+ghost use Rattle.redcode_lines.specs.Place.{IsPlaceIn, line_text};
 
 use bumpalo::Bump;
 use redcode_asm::assemble;
 use redcode_blame::{Copied, Scene, blame_of, copy_of, further_faults};
-use redcode_places::{line_text, place_in};
+use redcode_lines::{line_text, place_in};
 use std::alloc::{AllocError, Allocator};
 use war_types::{AsmFault, AsmKind, Settings};
 
-/// One refusal, as people are told it.
+/// One refusal, as it is reported to people.
 #[derive(Drop)]
 pub struct Diagnosis<A: Allocator> {
-    /// The line of the source, counted from 1, or 0 where none is to blame, and the kind.
+    /// The line of the source, counted from 1, or 0 if none is to blame, and the kind.
     pub fault: AsmFault,
-    /// Of the first byte to blame in the text of that line, counted from 1.
+    /// The column of the first byte to blame in the text of that line, counted from 1.
     pub column: u32,
-    /// Bytes to blame: 1 at least, but for an empty text.
+    /// Bytes to blame: at least 1, or 0 in an empty text.
     pub width: u32,
     /// What is wrong, and what was probably meant.
     pub sentence: Vec<u8, A>,
-    /// Of a line in a block the copy that is refused.
+    /// The copy that is refused, if the line stands in a block.
     pub copy: Option<Copied<A>>,
 }
 
-/// All refusals that are due to a source under these settings, none where it gives a warrior.
+/// All refusals that are due to a source under these settings, none if it gives a warrior.
 ///
-/// The first is the assembler's. Behind it stand those of the other lines that have a fault by themselves, a false assertion included,
-/// each line of the source once, in the order in which they are written out, up to 100 in all; none where the source can't be written out.
-/// An error is want of memory.
+/// The first is the assembler's. After it stand those of the other lines that have a fault by themselves, a false assertion included:
+/// each line of the source once, in the order in which they are written out, up to 100 refusals in all. If the source can't be written
+/// out, the first is the only one. It fails when memory runs out.
 pub fn diagnose<A: Allocator + Copy>(
     alloc: A,
     source: &[u8],
@@ -42,14 +42,11 @@ pub fn diagnose<A: Allocator + Copy>(
 {
     match assemble(alloc, source, settings) {
         Ok(_) => Ok(Vec::new(alloc)),
-        Err(fault) => {
-            let all = diagnose_refused(alloc, source, settings, fault)?;
-            Ok(all)
-        }
+        Err(fault) => diagnose_refused(alloc, source, settings, fault),
     }
 }
 
-/// The refusals of a source that the assembler refuses so. An error is want of memory, be it the assembler's.
+/// The refusals of a source that the assembler refuses with this first fault. It fails when memory runs out here, or ran out there.
 fn diagnose_refused<A: Allocator + Copy>(
     alloc: A,
     source: &[u8],
@@ -63,20 +60,45 @@ fn diagnose_refused<A: Allocator + Copy>(
         return Err(AllocError);
     }
     let region = Bump::new(alloc);
-    let scene = Scene::new(alloc, &region, source, settings)?;
-    let faults = faults_from(&scene, first)?;
-    let all = told_all(&scene, source, faults.as_slice())?;
-    Ok(all)
+    told_within(alloc, &region, source, settings, first)
 }
 
-/// Whether a fault is want of memory.
+/// The refusals from the first on, with this region for what is known of the source.
+fn told_within<'s, A: Allocator + Copy>(
+    alloc: A,
+    region: &'s Bump<A>,
+    source: &'s [u8],
+    settings: &'s Settings,
+    first: AsmFault,
+) -> Result<Vec<Diagnosis<A>, A>, AllocError>
+    ensures told { IfOk result (λ all. IsFirst first (map (λ d. d.fault) all.items)) }
+    ensures placed { IfOk result (λ all. All (λ d. IsPlaceIn (line_text source.entry.now d.fault.line) d.column d.width) all.items) }
+{
+    let scene = Scene::new(alloc, region, source, settings)?;
+    told_from(&scene, source, first)
+}
+
+/// The refusals from the first on.
+fn told_from<A: Allocator + Copy>(
+    scene: &Scene<'_, A>,
+    source: &[u8],
+    first: AsmFault,
+) -> Result<Vec<Diagnosis<A>, A>, AllocError>
+    ensures told { IfOk result (λ all. IsFirst first (map (λ d. d.fault) all.items)) }
+    ensures placed { IfOk result (λ all. All (λ d. IsPlaceIn (line_text source.now d.fault.line) d.column d.width) all.items) }
+{
+    let faults = faults_from(scene, first)?;
+    told_all(scene, source, faults.as_slice())
+}
+
+/// Whether a fault is that memory ran out.
 fn is_memory(kind: AsmKind) -> bool
     ensures { result ≡ is_memory kind }
 {
     matches!(kind, AsmKind::Memory)
 }
 
-/// The first fault, and those of the other lines.
+/// The first fault, and the faults of the other lines.
 fn faults_from<A: Allocator + Copy>(
     scene: &Scene<'_, A>,
     first: AsmFault,
@@ -84,13 +106,24 @@ fn faults_from<A: Allocator + Copy>(
     ensures { IfOk result (λ all. IsFirst first all.items) }
 {
     let others = further_faults(scene, first)?;
-    let mut all = Vec::new(scene.alloc);
+    before_others(scene.alloc, first, others.as_slice())
+}
+
+/// The first fault, and the others after it.
+fn before_others<A: Allocator>(
+    alloc: A,
+    first: AsmFault,
+    others: &[AsmFault],
+) -> Result<Vec<AsmFault, A>, AllocError>
+    ensures { IfOk result (λ all. IsFirst first all.items) }
+{
+    let mut all = Vec::new(alloc);
     all.push(first)?;
-    all.extend_from_slice(others.as_slice())?;
+    all.extend_from_slice(others)?;
     Ok(all)
 }
 
-/// These faults, as people are told them.
+/// These faults, as they are reported to people.
 fn told_all<A: Allocator + Copy>(
     scene: &Scene<'_, A>,
     source: &[u8],
@@ -106,7 +139,7 @@ fn told_all<A: Allocator + Copy>(
     Ok(all)
 }
 
-/// A fault, as people are told it.
+/// A fault, as it is reported to people.
 fn told<A: Allocator + Copy>(
     scene: &Scene<'_, A>,
     source: &[u8],

@@ -1,12 +1,12 @@
 //! A refusal as JSON for editors.
 
-ghost use Rattle.std.specs.Prelude.{◌≡◌, ◌≤◌, ◌<◌, ◌++◌, length, IfOk, OnOk};
+ghost use Rattle.std.specs.Prelude.{◌≡◌, ◌≤◌, ◌<◌, ◌++◌, length, codes, IfOk, OnOk};
 ghost use Rattle.redcode_diagnosis.specs.Text.{IsJson, members, numbered};
 
 use crate::diagnosis::Diagnosis;
 use itoa::Buffer;
 use redcode_blame::Copied;
-use redcode_places::line_text;
+use redcode_lines::line_text;
 use std::alloc::{AllocError, Allocator};
 use std::str::from_utf8;
 
@@ -17,8 +17,8 @@ const REPLACEMENT: [u8; 3] = [0xef, 0xbf, 0xbd];
 const HEX: [u8; 16] = *b"0123456789abcdef";
 
 /// A refusal of a source as one line of JSON, with its line feed: an object of `file`, `line`, `column`, `width`, `kind`, `message` and
-/// `text`, the line's; and of a line in a block `copy`, how often it is written out by then, `block`, the line of the `FOR`, and `reads`, how
-/// it reads. A byte that is no UTF-8 becomes U+FFFD, and columns and widths count bytes. An error is want of memory.
+/// `text`, the text of the line. A line in a block also has `copy`, how often it is written out by then, `block`, the line of the `FOR`, and
+/// `reads`, how it reads. A byte that is no UTF-8 becomes U+FFFD, and columns and widths count bytes. It fails when memory runs out.
 pub fn json_of<A: Allocator + Copy>(
     alloc: A,
     path: &[u8],
@@ -29,10 +29,22 @@ pub fn json_of<A: Allocator + Copy>(
 {
     let file = string_of(alloc, path)?;
     let rest = behind_members(alloc, source, diagnosis)?;
+    object_of(alloc, file.as_slice(), diagnosis, rest.as_slice())
+}
+
+/// An object with the member `file`, the members that say what and where the fault is, and the rest.
+fn object_of<A: Allocator>(
+    alloc: A,
+    file: &[u8],
+    diagnosis: &Diagnosis<A>,
+    rest: &[u8],
+) -> Result<Vec<u8, A>, AllocError>
+    ensures { IfOk result (λ text. text.items ≡ members (codes "{\"file\":" ++ file.now) diagnosis.now.fault diagnosis.now.column diagnosis.now.width ++ rest.now) }
+{
     let mut text = Vec::from_slice(alloc, b"{\"file\":")?;
-    text.extend_from_slice(file.as_slice())?;
+    text.extend_from_slice(file)?;
     append_members(&mut text, diagnosis)?;
-    text.extend_from_slice(rest.as_slice())?;
+    text.extend_from_slice(rest)?;
     Ok(text)
 }
 
@@ -44,16 +56,16 @@ fn append_members<A: Allocator, B: Allocator>(
 ) -> Result<(), AllocError>
     ensures { OnOk result (text.new.items ≡ members text.old.items diagnosis.now.fault diagnosis.now.column diagnosis.now.width) }
 {
-    append_number(text, b",\"line\":", diagnosis.fault.line)?;
-    append_number(text, b",\"column\":", diagnosis.column)?;
-    append_number(text, b",\"width\":", diagnosis.width)?;
+    append_numbered(text, b",\"line\":", diagnosis.fault.line)?;
+    append_numbered(text, b",\"column\":", diagnosis.column)?;
+    append_numbered(text, b",\"width\":", diagnosis.width)?;
     text.extend_from_slice(b",\"kind\":\"")?;
     text.extend_from_slice(diagnosis.fault.kind.name().as_bytes())?;
     text.extend_from_slice(b"\",\"message\":")
 }
 
-/// Appends a member's name, and its number.
-fn append_number<A: Allocator>(
+/// Appends a text, and a number after it.
+pub(crate) fn append_numbered<A: Allocator>(
     text: &mut Vec<u8, A>,
     name: &[u8],
     number: u32,
@@ -64,20 +76,29 @@ fn append_number<A: Allocator>(
     text.extend_from_slice(Buffer::new().format(number).as_bytes())
 }
 
-/// The value of `message`, and the members behind it.
+/// The value of `message`, and the members after it.
 fn behind_members<A: Allocator + Copy>(
     alloc: A,
     source: &[u8],
     diagnosis: &Diagnosis<A>,
 ) -> Result<Vec<u8, A>, AllocError> {
     let mut text = string_of(alloc, diagnosis.sentence.as_slice())?;
-    text.extend_from_slice(b",\"text\":")?;
-    append_string(&mut text, line_text(source, diagnosis.fault.line))?;
-    if let Some(copy) = &diagnosis.copy {
-        append_copy(&mut text, copy)?;
-    }
-    text.extend_from_slice(b"}\n")?;
+    append_rest(&mut text, source, diagnosis)?;
     Ok(text)
+}
+
+/// Appends the members after `message`, and the end of the object.
+fn append_rest<A: Allocator>(
+    text: &mut Vec<u8, A>,
+    source: &[u8],
+    diagnosis: &Diagnosis<A>,
+) -> Result<(), AllocError> {
+    text.extend_from_slice(b",\"text\":")?;
+    append_string(text, line_text(source, diagnosis.fault.line))?;
+    if let Some(copy) = &diagnosis.copy {
+        append_copy(text, copy)?;
+    }
+    text.extend_from_slice(b"}\n")
 }
 
 /// Appends the members of a copy.
@@ -85,8 +106,8 @@ fn append_copy<A: Allocator, B: Allocator>(
     text: &mut Vec<u8, A>,
     copy: &Copied<B>,
 ) -> Result<(), AllocError> {
-    append_number(text, b",\"copy\":", copy.times)?;
-    append_number(text, b",\"block\":", copy.block)?;
+    append_numbered(text, b",\"copy\":", copy.times)?;
+    append_numbered(text, b",\"block\":", copy.block)?;
     text.extend_from_slice(b",\"reads\":")?;
     append_string(text, copy.text.as_slice())
 }
@@ -115,7 +136,7 @@ fn append_string<A: Allocator>(text: &mut Vec<u8, A>, bytes: &[u8]) -> Result<()
     Ok(())
 }
 
-/// Appends a byte of ASCII, escaped where JSON wants that.
+/// Appends a byte of ASCII, escaped if JSON wants that.
 fn append_ascii<A: Allocator>(text: &mut Vec<u8, A>, byte: u8) -> Result<(), AllocError> {
     match byte {
         b'"' | b'\\' => text.extend_from_slice(&[b'\\', byte]),
@@ -128,7 +149,7 @@ fn append_ascii<A: Allocator>(text: &mut Vec<u8, A>, byte: u8) -> Result<(), All
     }
 }
 
-/// Appends the character at the front of these bytes, or U+FFFD where they begin with none, and tells how many bytes behind the first one
+/// Appends the character at the front of these bytes, or U+FFFD if they begin with none. It answers how many bytes after the first one
 /// belong to it.
 fn append_character<A: Allocator>(text: &mut Vec<u8, A>, bytes: &[u8]) -> Result<usize, AllocError>
     requires { 0 < length bytes.now }
@@ -143,7 +164,7 @@ fn append_character<A: Allocator>(text: &mut Vec<u8, A>, bytes: &[u8]) -> Result
     Ok(0)
 }
 
-/// How many bytes of a character stand behind its first one.
+/// How many bytes of a character stand after its first one.
 fn bytes_behind(first: u8) -> usize
     ensures { result ≤ 3 }
 {

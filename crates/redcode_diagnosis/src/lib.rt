@@ -1,9 +1,12 @@
 //! Refusals of a source for people and editors: where in the line the fault is, what is wrong, and what was probably meant.
 //!
-//! `diagnosis` has the refusals of a source, each with its place and its sentence, which are `redcode_blame`'s. `text` and `json` write them out.
+//! `diagnosis` has the refusals of a source, each with its place and its sentence, which are `redcode_blame`'s. `text` writes a refusal
+//! for people, `json` for editors.
 //!
-//! The main clauses: `diagnose` answers no refusal where `assembly` gives a warrior, and else the assembler's first; each place lies within its
-//! line; `text_of` and `json_of` begin with what and where the fault is. Nothing here changes what is refused.
+//! The main clauses: `diagnose` answers no refusal if `assembly` gives a warrior, and else the assembler's first. Each place lies within
+//! its line (`IsPlaceIn`). `text_of` and `json_of` begin with what and where the fault is (`Text` in `specs`).
+//!
+//! Nothing here changes what is refused.
 #![tactic(auto)]
 
 mod diagnosis;
@@ -13,5 +16,5 @@ mod text;
 pub use diagnosis::{Diagnosis, diagnose};
 pub use json::json_of;
 pub use redcode_blame::Copied;
-pub use redcode_places::line_text;
+pub use redcode_lines::line_text;
 pub use text::text_of;

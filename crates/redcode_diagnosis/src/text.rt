@@ -4,18 +4,19 @@ ghost use Rattle.std.specs.Prelude.{◌≡◌, ◌++◌, IfOk, OnOk};
 ghost use Rattle.redcode_diagnosis.specs.Text.{Begins, heading};
 
 use crate::diagnosis::Diagnosis;
+use crate::json::append_numbered;
 use itoa::Buffer;
 use redcode_blame::{Copied, Part, append_shown, say};
-use redcode_places::{Span, line_text, part_of};
+use redcode_lines::{Span, line_text, part_of};
 use std::alloc::{AllocError, Allocator};
 use war_types::AsmFault;
 
 /// Places for the number of a line.
 const NUMBER_PLACES: usize = 5;
 
-/// A refusal of a source as text: `PATH:LINE:COLUMN: Kind: sentence`, and where a line is to blame its text, a caret under each byte to
-/// blame, and of a line in a block how it reads in the copy that is refused. Each line ends with a line feed. Bytes of control are shown as
-/// question marks but for the tab, and those of the path as they are. An error is want of memory.
+/// A refusal of a source as text: `PATH:LINE:COLUMN: Kind: sentence`. If a line is to blame, its text follows, with a caret under each byte
+/// to blame; if that line stands in a block, so does how it reads in the copy that is refused. Each line ends with a line feed. Control bytes
+/// other than the tab are shown as question marks, but the path as it is. It fails when memory runs out.
 pub fn text_of<A: Allocator + Copy>(
     alloc: A,
     path: &[u8],
@@ -25,9 +26,21 @@ pub fn text_of<A: Allocator + Copy>(
     ensures { IfOk result (λ text. Begins (heading path.now diagnosis.now.fault diagnosis.now.column) text.items) }
 {
     let rest = behind_heading(alloc, source, diagnosis)?;
+    headed(alloc, path, diagnosis, rest.as_slice())
+}
+
+/// A text after the path and what stands between the path and the sentence.
+fn headed<A: Allocator>(
+    alloc: A,
+    path: &[u8],
+    diagnosis: &Diagnosis<A>,
+    rest: &[u8],
+) -> Result<Vec<u8, A>, AllocError>
+    ensures { IfOk result (λ text. text.items ≡ heading path.now diagnosis.now.fault diagnosis.now.column ++ rest.now) }
+{
     let mut text = Vec::from_slice(alloc, path)?;
     append_heading(&mut text, diagnosis.fault, diagnosis.column)?;
-    text.extend_from_slice(rest.as_slice())?;
+    text.extend_from_slice(rest)?;
     Ok(text)
 }
 
@@ -40,10 +53,8 @@ fn append_heading<A: Allocator>(
 ) -> Result<(), AllocError>
     ensures { OnOk result (text.new.items ≡ heading text.old.items fault column) }
 {
-    text.extend_from_slice(b":")?;
-    text.extend_from_slice(Buffer::new().format(fault.line).as_bytes())?;
-    text.extend_from_slice(b":")?;
-    text.extend_from_slice(Buffer::new().format(column).as_bytes())?;
+    append_numbered(text, b":", fault.line)?;
+    append_numbered(text, b":", column)?;
     text.extend_from_slice(b": ")?;
     text.extend_from_slice(fault.kind.name().as_bytes())?;
     text.extend_from_slice(b": ")
@@ -56,18 +67,24 @@ fn behind_heading<A: Allocator + Copy>(
     diagnosis: &Diagnosis<A>,
 ) -> Result<Vec<u8, A>, AllocError> {
     let mut text = Vec::from_slice(alloc, diagnosis.sentence.as_slice())?;
+    append_lines(&mut text, source, diagnosis)?;
+    Ok(text)
+}
+
+/// Appends the end of the sentence's line, and the lines under it.
+fn append_lines<A: Allocator>(
+    text: &mut Vec<u8, A>,
+    source: &[u8],
+    diagnosis: &Diagnosis<A>,
+) -> Result<(), AllocError> {
     text.push(b'\n')?;
     if diagnosis.fault.line != 0 {
-        append_line(
-            &mut text,
-            line_text(source, diagnosis.fault.line),
-            diagnosis,
-        )?;
+        append_line(text, line_text(source, diagnosis.fault.line), diagnosis)?;
     }
-    if let Some(copy) = &diagnosis.copy {
-        append_copy(&mut text, copy)?;
+    match &diagnosis.copy {
+        Some(copy) => append_copy(text, copy),
+        None => Ok(()),
     }
-    Ok(text)
 }
 
 /// Appends a line with its number, and the carets under it.
@@ -80,17 +97,12 @@ fn append_line<A: Allocator>(
     append_shown(text, line)?;
     text.extend_from_slice(b"\n      | ")?;
     let from = diagnosis.column.saturating_sub(1);
+    let before = Span {
+        from: 0,
+        width: from,
+    };
     let width = diagnosis.width;
-    append_blanks(
-        text,
-        part_of(
-            line,
-            Span {
-                from: 0,
-                width: from,
-            },
-        ),
-    )?;
+    append_blanks(text, part_of(line, before))?;
     append_carets(text, part_of(line, Span { from, width }))?;
     text.extend_from_slice(b"\n")
 }

@@ -14,7 +14,7 @@ without_last [] = []
 without_last (t ∷ []) = if is_no_comment t then t ∷ [] else []
 without_last (t ∷ u ∷ us) = t ∷ without_last (u ∷ us)
 
--- nothing is behind a token that has all that is left
+-- nothing is after a token that has all that is left
 none-behind : (bytes n : ℕ) (bs : List ℕ) → length bs ≤ n → tokens_after bytes n bs ≡ []
 none-behind bytes n [] within = refl
 none-behind bytes zero (b ∷ bs) within = absurd (omega arith)

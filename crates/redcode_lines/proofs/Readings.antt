@@ -1,4 +1,4 @@
--- What stands at the front of a list, and what is behind it: for `labels`, `from_word` and `statement`.
+-- What stands at the front of a list, and what is after it: for `labels`, `from_word` and `statement`.
 use Rattle.std.proofs.Common.{◌≡◌, ℕ, ◌-◌, ◌≤◌, Bool, true, false, if◌then◌else◌, List, [], ◌∷◌, length, get_or, take, drop, is_some, Option, Some, None, codes, not, ◌&&◌, ◌||◌, refl, sym, ap, ◌∙◌, arith, ◌++◌, length-append}
 use Rattle.std.proofs.lemmas.Bool.{false_from_ne_true}
 use Rattle.std.proofs.lemmas.List.{take-map, drop-map, length-map, take_at, drop_at}
@@ -11,7 +11,7 @@ use Rattle.redcode_text.specs.Tokens.{Piece, piece_of, pieces}
 use Rattle.redcode_lines.specs.Line.{source_line, statement, statement_by, line_word, first_word, word_at, has_text, is_name, is_front, tokens_from_word, taken_while, dropped_while}
 use Rattle.redcode_lines.specs.declared.reading.LineForm.TheVariants.{Statement}
 
--- the front and what is behind it are the whole
+-- the front and what is after it are the whole
 parted : {X : Type 0} (p : X → Bool) (xs : List X) → xs ≡ taken_while p xs ++ dropped_while p xs
 parted p [] = refl
 parted p (x ∷ xs) = elim (p x) as (λ b. x ∷ xs ≡ (if b then x ∷ taken_while p xs else []) ++ (if b then dropped_while p xs else x ∷ xs)) [
@@ -19,7 +19,7 @@ parted p (x ∷ xs) = elim (p x) as (λ b. x ∷ xs ≡ (if b then x ∷ taken_w
   | false ↦ refl
 ]
 
--- the front is as long as the whole without what is behind
+-- the front is as long as the whole without what is after it
 pub take-taken_while : {X : Type 0} (p : X → Bool) (xs : List X) → take (length xs - length (dropped_while p xs)) xs ≡ taken_while p xs
 take-taken_while p xs =
     let front = taken_while p xs in
@@ -47,7 +47,7 @@ statement-by number None tokens rest from =
 statement-by number (Some word) tokens rest from =
     let cut = cut-pieces is_front tokens rest from in rw (cut.0, cut.1) refl
 
--- a statement is cut where its word stands
+-- a statement is cut before its word
 pub statement-cut : (number count : ℕ) (word : Option Word) (tokens rest : List Token) → count ≡ length tokens → word ≡ line_word (pieces tokens) → pieces rest ≡ tokens_from_word (pieces tokens)
     → source_line number Statement word [] (pieces (take (count - length rest) tokens)) (pieces (drop (count - length rest) tokens)) ≡ statement number (pieces tokens)
 statement-cut number count word tokens rest whole is from =
@@ -75,7 +75,7 @@ word-no-front t w is =
     front-by (is_name t.kind) (has_text (codes "&") t) (has_text (codes ":") t) (word_of t.text) w found
     (no-sign (codes "&") t.text w refl found) (no-sign (codes ":") t.text w refl found)
 
--- the first token that is a reserved word, where what stands before it is the front, is the word of the line
+-- the first token that is a reserved word is the word of the line, if what stands before it is the front
 pub word-found-at : (rest all : List Token) (d : Token) (w : Word) → 1 ≤ length rest → word_at (piece_of (get_or rest 0 d)) ≡ Some w
     → dropped_while is_front (pieces rest) ≡ dropped_while is_front (pieces all) → (line_word (pieces all) ≡ Some w) × (tokens_from_word (pieces all) ≡ pieces rest)
 word-found-at [] all d w some is same = absurd (omega arith)

@@ -44,11 +44,11 @@ pub data Blocks : Type 0 where
   -- a FOR without its ROF
   open_for : SourceLine → Blocks
 
--- what is left up to the first ROF whose FOR stands before, and each such ROF with what is left behind it
+-- what is left up to the first ROF whose FOR stands before, and each such ROF with what is left after it
 abbrev pub Parsed : Type 0
 Parsed = Blocks × List (SourceLine × Blocks)
 
--- a FOR belongs to the first ROF that is open behind it
+-- a FOR belongs to the first open ROF after it
 abbrev pub with_body : SourceLine → Blocks → List (SourceLine × Blocks) → Parsed
 with_body line body [] = (open_for line, [])
 with_body line body (rof ∷ rofs) = (block line body rof.0 rof.1, rofs)

@@ -1,4 +1,4 @@
--- What the code keeps of a line with more operands than a line may have: as many tokens as tell that it is refused. No part of the definition.
+-- What the code keeps of a line with more operands than a line may have: enough tokens to refuse it. This is no part of the definition.
 use Rattle.std.specs.Prelude.{Bool, true, false, not, ◌&&◌, ◌||◌, if◌then◌else◌, List, [], ◌∷◌, take, Option, Some, None, codes}
 use Rattle.redcode_text.specs.declared.vocabulary.Word.{Word}
 use Rattle.redcode_text.specs.declared.vocabulary.Word.TheVariants as words
@@ -25,7 +25,7 @@ is_limited form (Some word) = has_operands word
 is_limited forms.Assert None = true
 is_limited _ None = false
 
--- without an & a line has as many tokens in each copy
+-- without an & a line has the same number of tokens in each copy
 abbrev pub is_capped : SourceLine → Bool
 is_capped line = is_limited line.form line.word && not (has_and line.front || has_and line.tokens)
 

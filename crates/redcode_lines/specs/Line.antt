@@ -1,4 +1,4 @@
--- How a line is read: its labels, its word, and what is behind them.
+-- How a line is read: its labels, its word, and what is after them.
 use Rattle.std.specs.Prelude.{ℕ, Bool, true, false, not, ◌&&◌, ◌||◌, if◌then◌else◌, List, [], ◌∷◌, is_some, Option, Some, None, codes}
 use Rattle.std.specs.Str.{bytes_eq}
 use Rattle.redcode_text.specs.declared.token.TokenKind.{TokenKind}
@@ -61,11 +61,11 @@ abbrev pub first_word : List Piece → Option Word
 first_word [] = None
 first_word (token ∷ tokens) = word_at token
 
--- the word of a line: its first reserved word, where names, & and : alone stand before it
+-- the word of a line: its first reserved word, if nothing but names, & and : stands before it
 abbrev pub line_word : List Piece → Option Word
 line_word tokens = first_word (dropped_while is_front tokens)
 
--- the tokens from the word on, all where there is no word
+-- the tokens from the word on, all if there is no word
 abbrev pub tokens_from_word : List Piece → List Piece
 tokens_from_word tokens = if is_some (line_word tokens) then dropped_while is_front tokens else tokens
 
@@ -76,11 +76,11 @@ pub record SourceLine : Type 0 where
   pub form : LineForm
   -- the word of a statement
   pub word : Option Word
-  -- of a name or an author the text behind that word
+  -- the text after the word of a name or an author; empty in other lines
   pub title : List ℕ
-  -- of a statement with a word the tokens before it
+  -- the tokens before the word of a statement; none if it has no word
   pub front : List Piece
-  -- of a statement the other tokens, from its word on; of an assertion those behind its word
+  -- the other tokens of a statement, from its word on; the tokens after the word of an assertion
   pub tokens : List Piece
 
 abbrev pub source_line : ℕ → LineForm → Option Word → List ℕ → List Piece → List Piece → SourceLine
@@ -112,6 +112,6 @@ abbrev pub tokens_behind : Option Word → List Piece → List Piece
 tokens_behind None tokens = dropped_while is_name_token tokens
 tokens_behind (Some word) tokens = tokens
 
--- what is behind the labels: from the word on, or behind the names at the front of a line without one
+-- what is after the labels: from the word on, or after the names at the front of a line without a word
 abbrev pub behind_labels : SourceLine → List Piece
 behind_labels line = tokens_behind line.word line.tokens

@@ -5,7 +5,7 @@ use Rattle.redcode_lines.specs.declared.line.LineKind.{LineKind}
 use Rattle.redcode_lines.specs.declared.line.LineKind.TheVariants as lines
 use Rattle.redcode_lines.specs.Line.{has_text}
 
--- behind an operation, a dot and the modifier's name that follows it
+-- after an operation: the tokens after a dot and the modifier's name that follows it
 abbrev pub behind_modifier : List Piece → List Piece
 behind_modifier [] = []
 behind_modifier (token ∷ tokens) = if has_text (codes ".") token then drop 1 tokens else token ∷ tokens

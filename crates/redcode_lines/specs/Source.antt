@@ -37,11 +37,11 @@ is_blank_or_end (b ∷ bs) = is_blank b
 abbrev pub begins : List ℕ → List ℕ → Bool
 begins word text = is_word word (take (length word) text)
 
--- the text begins with the word, and a blank or nothing is behind it
+-- the text begins with the word, and a blank or nothing is after it
 abbrev pub begins_alone : List ℕ → List ℕ → Bool
 begins_alone word text = begins word text && is_blank_or_end (drop (length word) text)
 
--- what stands behind a semicolon: redcode, whatever follows, or name, author or assert with a text
+-- what stands after a semicolon: redcode, whatever follows, or name, author or assert with a text
 abbrev pub remark_of : List ℕ → Directive × List ℕ
 remark_of text =
     if begins (codes "redcode") text then (directives.Redcode, []) else (
@@ -54,11 +54,11 @@ abbrev pub directive_from : List ℕ → Option (Directive × List ℕ)
 directive_from [] = None
 directive_from (b ∷ bs) = if b == 59 then Some (remark_of bs) else None
 
--- the directive of a line that begins with a semicolon, and the text behind its word
+-- the directive of a line that begins with a semicolon, and the text after its word
 abbrev pub directive_of : List ℕ → Option (Directive × List ℕ)
 directive_of line = directive_from (after_blanks line)
 
--- a directive with its text, without where that lies
+-- a directive with its text, without that text's place in memory
 abbrev pub seen : Directive × Bor (List ℕ) → Directive × List ℕ
 seen found = (found.0, found.1.now)
 
@@ -71,6 +71,6 @@ abbrev pub redcode_on : List NumberedLine → Option (List NumberedLine)
 redcode_on [] = None
 redcode_on (line ∷ lines) = if is_redcode (directive_of line.text) then Some (line ∷ lines) else redcode_on lines
 
--- the lines that count: where there is a ;redcode line, all before the first one is ignored
+-- the lines that count: if there is a ;redcode line, all before the first one is ignored
 abbrev pub live_lines : List ℕ → List NumberedLine
 live_lines source = unwrap_or (redcode_on (numbered_from 1 (lines_of source))) (numbered_from 1 (lines_of source))

@@ -1,4 +1,4 @@
--- What a contract sees of a line that lies in memory.
+-- What a contract sees of a line in memory.
 use Rattle.redcode_text.specs.Tokens.{pieces}
 use Rattle.redcode_lines.specs.declared.reading.Reading.{Reading}
 use Rattle.redcode_lines.specs.Line.{SourceLine, source_line}

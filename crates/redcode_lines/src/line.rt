@@ -1,7 +1,13 @@
-//! The lines of an expanded source.
+//! Lines: the text of one by its number, and the lines of an expanded source.
+
+ghost use Rattle.std.specs.Prelude.{◌≡◌};
+ghost use Rattle.redcode_lines.specs.Place.{line_behind, line_text, without_return};
+ghost use Rattle.redcode_lines.specs.Source.{lines_of};
+
+use crate::source::first_line;
 
 /// What a line is.
-#[derive(Clone, Copy, Debug, PartialEq, Eq)]
+#[derive(Clone, Copy, PartialEq, Eq)]
 pub enum LineKind {
     /// An instruction: a line whose word is an operation, `LDP` and `STP` included.
     Operation,
@@ -20,11 +26,49 @@ pub enum LineKind {
 }
 
 /// A line of an expanded source.
-#[derive(Clone, Copy, Debug, PartialEq, Eq)]
+#[derive(Clone, Copy, PartialEq, Eq)]
 pub struct Line {
     /// Its number in the source, counted from 1.
     pub source_line: u32,
     pub kind: LineKind,
     /// How many instructions stand before it.
     pub before: u32,
+}
+
+/// The text of the line of this number, counted from 1, without its line feed and the carriage return before that; empty if there is
+/// no such line.
+pub fn line_text(source: &[u8], line: u32) -> &[u8]
+    ensures { result.now ≡ line_text source.entry.now line }
+{
+    if line == 0 {
+        return &[];
+    }
+    without_return(line_behind(source, line - 1))
+}
+
+/// The line after `count` others; empty if there is none.
+fn line_behind(source: &[u8], count: u32) -> &[u8]
+    ensures { result.now ≡ line_behind count (lines_of source.entry.now) }
+{
+    let mut rest = source;
+    let mut left = count;
+    while !rest.is_empty() {
+        let (line, behind) = first_line(rest);
+        if left == 0 {
+            return line;
+        }
+        rest = behind;
+        left -= 1;
+    }
+    &[]
+}
+
+/// A line without the carriage return at its end.
+fn without_return(line: &[u8]) -> &[u8]
+    ensures { result.now ≡ without_return line.entry.now }
+{
+    match line {
+        [front @ .., b'\r'] => front,
+        _ => line,
+    }
 }

@@ -1,4 +1,4 @@
-//! How a line is read: its labels, its word, and what is behind them; and which tokens of an expanded line are operands.
+//! How a line is read: its labels, its word, and what is after them; and which tokens of an expanded line are operands.
 
 ghost use Rattle.std.specs.Prelude.{◌≡◌, ◌≤◌, drop, length};
 ghost use Rattle.redcode_text.specs.Tokens.{piece_of, pieces};
@@ -11,9 +11,9 @@ use crate::line::LineKind;
 use redcode_text::{Token, TokenKind, Word, word_of};
 
 /// What a line of the source is.
-#[derive(Clone, Copy, Debug, PartialEq, Eq)]
+#[derive(Clone, Copy, PartialEq, Eq)]
 pub enum LineForm {
-    /// Labels and what stands behind them.
+    /// Labels and what is after them.
     Statement,
     /// `;assert`.
     Assert,
@@ -24,18 +24,18 @@ pub enum LineForm {
 }
 
 /// How a line reads, in the source or in a copy of a block.
-#[derive(Clone, Copy, Debug)]
+#[derive(Clone, Copy)]
 pub struct Reading<'l, 's> {
     /// Its number in the source, counted from 1.
     pub number: u32,
     pub form: LineForm,
     /// The word of a statement.
     pub word: Option<Word>,
-    /// Of a name or an author the text behind that word.
+    /// The text after the word of a name or an author; empty in other lines.
     pub title: &'s [u8],
-    /// Of a statement with a word the tokens before it.
+    /// The tokens before the word of a statement; none if it has no word.
     pub front: &'l [Token<'s>],
-    /// Of a statement the other tokens, from its word on; of an assertion those behind its word.
+    /// The other tokens of a statement, from its word on; the tokens after the word of an assertion.
     pub tokens: &'l [Token<'s>],
 }
 
@@ -53,7 +53,7 @@ impl<'l, 's> Reading<'l, 's> {
         }
     }
 
-    /// What is behind its labels: from the word on, or behind the names at the front of a line without one.
+    /// What is after its labels: from the word on, or after the names at the front of a line without a word.
     pub fn behind_labels(&self) -> &'l [Token<'s>]
         ensures { pieces result.now ≡ behind_labels (line_read self.now) }
     {
@@ -64,7 +64,7 @@ impl<'l, 's> Reading<'l, 's> {
     }
 }
 
-/// The word of a statement of these tokens, and the tokens from it on; all tokens where there is no word.
+/// The word of a statement of these tokens, and the tokens from it on; all tokens if there is no word.
 pub(crate) fn from_word<'t, 's>(tokens: &'t [Token<'s>]) -> (Option<Word>, &'t [Token<'s>])
     ensures word { result.0 ≡ line_word (pieces tokens.entry.now) }
     ensures from { pieces result.1.now ≡ tokens_from_word (pieces tokens.entry.now) }
@@ -149,7 +149,7 @@ pub fn operands_of<'t, 's>(kind: LineKind, tokens: &'t [Token<'s>]) -> &'t [Toke
     }
 }
 
-/// Behind an operation, a dot and the modifier's name that follows it.
+/// After an operation: the tokens after a dot and the modifier's name that follows it.
 fn behind_modifier<'t, 's>(tokens: &'t [Token<'s>]) -> &'t [Token<'s>]
     ensures behind { pieces result.now ≡ behind_modifier (pieces tokens.entry.now) }
     ensures short { length result.now ≤ length tokens.entry.now }

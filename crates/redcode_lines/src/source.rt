@@ -7,7 +7,7 @@ ghost use Rattle.redcode_lines.specs.Source.{begins, begins_alone, directive_of,
 use redcode_text::{is_blank, is_word};
 
 /// What a line is that begins with a semicolon.
-#[derive(Clone, Copy, Debug, PartialEq, Eq)]
+#[derive(Clone, Copy, PartialEq, Eq)]
 pub enum Directive {
     Redcode,
     Name,
@@ -17,7 +17,7 @@ pub enum Directive {
     Remark,
 }
 
-/// The number of the first line that is read, and the source from there on: where there is a `;redcode` line, all
+/// The number of the first line that is read, and the source from there on. If there is a `;redcode` line, all
 /// before the first one is ignored.
 pub fn live_source(source: &[u8]) -> (u32, &[u8])
     requires { length source.now ≤ 65536 }
@@ -38,7 +38,7 @@ pub fn live_source(source: &[u8]) -> (u32, &[u8])
     (1, source)
 }
 
-/// The first line without the line feed that ends it, and what is behind that.
+/// The first line without the line feed that ends it, and what is after that.
 pub fn first_line(source: &[u8]) -> (&[u8], &[u8])
     requires { 0 < length source.now }
     ensures lines { lines_of source.entry.now ≡ result.0.now ∷ lines_of result.1.now }
@@ -53,7 +53,7 @@ pub fn first_line(source: &[u8]) -> (&[u8], &[u8])
     source.split_at(source.len())
 }
 
-/// The directive of a line that begins with a semicolon, whatever blanks stand before it, and the text behind its word.
+/// The directive of a line that begins with a semicolon, whatever blanks stand before it, and the text after its word.
 pub fn directive_of(line: &[u8]) -> Option<(Directive, &[u8])>
     ensures found { option_map seen result ≡ directive_of line.entry.now }
     ensures short { IfSome result (λ found. length found.1.now ≤ length line.entry.now) }
@@ -71,8 +71,8 @@ pub fn directive_of(line: &[u8]) -> Option<(Directive, &[u8])>
     None
 }
 
-/// What stands behind the semicolon: `redcode`, whatever follows, or `name`, `author` or `assert` and then a blank or
-/// the end of the line. Letter case is one.
+/// What stands after the semicolon: `redcode`, whatever follows, or `name`, `author` or `assert` before a blank or
+/// the end of the line. Upper and lower case are one.
 fn remark_of(text: &[u8]) -> (Directive, &[u8])
     ensures found { seen result ≡ remark_of text.entry.now }
     ensures short { length result.1.now ≤ length text.entry.now }
@@ -106,7 +106,7 @@ fn begins(word: &[u8], text: &[u8]) -> bool
     is_word(word, &text[..text.len().min(word.len())])
 }
 
-/// The text without so many bytes at its front.
+/// The text without its first `bytes` bytes.
 fn behind(bytes: usize, text: &[u8]) -> &[u8]
     ensures behind { result.now ≡ drop bytes text.entry.now }
     ensures short { length result.now ≤ length text.entry.now }

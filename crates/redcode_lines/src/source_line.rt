@@ -25,7 +25,7 @@ pub struct SourceLine<'s, A: Allocator> {
     word: Option<Word>,
     title: &'s [u8],
     tokens: Vec<Token<'s>, A>,
-    /// Tokens before its word; none where it has no word.
+    /// Tokens before its word; 0 if it has no word.
     front: usize,
 }
 
@@ -60,7 +60,7 @@ impl<'s, A: Allocator> SourceLine<'s, A> {
         self.word
     }
 
-    /// Whether it has as many operands in each copy, of which there may be 512 at most.
+    /// Whether it has the same number of operands in each copy, and may have 512 of them at most.
     fn is_capped(&self) -> bool
         ensures { result ≡ is_capped self.now }
     {
@@ -68,7 +68,7 @@ impl<'s, A: Allocator> SourceLine<'s, A> {
         is_limited(line.form, line.word) && !has_and(line.front) && !has_and(line.tokens)
     }
 
-    /// As much of the line as tells whether it has more operands than it may have.
+    /// The tokens of the line that show whether it has more operands than it may have.
     fn capped(mut self) -> Self
         ensures { result ≡ capped self.entry }
     {
@@ -95,7 +95,7 @@ impl<'s, A: Allocator> SourceLine<'s, A> {
     }
 }
 
-/// Whether the operands of such a line may be 512 tokens at most.
+/// Whether the operands of a line of this form and word may be 512 tokens at most.
 fn is_limited(form: LineForm, word: Option<Word>) -> bool
     ensures { result ≡ is_limited form word }
 {
@@ -106,7 +106,8 @@ fn is_limited(form: LineForm, word: Option<Word>) -> bool
     }
 }
 
-/// The lines of a source whose first line has this number, but for those that are skipped, each as much as tells whether it is too long.
+/// The lines of a source whose first line has the number `first`. Lines that are skipped are left out, and of each line no more
+/// tokens are kept than show whether it is too long.
 pub fn source_lines<'s, A: Allocator + Copy>(
     alloc: A,
     first: u32,
@@ -239,7 +240,7 @@ fn titled<'s, A: Allocator>(
     }
 }
 
-/// A line, behind so many others.
+/// The line after `at` others.
 pub fn line_at<'l, 's, A: Allocator>(
     lines: &'l [SourceLine<'s, A>],
     at: usize,

@@ -93,7 +93,7 @@ clean-both core i below most =
 abbrev pub instr_tokens : ℕ → Instr → List Piece
 instr_tokens core i = piece kinds.Name (op_text i.op) ∷ piece kinds.Symbol (codes ".") ∷ piece kinds.Name (modifier_text i.modifier) ∷ both_tokens core i
 
--- behind the operation they are read as the instruction
+-- after the operation they are read as the instruction
 pub instruction_of-line : (core : ℕ) (names : List ℕ → Option ℤ) (i : Instr) → HasNumbersBelow core i → core ≤ 65535
     → instruction_of core names (Some (words.Operation i.op)) (drop 1 (instr_tokens core i)) ≡ Ok i
 instruction_of-line core names i below most =

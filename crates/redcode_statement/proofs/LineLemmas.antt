@@ -11,7 +11,7 @@ IsInLine b = (b == 10) ≡ false
 abbrev pub AreInLine : List ℕ → Type 0
 AreInLine bs = AllByRecursion IsInLine bs
 
--- two texts without a line feed, one behind the other, have none
+-- two texts without a line feed, one after the other, have none
 pub in_line-append : (xs ys : List ℕ) → AreInLine xs → AreInLine ys → AreInLine (xs ++ ys)
 in_line-append [] ys xs_in ys_in = ys_in
 in_line-append (x ∷ xs) ys xs_in ys_in = (xs_in.0, in_line-append xs ys xs_in.1 ys_in)

@@ -59,7 +59,7 @@ in_line-digits (d ∷ ds) all = (ne_eqb d 10 (λ e. omega (arith, all.0)), in_li
 negated-small : (n : ℕ) → n < 65536 → negated (Ok (pos n)) ≡ Ok (neg_ℤ (pos n))
 negated-small n small = grind (arith, nat_tests)
 
--- few digits, alone and behind a minus sign
+-- few digits, alone and after a minus sign
 Spells-digits : (ds : List ℕ) (n : ℕ) → IsNumeral 10 ds → number_from 0 ds ≡ n → n < 65536 → length ds ≤ 5
     → Spells ds (number_token ds ∷ []) (pos n) × Spells (45 ∷ ds) (minus ∷ number_token ds ∷ []) (neg_ℤ (pos n))
 unfolding value_within
@@ -87,7 +87,7 @@ Spells-digits (d ∷ ds) n numeral value small short =
       },
     )
 
--- a number below 65,536 in decimal, alone and behind a minus sign
+-- a number below 65,536 in decimal, alone and after a minus sign
 pub Spells-decimal : (n : ℕ) → n < 65536
     → Spells (decimal n) (number_token (decimal n) ∷ []) (pos n) × Spells (45 ∷ decimal n) (minus ∷ number_token (decimal n) ∷ []) (neg_ℤ (pos n))
 Spells-decimal n small =

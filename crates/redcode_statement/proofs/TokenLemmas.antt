@@ -50,7 +50,7 @@ is_letter-digit b h = grind (arith, nat_tests)
 is_blank-digit : (b : ℕ) → IsDigitByte b → is_blank b ≡ false
 is_blank-digit b h = grind (arith, nat_tests)
 
--- the digits in front, where no further one follows
+-- the digits in front, if no further one follows
 take_while-digits : (ds rest : List ℕ) → AllByRecursion IsDigitByte ds → take_while is_digit rest ≡ [] → take_while is_digit (ds ++ rest) ≡ ds
 take_while-digits [] rest all stops = stops
 take_while-digits (d ∷ ds) rest all stops =

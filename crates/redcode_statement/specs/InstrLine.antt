@@ -11,7 +11,7 @@ spaces n = replicate n 32
 abbrev pub signed_number : ℕ → ℕ → List ℕ
 signed_number core n = if nat_lt core (2 * n) then 45 ∷ decimal (core - n) else decimal n
 
--- a text at the left, or at the right, of so many places
+-- a text at the left, or at the right, of `places` places
 abbrev pub left_in : ℕ → List ℕ → List ℕ
 left_in places text = text ++ spaces (places - length text)
 

@@ -24,11 +24,11 @@ abbrev pub is_immediate : Mode → Bool
 is_immediate modes.Immediate = true
 is_immediate _ = false
 
--- one modifier where the A operand is immediate, another where the B operand is, a third elsewhere
+-- one modifier if the A operand is immediate, another if the B operand is, a third if neither is
 abbrev pub by_modes : Mode → Mode → Modifier → Modifier → Modifier → Modifier
 by_modes a b at_a at_b elsewhere = if is_immediate a then at_a else (if is_immediate b then at_b else elsewhere)
 
--- the modifier where none is written (the draft standard's table of default modifiers; for SLT and NOP the project's own)
+-- the modifier if none is written (the draft standard's table of default modifiers; for SLT and NOP the project's own)
 abbrev pub default_modifier : Op → Mode → Mode → Modifier
 default_modifier ops.Dat a b = modifiers.F
 default_modifier ops.Nop a b = modifiers.F
@@ -49,7 +49,7 @@ abbrev pub reduced : ℕ → ℤ → ℕ
 reduced core (pos n) = n % core
 reduced core (negsuc n) = core - 1 - n % core
 
--- what is said where nothing stands behind the operands
+-- x, if nothing stands after the operands
 abbrev pub unless_more : {X : Type 0} → Bool → X → Result X AsmKind
 unless_more true x = Err kinds.ExtraText
 unless_more false x = Ok x
@@ -73,7 +73,7 @@ instr_of core op modifier a b more = instr_of_values core op modifier a.mode b.m
 
 -- ---- from tokens
 
--- the modifier of this name, and the tokens behind it
+-- the modifier of this name, and the tokens after it
 abbrev pub modifier_or_bad : Option Modifier → List Piece → Result (Option Modifier × List Piece) AsmKind
 modifier_or_bad None behind = Err kinds.BadModifier
 modifier_or_bad (Some modifier) behind = Ok (Some modifier, behind)
@@ -82,7 +82,7 @@ abbrev pub modifier_named_at : List Piece → Result (Option Modifier × List Pi
 modifier_named_at [] = Err kinds.BadModifier
 modifier_named_at (t ∷ ts) = modifier_or_bad (named modifier_names t.text) ts
 
--- the modifier behind a dot, or none where no dot stands there, and the tokens of the operands
+-- the modifier after a dot, or none if no dot stands there, and the tokens of the operands
 abbrev pub modifier_at : List Piece → Result (Option Modifier × List Piece) AsmKind
 modifier_at [] = Ok (None, [])
 modifier_at (t ∷ ts) = if has_text (codes ".") t then modifier_named_at ts else Ok (None, t ∷ ts)
@@ -90,8 +90,8 @@ modifier_at (t ∷ ts) = if has_text (codes ".") t then modifier_named_at ts els
 abbrev pub instr_of_sides : ℕ → (List ℕ → Option ℤ) → Op → Option Modifier → SideTokens → Result Instr AsmKind
 instr_of_sides core names op modifier sides = instr_of core op modifier (operand_of names sides.a) (operand_of names sides.b) sides.more
 
--- the instruction in a core of this size, by what the names stand for, of the word and the tokens behind it, or its first fault;
--- a word that is no operation of the machine is LDP or STP, and there is no P-space
+-- the instruction of a word and the tokens after it, in a core of this size, by what the names stand for; or its first fault.
+-- A word that is no operation of the machine is LDP or STP, and there is no P-space
 abbrev pub instruction_of : ℕ → (List ℕ → Option ℤ) → Option Word → List Piece → Result Instr AsmKind
 instruction_of core names (Some (words.Operation op)) tokens =
     modifier_at tokens >>= λ modifier.

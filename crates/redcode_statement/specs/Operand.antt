@@ -7,11 +7,11 @@ use Rattle.redcode_text.specs.Value.{value_of}
 use Rattle.redcode_text.specs.Vocabulary.{named, mode_names}
 use Rattle.redcode_statement.specs.declared.operand.Operand.{Operand}
 
--- what stands where no operand is written
+-- the operand if none is written
 abbrev pub direct_zero : Operand
 direct_zero = record { mode = modes.Direct; value = Ok (pos 0) }
 
--- an operand behind its mode, or from its first token on where no mode stands there, which is $ then
+-- an operand after its mode, or from its first token on if no mode stands there, which is $ then
 abbrev pub operand_with : (List ℕ → Option ℤ) → Option Mode → List Piece → List Piece → Operand
 operand_with names (Some mode) whole behind = record { mode = mode; value = value_of names behind }
 operand_with names None whole behind = record { mode = modes.Direct; value = value_of names whole }

@@ -11,17 +11,17 @@ use Rattle.redcode_lines.specs.Line.{has_text}
 abbrev pub is_comma : Piece → Bool
 is_comma token = has_text (codes ",") token
 
--- the tokens before the first comma, or all where there is none
+-- the tokens before the first comma, or all if there is none
 abbrev pub before_comma : List Piece → List Piece
 before_comma [] = []
 before_comma (t ∷ ts) = if is_comma t then [] else t ∷ before_comma ts
 
--- the tokens behind the first comma, where there is one
+-- the tokens after the first comma, if there is one
 abbrev pub behind_comma : List Piece → Option (List Piece)
 behind_comma [] = None
 behind_comma (t ∷ ts) = if is_comma t then Some ts else behind_comma ts
 
--- the tokens of both operands, none of one that is not written, and whether a second comma stands behind them
+-- the tokens of both operands, none for an operand that is not written, and whether a second comma stands after them
 pub record SideTokens : Type 0 where
   pub a : List Piece
   pub b : List Piece
@@ -30,7 +30,7 @@ pub record SideTokens : Type 0 where
 abbrev pub side_tokens : List Piece → List Piece → Bool → SideTokens
 side_tokens a b more = record { a = a; b = b; more = more }
 
--- DAT and NOP may have no operand, and others lack one
+-- DAT and NOP may have no operand; every other operation needs one
 abbrev pub no_operand : Op → Result SideTokens AsmKind
 no_operand ops.Dat = Ok (side_tokens [] [] false)
 no_operand ops.Nop = Ok (side_tokens [] [] false)
@@ -45,7 +45,7 @@ abbrev pub without_comma : Op → List Piece → Result SideTokens AsmKind
 without_comma op [] = no_operand op
 without_comma op (t ∷ ts) = Ok (one_operand op (t ∷ ts))
 
--- of two operands each has a token
+-- of two operands each needs a token
 abbrev pub two_operands : List Piece → List Piece → Bool → Result SideTokens AsmKind
 two_operands [] b more = Err kinds.MissingOperand
 two_operands (t ∷ ts) [] more = Err kinds.MissingOperand

@@ -58,7 +58,7 @@ assert_said names (t ∷ ts) = single_value names (t ∷ ts) >>= λ z. Ok (state
 abbrev pub instruction_said : Result Instr AsmKind → Result Statement AsmKind
 instruction_said instr = instr >>= λ i. Ok (statements.Instruction i)
 
--- what is no line of the language: there is no P-space, so PIN is refused for that
+-- any other line: there is no P-space, so PIN is refused for that, and every other line has no operation
 abbrev pub other_said : Option Word → Result Statement AsmKind
 other_said (Some words.Pin) = Err kinds.Pspace
 other_said _ = Err kinds.BadOperation

@@ -1,4 +1,4 @@
--- What a contract sees of tokens that lie in memory.
+-- What a contract sees of tokens in memory.
 use Rattle.std.specs.Prelude.{List, Option, Result, Ok, Err}
 use Rattle.std.specs.Borrow.{Bor}
 use Rattle.std.specs.Option.{option_map}
@@ -18,6 +18,6 @@ tokens_seen tokens = option_map (λ ts. pieces ts.now) tokens
 abbrev pub sides_seen : Sides → SideTokens
 sides_seen sides = side_tokens (pieces sides.a.now) (pieces sides.b.now) sides.more
 
--- something with tokens behind it
+-- something with tokens after it
 abbrev pub read : {X : Type 0} → X × Bor (List Token) → X × List Piece
 read found = (found.0, pieces found.1.now)

@@ -10,7 +10,7 @@ use redcode_lines::has_text;
 use redcode_text::{Names, Token, Word, modifier_named};
 use war_types::{AsmKind, Instr, Mode, Modifier, Op};
 
-/// The instruction in a core of so many cells, of its word and the tokens behind that, or its first fault. A word that is no
+/// The instruction of a word and the tokens after it, in a core of `core` cells, or its first fault. A word that is no
 /// operation of the machine is `LDP` or `STP`, and there is no P-space.
 pub fn instruction_of<N: Names>(
     core: u16,
@@ -31,7 +31,7 @@ pub fn instruction_of<N: Names>(
     instr_of(core, op, modifier, a, b, sides.more)
 }
 
-/// The modifier behind a dot, or none where no dot stands there, and the tokens of the operands.
+/// The modifier after a dot, or none if no dot stands there, and the tokens of the operands.
 fn modifier_at<'t, 'l>(
     tokens: &'t [Token<'l>],
 ) -> Result<(Option<Modifier>, &'t [Token<'l>]), AsmKind>
@@ -43,7 +43,7 @@ fn modifier_at<'t, 'l>(
     }
 }
 
-/// The modifier whose name stands there, and the tokens behind it.
+/// The modifier whose name stands there, and the tokens after it.
 fn modifier_named_at<'t, 'l>(
     tokens: &'t [Token<'l>],
 ) -> Result<(Option<Modifier>, &'t [Token<'l>]), AsmKind>
@@ -58,8 +58,8 @@ fn modifier_named_at<'t, 'l>(
     }
 }
 
-/// The instruction of these parts: the A operand's fault, else that of the B operand, else that of more text behind
-/// them.
+/// The instruction of these parts, or the first fault: the A operand's, the B operand's, or `ExtraText` if more text stands
+/// after them.
 fn instr_of(
     core: u16,
     op: Op,
@@ -110,7 +110,7 @@ fn default_modifier(op: Op, a: Mode, b: Mode) -> Modifier
     }
 }
 
-/// A number as an address of a core of so many cells.
+/// A number as an address of a core of `core` cells.
 fn reduced(core: u16, value: i64) -> u16
     requires { 0 < core }
     ensures value { result ≡ reduced core value }

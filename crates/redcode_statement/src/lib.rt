@@ -1,11 +1,13 @@
-//! What the word of a line and the tokens behind it say, and how the line of an instruction is written.
+//! What the word of a line and the tokens after it say, and how the line of an instruction is written.
 //!
-//! Data passes through the modules in this order: `operand` parts the operands at the commas and reads of each a mode and the
-//! value of an expression; `instruction` puts these together, or answers the first fault; `statement` says what an `ORG`, an `END`
-//! and an assertion say. The way back is `line`, which writes an instruction.
+//! Data passes through the modules in this order: `operand` parts the operands at the commas, and reads of each a mode and the
+//! value of an expression. `instruction` puts these together, or answers the first fault. `statement` says what an `ORG`, an `END`
+//! and an assertion say. `line` goes the other way: it writes an instruction.
 //!
 //! The main clauses: `instruction_of` and the statements are the definitions of `Instruction` and `Statement` in `specs`, in terms
-//! of what the names stand for, and `append_line` appends the text of `InstrLine`.
+//! of what the names stand for. `append_line` appends the text of `InstrLine`.
+//!
+//! Nothing here knows a source or its labels. Only `append_line` takes memory.
 #![tactic(auto)]
 
 mod instruction;

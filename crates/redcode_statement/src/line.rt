@@ -76,7 +76,7 @@ fn nearest_to_zero(number: u16, core: u16) -> i32
     }
 }
 
-/// Appends so many spaces.
+/// Appends `count` spaces.
 fn append_spaces<A: Allocator>(text: &mut Vec<u8, A>, count: usize) -> Result<(), AllocError>
     ensures { OnOk result (text.new.items ≡ text.old.items ++ spaces count) }
 {

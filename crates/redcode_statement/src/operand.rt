@@ -10,8 +10,8 @@ use redcode_lines::has_text;
 use redcode_text::{Names, Token, mode_named, value};
 use war_types::{AsmKind, ExprFault, Mode, Op};
 
-/// The tokens of both operands, none of one that is not written, and whether a second comma stands behind them.
-#[derive(Clone, Copy, Debug)]
+/// The tokens of both operands, none for an operand that is not written, and whether a second comma stands after them.
+#[derive(Clone, Copy)]
 pub(crate) struct Sides<'t, 'l> {
     pub a: &'t [Token<'l>],
     pub b: &'t [Token<'l>],
@@ -37,7 +37,7 @@ pub(crate) fn sides_of<'t, 'l>(op: Op, tokens: &'t [Token<'l>]) -> Result<Sides<
     }
 }
 
-/// The tokens before the first comma, and those behind it where there is one.
+/// The tokens before the first comma, and those after it if there is one.
 pub(crate) fn at_comma<'t, 'l>(
     tokens: &'t [Token<'l>],
 ) -> (&'t [Token<'l>], Option<&'t [Token<'l>]>)
@@ -78,20 +78,20 @@ fn without_comma<'t, 'l>(op: Op, given: &'t [Token<'l>]) -> Result<Sides<'t, 'l>
     }
 }
 
-/// An operand: its mode, `$` where none is written, and the value of its expression, or what is wrong with that.
-#[derive(Clone, Copy, Debug)]
+/// An operand: its mode, `$` if none is written, and the value of its expression, or what is wrong with that.
+#[derive(Clone, Copy)]
 pub(crate) struct Operand {
     pub mode: Mode,
     pub value: Result<i64, ExprFault>,
 }
 
-/// What stands where no operand is written.
+/// The operand if none is written.
 const DIRECT_ZERO: Operand = Operand {
     mode: Mode::Direct,
     value: Ok(0),
 };
 
-/// The operand of these tokens, `$0` where there are none.
+/// The operand of these tokens, `$0` if there are none.
 pub(crate) fn operand_of<N: Names>(tokens: &[Token<'_>], names: &N) -> Operand
     ensures { result ≡ operand_of (N.values names.now) (pieces tokens.now) }
 {

@@ -10,7 +10,7 @@ use redcode_text::{Names, Token, TokenKind, Word, value};
 use war_types::{AsmKind, Instr};
 
 /// What a line says that has no fault.
-#[derive(Clone, Copy, Debug)]
+#[derive(Clone, Copy)]
 pub enum Statement {
     /// An instruction.
     Instruction(Instr),
@@ -36,7 +36,7 @@ pub fn has_bad_token(tokens: &[Token<'_>]) -> bool
     false
 }
 
-/// What `ORG` says with the tokens behind it.
+/// What `ORG` says with the tokens after it.
 pub fn org_said<N: Names>(tokens: &[Token<'_>], names: &N) -> Result<Statement, AsmKind>
     ensures { result ≡ org_said (N.values names.now) (pieces tokens.now) }
 {
@@ -44,7 +44,7 @@ pub fn org_said<N: Names>(tokens: &[Token<'_>], names: &N) -> Result<Statement, 
     Ok(Statement::Org(start))
 }
 
-/// What `END` says with the tokens behind it.
+/// What `END` says with the tokens after it.
 pub fn end_said<N: Names>(tokens: &[Token<'_>], names: &N) -> Result<Statement, AsmKind>
     ensures { result ≡ end_said (N.values names.now) (pieces tokens.now) }
 {

@@ -32,7 +32,7 @@ next_here r o ps e = let same : (rank_of o == r) ≡ true = eq-eqb (rank_of o) r
 
 -- ---- what a climb must have done
 
--- behind a value with no operator of the rank the climb ends
+-- after a value with no operator of the rank the climb ends
 ends : {r d : ℕ} {v : Value} {ps : List Part} {out : Found} → Climbs (suc r) d (Continue v ps) out → next_at (suc r) ps ≡ None → out ≡ Some (v, ps)
 ends (climbs.over e) none = refl
 ends (climbs.broken o e c) none = absurd cc

@@ -18,7 +18,7 @@ pub record Front (rank depth : ℕ) (parts : List Part) (v : Value) (rest : List
   pub together : parts ≡ front ++ rest
   pub reads : Reads rank depth front v
 
--- what was found is one, in what was begun or goes on behind any front
+-- what was found is an expression: at the beginning, or after any front that it goes on
 abbrev pub IsFound : ℕ → ℕ → Start → Found → Type 0
 IsFound r d start None = Unit {0}
 IsFound r d (Begin ps) (Some (v, rest)) = Front r d ps v rest
@@ -32,7 +32,7 @@ next_is r (parts.Operator p ∷ ps) o others e = elim (cases_Bool (rank_of p == 
 ]
 next_is r _ o others e = absurd cc
 
--- behind one part more
+-- after one part more
 with_part : {r k d e : ℕ} {ps rest : List Part} {v w : Value} (part : Part) → ((front : List Part) → Reads r d front v → Reads k e (part ∷ front) w) → Front r d ps v rest → Front k e (part ∷ ps) w rest
 with_part part reads f = record { front = part ∷ f.front; together = ap (λ xs. part ∷ xs) f.together; reads = reads f.front f.reads }
 

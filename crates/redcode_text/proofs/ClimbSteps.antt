@@ -43,7 +43,7 @@ refused_at {d} {ps} {qs} {part} e operand inner = part_at e refl (climbs.refused
 pub refused_on : (k r d : ℕ) (ps : List Part) → k ≤ r → Climbs k d (Begin ps) None → Climbs r d (Begin ps) None
 refused_on k r d ps le c = upward (λ m. Climbs m d (Begin ps) None) (λ m h. climbs.unbegun h) k r le c
 
--- what has nothing behind it is so at each rank above
+-- what has nothing after it is so at each rank above
 pub ended_at : (names : List ℕ → Option ℤ) (tokens : List Token) (k r d : ℕ) (ps : List Part) (v : Value) → k ≤ r → length tokens ≡ 0
     → Climbs k d (Begin ps) (Some (v, parts_of names tokens)) → Climbs r d (Begin ps) (Some (v, parts_of names tokens))
 ended_at names [] k r d ps v le none c = upward (λ m. Climbs m d (Begin ps) (Some (v, []))) (λ m h. climbs.begun h (climbs.over refl)) k r le c

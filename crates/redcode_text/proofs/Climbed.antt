@@ -13,7 +13,7 @@ use Rattle.redcode_text.proofs.ClimbComplete.{climb_whole}
 use Rattle.redcode_text.proofs.SplitReads.{value_reads, Under-all}
 use Rattle.redcode_text.proofs.ReadSplits.{reads_value}
 
--- the value where nothing is left behind it
+-- the value if nothing is left after it
 abbrev pub whole_of : Found → Option Value
 whole_of (Some (v, [])) = Some v
 whole_of _ = None

@@ -38,7 +38,7 @@ too_long p (x ∷ xs) c more rest e = let e' = rw (counted p x xs) at e in rw (c
       rw (fails, ← same, fails)
 ])
 
--- so many bytes behind the first are a token of the kind, and none could be longer
+-- the first byte and the n bytes after it are a token of the kind, and none could be longer
 abbrev pub Fits : ℕ → List ℕ → TokenKind → ℕ → Type 0
 Fits b bs kind n = (is_of_kind kind (b ∷ take n bs) ≡ true) × ((other : TokenKind) (c : ℕ) (more rest : List ℕ) → drop n bs ≡ c ∷ (more ++ rest) → is_of_kind other (b ∷ (take n bs ++ c ∷ more)) ≡ false)
 

@@ -14,7 +14,7 @@ number_from-ge n (d ∷ ds) = omega (arith, number_from-ge (10 * n + (d - 48)) d
 pub number_from-more : (n : ℕ) (ds : List ℕ) (i : ℕ) → i < length ds → number_from n (drop i ds) ≡ number_from (10 * n + (get_or ds i 0 - 48)) (drop (i + 1) ds)
 number_from-more n ds i lt = at_drop_more (number_from n) ds i 0 lt
 
--- where the next digit leads past the limit, the whole number is past it
+-- if the next digit leads past the limit, the whole number is past it
 pub number_value-overflow : (n : ℕ) (ds : List ℕ) (i : ℕ) → i < length ds → number_from n (drop i ds) ≡ number_from 0 ds
     → 2 ^ 63 ≤ 10 * n + (get_or ds i 0 - 48) → number_value ds ≡ Err expressions.Overflow
 number_value-overflow n ds i lt so_far past =

@@ -57,7 +57,7 @@ looser_later o ps s le = grind arith
 looser_here : (o : Operator) (ps : List Part) (x : Option Split) → Under (rank_of o) x → looser o ps x ≡ Some (split_of [] o ps)
 looser_here o ps x h = grind arith
 
--- a split behind an expression that binds no more loosely is the split of both
+-- after an expression that binds no more loosely, a split is the split of both
 pub later_split : {k d : ℕ} {ps : List Part} {v : Value} → Reads k d ps v → (rest : List Part) (s : Split) → split_from true zero rest ≡ Some s → k ≤ rank_of s.operator
     → split_from false zero (ps ++ rest) ≡ all_behind ps (Some s)
 later_split {k = zero} {ps = ps} h rest s e le = part_split h zero (λ _. refl) rest ∙ ap (all_behind ps) e

@@ -36,7 +36,7 @@ closed_is _ inside e = absurd cc
 
 -- ---- by the number of parts
 
--- what has a value within so many parts is an expression of each rank that no operator passes
+-- what has a value within n parts is an expression of each rank that no operator passes
 abbrev pub AllRead : ℕ → Type 0
 AllRead n = (d : ℕ) (ps : List Part) (v : Value) (k : ℕ) → value_within n d ps ≡ Some v → Under (suc k) (split_from false zero ps) → Reads k d ps v
 

@@ -8,7 +8,7 @@ use Rattle.redcode_text.specs.declared.token.TokenKind.{TokenKind}
 use Rattle.redcode_text.specs.Tokens.{ScannedPiece, IsFirst, AreTokensFrom, is_of_kind}
 use Rattle.redcode_text.proofs.TextKinds.{not_blank, same_kind}
 
--- where two texts with something behind are one line, they are equal, or one goes on in what is behind the other
+-- if two texts with something after them are one line, they are equal, or one goes on in what is after the other
 data Fronts (xs us ys vs : List ℕ) : Type 0 where
   same : xs ≡ ys → us ≡ vs → Fronts xs us ys vs
   shorter : (byte : ℕ) (more : List ℕ) → ys ≡ xs ++ byte ∷ more → us ≡ byte ∷ (more ++ vs) → Fronts xs us ys vs

@@ -11,7 +11,7 @@ no_names name = None
 abbrev gives : List ℕ → Value → Type 0
 gives line v = value_of no_names (pieces_of line) ≡ v
 
--- so many plus signs before a number
+-- n plus signs before a number
 abbrev signs : ℕ → List ℕ
 signs zero = codes "7"
 signs (suc n) = codes "+" ++ signs n

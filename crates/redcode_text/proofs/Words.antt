@@ -7,7 +7,7 @@ use Rattle.std.specs.Char.{to_ascii_lowercase}
 use Rattle.std.specs.List.{AllByRecursion}
 use Rattle.redcode_text.specs.Vocabulary.{is_word, named, reserved_words, word_of}
 
--- each of these words has so many letters
+-- an entry whose word has n letters
 abbrev Has : {X : Type 0} → ℕ → List ℕ × X → Type 0
 Has n entry = length entry.0 ≡ n
 

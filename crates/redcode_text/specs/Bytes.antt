@@ -22,6 +22,6 @@ goes_on false b = is_digit b
 abbrev pub is_symbol : ℕ → Bool
 is_symbol b = list_any (λ s. s == b) (codes ".,:&!<>+-*/%()#$@{}")
 
--- the symbols of two: && and ||, and an equals sign behind one of !, <, = and >
+-- the symbols of two: && and ||, and an equals sign after !, <, = or >
 abbrev pub are_symbol : ℕ → ℕ → Bool
 are_symbol a b = a == 38 && b == 38 || (a == 124 && b == 124 || b == 61 && list_any (λ s. s == a) (codes "!<=>"))

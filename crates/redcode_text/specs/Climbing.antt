@@ -14,7 +14,7 @@ use Rattle.redcode_text.specs.Value.{part_of}
 abbrev pub parts_of : (List ℕ → Option ℤ) → List Token → List Part
 parts_of names tokens = map (part_of names) (pieces tokens)
 
--- a value, and what is behind its expression
+-- a value, and what is after its expression
 abbrev pub Found : Type 0
 Found = Option (Value × List Part)
 
@@ -28,7 +28,7 @@ abbrev pub first_of : List Part → Option (Part × List Part)
 first_of [] = None
 first_of (part ∷ others) = Some (part, others)
 
--- the operator of this rank at the front, and what is behind it
+-- the operator of this rank at the front, and what is after it
 abbrev pub next_at : ℕ → List Part → Option (Operator × List Part)
 next_at rank (parts.Operator operator ∷ others) = if rank_of operator == rank then Some (operator, others) else None
 next_at rank _ = None
@@ -57,7 +57,7 @@ abbrev pub enclosed : Found → Found
 enclosed None = None
 enclosed (Some (v, rest)) = with_close v (behind_close rest)
 
--- no operand begins so, where so many parentheses and unary operators may still be opened
+-- no operand begins with these parts if at most `depth` parentheses and unary operators may still stand around it
 abbrev pub is_refused : ℕ → List Part → Bool
 is_refused depth [] = true
 is_refused depth (parts.Operand v ∷ others) = false
@@ -66,7 +66,7 @@ is_refused (suc depth) (parts.Close ∷ others) = true
 is_refused (suc depth) (parts.Other ∷ others) = true
 is_refused (suc depth) (part ∷ others) = false
 
--- at the beginning of parts, or behind a value in front of parts
+-- at the beginning of parts, or after a value in front of parts
 pub data Start : Type 0 where
   Begin : List Part → Start
   Continue : Value → List Part → Start

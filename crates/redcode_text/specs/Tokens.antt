@@ -7,7 +7,7 @@ use Rattle.redcode_text.specs.declared.token.Token.{Token}
 use Rattle.redcode_text.specs.declared.token.TokenKind.{TokenKind}
 use Rattle.redcode_text.specs.declared.token.TokenKind.TheVariants as kinds
 
--- a token without where it lies in memory or stands in its line
+-- a token without its places in memory and in its line
 pub record Piece : Type 0 where
   pub kind : TokenKind
   pub text : List ℕ
@@ -58,7 +58,7 @@ is_of_kind kinds.Symbol (b ∷ bs) = is_symbol_text b bs
 is_of_kind kinds.Comment (b ∷ bs) = b == 59
 is_of_kind kinds.Bad (b ∷ bs) = is_bad_text b bs
 
--- the piece is the first token of a line that begins at a place, and what is behind it
+-- the piece is the first token of a line that begins at a place, and what is after it
 pub record IsFirst (place : ℕ) (line : List ℕ) (piece : ScannedPiece) (behind : List ℕ) : Type 0 where
   pub blanks : List ℕ
   pub are_blank : list_all is_blank blanks ≡ true
@@ -97,7 +97,7 @@ rest_of_token b bs =
     if b == 59 then length bs else (
     if begins_symbol b bs then 1 else 0)))
 
--- the tokens at the end of a line of so many bytes, behind the first bytes of that end, so many, which belong to a token already
+-- the tokens at the end of a line of `bytes` bytes; the first `skip` bytes of that end belong to a token already
 abbrev pub tokens_after : ℕ → ℕ → List ℕ → List ScannedPiece
 tokens_after bytes skip [] = []
 tokens_after bytes (suc skip) (b ∷ bs) = tokens_after bytes skip bs

@@ -28,7 +28,7 @@ abbrev pub listed : List (List ℕ × Part) → List ℕ → Part
 listed [] text = parts.Other
 listed (e ∷ es) text = if bytes_eq text e.0 then e.1 else listed es text
 
--- the number that digits stand for behind those of n
+-- the number that the digits of n and these digits after them stand for
 abbrev pub number_from : ℕ → List ℕ → ℕ
 number_from n [] = n
 number_from n (d ∷ ds) = number_from (10 * n + (d - 48)) ds
@@ -63,14 +63,14 @@ abbrev pub behind : Part → Option Split → Option Split
 behind part None = None
 behind part (Some s) = Some (record { left = part ∷ s.left; operator = s.operator; right = s.right })
 
--- of an operator that may be split at and the split behind it, the one that binds more loosely, or else the later one
+-- of an operator that may be split at and the split after it: the one that binds more loosely, or else the later one
 abbrev pub looser : Operator → List Part → Option Split → Option Split
 looser operator others None = Some (record { left = []; operator = operator; right = others })
 looser operator others (Some s) =
     if nat_le (rank_of operator) (rank_of s.operator) then behind (parts.Operator operator) (Some s)
     else Some (record { left = []; operator = operator; right = others })
 
--- the split of what stands behind an operand or not, in so many open parentheses
+-- the split of parts that stand after an operand or not, within `nested` open parentheses
 abbrev pub split_from : Bool → ℕ → List Part → Option Split
 split_from operand nested [] = None
 split_from operand nested (parts.Operand value ∷ others) = behind (parts.Operand value) (split_from true nested others)
@@ -84,7 +84,7 @@ split_from false nested (parts.Operator operator ∷ others) = behind (parts.Ope
 
 -- ---- the value
 
--- what an operator makes of its sides, where both are expressions
+-- what an operator makes of its sides, if both are expressions
 abbrev pub joined : Operator → Option Value → Option Value → Option Value
 joined operator None right = None
 joined operator (Some l) None = None
@@ -119,7 +119,7 @@ abbrev pub inside_of : (List Part → Option Value) → Option (List Part) → O
 inside_of value None = None
 inside_of value (Some ps) = value ps
 
--- an expression without a split: a number or a name, a unary operator before the rest, or parentheses; of these so many may be open
+-- an expression without a split: a number or a name, a unary operator before the rest, or parentheses, at most `depth` of them around a token
 abbrev pub whole : (ℕ → List Part → Option Value) → ℕ → List Part → Option Value
 whole value depth (parts.Operand v ∷ []) = Some v
 whole value (suc depth) (parts.Not ∷ others) = option_of denied (value depth others)
@@ -131,7 +131,7 @@ abbrev pub value_by : (ℕ → List Part → Option Value) → ℕ → List Part
 value_by value depth expression None = whole value depth expression
 value_by value depth expression (Some s) = joined s.operator (value depth s.left) (value depth s.right)
 
--- the value of so many parts at most, or nothing where they make no expression
+-- the value of at most n parts, or nothing if they make no expression
 unfoldable pub value_within : ℕ → ℕ → List Part → Option Value
 value_within zero depth expression = None
 value_within (suc n) depth expression = value_by (value_within n) depth expression (split_from false 0 expression)
@@ -140,7 +140,7 @@ abbrev pub or_bad : Option Value → Value
 or_bad None = Err faults.BadExpression
 or_bad (Some value) = value
 
--- the value of tokens by the values of names: BadExpression where they make no expression, or where more than 64 parentheses
+-- the value of tokens by the values of names: BadExpression if they make no expression, or if more than 64 parentheses
 -- and unary operators stand around one of them
 abbrev pub value_of : (List ℕ → Option ℤ) → List Piece → Value
 value_of names tokens = or_bad (value_within (length tokens) 64 (map (part_of names) tokens))

@@ -13,7 +13,7 @@ use crate::token::{Token, TokenKind};
 use war_types::ExprFault;
 
 /// What a token is in an expression.
-#[derive(Clone, Copy, Debug)]
+#[derive(Clone, Copy)]
 enum Part {
     /// A number or a name, with its value.
     Operand(Value),
@@ -29,7 +29,7 @@ enum Part {
     Other,
 }
 
-/// A value at the front of tokens, and the tokens behind it.
+/// A value at the front of tokens, and the tokens after it.
 type Found<'t, 'l> = Option<(Value, &'t [Token<'l>])>;
 
 /// How many parentheses and unary operators may stand around a token.
@@ -96,7 +96,7 @@ fn operand<'t, 'l, N: Names>(tokens: &'t [Token<'l>], names: &N, depth: u8) -> F
     }
 }
 
-/// The operator of this rank at the front, and what is behind it.
+/// The operator of this rank at the front, and what is after it.
 fn operator_at<'t, 'l, N: Names>(
     tokens: &'t [Token<'l>],
     names: &N,
@@ -136,7 +136,7 @@ fn behind_sign<'t, 'l>(sign: Operator, inner: Found<'t, 'l>) -> Found<'t, 'l>
     }
 }
 
-/// The value, where a closing parenthesis stands behind it.
+/// The value, if a closing parenthesis stands after it.
 fn before_close<'t, 'l, N: Names>(inner: Found<'t, 'l>, names: &N) -> Found<'t, 'l>
     ensures shorter { (n : ℕ) → IfSome inner.entry (λ f. length f.1.now ≤ n) → IfSome result (λ f. length f.1.now ≤ n) }
     ensures value { found (N.values names.now) result ≡ enclosed (found (N.values names.now) inner.entry) }

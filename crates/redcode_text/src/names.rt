@@ -7,7 +7,7 @@ pub trait Names {
     /// The value of each name that has one.
     ghost values: { Self → List ℕ → Option ℤ };
 
-    /// The value of a name, or `None` where it has none.
+    /// The value of a name, or `None` if it has none.
     fn value_of(&self, name: &[u8]) -> Option<i64>
         ensures { result ≡ values self.now name.now };
 }

@@ -9,7 +9,7 @@ use war_types::ExprFault;
 pub(crate) type Value = Result<i64, ExprFault>;
 
 /// An operator that may stand between two operands.
-#[derive(Clone, Copy, Debug, PartialEq, Eq)]
+#[derive(Clone, Copy, PartialEq, Eq)]
 pub(crate) enum Operator {
     Times,
     Divide,

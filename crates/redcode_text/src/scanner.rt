@@ -2,14 +2,14 @@
 
 ghost use Rattle.std.specs.Prelude.{◌≡◌, ◌-◌, ◌<◌, ◌≤◌, List, ◌∷◌, [], length, IfOk, MatchOption};
 ghost use Rattle.std.specs.List.{prefix_len};
-ghost use Rattle.war_types.specs.Title.{is_blank};
 ghost use Rattle.redcode_text.specs.Bytes.{is_letter, goes_on};
 ghost use Rattle.redcode_text.specs.Tokens.{ScannedPiece, IsTokensOf, pieces, pieces_of, scanned_piece_of, scanned_pieces, tokens_after, tokens_of, begins_symbol, kind_at, rest_of_token};
 
 use crate::token::{Token, TokenKind};
 use std::alloc::{AllocError, Allocator};
+use war_types::is_blank;
 
-/// The tokens of a line, in order, each with its place. An error is want of memory.
+/// The tokens of a line, in order, each with its place. It fails when memory runs out.
 pub fn scan<'l, A: Allocator>(alloc: A, line: &'l [u8]) -> Result<Vec<Token<'l>, A>, AllocError>
     requires { length line.now ≤ 65536 }
     ensures tokens { IfOk result (λ tokens. scanned_pieces tokens.items ≡ tokens_of line.entry.now) }
@@ -27,7 +27,7 @@ pub fn scan<'l, A: Allocator>(alloc: A, line: &'l [u8]) -> Result<Vec<Token<'l>,
     Ok(tokens)
 }
 
-/// The first token at the end of a line of so many bytes, and what is behind it.
+/// The first token at the end of a line of `bytes` bytes, and what is after it.
 fn first_token(bytes: usize, end: &[u8]) -> Option<(Token<'_>, &[u8])>
     requires within { length end.now ≤ bytes }
     requires short { bytes ≤ 65536 }
@@ -63,7 +63,7 @@ fn kind_and_rest(first: u8, rest: &[u8]) -> (TokenKind, usize)
     }
 }
 
-/// Whether a symbol of two bytes is at the front: `&&`, `||`, or an `=` behind one of `!`, `<`, `=` and `>`.
+/// Whether a symbol of two bytes is at the front: `&&`, `||`, or an `=` after `!`, `<`, `=` or `>`.
 fn begins_symbol(first: u8, rest: &[u8]) -> bool
     ensures { result ≡ begins_symbol first rest.now }
 {
@@ -92,11 +92,4 @@ fn is_letter(byte: u8) -> bool
     ensures { result ≡ is_letter byte }
 {
     byte.is_ascii_alphabetic() || byte == b'_'
-}
-
-/// A space, a tab or a carriage return.
-pub fn is_blank(byte: u8) -> bool
-    ensures { result ≡ is_blank byte }
-{
-    byte == b' ' || byte == b'\t' || byte == b'\r'
 }

@@ -1,7 +1,7 @@
 //! The tokens of a line.
 
 /// What a token is.
-#[derive(Clone, Copy, Debug, PartialEq, Eq)]
+#[derive(Clone, Copy, PartialEq, Eq)]
 pub enum TokenKind {
     /// A letter or `_`, then letters, digits and `_`.
     Name,
@@ -16,7 +16,7 @@ pub enum TokenKind {
 }
 
 /// A token, which borrows its text from the line.
-#[derive(Clone, Copy, Debug)]
+#[derive(Clone, Copy)]
 pub struct Token<'l> {
     pub text: &'l [u8],
     /// How many bytes of the line stand before it.

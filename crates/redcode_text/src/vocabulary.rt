@@ -1,17 +1,17 @@
 //! The vocabulary: the reserved words, and the names of modifiers and modes, each as a source may write it and as load text spells it.
 //! In what a source writes upper and lower case are one.
 
-ghost use Rattle.std.specs.Prelude.{◌≡◌};
-ghost use Rattle.redcode_text.specs.Vocabulary.{is_word, word_of, named, other_words, modifier_names, mode_names, op_text, modifier_text, mode_text};
+ghost use Rattle.std.specs.Prelude.{◌≡◌, drop};
+ghost use Rattle.redcode_text.specs.Vocabulary.{is_word, word_of, named, reserved_words, other_words, modifier_names, mode_names, op_text, modifier_text, mode_text};
 
 use war_types::{Mode, Modifier, Op};
 
 /// A reserved word.
-#[derive(Clone, Copy, Debug)]
+#[derive(Clone, Copy)]
 pub enum Word {
     /// An operation of the machine.
     Operation(Op),
-    /// `LDP` or `STP`, which stand for an instruction that no machine here has.
+    /// `LDP` or `STP`: each stands for an instruction that no machine here has.
     Pspace,
     Equ,
     For,
@@ -45,6 +45,15 @@ pub fn word_of(text: &[u8]) -> Option<Word>
         _ if is_word(b"MUL", text) => Some(Word::Operation(Op::Mul)),
         _ if is_word(b"DIV", text) => Some(Word::Operation(Op::Div)),
         _ if is_word(b"MOD", text) => Some(Word::Operation(Op::Mdl)),
+        _ => jump_or_comparison(text),
+    }
+}
+
+/// The reserved word that a name is, if the word is none of the first seven.
+fn jump_or_comparison(text: &[u8]) -> Option<Word>
+    ensures { result ≡ named (drop 7 reserved_words) text.now }
+{
+    match text {
         _ if is_word(b"JMP", text) => Some(Word::Operation(Op::Jmp)),
         _ if is_word(b"JMZ", text) => Some(Word::Operation(Op::Jmz)),
         _ if is_word(b"JMN", text) => Some(Word::Operation(Op::Jmn)),
@@ -59,12 +68,13 @@ pub fn word_of(text: &[u8]) -> Option<Word>
     }
 }
 
-/// The reserved word that a name is which is no operation of the machine.
+/// The reserved word that a name is, if the word is no operation of the machine.
 fn other_word(text: &[u8]) -> Option<Word>
     ensures { result ≡ named other_words text.now }
 {
     match text {
-        _ if is_word(b"LDP", text) || is_word(b"STP", text) => Some(Word::Pspace),
+        _ if is_word(b"LDP", text) => Some(Word::Pspace),
+        _ if is_word(b"STP", text) => Some(Word::Pspace),
         _ if is_word(b"EQU", text) => Some(Word::Equ),
         _ if is_word(b"FOR", text) => Some(Word::For),
         _ if is_word(b"ROF", text) => Some(Word::Rof),

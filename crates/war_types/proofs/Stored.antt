@@ -1,10 +1,10 @@
--- Stored titles: zeros behind a title, and where a title ends.
+-- Stored titles: the zeros after a title, and the index at which a title ends.
 use Rattle.std.proofs.Common.{◌≡◌, ℕ, ◌<◌, ◌≤◌, ◌+◌, ◌-◌, List, [], ◌∷◌, ◌++◌, length, get_or, take, drop, replicate, All, arith, refl, sym, ap, ◌∙◌, subst}
 use Rattle.std.proofs.lemmas.List.{length-append, length-replicate, length-take, get_or-take, get_or-append_right, get_or-replicate, take_at, drop_at}
 use Rattle.std.proofs.lemmas.List.Elements.{All-head, All-tail, All-replicate, All-same, All-get_or}
 use Rattle.war_types.specs.Title.{stored_title, IsPrintable, IsTitle}
 
--- bytes are zeros where each is one
+-- bytes are zeros if each of them is one
 pub zeros_from_All : (xs : List ℕ) → All (λ x. x ≡ 0) xs → xs ≡ replicate (length xs) 0
 zeros_from_All [] h = refl
 zeros_from_All (x ∷ xs) h =
@@ -32,7 +32,7 @@ at_end title m h =
 zero_unprinted : (b : ℕ) → b ≡ 0 → IsPrintable b → ⊥
 zero_unprinted b e printable = let low = printable.low in omega arith
 
--- where the bytes at the front that can be printed end, the title ends
+-- a title is as long as the bytes at the front that can be printed
 pub stored-len : (title : List ℕ) (m len : ℕ) → All IsPrintable title → len ≤ length title + m → All IsPrintable (take len (title ++ replicate m 0)) → (len < length title + m → IsPrintable (get_or (title ++ replicate m 0) len 0) → ⊥) → len ≡ length title
 stored-len title m len printable within front stops =
     let no_less : len < length title → ⊥ = λ h. stops (omega arith) (inside title (replicate m 0) len printable h) in
@@ -49,7 +49,7 @@ pub record IsFront (bytes : List ℕ) (len : ℕ) : Type 0 where
   pub printable : All IsPrintable (take len bytes)
   pub stops : len < length bytes → IsPrintable (get_or bytes len 0) → ⊥
 
--- the bytes are this title and zeros behind it
+-- the bytes are this title and zeros after it
 pub record IsParted (bytes title : List ℕ) (len : ℕ) : Type 0 where
   pub ends : len ≡ length title
   pub own : take len bytes ≡ title

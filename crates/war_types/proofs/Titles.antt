@@ -10,7 +10,7 @@ onto_trimmed-push : (x : ℕ) (xs : List ℕ) (b : ℕ) → onto_trimmed x (xs +
 onto_trimmed-push x [] b = refl
 onto_trimmed-push x (y ∷ ys) b = refl
 
--- a blank at the end falls
+-- a blank at the end is dropped
 pub before_blanks-push_blank : (xs : List ℕ) (b : ℕ) → is_blank b ≡ true → before_blanks (xs ++ b ∷ []) ≡ before_blanks xs
 before_blanks-push_blank [] b h = rw h
 before_blanks-push_blank (x ∷ xs) b h = rw (before_blanks-push_blank xs b h)
@@ -46,7 +46,7 @@ All-map-shown (x ∷ xs) = All-cons IsPrintable _ _ (IsPrintable-shown x) (All-m
 pub IsTitle-map-shown : (xs : List ℕ) → 1 ≤ length xs → length xs ≤ 48 → IsTitle (map shown xs)
 IsTitle-map-shown xs h k = record { not_empty = simp length-map h; short = simp length-map k; printable = All-map-shown xs }
 
--- where something is left, the title is its first 48 bytes as they are shown
+-- if something is left, the title is its first 48 bytes as they are shown
 pub title_or-some : (xs default : List ℕ) → eqb (length xs) 0 ≡ false → title_or xs default ≡ map shown (take (min (length xs) 48) xs)
 title_or-some [] default h = cc
 title_or-some (x ∷ xs) default h =

@@ -34,6 +34,6 @@ kind_name kinds.TooLong = codes "TooLong"
 kind_name kinds.BadStart = codes "BadStart"
 kind_name kinds.AssertFalse = codes "AssertFalse"
 
--- the refusal for want of memory
+-- the refusal when memory runs out
 abbrev pub no_memory : AsmFault
 no_memory = record { line = 0; kind = kinds.Memory }

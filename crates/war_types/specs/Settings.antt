@@ -1,4 +1,4 @@
--- Which settings a hill may have. The first five ranges are those of pMARS's options of these names.
+-- Which settings a hill may have. The first five ranges are the ones that pMARS's options of these names have.
 use Rattle.std.specs.Prelude.{◌≡◌, ℕ, ◌*◌, ◌%◌, ◌≤◌, ◌==◌, Bool, ◌&&◌, ◌||◌, nat_le, if◌then◌else◌, Result, Ok, Err}
 use Rattle.war_types.specs.declared.settings.RawSettings.{RawSettings}
 use Rattle.war_types.specs.declared.settings.SettingsFault.{SettingsFault}

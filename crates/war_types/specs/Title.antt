@@ -10,7 +10,7 @@ abbrev pub after_blanks : List ℕ → List ℕ
 after_blanks [] = []
 after_blanks (b ∷ bs) = if is_blank b then after_blanks bs else b ∷ bs
 
--- a byte before a text, where a blank before nothing is dropped
+-- a byte before a text; a blank before an empty text is dropped
 abbrev pub onto_trimmed : ℕ → List ℕ → List ℕ
 onto_trimmed b [] = if is_blank b then [] else b ∷ []
 onto_trimmed b (c ∷ cs) = b ∷ c ∷ cs
@@ -28,7 +28,7 @@ abbrev pub title_or : List ℕ → List ℕ → List ℕ
 title_or [] default = default
 title_or (b ∷ bs) default = map shown (take 48 (b ∷ bs))
 
--- the text without blanks at both ends, cut to 48 bytes, then shown; the default where nothing is left
+-- the text without blanks at both ends, cut to 48 bytes, then shown; the default if nothing is left
 abbrev pub title_of : List ℕ → List ℕ → List ℕ
 title_of text default = title_or (before_blanks (after_blanks text)) default
 

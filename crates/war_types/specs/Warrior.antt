@@ -3,7 +3,7 @@ use Rattle.std.specs.Prelude.{ℕ, ◌<◌, ◌≤◌, List, length, All}
 use Rattle.war_types.specs.declared.instr.Instr.{Instr}
 use Rattle.war_types.specs.declared.settings.RawSettings.{RawSettings}
 
--- a warrior without where it lies in memory
+-- a warrior without its place in memory
 pub record WarriorParts : Type 0 where
   pub code : List Instr
   pub start : ℕ

@@ -62,7 +62,7 @@ pub enum AsmKind {
     Memory,
     /// A byte that begins no token.
     BadToken,
-    /// Where an operation is due, something else stands.
+    /// Something other than an operation stands at the place of one.
     BadOperation,
     /// `LDP`, `STP` or `PIN`: there is no P-space.
     Pspace,
@@ -93,7 +93,7 @@ impl Display for AsmKind {
 impl AsmKind {
     ghost use Rattle.war_types.specs.Fault.{kind_name};
 
-    /// The kind's name, as it stands in a refusal: that of the expression's fault where the kind has one.
+    /// The kind's name, as it stands in a refusal. A kind that has an expression's fault is named for that.
     pub fn name(self) -> &'static str
         ensures { result.now ≡ kind_name self }
     {
@@ -121,7 +121,7 @@ impl AsmKind {
     }
 }
 
-/// A source's refusal: the line that it names, counted from 1, or 0 where none is to blame, and the kind.
+/// A source's refusal: its kind, and the line that it names, counted from 1. The line is 0 if none is to blame.
 #[derive(Clone, Copy, Debug, PartialEq, Eq, Error)]
 #[error("{line} {kind}")]
 pub struct AsmFault {
@@ -130,7 +130,7 @@ pub struct AsmFault {
 }
 
 impl AsmFault {
-    /// The refusal for want of memory.
+    /// The refusal when memory runs out.
     pub const MEMORY: AsmFault = AsmFault {
         line: 0,
         kind: AsmKind::Memory,

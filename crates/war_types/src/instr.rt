@@ -221,7 +221,7 @@ impl Instr {
         ]
     }
 
-    /// The instruction that is stored so, where both of its numbers are below the core size. Other bytes are no instruction's.
+    /// The instruction that is stored in these bytes, if both of its numbers are below the core size. Other bytes are no instruction's.
     pub fn from_bytes(bytes: &[u8; 8], core: u16) -> Option<Instr>
         ensures some { IfSome result (λ i. (bytes.now ≡ instr_bytes i) × HasNumbersBelow core i) }
         ensures every { (i : Instr) → HasNumbersBelow core i → bytes.now ≡ instr_bytes i → result ≡ Some i }

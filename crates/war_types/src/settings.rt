@@ -213,7 +213,7 @@ fn is_distance(distance: u32, length: u32, core: u32) -> bool
     length <= distance && distance <= core / 2
 }
 
-/// Whether a limit divides the core, or is 0, which stands for it.
+/// Whether a limit divides the core, or is 0, which stands for the whole core.
 fn is_limit(core: u32, limit: u32) -> bool
     ensures { result ≡ is_limit core limit }
 {

@@ -28,7 +28,7 @@ impl Model for Title {
 
 impl Title {
     /// The title that a text gives: without the blanks at both ends, cut to 48 bytes, and with a question mark
-    /// for each byte that can't be printed. Where nothing but blanks is there, it is the default.
+    /// for each byte that can't be printed. If the text has nothing but blanks, the title is the default.
     pub fn new(text: &[u8], default: &'static str) -> Title
         requires { IsTitle default.now }
         ensures { result ≡ title_of text.now default.now }
@@ -40,7 +40,7 @@ impl Title {
         Title::of_shown(&inner[..inner.len().min(TITLE_LIMIT)])
     }
 
-    /// The title that is stored in these bytes: its own, and zeros behind them. Other bytes are no title's.
+    /// The title that is stored in these bytes: its own, and zeros after them. Other bytes are no title's.
     pub fn read(bytes: &[u8; 48]) -> Option<Title>
         ensures some { IfSome result (λ title. IsTitle title × (bytes.now ≡ stored_title title)) }
         ensures every { (title : List ℕ) → IsTitle title → bytes.now ≡ stored_title title → result ≡ Some title }
@@ -102,7 +102,8 @@ fn are_zeros(bytes: &[u8]) -> bool
     bytes.iter().all(|&byte| byte == 0)
 }
 
-fn is_blank(byte: u8) -> bool
+/// A space, a tab or a carriage return.
+pub fn is_blank(byte: u8) -> bool
     ensures { result ≡ is_blank byte }
 {
     byte == b' ' || byte == b'\t' || byte == b'\r'

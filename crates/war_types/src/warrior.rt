@@ -30,8 +30,8 @@ impl<A: Allocator> Model for Warrior<A> {
 }
 
 impl<A: Allocator> Warrior<A> {
-    /// The warrior of these parts, where it fits the settings: it has an instruction, no more of them than the
-    /// settings' length, each number below the core size, and a start that is one of its instructions.
+    /// The warrior of these parts, if it fits the settings. It needs 1 to `length` instructions, each number below the
+    /// core size, and a start that is one of its instructions.
     pub fn new(
         code: Vec<Instr, A>,
         start: u16,

@@ -1,4 +1,4 @@
--- What the lines so far say, and what those left say, is what all say.
+-- What the lines so far say, and what the lines left say, is what all say.
 use Rattle.std.proofs.Common.{◌≡◌, ◌++◌, List, Result, Ok, drop}
 use Rattle.war_types.specs.declared.fault.AsmFault.{AsmFault}
 use Rattle.redcode_statement.specs.Chain.{◌>>=◌}

@@ -1,4 +1,4 @@
--- What is behind the names of what is left is behind those of the line.
+-- The tokens that are left have the same tokens after their names as the line.
 use Rattle.std.proofs.Common.{◌≡◌, ◌≤◌, length}
 use Rattle.redcode_text.specs.Tokens.{pieces}
 use Rattle.redcode_lines.specs.Line.{dropped_while, is_name_token}

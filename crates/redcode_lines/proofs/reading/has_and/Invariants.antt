@@ -1,4 +1,4 @@
--- An & is among the tokens that are left where one is among all.
+-- An & is among the tokens that are left if one is among all.
 use Rattle.std.proofs.Common.{◌≡◌, length}
 use Rattle.redcode_text.specs.Tokens.{pieces}
 use Rattle.redcode_lines.specs.Capped.{has_and}

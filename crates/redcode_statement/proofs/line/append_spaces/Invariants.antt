@@ -1,4 +1,4 @@
--- So far as many spaces are appended as the loop has counted.
+-- The loop has appended as many spaces as it has counted.
 use Rattle.std.proofs.Common.{◌≡◌, ◌++◌}
 use Rattle.redcode_statement.specs.InstrLine.{spaces}
 use Rattle.redcode_statement.proofs.line.append_spaces.Given as goal

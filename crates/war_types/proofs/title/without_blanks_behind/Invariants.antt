@@ -1,4 +1,4 @@
--- What is left has the same text without blanks behind it, and each iteration leaves less.
+-- What is left has the same text without blanks after it, and each iteration leaves less.
 use Rattle.std.proofs.Common.{◌≡◌, length}
 use Rattle.war_types.specs.Title.{before_blanks}
 use Rattle.war_types.proofs.title.without_blanks_behind.Given as goal

@@ -1,11 +1,11 @@
 //! Places in a line.
 
-ghost use Rattle.redcode_places.specs.Line.{IsPlaceIn};
+ghost use Rattle.redcode_lines.specs.Place.{IsPlaceIn};
 
 use redcode_text::{Token, is_blank};
 
 /// A part of a line: how many bytes stand before it, and how many it has.
-#[derive(Clone, Copy, Debug, PartialEq, Eq)]
+#[derive(Clone, Copy, PartialEq, Eq)]
 pub struct Span {
     pub from: u32,
     pub width: u32,
@@ -22,7 +22,7 @@ impl Span {
     }
 }
 
-/// A token of a text with so many bytes of the line before it.
+/// A token of a text that begins `shift` bytes into its line.
 pub fn span_of(shift: u32, token: &Token<'_>) -> Span {
     Span {
         from: shift.saturating_add(token.at),

@@ -1,8 +1,8 @@
--- The line is that behind so many of those that are left.
+-- The line after `left` others in the rest is the line after `count` others in the source.
 use Rattle.std.proofs.Common.{◌≡◌, length}
 use Rattle.redcode_lines.specs.Source.{lines_of}
-use Rattle.redcode_places.specs.Line.{line_behind}
-use Rattle.redcode_places.proofs.line.line_behind.Given as goal
+use Rattle.redcode_lines.specs.Place.{line_behind}
+use Rattle.redcode_lines.proofs.line.line_behind.Given as goal
 
 abbrev pub invariant-loop-rest : goal.invariant-loop-rest
 invariant-loop-rest l = line_behind l.left (lines_of l.rest) ≡ line_behind l.count (lines_of l.source)

@@ -1,2 +1,0 @@
--- the text of a line, and a place in it
-pub mod Line
