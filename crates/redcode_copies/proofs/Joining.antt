@@ -7,7 +7,7 @@ use Rattle.redcode_copies.specs.Counter.{Counter, is_label, joins, joined, joine
 use Rattle.redcode_lines.specs.Line.{taken_while, dropped_while}
 use Rattle.redcode_lines.proofs.Readings.{take-taken_while}
 
--- the tokens behind the first
+-- the tokens after the first
 abbrev pub behind : List Token → List Token
 behind rest = take (length rest - 1) (drop 1 rest)
 

@@ -17,7 +17,7 @@ use Rattle.redcode_copies.specs.Plain.{has_number, number_of, number_or_token, n
 
 -- ---- a number is no sign
 
--- the first byte is a digit, or one behind the digits
+-- the first byte is a digit or above the digits
 abbrev IsHigh : List ℕ → Type 0
 IsHigh [] = ⊥
 IsHigh (b ∷ bs) = 47 < b
@@ -53,7 +53,7 @@ no-sign xs s h low = elim (cases_Bool (bytes_eq xs (s ∷ []))) [
 
 -- ---- what a change to a number does
 
--- the number for the counter where nothing was joined
+-- the number in place of the counter if nothing was joined
 abbrev plain_number : Counter → Piece → Piece
 plain_number c token = if is_counter c token then number_token c.number else token
 
@@ -113,7 +113,7 @@ numbered-plain c (token ∷ tokens) = ap (λ (ts : List Piece). plain_number c t
 
 -- ---- one counter
 
--- labels stay, and what is behind them is numbered
+-- labels stay, and what follows them is numbered
 labels-by : (c : Counter) (x : Piece) (xs : List Piece) (b : Bool) (front back : List (Bool × Piece)) (n : ℕ) → kept front ++ numbered c back ≡ changed_from (plain_number c) n xs
     → is_name x.kind ≡ b → kept (if b then plain x ∷ front else []) ++ numbered c (if b then back else plain x ∷ map plain xs) ≡ changed_from (plain_number c) (if b then suc n else 0) (x ∷ xs)
 labels-by c x xs true front back n h is = ap (λ (ts : List Piece). x ∷ ts) h
@@ -193,7 +193,7 @@ changed-twice f g h (suc n) (x ∷ xs) same = ap (λ (ts : List Piece). x ∷ ts
 none-found : (x : Piece) (named : Bool) (found : Option ℕ) → (named && is_some found) ≡ false → (if named then number_or_token found x else x) ≡ x
 none-found x named found none = grind arith
 
--- where no counter is named nothing changes
+-- if no counter is named nothing changes
 pub none-changed : (cs : List Counter) (n : ℕ) (xs : List Piece) → has_number cs xs ≡ false → changed_from (number_by cs) n xs ≡ xs
 none-changed cs zero [] none = refl
 none-changed cs zero (x ∷ xs) none =

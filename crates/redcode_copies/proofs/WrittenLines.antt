@@ -34,7 +34,7 @@ plain-written cs line ts n front before all labels none are count front-is befor
 
 -- ---- for `kept_count`
 
--- so many names are at the front
+-- the number of names at the front
 pub names-count : (tokens rest : List Token) → pieces rest ≡ dropped_while is_name_token (pieces tokens) → length tokens - length rest ≡ length (taken_while is_name_token (pieces tokens))
 names-count tokens rest is =
     let all = pieces tokens in

@@ -62,11 +62,11 @@ kept tokens = map (λ token. token.1) tokens
 abbrev pub number_or : Counter → Bool × Piece → Piece
 number_or c token = if token.0 then token.1 else (if is_counter c token.1 then number_token c.number else token.1)
 
--- the number for the counter, but for what was joined
+-- the number in place of the counter, but for what was joined
 abbrev pub numbered : Counter → List (Bool × Piece) → List Piece
 numbered c tokens = map (number_or c) tokens
 
--- behind an operation the modifier's name stays
+-- after an operation the modifier's name stays
 abbrev pub behind_operation : Counter → List (Bool × Piece) → List Piece
 behind_operation c [] = []
 behind_operation c (token ∷ []) = numbered c (token ∷ [])
@@ -92,7 +92,7 @@ without_word c tokens = kept (taken_while is_label tokens) ++ numbered c (droppe
 
 -- ---- lines
 
--- what stands behind the labels, and the names at the front of a line without a word
+-- the tokens of a line from its word on, or all of them if it has no word
 abbrev pub copied_tokens : Counter → LineForm → Option Word → List Piece → List Piece
 copied_tokens c forms.Statement None tokens = without_word c (joined c tokens)
 copied_tokens c forms.Statement (Some word) tokens = from_word c word tokens

@@ -27,7 +27,7 @@ number_or_token (Some n) token = number_token n
 abbrev pub number_by : List Counter → Piece → Piece
 number_by cs token = if is_name token.kind then number_or_token (number_of cs token.text) token else token
 
--- a dot and the modifier's name behind it are two tokens that stay
+-- a dot and the modifier's name after it are two tokens that stay
 abbrev pub modifier_count : List Piece → ℕ
 modifier_count [] = 0
 modifier_count (token ∷ []) = 0
@@ -38,14 +38,14 @@ kept_behind (words.Operation op) tokens = modifier_count tokens
 kept_behind words.Pspace tokens = modifier_count tokens
 kept_behind _ tokens = 0
 
--- how many tokens at the front stay whatever they are
+-- the number of tokens at the front that stay whatever they are
 abbrev pub kept_count : LineForm → Option Word → List Piece → ℕ
 kept_count forms.Statement None tokens = length (taken_while is_name_token tokens)
 kept_count forms.Statement (Some word) [] = 0
 kept_count forms.Statement (Some word) (token ∷ tokens) = suc (kept_behind word tokens)
 kept_count _ word tokens = 0
 
--- tokens changed by f behind the first ones, so many, which stay
+-- tokens changed by f, but for the first ones, whose number is given: these stay
 abbrev pub changed_from : (Piece → Piece) → ℕ → List Piece → List Piece
 changed_from f zero tokens = map f tokens
 changed_from f (suc n) [] = []

@@ -23,14 +23,27 @@ pub fn in_copy<'s, A: Allocator + Copy>(
 ) -> Result<LineCopy<'s, A>, AllocError>
     ensures { IfOk result (λ copy. with_tokens (line_read line.entry) copy ≡ in_copy counter.now (line_read line.entry)) }
 {
-    let labels = joined_tokens(alloc, region, counter, line.front)?;
-    let mut front = Vec::with_capacity(alloc, labels.len())?;
-    append_kept(labels.as_slice(), &mut front)?;
+    let front = copied_front(alloc, region, counter, line.front)?;
     let tokens = copied_tokens(alloc, region, counter, line)?;
     Ok(LineCopy { front, tokens })
 }
 
-/// What stands behind the labels, and the names at the front of a line without a word.
+/// The tokens before a word: no number stands for the counter among them.
+fn copied_front<'s, A: Allocator + Copy>(
+    alloc: A,
+    region: &'s Bump<A>,
+    counter: &Counter<'s>,
+    tokens: &[Token<'s>],
+) -> Result<Vec<Token<'s>, A>, AllocError>
+    ensures { IfOk result (λ front. pieces front.items ≡ kept (joined counter.now (pieces tokens.now))) }
+{
+    let labels = joined_tokens(alloc, region, counter, tokens)?;
+    let mut front = Vec::with_capacity(alloc, labels.len())?;
+    append_kept(labels.as_slice(), &mut front)?;
+    Ok(front)
+}
+
+/// The tokens of a line from its word on, or all of them if it has no word.
 fn copied_tokens<'s, A: Allocator + Copy>(
     alloc: A,
     region: &'s Bump<A>,
@@ -40,19 +53,32 @@ fn copied_tokens<'s, A: Allocator + Copy>(
     ensures { IfOk result (λ tokens. pieces tokens.items ≡ copied_tokens counter.now line.entry.form line.entry.word (pieces line.entry.tokens.now)) }
 {
     let mut out = Vec::with_capacity(alloc, line.tokens.len())?;
+    append_copied(alloc, region, counter, line, &mut out)?;
+    Ok(out)
+}
+
+/// Appends the tokens of a line from its word on, or all of them if it has no word.
+fn append_copied<'s, A: Allocator + Copy>(
+    alloc: A,
+    region: &'s Bump<A>,
+    counter: &Counter<'s>,
+    line: Reading<'_, 's>,
+    out: &mut Vec<Token<'s>, A>,
+) -> Result<(), AllocError>
+    ensures { OnOk result (pieces out.new.items ≡ pieces out.old.items ++ copied_tokens counter.now line.entry.form line.entry.word (pieces line.entry.tokens.now)) }
+{
     match (line.form, line.word) {
         (LineForm::Statement, Some(word)) => {
-            append_from_word(alloc, region, counter, word, line.tokens, &mut out)?;
+            append_from_word(alloc, region, counter, word, line.tokens, out)
         }
         (LineForm::Statement, None) => {
-            append_without_word(alloc, region, counter, line.tokens, &mut out)?;
+            append_without_word(alloc, region, counter, line.tokens, out)
         }
         _ => {
             let all = joined_tokens(alloc, region, counter, line.tokens)?;
-            append_numbered(region, counter, all.as_slice(), &mut out)?;
+            append_numbered(region, counter, all.as_slice(), out)
         }
     }
-    Ok(out)
 }
 
 /// Appends the tokens of a line from this word on.
@@ -91,7 +117,7 @@ fn append_without_word<'s, A: Allocator + Copy>(
     append_numbered(region, counter, behind, out)
 }
 
-/// Appends what stands behind a word: the name of an operation's modifier stays.
+/// Appends the tokens after a word: the name of an operation's modifier stays.
 fn append_behind<'s, A: Allocator + Copy>(
     region: &'s Bump<A>,
     counter: &Counter<'s>,
@@ -112,7 +138,7 @@ fn append_behind<'s, A: Allocator + Copy>(
     }
 }
 
-/// From the first token on that is no name.
+/// The tokens from the first that is no name.
 fn behind_names<'t, 's>(tokens: &'t [Joined<'s>]) -> &'t [Joined<'s>]
     ensures behind { result.now ≡ dropped_while is_label tokens.entry.now }
     ensures short { length result.now ≤ length tokens.entry.now }
@@ -127,7 +153,7 @@ fn behind_names<'t, 's>(tokens: &'t [Joined<'s>]) -> &'t [Joined<'s>]
     rest
 }
 
-/// The tokens with the names joined that an `&` and the counter follow, and whether each was joined.
+/// The tokens, in which each name that an `&` and the counter follow is joined to the number, and whether each was joined.
 fn joined_tokens<'s, A: Allocator + Copy>(
     alloc: A,
     region: &'s Bump<A>,
@@ -172,7 +198,7 @@ fn append_kept<'s, A: Allocator>(
     Ok(())
 }
 
-/// Appends tokens with the number for the counter, but for what was joined.
+/// Appends tokens with the number in place of the counter, but for those that were joined.
 fn append_numbered<'s, A: Allocator + Copy>(
     region: &'s Bump<A>,
     counter: &Counter<'s>,

@@ -62,7 +62,7 @@ impl<'s> Counter<'s> {
         is_name(token) && token.text == self.name
     }
 
-    /// Whether this token is joined to the number by those behind it.
+    /// Whether the tokens that follow join this one to the number.
     pub(crate) fn joins(&self, token: &Token<'_>, behind: &[Token<'_>]) -> bool
         ensures { result ≡ joins self.now (piece_of token.now) (pieces behind.now) }
     {
@@ -72,7 +72,7 @@ impl<'s> Counter<'s> {
         }
     }
 
-    /// A name with this counter's number behind it, in two decimal digits at least.
+    /// A name followed by this counter's number, in two decimal digits at least.
     pub(crate) fn joined_name<A: Allocator>(
         &self,
         region: &'s Bump<A>,
@@ -96,7 +96,7 @@ impl<'s> Counter<'s> {
         })
     }
 
-    /// The number where a token is this counter and was not joined, else the token.
+    /// The number if a token is this counter and was not joined, else the token.
     pub(crate) fn number_or<A: Allocator>(
         &self,
         region: &'s Bump<A>,

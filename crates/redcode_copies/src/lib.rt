@@ -1,8 +1,8 @@
-//! What a copy of a line is within a block: names joined to the number of the copy by `&`, and the number in place of the counter.
+//! A line in a copy of a block: names are joined to the number of the copy by `&`, and the number stands in place of the counter.
 //!
 //! `copying` writes the copy of a line under one `counter`; `plain` writes that of a line without an `&` under all counters at once;
-//! `line_copy` has the tokens that were written. What is made, a joined name or a number, lies in the region of the assembly, so a token of
-//! a copy is a `Token` as one of the source is.
+//! `line_copy` has the tokens that were written. A joined name or a number lies in the region of the assembly, so a token of a copy is a
+//! `Token` as one of the source is.
 //!
 //! The main clauses: `in_copy` is that of `Counter` in `specs`, and `plain_copy` is `in_copies` of such a line.
 #![tactic(auto)]

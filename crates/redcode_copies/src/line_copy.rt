@@ -8,7 +8,7 @@ use std::marker::Model;
 /// The tokens of a line in a copy of a block.
 #[derive(Drop)]
 pub struct LineCopy<'s, A: Allocator> {
-    /// Of a line with a word the tokens before it.
+    /// The tokens before the word; none if the line has no word.
     pub(crate) front: Vec<Token<'s>, A>,
     /// The other tokens.
     pub(crate) tokens: Vec<Token<'s>, A>,

@@ -43,7 +43,7 @@ pub fn has_counter<C: Counters>(counters: &C, tokens: &[Token<'_>]) -> bool
     false
 }
 
-/// A line without an `&` within copies; nothing where it names no counter, and so reads as it stands.
+/// A line without an `&` within copies; `None` if it names no counter, and so reads as it stands.
 pub fn plain_copy<'s, A: Allocator + Copy, C: Counters>(
     alloc: A,
     region: &'s Bump<A>,
@@ -66,7 +66,7 @@ pub fn plain_copy<'s, A: Allocator + Copy, C: Counters>(
     Ok(Some(LineCopy { front, tokens }))
 }
 
-/// Appends tokens with its number for each that is a counter.
+/// Appends tokens, each that is a counter as its number.
 fn append_numbered<'s, A: Allocator, C: Counters>(
     region: &'s Bump<A>,
     counters: &C,
@@ -98,7 +98,7 @@ fn numbered<'s, A: Allocator, C: Counters>(
     }
 }
 
-/// How many tokens at the front stay whatever they are: the word and a modifier's name, or the labels of a line without a word.
+/// The number of tokens at the front that stay: the word and a modifier's name, or the labels of a line without a word.
 fn kept_count(line: Reading<'_, '_>) -> usize
     ensures count { result ≡ kept_count line.entry.form line.entry.word (pieces line.entry.tokens.now) }
     ensures within { result ≤ length line.entry.tokens.now }
@@ -113,7 +113,7 @@ fn kept_count(line: Reading<'_, '_>) -> usize
     }
 }
 
-/// How many tokens behind this word stay.
+/// The number of tokens after this word that stay.
 fn kept_behind(word: Word, tokens: &[Token<'_>]) -> usize
     ensures count { result ≡ kept_behind word (pieces tokens.now) }
     ensures within { result ≤ length tokens.now }

@@ -3,17 +3,8 @@ use Rattle.std.proofs.Common.{unwrap_or, arith, ◌≡◌, ℕ, Bool, true, fals
 use Rattle.std.proofs.lemmas.Bool.{or_parts}
 use Rattle.std.proofs.lemmas.Slice.Eq.{bytes_eq-Decides}
 use Rattle.std.specs.Str.{bytes_eq}
-use Rattle.war_types.specs.declared.fault.AsmFault.{AsmFault}
-use Rattle.war_types.specs.declared.settings.RawSettings.{RawSettings}
-use Rattle.redcode_text.specs.Tokens.{Piece}
-use Rattle.redcode_lines.specs.declared.line.LineKind.{LineKind}
-use Rattle.redcode_lines.specs.declared.reading.LineForm.{LineForm}
-use Rattle.redcode_text.specs.declared.vocabulary.Word.{Word}
-use Rattle.redcode_lines.specs.Line.{SourceLine, labels_of, behind_labels}
-use Rattle.redcode_copies.specs.Counter.{Counter, in_copies}
+use Rattle.redcode_expand.proofs.Words.{AsmFault, RawSettings, Piece, SourceLine, labels_of, behind_labels, Counter, in_copies, EquList, body_of, has_tokens, Names, defined, all_defined, but_last, equ_defined, equ_named, equ_line, predefined, for_labels, LineKind, LineForm, Word}
 use Rattle.redcode_names.specs.Gives.{◌>>=◌}
-use Rattle.redcode_names.specs.Equ.{EquList, body_of, has_tokens}
-use Rattle.redcode_names.specs.Name.{Names, defined, all_defined, but_last, equ_defined, equ_named, equ_line, predefined, for_labels}
 use Rattle.redcode_expand.specs.Walk.{lined, WalkState, Begun, begun_as, counted, labelled, equated, placed_by, placed, is_equ_word, worded, step_by, step, copies_of, begun_of, begun, closed, copied}
 use Rattle.redcode_expand.specs.Kept.{Keeps}
 use Rattle.redcode_expand.proofs.Counted.{Holds, bind, either, all-hold, last-hold}

@@ -1,18 +1,9 @@
--- Walks that come to the same: their lines are the same, or both are refused at last.
+-- Walks that give the same: their lines are the same, or both are refused at last.
 use Rattle.std.proofs.Common.{arith, ◌≡◌, ◌⊎◌, ℕ, zero, suc, ◌+◌, Bool, true, if◌then◌else◌, List, [], ◌∷◌, ◌++◌, Option, None, Result, Ok, Err, refl, ap, ◌∙◌, inl}
 use Rattle.std.specs.Bool.{⊤}
-use Rattle.war_types.specs.declared.fault.AsmFault.{AsmFault}
+use Rattle.redcode_expand.proofs.Words.{AsmFault, RawSettings, Piece, SourceLine, Counter, EquList, Names, Word, LineKind, LineForm}
 use Rattle.war_types.specs.declared.fault.AsmKind.TheVariants as kinds
-use Rattle.war_types.specs.declared.settings.RawSettings.{RawSettings}
-use Rattle.redcode_text.specs.declared.vocabulary.Word.{Word}
-use Rattle.redcode_text.specs.Tokens.{Piece}
-use Rattle.redcode_lines.specs.declared.line.LineKind.{LineKind}
-use Rattle.redcode_lines.specs.declared.reading.LineForm.{LineForm}
-use Rattle.redcode_lines.specs.Line.{SourceLine}
-use Rattle.redcode_copies.specs.Counter.{Counter}
-use Rattle.redcode_names.specs.Equ.{EquList}
 use Rattle.redcode_names.specs.Gives.{◌>>=◌, fault_at}
-use Rattle.redcode_names.specs.Name.{Names}
 use Rattle.redcode_expand.specs.Walk.{ExpandedLine, WalkState, Begun, begun_as, begun_of, closed, copied, copies, counted, labelled, step_as, until_end, with_line}
 use Rattle.redcode_expand.specs.Expansion.{all_replaced, finished, line_replaced}
 

@@ -1,25 +1,15 @@
--- For `expand`: a source whose long lines are capped comes to the same, since such a line is refused whatever else it has.
+-- For `expand`: a source whose long lines are capped gives the same, since such a line is refused whatever else it has.
 use Rattle.std.proofs.Common.{◌≡◌, ℕ, zero, suc, ◌<◌, ◌≤◌, Bool, true, false, not, ◌&&◌, ◌||◌, List, [], ◌∷◌, ◌++◌, length, map, take, Option, Some, None, Result, Ok, Err, refl, sym, ap, ◌∙◌, arith, inl, inr, lt-ltb}
 use Rattle.std.specs.Bool.{⊤}
 use Rattle.std.proofs.lemmas.Bool.{true≢false, cases_Bool, or_parts, ltb-true, ltb-false}
 use Rattle.std.proofs.lemmas.List.{take_all, length-take-le}
-use Rattle.war_types.specs.declared.fault.AsmFault.{AsmFault}
+use Rattle.redcode_expand.proofs.Words.{AsmFault, RawSettings, Piece, SourceLine, label_tokens, names_among, Blocks, Parsed, parsed, behind_by, with_body, finish, one_line, block, open_for, Counter, counter_of, in_copies, changed_from, kept_count, number_by, plain_copy, EquList, Word, LineKind, LineForm, has_and, has_operands, is_limited, is_capped, capped}
+use Rattle.redcode_names.specs.Equ.{replaced}
 use Rattle.war_types.specs.declared.fault.AsmKind.TheVariants as kinds
-use Rattle.war_types.specs.declared.settings.RawSettings.{RawSettings}
-use Rattle.redcode_text.specs.declared.vocabulary.Word.{Word}
 use Rattle.redcode_text.specs.declared.vocabulary.Word.TheVariants as words
-use Rattle.redcode_text.specs.Tokens.{Piece}
-use Rattle.redcode_lines.specs.declared.line.LineKind.{LineKind}
 use Rattle.redcode_lines.specs.declared.line.LineKind.TheVariants as lines
-use Rattle.redcode_lines.specs.declared.reading.LineForm.{LineForm}
 use Rattle.redcode_lines.specs.declared.reading.LineForm.TheVariants as forms
-use Rattle.redcode_lines.specs.Line.{SourceLine, label_tokens, names_among}
-use Rattle.redcode_lines.specs.Block.{Blocks, Parsed, parsed, behind_by, with_body, finish, one_line, block, open_for}
-use Rattle.redcode_lines.specs.Capped.{has_and, has_operands, is_limited, is_capped, capped}
-use Rattle.redcode_copies.specs.Counter.{Counter, counter_of, in_copies}
-use Rattle.redcode_copies.specs.Plain.{changed_from, kept_count, number_by, plain_copy}
 use Rattle.redcode_copies.proofs.PlainLines.{copies-plain}
-use Rattle.redcode_names.specs.Equ.{EquList, replaced}
 use Rattle.redcode_names.specs.Gives.{◌>>=◌, fault_at}
 use Rattle.redcode_expand.specs.Walk.{WalkState, lined, begun, closed, copies, counted, labelled, step, step_as, until_end, walk, walk_all, walk_begin, with_line, with_word, is_equ_word, worded}
 use Rattle.redcode_expand.specs.Expansion.{finished}
@@ -195,7 +185,7 @@ both-walk s cs (open_for for) st st' same = grind arith
 both-all : (s : RawSettings) (source : Parsed) (st st' : WalkState) → SameWalk st st' → Both (walk_all s source st) (walk_all s (cap_blocks source.0, cap_rofs source.1) st')
 both-all s source st st' h1 = grind (arith, both-bind, both-walk, both-until)
 
--- a source comes to the same with its long lines capped
+-- a source gives the same with its long lines capped
 pub capped-same : (s : RawSettings) (ls : List SourceLine) → walk_all s (parsed (map capped ls)) walk_begin >>= finished ≡ walk_all s (parsed ls) walk_begin >>= finished
 capped-same s ls =
     ap (λ (p : Parsed). walk_all s p walk_begin >>= finished) (parsed-capped ls)

@@ -2,26 +2,16 @@
 use Rattle.std.proofs.Common.{◌≡◌, ℕ, zero, suc, ◌+◌, ◌<◌, Bool, if◌then◌else◌, List, [], ◌∷◌, ◌++◌, length, take, drop, unwrap_or, Option, Some, None, Result, Ok, Err, refl, arith, true, false, nat_lt, sym, ◌∙◌}
 use Rattle.std.specs.Bool.{⊤}
 use Rattle.std.proofs.lemmas.List.{take_all, take-append-le, length-append}
-use Rattle.war_types.specs.declared.fault.AsmFault.{AsmFault}
+use Rattle.redcode_expand.proofs.Words.{AsmFault, RawSettings, Piece, SourceLine, labels_of, Blocks, Parsed, finish, one_line, block, open_for, parsed, source_lines, Counter, counter_of, in_copies, LabelList, Names, all_defined, but_last, defined, equ_line, equ_named, for_labels, address_of, EquList, Word, LineKind, LineForm}
 use Rattle.war_types.specs.declared.fault.AsmKind.TheVariants as kinds
-use Rattle.war_types.specs.declared.settings.RawSettings.{RawSettings}
-use Rattle.redcode_text.specs.declared.vocabulary.Word.{Word}
-use Rattle.redcode_text.specs.Tokens.{Piece}
-use Rattle.redcode_lines.specs.declared.line.LineKind.{LineKind}
 use Rattle.redcode_lines.specs.declared.line.LineKind.TheVariants as lines
-use Rattle.redcode_lines.specs.declared.reading.LineForm.{LineForm}
 use Rattle.redcode_lines.specs.declared.reading.LineForm.TheVariants as forms
-use Rattle.redcode_lines.specs.Line.{SourceLine, labels_of}
-use Rattle.redcode_lines.specs.Block.{Blocks, Parsed, finish, one_line, block, open_for, parsed, source_lines}
-use Rattle.redcode_copies.specs.Counter.{Counter, counter_of, in_copies}
 use Rattle.redcode_names.specs.Gives.{◌>>=◌, fault_at, Gives}
-use Rattle.redcode_names.specs.Name.{LabelList, Names, all_defined, but_last, defined, equ_line, equ_named, for_labels, address_of}
 use Rattle.redcode_expand.specs.Walk.{ExpandedLine, WalkState, Begun, begun, begun_as, begun_of, closed, copied, copies, copies_of, counted, equated, labelled, step, step_by, until_end, walk, walk_all, walk_begin, with_line, with_other, with_word, worded}
 use Rattle.redcode_expand.specs.Laws.{instruction_of, instructions, before_at, IsPlace, AreCounted}
 use Rattle.std.specs.Result.{IfOk}
 use Rattle.std.specs.Str.{bytes_eq}
 use Rattle.redcode_lines.specs.Source.{live_lines}
-use Rattle.redcode_names.specs.Equ.{EquList}
 use Rattle.redcode_expand.specs.Expansion.{Expansion, all_replaced, expansion, finished, line_replaced}
 
 -- ---- what was found, if it was

@@ -1,18 +1,13 @@
--- How the walk goes on within open blocks: behind a line, a FOR and a ROF, at the end of a copy, and whether a FOR has its ROF.
+-- How the walk goes on within open blocks: after a line, a FOR and a ROF, at the end of a copy, and whether a FOR has its ROF.
 use Rattle.std.proofs.Common.{◌≡◌, ◌≢◌, ℕ, suc, ◌+◌, ◌≤◌, Bool, true, false, List, [], ◌∷◌, ◌++◌, drop, nat_eq, Result, Ok, refl, sym, ap, ◌∙◌, arith, subst, zero, ◌-◌, ◌*◌, ◌<◌, length, Option, Some, leb}
 use Rattle.std.specs.Prelude.{if◌then◌else◌}
 use Rattle.std.proofs.lemmas.Bool.{true≢false, cond_both}
 use Rattle.std.proofs.lemmas.Bool.Decides.{nat_tests}
-use Rattle.war_types.specs.declared.fault.AsmFault.{AsmFault}
-use Rattle.war_types.specs.declared.settings.RawSettings.{RawSettings}
+use Rattle.redcode_expand.proofs.Words.{AsmFault, RawSettings, SourceLine, Blocks, Parsed, parsed, behind_for, finish, one_line, block, open_for, behind_by, behind_rof, with_body, Counter, counter_of, Word}
 use Rattle.redcode_names.specs.Gives.{◌>>=◌, Fails}
-use Rattle.redcode_lines.specs.Line.{SourceLine}
-use Rattle.redcode_lines.specs.Block.{Blocks, Parsed, parsed, behind_for, finish, one_line, block, open_for, behind_by, behind_rof, with_body}
-use Rattle.redcode_copies.specs.Counter.{Counter, counter_of}
 use Rattle.redcode_expand.specs.Marks.{AreFromRof}
 use Rattle.redcode_expand.specs.Walk.{WalkState, Begun, walk, step, begun, closed, copied, copies, until_end, begun_as, IsCopied}
 use Rattle.redcode_expand.specs.Rest.{OpenBlock, open_block, counters_of, more_copies, behind_copy, rest_of, counts, AreOpen, steps_left, GoesOn, IsUnmatched}
-use Rattle.redcode_text.specs.declared.vocabulary.Word.{Word}
 use Rattle.redcode_text.specs.declared.vocabulary.Word.TheVariants as words
 use Rattle.std.proofs.lemmas.List.{drop_all, length-drop}
 
@@ -27,7 +22,7 @@ nat_eq-same n = grind (arith, nat_tests)
 pub nat_eq-other : (m n : ℕ) → nat_eq m n ≡ false → m ≢ n
 nat_eq-other m n other same = absurd (true≢false (sym (nat_eq-same n) ∙ ap (λ (k : ℕ). nat_eq k n) (sym same) ∙ other))
 
--- ---- what is left behind a line
+-- ---- what is left after a line
 
 ends : (f : WalkState → Result WalkState AsmFault) (st : WalkState) → st.ended ≡ true → until_end f st ≡ Ok st
 ends f st over = ap (λ (b : Bool). if b then Ok st else f st) over
@@ -36,7 +31,7 @@ ends f st over = ap (λ (b : Bool). if b then Ok st else f st) over
 abbrev all_copies : RawSettings → List OpenBlock → SourceLine → Blocks → Begun → Result WalkState AsmFault
 all_copies s bs line body b = copies (λ number. walk s (counters_of bs ++ counter_of b.counter number ∷ []) body) line.number b.copies 1 b.state
 
--- of a block, what is left behind its first labels and its count
+-- of a block, what is left after its first labels and its count
 abbrev pub begun_rest : RawSettings → List SourceLine → List OpenBlock → SourceLine → Blocks → SourceLine × Blocks → List (SourceLine × Blocks) → Begun → Result WalkState AsmFault
 begun_rest s ls bs line body rof rofs b =
     all_copies s bs line body b >>= until_end (closed s (counters_of bs) rof.0) >>= walk s (counters_of bs) rof.1 >>= behind_copy s ls bs rofs
@@ -46,7 +41,7 @@ pub rest-begun : (s : RawSettings) (ls : List SourceLine) (bs : List OpenBlock) 
     → rest_of s ls bs (behind_for line left) st ≡ begun s (counters_of bs) line st >>= begun_rest s ls bs line left.0 rof rofs
 rest-begun s ls bs line left rof rofs st h1 h2 = grind arith
 
--- a copy, and those behind it
+-- a copy, and those after it
 pub copies-go : (s : RawSettings) (ls : List SourceLine) (bs : List OpenBlock) (name : List ℕ) (number k m body : ℕ) (rof : SourceLine × Blocks) (rofs : List (SourceLine × Blocks)) (st : WalkState)
     → (parsed (drop body ls)).1 ≡ rof ∷ rofs → st.ended ≡ false
     → copies (λ n. walk s (counters_of bs ++ counter_of name n ∷ []) (parsed (drop body ls)).0) number (suc m) k st
@@ -54,18 +49,18 @@ pub copies-go : (s : RawSettings) (ls : List SourceLine) (bs : List OpenBlock) (
     ≡ rest_of s ls (open_block number (counter_of name k) m st.counted body ∷ bs) (parsed (drop body ls)) st
 copies-go s ls bs name number k m body rof rofs st h1 h2 = grind arith
 
--- at a ROF, what is left behind the end of the copy
+-- at a ROF, what is left after the end of the copy
 abbrev pub copied_rest : RawSettings → List SourceLine → List OpenBlock → OpenBlock → SourceLine → Parsed → WalkState → Result WalkState AsmFault
 copied_rest s ls bs b rof left st =
     more_copies s ls bs b st >>= until_end (closed s (counters_of bs) rof) >>= walk s (counters_of bs) left.0 >>= behind_copy s ls bs left.1
 
--- behind the end of another copy
+-- after the end of another copy
 pub rest-next : (s : RawSettings) (ls : List SourceLine) (bs : List OpenBlock) (b : OpenBlock) (m : ℕ) (rof : SourceLine) (left : Parsed) (st : WalkState) → b.left ≡ suc m
     → (parsed (drop b.body ls)).1 ≡ (rof, left.0) ∷ left.1 → st.ended ≡ false
     → copied_rest s ls bs b rof left st ≡ rest_of s ls (open_block b.number (counter_of b.counter.name (b.counter.number + 1)) m st.counted b.body ∷ bs) (parsed (drop b.body ls)) st
 rest-next s ls bs b m rof left st h1 h2 h3 = grind arith
 
--- behind an END nothing is left
+-- after an END nothing is left
 walk-ended : (s : RawSettings) (cs : List Counter) (left : Blocks) (st : WalkState) → st.ended ≡ true → walk s cs left st ≡ Ok st
 walk-ended s cs finish st over = refl
 walk-ended s cs (one_line line rest) st over = grind (arith, walk-ended s cs rest st)
@@ -147,7 +142,7 @@ pub next-goes-on : (s : RawSettings) (ls : List SourceLine) (bs : List OpenBlock
     (open_block b.number (counter_of b.counter.name (b.counter.number + 1)) (b.left - 1) now.counted b.body ∷ bs) b.body now
 next-goes-on s ls bs b at line st now h1 h2 h3 h4 h5 h6 h7 h8 h9 = grind (arith, rof-here, nat_eq-same, rest-next, one-or-none)
 
--- the same, where the block was taken away and the next copy of it put back
+-- the same, after the block was removed and the next copy of it put back
 pub next-copied : (s : RawSettings) (ls : List SourceLine) (old bs after : List OpenBlock) (b next : OpenBlock) (at number start left body counted : ℕ) (line : SourceLine) (st now : WalkState)
     → old ≡ b ∷ bs → number ≡ b.number → start ≡ b.start → left ≡ b.left → body ≡ b.body → counted ≡ now.counted
     → next ≡ open_block b.number (counter_of b.counter.name (b.counter.number + 1)) (b.left - 1) counted b.body → after ≡ next ∷ bs

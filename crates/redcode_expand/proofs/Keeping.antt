@@ -1,12 +1,8 @@
--- A count that was worked out stays the same while EQUs are added; counts that are kept, and how a block begins, from the steps of the code.
+-- A count that was computed stays the same while EQUs are added; counts that are kept, and how a block begins, from the steps of the code.
 use Rattle.std.proofs.Common.{arith, ◌≡◌, ℕ, zero, suc, Bool, false, ◌||◌, ◌&&◌, not, if◌then◌else◌, List, [], ◌∷◌, ◌++◌, length, map, Ok, refl, sym, ap, ◌∙◌, nat_eq, true, ◌+◌, ◌<◌, ◌^◌, drop, Option, Some, None, subst, inl, inr, replicate, Result}
 use Rattle.std.proofs.lemmas.Bool.{or_parts, cases_Bool, eqb-true}
-use Rattle.war_types.specs.declared.settings.RawSettings.{RawSettings}
-use Rattle.redcode_text.specs.Tokens.{Piece}
+use Rattle.redcode_expand.proofs.Words.{RawSettings, Piece, is_name, SourceLine, labels_of, EquList, body_at, round, has_tokens, has_equ, left_over, replaced, after_rounds, is_loose, predefined, Names, for_labels, AsmFault}
 use Rattle.redcode_text.specs.Value.{part_of, value_of, value_within, or_bad}
-use Rattle.redcode_lines.specs.Line.{is_name, SourceLine, labels_of}
-use Rattle.redcode_names.specs.Equ.{EquList, body_at, round, has_tokens, has_equ, left_over, replaced, after_rounds}
-use Rattle.redcode_names.specs.Name.{is_loose, predefined, Names, for_labels}
 use Rattle.redcode_expand.specs.Kept.{count_of, has_loose, Keeps, CountIsFixed, IsKept, AreKept, kept_at}
 use Rattle.redcode_expand.specs.declared.counts.Kept.{Kept}
 use Rattle.redcode_expand.specs.declared.counts.Kept.TheVariants as kept
@@ -17,7 +13,6 @@ use Rattle.std.specs.Prelude.{slice_index_or, slice_set}
 use Rattle.std.proofs.lemmas.List.{get_or-map, get_or-set_other, get_or-replicate, length-map, length-set, length-replicate, map-set, set-get_or}
 use Rattle.redcode_expand.specs.Walk.{WalkState, begun_as, walk_state, ExpandedLine, Begun, begun_of, copies_of, count_by}
 use Rattle.redcode_expand.proofs.GoingOn.{nat_eq-other}
-use Rattle.war_types.specs.declared.fault.AsmFault.{AsmFault}
 use Rattle.redcode_names.specs.Gives.{◌>>=◌, Fails}
 
 -- ---- the value of a name that is not loose
@@ -94,7 +89,16 @@ replaced-kept s line old new ts left keeps is fixed =
 -- ---- more EQUs
 
 kept-later : (s : RawSettings) (line : SourceLine) (old new : EquList) (n : ℕ) → Keeps s old new → IsKept s old line n → IsKept s new line n
-kept-later s line old new n h1 h2 = grind (arith, replaced-kept)
+kept-later s line old new n keeps is = record {
+  labels = is.labels;
+  count = record {
+    left = is.count.left;
+    replaces = replaced-kept s line.number old new (drop 1 line.tokens) is.count.left keeps is.count.replaces is.count.fixed;
+    fixed = is.count.fixed;
+    copies = is.count.copies;
+  };
+  few = is.few;
+}
 
 pub all-later : (s : RawSettings) (lines : List SourceLine) (old new : EquList) (counts : List (Option ℕ)) → Keeps s old new → AreKept s lines old counts → AreKept s lines new counts
 all-later s lines old new counts keeps are =
@@ -154,11 +158,15 @@ changing-kept ks counts at d is some there =
 -- ---- a block that begins by a count that is kept
 
 pub begun-kept : (s : RawSettings) (line : SourceLine) (st : WalkState) (n : ℕ) → IsKept s st.names.equs line n → begun_of s line st ≡ Ok (begun_as st [] n)
-begun-kept s line st n h1 = grind arith
+begun-kept s line st n is =
+    ap (λ (ls : List (List ℕ)). for_labels s line.number st.before ls st.names >>= λ found.
+    copies_of s line.number st.before found.0.equs (drop 1 line.tokens) >>= λ n. Ok (begun_as (record st { names = found.0 }) found.1 n)) is.labels
+    ∙ ap (λ (r : Result (List Piece) AsmFault). (r >>= λ ts. count_by line.number (value_of (predefined s st.before) ts)) >>= λ n. Ok (begun_as st [] n)) is.count.replaces
+    ∙ ap (λ (r : Result ℕ AsmFault). r >>= λ n. Ok (begun_as st [] n)) (is.count.copies st.before)
 
 -- ---- the steps of the code
 
--- a count that was worked out is kept if it is fixed
+-- a count that was computed is kept if it is fixed
 pub all-learned : (s : RawSettings) (lines : List SourceLine) (old new : EquList) (counts after : List (Option ℕ)) (at : ℕ) (line : SourceLine) (n : ℕ) (fixed : Bool)
     → new ≡ old → at < length lines → drop at lines ≡ line ∷ drop (at + 1) lines → AreKept s lines old counts → labels_of line ≡ []
     → CountIsFixed s line.number new (drop 1 line.tokens) fixed n → n < 2 ^ 63 → after ≡ (if fixed then slice_set counts at (Some n) else counts) → AreKept s lines new after
@@ -170,24 +178,44 @@ all-learned s lines old new counts after at line n false same some read are none
 
 -- ---- a count
 
+not-told : (b : Bool) → not b ≡ true → b ≡ false
+not-told b h = grind arith
+
 -- a count without loose names is fixed
 pub count-fixed : (s : RawSettings) (line before : ℕ) (equs : EquList) (tokens left seen again : List Piece) (loose : Bool) (n : ℕ) → replaced line equs tokens ≡ Ok left
     → seen ≡ left → count_by line (value_of (predefined s before) seen) ≡ Ok n → again ≡ left → loose ≡ has_loose s again
     → CountIsFixed s line equs tokens (not loose) n
-count-fixed s line before equs tokens left seen again loose n h1 h2 h3 h4 h5 = grind (arith, value-same)
+count-fixed s line before equs tokens left seen again loose n replaces seen-is counts again-is loose-is = record {
+  if_told = λ told.
+      let none : has_loose s left ≡ false = ap (has_loose s) (sym again-is) ∙ sym loose-is ∙ not-told loose told in
+      record {
+        left = left;
+        replaces = replaces;
+        fixed = none;
+        copies = λ at. ap (count_by line) (value-same s at left none ∙ sym (value-same s before left none) ∙ ap (value_of (predefined s before)) (sym seen-is)) ∙ counts;
+      };
+}
 
 -- ---- a block
 
--- what is due behind the labels of a FOR
+-- what is due after the labels of a FOR
 pub begun-due : (s : RawSettings) (line : SourceLine) (st : WalkState) (counted before : ℕ) (old new : Names) (lines : List ExpandedLine) (ended : Bool) (labels : List (List ℕ)) (count : List Piece)
     (name : List ℕ) → walk_state counted before old lines ended ≡ st → labels ≡ labels_of line → for_labels s line.number before labels old ≡ Ok (new, name) → count ≡ drop 1 line.tokens
     → begun_of s line st ≡ copies_of s line.number before new.equs count >>= λ n. Ok (begun_as (walk_state counted before new lines ended) name n)
-begun-due s line st counted before old new lines ended labels count name h1 h2 h3 h4 = grind arith
+begun-due s line st counted before old new lines ended labels count name st-is labels-are defines count-is =
+    let counts : List Piece → Names × List ℕ → Result Begun AsmFault =
+    λ ts found. copies_of s line.number before found.0.equs ts >>= λ n. Ok (begun_as (walk_state counted before found.0 lines ended) found.1 n) in
+    ap (begun_of s line) (sym st-is) ∙ ap (λ (ls : List (List ℕ)). for_labels s line.number before ls old >>= counts (drop 1 line.tokens)) (sym labels-are)
+    ∙ ap (λ (r : Result (Names × List ℕ) AsmFault). r >>= counts (drop 1 line.tokens)) defines ∙ ap (λ (ts : List Piece). counts ts (new, name)) (sym count-is)
 
 pub begun-done : (due : Result Begun AsmFault) (st : WalkState) (name given : List ℕ) (m : Result ℕ AsmFault) (n : ℕ) → due ≡ m >>= (λ n. Ok (begun_as st name n)) → given ≡ name → m ≡ Ok n
     → due ≡ Ok (begun_as st given n)
-begun-done due st name given m n h1 h2 h3 = grind arith
+begun-done due st name given m n due-is name-is counts =
+    due-is ∙ ap (λ (r : Result ℕ AsmFault). r >>= λ n. Ok (begun_as st name n)) counts ∙ ap (λ (x : List ℕ). Ok (begun_as st x n)) (sym name-is)
 
 pub begun-refused : (due : Result Begun AsmFault) (st : WalkState) (name : List ℕ) (m : Result ℕ AsmFault) (fault : AsmFault) → due ≡ m >>= (λ n. Ok (begun_as st name n)) → Fails fault m
     → Fails fault due
-begun-refused due st name m fault h1 h2 = grind arith
+begun-refused due st name m fault due-is fails = elim fails [
+  | inl none ↦ inl none
+  | inr refused ↦ inr (due-is ∙ ap (λ (r : Result ℕ AsmFault). r >>= λ n. Ok (begun_as st name n)) refused)
+]

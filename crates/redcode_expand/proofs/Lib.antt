@@ -1,3 +1,4 @@
+mod Words
 mod Unchanged
 mod PlacedNames
 mod PlainCounts

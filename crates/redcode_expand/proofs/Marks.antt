@@ -1,19 +1,10 @@
 -- Lines that are marked: the ROF that belongs to each FOR, found from the last line on.
-use Rattle.std.proofs.Common.{◌≡◌, ℕ, zero, suc, ◌+◌, ◌≤◌, ◌<◌, arith, true, false, Bool, not, ◌&&◌, ◌||◌, List, [], ◌∷◌, length, drop, Option, Some, None, Result, Ok, refl, sym, ap, subst, inl, inr, ◌∙◌, nat_eq}
-use Rattle.std.specs.Prelude.{if◌then◌else◌, slice_index_or, slice_set}
-use Rattle.std.proofs.lemmas.Bool.{cases_Bool, eqb-true, or_parts}
+use Rattle.std.proofs.Common.{◌≡◌, ℕ, ◌+◌, ◌≤◌, ◌<◌, arith, true, false, Bool, not, ◌&&◌, List, [], ◌∷◌, length, drop, Option, Some, Result, Ok, refl, sym, ap, subst, ◌∙◌, nat_eq}
+use Rattle.std.specs.Prelude.{if◌then◌else◌, slice_set}
+use Rattle.std.proofs.lemmas.Bool.{eqb-true, or_parts}
 use Rattle.std.proofs.lemmas.List.{drop_all, drop_more, get_or-set_same, get_or-set_other, length-set}
-use Rattle.war_types.specs.declared.fault.AsmFault.{AsmFault}
-use Rattle.war_types.specs.declared.settings.RawSettings.{RawSettings}
-use Rattle.redcode_text.specs.declared.vocabulary.Word.{Word}
+use Rattle.redcode_expand.proofs.Words.{AsmFault, RawSettings, Piece, SourceLine, Blocks, Parsed, parsed, with_body, behind_by, behind_for, has_tokens, Counter, has_number, Word, has_and}
 use Rattle.redcode_text.specs.declared.vocabulary.Word.TheVariants as words
-use Rattle.redcode_text.specs.Tokens.{Piece}
-use Rattle.redcode_lines.specs.Line.{SourceLine}
-use Rattle.redcode_lines.specs.Block.{Blocks, Parsed, parsed, with_body, behind_by, behind_for}
-use Rattle.redcode_lines.specs.Capped.{has_and}
-use Rattle.redcode_names.specs.Equ.{has_tokens}
-use Rattle.redcode_copies.specs.Counter.{Counter}
-use Rattle.redcode_copies.specs.Plain.{has_number}
 use Rattle.redcode_expand.specs.declared.marked_lines.Edge.TheVariants as edges
 use Rattle.redcode_expand.specs.declared.marked_lines.Mark.{Mark}
 use Rattle.redcode_expand.specs.Marks.{edge_of, has_name, is_bare, line_in, mark_at, no_mark, AreFromRof, AreMarked, IsMarked, IsNextRof}
@@ -41,7 +32,7 @@ pub word-rof : (word : Option Word) → edge_of word ≡ edges.Rof → word ≡ 
 word-rof (Some words.Rof) h = refl
 word-rof _ h = absurd cc
 
--- what begins and ends no block leaves the ROFs behind it as they are
+-- what begins and ends no block leaves the ROFs after it as they are
 rofs-behind : (word : Option Word) (line : SourceLine) (left : Parsed) → edge_of word ≡ edges.Neither → (behind_by word line left).1 ≡ left.1
 rofs-behind (Some words.For) line left h = absurd cc
 rofs-behind (Some words.Rof) line left h = absurd cc
@@ -52,9 +43,6 @@ rof-word ls rof from some = subst AreFromRof (line-drop ls rof some) from
 
 -- ---- the first ROF from a line on
 
-pub next-none : (ls : List SourceLine) (rof : ℕ) → length ls ≤ rof → IsNextRof ls rof rof
-next-none ls rof over = record { rofs = refl; from = rw (drop_all rof ls over) tt; later = omega arith }
-
 pub next-rof : (ls : List SourceLine) (at : ℕ) → at < length ls → (line_in ls at).word ≡ Some words.Rof → IsNextRof ls at at
 next-rof ls at some word = record { rofs = refl; from = subst AreFromRof (sym (line-drop ls at some)) word; later = omega arith }
 
@@ -64,7 +52,7 @@ next-other ls at rof some neither next =
     ap (λ (xs : List SourceLine). (parsed xs).1) (line-drop ls at some) ∙ rofs-behind (line_in ls at).word (line_in ls at) (parsed (drop (at + 1) ls)) neither in
     record { rofs = next.rofs ∙ sym here; from = next.from; later = omega (arith, next.later) }
 
--- behind a FOR whose ROF is there
+-- after a FOR whose ROF is there
 with-rof : (line : SourceLine) (body : Blocks) (rofs others : List (SourceLine × Blocks)) (rof : SourceLine × Blocks) → rofs ≡ rof ∷ others → (with_body line body rofs).1 ≡ others
 with-rof line body rofs others rof is = ap (λ (rs : List (SourceLine × Blocks)). (with_body line body rs).1) is
 
@@ -74,7 +62,7 @@ ends-with : (ls : List SourceLine) (at rof : ℕ) → IsNextRof ls (at + 1) rof 
 ends-with ls at rof own there =
     sym own.rofs ∙ ap (λ (p : Parsed). p.1) (rof-here ls rof (line_in ls rof) (line-drop ls rof there) (rof-word ls rof own.from there))
 
--- from a FOR on there are those behind its ROF
+-- from a FOR on there are those after its ROF
 for-rofs : (ls : List SourceLine) (at rof : ℕ) → at < length ls → (line_in ls at).word ≡ Some words.For → IsNextRof ls (at + 1) rof → rof < length ls
     → (parsed (drop at ls)).1 ≡ (parsed (drop (rof + 1) ls)).1
 for-rofs ls at rof some word own there =
@@ -88,7 +76,7 @@ pub next-for : (ls : List SourceLine) (at rof next : ℕ) → at < length ls →
 next-for ls at rof next some word own there outer =
     record { rofs = outer.rofs ∙ sym (for-rofs ls at rof some word own there); from = outer.from; later = omega (arith, own.later, outer.later) }
 
--- behind a FOR without one
+-- after a FOR without one
 pub next-open : (ls : List SourceLine) (at rof : ℕ) → at < length ls → (line_in ls at).word ≡ Some words.For → IsNextRof ls (at + 1) rof → length ls ≤ rof → IsNextRof ls at rof
 next-open ls at rof some word own over =
     let line : SourceLine = line_in ls at in
@@ -99,10 +87,6 @@ next-open ls at rof some word own over =
     record { rofs = own.rofs ∙ none ∙ sym here; from = own.from; later = omega (arith, own.later) }
 
 -- ---- all lines
-
--- at first none is marked
-pub none-marked : (ls : List SourceLine) (marks : List Mark) (from : ℕ) → length marks ≡ length ls → length ls ≤ from → AreMarked from ls marks
-none-marked ls marks from room over = record { room = room; marked = λ at later some. absurd (omega (arith, over, later, some)) }
 
 marked-by : (ls : List SourceLine) (marks : List Mark) (from at : ℕ) (mark : Mark) (b : Bool) → nat_eq at from ≡ b → from < length ls → from ≤ at → at < length ls → AreMarked (from + 1) ls marks
     → IsMarked ls from mark → IsMarked ls at (mark_at (slice_set marks from mark) at)

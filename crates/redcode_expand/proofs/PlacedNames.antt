@@ -1,18 +1,14 @@
--- The counters of open blocks, the outermost first: where the first block stands whose counter has a name.
+-- The counters of open blocks, the outermost first: the index of the first block whose counter has a name.
 use Rattle.std.proofs.Common.{◌≡◌, ℕ, zero, suc, ◌<◌, ◌≤◌, ◌^◌, Bool, true, false, if◌then◌else◌, List, [], ◌∷◌, ◌++◌, length, get_or, Option, Some, None, refl, sym, ap, ◌∙◌, subst, inl, inr, arith, ◌+◌, ◌&&◌, ◌||◌, reverse, take, eqb}
 use Rattle.std.proofs.lemmas.Bool.{cases_Bool, eqb-true}
 use Rattle.std.proofs.lemmas.Slice.Eq.{bytes_eq-Decides}
 use Rattle.std.specs.Option.{is_some, option_map}
 use Rattle.std.specs.Str.{bytes_eq}
 use Rattle.indexmap.specs.IndexMap.{insert_entry}
-use Rattle.redcode_copies.specs.Plain.{number_of, has_number}
-use Rattle.redcode_names.specs.Name.{LabelList, address_of}
+use Rattle.redcode_expand.proofs.Words.{number_of, has_number, LabelList, address_of, Piece, SourceLine, is_name, Counter, in_copy, in_copies}
 use Rattle.redcode_expand.specs.Rest.{OpenBlock, ArePlaced, AreFew, counters_in, place_in, counters_of}
 use Rattle.std.proofs.lemmas.Grind.{common_steps}
 use Rattle.std.proofs.lemmas.List.{reverse-append, take_more}
-use Rattle.redcode_text.specs.Tokens.{Piece}
-use Rattle.redcode_lines.specs.Line.{SourceLine, is_name}
-use Rattle.redcode_copies.specs.Counter.{Counter, in_copy, in_copies}
 
 None≢Some : {X : Type 0} (x : X) (o : Option X) → o ≡ None → o ≡ Some x → ⊥
 None≢Some x o none some = cc
@@ -25,7 +21,7 @@ later-place o p h1 = grind arith
 
 -- ---- the first block of a name
 
--- what is said of the place of the first block of a name
+-- what is said of the index of the first block of a name
 abbrev IsFirst : List OpenBlock → List ℕ → OpenBlock → ℕ → Type 0
 IsFirst bs name d p = (p < length bs) × (bytes_eq name (get_or bs p d).counter.name ≡ true) × (number_of (counters_in bs) name ≡ Some (get_or bs p d).counter.number)
 
@@ -160,7 +156,7 @@ pub counters-reverse : (bs : List OpenBlock) → counters_of (reverse bs) ≡ co
 counters-reverse [] = refl
 counters-reverse (b ∷ bs) = ap counters_of (reverse-append (b ∷ []) bs) ∙ counters-outer (reverse bs) b ∙ ap (λ (cs : List Counter). b.counter ∷ cs) (counters-reverse bs)
 
--- where there is no counter none is named
+-- without counters none is named
 none-named : (ts : List Piece) → has_number [] ts ≡ false
 none-named [] = refl
 none-named (t ∷ ts) = none-by (is_name t.kind) (has_number [] ts) (none-named ts)

@@ -1,30 +1,18 @@
 -- Lines of blocks that have no labels: their ROFs do nothing, and their counts are those of the tokens as they stand in the source.
-use Rattle.std.proofs.lemmas.Grind.{common_steps}
-use Rattle.std.proofs.Common.{◌≡◌, ℕ, ◌<◌, ◌≤◌, ◌^◌, Bool, true, false, nat_lt, if◌then◌else◌, List, [], ◌∷◌, length, map, drop, Option, Some, None, Result, Ok, Err, ℤ, pos, refl, sym, ap, ◌∙◌, arith, rules, lt-ltb, is_some, eqb}
+use Rattle.std.proofs.Common.{◌≡◌, ℕ, ◌<◌, ◌≤◌, ◌^◌, Bool, false, nat_lt, if◌then◌else◌, List, [], ◌∷◌, length, map, drop, Option, Some, None, Result, Ok, Err, ℤ, pos, refl, sym, ap, ◌∙◌, arith, rules, lt-ltb}
 use Rattle.std.specs.Bool.{⊤}
-use Rattle.std.proofs.lemmas.Bool.{or_parts, eqb-true}
+use Rattle.std.proofs.lemmas.Bool.{or_parts}
 use Rattle.std.proofs.lemmas.Fmt.{digits_value-decimal}
 use Rattle.std.proofs.lemmas.List.{length-map}
 use Rattle.std.proofs.lemmas.Str.Parse.{IsNumeralModel, numerals_by_fold, tells_digits}
 use Rattle.std.specs.Fmt.{decimal}
 use Rattle.std.specs.Str.Parse.{AllDigits}
-use Rattle.war_types.specs.declared.fault.AsmFault.{AsmFault}
+use Rattle.redcode_expand.proofs.Words.{AsmFault, RawSettings, Piece, SourceLine, labels_of, Counter, in_copy, in_copies, changed_from, has_number, kept_count, number_by, number_of, plain_copy, EquList, has_equ, replaced, for_labels, predefined, Word, LineForm, has_and}
 use Rattle.war_types.specs.declared.fault.ExprFault.TheVariants as faults
-use Rattle.war_types.specs.declared.settings.RawSettings.{RawSettings}
-use Rattle.redcode_text.specs.declared.vocabulary.Word.{Word}
 use Rattle.redcode_text.specs.declared.vocabulary.Word.TheVariants as words
-use Rattle.redcode_text.specs.declared.token.Token.{Token}
-use Rattle.redcode_text.specs.Tokens.{Piece, pieces}
 use Rattle.redcode_text.specs.Value.{number_from, number_value, part_of, value_of}
-use Rattle.redcode_lines.specs.declared.reading.LineForm.{LineForm}
-use Rattle.redcode_lines.specs.Line.{SourceLine, labels_of}
-use Rattle.redcode_copies.specs.Counter.{Counter, in_copy, in_copies}
-use Rattle.redcode_lines.specs.Capped.{has_and}
-use Rattle.redcode_copies.specs.Plain.{changed_from, has_number, kept_count, number_by, number_of, plain_copy}
 use Rattle.redcode_copies.proofs.PlainLines.{copies-plain, none-changed}
-use Rattle.redcode_names.specs.Equ.{EquList, has_equ, replaced}
 use Rattle.redcode_names.specs.Gives.{◌>>=◌}
-use Rattle.redcode_names.specs.Name.{for_labels, predefined}
 use Rattle.redcode_names.proofs.Unchanged.{tokens-same}
 use Rattle.redcode_expand.specs.Rest.{AreFew}
 use Rattle.redcode_expand.specs.Values.{counter_values}
@@ -63,7 +51,7 @@ none-numbered : (equs : EquList) (cs : List Counter) (ts : List Piece) → has_e
 none-numbered equs cs [] none = refl
 none-numbered equs cs (t ∷ ts) none = grind (arith, or_parts, none-numbered equs cs ts)
 
--- none is there where there are no EQUs
+-- without EQUs there is none
 pub no-equ : (equs : EquList) (ts : List Piece) → length equs ≡ 0 → has_equ equs ts ≡ false
 no-equ [] [] none = refl
 no-equ [] (t ∷ ts) none = grind (arith, no-equ [] ts none)
@@ -107,11 +95,6 @@ begun-unnamed s cs line st word none plain unnamed =
     ∙ ap (λ (ts : List Piece). for_labels s line.number st.before (labels_of line) st.names >>= λ found.
     copies_of s line.number st.before found.0.equs ts >>= λ n. Ok (begun_as (record st { names = found.0 }) found.1 n)) tokens
 
--- the same by the tokens of the code
-pub begun-front : (s : RawSettings) (cs : List Counter) (line : SourceLine) (st : WalkState) (front : List Token) → line.front ≡ pieces front → front ≡ [] → line.word ≡ Some words.For
-    → has_and line.tokens ≡ false → has_number cs (drop 1 line.tokens) ≡ false → begun s cs line st ≡ begun_of s line st
-begun-front s cs line st front is none word plain unnamed = begun-unnamed s cs line st word (is ∙ ap (λ (ts : List Token). pieces ts) none) plain unnamed
-
 -- a FOR without labels begins by the value of its tokens as they stand
 pub begun-plain : (s : RawSettings) (cs : List Counter) (line : SourceLine) (st : WalkState) → line.word ≡ Some words.For → line.front ≡ [] → has_and line.tokens ≡ false → AreFew cs
     → has_equ st.names.equs (drop 1 line.tokens) ≡ false → length (drop 1 line.tokens) ≤ 512
@@ -143,11 +126,3 @@ begun-values s cs line st count before equs among word none plain few count-is b
     begun-plain s cs line st word none plain few absent fits
     ∙ ap (λ (b : ℕ). count_by line.number (value_of (counter_values cs (predefined s b)) (drop 1 line.tokens)) >>= λ n. Ok (begun_as st [] n)) (sym before-is)
     ∙ ap (λ (ts : List Piece). count_by line.number (value_of (counter_values cs (predefined s before)) ts) >>= λ n. Ok (begun_as st [] n)) (sym count-is)
-
-none-there : (ts : List Token) → eqb (length ts) 0 ≡ true → pieces ts ≡ []
-none-there ts h1 = grind (arith, eqb-true, common_steps)
-
--- a ROF that begins with its word does nothing
-pub closed-plain : (s : RawSettings) (cs : List Counter) (line : SourceLine) (st : WalkState) (front : List Token) → line.front ≡ pieces front → is_some line.word ≡ true → eqb (length front) 0 ≡ true
-    → closed s cs line st ≡ Ok st
-closed-plain s cs line st front h1 h2 h3 = grind (arith, closed-none, none-there)

@@ -1,5 +1,6 @@
 -- The definition computed on small sources, with what it has to give.
 use Rattle.std.proofs.Common.{◌≡◌, ℕ, List, [], ◌∷◌, map, Result, Ok, Err, refl, codes}
+use Rattle.std.specs.Bool.{⊤}
 use Rattle.war_types.specs.declared.fault.AsmKind.TheVariants as kinds
 use Rattle.war_types.specs.declared.fault.AsmFault.{AsmFault}
 use Rattle.war_types.specs.declared.settings.RawSettings.{RawSettings}
@@ -34,22 +35,23 @@ gives source ls labels = outlined (expansion defaults source) ≡ Ok (ls, labels
 abbrev pub refused : List ℕ → AsmFault → Type 0
 refused source fault = outlined (expansion defaults source) ≡ Err fault
 
+-- each of these sources is refused so
+abbrev pub AreRefused : List (List ℕ × AsmFault) → Type 0
+AreRefused [] = ⊤
+AreRefused (row ∷ rows) = refused row.0 row.1 × AreRefused rows
+
 labels_and_lines : gives (codes "ORG start\nbomb DAT #0\nstart b: ADD 4 ; c\n\nJMP x\nx")
     ((1, (lines.Org, (0, ([], codes "ORG" ∷ codes "start" ∷ []))))
     ∷ (2, (lines.Operation, (0, ([], codes "DAT" ∷ codes "#" ∷ codes "0" ∷ []))))
     ∷ (3, (lines.Operation, (1, ([], codes "ADD" ∷ codes "4" ∷ []))))
-    ∷ (5, (lines.Operation, (2, ([], codes "JMP" ∷ codes "x" ∷ []))))
-    ∷ [])
-    ((codes "bomb", 0) ∷ (codes "start", 1) ∷ (codes "b", 1) ∷ (codes "x", 3) ∷ [])
+    ∷ (5, (lines.Operation, (2, ([], codes "JMP" ∷ codes "x" ∷ [])))) ∷ []) ((codes "bomb", 0) ∷ (codes "start", 1) ∷ (codes "b", 1) ∷ (codes "x", 3) ∷ [])
 unfolding expansion replaced
 labels_and_lines = refl
 
 titles_and_assertions : gives (codes ";name  Imp \n;Author\n;ASSERT\t1,x ;c\n;names\n;assert0\n;assert;x\n; name")
     ((1, (lines.Name, (0, (codes "  Imp ", []))))
     ∷ (2, (lines.Author, (0, ([], []))))
-    ∷ (3, (lines.Assert, (0, ([], codes "1" ∷ codes "," ∷ codes "x" ∷ []))))
-    ∷ [])
-    []
+    ∷ (3, (lines.Assert, (0, ([], codes "1" ∷ codes "," ∷ codes "x" ∷ [])))) ∷ []) []
 unfolding expansion replaced
 titles_and_assertions = refl
 
@@ -58,50 +60,36 @@ other_lines : gives (codes "here:\nx PIN ?\nLDP\nFOO 0 DAT\nEND\nDAT")
     ∷ (2, (lines.Other, (0, ([], codes "PIN" ∷ codes "?" ∷ []))))
     ∷ (3, (lines.Operation, (0, ([], codes "LDP" ∷ []))))
     ∷ (4, (lines.Other, (1, ([], codes "0" ∷ codes "DAT" ∷ []))))
-    ∷ (5, (lines.End, (1, ([], codes "END" ∷ []))))
-    ∷ [])
-    ((codes "here", 0) ∷ (codes "x", 0) ∷ (codes "FOO", 1) ∷ [])
+    ∷ (5, (lines.End, (1, ([], codes "END" ∷ [])))) ∷ []) ((codes "here", 0) ∷ (codes "x", 0) ∷ (codes "FOO", 1) ∷ [])
 unfolding expansion replaced
 other_lines = refl
 
 from_redcode : gives (codes "x x\nROF\n ;ReDcOdEx\nDAT\n;redcode\nX NOP\nEND\n;redcode")
     ((4, (lines.Operation, (0, ([], codes "DAT" ∷ []))))
     ∷ (6, (lines.Operation, (1, ([], codes "NOP" ∷ []))))
-    ∷ (7, (lines.End, (2, ([], codes "END" ∷ []))))
-    ∷ [])
-    ((codes "X", 1) ∷ [])
+    ∷ (7, (lines.End, (2, ([], codes "END" ∷ [])))) ∷ []) ((codes "X", 1) ∷ [])
 unfolding expansion replaced
 from_redcode = refl
 
-second_definition : refused (codes "x DAT 0\nX DAT 0\nx DAT 1") (fault_at 3 kinds.DuplicateName)
+-- a second definition, a predefined label, a misspelt operation twice, a label twice on a line
+names_refused : AreRefused (
+    (codes "x DAT 0\nX DAT 0\nx DAT 1", fault_at 3 kinds.DuplicateName)
+    ∷ (codes "coresize DAT 0\nCORESIZE DAT 0", fault_at 2 kinds.DuplicateName)
+    ∷ (codes "MVO 0, 1\nMVO 0, 1", fault_at 2 kinds.DuplicateName)
+    ∷ (codes "x & x : DAT", fault_at 1 kinds.DuplicateName) ∷ [])
 unfolding expansion replaced
-second_definition = refl
-
-predefined_label : refused (codes "coresize DAT 0\nCORESIZE DAT 0") (fault_at 2 kinds.DuplicateName)
-unfolding expansion replaced
-predefined_label = refl
-
-misspelt_twice : refused (codes "MVO 0, 1\nMVO 0, 1") (fault_at 2 kinds.DuplicateName)
-unfolding expansion replaced
-misspelt_twice = refl
-
-label_twice_on_a_line : refused (codes "x & x : DAT") (fault_at 1 kinds.DuplicateName)
-unfolding expansion replaced
-label_twice_on_a_line = refl
+names_refused = (refl, (refl, (refl, (refl, tt))))
 
 -- ---- EQU
 
 -- the body stands for the name as tokens, not as a value
 body_as_tokens : gives (codes "x EQU 3+4 ; seven\nDAT 0, x*2")
-    ((2, (lines.Operation, (0, ([], codes "DAT" ∷ codes "0" ∷ codes "," ∷ codes "3" ∷ codes "+" ∷ codes "4" ∷ codes "*" ∷ codes "2" ∷ [])))) ∷ [])
-    []
+    ((2, (lines.Operation, (0, ([], codes "DAT" ∷ codes "0" ∷ codes "," ∷ codes "3" ∷ codes "+" ∷ codes "4" ∷ codes "*" ∷ codes "2" ∷ [])))) ∷ []) []
 unfolding expansion replaced
 body_as_tokens = refl
 
 -- a name may be defined by a later line, and one body may name another
-later_name : gives (codes "a EQU b+1\nb EQU 2\nDAT a*2")
-    ((3, (lines.Operation, (0, ([], codes "DAT" ∷ codes "2" ∷ codes "+" ∷ codes "1" ∷ codes "*" ∷ codes "2" ∷ [])))) ∷ [])
-    []
+later_name : gives (codes "a EQU b+1\nb EQU 2\nDAT a*2") ((3, (lines.Operation, (0, ([], codes "DAT" ∷ codes "2" ∷ codes "+" ∷ codes "1" ∷ codes "*" ∷ codes "2" ∷ [])))) ∷ []) []
 unfolding expansion replaced
 later_name = refl
 
@@ -109,9 +97,7 @@ later_name = refl
 labels_before_the_name : gives (codes "DAT\nx: y & m EQU .AB 1\nz MOV m\nORG m")
     ((1, (lines.Operation, (0, ([], codes "DAT" ∷ []))))
     ∷ (3, (lines.Operation, (1, ([], codes "MOV" ∷ codes "." ∷ codes "AB" ∷ codes "1" ∷ []))))
-    ∷ (4, (lines.Org, (2, ([], codes "ORG" ∷ codes "." ∷ codes "AB" ∷ codes "1" ∷ []))))
-    ∷ [])
-    ((codes "x", 1) ∷ (codes "y", 1) ∷ (codes "z", 1) ∷ [])
+    ∷ (4, (lines.Org, (2, ([], codes "ORG" ∷ codes "." ∷ codes "AB" ∷ codes "1" ∷ [])))) ∷ []) ((codes "x", 1) ∷ (codes "y", 1) ∷ (codes "z", 1) ∷ [])
 unfolding expansion replaced
 labels_before_the_name = refl
 
@@ -121,43 +107,26 @@ kinds_of_lines : gives (codes ";assert m,m\n;name m\nPIN m\n+ m\nm EQU 1\nEND m"
     ∷ (2, (lines.Name, (0, (codes " m", []))))
     ∷ (3, (lines.Other, (0, ([], codes "PIN" ∷ codes "m" ∷ []))))
     ∷ (4, (lines.Other, (0, ([], codes "+" ∷ codes "m" ∷ []))))
-    ∷ (6, (lines.End, (0, ([], codes "END" ∷ codes "1" ∷ []))))
-    ∷ [])
-    []
+    ∷ (6, (lines.End, (0, ([], codes "END" ∷ codes "1" ∷ [])))) ∷ []) []
 unfolding expansion replaced
 kinds_of_lines = refl
 
--- the names after a dot behind an operation are the modifier's
-modifier_left_alone : gives (codes "I EQU 5\nMOV.I I")
-    ((2, (lines.Operation, (0, ([], codes "MOV" ∷ codes "." ∷ codes "I" ∷ codes "5" ∷ [])))) ∷ [])
-    []
+-- the names after the dot of an operation are the modifier's
+modifier_left_alone : gives (codes "I EQU 5\nMOV.I I") ((2, (lines.Operation, (0, ([], codes "MOV" ∷ codes "." ∷ codes "I" ∷ codes "5" ∷ [])))) ∷ []) []
 unfolding expansion replaced
 modifier_left_alone = refl
-
-cycle : refused (codes "a EQU b b\nb EQU a a\nDAT 0, a") (fault_at 3 kinds.EquLimit)
-unfolding expansion replaced
-cycle = refl
 
 unused_cycle : gives (codes "a EQU a\nDAT") ((2, (lines.Operation, (0, ([], codes "DAT" ∷ [])))) ∷ []) []
 unfolding expansion replaced
 unused_cycle = refl
 
-no_name : refused (codes "EQU 3") (fault_at 1 kinds.BadEqu)
+-- a cycle, no name, no body, a word in a body, a name twice, a label and a name
+equs_refused : AreRefused (
+    (codes "a EQU b b\nb EQU a a\nDAT 0, a", fault_at 3 kinds.EquLimit)
+    ∷ (codes "EQU 3", fault_at 1 kinds.BadEqu)
+    ∷ (codes "x EQU ; none", fault_at 1 kinds.BadEqu)
+    ∷ (codes "x EQU 1, pin", fault_at 1 kinds.BadEqu)
+    ∷ (codes "x EQU 1\nx EQU", fault_at 2 kinds.DuplicateName)
+    ∷ (codes "x DAT\nx x EQU 1", fault_at 2 kinds.DuplicateName) ∷ [])
 unfolding expansion replaced
-no_name = refl
-
-no_body : refused (codes "x EQU ; none") (fault_at 1 kinds.BadEqu)
-unfolding expansion replaced
-no_body = refl
-
-word_in_a_body : refused (codes "x EQU 1, pin") (fault_at 1 kinds.BadEqu)
-unfolding expansion replaced
-word_in_a_body = refl
-
-name_twice : refused (codes "x EQU 1\nx EQU") (fault_at 2 kinds.DuplicateName)
-unfolding expansion replaced
-name_twice = refl
-
-label_and_name : refused (codes "x DAT\nx x EQU 1") (fault_at 2 kinds.DuplicateName)
-unfolding expansion replaced
-label_and_name = refl
+equs_refused = (refl, (refl, (refl, (refl, (refl, (refl, tt))))))

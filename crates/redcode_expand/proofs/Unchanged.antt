@@ -2,15 +2,10 @@
 use Rattle.std.proofs.Common.{◌≡◌, ℕ, ◌-◌, ◌<◌, ◌≤◌, true, false, nat_lt, if◌then◌else◌, List, [], ◌++◌, length, take, take_at, take_all, Option, Some, None, Ok, Err, append-nil, length-append, length-drop, drop, get_or, ◌+◌, lt-ltb, le-ltb, sym, ap, ◌∙◌, arith, ◌∷◌, Result, append_assoc, refl}
 use Rattle.std.proofs.lemmas.Bool.Decides.{nat_tests}
 use Rattle.std.proofs.lemmas.List.{drop_all, drop_more}
-use Rattle.war_types.specs.declared.fault.AsmFault.{AsmFault}
+use Rattle.redcode_expand.proofs.Words.{AsmFault, Piece, EquList, has_equ, LineKind}
 use Rattle.war_types.specs.declared.fault.AsmKind.TheVariants as kinds
-use Rattle.redcode_text.specs.Tokens.{Piece}
 use Rattle.redcode_names.specs.Gives.{Fails, fault_at, ◌>>=◌}
-use Rattle.redcode_names.specs.Equ.{EquList, has_equ}
-use Rattle.redcode_expand.specs.Expansion.{ExpandedLine, finished, line_replaced, all_replaced}
-use Rattle.redcode_names.specs.Name.{LabelList, Names}
-use Rattle.redcode_expand.specs.Walk.{WalkState}
-use Rattle.redcode_lines.specs.declared.line.LineKind.{LineKind}
+use Rattle.redcode_expand.specs.Expansion.{ExpandedLine, line_replaced, all_replaced}
 use Rattle.redcode_lines.specs.Operand.{behind_modifier, operands_of}
 use Rattle.redcode_names.proofs.Unchanged.{tokens-same, tokens-over}
 
@@ -35,7 +30,7 @@ pub line-over : (equs : EquList) (line : ExpandedLine) (operands : List Piece) (
     → has_equ equs operands ≡ false → 512 < length operands → fault ≡ fault_at line.source_line kinds.EquLimit → Fails fault (line_replaced equs line)
 line-over equs line operands fault h1 h2 h3 h4 = grind (arith, tokens-over)
 
--- ---- where there is no EQU
+-- ---- without EQUs
 
 none-named : (tokens : List Piece) → has_equ [] tokens ≡ false
 none-named [] = refl
@@ -60,7 +55,7 @@ short-kept line h = line-same [] line (operands_of line.kind line.tokens) refl (
 over-refused : (line : ExpandedLine) → nat_lt 512 (length (operands_of line.kind line.tokens)) ≡ true → line_replaced [] line ≡ Err (fault_at line.source_line kinds.EquLimit)
 over-refused line h = grind (arith, nat_tests, tokens-over, none-named)
 
--- where none has, all stay as they are
+-- if none has, all stay as they are
 pub all-short : (lines : List ExpandedLine) → first_over lines ≡ None → all_replaced [] lines ≡ Ok lines
 all-short [] h = refl
 all-short (line ∷ lines) h = grind (arith, short-kept, all-short lines)
@@ -79,7 +74,7 @@ over-first line others h = rw (lt-ltb 512 (length (operands_of line.kind line.to
 short-next : (line : ExpandedLine) (others : List ExpandedLine) → length (operands_of line.kind line.tokens) ≤ 512 → first_over (line ∷ others) ≡ first_over others
 short-next line others h = rw (le-ltb 512 (length (operands_of line.kind line.tokens)) h) refl
 
--- the line behind so many others has too many
+-- the line at this index has too many
 pub over-told : (lines : List ExpandedLine) (i : ℕ) (line : ExpandedLine) → i < length lines → line ≡ get_or lines i line → first_over (drop i lines) ≡ first_over lines
     → 512 < length (operands_of line.kind line.tokens) → all_replaced [] lines ≡ Err (fault_at line.source_line kinds.EquLimit)
 over-told lines i line h1 h2 h3 h4 = first-refused lines line.source_line (sym h3 ∙ ap first_over (drop-line lines i line h1 h2) ∙ over-first line (drop (i + 1) lines) h4)
@@ -96,16 +91,6 @@ none-over lines i h1 h2 = all-short lines (sym h2 ∙ ap first_over (drop_all i 
 pub no-equs : (equs : EquList) → length equs ≡ 0 → equs ≡ []
 no-equs [] h = refl
 no-equs (equ ∷ equs) h = grind arith
-
--- ---- what the walk has found
-
-pub finish-refused : (st : WalkState) (names : Names) (equs : EquList) (lines : List ExpandedLine) (fault : AsmFault) → st.names ≡ names → st.lines ≡ lines → equs ≡ names.equs
-    → Fails fault (all_replaced equs lines) → Fails fault (finished st)
-finish-refused st names equs lines fault h1 h2 h3 h4 = grind arith
-
-pub finish-plain : (st : WalkState) (names : Names) (labels : LabelList) (lines found : List ExpandedLine) → st.names ≡ names → st.lines ≡ lines → names.equs ≡ []
-    → labels ≡ names.labels → all_replaced [] lines ≡ Ok found → finished st ≡ Ok (record { lines = found; labels = labels })
-finish-plain st names labels lines found h1 h2 h3 h4 h5 = grind arith
 
 -- ---- all lines
 

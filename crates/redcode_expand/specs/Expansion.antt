@@ -1,9 +1,8 @@
 -- The expanded lines and the labels of a source, or the first fault in the order of the refusals.
-use Rattle.std.specs.Prelude.{ℕ, zero, suc, ◌-◌, nat_lt, if◌then◌else◌, List, [], ◌∷◌, ◌++◌, length, take, Option, None, Result, Ok, Err}
+use Rattle.std.specs.Prelude.{ℕ, ◌-◌, nat_lt, if◌then◌else◌, List, [], ◌∷◌, ◌++◌, length, take, Result, Ok, Err}
 use Rattle.war_types.specs.declared.fault.AsmKind.TheVariants as kinds
 use Rattle.war_types.specs.declared.fault.AsmFault.{AsmFault}
 use Rattle.war_types.specs.declared.settings.RawSettings.{RawSettings}
-use Rattle.redcode_text.specs.declared.vocabulary.Word.{Word}
 use Rattle.redcode_text.specs.Tokens.{Piece}
 use Rattle.redcode_lines.specs.declared.line.Line.{Line}
 use Rattle.redcode_lines.specs.declared.line.LineKind.{LineKind}
@@ -48,21 +47,3 @@ expansion_of_lines s live = walk_all s (parsed (source_lines live)) walk_begin >
 
 unfoldable pub expansion : RawSettings → List ℕ → Result Expansion AsmFault
 expansion s source = if nat_lt 65536 (length source) then Err (fault_at 0 kinds.SourceTooLong) else expansion_of_lines s (live_lines source)
-
--- the title of the line at this place
-abbrev pub title_at : List ExpandedLine → ℕ → List ℕ
-title_at [] i = []
-title_at (line ∷ others) zero = line.title
-title_at (line ∷ others) (suc i) = title_at others i
-
--- the word of the line at this place, where it has one
-abbrev pub line_word_at : List ExpandedLine → ℕ → Option Word
-line_word_at [] i = None
-line_word_at (line ∷ others) zero = line.word
-line_word_at (line ∷ others) (suc i) = line_word_at others i
-
--- the tokens of the line at this place
-abbrev pub tokens_at : List ExpandedLine → ℕ → List Piece
-tokens_at [] i = []
-tokens_at (line ∷ others) zero = line.tokens
-tokens_at (line ∷ others) (suc i) = tokens_at others i

@@ -19,14 +19,14 @@ has_loose s (token ∷ tokens) = (is_name token.kind && is_loose s token.text) |
 pub record Keeps (s : RawSettings) (old new : EquList) : Type 0 where
   pub same : (name : List ℕ) → (has_tokens (body_of old name) || is_some (predefined s 0 name)) ≡ true → body_of new name ≡ body_of old name
 
--- the tokens of a count ask for so many copies on every line
+-- the tokens of a count ask for n copies on every line
 pub record IsFixed (s : RawSettings) (line : ℕ) (equs : EquList) (tokens : List Piece) (n : ℕ) : Type 0 where
   pub left : List Piece
   pub replaces : replaced line equs tokens ≡ Ok left
   pub fixed : has_loose s left ≡ false
   pub copies : (before : ℕ) → count_by line (value_of (predefined s before) left) ≡ Ok n
 
--- where a count is said to be fixed, it is
+-- a count that is said to be fixed is
 pub record CountIsFixed (s : RawSettings) (line : ℕ) (equs : EquList) (tokens : List Piece) (told : Bool) (n : ℕ) : Type 0 where
   pub if_told : told ≡ true → IsFixed s line equs tokens n
 
@@ -41,11 +41,11 @@ abbrev pub count_of : Kept → Option ℕ
 count_of (kept.Copies n) = Some n
 count_of _ = None
 
--- what is kept of a line behind so many others
+-- what is kept of the line at this index
 abbrev pub kept_at : List (Option ℕ) → ℕ → Option ℕ
 kept_at counts at = slice_index_or counts at None
 
--- each count that is kept is that of the line at its place
+-- each count that is kept is that of the line at its index
 pub record AreKept (s : RawSettings) (lines : List SourceLine) (equs : EquList) (counts : List (Option ℕ)) : Type 0 where
   pub room : length counts ≡ length lines
   pub kept : (at : ℕ) → (line : SourceLine) → (n : ℕ) → at < length lines → drop at lines ≡ line ∷ drop (at + 1) lines → kept_at counts at ≡ Some n → IsKept s equs line n

@@ -20,7 +20,7 @@ written_out c (one_line line rest) = one_line (in_copy c line) (written_out c re
 written_out c (block for body rof rest) = block (in_copy c for) (written_out c body) (in_copy c rof) (written_out c rest)
 written_out c (open_for for) = open_for (in_copy c for)
 
--- a block is its body written out copy by copy, in each the tokens of its counter replaced, and each copy walked over in its turn
+-- a block is its body written out copy by copy, in each the tokens of its counter replaced, and the copies walked over one after another
 abbrev pub BlocksAreWrittenOut : RawSettings → Type 0
 BlocksAreWrittenOut s =
     (for : SourceLine) (body : Blocks) (rof : SourceLine) (rest : Blocks) (st : WalkState) → walk s [] (block for body rof rest) st
@@ -44,7 +44,7 @@ before_at [] i = 0
 before_at (line ∷ others) zero = line.before
 before_at (line ∷ others) (suc i) = before_at others i
 
--- so many instructions stand among the first lines, so many of them
+-- address is the number of instructions among the first lines, up to some line
 pub record IsPlace (lines : List ExpandedLine) (address : ℕ) : Type 0 where
   pub behind : ℕ
   pub within : behind ≤ length lines

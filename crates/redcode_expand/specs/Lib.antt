@@ -1,6 +1,6 @@
 -- the definition: the walk over the lines of a source, in the order in which they are written out
 pub mod Walk
--- and what it comes to, with the names of EQUs replaced
+-- and its result, with the names of EQUs replaced
 pub mod Expansion
 -- laws that hold of them
 pub mod Laws

@@ -12,7 +12,7 @@ use Rattle.redcode_expand.specs.declared.marked_lines.Edge.{Edge}
 use Rattle.redcode_expand.specs.declared.marked_lines.Edge.TheVariants as edges
 use Rattle.redcode_expand.specs.declared.marked_lines.Mark.{Mark}
 
--- the line behind so many others
+-- the line at this index
 abbrev pub line_in : List SourceLine → ℕ → SourceLine
 line_in lines at = slice_index_or lines at (source_line 0 forms.Statement None [] [] [])
 
@@ -22,7 +22,7 @@ edge_of (Some words.For) = edges.For
 edge_of (Some words.Rof) = edges.Rof
 edge_of _ = edges.Neither
 
--- nothing stands before its word, and no & behind it
+-- nothing stands before its word, and no & after it
 abbrev pub is_bare : SourceLine → Bool
 is_bare line = not (has_tokens line.front) && not (has_and line.tokens)
 
@@ -36,13 +36,13 @@ abbrev pub AreFromRof : List SourceLine → Type 0
 AreFromRof [] = ⊤
 AreFromRof (line ∷ lines) = line.word ≡ Some words.Rof
 
--- behind so many lines stands the first ROF that belongs to no FOR behind so many lines, or there is none
+-- rof is the index of the first ROF, from the line at body on, that belongs to no FOR from there on; or there is none
 pub record IsNextRof (lines : List SourceLine) (body rof : ℕ) : Type 0 where
   pub rofs : (parsed (drop rof lines)).1 ≡ (parsed (drop body lines)).1
   pub from : AreFromRof (drop rof lines)
   pub later : body ≤ rof
 
--- what is marked of the line behind so many others
+-- what is marked of the line at this index
 pub record IsMarked (lines : List SourceLine) (at : ℕ) (mark : Mark) : Type 0 where
   pub edge : mark.edge ≡ edge_of (line_in lines at).word
   pub bare : mark.is_bare ≡ is_bare (line_in lines at)
@@ -55,7 +55,7 @@ no_mark = record { edge = edges.For; is_bare = false; has_names = false; rof = 0
 abbrev pub mark_at : List Mark → ℕ → Mark
 mark_at marks at = slice_index_or marks at no_mark
 
--- so are all lines from one on
+-- all lines from this index on are marked so
 pub record AreMarked (from : ℕ) (lines : List SourceLine) (marks : List Mark) : Type 0 where
   pub room : length marks ≡ length lines
   pub marked : (at : ℕ) → from ≤ at → at < length lines → IsMarked lines at (mark_at marks at)

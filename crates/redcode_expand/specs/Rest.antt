@@ -18,11 +18,11 @@ pub record OpenBlock : Type 0 where
   pub number : ℕ
   -- with the number of the copy
   pub counter : Counter
-  -- copies behind this one
+  -- copies after this one
   pub left : ℕ
   -- lines counted before this copy
   pub start : ℕ
-  -- how many lines stand before its body
+  -- the index of the first line of its body
   pub body : ℕ
 
 abbrev pub open_block : ℕ → Counter → ℕ → ℕ → ℕ → OpenBlock
@@ -37,12 +37,12 @@ abbrev pub counters_of : List OpenBlock → List Counter
 counters_of [] = []
 counters_of (b ∷ bs) = counters_of bs ++ b.counter ∷ []
 
--- the copies behind the one that is being written
+-- the copies after the one that is being written
 abbrev pub more_copies : RawSettings → List SourceLine → List OpenBlock → OpenBlock → WalkState → Result WalkState AsmFault
 more_copies s lines outer b st =
     copies (λ number. walk s (counters_of outer ++ counter_of b.counter.name number ∷ []) (parsed (drop b.body lines)).0) b.number b.left (b.counter.number + 1) st
 
--- what is left behind the copy of the innermost block: the end of that copy, further ones, and what is behind the block's ROF
+-- what is left after the copy of the innermost block: the end of that copy, further copies, and what follows the block's ROF
 abbrev pub behind_copy : RawSettings → List SourceLine → List OpenBlock → List (SourceLine × Blocks) → WalkState → Result WalkState AsmFault
 behind_copy s lines [] rofs st = until_end (unmatched rofs) st
 behind_copy s lines (b ∷ bs) [] st = Ok st
@@ -69,24 +69,24 @@ counts (b ∷ bs) st = if nat_eq st.counted b.start then 0 else 1
 abbrev pub steps_left : List SourceLine → List OpenBlock → ℕ → WalkState → ℕ
 steps_left lines blocks at st = (4096 - st.counted) * 131074 + (counts blocks st * 65537 + (length lines - at))
 
--- how the walk goes on within these blocks behind so many lines, where this was due and fewer steps than these are left
+-- how the walk goes on within these blocks at the line of this index: what is left is what was due, and fewer steps than these are left
 pub record GoesOn (s : RawSettings) (lines : List SourceLine) (due : Result WalkState AsmFault) (steps : ℕ) (blocks : List OpenBlock) (at : ℕ) (st : WalkState) : Type 0 where
   pub rest : rest_of s lines blocks (parsed (drop at lines)) st ≡ due
   pub opened : AreOpen lines blocks (parsed (drop at lines)).1
   pub less : steps_left lines blocks at st < steps
 
--- where a FOR is told to have no ROF it has none, and elsewhere it has one or stands within a block
+-- a FOR that is said to have no ROF has none; any other has one or stands within a block
 abbrev pub IsUnmatched : Bool → List OpenBlock → List (SourceLine × Blocks) → Type 0
 IsUnmatched true blocks rofs = rofs ≡ []
 IsUnmatched false blocks [] = has_none blocks ≡ false
 IsUnmatched false blocks (rof ∷ rofs) = ⊤
 
--- what is left behind the ROF of a block of this line number without a copy
+-- what is left after the ROF of a block without a copy, whose FOR has this line number
 abbrev pub rest_behind : RawSettings → List SourceLine → List OpenBlock → ℕ → List (SourceLine × Blocks) → WalkState → Result WalkState AsmFault
 rest_behind s lines blocks number [] st = Err (fault_at number kinds.UnmatchedFor)
 rest_behind s lines blocks number (rof ∷ rofs) st = closed s (counters_of blocks) rof.0 st >>= rest_of s lines blocks (rof.1, rofs)
 
--- how the walk goes on behind the ROF of a block whose body stands behind so many lines
+-- how the walk goes on after the ROF of a block whose body begins at the line of this index
 pub record Passes (s : RawSettings) (lines : List SourceLine) (due : Result WalkState AsmFault) (blocks : List OpenBlock) (body : ℕ) (old : WalkState) (at : ℕ) (st : WalkState) : Type 0 where
   pub rest : rest_of s lines blocks (parsed (drop at lines)) st ≡ due
   pub rofs : (parsed (drop at lines)).1 ≡ drop 1 (parsed (drop body lines)).1
@@ -98,12 +98,12 @@ abbrev pub counters_in : List OpenBlock → List Counter
 counters_in [] = []
 counters_in (b ∷ bs) = b.counter ∷ counters_in bs
 
--- where the first of the blocks stands whose counter has this name
+-- the index of the first of the blocks whose counter has this name
 abbrev pub place_in : List OpenBlock → List ℕ → Option ℕ
 place_in [] name = None
 place_in (b ∷ bs) name = if bytes_eq name b.counter.name then Some 0 else option_map (λ place. suc place) (place_in bs name)
 
--- of each counter's name this is the place of the first block that has it, the outermost block being the first
+-- each counter's name has the index of the first block that has it, the outermost block being the first
 abbrev pub ArePlaced : LabelList → List OpenBlock → Type 0
 ArePlaced places bs = (name : List ℕ) → (place : ℕ) → place_in bs name ≡ Some place → address_of places name ≡ Some place
 

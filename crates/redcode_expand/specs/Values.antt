@@ -7,6 +7,6 @@ abbrev pub or_value : Option ℕ → Option ℤ → Option ℤ
 or_value None value = value
 or_value (Some n) value = Some (pos n)
 
--- the values of names where those of counters come first
+-- the values of names, in which those of counters come first
 abbrev pub counter_values : List Counter → (List ℕ → Option ℤ) → List ℕ → Option ℤ
 counter_values cs names name = or_value (number_of cs name) (names name)

@@ -24,13 +24,13 @@ pub record ExpandedLine : Type 0 where
   -- its number in the source, counted from 1
   pub source_line : ℕ
   pub kind : LineKind
-  -- its word, where it has one
+  -- its word, if it has one
   pub word : Option Word
   -- instructions before it
   pub before : ℕ
-  -- of a name or an author the text behind that word
+  -- of a name or an author the text after that word
   pub title : List ℕ
-  -- of an operation, ORG or END from the word on, of an assertion behind its word, of another line behind its labels
+  -- of an operation, ORG or END from the word on, of an assertion after its word, of another line after its labels
   pub tokens : List Piece
 
 -- how far the walk has come
@@ -67,7 +67,7 @@ abbrev pub with_line : ℕ → LineKind → Option Word → List ℕ → List Pi
 with_line line kind word title tokens st =
     record st { lines = st.lines ++ record { source_line = line; kind = kind; word = word; before = st.before; title = title; tokens = tokens } ∷ [] }
 
--- a line with nothing behind its labels is no line of the expanded source
+-- a line with nothing after its labels is no line of the expanded source
 abbrev pub with_other : ℕ → List Piece → WalkState → WalkState
 with_other line [] st = st
 with_other line (token ∷ tokens) st = with_line line lines.Other None [] (token ∷ tokens) st
@@ -126,12 +126,12 @@ step s counters line st = step_as s (in_copies counters line) st
 
 -- ---- blocks
 
--- no copy where the count is negative
+-- no copy if the count is negative
 abbrev pub copies_by : ℤ → ℕ
 copies_by (pos n) = n
 copies_by (negsuc n) = 0
 
--- so many copies, or the fault of a count
+-- the number of copies, or the fault of a count
 abbrev pub count_by : ℕ → Result ℤ ExprFault → Result ℕ AsmFault
 count_by line (Ok count) = Ok (copies_by count)
 count_by line (Err fault) = Err (fault_at line (kinds.ForCount fault))
@@ -163,15 +163,15 @@ begun s counters line st = begun_of s (in_copies counters line) st
 abbrev pub closed : RawSettings → List Counter → SourceLine → WalkState → Result WalkState AsmFault
 closed s counters line st = labelled s line.number (labels_of (in_copies counters line)) st
 
--- behind an END nothing counts
+-- after an END nothing counts
 abbrev pub until_end : (WalkState → Result WalkState AsmFault) → WalkState → Result WalkState AsmFault
 until_end rest st = if st.ended then Ok st else rest st
 
--- the end of a copy that began with so many lines counted: it counts where nothing in it did
+-- the end of a copy that began when `start` lines were counted: it counts if nothing in it did
 abbrev pub copied : ℕ → ℕ → WalkState → Result WalkState AsmFault
 copied line start st = if nat_eq st.counted start then counted line st else Ok st
 
--- so many copies, from this number on
+-- this many copies of a body, numbered from `number` on
 abbrev pub copies : (ℕ → WalkState → Result WalkState AsmFault) → ℕ → ℕ → ℕ → WalkState → Result WalkState AsmFault
 copies body line zero number st = Ok st
 copies body line (suc n) number st = until_end (λ st. body number st >>= until_end (copied line st.counted) >>= copies body line n (number + 1)) st
@@ -201,7 +201,7 @@ pub record IsWalk (st : WalkState) : Type 0 where
   pub before : st.before ≤ st.counted
   pub counted : st.counted ≤ 4096
 
--- a copy that began with so many lines counted added one if it had none
+-- a copy that began when `start` lines were counted added one if none counted in it
 pub record IsCopied (start old new : ℕ) : Type 0 where
   pub counts : old ≡ start → (new ≡ old + 1) × (old < 4096)
   pub stays : old ≢ start → new ≡ old

@@ -23,12 +23,12 @@ use std::alloc::Allocator;
 use war_types::{AsmFault, Settings};
 
 /// How a block begins.
-#[derive(Clone, Copy, Debug)]
+#[derive(Clone, Copy)]
 pub(crate) struct Begun<'s> {
-    /// The counter's name, empty where there is none.
+    /// The counter's name, empty if there is none.
     pub counter: &'s [u8],
     pub copies: u64,
-    /// Whether the count asks for so many on every line, and whatever EQUs there are later.
+    /// Whether the count asks for the same number on every line, whatever `EQU`s follow.
     pub is_fixed: bool,
 }
 
@@ -69,23 +69,25 @@ impl<'s, A: Allocator + Copy> Walk<'s, A> {
             .names
             .define_earlier(settings, number, before, line.labels())?;
         let count = behind_first(line.tokens);
-        let copies = copies_of(
+        match copies_of(
             self.alloc,
             settings,
             number,
             before,
             &self.names.equs,
             count,
-        )?;
-        Ok(Begun {
-            counter,
-            copies: copies.count,
-            is_fixed: copies.is_fixed,
-        })
+        ) {
+            Ok(copies) => Ok(Begun {
+                counter,
+                copies: copies.count,
+                is_fixed: copies.is_fixed,
+            }),
+            Err(fault) => Err(fault),
+        }
     }
 }
 
-/// How a block begins: by its labels and its count, or by its count alone where it has no labels.
+/// How a block begins: by its labels and its count, or by its count alone if it has no labels.
 pub(crate) fn begun_at<'s, A: Allocator + Copy>(
     settings: &Settings,
     walk: &mut Walk<'s, A>,
@@ -127,8 +129,8 @@ fn names_counter<A: Allocator + Copy>(
     lines.has_names(at) && blocks.are_among(behind_first(lines.reading(at).tokens))
 }
 
-/// How a block without labels begins whose count names no counter: by the count that is kept, or by one that is worked out, and
-/// kept where it stays the same.
+/// How a block without labels begins whose count names no counter. The count is the kept one, or is computed now, and kept if it stays
+/// the same.
 fn begun_outside<'s, A: Allocator + Copy>(
     settings: &Settings,
     walk: &mut Walk<'s, A>,
@@ -151,13 +153,17 @@ fn begun_outside<'s, A: Allocator + Copy>(
     if let Some(copies) = counts.at(at) {
         return Ok(begun_by(copies));
     }
-    let begun = walk.begin_as(settings, lines.reading(at))?;
-    counts.learn(at, begun.copies, begun.is_fixed);
-    Ok(begun)
+    match walk.begin_as(settings, lines.reading(at)) {
+        Ok(begun) => {
+            counts.learn(at, begun.copies, begun.is_fixed);
+            Ok(begun)
+        }
+        Err(fault) => Err(fault),
+    }
 }
 
-/// How a block without labels begins whose count may hang on counters: by its tokens as they stand in the source, where that
-/// gives the same.
+/// How a block without labels begins whose count may depend on counters: by its tokens as they stand in the source, if that gives the
+/// same.
 fn begun_within<'s, A: Allocator + Copy>(
     settings: &Settings,
     walk: &mut Walk<'s, A>,
@@ -177,11 +183,13 @@ fn begun_within<'s, A: Allocator + Copy>(
         let begun = walk.begin(settings, blocks, line)?;
         return Ok(begun);
     }
-    let copies = count_within(settings, line.number, walk.before(), blocks, count)?;
-    Ok(begun_by(copies))
+    match count_within(settings, line.number, walk.before(), blocks, count) {
+        Ok(copies) => Ok(begun_by(copies)),
+        Err(fault) => Err(fault),
+    }
 }
 
-/// How a block begins that has no counter's name, and so many copies.
+/// A block with this number of copies, whose counter has no name.
 fn begun_by<'s>(copies: u64) -> Begun<'s>
     ensures counter { result.counter.now ≡ [] }
     ensures copies { result.copies ≡ copies }

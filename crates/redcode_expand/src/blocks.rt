@@ -35,9 +35,25 @@ pub(crate) fn walk_all<'s, A: Allocator + Copy>(
 {
     let mut counts = Counts::new(alloc, lines.len())?;
     let lines = MarkedLines::new(alloc, lines)?;
+    walk_marked(alloc, region, settings, hash, &mut counts, &lines)
+}
+
+/// Walks over all lines, with no count kept.
+fn walk_marked<'s, A: Allocator + Copy>(
+    alloc: A,
+    region: &'s Bump<A>,
+    settings: &Settings,
+    hash: NameHash,
+    counts: &mut Counts<A>,
+    lines: &MarkedLines<'_, 's, A>,
+) -> Result<Walk<'s, A>, AsmFault>
+    requires few { length lines.now ≤ 65536 }
+    requires kept { AreKept settings.now lines.now [] counts.old }
+    ensures { Gives (λ walk. walk) result (walk_all settings.now (parsed lines.now) walk_begin) }
+{
     let mut walk = Walk::new(alloc, hash);
     let blocks = OpenBlocks::new(alloc, region, hash);
-    walk_lines(settings, &mut walk, blocks, &mut counts, &lines)?;
+    walk_lines(settings, &mut walk, blocks, counts, lines)?;
     Ok(walk)
 }
 
@@ -62,8 +78,8 @@ fn walk_lines<'s, A: Allocator + Copy>(
     Ok(())
 }
 
-/// Walks over the line behind so many others, within blocks. The answer is how many lines stand before the one that is
-/// walked over next: that behind it, or the first of a further copy.
+/// Walks over the line at index `at`, within blocks. The answer is the index of the line to walk over next: the line after it, or the
+/// first of a further copy.
 fn step<'s, A: Allocator + Copy>(
     settings: &Settings,
     walk: &mut Walk<'s, A>,
@@ -92,7 +108,7 @@ fn step<'s, A: Allocator + Copy>(
     }
 }
 
-/// Walks over the `FOR` of a block: on to its first copy, or past it where there is none.
+/// Walks over the `FOR` of a block: on to its first copy, or past the block if it has none.
 fn begin<'s, A: Allocator + Copy>(
     settings: &Settings,
     walk: &mut Walk<'s, A>,
@@ -132,7 +148,7 @@ fn begin<'s, A: Allocator + Copy>(
     Ok(body)
 }
 
-/// How many lines stand before the one behind a block of which it is known, before it is read, that it has no copy and no labels.
+/// If this block is known to write nothing and define nothing, the index of the line after it.
 fn behind_empty<'s, A: Allocator + Copy>(
     settings: &Settings,
     walk: &Walk<'s, A>,
@@ -192,7 +208,7 @@ fn is_unmatched<A: Allocator + Copy>(
     blocks.is_empty() && lines.rof_behind(at) >= lines.len()
 }
 
-/// Walks from the `FOR` of a block without a copy to behind its `ROF`.
+/// Walks from the `FOR` of a block without a copy past its `ROF`.
 fn pass<'s, A: Allocator + Copy>(
     settings: &Settings,
     walk: &mut Walk<'s, A>,
@@ -214,7 +230,7 @@ fn pass<'s, A: Allocator + Copy>(
     Ok(rof + 1)
 }
 
-/// Walks over the `ROF` of the innermost block: on to its next copy, or past it where there is none.
+/// Walks over the `ROF` of the innermost block: on to its next copy, or past the block if there is none.
 fn end_copy<'s, A: Allocator + Copy>(
     settings: &Settings,
     walk: &mut Walk<'s, A>,

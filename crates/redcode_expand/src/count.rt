@@ -35,11 +35,11 @@ impl<'e> Names for Predefined<'e> {
 #[derive(Clone, Copy)]
 pub(crate) struct Copies {
     pub count: u64,
-    /// Whether it asks for so many on every line, and whatever EQUs there are later.
+    /// Whether it asks for the same number on every line, whatever `EQU`s follow.
     pub is_fixed: bool,
 }
 
-/// How many copies a count asks for: none where its value is negative. The names of the `EQU`s so far are replaced in it.
+/// How many copies a count asks for: none if its value is negative. The names of the `EQU`s so far are replaced in it.
 pub(crate) fn copies_of<'s, A: Allocator + Copy>(
     alloc: A,
     settings: &Settings,
@@ -59,7 +59,7 @@ pub(crate) fn copies_of<'s, A: Allocator + Copy>(
     Ok(Copies { count, is_fixed })
 }
 
-/// How many copies a count asks for by the values of names.
+/// How many copies a count asks for, with these values of names.
 pub(crate) fn counted<N: Names>(line: u32, tokens: &[Token<'_>], names: &N) -> Result<u64, AsmFault>
     ensures copies { Gives (λ n. n) result (count_by line (value_of (N.values names.now) (pieces tokens.now))) }
     ensures few { IfOk result (λ n. n < 2 ^ 63) }

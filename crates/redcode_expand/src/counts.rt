@@ -4,9 +4,9 @@ use std::alloc::{AllocError, Allocator};
 use std::marker::Model;
 
 /// What is kept of the count of a block.
-#[derive(Clone, Copy, Debug)]
+#[derive(Clone, Copy)]
 pub(crate) enum Kept {
-    /// Nothing: it wasn't worked out so far.
+    /// Nothing: it wasn't computed so far.
     Nothing,
     /// It stays the same.
     Copies(u64),
@@ -14,7 +14,7 @@ pub(crate) enum Kept {
     Changing,
 }
 
-/// For each line of a source what is kept of the count of its block.
+/// What is kept, for each line of a source, of the count of its block.
 #[derive(Drop)]
 pub(crate) struct Counts<A: Allocator> {
     counts: Vec<Kept, A>,
@@ -33,7 +33,7 @@ impl<A: Allocator> Counts<A> {
     ghost use Rattle.std.specs.Prelude.{◌≡◌, ◌<◌, length, replicate, slice_set, if◌then◌else◌, true, IfOk, None, Some};
     ghost use Rattle.redcode_expand.specs.Kept.{kept_at};
 
-    /// Nothing is kept of so many lines.
+    /// Counts for this number of lines, of which none is kept.
     pub(crate) fn new(alloc: A, lines: usize) -> Result<Counts<A>, AllocError>
         ensures { IfOk result (λ counts. counts ≡ replicate lines None) }
     {
@@ -42,7 +42,7 @@ impl<A: Allocator> Counts<A> {
         })
     }
 
-    /// The count that is kept of the line behind so many others.
+    /// The count that is kept of the line at index `place`.
     pub(crate) fn at(&self, place: usize) -> Option<u64>
         requires { place < length self.now }
         ensures { result ≡ kept_at self.now place }
@@ -61,14 +61,14 @@ impl<A: Allocator> Counts<A> {
         matches!(self.counts[place], Kept::Copies(0))
     }
 
-    /// Whether it is known that nothing is kept of that line.
+    /// Whether the count of that line is known to change.
     pub(crate) fn is_changing(&self, place: usize) -> bool
         requires { place < length self.now }
     {
         matches!(self.counts[place], Kept::Changing)
     }
 
-    /// Keeps the count of the line behind so many others, if it stays the same.
+    /// Keeps the count of the line at index `place`, if it stays the same.
     pub(crate) fn learn(&mut self, place: usize, copies: u64, is_fixed: bool)
         requires { place < length self.old }
         ensures { self.new ≡ (if is_fixed then slice_set self.old place (Some copies) else self.old) }
@@ -80,7 +80,7 @@ impl<A: Allocator> Counts<A> {
         }
     }
 
-    /// Where nothing is kept of the line behind so many others, nothing will be.
+    /// Notes that the count of the line at index `place` may change, unless one is kept.
     pub(crate) fn forgo(&mut self, place: usize)
         requires { place < length self.old }
         ensures { self.new ≡ self.old }

@@ -1,4 +1,4 @@
-//! A line of an expanded source, with its texts.
+//! Lines of an expanded source.
 
 use redcode_lines::Line;
 use redcode_text::{Token, Word};
@@ -10,13 +10,13 @@ use std::marker::Model;
 pub struct Entry<'s, A: Allocator> {
     /// Its number in the source, its kind, and the instructions before it.
     pub line: Line,
-    /// The word of the line, where it has one.
+    /// The word of the line, if it has one.
     pub word: Option<Word>,
-    /// The text behind the word of a `;name` or an `;author` line; empty for other lines.
+    /// The text after the word of a `;name` or an `;author` line; empty for other lines.
     pub title: &'s [u8],
-    /// The tokens of an operation, `ORG` or `END` from that word on, of an assertion all behind its word, of another line all
-    /// behind its labels, of `;name` and `;author` none. In operands and expressions the names of `EQU` lines are replaced. A
-    /// comment at the end is left out.
+    /// The tokens of an operation, `ORG` or `END` from that word on. Of an assertion those after its word, of `;name` and `;author`
+    /// none, of any other line those after its labels. In operands and expressions the names of `EQU` lines are replaced. A comment
+    /// at the end is left out.
     pub tokens: Vec<Token<'s>, A>,
 }
 

@@ -1,6 +1,6 @@
-//! The lines of a source written out, with the names of `EQU`s replaced in their operands.
+//! The lines of a source written out, with the names of `EQU`s in their operands replaced.
 
-ghost use Rattle.std.specs.Prelude.{◌≡◌, ◌<◌, [], length, IfOk, Err};
+ghost use Rattle.std.specs.Prelude.{◌≡◌, ◌<◌, ◌++◌, [], length, IfOk, Err};
 ghost use Rattle.redcode_names.specs.Gives.{Gives, fault_at};
 ghost use Rattle.redcode_expand.specs.Laws.{AreCounted, BlocksAreWrittenOut};
 ghost use Rattle.war_types.specs.declared.fault.AsmKind.TheVariants.{SourceTooLong};
@@ -10,12 +10,13 @@ use crate::blocks::walk_all;
 use crate::entry::Entry;
 use bumpalo::Bump;
 use redcode_lines::{live_source, operands_of, source_lines};
-use redcode_names::{Equs, Labels, LinkedEqus, NameHash, TOKEN_LIMIT, too_many, written};
-use std::alloc::Allocator;
+use redcode_names::{Equs, Labels, LinkedEqus, NameHash, Names, TOKEN_LIMIT, too_many, written};
+use redcode_text::Token;
+use std::alloc::{AllocError, Allocator};
 use std::marker::Model;
 use war_types::{AsmFault, AsmKind, Settings};
 
-/// Bytes that a source has at most.
+/// The most bytes that a source may have.
 pub const SOURCE_LIMIT: usize = 65_536;
 
 /// The lines of a source written out, and its labels.
@@ -33,17 +34,17 @@ impl<'s, A: Allocator + Copy> Model for Expanded<'s, A> {
     ghost view = { λ e. record { lines = e.entries.items; labels = e.labels } };
 }
 
-/// Writes out the lines of a source: of a block from `FOR` to `ROF` its body, as often as the count says, each copy in its turn.
+/// Writes out the lines of a source: of a block from `FOR` to `ROF` its body, as often as the count says, one copy after another.
 ///
-/// A source of more than 65,536 bytes is refused as `SourceTooLong` on line 0. Then the first line of those written out, up to the
-/// first `END`, that earns one of these: a `FOR` without its `ROF`, as `UnmatchedFor`; a `ROF` without its `FOR`, as
-/// `UnmatchedRof`; a line past the 4,096 that count, or the `FOR` of a copy in which nothing counts where there are as many, as
-/// `ForLimit`; a name defined a second time or a predefined one, as `DuplicateName`; an `EQU` without a name or a body, or with
-/// a reserved word in it, as `BadEqu`; the count of a `FOR`, as `EquLimit` where it has more than 512 tokens before or after one of
-/// 16 rounds of replacement, or the name of an `EQU` after the last, and as `ForCount` where it has no value. Then the first line
-/// whose operands have so many tokens, or such a name, as `EquLimit`. `Memory` stands only where a growth was refused.
+/// A source of more than 65,536 bytes is refused as `SourceTooLong` on line 0. Then the first line is refused, of those written out up
+/// to the first `END`, that has one of these faults. `UnmatchedFor`, `UnmatchedRof`: a `FOR` or a `ROF` without the other. `ForLimit`: a
+/// line past the 4,096 that count, or, once these are reached, the `FOR` of a copy in which nothing counts. `DuplicateName`: a name
+/// defined a second time, or a predefined one. `BadEqu`: an `EQU` without a name or a body, or with a reserved word in its body.
+/// `EquLimit`: a count of more than 512 tokens before or after one of 16 rounds of replacement, or with the name of an `EQU` after the
+/// last round. `ForCount`: a count that has no value. Then the first line is refused as `EquLimit` whose operands break these limits.
+/// `Memory` is answered only if an allocation failed.
 ///
-/// What is made, the numbers of copies and the names that are joined to them, lies in the region.
+/// The numbers of copies, and the names that are joined to them, lie in the region.
 #[tactic(auto, unfolding(crate::specs::Expansion::expansion))]
 pub fn expand<'s, A: Allocator + Copy>(
     alloc: A,
@@ -69,15 +70,15 @@ pub fn expand<'s, A: Allocator + Copy>(
 }
 
 impl<'s, A: Allocator + Copy> Expanded<'s, A> {
-    /// The lines, up to and with the first `END`. Blank lines, comments, lines of labels alone and those of `EQU`, `FOR` and `ROF` are
-    /// left out.
+    /// The lines, up to and with the first `END`. Blank lines, comments, lines of labels alone and `EQU`, `FOR` and `ROF` lines are left
+    /// out.
     pub fn entries(&self) -> &[Entry<'s, A>]
         ensures { result.now ≡ self.now.lines }
     {
         self.entries.as_slice()
     }
 
-    /// The address of a label: how many instructions stand before it.
+    /// The address of a label: the number of instructions before it.
     pub fn label(&self, name: &[u8]) -> Option<u32>
         ensures { result ≡ address_of self.now.labels name.now }
     {
@@ -86,7 +87,7 @@ impl<'s, A: Allocator + Copy> Expanded<'s, A> {
 }
 
 /// The lines of a source without EQUs: as they are, but for one that has too many operands.
-pub(crate) fn unchanged<'s, A: Allocator + Copy>(
+fn unchanged<'s, A: Allocator + Copy>(
     entries: Vec<Entry<'s, A>, A>,
 ) -> Result<Vec<Entry<'s, A>, A>, AsmFault>
     ensures { Gives (λ lines. lines.items) result (all_replaced [] entries.entry.items) }
@@ -101,7 +102,7 @@ pub(crate) fn unchanged<'s, A: Allocator + Copy>(
 }
 
 /// Replaces the names of EQUs in the operands of all lines.
-pub(crate) fn replace_all<'s, A: Allocator + Copy>(
+fn replace_all<'s, A: Allocator + Copy>(
     alloc: A,
     equs: &Equs<'s, A>,
     entries: Vec<Entry<'s, A>, A>,
@@ -109,9 +110,21 @@ pub(crate) fn replace_all<'s, A: Allocator + Copy>(
     ensures { Gives (λ lines. lines.items) result (all_replaced equs.now entries.entry.items) }
 {
     let linked = LinkedEqus::new(alloc, equs)?;
+    replace_each(alloc, &linked, entries)
+}
+
+/// The same with the bodies linked.
+fn replace_each<'s, A: Allocator + Copy>(
+    alloc: A,
+    equs: &LinkedEqus<'_, 's, A>,
+    entries: Vec<Entry<'s, A>, A>,
+) -> Result<Vec<Entry<'s, A>, A>, AsmFault>
+    ensures { Gives (λ lines. lines.items) result (all_replaced equs.now entries.entry.items) }
+{
     let mut lines = Vec::with_capacity(alloc, entries.len())?;
     for entry in entries {
-        lines.push(replace_in(alloc, &linked, entry)?)?;
+        let line = replace_in(alloc, equs, entry)?;
+        lines.push(line)?;
     }
     Ok(lines)
 }
@@ -135,13 +148,39 @@ fn replace_in<'s, A: Allocator + Copy>(
     }
     let before = &tokens[..tokens.len() - operands.len()];
     let operands = written(alloc, equs, line.source_line, operands, operands.len())?;
-    let mut all = Vec::with_capacity(alloc, before.len().saturating_add(operands.len()))?;
-    all.extend_from_slice(before)?;
-    all.extend_from_slice(operands.as_slice())?;
+    let tokens = joined(alloc, before, operands.as_slice())?;
     Ok(Entry {
         line,
         word: entry.word,
         title: entry.title,
-        tokens: all,
+        tokens,
     })
+}
+
+/// The tokens `before`, and then `after`.
+fn joined<'s, A: Allocator + Copy>(
+    alloc: A,
+    before: &[Token<'s>],
+    behind: &[Token<'s>],
+) -> Result<Vec<Token<'s>, A>, AllocError>
+    ensures { IfOk result (λ all. all.items ≡ before.now ++ behind.now) }
+{
+    let mut all = Vec::with_capacity(alloc, before.len().saturating_add(behind.len()))?;
+    all.extend_from_slice(before)?;
+    all.extend_from_slice(behind)?;
+    Ok(all)
+}
+
+/// The lines with the names of these `EQU`s replaced in their operands.
+pub(crate) fn names_replaced<'s, A: Allocator + Copy>(
+    alloc: A,
+    names: &Names<'s, A>,
+    entries: Vec<Entry<'s, A>, A>,
+) -> Result<Vec<Entry<'s, A>, A>, AsmFault>
+    ensures { Gives (λ lines. lines.items) result (all_replaced names.now.equs entries.entry.items) }
+{
+    if names.has_no_equs() {
+        return unchanged(entries);
+    }
+    replace_all(alloc, &names.equs, entries)
 }

@@ -1,13 +1,13 @@
 //! A source written out: its blocks copy by copy, the names of its `EQU`s replaced, its labels with their addresses.
 //!
-//! `marked_lines` pairs each `FOR` with its `ROF`; `blocks` goes from line to line and from copy to copy, with the blocks that are open in
-//! `open_blocks`; `beginning` is what a `FOR` does, with the counts of blocks in `count`, `counts` and `values`; `walk` is what another
-//! line does: it counts, defines names, and is a line of the expanded source (`entry`); `expanded` replaces the names of `EQU`s when all
-//! are known, and is what comes of it.
+//! `marked_lines` pairs each `FOR` with its `ROF`. `blocks` goes from line to line and from copy to copy, with the blocks that are open in
+//! `open_blocks`. `beginning` is what a `FOR` does, with the counts of blocks in `count`, `counts` and `values`. `walk` is what any other
+//! line does: it counts, defines names, and is a line of the expanded source (`entry`). `expanded` replaces the names of `EQU`s when all
+//! are known, and has the result.
 //!
 //! The main clause: `expand` answers the definition of `Expansion` in `specs`, the lines and labels or the first refusal that is due, or
-//! lacks memory. A block without a copy counts nothing and may be met millions of times, so what such a one costs is looked after: its
-//! count is kept where it stays the same, and else read as it stands, and where nothing in it is to be read it is passed at once.
+//! runs out of memory. A block without a copy counts nothing and may be met millions of times, so it must cost little. Its count is kept
+//! if it stays the same, and otherwise read as it stands in the source. A block in which nothing is to be read is passed at once.
 #![tactic(auto)]
 
 mod beginning;

@@ -1,12 +1,12 @@
 //! The lines of a source, with what the walk has to know of each before it reads it.
 //!
-//! A block without a copy counts nothing and may be met millions of times, so a `FOR` is paired with its `ROF` once, and of both is
-//! known whether there is anything to read.
+//! A block without a copy counts nothing and may be met millions of times. So a `FOR` is paired with its `ROF` once, and the marks of both
+//! say whether there is anything to read.
 
-ghost use Rattle.std.specs.Prelude.{◌≡◌, ◌+◌, ◌<◌, drop, length};
+ghost use Rattle.std.specs.Prelude.{◌≡◌, ◌+◌, ◌<◌, ◌∷◌, drop, length, IfOk};
 ghost use Rattle.redcode_text.specs.Tokens.{pieces};
 ghost use Rattle.redcode_lines.specs.Views.{line_read};
-ghost use Rattle.redcode_expand.specs.Marks.{edge_of, has_name, is_bare, AreMarked, IsNextRof};
+ghost use Rattle.redcode_expand.specs.Marks.{edge_of, has_name, is_bare, line_in, AreMarked, IsNextRof};
 
 use redcode_lines::{Reading, SourceLine, behind_first, has_and, is_name, line_at};
 use redcode_text::{Token, Word};
@@ -14,7 +14,7 @@ use std::alloc::{AllocError, Allocator};
 use std::marker::Model;
 
 /// What a line is to a block.
-#[derive(Clone, Copy, Debug, PartialEq, Eq)]
+#[derive(Clone, Copy)]
 pub(crate) enum Edge {
     /// It begins one.
     For,
@@ -24,14 +24,14 @@ pub(crate) enum Edge {
 }
 
 /// What the walk has to know of a line.
-#[derive(Clone, Copy, Debug)]
+#[derive(Clone, Copy)]
 pub(crate) struct Mark {
     pub edge: Edge,
-    /// Whether nothing stands before its word, and no `&` behind it.
+    /// Whether nothing stands before its word, and no `&` after it.
     pub is_bare: bool,
-    /// Whether a name is among the tokens behind its first.
+    /// Whether a name is among the tokens after its first.
     pub has_names: bool,
-    /// How many lines stand before the first `ROF` behind it whose `FOR` isn't behind it, too; at least all where there is none.
+    /// The index of the `ROF` that matches this `FOR`, or that ends the block of any other line; `lines.len()` or more if there is none.
     pub rof: usize,
 }
 
@@ -55,10 +55,6 @@ impl<'l, 's, A: Allocator> Model for MarkedLines<'l, 's, A> {
 }
 
 impl<'l, 's, A: Allocator + Copy> MarkedLines<'l, 's, A> {
-    ghost use Rattle.std.specs.Prelude.{◌≡◌, ◌+◌, ◌<◌, ◌∷◌, drop, length, IfOk};
-    ghost use Rattle.redcode_lines.specs.Views.{line_read};
-    ghost use Rattle.redcode_expand.specs.Marks.{edge_of, has_name, is_bare, line_in, IsNextRof};
-
     /// These lines.
     pub(crate) fn new(alloc: A, lines: &'l [SourceLine<'s, A>]) -> Result<Self, AllocError>
         ensures { IfOk result (λ marked. marked ≡ lines.entry.now) }
@@ -74,14 +70,14 @@ impl<'l, 's, A: Allocator + Copy> MarkedLines<'l, 's, A> {
         Ok(MarkedLines { lines, marks })
     }
 
-    /// How many there are.
+    /// The number of lines.
     pub(crate) fn len(&self) -> usize
         ensures { result ≡ length self.now }
     {
         self.lines.len()
     }
 
-    /// How the line behind so many others reads.
+    /// How the line at index `at` reads.
     pub(crate) fn reading(&self, at: usize) -> Reading<'l, 's>
         requires { at < length self.now }
         ensures line { line_read result ≡ line_in self.now at }
@@ -106,7 +102,7 @@ impl<'l, 's, A: Allocator + Copy> MarkedLines<'l, 's, A> {
         self.marks[at].edge
     }
 
-    /// Whether nothing stands before its word, and no `&` behind it.
+    /// Whether nothing stands before its word, and no `&` after it.
     pub(crate) fn is_bare(&self, at: usize) -> bool
         requires { at < length self.now }
         ensures { result ≡ is_bare (line_in self.now at) }
@@ -114,7 +110,7 @@ impl<'l, 's, A: Allocator + Copy> MarkedLines<'l, 's, A> {
         self.marks[at].is_bare
     }
 
-    /// Whether a name is among the tokens behind its first.
+    /// Whether a name is among the tokens after its first.
     pub(crate) fn has_names(&self, at: usize) -> bool
         requires { at < length self.now }
         ensures { result ≡ has_name (drop 1 (line_in self.now at).tokens) }
@@ -122,7 +118,7 @@ impl<'l, 's, A: Allocator + Copy> MarkedLines<'l, 's, A> {
         self.marks[at].has_names
     }
 
-    /// How many lines stand before the `ROF` that belongs to a `FOR` behind so many others; at least all where there is none.
+    /// The index of the `ROF` that matches the `FOR` at index `at`; `len()` or more if there is none.
     pub(crate) fn rof_behind(&self, at: usize) -> usize
         requires { at < length self.now }
         ensures { IsNextRof self.now (at + 1) result }
@@ -132,12 +128,7 @@ impl<'l, 's, A: Allocator + Copy> MarkedLines<'l, 's, A> {
 }
 
 impl Mark {
-    ghost use Rattle.std.specs.Prelude.{◌≡◌, drop};
-    ghost use Rattle.redcode_text.specs.Tokens.{pieces};
-    ghost use Rattle.redcode_lines.specs.Views.{line_read};
-    ghost use Rattle.redcode_expand.specs.Marks.{edge_of, has_name, is_bare};
-
-    /// What the walk has to know of a line behind which this `ROF` stands.
+    /// The mark of a line. `rof` is the index of the first `ROF` after it whose `FOR` isn't after it.
     fn of(line: Reading<'_, '_>, rof: usize) -> Mark
         ensures edge { result.edge ≡ edge_of (line_read line.entry).word }
         ensures bare { result.is_bare ≡ is_bare (line_read line.entry) }
@@ -178,7 +169,7 @@ fn has_name(tokens: &[Token<'_>]) -> bool
     false
 }
 
-/// Marks each line, the last one first: the `ROF`s behind a line are known then.
+/// Marks each line, the last one first, so that the `ROF`s after a line are known.
 fn mark_all<A: Allocator>(lines: &[SourceLine<'_, A>], marks: &mut [Mark])
     requires { length marks.old ≡ length lines.now }
     ensures { AreMarked 0 lines.now marks.new }
@@ -192,7 +183,7 @@ fn mark_all<A: Allocator>(lines: &[SourceLine<'_, A>], marks: &mut [Mark])
     }
 }
 
-/// How many lines stand before the first `ROF` from a line on whose `FOR` isn't among these; at least all where there is none.
+/// The index of the first `ROF` from the line at `at` on whose `FOR` isn't among these lines; `lines.len()` or more if there is none.
 fn rof_from<A: Allocator>(lines: &[SourceLine<'_, A>], marks: &[Mark], at: usize) -> usize
     requires some { at < length lines.now }
     requires marked { AreMarked at lines.now marks.now }

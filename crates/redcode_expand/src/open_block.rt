@@ -1,4 +1,4 @@
-//! A block whose copies are being written.
+//! Blocks whose copies are being written.
 
 use redcode_copies::Counter;
 use std::marker::Model;
@@ -30,7 +30,7 @@ impl<'s> OpenBlock<'s> {
     ghost use Rattle.redcode_copies.specs.Counter.{counter_of};
     ghost use Rattle.redcode_expand.specs.Rest.{open_block};
 
-    /// The first copy of a block, with so many copies behind it.
+    /// The first copy of a block, with `left` copies after it.
     pub(crate) fn new(
         number: u32,
         name: &'s [u8],
@@ -80,7 +80,7 @@ impl<'s> OpenBlock<'s> {
         self.number
     }
 
-    /// Copies behind the one that is being written.
+    /// Copies after the one that is being written.
     pub(crate) fn left(&self) -> u64
         ensures { result ≡ self.now.left }
     {
@@ -94,14 +94,14 @@ impl<'s> OpenBlock<'s> {
         self.start
     }
 
-    /// How many lines stand before its body.
+    /// The index of the first line of its body.
     pub(crate) fn body(&self) -> usize
         ensures { result ≡ self.now.body }
     {
         self.body
     }
 
-    /// The next copy, with so many lines counted before it.
+    /// The next copy, with `start` lines counted before it.
     pub(crate) fn next_copy(self, start: u32) -> OpenBlock<'s>
         requires { 0 < self.left }
         ensures { result ≡ open_block self.entry.number (counter_of self.entry.counter.name (self.entry.counter.number + 1)) (self.entry.left - 1) start self.entry.body }

@@ -1,12 +1,13 @@
 //! The blocks whose copies are being written.
 
-ghost use Rattle.std.specs.Prelude.{◌≡◌, ◌<◌, ◌^◌, length, reverse, true, None, Some, IfOk, IfSome, OnOk};
+ghost use Rattle.std.specs.Prelude.{◌≡◌, ◌<◌, ◌^◌, ◌∷◌, [], length, true, None, Some, IfOk, IfSome, OnOk, MatchOption};
+ghost use Rattle.redcode_text.specs.Tokens.{pieces};
 ghost use Rattle.redcode_lines.specs.Views.{line_read};
 ghost use Rattle.redcode_copies.specs.Counter.{in_copies};
-ghost use Rattle.redcode_copies.specs.Plain.{number_of};
+ghost use Rattle.redcode_copies.specs.Plain.{has_number, number_of};
 ghost use Rattle.redcode_copies.specs.Views.{with_tokens};
 ghost use Rattle.redcode_names.specs.Name.{address_of};
-ghost use Rattle.redcode_expand.specs.Rest.{ArePlaced, counters_in, place_in};
+ghost use Rattle.redcode_expand.specs.Rest.{AreFew, ArePlaced, counters_in, counters_of, has_none, place_in};
 
 use crate::open_block::OpenBlock;
 use bumpalo::Bump;
@@ -17,7 +18,7 @@ use redcode_text::Token;
 use std::alloc::{AllocError, Allocator};
 use std::marker::Model;
 
-/// So many blocks are looked at one after another: a name's hash takes longer.
+/// The most blocks that are compared one after another: a name's hash takes longer.
 const FEW: usize = 8;
 
 /// The blocks whose copies are being written, the innermost first.
@@ -26,7 +27,7 @@ pub(crate) struct OpenBlocks<'s, A: Allocator + Copy> {
     alloc: A,
     region: &'s Bump<A>,
     blocks: Vec<OpenBlock<'s>, A>,
-    /// Of each counter's name the place of the outermost block that has it.
+    /// For each counter's name the index of the outermost block that has it.
     names: CounterNames<'s, A>,
 }
 
@@ -42,15 +43,7 @@ impl<'s, A: Allocator + Copy> Model for OpenBlocks<'s, A> {
 }
 
 impl<'s, A: Allocator + Copy> OpenBlocks<'s, A> {
-    ghost use Rattle.std.specs.Prelude.{◌≡◌, ◌<◌, ◌^◌, ◌∷◌, [], IfOk, IfSome, OnOk, MatchOption};
-    ghost use Rattle.redcode_text.specs.Tokens.{pieces};
-    ghost use Rattle.redcode_lines.specs.Views.{line_read};
-    ghost use Rattle.redcode_copies.specs.Counter.{in_copies};
-    ghost use Rattle.redcode_copies.specs.Plain.{has_number, number_of};
-    ghost use Rattle.redcode_copies.specs.Views.{with_tokens};
-    ghost use Rattle.redcode_expand.specs.Rest.{AreFew, counters_of, has_none};
-
-    /// No block. What copies make will lie in the region.
+    /// No block. The tokens that copies make will lie in the region.
     pub(crate) fn new(alloc: A, region: &'s Bump<A>, hash: NameHash) -> Self
         ensures { result ≡ [] }
     {
@@ -78,7 +71,7 @@ impl<'s, A: Allocator + Copy> OpenBlocks<'s, A> {
         Ok(())
     }
 
-    /// Takes the innermost block away.
+    /// Removes the innermost block.
     pub(crate) fn pop(&mut self) -> Option<OpenBlock<'s>>
         ensures { MatchOption result ((self.old ≡ []) × (self.new ≡ [])) (λ block. self.old ≡ block ∷ self.new) }
     {
@@ -103,7 +96,7 @@ impl<'s, A: Allocator + Copy> OpenBlocks<'s, A> {
         has_counter(self, tokens)
     }
 
-    /// A line within the copies that are being written; nothing where it reads as it stands in the source.
+    /// A line within the copies that are being written; `None` if it reads as it stands in the source.
     pub(crate) fn copy_of(
         &self,
         line: Reading<'_, 's>,
@@ -123,8 +116,6 @@ impl<'s, A: Allocator + Copy> OpenBlocks<'s, A> {
 }
 
 impl<A: Allocator + Copy> Counters for OpenBlocks<'_, A> {
-    ghost use Rattle.redcode_expand.specs.Rest.{counters_of};
-
     ghost counters = { λ blocks. counters_of blocks };
 
     fn number_of(&self, name: &[u8]) -> Option<u64> {
@@ -148,7 +139,7 @@ fn in_blocks<'s, A: Allocator + Copy>(
     Ok(copy)
 }
 
-/// The number of the first of the blocks whose counter has this name.
+/// The number of the first counter among the blocks that has this name.
 fn number_of<A: Allocator + Copy>(
     names: &CounterNames<'_, A>,
     blocks: &[OpenBlock<'_>],
@@ -173,7 +164,7 @@ fn number_of<A: Allocator + Copy>(
     }
 }
 
-/// The same, found by looking at one block after another.
+/// The same, found by comparing one block after another.
 fn number_among(blocks: &[OpenBlock<'_>], name: &[u8]) -> Option<u64>
     ensures number { result ≡ number_of (counters_in blocks.now) name.now }
     ensures few { IfSome result (λ n. n < 2 ^ 63) }
@@ -188,7 +179,7 @@ fn number_among(blocks: &[OpenBlock<'_>], name: &[u8]) -> Option<u64>
     None
 }
 
-/// Gives a name the place behind these blocks, if none of their counters has it.
+/// Gives a name the index of the next block, if no counter of these blocks has it.
 fn place_next<'s, A: Allocator + Copy>(
     names: &mut CounterNames<'s, A>,
     blocks: &[OpenBlock<'s>],
@@ -208,7 +199,7 @@ fn place_next<'s, A: Allocator + Copy>(
     Ok(())
 }
 
-/// Whether a name has this place: a block with its counter was here before.
+/// Whether a name has this index already, from an earlier block.
 fn is_placed<A: Allocator + Copy>(names: &CounterNames<'_, A>, place: usize, name: &[u8]) -> bool
     ensures { result ≡ true → address_of names.now name.now ≡ Some place }
 {

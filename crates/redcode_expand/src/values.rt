@@ -16,7 +16,7 @@ use redcode_text::{Names, Token};
 use std::alloc::Allocator;
 use war_types::{AsmFault, Settings};
 
-/// The names that a count knows as it stands in the source: the counters, and then the predefined ones.
+/// The names that a count knows as it stands in the source: the counters, then the predefined names.
 #[derive(Drop)]
 struct CounterValues<'e, 's, A: Allocator + Copy> {
     settings: &'e Settings,
@@ -26,10 +26,6 @@ struct CounterValues<'e, 's, A: Allocator + Copy> {
 }
 
 impl<A: Allocator + Copy> Names for CounterValues<'_, '_, A> {
-    ghost use Rattle.redcode_expand.specs.Values.{counter_values};
-    ghost use Rattle.redcode_names.specs.Name.{predefined};
-    ghost use Rattle.redcode_expand.specs.Rest.{counters_of};
-
     ghost values = { λ it. counter_values (counters_of it.blocks.now) (predefined it.settings.now it.before) };
 
     fn value_of(&self, name: &[u8]) -> Option<i64> {
@@ -40,7 +36,7 @@ impl<A: Allocator + Copy> Names for CounterValues<'_, '_, A> {
     }
 }
 
-/// How many copies a count asks for within blocks, where no name of an `EQU` and no `&` is in it.
+/// How many copies a count asks for within blocks, if it has no name of an `EQU` and no `&`.
 pub(crate) fn count_within<A: Allocator + Copy>(
     settings: &Settings,
     line: u32,

@@ -11,7 +11,7 @@ ghost use Rattle.redcode_expand.specs.Rest.{counters_of};
 ghost use Rattle.redcode_expand.specs.Walk.{walk_begin, closed, copied, counted, labelled, with_line, placed, statement, lined, step, step_as, IsCopied};
 
 use crate::entry::Entry;
-use crate::expanded::{Expanded, replace_all, unchanged};
+use crate::expanded::{Expanded, names_replaced};
 use crate::open_blocks::OpenBlocks;
 use redcode_lines::{Line, LineForm, LineKind, Reading, behind_first};
 use redcode_names::{NameHash, Names};
@@ -20,7 +20,7 @@ use std::alloc::Allocator;
 use std::marker::Model;
 use war_types::{AsmFault, AsmKind, Settings};
 
-/// Lines that may count.
+/// The most lines that may count.
 const LINE_LIMIT: u32 = 4096;
 
 /// How far the walk has come.
@@ -126,7 +126,7 @@ impl<'s, A: Allocator + Copy> Walk<'s, A> {
         }
     }
 
-    /// Ends a copy that began with so many lines counted: it counts where nothing in it did.
+    /// Ends a copy that began when `start` lines were counted. A copy in which no line counted counts as one.
     pub(crate) fn end_copy(&mut self, number: u32, start: u32) -> Result<(), AsmFault>
         ensures copied { Gives (λ _. self.new) result (copied number start self.old) }
         ensures goes_on { OnOk result (self.new.ended ≡ self.old.ended) }
@@ -144,18 +144,13 @@ impl<'s, A: Allocator + Copy> Walk<'s, A> {
     {
         let entries = self.entries;
         let names = self.names;
-        if names.has_no_equs() {
-            let entries = unchanged(entries)?;
-            return Ok(Expanded {
+        match names_replaced(self.alloc, &names, entries) {
+            Ok(entries) => Ok(Expanded {
                 entries,
                 labels: names.labels,
-            });
+            }),
+            Err(fault) => Err(fault),
         }
-        let entries = replace_all(self.alloc, &names.equs, entries)?;
-        Ok(Expanded {
-            entries,
-            labels: names.labels,
-        })
     }
 
     /// A line that counts, without a word.

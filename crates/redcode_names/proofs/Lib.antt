@@ -1,4 +1,3 @@
 mod Lookups
-pub mod Residuals
 pub mod Replacing
 pub mod Unchanged

@@ -44,13 +44,13 @@ has_equ-append equs (x ∷ xs) ys = grind (arith, has_equ-append equs xs ys)
 pub left_over-all : (line : ℕ) (equs : EquList) (xs ys : List Piece) → left_over line equs xs ≡ Ok ys → xs ≡ ys
 left_over-all line equs xs ys is = grind arith
 
--- a token behind others where no round is left
+-- a token after others when no round is left
 then-last : (line : ℕ) (equs : EquList) (out : List Piece) (x : Piece) (body : List Piece) → body_at equs x ≡ body
     → (left_over line equs out >>= λ o. itself_or line o x body (Err (fault_at line kinds.EquLimit))) ≡ left_over line equs (out ++ x ∷ [])
 then-last line equs out x [] is = grind (arith, nat_tests, has_equ-append equs out (x ∷ []), length-append out (x ∷ []))
 then-last line equs out x (b ∷ bs) is = grind (arith, nat_tests, has_equ-append equs out (x ∷ []), length-append out (x ∷ []))
 
--- where each token is written as the rounds leave it, so are all
+-- if each token is written as the rounds leave it, so are all
 all-left : (n line : ℕ) (equs : EquList) (one : List Piece → Piece → Result (List Piece) AsmFault)
     → ((out : List Piece) (x : Piece) → (left_over line equs out >>= λ o. one o x) ≡ left_over line equs (out ++ after_rounds n equs (x ∷ [])))
     → (out xs : List Piece) → (left_over line equs out >>= λ o. all_written one o xs) ≡ left_over line equs (out ++ after_rounds n equs xs)

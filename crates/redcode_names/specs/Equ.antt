@@ -15,12 +15,12 @@ abbrev pub is_equ : EquList → List ℕ → Bool
 is_equ [] name = false
 is_equ (equ ∷ equs) name = bytes_eq name equ.0 || is_equ equs name
 
--- the tokens that this name stands for, none where it is the name of no EQU
+-- the tokens that this name stands for, none if it is the name of no EQU
 abbrev pub body_of : EquList → List ℕ → List Piece
 body_of [] name = []
 body_of (equ ∷ equs) name = if bytes_eq name equ.0 then equ.1 else body_of equs name
 
--- the tokens that a token stands for, none where it is no name of an EQU
+-- the tokens that a token stands for, none if it is no name of an EQU
 abbrev pub body_at : EquList → Piece → List Piece
 body_at equs token = if is_name token.kind then body_of equs token.text else []
 
@@ -59,7 +59,7 @@ has_equ equs (token ∷ tokens) = has_tokens (body_at equs token) || has_equ equ
 abbrev pub left_over : ℕ → EquList → List Piece → Result (List Piece) AsmFault
 left_over line equs tokens = if nat_lt 512 (length tokens) || has_equ equs tokens then Err (fault_at line kinds.EquLimit) else Ok tokens
 
--- so many rounds, and never more than 512 tokens
+-- this number of rounds, with never more than 512 tokens
 abbrev pub rounds : ℕ → ℕ → EquList → List Piece → Result (List Piece) AsmFault
 rounds zero line equs tokens = left_over line equs tokens
 rounds (suc n) line equs tokens = if nat_lt 512 (length tokens) then Err (fault_at line kinds.EquLimit) else rounds n line equs (round equs tokens)
@@ -68,7 +68,7 @@ rounds (suc n) line equs tokens = if nat_lt 512 (length tokens) then Err (fault_
 unfoldable pub replaced : ℕ → EquList → List Piece → Result (List Piece) AsmFault
 replaced line equs tokens = rounds 16 line equs tokens
 
--- the tokens after so many rounds, however many they are
+-- the tokens after this number of rounds, however many tokens they are
 abbrev pub after_rounds : ℕ → EquList → List Piece → List Piece
 after_rounds zero equs tokens = tokens
 after_rounds (suc n) equs tokens = after_rounds n equs (round equs tokens)

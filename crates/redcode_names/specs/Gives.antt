@@ -1,4 +1,4 @@
--- What a function answers where memory may run out.
+-- What a function answers if memory may run out.
 use Rattle.std.specs.Prelude.{◌≡◌, ◌⊎◌, ℕ, Result, Ok, Err}
 use Rattle.war_types.specs.declared.fault.AsmFault.{AsmFault}
 use Rattle.war_types.specs.declared.fault.AsmKind.{AsmKind}

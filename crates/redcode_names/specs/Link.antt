@@ -1,4 +1,4 @@
--- Tokens that know where the EQU stands that they name, and what the code writes of them.
+-- Tokens that know the index of the EQU that they name, and what the code writes of them.
 use Rattle.std.specs.Prelude.{◌≡◌, ℕ, zero, suc, nat_eq, if◌then◌else◌, List, [], ◌∷◌, ◌++◌, length, map, slice_get, Option, Some, MatchOption, All, Result, Ok, Err}
 use Rattle.war_types.specs.declared.fault.AsmKind.TheVariants as kinds
 use Rattle.war_types.specs.declared.fault.AsmFault.{AsmFault}
@@ -15,7 +15,7 @@ tokens_of links = map (λ l. piece_of l.token) links
 abbrev pub bodies_of : EquList → List (List Piece)
 bodies_of equs = map (λ equ. equ.1) equs
 
--- this is where the EQU stands that a token names; nowhere where it names none
+-- this is the index of the EQU that a token names; none if it names none
 abbrev pub Stands : EquList → Piece → Option ℕ → Type 0
 Stands equs token place = MatchOption place (body_at equs token ≡ []) (λ i. slice_get (bodies_of equs) i ≡ Some (body_at equs token))
 
@@ -25,17 +25,17 @@ AreLinked equs links = All (λ l. Stands equs (piece_of l.token) l.equ) links
 
 -- ---- what is written
 
--- tokens one after another behind others
+-- the tokens written so far, and these appended one after another
 abbrev pub all_written : (List Piece → Piece → Result (List Piece) AsmFault) → List Piece → List Piece → Result (List Piece) AsmFault
 all_written one out [] = Ok out
 all_written one out (token ∷ tokens) = one out token >>= λ out. all_written one out tokens
 
--- a token behind others where it has no body, unless there are 512 of them, and what its body becomes otherwise
+-- a token without a body is appended, unless 512 are written; of one with a body this is what that becomes
 abbrev pub itself_or : ℕ → List Piece → Piece → List Piece → Result (List Piece) AsmFault → Result (List Piece) AsmFault
 itself_or line out token [] other = if nat_eq (length out) 512 then Err (fault_at line kinds.EquLimit) else Ok (out ++ token ∷ [])
 itself_or line out token (first ∷ others) other = other
 
--- what is written of tokens behind others in fewer than so many rounds: each token itself, or what its body becomes in one round less
+-- the tokens written so far, and these appended in fewer rounds than given: each token itself, or what its body becomes in one round less
 abbrev pub written : ℕ → ℕ → EquList → List Piece → List Piece → Result (List Piece) AsmFault
 written zero line equs out tokens = Err (fault_at line kinds.EquLimit)
 written (suc n) line equs out tokens = all_written (λ out token. itself_or line out token (body_at equs token) (written n line equs out (body_at equs token))) out tokens

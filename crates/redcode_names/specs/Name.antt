@@ -17,7 +17,7 @@ abbrev pub address_of : LabelList → List ℕ → Option ℕ
 address_of [] name = None
 address_of (label ∷ labels) name = if bytes_eq name label.0 then Some label.1 else address_of labels name
 
--- the value of a name that is known before any source, where so many instructions stand before the line; letter case counts
+-- the value of a name that is known before any source, on a line with `before` instructions before it; letter case counts
 abbrev pub predefined : RawSettings → ℕ → List ℕ → Option ℤ
 predefined s before name =
     if bytes_eq name (codes "CORESIZE") then Some (pos s.core) else (
@@ -61,7 +61,7 @@ equ_defined s line body name names =
     if is_taken s names name then Err (fault_at line kinds.DuplicateName) else (
     if is_bad_body body then Err (fault_at line kinds.BadEqu) else Ok (record names { equs = names.equs ++ (name, body) ∷ [] }))
 
--- labels of these names at this address but for the last one, and that one
+-- labels of these names at this address but the last one, and that one
 abbrev pub but_last : RawSettings → ℕ → ℕ → List (List ℕ) → Names → Result (Names × Option (List ℕ)) AsmFault
 but_last s line address [] names = Ok (names, None)
 but_last s line address (name ∷ []) names = Ok (names, Some name)
@@ -75,6 +75,6 @@ equ_named s line body (Some name) names = equ_defined s line body name names
 abbrev pub equ_line : RawSettings → ℕ → ℕ → List Piece → List (List ℕ) → Names → Result Names AsmFault
 equ_line s line address body labels names = but_last s line address labels names >>= λ found. equ_named s line body found.1 found.0
 
--- the labels of a FOR line: the last one is the counter's name, empty where there is none, and those before it stand at this address
+-- the labels of a FOR line: the last one is the counter's name, empty if there is none, and those before it stand at this address
 abbrev pub for_labels : RawSettings → ℕ → ℕ → List (List ℕ) → Names → Result (Names × List ℕ) AsmFault
 for_labels s line address labels names = but_last s line address labels names >>= λ found. Ok (found.0, unwrap_or found.1 [])

@@ -5,8 +5,8 @@ use indexmap::IndexMap;
 use std::alloc::{AllocError, Allocator};
 use std::marker::Model;
 
-/// Names of counters, each with the place of a block among those that are open. Where that block was left, the place is another
-/// block's, or that of none.
+/// The names of counters, each with the index of a block among the open ones. Entries may be stale: the index may belong to another
+/// block or to none, so callers compare the name.
 #[derive(Drop)]
 pub struct CounterNames<'s, A: Allocator + Copy> {
     places: IndexMap<NameKey<'s>, usize, NameHash, A>,
@@ -35,7 +35,7 @@ impl<'s, A: Allocator + Copy> CounterNames<'s, A> {
         }
     }
 
-    /// The place of a name.
+    /// The index that a name has.
     #[tactic(auto, using(crate::proofs::Lookups::names))]
     pub fn place_of(&self, name: &[u8]) -> Option<usize>
         ensures { result ≡ address_of self.now name.now }
@@ -43,7 +43,7 @@ impl<'s, A: Allocator + Copy> CounterNames<'s, A> {
         self.places.get(&NameKey { bytes: name }).copied()
     }
 
-    /// Gives a name this place.
+    /// Gives a name this index.
     pub fn set(&mut self, name: &'s [u8], place: usize) -> Result<(), AllocError>
         ensures set { OnOk result (self.new ≡ insert_entry bytes_eq self.old name.entry.now place) }
         ensures failed { OnErr result (self.new ≡ self.old) }

@@ -50,7 +50,7 @@ impl<'s, A: Allocator + Copy> Equs<'s, A> {
         false
     }
 
-    /// Where the EQU stands that a token names; nowhere where it names none.
+    /// The index of the EQU that a token names; `None` if it names none.
     pub(crate) fn place_of(&self, token: &Token<'_>) -> Option<usize>
         ensures { Stands self.now (piece_of token.now) result }
     {
@@ -68,7 +68,7 @@ impl<'s, A: Allocator + Copy> Equs<'s, A> {
         self.bodies.values().as_slice()
     }
 
-    /// The tokens that a token stands for; none where it is no name of an EQU.
+    /// The tokens that a token stands for; none if it is no name of an EQU.
     fn body_at(&self, token: &Token<'_>) -> &[Token<'s>]
         ensures { pieces result.now ≡ body_at self.now (piece_of token.now) }
     {

@@ -12,7 +12,7 @@ use std::marker::Model;
 /// Labels that the first table has room for.
 const FIRST_ROOM: usize = 18;
 
-/// How many times as many labels as there are a table that is full takes in further ones.
+/// A full table makes room for this many times its labels.
 const GROWTH: usize = 7;
 
 /// Names with the addresses that they stand for, in the order of their definition.
@@ -37,7 +37,7 @@ impl<'s, A: Allocator + Copy> Labels<'s, A> {
         self.addresses.get(&NameKey { bytes: name }).copied()
     }
 
-    /// Adds a label, and tells whether its name is new. What becomes of one that isn't is not said.
+    /// Adds a label, and answers whether its name is new. If it isn't, nothing is promised of the labels.
     pub(crate) fn add(&mut self, name: &'s [u8], address: u32) -> Result<bool, AllocError>
         ensures new { IfOk result (λ is_new. is_new ≡ not (is_some (address_of self.old name.entry.now))) }
         ensures added { IfOk result (λ is_new. is_new ≡ true → self.new ≡ self.old ++ (name.entry.now, address) ∷ []) }
@@ -48,8 +48,8 @@ impl<'s, A: Allocator + Copy> Labels<'s, A> {
         Ok(earlier.is_none())
     }
 
-    /// Makes room for a further label. A table that is full grows eightfold, since most of the time of many labels would go into moving
-    /// them to larger tables; so a source of millions of them soon asks for more than there is.
+    /// Makes room for a further label. A full table grows eightfold: with many labels most of the time would else go into moving them to
+    /// larger tables. So a source with millions of labels soon asks for more memory than there is.
     fn make_room(&mut self) -> Result<(), AllocError>
         ensures { OnOk result (self.new ≡ self.old) }
     {

@@ -1,4 +1,14 @@
-//! The names of a source: its labels, those of its `EQU` lines with what they stand for, the predefined ones, and those of counters.
+//! The names of a source: its labels, the names of its `EQU` lines, the predefined ones, and those of counters.
+//!
+//! `names` takes the lines that define names, and keeps what they define in `labels` and `equs`. Both are maps with a `name_key` for each
+//! name. `name` has the predefined names, and `counter_names` those of the blocks that are open. When tokens are to be written, `link`
+//! looks up which `EQU` each of them names, and `rounds` replaces the names by the bodies.
+//!
+//! The main clauses: `Names` defines what `Name` in `specs` does, or refuses as that does; `replaced` and `written` answer the tokens
+//! of `replaced` in `Equ`, or the refusal `EquLimit` that is due. Each may also run out of memory.
+//!
+//! It must not decide which lines define names, nor in which order: the walk over the lines does. It finds a name by a hash that is keyed
+//! by the source, and never by a search through all names. No list grows past 512 tokens by replacement.
 #![tactic(auto)]
 
 mod counter_names;

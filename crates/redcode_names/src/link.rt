@@ -1,4 +1,4 @@
-//! Tokens that know which EQU they name, so that each is looked up once however often it is written.
+//! Tokens that know which EQU they name, so that each is looked up once, however often it is written.
 
 ghost use Rattle.std.specs.Prelude.{◌≡◌, IfOk};
 ghost use Rattle.redcode_text.specs.Tokens.{pieces};
@@ -9,7 +9,7 @@ use redcode_text::Token;
 use std::alloc::{AllocError, Allocator};
 use std::marker::Model;
 
-/// A token, and the EQU that it names by how many stand before it.
+/// A token, and the index of the EQU that it names.
 #[derive(Clone, Copy)]
 pub(crate) struct Link<'s> {
     pub token: Token<'s>,
@@ -80,7 +80,7 @@ impl<'e, 's, A: Allocator + Copy> LinkedEqus<'e, 's, A> {
         self.equs
     }
 
-    /// The tokens that a token stands for; none where it is no name of an EQU.
+    /// The tokens that a token stands for; none if it is no name of an EQU.
     pub(crate) fn body_of(&self, link: &Link<'s>) -> &[Link<'s>]
         requires { Stands self.now (piece_of link.now.token) link.now.equ }
         ensures body { tokens_of result.now ≡ body_at self.now (piece_of link.now.token) }

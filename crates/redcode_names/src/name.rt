@@ -5,7 +5,7 @@ ghost use Rattle.redcode_names.specs.Name.{is_loose, predefined};
 
 use war_types::Settings;
 
-/// The value of a predefined name on a line with so many instructions before it. Letter case counts.
+/// The value of a predefined name on a line with `before` instructions before it. Letter case counts.
 pub fn predefined(settings: &Settings, before: u32, name: &[u8]) -> Option<i64>
     ensures { result ≡ predefined settings.now before name.now }
 {

@@ -10,8 +10,8 @@ use std::hash::{BuildHasher, DefaultHasher, FoldHasher, Hash, Hasher};
 use std::marker::Model;
 use war_types::Settings;
 
-/// How the names of a source are hashed: from a start that hangs on the whole source and on the seed of the settings, so that names
-/// with one hash can't simply be looked for.
+/// The hash of a source's names, keyed by the whole source and the seed of the settings. So names that collide can't be prepared:
+/// adding them to a source changes the key.
 #[derive(Clone, Copy)]
 pub struct NameHash {
     initial: FoldHasher,
@@ -38,7 +38,7 @@ impl BuildHasher for NameHash {
     }
 }
 
-/// A name that a map has. Its bytes are those of a token, in the source or in the region of the assembly.
+/// A name in a map. Its bytes are those of a token, in the source or in the region of the assembly.
 #[derive(Drop)]
 pub(crate) struct NameKey<'s> {
     pub bytes: &'s [u8],

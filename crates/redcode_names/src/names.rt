@@ -5,7 +5,7 @@ ghost use Rattle.redcode_names.specs.Gives.{Gives, fault_at};
 ghost use Rattle.redcode_text.specs.Tokens.{pieces};
 ghost use Rattle.redcode_lines.specs.Line.{names_among};
 ghost use Rattle.redcode_names.specs.Equ.{has_word};
-ghost use Rattle.redcode_names.specs.Name.{names_of, defined, all_defined, but_last, equ_line, for_labels};
+ghost use Rattle.redcode_names.specs.Name.{names_of, defined, all_defined, but_last, equ_defined, equ_line, for_labels};
 
 use crate::equs::Equs;
 use crate::labels::Labels;
@@ -57,7 +57,7 @@ impl<'s, A: Allocator + Copy> Names<'s, A> {
         self.equs.bodies.is_empty()
     }
 
-    /// Defines a label, whose name must be new.
+    /// Defines a label. Its name must be new.
     fn define(
         &mut self,
         settings: &Settings,
@@ -94,7 +94,7 @@ impl<'s, A: Allocator + Copy> Names<'s, A> {
         Ok(())
     }
 
-    /// Defines the names among these tokens but for the last one, which is answered.
+    /// Defines the names among these tokens but the last one, and answers that.
     fn define_but_last(
         &mut self,
         settings: &Settings,
@@ -128,9 +128,22 @@ impl<'s, A: Allocator + Copy> Names<'s, A> {
     ) -> Result<(), AsmFault>
         ensures { Gives (λ _. self.new) result (equ_line settings.now number address (pieces body.now) (names_among (pieces labels.now)) self.old) }
     {
-        let Some(name) = self.define_but_last(settings, number, address, labels)? else {
-            return Err(refused(number, AsmKind::BadEqu));
-        };
+        match self.define_but_last(settings, number, address, labels)? {
+            Some(name) => self.equate(settings, number, name, body),
+            None => Err(refused(number, AsmKind::BadEqu)),
+        }
+    }
+
+    /// Defines an EQU of this name.
+    fn equate(
+        &mut self,
+        settings: &Settings,
+        number: u32,
+        name: &'s [u8],
+        body: &[Token<'s>],
+    ) -> Result<(), AsmFault>
+        ensures { Gives (λ _. self.new) result (equ_defined settings.now number (pieces body.now) name.entry.now self.old) }
+    {
         let is_taken = predefined(settings, 0, name).is_some()
             || self.labels.address_of(name).is_some()
             || self.equs.is_equ(name);
@@ -144,7 +157,7 @@ impl<'s, A: Allocator + Copy> Names<'s, A> {
         Ok(())
     }
 
-    /// Defines the labels of a FOR line at this address, but for the last one, which is the counter's name.
+    /// Defines the labels of a FOR line at this address but the last one, and answers that: the counter's name, empty if there is none.
     pub fn define_earlier(
         &mut self,
         settings: &Settings,

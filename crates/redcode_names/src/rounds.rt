@@ -21,7 +21,7 @@ const ROUNDS: u32 = 16;
 /// Tokens that the operands of a line may have.
 pub const TOKEN_LIMIT: usize = 512;
 
-/// What the tokens of a count are with the names of EQUs replaced: themselves where there is none.
+/// The tokens of a count with the names of EQUs replaced. Tokens without such a name are borrowed.
 #[tactic(auto, using(crate::proofs::Unchanged::kept))]
 pub fn replaced<'t, 's, A: Allocator + Copy>(
     alloc: A,
@@ -42,7 +42,7 @@ pub fn replaced<'t, 's, A: Allocator + Copy>(
     Ok(CowSlice::Owned(all))
 }
 
-/// What tokens are with the names of EQUs replaced, in a list with this much room at first.
+/// Tokens with the names of EQUs replaced, in a list that has room for `room` of them at first.
 #[tactic(auto, using(crate::proofs::Unchanged::all_replaced))]
 pub fn written<'s, A: Allocator + Copy>(
     alloc: A,
@@ -59,7 +59,7 @@ pub fn written<'s, A: Allocator + Copy>(
     Ok(out)
 }
 
-/// Appends what tokens become in so many rounds: each token goes down through the bodies, one round deeper with each.
+/// Appends what tokens become in `rounds` rounds: each token goes down through the bodies, one round deeper with each.
 #[tactic(auto, using(crate::proofs::Replacing::steps))]
 fn write<'s, A: Allocator + Copy>(
     alloc: A,

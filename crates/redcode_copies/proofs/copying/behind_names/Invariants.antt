@@ -1,4 +1,4 @@
--- What is behind the names of what is left is behind those of the line.
+-- What follows the names of what is left follows those of the line.
 use Rattle.std.proofs.Common.{◌≡◌, ◌≤◌, length}
 use Rattle.redcode_lines.specs.Line.{dropped_while}
 use Rattle.redcode_copies.specs.Counter.{is_label}

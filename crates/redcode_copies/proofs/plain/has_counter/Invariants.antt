@@ -1,4 +1,4 @@
--- A counter is among the tokens that are left where one is among all.
+-- A counter is among the tokens that are left if and only if one is among all.
 use Rattle.std.proofs.Common.{◌≡◌, length}
 use Rattle.redcode_text.specs.Tokens.{pieces}
 use Rattle.redcode_copies.specs.Plain.{has_number}

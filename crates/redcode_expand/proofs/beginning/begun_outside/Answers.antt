@@ -3,7 +3,6 @@ use Rattle.std.proofs.Common.{arith, ◌<◌, ◌^◌, ℕ, List, Ok, sym, ap, s
 use Rattle.redcode_text.specs.declared.vocabulary.Word.TheVariants as words
 use Rattle.redcode_lines.specs.Line.{SourceLine}
 use Rattle.redcode_lines.specs.Views.{line_read}
-use Rattle.redcode_names.proofs.Residuals.{err-from}
 use Rattle.redcode_expand.specs.Marks.{is_bare, line_in}
 use Rattle.redcode_expand.specs.Rest.{counters_of}
 use Rattle.redcode_expand.specs.Walk.{begun_as}
@@ -28,22 +27,22 @@ returns-in-Some-clause-few g c =
     let kept = c.requires.kept.kept c.args.at (line_in c.args.lines.now c.args.at) c.in-Some.copies c.requires.some (line-drop c.args.lines.now c.args.at c.requires.some) (sym c.at.ensures ∙ c.in-Some.is) in
     subst (λ (n : ℕ). n < 2 ^ 63) (sym c.begun_by.ensures.copies) kept.few
 
-pub returns-in_err-begun-clause-begun : goal.returns-in_err-begun-clause-begun
-returns-in_err-begun-clause-begun g c = grind (arith, common_steps, begun-bare, err-from)
+pub returns-in-Err-clause-begun : goal.returns-in-Err-clause-begun
+returns-in-Err-clause-begun g c = grind (arith, common_steps, begun-bare)
 
-pub returns-clause-begun : goal.returns-clause-begun
-returns-clause-begun g c =
+pub returns-in-Ok-clause-begun : goal.returns-in-Ok-clause-begun
+returns-in-Ok-clause-begun g c =
     begun-bare c.args.settings.now (counters_of c.args.blocks.now) (line_in c.args.lines.now c.args.at) (line_read c.reading.result) c.args.walk.now c.reading.ensures.line c.requires.word c.requires.bare
     c.requires.unnamed
-    ∙ c.in_ok-begun.ensures.begun
+    ∙ c.in-Ok.ensures.begun
 
-pub returns-clause-kept : goal.returns-clause-kept
-returns-clause-kept g c =
+pub returns-in-Ok-clause-kept : goal.returns-in-Ok-clause-kept
+returns-in-Ok-clause-kept g c =
     let line = line_read c.reading.result in
-    let b = c.in_ok-begun.begun in
+    let b = c.in-Ok.begun in
     let word = ap (λ (l : SourceLine). l.word) c.reading.ensures.line ∙ c.requires.word in
     let front = bare-front line (ap is_bare c.reading.ensures.line ∙ c.requires.bare) in
     all-learned c.args.settings.now c.args.lines.now c.args.walk.now.names.equs c.begin_as.new.self.names.equs c.args.counts.now c.learn.new.self c.args.at line b.copies b.is_fixed
-    (begun_of-equs c.args.settings.now line c.args.walk.now (begun_as c.begin_as.new.self b.counter.now b.copies) c.in_ok-begun.ensures.begun)
+    (begun_of-equs c.args.settings.now line c.args.walk.now (begun_as c.begin_as.new.self b.counter.now b.copies) c.in-Ok.ensures.begun)
     c.requires.some c.reading.ensures.first c.requires.kept (front-labels line words.For word front)
-    c.in_ok-begun.ensures.fixed c.in_ok-begun.ensures.few c.learn.ensures
+    c.in-Ok.ensures.fixed c.in-Ok.ensures.few c.learn.ensures

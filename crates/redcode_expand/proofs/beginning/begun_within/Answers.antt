@@ -1,12 +1,10 @@
 use Rattle.std.proofs.lemmas.Grind.{common_steps}
-use Rattle.std.proofs.Common.{◌≡◌, ℕ, [], List, Err, Ok, refl, sym, ap, ◌∙◌, arith}
+use Rattle.std.proofs.Common.{ℕ, [], Ok, refl, sym, ap, ◌∙◌, arith}
 use Rattle.std.proofs.lemmas.List.{length-map}
-use Rattle.redcode_text.specs.declared.token.Token.{Token}
 use Rattle.redcode_text.specs.Tokens.{piece_of, pieces}
 use Rattle.redcode_text.specs.Value.{value_of}
 use Rattle.redcode_lines.specs.Views.{line_read}
 use Rattle.redcode_names.specs.Name.{predefined}
-use Rattle.redcode_names.proofs.Residuals.{err-from}
 use Rattle.redcode_expand.specs.Rest.{counters_of}
 use Rattle.redcode_expand.specs.Values.{counter_values}
 use Rattle.redcode_expand.specs.Walk.{begun_as, count_by}
@@ -19,8 +17,8 @@ use Rattle.redcode_expand.proofs.beginning.begun_within.Goals as goal
 pub returns-then-is_empty-clause-equs : goal.returns-then-is_empty-clause-equs
 returns-then-is_empty-clause-equs g c = grind (arith, common_steps, begun-equs)
 
-pub returns-in_err-copies-clause-begun : goal.returns-in_err-copies-clause-begun
-returns-in_err-copies-clause-begun g c =
+pub returns-in-Err-clause-begun : goal.returns-in-Err-clause-begun
+returns-in-Err-clause-begun g c =
     let s = c.args.settings.now in
     let cs = counters_of c.args.blocks.now in
     let count = c.behind_first-count.result.now in
@@ -28,12 +26,10 @@ returns-in_err-copies-clause-begun g c =
     let due = begun-values s cs (line_read c.args.line) c.args.walk.now (pieces count) before c.args.walk.now.names.equs c.names_equ.result c.requires.word
     (bare-front (line_read c.args.line) c.requires.bare) (bare-plain (line_read c.args.line) c.requires.bare) c.is_empty.ensures.few c.behind_first-count.ensures.behind c.before-2.ensures refl
     c.names_equ.ensures c.if-names_equ.false (omega (arith, length-map count piece_of, c.if-count-gt-TOKEN_LIMIT.false)) in
-    let fault = c.in_err-copies.field-0.0 in
-    let same : c.from_residual-in_err-copies.result ≡ Err fault = err-from c.from_residual-in_err-copies.result fault c.from_residual-in_err-copies.ensures.1 in
-    rw same (begun-refused _ c.args.walk.now [] (count_by c.args.line.number (value_of (counter_values cs (predefined s before)) (pieces count))) fault due c.in_err-copies.ensures.copies)
+    begun-refused _ c.args.walk.now [] (count_by c.args.line.number (value_of (counter_values cs (predefined s before)) (pieces count))) c.in-Err.fault due c.in-Err.ensures.copies
 
-pub returns-clause-begun : goal.returns-clause-begun
-returns-clause-begun g c =
+pub returns-in-Ok-clause-begun : goal.returns-in-Ok-clause-begun
+returns-in-Ok-clause-begun g c =
     let s = c.args.settings.now in
     let cs = counters_of c.args.blocks.now in
     let count = c.behind_first-count.result.now in
@@ -41,6 +37,6 @@ returns-clause-begun g c =
     let due = begun-values s cs (line_read c.args.line) c.args.walk.now (pieces count) before c.args.walk.now.names.equs c.names_equ.result c.requires.word
     (bare-front (line_read c.args.line) c.requires.bare) (bare-plain (line_read c.args.line) c.requires.bare) c.is_empty.ensures.few c.behind_first-count.ensures.behind c.before-2.ensures refl
     c.names_equ.ensures c.if-names_equ.false (omega (arith, length-map count piece_of, c.if-count-gt-TOKEN_LIMIT.false)) in
-    begun-done _ c.args.walk.now [] c.begun_by.result.counter.now (count_by c.args.line.number (value_of (counter_values cs (predefined s before)) (pieces count))) c.in_ok-copies.copies due
-    c.begun_by.ensures.counter c.in_ok-copies.ensures.copies
+    begun-done _ c.args.walk.now [] c.begun_by.result.counter.now (count_by c.args.line.number (value_of (counter_values cs (predefined s before)) (pieces count))) c.in-Ok.copies due
+    c.begun_by.ensures.counter c.in-Ok.ensures.copies
     ∙ ap (λ (n : ℕ). Ok (begun_as c.args.walk.now c.begun_by.result.counter.now n)) (sym c.begun_by.ensures.copies)

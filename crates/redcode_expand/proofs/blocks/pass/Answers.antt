@@ -1,3 +1,4 @@
+use Rattle.std.proofs.lemmas.Grind.{common_steps}
 use Rattle.std.proofs.Common.{arith}
 use Rattle.redcode_expand.specs.Marks.{line_in}
 use Rattle.redcode_expand.specs.Rest.{counters_of}
@@ -11,3 +12,12 @@ close-requires-clause-word g c = rof-word c.args.lines.now c.rof_behind-rof.resu
 pub returns-clause-equs : goal.returns-clause-equs
 returns-clause-equs g c =
     closed-equs c.args.settings.now (counters_of c.args.blocks.now) (line_in c.args.lines.now c.rof_behind-rof.result) c.args.walk.now c.close.new.walk c.in_ok-close.ensures.closed
+
+pub returns-then-rof-len-clause-passes : goal.returns-then-rof-len-clause-passes
+returns-then-rof-len-clause-passes g c = grind (arith, common_steps)
+
+pub returns-in_err-close-clause-passes : goal.returns-in_err-close-clause-passes
+returns-in_err-close-clause-passes g c = grind (arith, common_steps)
+
+pub returns-clause-passes : goal.returns-clause-passes
+returns-clause-passes g c = grind (arith, common_steps)

@@ -4,7 +4,7 @@ use Rattle.redcode_lines.specs.Line.{SourceLine}
 use Rattle.redcode_expand.proofs.Keeping.{none-kept}
 use Rattle.redcode_expand.proofs.blocks.walk_all.Goals as goal
 
-pub walk_lines-requires-clause-kept : goal.walk_lines-requires-clause-kept
-walk_lines-requires-clause-kept g c =
+pub walk_marked-requires-clause-kept : goal.walk_marked-requires-clause-kept
+walk_marked-requires-clause-kept g c =
     none-kept c.args.settings.now c.in_ok-lines.lines [] c.in_ok-counts.counts
     (c.in_ok-counts.ensures ∙ ap (λ (ls : List SourceLine). replicate (length ls) None) (sym c.in_ok-lines.ensures))

@@ -13,7 +13,7 @@ use Rattle.redcode_expand.proofs.Counted.{if-counted}
 use Rattle.redcode_expand.proofs.WrittenOut.{blocks-written}
 use Rattle.redcode_expand.proofs.expanded.expand.Goals as goal
 
--- what the walk over all lines comes to is due
+-- the result of the walk over all lines is due
 expansion-found : (s : RawSettings) (source text : List ℕ) (number : ℕ) (lines : List SourceLine) → length source ≤ 65536
     → numbered_from number (lines_of text) ≡ live_lines source → lines ≡ map capped (source_lines (numbered_from number (lines_of text)))
     → expansion s source ≡ walk_all s (parsed lines) walk_begin >>= finished

@@ -9,3 +9,6 @@ returns-then-operands-gt-TOKEN_LIMIT g c = grind (arith, common_steps, line-over
 
 pub returns-then-not-are_among : goal.returns-then-not-are_among
 returns-then-not-are_among g c = grind (arith, common_steps, line-same, length-map)
+
+pub returns : goal.returns
+returns g c = grind (arith, common_steps, length-map)

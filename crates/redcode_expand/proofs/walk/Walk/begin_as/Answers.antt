@@ -1,23 +1,20 @@
-use Rattle.std.proofs.Common.{◌≡◌, Err, subst}
+use Rattle.std.proofs.Common.{subst}
 use Rattle.redcode_expand.specs.declared.walk.Walk.TheInside.{Inside}
 use Rattle.redcode_text.specs.Tokens.{pieces}
 use Rattle.redcode_lines.specs.Line.{names_among}
 use Rattle.redcode_lines.specs.Views.{line_read}
 use Rattle.redcode_names.specs.Gives.{Fails}
-use Rattle.redcode_names.proofs.Residuals.{err-from}
 use Rattle.redcode_expand.specs.Walk.{copies_of}
 use Rattle.redcode_expand.proofs.Keeping.{begun-due, begun-refused}
 use Rattle.redcode_expand.proofs.walk.Walk.begin_as.Goals as goal
 
-pub returns-in_err-copies-clause-begun : goal.returns-in_err-copies-clause-begun
-returns-in_err-copies-clause-begun g c =
+pub returns-in-Err-clause-begun : goal.returns-in-Err-clause-begun
+returns-in-Err-clause-begun g c =
     let inside = c.self.inside in
     let new = c.define_earlier.new.self in
     let line = line_read c.args.line in
     let count = pieces c.behind_first-count.result.now in
     let due = begun-due c.args.settings.now line c.args.self.now inside.counted inside.before inside.names new inside.entries.items inside.ended
     (names_among (pieces c.labels.result.now)) count c.in_ok-counter.counter.now c.self.view_is c.labels.ensures c.in_ok-counter.ensures c.behind_first-count.ensures.behind in
-    let fault = c.in_err-copies.field-0.0 in
-    let same : c.from_residual-in_err-copies.result ≡ Err fault = err-from c.from_residual-in_err-copies.result fault c.from_residual-in_err-copies.ensures.1 in
-    let counts = subst (λ (w : Inside g.row.A.Denot). Fails fault (copies_of c.args.settings.now line.number inside.before w.names.equs count)) c.self-inside.view_is c.in_err-copies.ensures.copies in
-    rw same (begun-refused _ _ c.in_ok-counter.counter.now (copies_of c.args.settings.now line.number inside.before new.equs count) fault due counts)
+    let counts = subst (λ (w : Inside g.row.A.Denot). Fails c.in-Err.fault (copies_of c.args.settings.now line.number inside.before w.names.equs count)) c.self-inside.view_is c.in-Err.ensures.copies in
+    begun-refused _ _ c.in_ok-counter.counter.now (copies_of c.args.settings.now line.number inside.before new.equs count) c.in-Err.fault due counts

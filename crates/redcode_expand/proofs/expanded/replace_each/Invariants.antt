@@ -3,7 +3,7 @@ use Rattle.std.proofs.Common.{◌≡◌, length}
 use Rattle.std.specs.Vec.Iter.{into_iter_items, into_iter_len}
 use Rattle.redcode_expand.specs.Expansion.{all_replaced}
 use Rattle.redcode_expand.proofs.Unchanged.{with_front}
-use Rattle.redcode_expand.proofs.expanded.replace_all.Given as goal
+use Rattle.redcode_expand.proofs.expanded.replace_each.Given as goal
 
 abbrev pub invariant-loop-entry : goal.invariant-loop-entry
 invariant-loop-entry g l =
