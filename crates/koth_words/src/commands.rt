@@ -1,28 +1,28 @@
 //! The commands with their files and options, as `clap` reads them.
 
-ghost use Rattle.std.specs.Prelude.{codes, IfOk};
-ghost use Rattle.clap.specs.Words.{App, new_app, with_subcommand};
+ghost use Rattle.std.specs.Prelude.{◌≡◌, codes, false, IfOk};
+ghost use Rattle.clap.specs.Words.{App, Rule, new_app, rule_of, with_rule, with_subcommand};
 ghost use Rattle.koth_words.specs.Commands.{asm_app, audit_app, check_app, create_app, fight_app, koth_app, migrate_app, page_app, replay_app, serve_app, show_app, submit_app, wants_subcommand, with_version, with_view, IsReadAs};
 
 use crate::arguments::{address, file, files, flag, form, port, ranged, source};
 use crate::options::{option, with_settings};
-use clap::Command;
+use clap::{Arg, Command};
 use std::alloc::{AllocError, Global};
 
 /// The program with its commands.
 pub(crate) fn koth_command<'a>(heap: Global) -> Result<Command<'a>, AllocError>
     ensures { IfOk result (IsReadAs koth_app) }
 {
-    let command = with_command(program(heap), asm_command(heap))?;
-    let command = with_command(command, check_command(heap))?;
-    let command = with_command(command, fight_command(heap))?;
-    let command = with_command(command, create_command(heap))?;
-    let command = with_command(command, submit_command(heap))?;
-    let command = with_command(command, show_command(heap))?;
-    let command = with_command(command, serve_command(heap))?;
-    let command = with_command(command, audit_command(heap))?;
-    let command = with_command(command, migrate_command(heap))?;
-    let command = with_command(command, page_command(heap))?;
+    let command = with_command(Ok(program(heap)), asm_command(heap));
+    let command = with_command(command, check_command(heap));
+    let command = with_command(command, fight_command(heap));
+    let command = with_command(command, create_command(heap));
+    let command = with_command(command, submit_command(heap));
+    let command = with_command(command, show_command(heap));
+    let command = with_command(command, serve_command(heap));
+    let command = with_command(command, audit_command(heap));
+    let command = with_command(command, migrate_command(heap));
+    let command = with_command(command, page_command(heap));
     with_command(command, replay_command(heap))
 }
 
@@ -41,7 +41,7 @@ fn asm_command<'a>(heap: Global) -> Result<Command<'a>, AllocError>
     ensures { IfOk result (IsReadAs asm_app) }
 {
     let command = described(heap, "asm", "Assembles a source, and writes its load text");
-    with_settings(heap, command.arg(source(heap))?)
+    with_settings(heap, with_arg(Ok(command), source(heap)))
 }
 
 fn check_command<'a>(heap: Global) -> Result<Command<'a>, AllocError>
@@ -51,10 +51,9 @@ fn check_command<'a>(heap: Global) -> Result<Command<'a>, AllocError>
         heap,
         "check",
         "Assembles sources, and writes what is wrong with them",
-    )
-    .arg(files(heap))?
-    .arg(form(heap))?;
-    with_settings(heap, command)
+    );
+    let command = with_arg(Ok(command), files(heap));
+    with_settings(heap, with_arg(command, form(heap)))
 }
 
 fn fight_command<'a>(heap: Global) -> Result<Command<'a>, AllocError>
@@ -64,10 +63,10 @@ fn fight_command<'a>(heap: Global) -> Result<Command<'a>, AllocError>
         heap,
         "fight",
         "Plays a match, and writes the rounds that A won, those that B won, and the ties",
-    )
-    .arg(file(heap, "A", "File of the older warrior"))?
-    .arg(file(heap, "B", "File of the younger warrior"))?;
-    with_settings(heap, with_view(heap, command)?)
+    );
+    let command = with_arg(Ok(command), file(heap, "A", "File of the older warrior"));
+    let command = with_arg(command, file(heap, "B", "File of the younger warrior"));
+    with_settings(heap, with_view(heap, command))
 }
 
 fn create_command<'a>(heap: Global) -> Result<Command<'a>, AllocError>
@@ -77,10 +76,18 @@ fn create_command<'a>(heap: Global) -> Result<Command<'a>, AllocError>
         heap,
         "create",
         "Creates a hill without warriors in a file, and writes CREATED",
+    );
+    let command = with_arg(
+        Ok(command),
+        file(heap, "FILE", "Hill file; created if missing"),
+    );
+    with_settings(
+        heap,
+        with_arg(
+            command,
+            flag(heap, "overwrite", "Replace what the file has"),
+        ),
     )
-    .arg(file(heap, "FILE", "Hill file; created if missing"))?
-    .arg(flag(heap, "overwrite", "Replace what the file has"))?;
-    with_settings(heap, command)
 }
 
 fn submit_command<'a>(heap: Global) -> Result<Command<'a>, AllocError>
@@ -90,9 +97,12 @@ fn submit_command<'a>(heap: Global) -> Result<Command<'a>, AllocError>
         heap,
         "submit",
         "Submits a warrior to a hill, and writes its place, its points or its refusal",
-    )
-    .arg(file(heap, "FILE", "Hill file"))?
-    .arg(file(heap, "SOURCE", "File of the warrior's source"))?;
+    );
+    let command = with_arg(Ok(command), file(heap, "FILE", "Hill file"));
+    let command = with_arg(
+        command,
+        file(heap, "SOURCE", "File of the warrior's source"),
+    );
     with_view(heap, command)
 }
 
@@ -103,81 +113,91 @@ fn show_command<'a>(heap: Global) -> Result<Command<'a>, AllocError>
         heap,
         "show",
         "Writes a hill's table: rank, entry, score, age, name and author of each warrior",
-    )
-    .arg(file(heap, "FILE", "Hill file"))?
-    .arg(flag(
+    );
+    let command = with_arg(Ok(command), file(heap, "FILE", "Hill file"));
+    let matches = flag(
         heap,
         "matches",
         "Write after the table who won how many rounds against whom",
-    ))?;
-    with_view(heap, command)
+    );
+    with_view(heap, with_arg(command, matches))
 }
 
 fn serve_command<'a>(heap: Global) -> Result<Command<'a>, AllocError>
     ensures { IfOk result (IsReadAs serve_app) }
 {
-    described(
+    let command = described(
         heap,
         "serve",
         "Serves sessions on a hill over connections, those of many peers at once",
-    )
-    .arg(file(heap, "FILE", "Hill file"))?
-    .arg(port(heap))?
-    .arg(ranged(
+    );
+    let command = with_arg(Ok(command), file(heap, "FILE", "Hill file"));
+    let command = with_arg(command, port(heap));
+    let peers = ranged(
         heap,
         "peers",
         1,
         1024,
         "Most peers served at once, 1 to 1024; with 1 it is one after the other [default: 64]",
-    ))?
-    .arg(address(heap))?
-    .arg(option(
+    );
+    let command = with_arg(with_arg(command, peers), address(heap));
+    let connections = option(
         heap,
         "connections",
         "Connections to serve before the program ends, 0 to 4294967295 [default: no limit]",
-    ))?
-    .arg(ranged(
+    );
+    let command = with_arg(command, connections);
+    let http = ranged(
         heap,
         "http",
         0,
         65535,
         "Port for browsers, which see the hill there, 0 to 65535; at 0 the system chooses one",
-    ))?
-    .arg(flag(heap, "quiet", "Write no line for each connection"))
+    );
+    with_arg(
+        with_arg(command, http),
+        flag(heap, "quiet", "Write no line for each connection"),
+    )
 }
 
 fn audit_command<'a>(heap: Global) -> Result<Command<'a>, AllocError>
     ensures { IfOk result (IsReadAs audit_app) }
 {
-    described(
+    let command = described(
         heap,
         "audit",
         "Fights every pair on a hill again, and writes whether each kept result is what its match gives",
-    )
-    .arg(file(heap, "FILE", "Hill file"))
+    );
+    with_arg(Ok(command), file(heap, "FILE", "Hill file"))
 }
 
 fn migrate_command<'a>(heap: Global) -> Result<Command<'a>, AllocError>
     ensures { IfOk result (IsReadAs migrate_app) }
 {
-    described(
+    let command = described(
         heap,
         "migrate",
         "Moves a hill of the layout before this one to a new file, and writes MIGRATED",
+    );
+    let command = with_arg(
+        Ok(command),
+        file(heap, "FILE", "Hill file, which stays as it is"),
+    );
+    with_arg(
+        command,
+        file(heap, "NEW", "New hill file; created if missing"),
     )
-    .arg(file(heap, "FILE", "Hill file, which stays as it is"))?
-    .arg(file(heap, "NEW", "New hill file; created if missing"))
 }
 
 fn page_command<'a>(heap: Global) -> Result<Command<'a>, AllocError>
     ensures { IfOk result (IsReadAs page_app) }
 {
-    described(
+    let command = described(
         heap,
         "page",
         "Writes the page of a hill: its table and its matches, as one file for a browser",
-    )
-    .arg(file(heap, "FILE", "Hill file"))
+    );
+    with_arg(Ok(command), file(heap, "FILE", "Hill file"))
 }
 
 fn replay_command<'a>(heap: Global) -> Result<Command<'a>, AllocError>
@@ -187,28 +207,31 @@ fn replay_command<'a>(heap: Global) -> Result<Command<'a>, AllocError>
         heap,
         "replay",
         "Writes a page that shows one round of a match turn by turn",
-    )
-    .arg(file(heap, "A", "File of the older warrior"))?
-    .arg(file(heap, "B", "File of the younger warrior"))?
-    .arg(ranged(
+    );
+    let command = with_arg(Ok(command), file(heap, "A", "File of the older warrior"));
+    let command = with_arg(command, file(heap, "B", "File of the younger warrior"));
+    let round = ranged(
         heap,
         "round",
         1,
         1000,
         "Round that is shown, 1 to 1000 [default: 1]",
-    ))?;
-    with_settings(heap, command)
+    );
+    with_settings(heap, with_arg(command, round))
 }
 
 /// The command with this one among its own, if that was made.
 fn with_command<'a>(
-    command: Command<'a>,
+    command: Result<Command<'a>, AllocError>,
     made: Result<Command<'a>, AllocError>,
 ) -> Result<Command<'a>, AllocError>
-    ensures { (app sub : App) → IsReadAs app command.entry → IfOk made.entry (IsReadAs sub)
+    ensures { (app sub : App) → IfOk command.entry (IsReadAs app) → IfOk made.entry (IsReadAs sub)
         → IfOk result (IsReadAs (with_subcommand app sub.top)) }
 {
-    command.subcommand(made?)
+    match (command, made) {
+        (Ok(command), Ok(made)) => command.subcommand(made),
+        _ => Err(AllocError),
+    }
 }
 
 /// The command of this name, with what help says of it.
@@ -219,10 +242,45 @@ fn described<'a>(heap: Global, name: &'a str, about: &'a str) -> Command<'a>
 }
 
 /// The command with the flags that say how output is laid out.
-fn with_view<'a>(heap: Global, command: Command<'a>) -> Result<Command<'a>, AllocError>
-    ensures { (app : App) → IsReadAs app command.entry → IfOk result (IsReadAs (with_view app)) }
+fn with_view<'a>(
+    heap: Global,
+    command: Result<Command<'a>, AllocError>,
+) -> Result<Command<'a>, AllocError>
+    ensures { (app : App) → IfOk command.entry (IsReadAs app) → IfOk result (IsReadAs (with_view app)) }
 {
-    command
-        .arg(flag(heap, "plain", "Write lines for programs; not with --table"))?
-        .arg(flag(heap, "table", "Write a table for people; not with --plain"))
+    let command = with_arg(
+        command,
+        flag(heap, "plain", "Write lines for programs; not with --table"),
+    );
+    with_arg(
+        command,
+        flag(heap, "table", "Write a table for people; not with --plain"),
+    )
+}
+
+/// The command with one argument more, if it was made.
+pub(crate) fn with_arg<'a>(
+    command: Result<Command<'a>, AllocError>,
+    arg: Arg<'a>,
+) -> Result<Command<'a>, AllocError>
+    ensures { (app : App) (rule : Rule) → IfOk command.entry (IsReadAs app) → rule_of arg.entry ≡ rule → arg.entry.global ≡ false
+        → IfOk result (IsReadAs (with_rule app rule)) }
+{
+    match command {
+        Ok(command) => command.arg(arg),
+        Err(error) => Err(error),
+    }
+}
+
+/// The command with this heading over the options that follow, if it was made.
+pub(crate) fn headed<'a>(
+    command: Result<Command<'a>, AllocError>,
+    heading: &'a str,
+) -> Result<Command<'a>, AllocError>
+    ensures { (app : App) → IfOk command.entry (IsReadAs app) → IfOk result (IsReadAs app) }
+{
+    match command {
+        Ok(command) => Ok(command.next_help_heading(heading)),
+        Err(error) => Err(error),
+    }
 }

@@ -1,9 +1,8 @@
--- Files and a form, and then the settings.
-use Rattle.koth_words.proofs.Build.{added}
+-- The arguments stand one behind the other.
 use Rattle.koth_words.proofs.commands.check_command.Goals as goal
 
 pub returns : goal.returns
 returns c =
-    let files = added c.in_ok-arg.ensures c.described.ensures c.files.ensures.rule c.files.ensures.global in
-    let form = added c.in_ok-command.ensures files c.form.ensures.rule c.form.ensures.global in
-    c.with_settings.ensures _ form
+    let a0 = c.with_arg-command.ensures _ _ c.described-command.ensures c.files.ensures.rule c.files.ensures.global in
+    let a1 = c.with_arg.ensures _ _ a0 c.form.ensures.rule c.form.ensures.global in
+    c.with_settings.ensures _ a1

@@ -1,9 +1,9 @@
--- Two files, the layouts, and then the settings.
-use Rattle.koth_words.proofs.Build.{added}
+-- The arguments stand one behind the other.
 use Rattle.koth_words.proofs.commands.fight_command.Goals as goal
 
 pub returns : goal.returns
 returns c =
-    let file = added c.in_ok-arg.ensures c.described.ensures c.file.ensures.rule c.file.ensures.global in
-    let file_2 = added c.in_ok-command.ensures file c.file-2.ensures.rule c.file-2.ensures.global in
-    c.with_settings.ensures _ (c.in_ok-with_view.ensures _ file_2)
+    let a0 = c.with_arg-command.ensures _ _ c.described-command.ensures c.file.ensures.rule c.file.ensures.global in
+    let a1 = c.with_arg-command-2.ensures _ _ a0 c.file-2.ensures.rule c.file-2.ensures.global in
+    let s2 = c.with_view.ensures _ a1 in
+    c.with_settings.ensures _ s2

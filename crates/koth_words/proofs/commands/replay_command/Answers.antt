@@ -1,10 +1,9 @@
--- Two files, the round, and then the settings.
-use Rattle.koth_words.proofs.Build.{added}
+-- The arguments stand one behind the other.
 use Rattle.koth_words.proofs.commands.replay_command.Goals as goal
 
 pub returns : goal.returns
 returns c =
-    let file = added c.in_ok-arg.ensures c.described.ensures c.file.ensures.rule c.file.ensures.global in
-    let file_2 = added c.in_ok-arg-2.ensures file c.file-2.ensures.rule c.file-2.ensures.global in
-    let round = added c.in_ok-command.ensures file_2 c.ranged.ensures.rule c.ranged.ensures.global in
-    c.with_settings.ensures _ round
+    let a0 = c.with_arg-command.ensures _ _ c.described-command.ensures c.file.ensures.rule c.file.ensures.global in
+    let a1 = c.with_arg-command-2.ensures _ _ a0 c.file-2.ensures.rule c.file-2.ensures.global in
+    let a2 = c.with_arg.ensures _ _ a1 c.ranged-round.ensures.rule c.ranged-round.ensures.global in
+    c.with_settings.ensures _ a2

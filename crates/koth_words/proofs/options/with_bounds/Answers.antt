@@ -1,11 +1,9 @@
--- The options stand one behind the other.
-use Rattle.std.proofs.lemmas.Result.{IfOk-weaker}
-use Rattle.koth_words.proofs.Build.{added}
+-- The arguments stand one behind the other.
 use Rattle.koth_words.proofs.options.with_bounds.Goals as goal
 
 pub returns : goal.returns
 returns c app is =
-    let lettered = added c.in_ok-arg.ensures is c.lettered.ensures.rule c.lettered.ensures.global in
-    let lettered_2 = added c.in_ok-arg-2.ensures lettered c.lettered-2.ensures.rule c.lettered-2.ensures.global in
-    let option = added c.in_ok-arg-3.ensures lettered_2 c.option.ensures.rule c.option.ensures.global in
-    IfOk-weaker c.arg-4.result _ _ (λ r adds. added adds option c.option-2.ensures.rule c.option-2.ensures.global) c.arg-4.ensures
+    let a0 = c.with_arg.ensures _ _ is c.lettered-cycles.ensures.rule c.lettered-cycles.ensures.global in
+    let a1 = c.with_arg-2.ensures _ _ a0 c.lettered-rounds.ensures.rule c.lettered-rounds.ensures.global in
+    let a2 = c.with_arg-3.ensures _ _ a1 c.option-read_limit.ensures.rule c.option-read_limit.ensures.global in
+    c.with_arg-4.ensures _ _ a2 c.option-write_limit.ensures.rule c.option-write_limit.ensures.global

@@ -1,11 +1,9 @@
--- The options stand one behind the other.
-use Rattle.std.proofs.lemmas.Result.{IfOk-weaker}
-use Rattle.koth_words.proofs.Build.{added}
+-- The arguments stand one behind the other.
 use Rattle.koth_words.proofs.options.with_sizes.Goals as goal
 
 pub returns : goal.returns
 returns c app is =
-    let lettered = added c.in_ok-arg.ensures is c.lettered.ensures.rule c.lettered.ensures.global in
-    let lettered_2 = added c.in_ok-arg-2.ensures lettered c.lettered-2.ensures.rule c.lettered-2.ensures.global in
-    let lettered_3 = added c.in_ok-arg-3.ensures lettered_2 c.lettered-3.ensures.rule c.lettered-3.ensures.global in
-    IfOk-weaker c.arg-4.result _ _ (λ r adds. added adds lettered_3 c.lettered-4.ensures.rule c.lettered-4.ensures.global) c.arg-4.ensures
+    let a0 = c.with_arg.ensures _ _ is c.lettered-core.ensures.rule c.lettered-core.ensures.global in
+    let a1 = c.with_arg-2.ensures _ _ a0 c.lettered-processes.ensures.rule c.lettered-processes.ensures.global in
+    let a2 = c.with_arg-3.ensures _ _ a1 c.lettered-length.ensures.rule c.lettered-length.ensures.global in
+    c.with_arg-4.ensures _ _ a2 c.lettered-distance.ensures.rule c.lettered-distance.ensures.global
