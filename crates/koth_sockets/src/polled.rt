@@ -51,9 +51,7 @@ impl<'r, R: Net + Clock, A: Allocator + Copy> PolledSockets<'r, R, A> {
     ) -> io::Result<PolledSockets<'r, R, A>> {
         let start = Instant::now(rt)?;
         let poll = Poll::new(rt)?;
-        let mut listener = TcpListener::bind(rt, address)?;
-        poll.registry()
-            .register(&mut listener, LISTENER, Interest::READABLE)?;
+        let listener = listener_at(rt, &poll, LISTENER, address)?;
         Ok(PolledSockets {
             clock: rt,
             start,
@@ -78,10 +76,7 @@ impl<'r, R: Net + Clock, A: Allocator + Copy> PolledSockets<'r, R, A> {
         address: SocketAddr,
         most: usize,
     ) -> io::Result<()> {
-        let mut listener = TcpListener::bind(rt, address)?;
-        self.poll
-            .registry()
-            .register(&mut listener, PAGES, Interest::READABLE)?;
+        let listener = listener_at(rt, &self.poll, PAGES, address)?;
         self.browsers = no_lines(alloc, most)?;
         self.pages = Some(listener);
         Ok(())
@@ -117,17 +112,42 @@ impl<'r, R, A: Allocator> PolledSockets<'r, R, A> {
             }
         }
     }
+}
 
-    fn put(&mut self, number: usize, line: Option<Line>) {
-        if let Some(place) = self.lines.get_mut(number) {
-            *place = line;
-        }
+/// A listener at this address, whose events have this token.
+fn listener_at<R: Net>(
+    rt: &R,
+    poll: &Poll,
+    token: Token,
+    address: SocketAddr,
+) -> io::Result<TcpListener> {
+    let mut listener = TcpListener::bind(rt, address)?;
+    poll.registry()
+        .register(&mut listener, token, Interest::READABLE)?;
+    Ok(listener)
+}
+
+fn put<A: Allocator>(lines: &mut Vec<Option<Line>, A>, number: usize, line: Option<Line>) {
+    if let Some(place) = lines.get_mut(number) {
+        *place = line;
     }
+}
 
-    fn put_browser(&mut self, number: usize, line: Option<Line>) {
-        if let Some(place) = self.browsers.get_mut(number) {
-            *place = line;
+/// The next socket of a listener, or the answer if there is none. `can_accept` is whether one may be waiting.
+fn accepted_by(
+    listener: &TcpListener,
+    can_accept: &mut bool,
+) -> Result<(TcpStream, SocketAddr), Arrival> {
+    if !*can_accept {
+        return Err(Arrival::Nobody);
+    }
+    match listener.accept() {
+        Ok(accepted) => Ok(accepted),
+        Err(error) if error.kind() == ErrorKind::WouldBlock => {
+            *can_accept = false;
+            Err(Arrival::Nobody)
         }
+        Err(_) => Err(Arrival::Failed),
     }
 }
 
@@ -176,28 +196,19 @@ impl<'r, R: Clock, A: Allocator> Sockets for PolledSockets<'r, R, A> {
     }
 
     fn accept(&mut self) -> Arrival {
-        if !self.can_accept {
-            return Arrival::Nobody;
-        }
-        match self.listener.accept() {
+        match accepted_by(&self.listener, &mut self.can_accept) {
             Ok((stream, address)) => {
                 self.accepted = Some(stream);
                 Arrival::Peer(address)
             }
-            Err(error) => match error.kind() {
-                ErrorKind::WouldBlock => {
-                    self.can_accept = false;
-                    Arrival::Nobody
-                }
-                _ => Arrival::Failed,
-            },
+            Err(arrival) => arrival,
         }
     }
 
     fn seat(&mut self, number: usize) {
         if let Some(stream) = self.accepted.take() {
             let line = Line::new(stream, self.poll.registry(), Token(number));
-            self.put(number, line);
+            put(&mut self.lines, number, line);
         }
     }
 
@@ -233,30 +244,21 @@ impl<'r, R: Clock, A: Allocator> Sockets for PolledSockets<'r, R, A> {
     }
 
     fn close(&mut self, number: usize) {
-        self.put(number, None);
+        put(&mut self.lines, number, None);
     }
 
     fn admit_browser(&mut self, number: usize) -> Arrival {
         let Some(listener) = &self.pages else {
             return Arrival::Nobody;
         };
-        if !self.can_admit {
-            return Arrival::Nobody;
-        }
-        match listener.accept() {
+        match accepted_by(listener, &mut self.can_admit) {
             Ok((stream, address)) => {
                 let token = Token(self.lines.len().saturating_add(number));
                 let line = Line::new(stream, self.poll.registry(), token);
-                self.put_browser(number, line);
+                put(&mut self.browsers, number, line);
                 Arrival::Peer(address)
             }
-            Err(error) => match error.kind() {
-                ErrorKind::WouldBlock => {
-                    self.can_admit = false;
-                    Arrival::Nobody
-                }
-                _ => Arrival::Failed,
-            },
+            Err(arrival) => arrival,
         }
     }
 
@@ -281,6 +283,6 @@ impl<'r, R: Clock, A: Allocator> Sockets for PolledSockets<'r, R, A> {
     }
 
     fn close_browser(&mut self, number: usize) {
-        self.put_browser(number, None);
+        put(&mut self.browsers, number, None);
     }
 }
