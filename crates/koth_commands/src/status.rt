@@ -3,17 +3,17 @@
 ghost use Rattle.std.specs.Prelude.{◌≡◌};
 
 /// How a run ends. The order is that of the numbers that the program leaves with, 0 to 4.
-#[derive(Clone, Copy, Debug, PartialEq, Eq)]
+#[derive(Clone, Copy, PartialEq, Eq)]
 pub enum Status {
     /// It is done. Help is done too.
     Done,
     /// It is refused: a source by the assembler, or a setting that is out of its range.
     Refused,
-    /// The words ask for nothing that the program does.
+    /// The arguments ask for nothing that the program does.
     WordFault,
     /// A stream or a file failed: opening, a read or a write gave an error, or a write took no byte.
     StreamFault,
-    /// A growth of memory was refused.
+    /// Out of memory.
     NoMemory,
 }
 
