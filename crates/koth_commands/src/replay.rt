@@ -19,12 +19,12 @@ use std::io::Write;
 use std::rt::Files;
 use war_types::{RawSettings, Settings, Warrior};
 
-/// Turns of a round that its page has at most: more than a round has under the settings that nobody changed.
+/// Most turns of a round that its page has: more than a round has under the default settings.
 pub(crate) const MOST_TURNS: u32 = 200_000;
 
 /// Plays the round of this number, counted from 1, of the match of the warriors in two files, under the settings that are given, and writes
-/// the page on which it is watched. Settings that are out of their ranges are refused before a file is read, and so is a round that the match
-/// doesn't have; the older warrior is read and assembled before the younger one's file is opened.
+/// the page that shows it. Settings that are out of their ranges are refused before a file is read, and so is a round that the match
+/// doesn't have. The older warrior is read and assembled before the younger one's file is opened.
 pub fn replay<R: Files, A: Allocator + Copy, O: Write, E: Write>(
     rt: &R,
     alloc: A,
@@ -40,16 +40,31 @@ pub fn replay<R: Files, A: Allocator + Copy, O: Write, E: Write>(
         (streams None (O.contents output.new) (E.contents errors.new)) }
 {
     match Settings::new(given) {
-        Ok(settings) => {
-            if !has_round(&settings, round) {
-                return refuse_round(alloc, given.rounds, round, errors);
-            }
-            match pair_in(rt, alloc, &settings, older, younger) {
-                Ok(pair) => answer_round(alloc, &settings, &pair, round, output, errors),
-                Err(none) => answer_no_match(alloc, &settings, &none, output, errors),
-            }
+        Ok(settings) if has_round(&settings, round) => {
+            replay_under(rt, alloc, &settings, older, younger, round, output, errors)
         }
+        Ok(_) => refuse_round(alloc, given.rounds, round, errors),
         Err(fault) => refuse_settings(alloc, given, fault, errors),
+    }
+}
+
+fn replay_under<R: Files, A: Allocator + Copy, O: Write, E: Write>(
+    rt: &R,
+    alloc: A,
+    settings: &Settings,
+    older: &str,
+    younger: &str,
+    round: u32,
+    output: &mut O,
+    errors: &mut E,
+) -> Status
+    requires { has_round settings.now round ≡ true }
+    ensures { EndsReplayUnder settings.now round result
+        (O.contents output.old) (O.contents output.new) (E.contents errors.old) (E.contents errors.new) }
+{
+    match pair_in(rt, alloc, settings, older, younger) {
+        Ok(pair) => answer_round(alloc, settings, &pair, round, output, errors),
+        Err(none) => answer_no_match(alloc, settings, &none, output, errors),
     }
 }
 
@@ -94,7 +109,7 @@ fn page_of<A: Allocator + Copy>(
     round_text(alloc, settings, &pair.older, &pair.younger, round)
 }
 
-/// The page of a round, counted from 1, of the match of two warriors. The error is want of memory.
+/// The page of a round, counted from 1, of the match of two warriors. The error is a lack of memory.
 pub fn round_text<A: Allocator + Copy, B: Allocator, C: Allocator>(
     alloc: A,
     settings: &Settings,
