@@ -1,4 +1,4 @@
--- What events draw: those of cells, those of processes, and those of a turn.
+-- What the events of cells, of processes and of a turn draw.
 use Rattle.std.proofs.Common.{◌≡◌, ℕ, zero, suc, ◌+◌, ◌-◌, ◌<◌, ◌≤◌, Bool, true, false, ◌&&◌, ◌==◌, if◌then◌else◌, List, [], ◌∷◌, ◌++◌, length, map, take, drop, get_or, set, slice_index, refl, sym, ap, subst, ◌∙◌, append_assoc, append-nil, eqb-true, arith}
 use Rattle.std.proofs.lemmas.Bool.{and_parts}
 use Rattle.std.proofs.lemmas.List.{take_all, drop_all, take_at, take-take, take-append-drop, set-get_or}
@@ -124,7 +124,7 @@ grown limit rest more room =
     let front : rest ≡ take (length rest) all = sym (take-take (length rest) limit (rest ++ more) room ∙ take_at rest more (length rest) refl) in
     ap (λ l. l ++ drop (length rest) all) front ∙ take-append-drop (length rest) all
 
--- a queue that holds what was behind the front, and more
+-- a queue that holds what came after the front, and more
 abbrev Follows : List ℕ → List ℕ → Type 0
 Follows old new = drop 1 old ++ drop (length old - 1) new ≡ new
 

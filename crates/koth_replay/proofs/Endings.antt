@@ -32,7 +32,7 @@ either-over : (over : Bool) (t : Turned) → (over ≡ false → was_over t ≡ 
 either-over true t on = refl
 either-over false t on = on refl
 
--- a turn tells that the round was over, and only then
+-- a turn answers that the round was over, and only if it was
 pub over-told : (r : Round) → was_over (turned r) ≡ is_over r
 unfolding turned
 over-told r =
@@ -65,19 +65,6 @@ after_side-kept : (m : Side) (core : List Instr) (queue : List ℕ) (r : Round) 
     ((after_side m core queue r).settings ≡ r.settings) × ((after_side m core queue r).used ≡ r.used + 1)
 after_side-kept sides.First core queue r = (refl, refl)
 after_side-kept sides.Second core queue r = (refl, refl)
-
-either-settings : (over : Bool) (r next : Round) → next.settings ≡ r.settings → (if over then r else next).settings ≡ r.settings
-either-settings true r next e = refl
-either-settings false r next e = e
-
-pub after_turn-settings : (r : Round) → (after_turn r).settings ≡ r.settings
-unfolding after_turn
-after_turn-settings r = either-settings (is_over r) r _ (after_side-kept r.to_move (turn_of r).core (turn_of r).queue r).0
-
-pub after_turns-settings : (n : ℕ) (r : Round) → (after_turns n r).settings ≡ r.settings
-unfolding after_turns
-after_turns-settings zero r = refl
-after_turns-settings (suc n) r = after_turns-settings n (after_turn r) ∙ after_turn-settings r
 
 -- a turn uses one
 pub after_turn-used : (r : Round) → is_over r ≡ false → (after_turn r).used ≡ r.used + 1
@@ -139,7 +126,7 @@ plays-there start now next last n m now_is next_is last_is o =
 
 -- ---- how many turns are kept
 
--- so many of all turns, at most: a number of them that are kept, and whether there are more
+-- the number of turns that are kept, `most` of all at most, and whether there are more
 pub record IsCount (most kept total : ℕ) (more : Bool) : Type 0 where
   pub count : kept ≡ min most total
   pub cut : more ≡ nat_lt most total
