@@ -21,7 +21,7 @@ pub(crate) fn source<'a>(heap: Global) -> Arg<'a>
     ensures rule { rule_of result ≡ new_rule (codes "FILE") }
     ensures global { result.global ≡ false }
 {
-    Arg::new(heap, "FILE").help("File of the source; standard input if left out, or if -")
+    Arg::new(heap, "FILE").help("File of the source; standard input if left out or -")
 }
 
 pub(crate) fn files<'a>(heap: Global) -> Arg<'a>
@@ -38,7 +38,7 @@ pub(crate) fn form<'a>(heap: Global) -> Arg<'a>
     Arg::new(heap, "format")
         .long("format")
         .value_name("FORM")
-        .help("Form of what is written, text or json [default: text]")
+        .help("Format of the report, text or json [default: text]")
 }
 
 pub(crate) fn port<'a>(heap: Global) -> Arg<'a>

@@ -47,180 +47,111 @@ fn asm_command<'a>(heap: Global) -> Result<Command<'a>, AllocError>
 fn check_command<'a>(heap: Global) -> Result<Command<'a>, AllocError>
     ensures { IfOk result (IsReadAs check_app) }
 {
-    let command = described(
-        heap,
-        "check",
-        "Assembles sources, and writes what is wrong with them",
-    );
-    let command = with_arg(Ok(command), files(heap));
+    let about = "Assembles sources, and reports what is wrong with them";
+    let command = with_arg(Ok(described(heap, "check", about)), files(heap));
     with_settings(heap, with_arg(command, form(heap)))
 }
 
 fn fight_command<'a>(heap: Global) -> Result<Command<'a>, AllocError>
     ensures { IfOk result (IsReadAs fight_app) }
 {
-    let command = described(
-        heap,
-        "fight",
-        "Plays a match, and writes the rounds that A won, those that B won, and the ties",
-    );
-    let command = with_arg(Ok(command), file(heap, "A", "File of the older warrior"));
-    let command = with_arg(command, file(heap, "B", "File of the younger warrior"));
-    with_settings(heap, with_view(heap, command))
+    let about = "Plays a match, and writes how many rounds A won, how many B won, and the ties";
+    let a = file(heap, "A", "File of the older warrior");
+    let b = file(heap, "B", "File of the younger warrior");
+    let command = with_arg(Ok(described(heap, "fight", about)), a);
+    with_settings(heap, with_view(heap, with_arg(command, b)))
 }
 
 fn create_command<'a>(heap: Global) -> Result<Command<'a>, AllocError>
     ensures { IfOk result (IsReadAs create_app) }
 {
-    let command = described(
-        heap,
-        "create",
-        "Creates a hill without warriors in a file, and writes CREATED",
-    );
-    let command = with_arg(
-        Ok(command),
-        file(heap, "FILE", "Hill file; created if missing"),
-    );
-    with_settings(
-        heap,
-        with_arg(
-            command,
-            flag(heap, "overwrite", "Replace what the file has"),
-        ),
-    )
+    let about = "Creates a hill without warriors in a file, and writes CREATED";
+    let hill = file(heap, "FILE", "Hill file; created if missing");
+    let command = with_arg(Ok(described(heap, "create", about)), hill);
+    let overwrite = flag(heap, "overwrite", "Replace what is in the file");
+    with_settings(heap, with_arg(command, overwrite))
 }
 
 fn submit_command<'a>(heap: Global) -> Result<Command<'a>, AllocError>
     ensures { IfOk result (IsReadAs submit_app) }
 {
-    let command = described(
-        heap,
-        "submit",
-        "Submits a warrior to a hill, and writes its place, its points or its refusal",
-    );
-    let command = with_arg(Ok(command), file(heap, "FILE", "Hill file"));
-    let command = with_arg(
-        command,
-        file(heap, "SOURCE", "File of the warrior's source"),
-    );
-    with_view(heap, command)
+    let about = "Submits a warrior to a hill, and writes whether it is placed, falls or is refused";
+    let hill = file(heap, "FILE", "Hill file");
+    let source = file(heap, "SOURCE", "File of the warrior's source");
+    let command = with_arg(Ok(described(heap, "submit", about)), hill);
+    with_view(heap, with_arg(command, source))
 }
 
 fn show_command<'a>(heap: Global) -> Result<Command<'a>, AllocError>
     ensures { IfOk result (IsReadAs show_app) }
 {
-    let command = described(
-        heap,
-        "show",
-        "Writes a hill's table: rank, entry, score, age, name and author of each warrior",
-    );
-    let command = with_arg(Ok(command), file(heap, "FILE", "Hill file"));
-    let matches = flag(
-        heap,
-        "matches",
-        "Write after the table who won how many rounds against whom",
-    );
-    with_view(heap, with_arg(command, matches))
+    let about = "Writes a hill's table: rank, entry, score, age, name and author of each warrior";
+    let hill = file(heap, "FILE", "Hill file");
+    let command = with_arg(Ok(described(heap, "show", about)), hill);
+    let help = "Write after the table how many rounds each warrior won against each other";
+    with_view(heap, with_arg(command, flag(heap, "matches", help)))
 }
 
 fn serve_command<'a>(heap: Global) -> Result<Command<'a>, AllocError>
     ensures { IfOk result (IsReadAs serve_app) }
 {
-    let command = described(
-        heap,
-        "serve",
-        "Serves sessions on a hill over connections, those of many peers at once",
-    );
-    let command = with_arg(Ok(command), file(heap, "FILE", "Hill file"));
+    let about = "Serves sessions on a hill over connections, those of many peers at once";
+    let hill = file(heap, "FILE", "Hill file");
+    let command = with_arg(Ok(described(heap, "serve", about)), hill);
     let command = with_arg(command, port(heap));
-    let peers = ranged(
-        heap,
-        "peers",
-        1,
-        1024,
-        "Most peers served at once, 1 to 1024; with 1 it is one after the other [default: 64]",
-    );
-    let command = with_arg(with_arg(command, peers), address(heap));
-    let connections = option(
-        heap,
-        "connections",
-        "Connections to serve before the program ends, 0 to 4294967295 [default: no limit]",
-    );
-    let command = with_arg(command, connections);
-    let http = ranged(
-        heap,
-        "http",
-        0,
-        65535,
-        "Port for browsers, which see the hill there, 0 to 65535; at 0 the system chooses one",
-    );
-    with_arg(
-        with_arg(command, http),
-        flag(heap, "quiet", "Write no line for each connection"),
-    )
+    let help =
+        "Most peers served at once, 1 to 1024; with 1 it is one after the other [default: 64]";
+    let command = with_arg(command, ranged(heap, "peers", 1, 1024, help));
+    let command = with_arg(command, address(heap));
+    let help = "Connections to serve before the program ends, 0 to 4294967295 [default: no limit]";
+    let command = with_arg(command, option(heap, "connections", help));
+    let help = "Port at which browsers see the hill, 0 to 65535; at 0 the system chooses one";
+    let command = with_arg(command, ranged(heap, "http", 0, 65535, help));
+    let quiet = flag(heap, "quiet", "Write no line for each connection");
+    with_arg(command, quiet)
 }
 
 fn audit_command<'a>(heap: Global) -> Result<Command<'a>, AllocError>
     ensures { IfOk result (IsReadAs audit_app) }
 {
-    let command = described(
-        heap,
-        "audit",
-        "Fights every pair on a hill again, and writes whether each kept result is what its match gives",
-    );
+    let about =
+        "Plays the match of each pair on a hill again, and writes whether all kept results are right";
+    let command = described(heap, "audit", about);
     with_arg(Ok(command), file(heap, "FILE", "Hill file"))
 }
 
 fn migrate_command<'a>(heap: Global) -> Result<Command<'a>, AllocError>
     ensures { IfOk result (IsReadAs migrate_app) }
 {
-    let command = described(
-        heap,
-        "migrate",
-        "Moves a hill of the layout before this one to a new file, and writes MIGRATED",
-    );
-    let command = with_arg(
-        Ok(command),
-        file(heap, "FILE", "Hill file, which stays as it is"),
-    );
-    with_arg(
-        command,
-        file(heap, "NEW", "New hill file; created if missing"),
-    )
+    let about = "Moves a hill of the old format to a new file, and writes MIGRATED";
+    let old = file(heap, "FILE", "Hill file, which stays as it is");
+    let new = file(heap, "NEW", "New hill file; created if missing");
+    with_arg(with_arg(Ok(described(heap, "migrate", about)), old), new)
 }
 
 fn page_command<'a>(heap: Global) -> Result<Command<'a>, AllocError>
     ensures { IfOk result (IsReadAs page_app) }
 {
-    let command = described(
-        heap,
-        "page",
-        "Writes the page of a hill: its table and its matches, as one file for a browser",
-    );
+    let about = "Writes the page of a hill: its table and its matches, as one file for a browser";
+    let command = described(heap, "page", about);
     with_arg(Ok(command), file(heap, "FILE", "Hill file"))
 }
 
 fn replay_command<'a>(heap: Global) -> Result<Command<'a>, AllocError>
     ensures { IfOk result (IsReadAs replay_app) }
 {
-    let command = described(
+    let about = "Writes a page that shows one round of a match turn by turn";
+    let a = file(heap, "A", "File of the older warrior");
+    let b = file(heap, "B", "File of the younger warrior");
+    let command = with_arg(with_arg(Ok(described(heap, "replay", about)), a), b);
+    let help = "Round that is shown, 1 to 1000 [default: 1]";
+    with_settings(
         heap,
-        "replay",
-        "Writes a page that shows one round of a match turn by turn",
-    );
-    let command = with_arg(Ok(command), file(heap, "A", "File of the older warrior"));
-    let command = with_arg(command, file(heap, "B", "File of the younger warrior"));
-    let round = ranged(
-        heap,
-        "round",
-        1,
-        1000,
-        "Round that is shown, 1 to 1000 [default: 1]",
-    );
-    with_settings(heap, with_arg(command, round))
+        with_arg(command, ranged(heap, "round", 1, 1000, help)),
+    )
 }
 
-/// The command with this one among its own, if that was made.
+/// The command with this one among its own, if both were made.
 fn with_command<'a>(
     command: Result<Command<'a>, AllocError>,
     made: Result<Command<'a>, AllocError>,
@@ -248,14 +179,9 @@ fn with_view<'a>(
 ) -> Result<Command<'a>, AllocError>
     ensures { (app : App) → IfOk command.entry (IsReadAs app) → IfOk result (IsReadAs (with_view app)) }
 {
-    let command = with_arg(
-        command,
-        flag(heap, "plain", "Write lines for programs; not with --table"),
-    );
-    with_arg(
-        command,
-        flag(heap, "table", "Write a table for people; not with --plain"),
-    )
+    let plain = flag(heap, "plain", "Write lines for programs; not with --table");
+    let table = flag(heap, "table", "Write a table for people; not with --plain");
+    with_arg(with_arg(command, plain), table)
 }
 
 /// The command with one argument more, if it was made.

@@ -1,7 +1,7 @@
--- The arguments stand one behind the other.
+-- One argument after the other.
 use Rattle.koth_words.proofs.commands.asm_command.Goals as goal
 
 pub returns : goal.returns
 returns c =
-    let a0 = c.with_arg.ensures _ _ c.described-command.ensures c.source.ensures.rule c.source.ensures.global in
-    c.with_settings.ensures _ a0
+    let first = c.with_arg.ensures _ _ c.described-command.ensures c.source.ensures.rule c.source.ensures.global in
+    c.with_settings.ensures _ first

@@ -1,8 +1,8 @@
--- The arguments stand one behind the other.
+-- One argument after the other.
 use Rattle.koth_words.proofs.commands.create_command.Goals as goal
 
 pub returns : goal.returns
 returns c =
-    let a0 = c.with_arg-command.ensures _ _ c.described-command.ensures c.file.ensures.rule c.file.ensures.global in
-    let a1 = c.with_arg.ensures _ _ a0 c.flag.ensures.rule c.flag.ensures.global in
-    c.with_settings.ensures _ a1
+    let first = c.with_arg-command.ensures _ _ c.described.ensures c.file-hill.ensures.rule c.file-hill.ensures.global in
+    let second = c.with_arg.ensures _ _ first c.flag-overwrite.ensures.rule c.flag-overwrite.ensures.global in
+    c.with_settings.ensures _ second

@@ -1,7 +1,7 @@
--- The arguments stand one behind the other.
+-- One argument after the other.
 use Rattle.koth_words.proofs.commands.migrate_command.Goals as goal
 
 pub returns : goal.returns
 returns c =
-    let a0 = c.with_arg-command.ensures _ _ c.described-command.ensures c.file.ensures.rule c.file.ensures.global in
-    c.with_arg.ensures _ _ a0 c.file-2.ensures.rule c.file-2.ensures.global
+    let first = c.with_arg.ensures _ _ c.described.ensures c.file-old.ensures.rule c.file-old.ensures.global in
+    c.with_arg-2.ensures _ _ first c.file-new.ensures.rule c.file-new.ensures.global

@@ -1,9 +1,9 @@
--- The arguments stand one behind the other.
+-- One argument after the other.
 use Rattle.koth_words.proofs.commands.replay_command.Goals as goal
 
 pub returns : goal.returns
 returns c =
-    let a0 = c.with_arg-command.ensures _ _ c.described-command.ensures c.file.ensures.rule c.file.ensures.global in
-    let a1 = c.with_arg-command-2.ensures _ _ a0 c.file-2.ensures.rule c.file-2.ensures.global in
-    let a2 = c.with_arg.ensures _ _ a1 c.ranged-round.ensures.rule c.ranged-round.ensures.global in
-    c.with_settings.ensures _ a2
+    let first = c.with_arg.ensures _ _ c.described.ensures c.file-a.ensures.rule c.file-a.ensures.global in
+    let second = c.with_arg-command.ensures _ _ first c.file-b.ensures.rule c.file-b.ensures.global in
+    let third = c.with_arg-2.ensures _ _ second c.ranged.ensures.rule c.ranged.ensures.global in
+    c.with_settings.ensures _ third

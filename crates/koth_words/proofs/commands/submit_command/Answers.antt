@@ -1,8 +1,8 @@
--- The arguments stand one behind the other.
+-- One argument after the other.
 use Rattle.koth_words.proofs.commands.submit_command.Goals as goal
 
 pub returns : goal.returns
 returns c =
-    let a0 = c.with_arg-command.ensures _ _ c.described-command.ensures c.file.ensures.rule c.file.ensures.global in
-    let a1 = c.with_arg-command-2.ensures _ _ a0 c.file-2.ensures.rule c.file-2.ensures.global in
-    c.with_view.ensures _ a1
+    let first = c.with_arg-command.ensures _ _ c.described.ensures c.file-hill.ensures.rule c.file-hill.ensures.global in
+    let second = c.with_arg.ensures _ _ first c.file-source.ensures.rule c.file-source.ensures.global in
+    c.with_view.ensures _ second

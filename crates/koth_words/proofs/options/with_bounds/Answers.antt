@@ -1,9 +1,9 @@
--- The arguments stand one behind the other.
+-- One argument after the other.
 use Rattle.koth_words.proofs.options.with_bounds.Goals as goal
 
 pub returns : goal.returns
 returns c app is =
-    let a0 = c.with_arg.ensures _ _ is c.lettered-cycles.ensures.rule c.lettered-cycles.ensures.global in
-    let a1 = c.with_arg-2.ensures _ _ a0 c.lettered-rounds.ensures.rule c.lettered-rounds.ensures.global in
-    let a2 = c.with_arg-3.ensures _ _ a1 c.option-read_limit.ensures.rule c.option-read_limit.ensures.global in
-    c.with_arg-4.ensures _ _ a2 c.option-write_limit.ensures.rule c.option-write_limit.ensures.global
+    let first = c.with_arg-command.ensures _ _ is c.lettered.ensures.rule c.lettered.ensures.global in
+    let second = c.with_arg-command-2.ensures _ _ first c.lettered-2.ensures.rule c.lettered-2.ensures.global in
+    let third = c.with_arg-command-3.ensures _ _ second c.option.ensures.rule c.option.ensures.global in
+    c.with_arg.ensures _ _ third c.option-2.ensures.rule c.option-2.ensures.global
