@@ -1,13 +1,9 @@
 -- From a round's seed to the next.
-use Rattle.std.proofs.Common.{◌≡◌, ◌∙◌, ℕ, suc, ◌*◌, ◌^◌, ◌%◌, ◌≤◌, sym, ap, arith}
+use Rattle.std.proofs.Common.{◌≡◌, ◌∙◌, ℕ, suc, ◌*◌, ◌^◌, ◌%◌, sym, ap, arith}
 use Rattle.std.proofs.Math.Nat.{pow-suc}
 use Rattle.std.proofs.lemmas.Nat.{mul-mod_second}
 use Rattle.war_types.specs.declared.settings.RawSettings.{RawSettings}
 use Rattle.koth_match.specs.Seeds.{next_seed, seed_of_round}
-
--- the first round has the settings' seed
-pub seed_of_round-first : (s : RawSettings) → s.seed ≤ 2147483646 → s.seed ≡ seed_of_round s 0
-seed_of_round-first s most = grind arith
 
 once_more : (seed power : ℕ) → 16807 * (seed * power) ≡ seed * (power * 16807)
 once_more seed power = grind arith

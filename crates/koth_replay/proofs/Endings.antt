@@ -1,5 +1,5 @@
 -- Whether there was a turn, what turns keep, and the end of a round.
-use Rattle.std.proofs.Common.{◌≡◌, ℕ, zero, suc, ◌+◌, ◌*◌, ◌<◌, ◌≤◌, min, nat_lt, not, Bool, true, false, if◌then◌else◌, List, [], ◌∷◌, length, slice_get, slice_index, Option, Some, inl, inr, refl, sym, ap, subst, ◌∙◌, zero-add, arith}
+use Rattle.std.proofs.Common.{◌≡◌, ℕ, zero, suc, ◌+◌, ◌*◌, ◌<◌, ◌≤◌, min, nat_lt, not, Bool, true, false, if◌then◌else◌, List, [], ◌∷◌, slice_get, slice_index, Option, Some, inl, inr, refl, sym, ap, subst, ◌∙◌, zero-add, arith}
 use Rattle.std.proofs.lemmas.Bool.{both_ways, cases_lt}
 use Rattle.std.proofs.lemmas.Bool.Decides.{nat_tests}
 use Rattle.war_types.specs.declared.instr.Instr.{Instr}
@@ -49,15 +49,12 @@ stays-over r next o is = is ∙ sym (after_turn-over r true (sym o) refl)
 
 -- ---- the front of a queue
 
-front-some : (queue : List ℕ) → is_empty queue ≡ false → (slice_get queue 0 ≡ Some (slice_index queue 0)) × (1 ≤ length queue)
+front-some : (queue : List ℕ) → is_empty queue ≡ false → slice_get queue 0 ≡ Some (slice_index queue 0)
 front-some [] lives = cc
-front-some (x ∷ xs) lives = (refl, omega arith)
+front-some (x ∷ xs) lives = refl
 
 pub front-found : (m : Side) (r : Round) (front : Option ℕ) → m ≡ r.to_move → is_over r ≡ false → front ≡ slice_get (queue_of m r) 0 → front ≡ Some (slice_index (queue_of m r) 0)
-front-found m r front is o e = e ∙ (front-some (queue_of m r) (queue_lives m r o)).0
-
-pub one-waits : (m : Side) (r : Round) → is_over r ≡ false → 1 ≤ length (queue_of m r)
-one-waits m r o = (front-some (queue_of m r) (queue_lives m r o)).1
+front-found m r front is o e = e ∙ front-some (queue_of m r) (queue_lives m r o)
 
 -- ---- what turns keep
 
