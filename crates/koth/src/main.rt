@@ -15,9 +15,9 @@ fn main(rt: HostRuntime) -> ExitCode {
     status
 }
 
-/// Opens the root folder on each of the descriptors 0 to 2 that is closed, so that no file that is opened later gets one of these numbers: an
-/// answer would be written over a hill that has the number of standard output. Nothing can be read from the folder or written to it, so a
-/// closed stream is one that fails.
+/// Opens the root folder on each of the descriptors 0 to 2 that is closed, so that no file that is opened later gets one of these numbers.
+/// Otherwise an answer could be written over a hill that has the number of standard output. Nothing can be read from the folder or written
+/// to it, so a closed stream is one that fails.
 fn held_places<R: Files>(rt: &R) -> [io::Result<R::File>; 3] {
     [fs::open(rt, "/"), fs::open(rt, "/"), fs::open(rt, "/")]
 }
