@@ -4,7 +4,7 @@ ghost use Rattle.std.specs.Prelude.{◌≡◌, codes, false, IfOk};
 ghost use Rattle.clap.specs.Words.{App, Rule, new_app, rule_of, with_rule, with_subcommand};
 ghost use Rattle.koth_words.specs.Commands.{asm_app, audit_app, check_app, create_app, fight_app, koth_app, migrate_app, page_app, replay_app, serve_app, show_app, submit_app, wants_subcommand, with_version, with_view, IsReadAs};
 
-use crate::arguments::{address, file, files, flag, form, port, ranged, source};
+use crate::arguments::{file, files, flag, port, ranged, source, text};
 use crate::options::{option, with_settings};
 use clap::{Arg, Command};
 use std::alloc::{AllocError, Global};
@@ -49,7 +49,8 @@ fn check_command<'a>(heap: Global) -> Result<Command<'a>, AllocError>
 {
     let about = "Assembles sources, and reports what is wrong with them";
     let command = with_arg(Ok(described(heap, "check", about)), files(heap));
-    with_settings(heap, with_arg(command, form(heap)))
+    let help = "Format of the report, text or json [default: text]";
+    with_settings(heap, with_arg(command, text(heap, "format", "FORM", help)))
 }
 
 fn fight_command<'a>(heap: Global) -> Result<Command<'a>, AllocError>
@@ -102,7 +103,9 @@ fn serve_command<'a>(heap: Global) -> Result<Command<'a>, AllocError>
     let help =
         "Most peers served at once, 1 to 1024; with 1 it is one after the other [default: 64]";
     let command = with_arg(command, ranged(heap, "peers", 1, 1024, help));
-    let command = with_arg(command, address(heap));
+    let help =
+        "Address to listen at, IPv4 or IPv6; whoever reaches it can submit [default: 127.0.0.1]";
+    let command = with_arg(command, text(heap, "listen", "ADDRESS", help));
     let help = "Connections to serve before the program ends, 0 to 4294967295 [default: no limit]";
     let command = with_arg(command, option(heap, "connections", help));
     let help = "Port at which browsers see the hill, 0 to 65535; at 0 the system chooses one";

@@ -6,7 +6,7 @@ returns c =
     let first = c.with_arg-command.ensures _ _ c.described.ensures c.file-hill.ensures.rule c.file-hill.ensures.global in
     let second = c.with_arg-command-2.ensures _ _ first c.port.ensures.rule c.port.ensures.global in
     let third = c.with_arg-command-3.ensures _ _ second c.ranged.ensures.rule c.ranged.ensures.global in
-    let fourth = c.with_arg-command-4.ensures _ _ third c.address.ensures.rule c.address.ensures.global in
+    let fourth = c.with_arg-command-4.ensures _ _ third c.text.ensures.rule c.text.ensures.global in
     let fifth = c.with_arg-command-5.ensures _ _ fourth c.option.ensures.rule c.option.ensures.global in
     let sixth = c.with_arg-command-6.ensures _ _ fifth c.ranged-2.ensures.rule c.ranged-2.ensures.global in
     c.with_arg.ensures _ _ sixth c.flag-quiet.ensures.rule c.flag-quiet.ensures.global
