@@ -29,8 +29,8 @@ abbrev pub Explains : Result WarriorParts AsmFault → Option (List ℕ) → Opt
 Explains (Ok warrior) old new = Keeps old new
 Explains (Err fault) old new = WritesSome old new
 
--- how the answer to this source ends, by what the output and then standard error hold before and after: with a warrior's load text, with a
--- refusal, with a failed stream, or out of memory
+-- how the answer to this source ends: with a warrior's load text, with a refusal, with a failed stream, or out of memory. o and p are what
+-- the output holds before and after, e and f what standard error does
 abbrev pub EndsSource : RawSettings → List ℕ → Status → Option (List ℕ) → Option (List ℕ) → Option (List ℕ) → Option (List ℕ) → Type 0
 EndsSource s source statuses.Done o p e f =
     (warrior : WarriorParts) × (assembly s source ≡ Ok warrior) × Appends o p (load_text s.core warrior) × Keeps e f

@@ -31,8 +31,8 @@ pub record IsFought (s : RawSettings) (view : View) (text : List ℕ) : Type 0 w
   pub younger_comes : IsWarriorOf s younger
   pub tells : text ≡ bout_text view older younger (match_of s older younger)
 
--- how `fight` ends under settings, by what the output and then standard error hold before and after: with the counts of a match of two
--- warriors and nothing reported, or as if there is no match, or with a failed stream and maybe a part of the answer
+-- how `fight` ends under settings, by what the output and then standard error hold before and after. It writes the counts of a match of two
+-- warriors and reports nothing, or there is no match, or a stream failed and maybe a part of the answer was written
 abbrev pub EndsFightUnder : RawSettings → View → Status → Option (List ℕ) → Option (List ℕ) → Option (List ℕ) → Option (List ℕ) → Type 0
 EndsFightUnder s view status o p e f = EndsMatch s (IsFought s view) status o p e f
 

@@ -42,8 +42,8 @@ abbrev pub AnswersPartly : RawSettings → (List ℕ → Type 0) → Option (Lis
 AnswersPartly s IsTold old new =
     ((text : List ℕ) × IsTold text × WritesPart old new text) ⊎ ((fault : AsmFault) × IsFaultOf s fault × WritesPart old new (refusal_line fault))
 
--- how a command ends if there is no match, by what the output and then standard error hold before and after: with the refusal of a source,
--- with a failed file or stream, or out of memory
+-- how a command ends if there is no match, by what the output and then standard error hold before and after. A source is refused, a file
+-- or a stream failed, or memory ran out
 abbrev pub EndsNoMatch : RawSettings → Status → Option (List ℕ) → Option (List ℕ) → Option (List ℕ) → Option (List ℕ) → Type 0
 EndsNoMatch s statuses.Done o p e f = ⊥
 EndsNoMatch s statuses.Refused o p e f = (fault : AsmFault) × IsFaultOf s fault × Appends o p (refusal_line fault) × WritesSome e f
@@ -52,8 +52,8 @@ EndsNoMatch s statuses.StreamFault o p e f =
     (Keeps o p ⊎ ((fault : AsmFault) × IsFaultOf s fault × WritesPart o p (refusal_line fault))) × TellsWord (failure_word failures.Stream) e f
 EndsNoMatch s statuses.NoMemory o p e f = Keeps o p × TellsWord (failure_word failures.Memory) e f
 
--- how a command ends that writes such a text of a match: with the whole text and nothing reported, or as if there is no match, or with a
--- failed stream and maybe a part of the answer
+-- how a command ends that writes such a text of a match. The whole text is written and nothing reported, or there is no match, or a stream
+-- failed and maybe a part of the answer was written
 abbrev pub EndsMatch : RawSettings → (List ℕ → Type 0) → Status → Option (List ℕ) → Option (List ℕ) → Option (List ℕ) → Option (List ℕ) → Type 0
 EndsMatch s IsTold statuses.Done o p e f = (text : List ℕ) × IsTold text × Appends o p text × Keeps e f
 EndsMatch s IsTold statuses.Refused o p e f = EndsNoMatch s statuses.Refused o p e f

@@ -36,8 +36,8 @@ pub record IsWatched (s : RawSettings) (round : ℕ) (text : List ℕ) : Type 0 
   pub younger_comes : IsWarriorOf s younger
   pub shown : IsRoundText s older younger round text
 
--- how `replay` ends under settings, by what the output and then standard error hold before and after: with the page of that round of a match
--- and nothing reported, or as if there is no match, or with a failed stream and maybe a part of the answer
+-- how `replay` ends under settings, by what the output and then standard error hold before and after. It writes the page of that round and
+-- reports nothing, or there is no match, or a stream failed and maybe a part of the answer was written
 abbrev pub EndsReplayUnder : RawSettings → ℕ → Status → Option (List ℕ) → Option (List ℕ) → Option (List ℕ) → Option (List ℕ) → Type 0
 EndsReplayUnder s round status o p e f = EndsMatch s (IsWatched s round) status o p e f
 

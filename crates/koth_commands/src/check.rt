@@ -20,9 +20,9 @@ use std::io::Write;
 use std::rt::Files;
 use war_types::{RawSettings, Settings};
 
-/// Writes every refusal of the sources in files, under the settings that are given: for people with the line's text and a caret under the
-/// fault, or as a line of JSON each. Settings that are out of their ranges are refused before a file is read. It ends at the first file
-/// that can't be read.
+/// Writes every refusal of the sources in files, under the settings that are given. A refusal is written for people, with the line's text
+/// and a caret under the fault, or as a line of JSON. Settings that are out of their ranges are refused before a file is read. The first
+/// file that can't be read ends it.
 pub fn check<R: Files, A: Allocator + Copy, O: Write, E: Write>(
     rt: &R,
     alloc: A,
