@@ -1,10 +1,14 @@
 -- How `asm` ends, from how the answer to a source does.
-use Rattle.std.proofs.Common.{◌≡◌, ℕ, List, Option, IfSome, Result, Ok, Err, inl, inr, refl, sym, subst}
+use Rattle.std.proofs.Common.{◌≡◌, ℕ, List, Option, None, IfSome, Result, Ok, Err, inl, inr, refl, sym, subst}
 use Rattle.std.specs.Io.KnownBytes.{Appends, Consumes}
+use Rattle.std.proofs.KnownBytes.{Keeps-refl}
 use Rattle.war_types.specs.Warrior.{WarriorParts}
 use Rattle.war_types.specs.declared.fault.AsmFault.{AsmFault}
 use Rattle.war_types.specs.declared.settings.RawSettings.{RawSettings}
 use Rattle.redcode_asm.specs.Assembly.{assembly}
+use Rattle.redcode_asm.specs.LoadText.{load_text}
+use Rattle.koth_protocol.specs.Written.{WritesPart}
+use Rattle.koth_commands.specs.Answer.{EndsRefusal, EndsText}
 use Rattle.koth_commands.specs.Asm.{Answers, EndsSource, EndsUnder, Explains, answer_of}
 use Rattle.koth_commands.specs.Failure.{failure_word}
 use Rattle.koth_commands.specs.Streams.{Takes, streams}
@@ -14,6 +18,31 @@ use Rattle.koth_commands.specs.declared.status.Status.{Status}
 use Rattle.koth_commands.specs.declared.status.Status.TheVariants as statuses
 use Rattle.koth_commands.proofs.Sources.{whole_input}
 use Rattle.koth_commands.proofs.Told.{none_yet}
+
+-- ---- the answer to a source
+
+module _ (s : RawSettings) (source : List ℕ) (o p e f : Option (List ℕ)) where
+  part_of : (outcome : Result WarriorParts AsmFault) → assembly s source ≡ outcome → WritesPart o p (answer_of s outcome)
+      → WritesPart o p (answer_of s (assembly s source))
+  part_of outcome is part = subst (λ r. WritesPart o p (answer_of s r)) (sym is) part
+
+  -- that of a warrior
+  pub loaded_ends : (warrior : WarriorParts) (status : Status) → assembly s source ≡ Ok warrior → EndsText (load_text s.core warrior) status o p e f
+      → EndsSource s source status o p e f
+  loaded_ends warrior statuses.Done is ends = (warrior, is, ends.0, ends.1)
+  loaded_ends warrior statuses.Refused is ends = absurd ends
+  loaded_ends warrior statuses.WordFault is ends = absurd ends
+  loaded_ends warrior statuses.StreamFault is ends = (part_of (Ok warrior) is ends.0, ends.1)
+  loaded_ends warrior statuses.NoMemory is ends = ends
+
+  -- that of a refusal
+  pub refused_ends : (fault : AsmFault) (status : Status) → assembly s source ≡ Err fault → EndsRefusal fault status o p e f
+      → EndsSource s source status o p e f
+  refused_ends fault statuses.Done is ends = absurd ends
+  refused_ends fault statuses.Refused is ends = (fault, is, ends.0, ends.1)
+  refused_ends fault statuses.WordFault is ends = absurd ends
+  refused_ends fault statuses.StreamFault is ends = (part_of (Err fault) is ends.0, ends.1)
+  refused_ends fault statuses.NoMemory is ends = absurd ends
 
 -- ---- what is read from a stream
 
@@ -58,3 +87,32 @@ lost_ends s i j o e f source status is taken told = subst (λ t. EndsUnder s t (
   },
   told,
 )
+
+-- ---- what was read from a file is of no stream
+
+module _ (s : RawSettings) (i j o p e f : Option (List ℕ)) where
+  forgotten : (outcome : Result WarriorParts AsmFault) → Answers s outcome (streams i o e) (streams j p f)
+      → Answers s outcome (streams None o e) (streams None p f)
+  forgotten outcome answers = record {
+    source = answers.source;
+    taken = record { bytes = tt; most = answers.taken.most; whole = λ short. tt };
+    comes = answers.comes;
+    whole = tt;
+    written = answers.written;
+    explained = answers.explained;
+  }
+
+  pub unread_ends : (status : Status) → EndsUnder s status (streams i o e) (streams j p f) → EndsUnder s status (streams None o e) (streams None p f)
+  unread_ends statuses.Done ends = (ends.0, forgotten (Ok ends.0) ends.1)
+  unread_ends statuses.Refused ends = (ends.0, forgotten (Err ends.0) ends.1)
+  unread_ends statuses.WordFault ends = absurd ends
+  unread_ends statuses.StreamFault ends = (
+    record {
+      source = ends.0.source;
+      taken = tt;
+      written = ends.0.written;
+      first = elim ends.0.first [ inl none ↦ inl none | inr taken ↦ inr (record { bytes = tt; most = taken.most; whole = λ short. tt }) ];
+    },
+    ends.1,
+  )
+  unread_ends statuses.NoMemory ends = ends

@@ -61,8 +61,8 @@ reason_text reasons.Other = codes "the system reports an error"
 abbrev pub source_name : Subject → List ℕ
 source_name (subjects.File path) = path.now
 source_name (subjects.Warrior path entry) = path.now
-source_name (subjects.Port port) = codes "a port"
-source_name subjects.Connection = codes "a connection"
+source_name (subjects.Port port) = codes "a peer"
+source_name subjects.Connection = codes "a peer"
 source_name subjects.Input = codes "standard input"
 source_name subjects.Output = codes "standard output"
 

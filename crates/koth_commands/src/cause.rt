@@ -1,6 +1,6 @@
 //! What failed, and why, as people are told it.
 
-ghost use Rattle.std.specs.Prelude.{◌≡◌, ◌++◌, codes, decimal, string_bytes, IfOk};
+ghost use Rattle.std.specs.Prelude.{◌≡◌, codes, string_bytes, IfOk};
 ghost use Rattle.koth_commands.specs.Cause.{cause_told, error_reason, reason_text, reason_told, source_name};
 
 use std::alloc::{AllocError, Allocator};
@@ -144,8 +144,7 @@ impl<'s> Subject<'s> {
     {
         match self {
             Subject::File(path) | Subject::Warrior(path, _) => path,
-            Subject::Port(_) => "a port",
-            Subject::Connection => "a connection",
+            Subject::Port(_) | Subject::Connection => "a peer",
             Subject::Input => "standard input",
             Subject::Output => "standard output",
         }
@@ -185,36 +184,15 @@ impl<'s> Cause<'s> {
 pub(crate) fn cause_text<A: Allocator>(alloc: A, cause: Cause<'_>) -> Result<String<A>, AllocError>
     ensures { IfOk result (λ text. string_bytes text ≡ cause_told cause.entry) }
 {
-    let why = cause.reason;
+    let why = cause.reason.text();
     match cause.subject {
-        Subject::File(path) => reason_line(alloc, path, why),
-        Subject::Warrior(path, entry) => warrior_line(alloc, path, entry, why),
-        Subject::Port(port) => port_line(alloc, port, why),
-        Subject::Connection => reason_line(alloc, "a connection", why),
-        Subject::Input => reason_line(alloc, "standard input", why),
-        Subject::Output => reason_line(alloc, "standard output", why),
+        Subject::File(path) => format!(in alloc; "{}: {}\n", path, why),
+        Subject::Warrior(path, entry) => {
+            format!(in alloc; "{}, warrior {}: {}\n", path, entry, why)
+        }
+        Subject::Port(port) => format!(in alloc; "port {}: {}\n", port, why),
+        Subject::Connection => format!(in alloc; "a connection: {}\n", why),
+        Subject::Input => format!(in alloc; "standard input: {}\n", why),
+        Subject::Output => format!(in alloc; "standard output: {}\n", why),
     }
-}
-
-fn reason_line<A: Allocator>(alloc: A, name: &str, why: Reason) -> Result<String<A>, AllocError>
-    ensures { IfOk result (λ text. string_bytes text ≡ reason_told name.now why) }
-{
-    format!(in alloc; "{}: {}\n", name, why.text())
-}
-
-fn warrior_line<A: Allocator>(
-    alloc: A,
-    path: &str,
-    entry: u64,
-    why: Reason,
-) -> Result<String<A>, AllocError>
-    ensures { IfOk result (λ text. string_bytes text ≡ path.now ++ (codes ", warrior " ++ reason_told (decimal entry) why)) }
-{
-    format!(in alloc; "{}, warrior {}: {}\n", path, entry, why.text())
-}
-
-fn port_line<A: Allocator>(alloc: A, port: u16, why: Reason) -> Result<String<A>, AllocError>
-    ensures { IfOk result (λ text. string_bytes text ≡ reason_told (codes "port " ++ decimal port) why) }
-{
-    format!(in alloc; "port {}: {}\n", port, why.text())
 }

@@ -19,7 +19,7 @@ pub enum Failure {
 }
 
 /// A failure, with what failed and why if that is known.
-#[derive(Clone, Copy)]
+#[derive(Clone, Copy, Debug)]
 pub enum Trouble<'t> {
     /// A stream or a file failed.
     Failed(Cause<'t>),

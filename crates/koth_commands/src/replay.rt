@@ -40,31 +40,16 @@ pub fn replay<R: Files, A: Allocator + Copy, O: Write, E: Write>(
         (streams None (O.contents output.new) (E.contents errors.new)) }
 {
     match Settings::new(given) {
-        Ok(settings) if has_round(&settings, round) => {
-            replay_under(rt, alloc, &settings, older, younger, round, output, errors)
+        Ok(settings) => {
+            if !has_round(&settings, round) {
+                return refuse_round(alloc, given.rounds, round, errors);
+            }
+            match pair_in(rt, alloc, &settings, older, younger) {
+                Ok(pair) => answer_round(alloc, &settings, &pair, round, output, errors),
+                Err(none) => answer_no_match(alloc, &settings, &none, output, errors),
+            }
         }
-        Ok(_) => refuse_round(alloc, given.rounds, round, errors),
         Err(fault) => refuse_settings(alloc, given, fault, errors),
-    }
-}
-
-fn replay_under<R: Files, A: Allocator + Copy, O: Write, E: Write>(
-    rt: &R,
-    alloc: A,
-    settings: &Settings,
-    older: &str,
-    younger: &str,
-    round: u32,
-    output: &mut O,
-    errors: &mut E,
-) -> Status
-    requires { has_round settings.now round ≡ true }
-    ensures { EndsReplayUnder settings.now round result
-        (O.contents output.old) (O.contents output.new) (E.contents errors.old) (E.contents errors.new) }
-{
-    match pair_in(rt, alloc, settings, older, younger) {
-        Ok(pair) => answer_round(alloc, settings, &pair, round, output, errors),
-        Err(none) => answer_no_match(alloc, settings, &none, output, errors),
     }
 }
 

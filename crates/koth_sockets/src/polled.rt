@@ -51,7 +51,9 @@ impl<'r, R: Net + Clock, A: Allocator + Copy> PolledSockets<'r, R, A> {
     ) -> io::Result<PolledSockets<'r, R, A>> {
         let start = Instant::now(rt)?;
         let poll = Poll::new(rt)?;
-        let listener = listener_at(rt, &poll, LISTENER, address)?;
+        let mut listener = TcpListener::bind(rt, address)?;
+        poll.registry()
+            .register(&mut listener, LISTENER, Interest::READABLE)?;
         Ok(PolledSockets {
             clock: rt,
             start,
@@ -76,7 +78,10 @@ impl<'r, R: Net + Clock, A: Allocator + Copy> PolledSockets<'r, R, A> {
         address: SocketAddr,
         most: usize,
     ) -> io::Result<()> {
-        let listener = listener_at(rt, &self.poll, PAGES, address)?;
+        let mut listener = TcpListener::bind(rt, address)?;
+        self.poll
+            .registry()
+            .register(&mut listener, PAGES, Interest::READABLE)?;
         self.browsers = no_lines(alloc, most)?;
         self.pages = Some(listener);
         Ok(())
@@ -112,42 +117,17 @@ impl<'r, R, A: Allocator> PolledSockets<'r, R, A> {
             }
         }
     }
-}
 
-/// A listener at this address, whose events have this token.
-fn listener_at<R: Net>(
-    rt: &R,
-    poll: &Poll,
-    token: Token,
-    address: SocketAddr,
-) -> io::Result<TcpListener> {
-    let mut listener = TcpListener::bind(rt, address)?;
-    poll.registry()
-        .register(&mut listener, token, Interest::READABLE)?;
-    Ok(listener)
-}
-
-fn put<A: Allocator>(lines: &mut Vec<Option<Line>, A>, number: usize, line: Option<Line>) {
-    if let Some(place) = lines.get_mut(number) {
-        *place = line;
-    }
-}
-
-/// The next socket of a listener, or the answer if there is none. `can_accept` is whether one may be waiting.
-fn accepted_by(
-    listener: &TcpListener,
-    can_accept: &mut bool,
-) -> Result<(TcpStream, SocketAddr), Arrival> {
-    if !*can_accept {
-        return Err(Arrival::Nobody);
-    }
-    match listener.accept() {
-        Ok(accepted) => Ok(accepted),
-        Err(error) if error.kind() == ErrorKind::WouldBlock => {
-            *can_accept = false;
-            Err(Arrival::Nobody)
+    fn put(&mut self, number: usize, line: Option<Line>) {
+        if let Some(place) = self.lines.get_mut(number) {
+            *place = line;
         }
-        Err(_) => Err(Arrival::Failed),
+    }
+
+    fn put_browser(&mut self, number: usize, line: Option<Line>) {
+        if let Some(place) = self.browsers.get_mut(number) {
+            *place = line;
+        }
     }
 }
 
@@ -196,19 +176,28 @@ impl<'r, R: Clock, A: Allocator> Sockets for PolledSockets<'r, R, A> {
     }
 
     fn accept(&mut self) -> Arrival {
-        match accepted_by(&self.listener, &mut self.can_accept) {
+        if !self.can_accept {
+            return Arrival::Nobody;
+        }
+        match self.listener.accept() {
             Ok((stream, address)) => {
                 self.accepted = Some(stream);
                 Arrival::Peer(address)
             }
-            Err(arrival) => arrival,
+            Err(error) => match error.kind() {
+                ErrorKind::WouldBlock => {
+                    self.can_accept = false;
+                    Arrival::Nobody
+                }
+                _ => Arrival::Failed,
+            },
         }
     }
 
     fn seat(&mut self, number: usize) {
         if let Some(stream) = self.accepted.take() {
             let line = Line::new(stream, self.poll.registry(), Token(number));
-            put(&mut self.lines, number, line);
+            self.put(number, line);
         }
     }
 
@@ -244,21 +233,30 @@ impl<'r, R: Clock, A: Allocator> Sockets for PolledSockets<'r, R, A> {
     }
 
     fn close(&mut self, number: usize) {
-        put(&mut self.lines, number, None);
+        self.put(number, None);
     }
 
     fn admit_browser(&mut self, number: usize) -> Arrival {
         let Some(listener) = &self.pages else {
             return Arrival::Nobody;
         };
-        match accepted_by(listener, &mut self.can_admit) {
+        if !self.can_admit {
+            return Arrival::Nobody;
+        }
+        match listener.accept() {
             Ok((stream, address)) => {
                 let token = Token(self.lines.len().saturating_add(number));
                 let line = Line::new(stream, self.poll.registry(), token);
-                put(&mut self.browsers, number, line);
+                self.put_browser(number, line);
                 Arrival::Peer(address)
             }
-            Err(arrival) => arrival,
+            Err(error) => match error.kind() {
+                ErrorKind::WouldBlock => {
+                    self.can_admit = false;
+                    Arrival::Nobody
+                }
+                _ => Arrival::Failed,
+            },
         }
     }
 
@@ -283,6 +281,6 @@ impl<'r, R: Clock, A: Allocator> Sockets for PolledSockets<'r, R, A> {
     }
 
     fn close_browser(&mut self, number: usize) {
-        put(&mut self.browsers, number, None);
+        self.put_browser(number, None);
     }
 }
