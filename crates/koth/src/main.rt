@@ -15,9 +15,9 @@ fn main(rt: HostRuntime) -> ExitCode {
     status
 }
 
-/// Holds the places of standard input, output and errors that are closed, so that no file that is opened later gets one of them: a hill that
-/// is opened in the place of the output would be written over by an answer. What is held is the root folder, from which nothing can be read
-/// and to which nothing can be written, so a stream that is closed is one that fails.
+/// Opens the root folder on each of the descriptors 0 to 2 that is closed, so that no file that is opened later gets one of these numbers.
+/// Otherwise an answer could be written over a hill that has the number of standard output. Nothing can be read from the folder or written
+/// to it, so a closed stream is one that fails.
 fn held_places<R: Files>(rt: &R) -> [io::Result<R::File>; 3] {
     [fs::open(rt, "/"), fs::open(rt, "/"), fs::open(rt, "/")]
 }
@@ -39,7 +39,7 @@ fn status_of(rt: &HostRuntime) -> ExitCode {
     ))
 }
 
-/// Columns for people if standard output is a terminal, and else lines for programs.
+/// Columns for people if standard output is a terminal, else lines for programs.
 fn usual_view(rt: &HostRuntime) -> View {
     if rt.stdout().is_terminal() {
         View::Table
@@ -48,7 +48,7 @@ fn usual_view(rt: &HostRuntime) -> View {
     }
 }
 
-/// The words of the command line, the program's name first.
+/// The arguments of the command line, with the program's name first.
 fn words_given(rt: &(impl Env + AllocGlobal)) -> Result<Vec<String>, Failure> {
     let given = match env::args(rt) {
         Ok(given) => given,

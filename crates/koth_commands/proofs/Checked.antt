@@ -15,7 +15,7 @@ use Rattle.koth_commands.specs.declared.status.Status.{Status}
 use Rattle.koth_commands.specs.declared.status.Status.TheVariants as statuses
 use Rattle.koth_commands.proofs.Told.{keeps_some, writes_more}
 
--- so many files were looked at: each source assembles and nothing is written, or one is refused and something is
+-- `count` files were read: each source assembles and nothing is written, or one is refused and something is
 abbrev pub SoFar : RawSettings → ℕ → Status → Option (List ℕ) → Option (List ℕ) → Type 0
 SoFar s count status o p = ((status ≡ statuses.Done) × AreTaken s count × Keeps o p)
     ⊎ ((status ≡ statuses.Refused) × ((fault : AsmFault) × IsFaultOf s fault) × WritesSome o p)

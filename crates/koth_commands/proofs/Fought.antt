@@ -1,4 +1,4 @@
--- What `fight` tells of a match.
+-- What `fight` writes of a match.
 use Rattle.std.proofs.Common.{◌≡◌, ◌∙◌, ℕ, List, Result, Ok, Err, IfOk, ap}
 use Rattle.koth_match.specs.Match.{match_of}
 use Rattle.koth_match.specs.declared.bout.Bout.{Bout}
@@ -8,7 +8,7 @@ use Rattle.koth_words.specs.declared.words.View.{View}
 use Rattle.koth_commands.specs.Fight.{IsFought, bout_text}
 use Rattle.koth_commands.specs.Pair.{IsWarriorOf}
 
--- the text tells the match of two warriors whose sources assemble to them
+-- the text of the match of two warriors whose sources assemble to them
 module _ (s : RawSettings) (view : View) (older younger : WarriorParts) (bout : Bout) where
   is_fought : (text : List ℕ) → IsWarriorOf s older → IsWarriorOf s younger → bout ≡ match_of s older younger
       → text ≡ bout_text view older younger bout → IsFought s view text

@@ -4,7 +4,7 @@ use Rattle.std.proofs.lemmas.Slice.{take-put_mid_below}
 use borrow.Rule.Slice.PartMut.{put_mid, post_of}
 use lib.Seq.{take-add, take-append-le}
 
--- what was filled, and n bytes more behind it
+-- what was filled, and n bytes more after it
 pub take-put_mid_more : (a k n : ℕ) (xs ys : List ℕ) → a ≤ length xs → n ≤ length ys → take (a + n) (put_mid a k xs ys) ≡ take a xs ++ take n ys
 take-put_mid_more a k n xs ys within fits =
     let front = take-put_mid_below a k xs ys a (le_refl a) within in

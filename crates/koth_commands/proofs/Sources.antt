@@ -1,4 +1,4 @@
--- A source that is taken comes to what the whole input comes to.
+-- A source that is taken has the outcome of the whole input.
 use Rattle.std.proofs.Common.{◌≡◌, ◌∙◌, ◌≤◌, ℕ, List, ◌++◌, Option, None, Some, IfSome, Err, inl, inr, arith, length, length-append, append-nil, sym, ap}
 use Rattle.std.proofs.lemmas.Bool.{cases_lt}
 use Rattle.redcode_asm.specs.Assembly.{assembly}

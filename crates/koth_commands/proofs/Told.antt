@@ -40,7 +40,7 @@ in_longer o p text more w = record {
   written = w.written;
 }
 
--- a part of a text behind one that was written whole
+-- a part of a text after one that was written whole
 pub behind : (o p q : Option (List ℕ)) (whole text : List ℕ) → Appends o p whole → WritesPart p q text → WritesPart o q (whole ++ text)
 behind o p q whole text before w = record {
   part = whole ++ w.part;
@@ -64,7 +64,7 @@ writes_more a b c (first, one) (second, other) = (
   whole_part a c (one.part ++ other.part) (one.part ++ other.part) refl (Appends-trans a b c one.part other.part one.written other.written),
 )
 
--- ---- a text behind another, where the first one's bytes are those of a text
+-- ---- a text after another, if the first one's bytes are those of a text
 
 pub first_err : {T E : Type 0} (r : Result T E) (o p : Option (List ℕ)) (bytes first more : List ℕ) → bytes ≡ first → WritesPart o p bytes
     → OnErr r (WritesPart o p (first ++ more))
@@ -83,7 +83,7 @@ both_ok (Ok done) o p q bytes first text more is more_is whole both =
     Appends-trans o p q first more (subst (Appends o p) is whole) (subst (Appends p q) more_is both)
 both_ok (Err fault) o p q bytes first text more is more_is whole both = tt
 
--- ---- a word with its cause is a word with some text behind it
+-- ---- a word with its cause is a word with some text after it
 
 pub alone_word : (word : List ℕ) (a b : Option (List ℕ)) → TellsAlone word a b → TellsWord word a b
 alone_word word a b part = record { apart = Line; text = []; written = part }

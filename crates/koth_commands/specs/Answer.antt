@@ -28,13 +28,13 @@ settings_word faults.Capacity = codes "BadSettings Capacity"
 settings_word faults.ReadLimit = codes "BadSettings ReadLimit"
 settings_word faults.WriteLimit = codes "BadSettings WriteLimit"
 
--- that was told on the errors, and nothing was read, and nothing written on the output
+-- the word was written on standard error, nothing was read, and nothing was written on the output
 pub record RefusesSettings (fault : SettingsFault) (before after : Streams) : Type 0 where
   pub input : Keeps before.input after.input
   pub output : Keeps before.output after.output
   pub told : TellsWord (settings_word fault) before.errors after.errors
 
--- the failure was told on the errors
+-- the failure was reported on standard error
 abbrev pub Tells : Failure → Streams → Streams → Type 0
 Tells failure before after = TellsWord (failure_word failure) before.errors after.errors
 
@@ -43,7 +43,7 @@ pub record KeepsAll (before after : Streams) : Type 0 where
   pub input : Keeps before.input after.input
   pub output : Keeps before.output after.output
 
--- how a command ends that settings are given: as it does under these, with their refusal, or for want of memory
+-- how a command ends that takes settings: as it does under these settings, with their refusal, or out of memory
 abbrev pub EndsGiven : (RawSettings → Status → Streams → Streams → Type 0) → Result RawSettings SettingsFault → Status → Streams → Streams → Type 0
 EndsGiven ends (Ok s) status before after = ends s status before after
 EndsGiven ends (Err fault) statuses.Done before after = ⊥
@@ -52,8 +52,8 @@ EndsGiven ends (Err fault) statuses.WordFault before after = ⊥
 EndsGiven ends (Err fault) statuses.StreamFault before after = ⊥
 EndsGiven ends (Err fault) statuses.NoMemory before after = KeepsAll before after × Tells failures.Memory before after
 
--- how a command ends whose answer is this text, by what the output and then the errors hold before and after: it is written and nothing is
--- told, or a part of it is written and the failed stream is told, or nothing is written for want of memory
+-- how a command ends whose answer is this text, by what the output and then standard error hold before and after. The text is written and
+-- nothing reported, or a part of it is written and the failed stream reported, or memory runs out and nothing is written
 abbrev pub EndsText : List ℕ → Status → Option (List ℕ) → Option (List ℕ) → Option (List ℕ) → Option (List ℕ) → Type 0
 EndsText text statuses.Done o p e f = Appends o p text × Keeps e f
 EndsText text statuses.Refused o p e f = ⊥
@@ -61,7 +61,7 @@ EndsText text statuses.WordFault o p e f = ⊥
 EndsText text statuses.StreamFault o p e f = WritesPart o p text × TellsWord (failure_word failures.Stream) e f
 EndsText text statuses.NoMemory o p e f = Keeps o p × TellsWord (failure_word failures.Memory) e f
 
--- how a command ends whose source is refused: the refusal's line is written, and on the errors some text that explains it
+-- how a command ends whose source is refused: the refusal's line is written, and some text on standard error that explains it
 abbrev pub EndsRefusal : AsmFault → Status → Option (List ℕ) → Option (List ℕ) → Option (List ℕ) → Option (List ℕ) → Type 0
 EndsRefusal fault statuses.Done o p e f = ⊥
 EndsRefusal fault statuses.Refused o p e f = Appends o p (refusal_line fault) × WritesSome e f

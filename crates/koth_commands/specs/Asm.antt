@@ -24,13 +24,13 @@ abbrev pub answer_of : RawSettings → Result WarriorParts AsmFault → List ℕ
 answer_of s (Ok warrior) = load_text s.core warrior
 answer_of s (Err fault) = refusal_line fault
 
--- what is told besides: nothing of a warrior, and some text that explains a refusal
+-- what is written on standard error: nothing of a warrior, and some text that explains a refusal
 abbrev pub Explains : Result WarriorParts AsmFault → Option (List ℕ) → Option (List ℕ) → Type 0
 Explains (Ok warrior) old new = Keeps old new
 Explains (Err fault) old new = WritesSome old new
 
--- how the answer to this source ends, by what the output and then the errors hold before and after: with a warrior's load text, with a
--- refusal, with a failed stream, or for want of memory
+-- how the answer to this source ends: with a warrior's load text, with a refusal, with a failed stream, or out of memory. o and p are what
+-- the output holds before and after, e and f what standard error does
 abbrev pub EndsSource : RawSettings → List ℕ → Status → Option (List ℕ) → Option (List ℕ) → Option (List ℕ) → Option (List ℕ) → Type 0
 EndsSource s source statuses.Done o p e f =
     (warrior : WarriorParts) × (assembly s source ≡ Ok warrior) × Appends o p (load_text s.core warrior) × Keeps e f
@@ -41,8 +41,8 @@ EndsSource s source statuses.StreamFault o p e f =
     WritesPart o p (answer_of s (assembly s source)) × TellsWord (failure_word failures.Stream) e f
 EndsSource s source statuses.NoMemory o p e f = Keeps o p × TellsWord (failure_word failures.Memory) e f
 
--- a source was taken from the input and comes to this, as the whole input does, and the answer to it was written whole, and nothing else on
--- the output
+-- a source was taken from the input with this outcome, which is the whole input's too. The answer to it was written whole, and nothing else
+-- on the output
 pub record Answers (s : RawSettings) (outcome : Result WarriorParts AsmFault) (before after : Streams) : Type 0 where
   pub source : List ℕ
   pub taken : Takes before.input after.input source
@@ -58,7 +58,7 @@ pub record AnswersPart (s : RawSettings) (before after : Streams) : Type 0 where
   pub written : WritesPart before.output after.output (answer_of s (assembly s source))
   pub first : (written.part ≡ []) ⊎ Takes before.input after.input source
 
--- how `asm` ends under settings: with a warrior's load text, with a refusal, with a failed stream, or for want of memory
+-- how `asm` ends under settings: with a warrior's load text, with a refusal, with a failed stream, or out of memory
 abbrev pub EndsUnder : RawSettings → Status → Streams → Streams → Type 0
 EndsUnder s statuses.Done before after = (warrior : WarriorParts) × Answers s (Ok warrior) before after
 EndsUnder s statuses.Refused before after = (fault : AsmFault) × Answers s (Err fault) before after
@@ -66,7 +66,7 @@ EndsUnder s statuses.WordFault before after = ⊥
 EndsUnder s statuses.StreamFault before after = AnswersPart s before after × Tells failures.Stream before after
 EndsUnder s statuses.NoMemory before after = Keeps before.output after.output × Tells failures.Memory before after
 
--- how `asm` ends: as under the settings that are given, with their refusal, or for want of memory
+-- how `asm` ends: as under the settings that are given, with their refusal, or out of memory
 abbrev pub EndsAsm : Result RawSettings SettingsFault → Status → Streams → Streams → Type 0
 EndsAsm settings status before after = EndsGiven EndsUnder settings status before after
 

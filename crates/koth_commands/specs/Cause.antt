@@ -66,11 +66,11 @@ source_name subjects.Connection = codes "a peer"
 source_name subjects.Input = codes "standard input"
 source_name subjects.Output = codes "standard output"
 
--- the line that tells that what has this name failed, and why
+-- the line of a subject with this name, and why it failed
 abbrev pub reason_told : List ℕ → Reason → List ℕ
 reason_told name reason = name ++ (codes ": " ++ (reason_text reason ++ codes "\n"))
 
--- the line that tells what failed, and why
+-- the line that says what failed, and why
 abbrev pub subject_told : Subject → Reason → List ℕ
 subject_told (subjects.File path) reason = reason_told path.now reason
 subject_told (subjects.Warrior path entry) reason = path.now ++ (codes ", warrior " ++ reason_told (decimal entry) reason)
@@ -79,6 +79,6 @@ subject_told subjects.Connection reason = reason_told (codes "a connection") rea
 subject_told subjects.Input reason = reason_told (codes "standard input") reason
 subject_told subjects.Output reason = reason_told (codes "standard output") reason
 
--- the line that tells a cause
+-- the line of a cause
 abbrev pub cause_told : Cause → List ℕ
 cause_told cause = subject_told cause.subject cause.reason

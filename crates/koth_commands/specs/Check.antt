@@ -15,7 +15,7 @@ use Rattle.koth_commands.specs.declared.failure.Failure.TheVariants as failures
 use Rattle.koth_commands.specs.declared.status.Status.{Status}
 use Rattle.koth_commands.specs.declared.status.Status.TheVariants as statuses
 
--- the source assembles
+-- the source assembles to a warrior
 abbrev pub IsTaken : RawSettings → List ℕ → Type 0
 IsTaken s source = (warrior : WarriorParts) × (assembly s source ≡ Ok warrior)
 
@@ -28,18 +28,18 @@ Finds s source false old new = IsTaken s source × Keeps old new
 abbrev pub Checks : RawSettings → Bool → Option (List ℕ) → Option (List ℕ) → Type 0
 Checks s is_refused old new = (source : List ℕ) × Finds s source is_refused old new
 
--- how it ends behind one file more
+-- how it ends after one file more
 abbrev pub status_behind : Status → Bool → Status
 status_behind status is_refused = if is_refused then statuses.Refused else status
 
--- so many sources assemble
+-- `count` sources assemble
 pub record AreTaken (s : RawSettings) (count : ℕ) : Type 0 where
   pub sources : List (List ℕ)
   pub taken : All (IsTaken s) sources
   pub all : length sources ≡ count
 
--- how `check` of so many files ends, by what the output and then the errors hold before and after: silently where the source in each of them
--- assembles, as refused where one of them doesn't, and then something is written, or where a file or a stream failed, or for want of memory
+-- how `check` of `count` files ends, by what the output and then standard error hold before and after. It is silent if the source in each
+-- file assembles. It writes something and ends as refused if one doesn't. Or a file or a stream failed, or memory ran out
 abbrev pub EndsCheckUnder : RawSettings → ℕ → Status → Option (List ℕ) → Option (List ℕ) → Option (List ℕ) → Option (List ℕ) → Type 0
 EndsCheckUnder s count statuses.Done o p e f = AreTaken s count × Keeps o p × Keeps e f
 EndsCheckUnder s count statuses.Refused o p e f = ((fault : AsmFault) × IsFaultOf s fault) × WritesSome o p × Keeps e f
@@ -47,7 +47,7 @@ EndsCheckUnder s count statuses.WordFault o p e f = ⊥
 EndsCheckUnder s count statuses.StreamFault o p e f = WritesSome o p × TellsWord (failure_word failures.Stream) e f
 EndsCheckUnder s count statuses.NoMemory o p e f = WritesSome o p × TellsWord (failure_word failures.Memory) e f
 
--- how `check` ends: as under the settings that are given, with their refusal, or for want of memory
+-- how `check` ends: as under the settings that are given, with their refusal, or out of memory
 abbrev pub EndsCheck : ℕ → Result RawSettings SettingsFault → Status → Streams → Streams → Type 0
 EndsCheck count settings status before after =
     EndsGiven (λ s end u v. EndsCheckUnder s count end u.output v.output u.errors v.errors) settings status before after

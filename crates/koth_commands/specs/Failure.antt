@@ -8,7 +8,7 @@ use Rattle.koth_commands.specs.declared.failure.Trouble.TheVariants as troubles
 use Rattle.koth_commands.specs.declared.status.Status.{Status}
 use Rattle.koth_commands.specs.declared.status.Status.TheVariants as statuses
 
--- what a failure with its cause is
+-- the failure without its cause
 abbrev pub failure_of : Trouble → Failure
 failure_of (troubles.Failed cause) = Stream
 failure_of troubles.Memory = Memory
@@ -18,7 +18,7 @@ abbrev pub cause_of : Trouble → Option Cause
 cause_of (troubles.Failed cause) = Some cause
 cause_of troubles.Memory = None
 
--- the word on the standard error, behind which what failed and why may stand
+-- the word on standard error, which may be followed by what failed and why
 abbrev pub failure_word : Failure → List ℕ
 failure_word Stream = codes "DISK"
 failure_word Memory = codes "MEMORY"

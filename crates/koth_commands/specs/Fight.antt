@@ -18,12 +18,12 @@ abbrev pub bout_line : Bout → List ℕ
 bout_line b =
     decimal b.older_wins ++ codes " " ++ decimal b.younger_wins ++ codes " " ++ decimal b.ties ++ codes "\n"
 
--- how the counts of a match of two warriors are told
+-- the text of the counts of a match of two warriors
 abbrev pub bout_text : View → WarriorParts → WarriorParts → Bout → List ℕ
 bout_text views.Plain older younger b = bout_line b
 bout_text views.Table older younger b = bout_view older younger b
 
--- the text tells the match of two such warriors
+-- the text of the match of two warriors whose sources assemble
 pub record IsFought (s : RawSettings) (view : View) (text : List ℕ) : Type 0 where
   pub older : WarriorParts
   pub younger : WarriorParts
@@ -31,12 +31,12 @@ pub record IsFought (s : RawSettings) (view : View) (text : List ℕ) : Type 0 w
   pub younger_comes : IsWarriorOf s younger
   pub tells : text ≡ bout_text view older younger (match_of s older younger)
 
--- how `fight` ends under settings, by what the output and then the errors hold before and after: with the counts of a match of two warriors
--- and nothing told, or as where there is none, or with a stream that failed, and then a part of the answer may have been written
+-- how `fight` ends under settings, by what the output and then standard error hold before and after. It writes the counts of a match of two
+-- warriors and reports nothing, or there is no match, or a stream failed and maybe a part of the answer was written
 abbrev pub EndsFightUnder : RawSettings → View → Status → Option (List ℕ) → Option (List ℕ) → Option (List ℕ) → Option (List ℕ) → Type 0
 EndsFightUnder s view status o p e f = EndsMatch s (IsFought s view) status o p e f
 
--- how `fight` ends: as under the settings that are given, with their refusal, or for want of memory
+-- how `fight` ends: as under the settings that are given, with their refusal, or out of memory
 abbrev pub EndsFight : View → Result RawSettings SettingsFault → Status → Streams → Streams → Type 0
 EndsFight view settings status before after =
     EndsGiven (λ s end u v. EndsFightUnder s view end u.output v.output u.errors v.errors) settings status before after

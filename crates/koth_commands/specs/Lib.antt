@@ -1,4 +1,4 @@
--- The three streams, how the program ends, and what it tells of a failure and of its cause.
+-- The three streams, how the program ends, and what it reports of a failure and of its cause.
 pub mod Streams
 pub mod Status
 pub mod Cause

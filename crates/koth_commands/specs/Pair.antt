@@ -1,4 +1,4 @@
--- Two warriors from two sources, and how a command ends that tells of their match.
+-- Two warriors from two sources, and how a command of their match ends.
 use Rattle.std.specs.Prelude.{◌≡◌, ◌⊎◌, ⊤, ℕ, Option, List, Ok, Err}
 use Rattle.std.specs.Io.KnownBytes.{Appends, Keeps}
 use Rattle.war_types.specs.Warrior.{WarriorParts, Fits}
@@ -27,23 +27,23 @@ pub record ArePairOf {A : Type 0} (s : RawSettings) (pair : Pair A) : Type 0 whe
   pub older : IsWarriorOf s pair.older
   pub younger : IsWarriorOf s pair.younger
 
--- some source is refused so
+-- some source is refused with this fault
 pub record IsFaultOf (s : RawSettings) (fault : AsmFault) : Type 0 where
   pub source : List ℕ
   pub comes : assembly s source ≡ Err fault
 
--- where there is no match for a refusal's sake, some source is refused so
+-- if there is no match since a source is refused, that source has this fault
 abbrev pub IsRefusedOf : {A : Type 0} → RawSettings → NoMatch A → Type 0
 IsRefusedOf s (reasons.Refused path text fault) = assembly s text.items ≡ Err fault
 IsRefusedOf s (reasons.Failed trouble) = ⊤
 
--- a part of the answer was written: of a text that tells of a match, or of a refusal's line
+-- a part of the answer was written: of the text of a match, or of a refusal's line
 abbrev pub AnswersPartly : RawSettings → (List ℕ → Type 0) → Option (List ℕ) → Option (List ℕ) → Type 0
 AnswersPartly s IsTold old new =
     ((text : List ℕ) × IsTold text × WritesPart old new text) ⊎ ((fault : AsmFault) × IsFaultOf s fault × WritesPart old new (refusal_line fault))
 
--- how a command ends where there is no match, by what the output and then the errors hold before and after: with the refusal of a source, with
--- a file or a stream that failed, or for want of memory
+-- how a command ends if there is no match, by what the output and then standard error hold before and after. A source is refused, a file
+-- or a stream failed, or memory ran out
 abbrev pub EndsNoMatch : RawSettings → Status → Option (List ℕ) → Option (List ℕ) → Option (List ℕ) → Option (List ℕ) → Type 0
 EndsNoMatch s statuses.Done o p e f = ⊥
 EndsNoMatch s statuses.Refused o p e f = (fault : AsmFault) × IsFaultOf s fault × Appends o p (refusal_line fault) × WritesSome e f
@@ -52,8 +52,8 @@ EndsNoMatch s statuses.StreamFault o p e f =
     (Keeps o p ⊎ ((fault : AsmFault) × IsFaultOf s fault × WritesPart o p (refusal_line fault))) × TellsWord (failure_word failures.Stream) e f
 EndsNoMatch s statuses.NoMemory o p e f = Keeps o p × TellsWord (failure_word failures.Memory) e f
 
--- how a command ends that writes such a text of a match: with the whole text and nothing told, or as where there is no match, or with a stream
--- that failed, and then a part of the answer may have been written
+-- how a command ends that writes such a text of a match. The whole text is written and nothing reported, or there is no match, or a stream
+-- failed and maybe a part of the answer was written
 abbrev pub EndsMatch : RawSettings → (List ℕ → Type 0) → Status → Option (List ℕ) → Option (List ℕ) → Option (List ℕ) → Option (List ℕ) → Type 0
 EndsMatch s IsTold statuses.Done o p e f = (text : List ℕ) × IsTold text × Appends o p text × Keeps e f
 EndsMatch s IsTold statuses.Refused o p e f = EndsNoMatch s statuses.Refused o p e f

@@ -17,18 +17,18 @@ use Rattle.koth_commands.specs.declared.status.Status.{Status}
 abbrev pub has_round : RawSettings → ℕ → Bool
 has_round s round = is_from_to 1 s.rounds round
 
--- the settings under which that round is watched: those of a match that has it
+-- the settings under which that round is shown, if their match has it
 abbrev pub with_round : ℕ → Result RawSettings SettingsFault → Result RawSettings SettingsFault
 with_round round (Ok s) = if has_round s round then Ok s else Err faults.Rounds
 with_round round (Err fault) = Err fault
 
--- the text is the page of that round of the match of these warriors: it carries the events that draw the round as it stands after each turn
+-- the text is the page of that round of the match of these warriors: it has the events that draw the round after each turn
 pub record IsRoundText (s : RawSettings) (older younger : WarriorParts) (round : ℕ) (text : List ℕ) : Type 0 where
   pub replay : ReplayParts
   pub plays : IsReplay s older younger (round - 1) MOST_TURNS replay
   pub tells : text ≡ round_page older younger (round - 1) replay
 
--- that of the match of two warriors that were read
+-- the page of the match of two warriors whose sources assemble
 pub record IsWatched (s : RawSettings) (round : ℕ) (text : List ℕ) : Type 0 where
   pub older : WarriorParts
   pub younger : WarriorParts
@@ -36,13 +36,13 @@ pub record IsWatched (s : RawSettings) (round : ℕ) (text : List ℕ) : Type 0 
   pub younger_comes : IsWarriorOf s younger
   pub shown : IsRoundText s older younger round text
 
--- how `replay` ends under settings, by what the output and then the errors hold before and after: with the page of that round of a match and
--- nothing told, or as where there is no match, or with a stream that failed, and then a part of the answer may have been written
+-- how `replay` ends under settings, by what the output and then standard error hold before and after. It writes the page of that round and
+-- reports nothing, or there is no match, or a stream failed and maybe a part of the answer was written
 abbrev pub EndsReplayUnder : RawSettings → ℕ → Status → Option (List ℕ) → Option (List ℕ) → Option (List ℕ) → Option (List ℕ) → Type 0
 EndsReplayUnder s round status o p e f = EndsMatch s (IsWatched s round) status o p e f
 
--- how `replay` of the round of this number ends: as under the settings that are given, with their refusal, also where their match doesn't have
--- the round, or for want of memory
+-- how `replay` of this round ends: as under the settings that are given, with their refusal, also if their match doesn't have the round, or
+-- out of memory
 abbrev pub EndsReplay : ℕ → Result RawSettings SettingsFault → Status → Streams → Streams → Type 0
 EndsReplay round settings status before after =
     EndsGiven (λ s end u v. EndsReplayUnder s round end u.output v.output u.errors v.errors) (with_round round settings) status before after

@@ -1,4 +1,4 @@
-//! Texts that a command answers with, and what is told where they can't be written.
+//! The texts that commands answer with, and the report if they can't be written.
 
 ghost use Rattle.std.specs.Prelude.{◌≡◌};
 ghost use Rattle.koth_commands.specs.Answer.{EndsRefusal, EndsText};
@@ -13,7 +13,7 @@ use std::alloc::Allocator;
 use std::io::Write;
 use war_types::{AsmFault, Settings};
 
-/// Writes an answer whole, and ends as done; or tells that the output failed.
+/// Writes an answer whole, and ends as done; or reports that standard output failed.
 pub fn write_answer<A: Allocator, O: Write, E: Write>(
     alloc: A,
     text: &[u8],
@@ -32,13 +32,13 @@ pub fn write_answer<A: Allocator, O: Write, E: Write>(
 /// A source that is refused, and where it was read.
 #[derive(Clone, Copy, Debug)]
 pub struct RefusedSource<'s> {
-    /// The path of its file, or another name of where it comes from.
+    /// The path of its file, or the name of the stream that it comes from.
     pub path: &'s str,
     pub text: &'s [u8],
     pub fault: AsmFault,
 }
 
-/// Writes the line of a refusal, and tells on the errors where in the source and why; or tells that the output failed.
+/// Writes the line of a refusal, and explains on standard error where in the source it is, and why; or reports that standard output failed.
 pub fn write_refusal<A: Allocator + Copy, O: Write, E: Write>(
     alloc: A,
     settings: &Settings,

@@ -23,8 +23,8 @@ use std::io::{Read, Write};
 use std::rt::Files;
 use war_types::{AsmKind, RawSettings, Settings, Warrior};
 
-/// Assembles the source that the input or a file has, under the settings that are given, and writes its load text, or its refusal. Settings
-/// that are out of their ranges are refused before anything is read.
+/// Assembles the source in a file or on standard input, under the settings that are given, and writes its load text or its refusal.
+/// Settings that are out of their ranges are refused before anything is read.
 pub fn asm<R: Files, A: Allocator + Copy, I: Read, O: Write, E: Write>(
     rt: &R,
     alloc: A,
@@ -47,7 +47,7 @@ pub fn asm<R: Files, A: Allocator + Copy, I: Read, O: Write, E: Write>(
     }
 }
 
-/// Assembles what a file has.
+/// Assembles the source in a file.
 fn asm_file<R: Files, A: Allocator + Copy, O: Write, E: Write>(
     rt: &R,
     alloc: A,
@@ -76,7 +76,7 @@ fn asm_file<R: Files, A: Allocator + Copy, O: Write, E: Write>(
     }
 }
 
-/// Assembles what a stream has, which is told by this name.
+/// Assembles the source in a stream. `subject` is what diagnostics name.
 fn asm_from<A: Allocator + Copy, I: Read, O: Write, E: Write>(
     alloc: A,
     settings: &Settings,
@@ -98,7 +98,7 @@ fn asm_from<A: Allocator + Copy, I: Read, O: Write, E: Write>(
     }
 }
 
-/// Assembles what a stream has, which is read into this buffer.
+/// Assembles the source in a stream, which is read into this buffer.
 fn asm_within<A: Allocator + Copy, I: Read, O: Write, E: Write>(
     alloc: A,
     settings: &Settings,
@@ -125,7 +125,7 @@ fn asm_within<A: Allocator + Copy, I: Read, O: Write, E: Write>(
     }
 }
 
-/// Writes what a source comes to.
+/// Writes the load text of a source, or its refusal.
 fn answer_source<A: Allocator + Copy, O: Write, E: Write>(
     alloc: A,
     settings: &Settings,

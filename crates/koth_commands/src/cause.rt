@@ -180,7 +180,7 @@ impl<'s> Cause<'s> {
     }
 }
 
-/// The line that tells a cause: what failed, and why.
+/// The line that says what failed, and why.
 pub(crate) fn cause_text<A: Allocator>(alloc: A, cause: Cause<'_>) -> Result<String<A>, AllocError>
     ensures { IfOk result (λ text. string_bytes text ≡ cause_told cause.entry) }
 {

@@ -20,9 +20,9 @@ use std::io::Write;
 use std::rt::Files;
 use war_types::{RawSettings, Settings};
 
-/// Writes all refusals that are due to the sources in files, under the settings that are given: for people with the line's text and a caret
-/// under the place, or a line of JSON each. Settings that are out of their ranges are refused before a file is read. The first file that
-/// can't be read ends it.
+/// Writes every refusal of the sources in files, under the settings that are given. A refusal is written for people, with the line's text
+/// and a caret under the fault, or as a line of JSON. Settings that are out of their ranges are refused before a file is read. The first
+/// file that can't be read ends it.
 pub fn check<R: Files, A: Allocator + Copy, O: Write, E: Write>(
     rt: &R,
     alloc: A,
@@ -62,14 +62,14 @@ fn check_files<R: Files, A: Allocator + Copy, O: Write, E: Write>(
     status
 }
 
-/// How it ends behind one file more.
+/// How it ends after one file more.
 fn status_behind(status: Status, is_refused: bool) -> Status
     ensures { result ≡ status_behind status is_refused }
 {
     if is_refused { Status::Refused } else { status }
 }
 
-/// Writes all refusals that are due to the source in a file, and says whether there is one.
+/// Writes every refusal of the source in a file, and says whether there is one.
 fn check_file<'p, R: Files, A: Allocator + Copy, O: Write>(
     rt: &R,
     alloc: A,
@@ -88,7 +88,7 @@ fn check_file<'p, R: Files, A: Allocator + Copy, O: Write>(
     check_source(alloc, settings, path, text.as_slice(), form, output)
 }
 
-/// Writes all refusals that are due to a source, and says whether there is one.
+/// Writes every refusal of a source, and says whether there is one.
 fn check_source<'p, A: Allocator + Copy, O: Write>(
     alloc: A,
     settings: &Settings,

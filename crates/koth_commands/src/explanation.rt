@@ -1,4 +1,4 @@
-//! What people are told of a source that is refused.
+//! The explanation of a refusal, for people.
 
 ghost use Rattle.koth_commands.specs.Told.{WritesSome};
 
@@ -8,8 +8,8 @@ use std::alloc::{AllocError, Allocator};
 use std::io::Write;
 use war_types::Settings;
 
-/// Writes why a source is refused: where, the line's text with a caret under the place, and a sentence. Nothing is written of a source that
-/// is not refused, and where memory runs out.
+/// Writes why a source is refused: the line's number and text, a caret under the fault, and a sentence. Nothing is written if the source
+/// is not refused or memory runs out.
 pub fn explain<A: Allocator + Copy, E: Write>(
     alloc: A,
     path: &str,
@@ -24,7 +24,7 @@ pub fn explain<A: Allocator + Copy, E: Write>(
     }
 }
 
-/// What is told of the first refusal that is due to a source.
+/// The explanation of the first refusal of a source, if there is one.
 fn explanation<A: Allocator + Copy>(
     alloc: A,
     path: &str,

@@ -14,7 +14,7 @@ use std::io::Write;
 pub enum Failure {
     /// A stream or a file failed.
     Stream,
-    /// A growth of memory was refused.
+    /// Out of memory.
     Memory,
 }
 
@@ -23,14 +23,14 @@ pub enum Failure {
 pub enum Trouble<'t> {
     /// A stream or a file failed.
     Failed(Cause<'t>),
-    /// A growth of memory was refused.
+    /// Out of memory.
     Memory,
 }
 
 impl Trouble<'_> {
     ghost use Rattle.koth_commands.specs.Failure.{cause_of, failure_of, failure_status, failure_word};
 
-    /// Writes the failure's word, and behind it what failed and why, and says how the program ends.
+    /// Writes the failure's word, followed by what failed and why, and says how the program ends.
     pub fn tell<A: Allocator, E: Write>(self, alloc: A, errors: &mut E) -> Status
         ensures status { result ≡ failure_status (failure_of self.entry) }
         ensures told { TellsWord (failure_word (failure_of self.entry)) (E.contents errors.old) (E.contents errors.new) }
@@ -47,8 +47,8 @@ impl Trouble<'_> {
 impl Failure {
     ghost use Rattle.koth_commands.specs.Failure.{failure_status, failure_word};
 
-    /// Writes the failure's word, and behind it what failed and why, where that is known, and says how the program ends. Where the line
-    /// can't be written either, the status alone tells.
+    /// Writes the failure's word, followed by what failed and why if that is known, and says how the program ends. If the line can't be
+    /// written either, only the status shows the failure.
     pub fn tell<A: Allocator, E: Write>(
         self,
         alloc: A,

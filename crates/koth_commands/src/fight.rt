@@ -21,7 +21,7 @@ use std::rt::Files;
 use war_types::{RawSettings, Settings, Warrior};
 
 /// Plays the match of the warriors in two files, under the settings that are given, and writes its counts. Settings
-/// that are out of their ranges are refused before a file is read; the older warrior is read and assembled before
+/// that are out of their ranges are refused before a file is read. The older warrior is read and assembled before
 /// the younger one's file is opened.
 pub fn fight<R: Files, A: Allocator + Copy, O: Write, E: Write>(
     rt: &R,
@@ -63,7 +63,7 @@ fn fight_under<R: Files, A: Allocator + Copy, O: Write, E: Write>(
     }
 }
 
-/// Plays the match of two warriors, and tells its counts.
+/// Plays the match of two warriors, and gives the text of its counts.
 fn counts_of<A: Allocator + Copy>(
     alloc: A,
     settings: &Settings,

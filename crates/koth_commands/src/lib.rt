@@ -1,17 +1,17 @@
-//! The commands that need no hill: `asm`, `check`, `fight` and `replay`, with what all commands end with and tell.
+//! The commands that need no hill, `asm`, `check`, `fight` and `replay`, and the statuses and reports of all commands.
 //!
 //! It stands on the assembler, on the match and on the page of a round, and knows no store, device, session or socket. The modules, in
 //! the order in which the data pass:
 //!
 //! - `stream` and `source`: an input that is read up to a limit, an output that is written whole, and a source in a file;
-//! - `pair`: the warriors from two files, and what is answered where they can't be had;
+//! - `pair`: the warriors from two files, and the answer if there are none;
 //! - `asm`, `check`, `fight`, `replay`: a command each;
-//! - `answer`: what is answered to a source; `settings`: what is told of settings that are refused;
-//! - `failure`, `status`: what is told of a stream that failed or of want of memory, and how the program ends.
+//! - `answer`: the answer to a source; `settings`: the report of settings that are refused;
+//! - `failure`, `status`: the report of a failed stream or of a lack of memory, and how the program ends.
 //!
-//! Each says what is written and how the program ends as a function of the settings and of what was read (`EndsAsm`,
-//! `EndsFight`, `EndsReplay`, `EndsCheck`): exactly the load text, the counts, the page or the refusal that the source earns, or a part of it
-//! where a stream failed, and then the failure's line on the errors. Settings are checked before anything is read.
+//! Each says what is written and how the program ends as a function of the settings and of what was read (`EndsAsm`, `EndsFight`,
+//! `EndsReplay`, `EndsCheck`). That is exactly the load text, the counts, the page or the refusal of the source. If a stream failed it is
+//! a part of it, and then the failure's line on standard error. Settings are checked before anything is read.
 #![tactic(auto)]
 
 mod answer;

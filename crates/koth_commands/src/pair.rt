@@ -1,4 +1,4 @@
-//! Two warriors from two files, and what is answered where they can't be had.
+//! Two warriors from two files, and the answer if there are none.
 
 ghost use Rattle.std.specs.Prelude.{IfErr, IfOk};
 ghost use Rattle.koth_commands.specs.Pair.{ArePairOf, EndsNoMatch, IsRefusedOf, IsWarriorOf};
@@ -29,7 +29,7 @@ pub(crate) enum NoMatch<'f, A: Allocator> {
     Failed(Trouble<'f>),
 }
 
-/// The warriors to which the sources in two files assemble. The older one is read and assembled before the younger one's file is opened.
+/// The warriors that the sources in two files assemble to. The older one is read and assembled before the younger one's file is opened.
 pub(crate) fn pair_in<'f, R: Files, A: Allocator + Copy>(
     rt: &R,
     alloc: A,
@@ -50,7 +50,7 @@ pub(crate) fn pair_in<'f, R: Files, A: Allocator + Copy>(
     }
 }
 
-/// The warrior to which the source in a file assembles.
+/// The warrior that the source in a file assembles to.
 fn warrior_in<'f, R: Files, A: Allocator + Copy>(
     rt: &R,
     alloc: A,

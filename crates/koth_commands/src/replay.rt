@@ -19,12 +19,12 @@ use std::io::Write;
 use std::rt::Files;
 use war_types::{RawSettings, Settings, Warrior};
 
-/// Turns of a round that its page has at most: more than a round has under the settings that nobody changed.
+/// Most turns of a round that its page has: more than a round has under the default settings.
 pub(crate) const MOST_TURNS: u32 = 200_000;
 
 /// Plays the round of this number, counted from 1, of the match of the warriors in two files, under the settings that are given, and writes
-/// the page on which it is watched. Settings that are out of their ranges are refused before a file is read, and so is a round that the match
-/// doesn't have; the older warrior is read and assembled before the younger one's file is opened.
+/// the page that shows it. Settings that are out of their ranges are refused before a file is read, and so is a round that the match
+/// doesn't have. The older warrior is read and assembled before the younger one's file is opened.
 pub fn replay<R: Files, A: Allocator + Copy, O: Write, E: Write>(
     rt: &R,
     alloc: A,
@@ -94,7 +94,7 @@ fn page_of<A: Allocator + Copy>(
     round_text(alloc, settings, &pair.older, &pair.younger, round)
 }
 
-/// The page of a round, counted from 1, of the match of two warriors. The error is want of memory.
+/// The page of a round, counted from 1, of the match of two warriors. The error is a lack of memory.
 pub fn round_text<A: Allocator + Copy, B: Allocator, C: Allocator>(
     alloc: A,
     settings: &Settings,

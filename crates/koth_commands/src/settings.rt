@@ -1,4 +1,4 @@
-//! What is told of settings that are refused, and of a round that a match doesn't have.
+//! The report of settings that are refused, and of a round that a match doesn't have.
 
 ghost use Rattle.std.specs.Prelude.{◌≡◌};
 ghost use Rattle.koth_commands.specs.Answer.{settings_word};
@@ -11,8 +11,7 @@ use std::alloc::{AllocError, Allocator};
 use std::io::Write;
 use war_types::{RawSettings, SettingsFault};
 
-/// Tells of settings that are refused: which one, and behind it its value and what it may be. Where that can't be written, the status alone
-/// tells.
+/// Reports which setting is refused, its value and its range. If that can't be written, only the status shows it.
 pub fn refuse_settings<A: Allocator, E: Write>(
     alloc: A,
     given: RawSettings,
@@ -25,7 +24,7 @@ pub fn refuse_settings<A: Allocator, E: Write>(
     tell_settings(fault, range_text(alloc, given, fault), errors)
 }
 
-/// Tells of a round that a match of so many rounds doesn't have, as of settings that are refused. Rounds are counted from 1.
+/// Reports a round that a match of `rounds` rounds doesn't have, like settings that are refused. Rounds are counted from 1.
 pub(crate) fn refuse_round<A: Allocator, E: Write>(
     alloc: A,
     rounds: u32,
@@ -42,7 +41,7 @@ pub(crate) fn refuse_round<A: Allocator, E: Write>(
     tell_settings(SettingsFault::Rounds, told, errors)
 }
 
-/// Tells which setting is refused, and behind it this text where there was memory for it.
+/// Reports which setting is refused, followed by this text if there was memory for it.
 fn tell_settings<A: Allocator, E: Write>(
     fault: SettingsFault,
     told: Result<String<A>, AllocError>,
@@ -76,7 +75,7 @@ fn settings_word(fault: SettingsFault) -> &'static str
     }
 }
 
-/// The value of the setting that is refused, and what it may be.
+/// The value of the setting that is refused, and its range.
 fn range_text<A: Allocator>(
     alloc: A,
     given: RawSettings,
@@ -105,7 +104,7 @@ fn between<A: Allocator>(
     format!(in alloc; "--{} is {}, and must be {}\n", name, value, range)
 }
 
-/// The distance goes with two other settings: each that nobody gave is told as what it is by default.
+/// The range of the distance depends on two other settings. A setting with its default value is marked as such.
 fn distance_text<A: Allocator>(alloc: A, given: RawSettings) -> Result<String<A>, AllocError> {
     let distance = if_default(given.distance == DEFAULTS.distance);
     let length = if_default(given.length == DEFAULTS.length);

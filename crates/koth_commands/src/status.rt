@@ -9,11 +9,11 @@ pub enum Status {
     Done,
     /// It is refused: a source by the assembler, or a setting that is out of its range.
     Refused,
-    /// The words ask for nothing that the program does.
+    /// The arguments ask for nothing that the program does.
     WordFault,
     /// A stream or a file failed: opening, a read or a write gave an error, or a write took no byte.
     StreamFault,
-    /// A growth of memory was refused.
+    /// Out of memory.
     NoMemory,
 }
 

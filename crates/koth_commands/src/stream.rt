@@ -42,7 +42,7 @@ pub(crate) fn fill<I: Read>(input: &mut I, buffer: &mut [u8]) -> Result<usize, S
     Ok(filled)
 }
 
-/// Writes the whole text. Where the output fails, a part of it is written.
+/// Writes the whole text. If the output fails, a part of it is written.
 pub fn write_whole<W: Write>(output: &mut W, text: &[u8]) -> Result<(), StreamFault>
     ensures whole { OnOk result (Appends (W.contents output.old) (W.contents output.new) text.now) }
     ensures part { OnErr result (WritesPart (W.contents output.old) (W.contents output.new) text.now) }

@@ -1,4 +1,4 @@
-//! What is told on the errors: a word that programs know, and behind it a text for people.
+//! Reports on standard error: a word that programs know, followed by a text for people.
 
 ghost use Rattle.std.specs.Prelude.{◌≡◌, ◌++◌, OnErr, OnOk};
 ghost use Rattle.std.specs.Io.KnownBytes.{Appends};
@@ -10,7 +10,7 @@ use crate::stream::{StreamFault, write_whole};
 use std::alloc::{AllocError, Allocator};
 use std::io::Write;
 
-/// What stands between a word and the text behind it.
+/// What stands between a word and the text after it.
 #[derive(Clone, Copy, Debug, PartialEq, Eq)]
 pub enum Apart {
     /// The word ends its line.
@@ -33,7 +33,7 @@ impl Apart {
     }
 }
 
-/// Writes a word, and behind it what failed and why, where that is known and there is memory for it. Where the errors fail, a part of it is
+/// Writes a word, followed by what failed and why if that is known and there is memory for it. If standard error fails, a part of it is
 /// written.
 pub fn tell_word<A: Allocator, E: Write>(
     alloc: A,
@@ -52,7 +52,7 @@ pub fn tell_word<A: Allocator, E: Write>(
     }
 }
 
-/// Writes a word and a text behind it, or a part of them where the errors fail.
+/// Writes a word and a text after it, or a part of them if standard error fails.
 pub fn tell_text<E: Write>(word: &str, apart: Apart, text: &[u8], errors: &mut E)
     ensures told { TellsWord word.now (E.contents errors.old) (E.contents errors.new) }
     ensures part { WritesPart (E.contents errors.old) (E.contents errors.new) (word.now ++ (apart_text apart ++ text.now)) }
@@ -75,7 +75,7 @@ fn write_told<E: Write>(
     write_both(errors, apart.text(), text)
 }
 
-/// Writes two texts whole, one behind the other. Where the output fails, a part of them is written.
+/// Writes two texts whole, one after the other. If the output fails, a part of them is written.
 pub fn write_both<W: Write>(output: &mut W, first: &[u8], second: &[u8]) -> Result<(), StreamFault>
     ensures whole { OnOk result (Appends (W.contents output.old) (W.contents output.new) (first.now ++ second.now)) }
     ensures part { OnErr result (WritesPart (W.contents output.old) (W.contents output.new) (first.now ++ second.now)) }

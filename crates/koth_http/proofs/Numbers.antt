@@ -33,7 +33,7 @@ number-none limit text none = elim (number_of limit text) as (λ o. number_of li
   | Some n ↦ λ is. let (below, written) = number-reads limit n text is in absurd (none n below written)
 ] refl
 
--- ---- a reading that is right on what is written so, for `number`
+-- ---- a reading that is right on decimal digits, for `number`
 
 pub number-same : (k : ℕ) (text : List ℕ) → k < 2 ^ 64 → bytes_eq (decimal k) text ≡ true → number_of (2 ^ 64) text ≡ Some k
 number-same k text fits same = number-found (2 ^ 64) k text fits fits (sym ((bytes_eq-Decides (decimal k) text).0 same))

@@ -16,7 +16,7 @@ most_bytes = 8192
 abbrev pub most_fields : ℕ
 most_fields = 64
 
--- a page is only read
+-- the methods that read a page
 abbrev pub is_reading : List ℕ → Bool
 is_reading method = bytes_eq method (codes "GET") || bytes_eq method (codes "HEAD")
 
@@ -42,7 +42,7 @@ abbrev pub IsRead : List ℕ → Asked → Type 0
 IsRead bytes asked =
     (head : RequestHead) × (rest : List ℕ) × ReadsRequest bytes head rest × (length head.fields ≤ most_fields) × (asked ≡ asked_by head)
 
--- no bytes can follow that make it a request
+-- no bytes that follow can make it a request
 abbrev pub IsBad : List ℕ → Asked → Type 0
 IsBad bytes asked = NeverHasRequest bytes × (asked ≡ refused refusals.BadRequest)
 
@@ -55,12 +55,12 @@ IsTooLarge bytes =
 abbrev pub IsLarge : List ℕ → Asked → Type 0
 IsLarge bytes asked = IsTooLarge bytes × (asked ≡ refused refusals.HeadTooLarge)
 
--- what is said of the bytes that came, and nothing while they may become a request that is small enough
+-- what the bytes that came ask; `None` while they may become a request that is small enough
 abbrev pub IsAsked : List ℕ → Option Asked → Type 0
 IsAsked bytes None = HasNoRequest bytes × MayBecomeRequest bytes × (length bytes < most_bytes)
 IsAsked bytes (Some asked) = IsRead bytes asked ⊎ (IsBad bytes asked ⊎ IsLarge bytes asked)
 
--- a whole head with not too many fields is answered as what it asks
+-- a whole head without too many fields gives what it asks
 abbrev pub FindsAsked : List ℕ → Option Asked → Type 0
 FindsAsked bytes asked =
     (head : RequestHead) (rest : List ℕ) → ReadsRequest bytes head rest → length head.fields ≤ most_fields → asked ≡ Some (asked_by head)

@@ -15,7 +15,7 @@ refusal_line refusals.MethodNotAllowed = codes "HTTP/1.1 405 Method Not Allowed\
 refusal_line refusals.HeadTooLarge = codes "HTTP/1.1 431 Request Header Fields Too Large\r\n"
 refusal_line refusals.Unavailable = codes "HTTP/1.1 503 Service Unavailable\r\n"
 
--- the sentence that tells people of it
+-- the sentence that explains it to people
 abbrev pub refusal_sentence : Refusal → List ℕ
 refusal_sentence refusals.BadRequest = codes "This is no request of HTTP."
 refusal_sentence refusals.NotFound = codes "There is no such page."
@@ -28,20 +28,20 @@ unfoldable pub refusal_page : Refusal → List ℕ
 refusal_page refusal =
     codes "<!DOCTYPE html>\n<html lang=\"en\"><title>King of the Hill</title><p>" ++ refusal_sentence refusal ++ codes "</p></html>\n"
 
--- the fields of every answer, with the length of its body, and the empty line behind them
+-- the fields of every answer, with the length of its body, and the empty line after them
 unfoldable pub fields : ℕ → List ℕ
 fields len =
     codes "Content-Type: text/html; charset=us-ascii\r\nContent-Length: " ++ decimal len
     ++ codes "\r\nConnection: close\r\nCache-Control: no-store\r\nX-Content-Type-Options: nosniff\r\nContent-Security-Policy: default-src 'none'; style-src 'unsafe-inline'; script-src 'unsafe-inline'\r\n\r\n"
 
--- an answer, whose body stands there only if it is asked for
+-- an answer, with its body only if that is asked for
 unfoldable pub response : List ℕ → List ℕ → Bool → List ℕ
 response line body with_body = line ++ fields (length body) ++ (if with_body then body else [])
 
--- that has a page
+-- an answer with a page
 abbrev pub page_response : List ℕ → Bool → List ℕ
 page_response page with_body = response page_line page with_body
 
--- that refuses one
+-- an answer that refuses a page
 abbrev pub refusal_response : Refusal → Bool → List ℕ
 refusal_response refusal with_body = response (refusal_line refusal) (refusal_page refusal) with_body

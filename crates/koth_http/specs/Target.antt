@@ -17,7 +17,7 @@ abbrev pub IsPage : Page → Type 0
 IsPage pages.Hill = ⊤
 IsPage (pages.Round older younger round) = (older < 2 ^ 64) × (younger < 2 ^ 64) × (round < 2 ^ 32)
 
--- the number below the limit that is written so in decimal digits, without a sign and without a zero before the others
+-- the number below the limit that a text writes in decimal digits, without a sign and without leading zeros
 unfoldable pub number_of : ℕ → List ℕ → Option ℕ
 number_of limit text =
     let n = digits_value 10 text in
@@ -34,7 +34,7 @@ abbrev pub round_by : Option ℕ → Option ℕ → Option ℕ → Option Page
 round_by (Some older) (Some younger) (Some round) = Some (pages.Round older younger round)
 round_by older younger round = None
 
--- the round that is written so: the entry numbers of the older warrior and of the younger, and the round, with a slash between two
+-- the round that a text writes: the entries of the older warrior and of the younger, and the round, with slashes between them
 unfoldable pub round_of : List ℕ → Option Page
 round_of text =
     let rest = after_first is_slash text in

@@ -16,11 +16,11 @@ pub(crate) const MOST_BYTES: usize = 8_192;
 const MOST_FIELDS: usize = 64;
 
 /// What a browser asks.
-#[derive(Clone, Copy, Debug, PartialEq, Eq)]
+#[derive(Clone, Copy, PartialEq, Eq)]
 pub struct Asked {
     /// The page, or why there is none.
     pub page: Result<Page, Refusal>,
-    /// Whether the answer has its body: none has it that is asked for by `HEAD`.
+    /// Whether the answer has its body: not if it is asked for by `HEAD`.
     pub with_body: bool,
 }
 
@@ -39,7 +39,7 @@ pub(crate) fn asked_in(bytes: &[u8]) -> Option<Asked>
     }
 }
 
-/// What so many bytes of a head ask.
+/// What the beginning of a head asks, by its length.
 fn partly(len: usize) -> Option<Asked>
     requires { len ≤ most_bytes }
     ensures { result ≡ (if nat_lt len most_bytes then None else Some (refused refusals.HeadTooLarge)) }

@@ -8,10 +8,10 @@
 //! - `refusal` and `response`: why there is no page, and the bytes of an answer.
 //!
 //! What `Visit::asked` says is stated of all bytes that came, so it is the same however they were cut. A whole head with at most 64 fields
-//! is answered as what its method and its target ask, by the grammar of HTTP/1.1. Nothing is said while the bytes may still become a head
-//! of at most 8,192 bytes, and each refusal has its reason; bytes that have two of them may be refused for either. A page has one target,
-//! but for the query, and the page of a target is read back from it. An answer is exactly its definition in `specs`, which tells the
-//! length of its body.
+//! is answered as what its method and its target ask, by the grammar of HTTP/1.1. While the bytes may still become a head of at most 8,192
+//! bytes, the answer is `None`. Each refusal has its reason; bytes with two reasons may be refused for either. A page has one target, but
+//! for the query, and the page of a target is read back from it. An answer is exactly its definition in `specs`, with the length of its
+//! body.
 //!
 //! Only the room of a visit and an answer take memory.
 #![tactic(auto)]

@@ -4,13 +4,13 @@ ghost use Rattle.std.specs.Prelude.{◌≡◌, codes, string_bytes};
 ghost use Rattle.koth_http.specs.Response.{refusal_line, refusal_sentence};
 
 /// Why a browser gets no page.
-#[derive(Clone, Copy, Debug, PartialEq, Eq)]
+#[derive(Clone, Copy, PartialEq, Eq)]
 pub enum Refusal {
     /// What came is no request.
     BadRequest,
     /// The target names no page, or one that the hill doesn't have.
     NotFound,
-    /// The target is one of those that there are, but its page is only read.
+    /// The target names a page, but the method is neither `GET` nor `HEAD`.
     MethodNotAllowed,
     /// The head has more than 8,192 bytes or more than 64 fields.
     HeadTooLarge,
@@ -34,7 +34,7 @@ impl Refusal {
         }
     }
 
-    /// The sentence that tells people of it.
+    /// The sentence that explains it to people.
     pub(crate) fn sentence(self) -> &'static [u8]
         ensures { result.now ≡ refusal_sentence self }
     {

@@ -7,8 +7,8 @@ use crate::refusal::Refusal;
 use itoa::Buffer;
 use std::alloc::{AllocError, Allocator};
 
-/// The answer that has a page, which is HTML in ASCII: its body stands there only if it is asked for, and its length is told either way.
-/// The error is want of memory.
+/// The answer with a page, which is HTML in ASCII. It has the length of its body in any case, and the body only if that is asked for.
+/// The error is a lack of memory.
 pub fn page_response<A: Allocator>(
     alloc: A,
     page: &[u8],
@@ -19,7 +19,7 @@ pub fn page_response<A: Allocator>(
     response(alloc, b"HTTP/1.1 200 OK\r\n", page, with_body)
 }
 
-/// The answer that refuses a page, with a sentence for people. The error is want of memory.
+/// The answer that refuses a page, with a sentence for people. The error is a lack of memory.
 pub fn refusal_response<A: Allocator + Copy>(
     alloc: A,
     refusal: Refusal,

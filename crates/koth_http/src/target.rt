@@ -8,7 +8,7 @@ use itoa::Buffer;
 use std::str::from_utf8;
 
 /// A page that there can be.
-#[derive(Clone, Copy, Debug, PartialEq, Eq)]
+#[derive(Clone, Copy, PartialEq, Eq)]
 pub enum Page {
     /// The hill.
     Hill,
@@ -24,11 +24,11 @@ pub enum Page {
 
 const REPLAY: &[u8] = b"/replay/";
 
-/// The page that a target names: `/` or `/replay/OLDER/YOUNGER/ROUND`, and whatever query behind it.
+/// The page that a target names: `/` or `/replay/OLDER/YOUNGER/ROUND`, with or without a query.
 pub fn page_named(target: &[u8]) -> Option<Page>
     ensures value { result ≡ page_named target.now }
 
-    // It is the page whose target is written so, if there is one.
+    // It is the page with this target, if there is one.
     ensures written { IfSome result (λ page. path_of target.now ≡ target_for page) }
     ensures found { (page : Page) → IsPage page → path_of target.now ≡ target_for page → result ≡ Some page }
 {
@@ -66,7 +66,7 @@ fn round_of(text: &[u8]) -> Option<Page>
     }
 }
 
-/// The bytes before the first of these, and those behind it.
+/// The bytes before the first separator, and the bytes after it.
 fn cut(text: &[u8], separator: u8) -> (&[u8], &[u8])
     ensures before { result.0.now ≡ before_first (λ b. b == separator) text.now }
     ensures after { result.1.now ≡ after_first (λ b. b == separator) text.now }
@@ -88,7 +88,7 @@ fn small_number(text: &[u8]) -> Option<u32>
     }
 }
 
-/// The number that is written so, if it is written as it has to be.
+/// The number that a text writes, without a plus sign or zeros before it.
 fn number(text: &[u8]) -> Option<u64>
     ensures { result ≡ number_of (2 ^ 64) text.now }
 {
@@ -107,7 +107,7 @@ fn is_written(number: u64, text: &[u8]) -> bool
     digits.format(number).as_bytes() == text
 }
 
-/// The number that is written so, maybe behind a plus or zeros.
+/// The number that a text writes, maybe with a plus sign or zeros before it.
 fn number_read(text: &[u8]) -> Option<u64>
     ensures { (n : ℕ) → n < 2 ^ 64 → text.now ≡ decimal n → result ≡ Some n }
 {

@@ -25,7 +25,7 @@ impl<A: Allocator> Model for Visit<A> {
 }
 
 impl<A: Allocator> Visit<A> {
-    /// No bytes yet, with room for all that may come. The error is want of memory.
+    /// No bytes yet, with room for all that may come. The error is a lack of memory.
     pub fn new(alloc: A) -> Result<Visit<A>, AllocError>
         ensures { IfOk result (λ v. v ≡ []) }
     {

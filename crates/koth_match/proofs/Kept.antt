@@ -12,7 +12,7 @@ use Rattle.mars_core.specs.declared.round.Outcome.TheVariants as outcomes
 use Rattle.mars_core.specs.Round.{Round, is_over, turn_of, after_side, after_turn, after_turns}
 use Rattle.koth_match.specs.declared.bout.Bout.{Bout}
 use Rattle.koth_match.specs.Match.{bout_before, match_of, counted, first_in, outcome_at, round_outcome, round_outcomes, rounds_in, is_outcome, times, AreCounts}
-use Rattle.koth_match.specs.Seeds.{place, seed_of_round}
+use Rattle.koth_match.specs.Seeds.{position, seed_of_round}
 
 after_side-settings : (m : Side) (r : Round) → (after_side m (turn_of r).core (turn_of r).queue r).settings ≡ r.settings
 after_side-settings sides.First r = refl
@@ -22,11 +22,11 @@ either-settings : (over : Bool) (r next : Round) → next.settings ≡ r.setting
 either-settings true r next e = refl
 either-settings false r next e = e
 
-after_turn-settings : (r : Round) → (after_turn r).settings ≡ r.settings
+pub after_turn-settings : (r : Round) → (after_turn r).settings ≡ r.settings
 unfolding after_turn
 after_turn-settings r = either-settings (is_over r) r _ (after_side-settings r.to_move r)
 
--- so many turns keep the settings
+-- n turns keep the settings
 pub after_turns-settings : (n : ℕ) (r : Round) → (after_turns n r).settings ≡ r.settings
 unfolding after_turns
 after_turns-settings zero r = refl
@@ -37,13 +37,13 @@ counted-rounds outcomes.First b = omega arith
 counted-rounds outcomes.Second b = omega arith
 counted-rounds outcomes.Tie b = omega arith
 
--- the counts of so many rounds add up to them
+-- the counts of n rounds add up to n
 pub bout_before-rounds : (s : RawSettings) (older younger : WarriorParts) (n : ℕ) → rounds_in (bout_before s older younger n) ≡ n
 bout_before-rounds s older younger zero = refl
 bout_before-rounds s older younger (suc n) =
     counted-rounds (round_outcome s older younger n) (bout_before s older younger n) ∙ ap suc (bout_before-rounds s older younger n)
 
--- with one round more that ends so
+-- one round more, which ends like this
 AreCounts-more : (ends more : List Outcome) (o : Outcome) (b : Bout) → AreCounts ends b → ((x : Outcome) → times x more ≡ times x ends + cond (is_outcome x o) 1 0) →
     AreCounts more (counted o b)
 AreCounts-more ends more outcomes.First b are e = record {
@@ -62,7 +62,7 @@ AreCounts-more ends more outcomes.Tie b are e = record {
   ties = omega (arith, are.ties, e outcomes.Tie);
 }
 
--- round after round, how many of them end so
+-- the counts, round after round
 bout_before-counts : (s : RawSettings) (older younger : WarriorParts) (n : ℕ) → AreCounts (map (round_outcome s older younger) (range_with_len 0 n)) (bout_before s older younger n)
 bout_before-counts s older younger zero = record { older_wins = refl; younger_wins = refl; ties = refl }
 bout_before-counts s older younger (suc n) =
@@ -75,16 +75,16 @@ pub match_of-counts : (s : RawSettings) (older younger : WarriorParts) → AreCo
 unfolding match_of
 match_of-counts s older younger = bout_before-counts s older younger s.rounds
 
--- counts that are those of so many rounds
+-- the counts of n rounds
 module _ (s : RawSettings) (older younger : WarriorParts) (b : Bout) (n : ℕ) (counts : b ≡ bout_before s older younger n) where
   pub so_many : rounds_in b ≡ n
   so_many = ap rounds_in counts ∙ bout_before-rounds s older younger n
 
-  -- and those with the next round
-  pub one_more : (more : Bout) (o : Outcome) (in_arena : RawSettings) (position seed : ℕ) (first : Side) → more ≡ counted o b
-      → o ≡ outcome_at in_arena older younger position first → in_arena ≡ s → position ≡ place s seed → seed ≡ seed_of_round s n
+  -- and with the next round
+  pub one_more : (more : Bout) (o : Outcome) (in_arena : RawSettings) (at seed : ℕ) (first : Side) → more ≡ counted o b
+      → o ≡ outcome_at in_arena older younger at first → in_arena ≡ s → at ≡ position s seed → seed ≡ seed_of_round s n
       → first ≡ first_in n → more ≡ bout_before s older younger (suc n)
   unfolding round_outcome
-  one_more more o in_arena position seed first counted_now played same at of_round side =
-      let as_due : outcome_at in_arena older younger position first ≡ outcome_at s older younger (place s (seed_of_round s n)) (first_in n) = cc in
+  one_more more o in_arena at seed first counted_now played same there of_round side =
+      let as_due : outcome_at in_arena older younger at first ≡ outcome_at s older younger (position s (seed_of_round s n)) (first_in n) = cc in
       counted_now ∙ ap₂ counted (played ∙ as_due) counts

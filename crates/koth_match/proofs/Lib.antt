@@ -1,3 +1,4 @@
-mod Kept
+-- What turns keep, and the counts of rounds.
+pub mod Kept
 mod Rows
 mod Sequence

@@ -12,7 +12,7 @@ use Rattle.mars_core.specs.Operand.{operand}
 use Rattle.mars_core.specs.Effect.{effect}
 use Rattle.mars_core.specs.Round.{executed, side_turn, after_turn, after_turns}
 use Rattle.koth_match.specs.declared.bout.Bout.{Bout}
-use Rattle.koth_match.specs.Seeds.{next_seed, seed_of_round, place}
+use Rattle.koth_match.specs.Seeds.{next_seed, seed_of_round, position}
 use Rattle.koth_match.specs.Match.{round_outcome, match_of}
 
 abbrev small : RawSettings
@@ -39,20 +39,20 @@ dies = alone (direct ops.Dat modifiers.F 0 0)
 abbrev bout : ℕ → ℕ → ℕ → Bout
 bout older younger ties = record { older_wins = older; younger_wins = younger; ties = ties }
 
-first_place : place usual 1 ≡ 101
-first_place = refl
+first_position : position usual 1 ≡ 101
+first_position = refl
 
-second_place : place usual (seed_of_round usual 1) ≡ 1305
-second_place = refl
+second_position : position usual (seed_of_round usual 1) ≡ 1305
+second_position = refl
 
-third_place : place usual (seed_of_round usual 2) ≡ 1139
-third_place = refl
+third_position : position usual (seed_of_round usual 2) ≡ 1139
+third_position = refl
 
 third_seed : next_seed 16807 ≡ 282475249
 third_seed = refl
 
-small_places : place small 1 ∷ place small 16807 ∷ [] ≡ 11 ∷ 32 ∷ []
-small_places = refl
+small_positions : position small 1 ∷ position small 16807 ∷ [] ≡ 11 ∷ 32 ∷ []
+small_positions = refl
 
 ten_thousandth : seed_of_round small 10000 ≡ 1043618065
 ten_thousandth = refl

@@ -1,18 +1,14 @@
 -- From a round's seed to the next.
-use Rattle.std.proofs.Common.{◌≡◌, ◌∙◌, ℕ, suc, ◌*◌, ◌^◌, ◌%◌, ◌≤◌, sym, ap, arith}
+use Rattle.std.proofs.Common.{◌≡◌, ◌∙◌, ℕ, suc, ◌*◌, ◌^◌, ◌%◌, sym, ap, arith}
 use Rattle.std.proofs.Math.Nat.{pow-suc}
 use Rattle.std.proofs.lemmas.Nat.{mul-mod_second}
 use Rattle.war_types.specs.declared.settings.RawSettings.{RawSettings}
 use Rattle.koth_match.specs.Seeds.{next_seed, seed_of_round}
 
--- the first round has the settings' seed
-pub seed_of_round-first : (s : RawSettings) → s.seed ≤ 2147483646 → s.seed ≡ seed_of_round s 0
-seed_of_round-first s most = grind arith
-
 once_more : (seed power : ℕ) → 16807 * (seed * power) ≡ seed * (power * 16807)
 once_more seed power = grind arith
 
--- each later round has the seed behind that of the one before
+-- each later round has the seed after that of the one before
 pub seed_of_round-next : (s : RawSettings) (r seed next : ℕ) → next ≡ next_seed seed → seed ≡ seed_of_round s r → next ≡ seed_of_round s (suc r)
 seed_of_round-next s r seed next follows of_round =
     follows ∙ ap next_seed of_round ∙ mul-mod_second 16807 (s.seed * 16807 ^ r) 2147483647

@@ -1,5 +1,5 @@
--- A match of two warriors: so many rounds, of which each side may win some and the others are ties (scores are counted as
--- pMARS does; who moves first is this project's own).
+-- A match of two warriors: in each of its rounds one side wins, or it is a tie (scores are counted as pMARS does; who moves
+-- first is this project's own).
 use Rattle.std.specs.Prelude.{ℕ, zero, suc, ◌+◌, ◌*◌, ◌%◌, ◌≡◌, ◌==◌, Bool, true, false, if◌then◌else◌, List, map, count_by}
 use Rattle.std.specs.List.{range_with_len}
 use Rattle.war_types.specs.declared.settings.RawSettings.{RawSettings}
@@ -10,19 +10,19 @@ use Rattle.mars_core.specs.declared.round.Outcome.{Outcome}
 use Rattle.mars_core.specs.declared.round.Outcome.TheVariants as outcomes
 use Rattle.mars_core.specs.Round.{opening, after_turns, outcome}
 use Rattle.koth_match.specs.declared.bout.Bout.{Bout}
-use Rattle.koth_match.specs.Seeds.{seed_of_round, place}
+use Rattle.koth_match.specs.Seeds.{position, seed_of_round}
 
 -- the older warrior moves first in every second round, the first of them included
 abbrev pub first_in : ℕ → Side
 first_in r = if r % 2 == 0 then sides.First else sides.Second
 
--- how a round ends with the older warrior at address 0, the younger at a position, and this side moving first
+-- how a round ends with the older warrior at address 0, the younger at another one, and this side moving first
 abbrev pub outcome_at : RawSettings → WarriorParts → WarriorParts → ℕ → Side → Outcome
-outcome_at s older younger position first = outcome (after_turns (2 * s.cycles) (opening s older younger position first))
+outcome_at s older younger at first = outcome (after_turns (2 * s.cycles) (opening s older younger at first))
 
 -- how round r ends
 unfoldable pub round_outcome : RawSettings → WarriorParts → WarriorParts → ℕ → Outcome
-round_outcome s older younger r = outcome_at s older younger (place s (seed_of_round s r)) (first_in r)
+round_outcome s older younger r = outcome_at s older younger (position s (seed_of_round s r)) (first_in r)
 
 abbrev pub no_rounds : Bout
 no_rounds = record { older_wins = 0; younger_wins = 0; ties = 0 }
@@ -46,7 +46,7 @@ bout_before s older younger (suc n) = counted (round_outcome s older younger n) 
 unfoldable pub match_of : RawSettings → WarriorParts → WarriorParts → Bout
 match_of s older younger = bout_before s older younger s.rounds
 
--- how each round ends, in their order
+-- how each round ends, in order
 abbrev pub round_outcomes : RawSettings → WarriorParts → WarriorParts → List Outcome
 round_outcomes s older younger = map (round_outcome s older younger) (range_with_len 0 s.rounds)
 
@@ -56,7 +56,7 @@ is_outcome outcomes.Second outcomes.Second = true
 is_outcome outcomes.Tie outcomes.Tie = true
 is_outcome o other = false
 
--- how many rounds end so
+-- how many rounds end like this
 abbrev pub times : Outcome → List Outcome → ℕ
 times o ends = count_by (is_outcome o) ends
 

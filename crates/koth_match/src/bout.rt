@@ -5,7 +5,7 @@ ghost use Rattle.koth_match.specs.Match.{counted, no_rounds, rounds_in};
 
 use mars_core::Outcome;
 
-/// How many rounds of a match each side won, and how many were ties. All three add up to the settings' rounds.
+/// How many rounds of a match each side won, and how many were ties. The three add up to the settings' rounds.
 #[derive(Clone, Copy, Debug, PartialEq, Eq)]
 pub struct Bout {
     /// Rounds that the older warrior won.

@@ -11,8 +11,8 @@ use mars_core::{Arena, Outcome, Side};
 use std::alloc::Allocator;
 use war_types::{Settings, Warrior};
 
-/// Plays all rounds of a match, as many as the settings have, and counts how they end. The older warrior is
-/// loaded at address 0 in each of them. No memory is taken. (Never inlined: `bench/matches` counts its calls in the program.)
+/// Plays all rounds of a match and counts how they end. The older warrior is loaded at address 0 in each of
+/// them. No memory is taken. (Never inlined: `bench/matches` counts its calls in the program.)
 #[inline(never)]
 pub fn fight<A: Allocator, B: Allocator, C: Allocator>(
     arena: &mut Arena<A>,
@@ -31,8 +31,8 @@ pub fn fight<A: Allocator, B: Allocator, C: Allocator>(
     let mut bout = Bout::new();
     let mut seed = settings.seed();
     for round in 0..settings.rounds() {
-        let place = position(seed, settings);
-        bout.count(play_round(arena, older, younger, place, first_in(round)));
+        let position = position(seed, settings);
+        bout.count(play_round(arena, older, younger, position, first_in(round)));
         seed = next_seed(seed);
     }
     bout
@@ -54,8 +54,8 @@ fn play_round<A: Allocator, B: Allocator, C: Allocator>(
     arena.play()
 }
 
-/// The side that moves first in a round, counted from 0: the older warrior in every second one.
-fn first_in(round: u16) -> Side
+/// The side that moves first in a round, counted from 0: the older warrior in round 0 and in every second one after it.
+pub fn first_in(round: u16) -> Side
     ensures { result ≡ first_in round }
 {
     if round % 2 == 0 {

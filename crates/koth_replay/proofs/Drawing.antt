@@ -1,4 +1,4 @@
--- What events draw: those of cells, those of processes, and those of a turn.
+-- What the events of cells, of processes and of a turn draw.
 use Rattle.std.proofs.Common.{◌≡◌, ℕ, zero, suc, ◌+◌, ◌-◌, ◌<◌, ◌≤◌, Bool, true, false, ◌&&◌, ◌==◌, if◌then◌else◌, List, [], ◌∷◌, ◌++◌, length, map, take, drop, get_or, set, slice_index, refl, sym, ap, subst, ◌∙◌, append_assoc, append-nil, eqb-true, arith}
 use Rattle.std.proofs.lemmas.Bool.{and_parts}
 use Rattle.std.proofs.lemmas.List.{take_all, drop_all, take_at, take-take, take-append-drop, set-get_or}
@@ -44,14 +44,9 @@ mode_read : (m : Mode) → mode_at (mode_code m) ≡ m
 mode_read modes.Immediate = refl
 mode_read m = refl
 
-one_op : (a b : Op) → (op_code a == op_code b) ≡ true → a ≡ b
-one_op a b e = sym (op_read a) ∙ ap op_at (eqb-true (op_code a) (op_code b) e) ∙ op_read b
-
-one_modifier : (a b : Modifier) → (modifier_code a == modifier_code b) ≡ true → a ≡ b
-one_modifier a b e = sym (modifier_read a) ∙ ap modifier_at (eqb-true (modifier_code a) (modifier_code b) e) ∙ modifier_read b
-
-one_mode : (a b : Mode) → (mode_code a == mode_code b) ≡ true → a ≡ b
-one_mode a b e = sym (mode_read a) ∙ ap mode_at (eqb-true (mode_code a) (mode_code b) e) ∙ mode_read b
+-- things with one code are the same
+one_of : {X : Type 0} (code : X → ℕ) (at : ℕ → X) (read : (x : X) → at (code x) ≡ x) (a b : X) → (code a == code b) ≡ true → a ≡ b
+one_of code at read a b e = sym (read a) ∙ ap at (eqb-true (code a) (code b) e) ∙ read b
 
 are_equal-same : (a b : Instr) → are_equal modifiers.I a b ≡ true → a ≡ b
 are_equal-same a b e =
@@ -61,10 +56,10 @@ are_equal-same a b e =
     let ops_and = and_parts (op_code a.op == op_code b.op) (modifier_code a.modifier == modifier_code b.modifier) firsts.0 in
     let numbers = and_parts (a.a == b.a) (a.b == b.b && true) all.1 in
     let last = and_parts (a.b == b.b) true numbers.1 in
-    let op = one_op a.op b.op ops_and.0 in
-    let modifier = one_modifier a.modifier b.modifier ops_and.1 in
-    let a_mode = one_mode a.a_mode b.a_mode firsts.1 in
-    let b_mode = one_mode a.b_mode b.b_mode kinds.1 in
+    let op = one_of op_code op_at op_read a.op b.op ops_and.0 in
+    let modifier = one_of modifier_code modifier_at modifier_read a.modifier b.modifier ops_and.1 in
+    let a_mode = one_of mode_code mode_at mode_read a.a_mode b.a_mode firsts.1 in
+    let b_mode = one_of mode_code mode_at mode_read a.b_mode b.b_mode kinds.1 in
     let a_number = eqb-true a.a b.a numbers.0 in
     let b_number = eqb-true a.b b.b last.0 in
     λ t. record { op = op t; modifier = modifier t; a_mode = a_mode t; a = a_number t; b_mode = b_mode t; b = b_number t }
@@ -124,7 +119,7 @@ grown limit rest more room =
     let front : rest ≡ take (length rest) all = sym (take-take (length rest) limit (rest ++ more) room ∙ take_at rest more (length rest) refl) in
     ap (λ l. l ++ drop (length rest) all) front ∙ take-append-drop (length rest) all
 
--- a queue that holds what was behind the front, and more
+-- a queue that holds what came after the front, and more
 abbrev Follows : List ℕ → List ℕ → Type 0
 Follows old new = drop 1 old ++ drop (length old - 1) new ≡ new
 

@@ -1,5 +1,5 @@
 -- Whether there was a turn, what turns keep, and the end of a round.
-use Rattle.std.proofs.Common.{◌≡◌, ℕ, zero, suc, ◌+◌, ◌*◌, ◌<◌, ◌≤◌, min, nat_lt, not, Bool, true, false, if◌then◌else◌, List, [], ◌∷◌, length, slice_get, slice_index, Option, Some, inl, inr, refl, sym, ap, subst, ◌∙◌, zero-add, arith}
+use Rattle.std.proofs.Common.{◌≡◌, ℕ, zero, suc, ◌+◌, ◌*◌, ◌<◌, ◌≤◌, min, nat_lt, not, Bool, true, false, if◌then◌else◌, List, [], ◌∷◌, slice_get, slice_index, Option, Some, inl, inr, refl, sym, ap, subst, ◌∙◌, zero-add, arith}
 use Rattle.std.proofs.lemmas.Bool.{both_ways, cases_lt}
 use Rattle.std.proofs.lemmas.Bool.Decides.{nat_tests}
 use Rattle.war_types.specs.declared.instr.Instr.{Instr}
@@ -32,7 +32,7 @@ either-over : (over : Bool) (t : Turned) → (over ≡ false → was_over t ≡ 
 either-over true t on = refl
 either-over false t on = on refl
 
--- a turn tells that the round was over, and only then
+-- a turn answers that the round was over, and only if it was
 pub over-told : (r : Round) → was_over (turned r) ≡ is_over r
 unfolding turned
 over-told r =
@@ -49,15 +49,12 @@ stays-over r next o is = is ∙ sym (after_turn-over r true (sym o) refl)
 
 -- ---- the front of a queue
 
-front-some : (queue : List ℕ) → is_empty queue ≡ false → (slice_get queue 0 ≡ Some (slice_index queue 0)) × (1 ≤ length queue)
+front-some : (queue : List ℕ) → is_empty queue ≡ false → slice_get queue 0 ≡ Some (slice_index queue 0)
 front-some [] lives = cc
-front-some (x ∷ xs) lives = (refl, omega arith)
+front-some (x ∷ xs) lives = refl
 
 pub front-found : (m : Side) (r : Round) (front : Option ℕ) → m ≡ r.to_move → is_over r ≡ false → front ≡ slice_get (queue_of m r) 0 → front ≡ Some (slice_index (queue_of m r) 0)
-front-found m r front is o e = e ∙ (front-some (queue_of m r) (queue_lives m r o)).0
-
-pub one-waits : (m : Side) (r : Round) → is_over r ≡ false → 1 ≤ length (queue_of m r)
-one-waits m r o = (front-some (queue_of m r) (queue_lives m r o)).1
+front-found m r front is o e = e ∙ front-some (queue_of m r) (queue_lives m r o)
 
 -- ---- what turns keep
 
@@ -65,19 +62,6 @@ after_side-kept : (m : Side) (core : List Instr) (queue : List ℕ) (r : Round) 
     ((after_side m core queue r).settings ≡ r.settings) × ((after_side m core queue r).used ≡ r.used + 1)
 after_side-kept sides.First core queue r = (refl, refl)
 after_side-kept sides.Second core queue r = (refl, refl)
-
-either-settings : (over : Bool) (r next : Round) → next.settings ≡ r.settings → (if over then r else next).settings ≡ r.settings
-either-settings true r next e = refl
-either-settings false r next e = e
-
-pub after_turn-settings : (r : Round) → (after_turn r).settings ≡ r.settings
-unfolding after_turn
-after_turn-settings r = either-settings (is_over r) r _ (after_side-kept r.to_move (turn_of r).core (turn_of r).queue r).0
-
-pub after_turns-settings : (n : ℕ) (r : Round) → (after_turns n r).settings ≡ r.settings
-unfolding after_turns
-after_turns-settings zero r = refl
-after_turns-settings (suc n) r = after_turns-settings n (after_turn r) ∙ after_turn-settings r
 
 -- a turn uses one
 pub after_turn-used : (r : Round) → is_over r ≡ false → (after_turn r).used ≡ r.used + 1
@@ -139,7 +123,7 @@ plays-there start now next last n m now_is next_is last_is o =
 
 -- ---- how many turns are kept
 
--- so many of all turns, at most: a number of them that are kept, and whether there are more
+-- the number of turns that are kept, `most` of all at most, and whether there are more
 pub record IsCount (most kept total : ℕ) (more : Bool) : Type 0 where
   pub count : kept ≡ min most total
   pub cut : more ≡ nat_lt most total

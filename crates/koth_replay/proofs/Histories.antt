@@ -11,7 +11,7 @@ use Rattle.mars_core.specs.declared.round.Side.{Side}
 use Rattle.mars_core.specs.Cells.{blank}
 use Rattle.mars_core.specs.Round.{Round, opening, queue_of, is_over, after_turn, after_turns, outcome, IsRound}
 use Rattle.koth_match.specs.Match.{first_in, round_outcome}
-use Rattle.koth_match.specs.Seeds.{place, seed_of_round}
+use Rattle.koth_match.specs.Seeds.{position, seed_of_round}
 use Rattle.koth_replay.specs.declared.event.Event.{Event}
 use Rattle.koth_replay.specs.declared.event.Event.TheVariants as events
 use Rattle.koth_replay.specs.declared.opening.Opening.{Opening}
@@ -24,7 +24,7 @@ use Rattle.koth_replay.proofs.Endings.{after_turns-next, front-found, plays-ther
 
 -- ---- what is told of a turn
 
--- the events that are put one after another are those of the turn
+-- the events that are put one after another are the turn's
 pub turn_told : (r next : Round) (m : Side) (core waiting at : ℕ) (front : Option ℕ) (none begins changes all : List Event)
     → is_over r ≡ false → m ≡ r.to_move → core ≡ r.settings.core → front ≡ slice_get (queue_of m r) 0 → front ≡ Some at → waiting ≡ length (queue_of m r)
     → next ≡ after_turn r → none ≡ [] → begins ≡ none ++ events.Turn m at ∷ [] → changes ≡ begins ++ core_events core r.core next.core
@@ -66,7 +66,7 @@ no-turns-yet r = refl
 within_or_last : (n m : ℕ) → n ≤ m + 1 → (n ≤ m) ⊎ (n ≡ m + 1)
 within_or_last n m h = elim (cases_lt m n) [ inl above ↦ inr (omega arith) | inr within ↦ inl within ]
 
--- the round after so many turns and one more
+-- the round after n turns and one more
 pub one_more : (start now next : Round) (n : ℕ) → now ≡ after_turns n start → next ≡ after_turn now → next ≡ after_turns (n + 1) start
 one_more start now next n is then =
     let same : suc n ≡ n + 1 = omega arith in
@@ -116,7 +116,7 @@ module _ (start now next : Round) (turns : List (List Event)) (told : List Event
     tell = λ n below. let most : n < length turns + 1 = omega (arith, below, length_push turns told) in each-told n most;
   }
 
--- the events of one turn more behind those so far
+-- the events of one turn more, after the events so far
 pub turns-more : {A : Type 0} (start now next : Round) (n : ℕ) (turns all : List (Vec Event A)) (told : Vec Event A) → AreTurns start (turns_of turns) → length turns ≡ n → now ≡ after_turns n start
     → IsRound now → next ≡ after_turn now → IsRound next → is_over now ≡ false → told.items ≡ turn_events now → all ≡ turns ++ told ∷ [] → AreTurns start (turns_of all)
 turns-more {A} start now next n turns all told are many now_is round next_is next_round on told_is put =
@@ -157,7 +157,7 @@ loaded-draws start o loaded size blank_is loads =
 
 -- what is kept of a round from its start on is its replay
 pub is_replay : (s : RawSettings) (older younger : WarriorParts) (r most : ℕ) (start : Round) (o : Opening) (replay : ReplayParts) → start ≡ begun s older younger r → IsRound start
-    → blank_picture o ≡ picture (replicate s.core blank) start.first start.second start.to_move → o.position ≡ place s (seed_of_round s r) → IsReplayOf start o most replay → IsReplay s older younger r most replay
+    → blank_picture o ≡ picture (replicate s.core blank) start.first start.second start.to_move → o.position ≡ position s (seed_of_round s r) → IsReplayOf start o most replay → IsReplay s older younger r most replay
 unfolding round_outcome
 is_replay s older younger r most start o replay is round blank_is position kept =
     let begins : first_picture replay ≡ picture_of start =
@@ -180,10 +180,10 @@ is_replay s older younger r most start o replay is round blank_is position kept 
 abbrev pub opening_at : ℕ → ℕ → ℕ → ℕ → Side → Opening
 opening_at core at older younger mover = record { core = core; position = at; older = older; younger = younger; first = mover }
 
-begun-here : (s settings : RawSettings) (older younger : WarriorParts) (r seed at : ℕ) (mover : Side) (start : Round) → settings ≡ s → seed ≡ seed_of_round s r → at ≡ place s seed → mover ≡ first_in r
+begun-here : (s settings : RawSettings) (older younger : WarriorParts) (r seed at : ℕ) (mover : Side) (start : Round) → settings ≡ s → seed ≡ seed_of_round s r → at ≡ position s seed → mover ≡ first_in r
     → start ≡ opening settings older younger at mover → start ≡ begun s older younger r
 begun-here s settings older younger r seed at mover start settings_is seed_is at_is mover_is is =
-    let there : at ≡ place s (seed_of_round s r) = at_is ∙ ap (place s) seed_is in
+    let there : at ≡ position s (seed_of_round s r) = at_is ∙ ap (position s) seed_is in
     is ∙ (λ t. opening (settings_is t) older younger (there t) (mover_is t))
 
 blank-here : (s settings : RawSettings) (older younger : WarriorParts) (at core first_at second_at : ℕ) (mover : Side) (start : Round) → start ≡ opening settings older younger at mover → core ≡ s.core → first_at ≡ older.start
@@ -194,11 +194,11 @@ blank-here s settings older younger at core first_at second_at mover start is co
 
 -- what is kept of a round that begins as one of a match is its replay
 pub replays : {E : Type 0} (s settings : RawSettings) (older younger : WarriorParts) (r most seed at core first_at second_at : ℕ) (mover : Side) (start : Round) (result : Result ReplayParts E)
-    → settings ≡ s → seed ≡ seed_of_round s r → at ≡ place s seed → mover ≡ first_in r → start ≡ opening settings older younger at mover → IsRound start → core ≡ s.core → first_at ≡ older.start
+    → settings ≡ s → seed ≡ seed_of_round s r → at ≡ position s seed → mover ≡ first_in r → start ≡ opening settings older younger at mover → IsRound start → core ≡ s.core → first_at ≡ older.start
     → second_at ≡ at + younger.start → IfOk result (IsReplayOf start (opening_at core at first_at second_at mover) most) → IfOk result (IsReplay s older younger r most)
 replays s settings older younger r most seed at core first_at second_at mover start (Ok replay) settings_is seed_is at_is mover_is is round core_is older_is younger_is kept =
     is_replay s older younger r most start (opening_at core at first_at second_at mover) replay
     (begun-here s settings older younger r seed at mover start settings_is seed_is at_is mover_is is) round
     (blank-here s settings older younger at core first_at second_at mover start is core_is older_is younger_is)
-    (at_is ∙ ap (place s) seed_is) kept
+    (at_is ∙ ap (position s) seed_is) kept
 replays s settings older younger r most seed at core first_at second_at mover start (Err e) settings_is seed_is at_is mover_is is round core_is older_is younger_is kept = tt

@@ -6,7 +6,7 @@ use Rattle.koth_replay.specs.declared.event.Event.{Event}
 use Rattle.koth_replay.specs.declared.event.Event.TheVariants as events
 use Rattle.koth_replay.specs.Turn.{process_events}
 
--- a part behind what is put
+-- a part after what is put
 pub put_behind : {X : Type 0} (start so_far part all now new : List X) → now ≡ start ++ so_far → new ≡ now ++ part → all ≡ so_far ++ part → new ≡ start ++ all
 put_behind start so_far part all now new is put more =
     put ∙ ap (λ l. l ++ part) is ∙ append_assoc start so_far part ∙ ap (λ l. start ++ l) (sym more)

@@ -78,13 +78,13 @@ module _ (addresses : List ℕ) (before core : List Instr) (from : ℕ) (count :
       untouched (slice_index addresses place) is.past
       (λ k past below i inside e. elim (is.least i inside) [ inl less ↦ absurd (omega (arith, less, past, e)) | inr above ↦ absurd (omega (arith, above, below, e)) ])
 
-  -- and behind all of them
+  -- and after all of them
   pub none_behind : (size : ℕ) → from ≤ size → AreBelow 8 addresses from → core_events size before core ≡ core_events from before core
   none_behind size within below = untouched size within (λ k past _ i inside e. absurd (omega (arith, below i inside, past, e)))
 
 -- ---- what the cells at some addresses held
 
--- at one of them, and at so many of them
+-- at one of them, and at all before a place
 module _ (core : List Instr) (addresses : List ℕ) (count : length addresses ≡ 8) where
   pub held_there : (held : List Instr) (place : ℕ) (d : Instr) → place < 8 → held ≡ map (cell core) addresses → get_or held place d ≡ cell core (slice_index addresses place)
   held_there held place d below held_is = ap (λ l. get_or l place d) held_is ∙ get_or-map (cell core) addresses place 0 d (omega (arith, below, count))

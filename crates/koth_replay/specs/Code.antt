@@ -12,12 +12,12 @@ use Rattle.koth_replay.specs.Replay.{ReplayParts, events_before}
 abbrev pub turns_of : {A : Type 0} → List (Vec Event A) → List (List Event)
 turns_of {A} turns = map (λ (t : Vec Event A). t.items) turns
 
--- these are the turns of a round from this one on: their events draw it as it stands after each of them, and no others are told
+-- the turns of a round from `start` on: their events draw the round after each of them, and there are no other events
 pub record AreTurns (start : Round) (turns : List (List Event)) : Type 0 where
   pub draw : (n : ℕ) → n ≤ length turns → drawn (picture_of start) (events_before n turns) ≡ picture_of (after_turns n start)
   pub tell : (n : ℕ) → n < length turns → slice_index_or turns n [] ≡ turn_events (after_turns n start)
 
--- what is kept of a round from this start on, which begins as this opening says, with so many turns at most
+-- what is kept of a round from this start on, which begins as this opening says, with `most` turns at most
 pub record IsReplayOf (start : Round) (begins : Opening) (most : ℕ) (replay : ReplayParts) : Type 0 where
   pub opening : replay.opening ≡ begins
   pub loaded : replay.loaded ≡ core_events start.settings.core (replicate start.settings.core blank) start.core
@@ -36,6 +36,6 @@ pub record IsLeast (n : ℕ) (addresses : List ℕ) (from place : ℕ) : Type 0 
   pub past : from ≤ slice_index addresses place
   pub least : (i : ℕ) → i < n → slice_index addresses i < from ⊎ slice_index addresses place ≤ slice_index addresses i
 
--- the place of that one, or none where all are below
+-- the place of that one, or none if all are below
 abbrev pub IsNearest : ℕ → List ℕ → ℕ → Option ℕ → Type 0
 IsNearest n addresses from best = MatchOption best (AreBelow n addresses from) (IsLeast n addresses from)

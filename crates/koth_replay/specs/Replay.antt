@@ -7,7 +7,7 @@ use Rattle.mars_core.specs.declared.round.Outcome.{Outcome}
 use Rattle.mars_core.specs.Cells.{blank}
 use Rattle.mars_core.specs.Round.{Round, opening, after_turns}
 use Rattle.koth_match.specs.Match.{first_in, round_outcome}
-use Rattle.koth_match.specs.Seeds.{place, seed_of_round}
+use Rattle.koth_match.specs.Seeds.{position, seed_of_round}
 use Rattle.koth_replay.specs.declared.event.Event.{Event}
 use Rattle.koth_replay.specs.declared.opening.Opening.{Opening}
 use Rattle.koth_replay.specs.Picture.{Picture, picture, picture_of, drawn}
@@ -15,13 +15,13 @@ use Rattle.koth_replay.specs.Turn.{core_events, turn_events}
 
 -- round r of a match as it begins, counted from 0
 abbrev pub begun : RawSettings → WarriorParts → WarriorParts → ℕ → Round
-begun s older younger r = opening s older younger (place s (seed_of_round s r)) (first_in r)
+begun s older younger r = opening s older younger (position s (seed_of_round s r)) (first_in r)
 
 -- how many turns it has
 abbrev pub turns_in : RawSettings → WarriorParts → WarriorParts → ℕ → ℕ
 turns_in s older younger r = (after_turns (2 * s.cycles) (begun s older younger r)).used
 
--- a replay without where it lies in memory
+-- what a replay holds, wherever that lies in memory
 pub record ReplayParts : Type 0 where
   pub opening : Opening
   pub loaded : List Event
@@ -44,18 +44,18 @@ first_picture r = drawn (blank_picture r.opening) r.loaded
 abbrev pub events_before : ℕ → List (List Event) → List Event
 events_before n turns = flat_map (λ t. t) (take n turns)
 
--- the replay of a round, of which so many turns are kept at most
+-- the replay of a round, with `most` turns at most
 pub record IsReplay (s : RawSettings) (older younger : WarriorParts) (r most : ℕ) (replay : ReplayParts) : Type 0 where
   -- it begins with the picture of the round as it begins
   pub begins : first_picture replay ≡ picture_of (begun s older younger r)
   -- the events of the first n turns make of that the picture of the round after n turns
   pub draws : (n : ℕ) → n ≤ length replay.turns → drawn (first_picture replay) (events_before n replay.turns) ≡ picture_of (after_turns n (begun s older younger r))
-  -- it has all turns of the round, or as many as are kept at most, and then says that it is cut
+  -- it has all turns of the round, or the first `most`, and then says that it is cut
   pub count : length replay.turns ≡ min most (turns_in s older younger r)
   pub cut : replay.is_cut ≡ nat_lt most (turns_in s older younger r)
   -- it ends as the round does
   pub ends : replay.outcome ≡ round_outcome s older younger r
-  -- the younger warrior is where it was loaded, and each cell and each turn has its own events and no others
-  pub position : replay.opening.position ≡ place s (seed_of_round s r)
+  -- the younger warrior is at its position, and each cell and each turn has its own events and no others
+  pub position : replay.opening.position ≡ position s (seed_of_round s r)
   pub loads : replay.loaded ≡ core_events s.core (replicate s.core blank) (begun s older younger r).core
   pub tells : (n : ℕ) → n < length replay.turns → slice_index_or replay.turns n [] ≡ turn_events (after_turns n (begun s older younger r))

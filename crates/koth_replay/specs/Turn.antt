@@ -16,7 +16,7 @@ cell_told old new at = if are_equal modifiers.I old new then [] else events.Cell
 abbrev pub cell_events : List Instr → List Instr → ℕ → List Event
 cell_events old new at = cell_told (cell old at) (cell new at) at
 
--- what is told of each of so many cells, by their addresses
+-- what is told of each of the first `size` cells, by their addresses
 abbrev pub core_events : ℕ → List Instr → List Instr → List Event
 core_events size old new = flat_map (cell_events old new) (range_with_len 0 size)
 
@@ -24,7 +24,7 @@ core_events size old new = flat_map (cell_events old new) (range_with_len 0 size
 abbrev pub process_events : ℕ → List ℕ → List Event
 process_events place queue = map (λ at. events.Process at) (drop place queue)
 
--- the turn of this round: whose it is and what it executes, the cells that it changes, and the processes that are behind all that waited before it
+-- the turn of this round: whose it is and what it executes, the cells that it changes, and the processes that it adds after all that waited before it
 unfoldable pub turn_events : Round → List Event
 turn_events r =
     let queue = queue_of r.to_move r in

@@ -14,7 +14,7 @@ use mars_core::Arena;
 use std::alloc::{AllocError, Allocator};
 use war_types::{Instr, Mode, Modifier, Op};
 
-/// What a cell holds that nothing was loaded into.
+/// What a cell holds if nothing was loaded into it.
 const BLANK: Instr = Instr {
     op: Op::Dat,
     modifier: Modifier::F,
@@ -24,7 +24,7 @@ const BLANK: Instr = Instr {
     b: 0,
 };
 
-/// Adds an event for each of so many cells that something was loaded into.
+/// Adds an event for each of the first `core` cells that something was loaded into.
 pub(crate) fn push_loaded<A: Allocator, B: Allocator>(
     events: &mut Vec<Event, A>,
     arena: &Arena<B>,
@@ -52,8 +52,8 @@ pub(crate) fn held_at<A: Allocator>(arena: &Arena<A>, addresses: &[u16; 8]) -> [
     held
 }
 
-/// Adds an event for each cell of so many that holds another instruction in the arena than before, by their addresses. Only those at these addresses may,
-/// some of which may be the same, and they held this.
+/// Adds an event for each of the first `core` cells that holds another instruction in the arena than before, by their addresses. Only the
+/// cells at `addresses` may have changed, which held `held` before. An address may stand there twice.
 pub(crate) fn push_changes<A: Allocator, B: Allocator>(
     events: &mut Vec<Event, A>,
     addresses: &[u16; 8],

@@ -3,7 +3,8 @@
 use mars_core::Side;
 use war_types::Instr;
 
-/// One thing that happens in a round. A few of them tell a turn: that it begins, then each cell that it changes, then each process that it adds.
+/// One thing that happens in a round. A turn has an event for its beginning, then one for each cell that it changes, then one for each process
+/// that it adds.
 #[derive(Clone, Copy, Debug, PartialEq, Eq)]
 pub enum Event {
     /// A turn of this side begins: the process at the front of its queue is taken, and executes the instruction at this address.

@@ -9,7 +9,7 @@ use std::alloc::Allocator;
 use std::marker::Model;
 
 /// A round of a match: how it begins, the events of its turns, and how it ended. All that is kept takes memory once, when it is made.
-#[derive(Debug, Drop)]
+#[derive(Drop)]
 pub struct Replay<A: Allocator> {
     pub(crate) opening: Opening,
     pub(crate) loaded: Vec<Event, A>,

@@ -6,12 +6,12 @@
 //! - `nearest`: the next of some addresses; `changes`: the cells that a turn changed; `turns`: the events of a turn, and of turn after turn;
 //! - `playing`: a round of a match, played and kept; `kept`: what is kept of it.
 //!
-//! An event says what changes in a picture of the round, so who draws it needs no machine: the picture begins blank with the processes of
-//! `Opening`, and takes what is `loaded` and then what each event says (`drawn` in `specs`). `replay` promises that this shows the round after each
-//! turn as `mars_core` defines it there; that all of its turns are kept, or as many as were asked for; that each turn has its own events and no
-//! others; and that it ends as the match counts it.
+//! An event says what changes in a picture of the round, so nobody needs a machine to draw it. The picture begins blank with the processes of
+//! `Opening`, and takes what is `loaded` and then what each event says (`drawn` in `specs`). `replay` promises that this shows the round after
+//! each turn as `mars_core` defines it. It keeps all turns, or the first `most`, each with its own events and no others, and ends as the match
+//! counts the round.
 //!
-//! No rule of the machine stands here: what happens in a turn is read off the arena, which tells before it which cells it may change.
+//! No rule of the machine stands here: what happens in a turn is read off the arena, which says before the turn which cells it may change.
 #![tactic(auto)]
 
 mod changes;

@@ -3,7 +3,7 @@
 ghost use Rattle.std.specs.Prelude.{◌+◌, ◌<◌};
 ghost use Rattle.koth_replay.specs.Code.{IsNearest};
 
-/// The place of the least of these addresses that isn't below another one; `None` if all are.
+/// The index of the least of these addresses that is `from` or above; `None` if all are below.
 pub(crate) fn nearest(addresses: &[u16; 8], from: u16) -> Option<usize>
     ensures { IsNearest 8 addresses.now from result }
 {
@@ -14,7 +14,7 @@ pub(crate) fn nearest(addresses: &[u16; 8], from: u16) -> Option<usize>
     best
 }
 
-/// The same of the addresses up to this place, by the best one before it.
+/// The same of the addresses up to this index, by the best one before it.
 fn nearer(addresses: &[u16; 8], from: u16, place: usize, best: Option<usize>) -> Option<usize>
     requires place { place < 8 }
     requires best { IsNearest place addresses.now from best }

@@ -3,8 +3,6 @@
 ghost use Rattle.std.specs.Prelude.{◌≡◌, ◌<◌, IfOk};
 ghost use Rattle.war_types.specs.Warrior.{Fits};
 ghost use Rattle.mars_core.specs.Round.{IsRound};
-ghost use Rattle.koth_match.specs.Match.{first_in};
-ghost use Rattle.koth_match.specs.Seeds.{seed_of_round, IsSeed};
 ghost use Rattle.koth_replay.specs.Replay.{IsReplay};
 ghost use Rattle.koth_replay.specs.Code.{IsReplayOf};
 
@@ -12,12 +10,12 @@ use crate::changes::push_loaded;
 use crate::kept::Replay;
 use crate::opening::Opening;
 use crate::turns::{goes_on, kept_turns};
-use koth_match::{next_seed, position};
-use mars_core::{Arena, Side};
+use koth_match::{first_in, position, seed_of_round};
+use mars_core::Arena;
 use std::alloc::{AllocError, Allocator};
 use war_types::{Settings, Warrior};
 
-/// Plays a round of a match, counted from 0, as the match does, and keeps the events of its first turns, `most` of them at most.
+/// Plays a round of a match, counted from 0, as the match does, and keeps the events of its first `most` turns.
 pub fn replay<A: Allocator + Copy, B: Allocator, C: Allocator, D: Allocator>(
     alloc: A,
     arena: &mut Arena<B>,
@@ -34,15 +32,15 @@ pub fn replay<A: Allocator + Copy, B: Allocator, C: Allocator, D: Allocator>(
     ensures replay { IfOk result (IsReplay settings.now older.now younger.now round most) }
     ensures settings { arena.new.settings ≡ arena.old.settings }
 {
-    let place = position(seed_of_round(settings, round), settings);
+    let position = position(seed_of_round(settings, round), settings);
     let opening = Opening {
         core: settings.core(),
-        position: place,
+        position,
         older: older.start(),
-        younger: place + younger.start(),
+        younger: position + younger.start(),
         first: first_in(round),
     };
-    arena.begin(older, younger, place, opening.first);
+    arena.begin(older, younger, position, opening.first);
     played(alloc, arena, opening, most)
 }
 
@@ -71,27 +69,4 @@ fn played<A: Allocator + Copy, B: Allocator>(
         outcome: arena.play(),
         is_cut,
     })
-}
-
-/// The seed of a round, counted from 0.
-fn seed_of_round(settings: &Settings, round: u16) -> u32
-    ensures value { result ≡ seed_of_round settings.now round }
-    ensures seed { IsSeed result }
-{
-    let mut seed = settings.seed();
-    for _round in 0..round {
-        seed = next_seed(seed);
-    }
-    seed
-}
-
-/// The side that moves first in a round, counted from 0: the older warrior in every second one.
-fn first_in(round: u16) -> Side
-    ensures { result ≡ first_in round }
-{
-    if round % 2 == 0 {
-        Side::First
-    } else {
-        Side::Second
-    }
 }

@@ -11,7 +11,7 @@ use crate::event::Event;
 use mars_core::{Arena, Side, Turned};
 use std::alloc::{AllocError, Allocator};
 
-/// Makes so many turns of a round that begins, or fewer if it is over before, and keeps the events of each.
+/// Makes the first `most` turns of a round, or fewer if it is over before, and keeps the events of each.
 pub(crate) fn kept_turns<A: Allocator + Copy, B: Allocator>(
     alloc: A,
     arena: &mut Arena<B>,
@@ -41,7 +41,7 @@ pub(crate) fn kept_turns<A: Allocator + Copy, B: Allocator>(
     Ok(turns)
 }
 
-/// Makes one turn, of this side, and tells its events; `None` if the round is over.
+/// Makes one turn, of this side, and gives its events; `None` if the round is over.
 fn turn_events<A: Allocator + Copy, B: Allocator>(
     alloc: A,
     arena: &mut Arena<B>,
@@ -69,7 +69,7 @@ fn turn_events<A: Allocator + Copy, B: Allocator>(
     Ok(Some(events))
 }
 
-/// Makes one turn, and tells whether there was one: there is none if the round is over.
+/// Makes one turn, and says whether there was one: there is none if the round is over.
 pub(crate) fn goes_on<A: Allocator>(arena: &mut Arena<A>) -> bool
     ensures value { result ≡ not (is_over arena.old) }
     ensures after { arena.new ≡ after_turn arena.old }
@@ -81,7 +81,7 @@ pub(crate) fn goes_on<A: Allocator>(arena: &mut Arena<A>) -> bool
     }
 }
 
-/// Adds an event for each process of a side, from this place of its queue on.
+/// Adds an event for each process of a side, from this index of its queue on.
 fn push_processes<A: Allocator, B: Allocator>(
     events: &mut Vec<Event, A>,
     arena: &Arena<B>,

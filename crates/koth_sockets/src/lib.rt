@@ -4,10 +4,10 @@
 //! data pass:
 //!
 //! - `line`: one socket, and whether a read or a write of it may give something;
-//! - `polled`: two listeners, one for peers and one for browsers, and the sockets that came of them by their numbers.
+//! - `polled`: two listeners, one for peers and one for browsers, and the sockets that they accepted, by their numbers.
 //!
-//! It says of the system what `Sockets` asks for: a read or a write counts no more bytes than there are. What happened on the sockets it
-//! doesn't keep, since no clause speaks of the system.
+//! It says of the system what `Sockets` asks for: a read or a write counts no more bytes than there are. It doesn't record what happened on
+//! the sockets, since no clause speaks of the system.
 #![tactic(auto)]
 
 mod line;

@@ -11,10 +11,10 @@ use std::io;
 use std::io::{ErrorKind, Read, Write};
 use std::net::Shutdown;
 
-/// Bytes that are thrown away at once at most.
+/// Most bytes that are thrown away at once.
 const CHUNK: usize = 4096;
 
-/// A peer's socket, and what it may be tried for: a poll tells of a change alone.
+/// A peer's socket, and whether a read or a write may give something: a poll reports changes only.
 #[derive(Drop)]
 pub(crate) struct Line {
     stream: TcpStream,
@@ -25,9 +25,9 @@ pub(crate) struct Line {
 }
 
 impl Line {
-    /// The socket of a peer, from now on told of under this token, unless that fails.
+    /// The socket of a peer, whose events have this token from now on, unless that fails.
     pub(crate) fn new(mut stream: TcpStream, registry: &Registry, token: Token) -> Option<Line> {
-        // Without it answers come, but later.
+        // If this fails, answers still arrive, but later.
         let _ = stream.set_nodelay(true);
         let interests = Interest::READABLE | Interest::WRITABLE;
         match registry.register(&mut stream, token, interests) {
@@ -40,7 +40,7 @@ impl Line {
         }
     }
 
-    /// Takes note of what a poll told of it.
+    /// Takes note of an event that a poll reported.
     pub(crate) fn take_event(&mut self, event: &Event) {
         let failed = event.is_error();
         if failed || event.is_readable() || event.is_read_closed() {

@@ -14,16 +14,16 @@ use std::net::{Net, SocketAddr};
 use std::rt::Clock;
 use std::time::{Duration, Instant};
 
-/// How many events a wait gives at most.
+/// Most events that one wait gives.
 const EVENTS: usize = 256;
 
-/// The token of the listener: those of the peers are their numbers, and those of browsers follow them.
+/// The token of the listener. The tokens of peers are their numbers, and the tokens of browsers follow them.
 const LISTENER: Token = Token(usize::MAX);
 
 /// The token of the listener of browsers.
 const PAGES: Token = Token(usize::MAX - 1);
 
-/// A listener and the sockets of peers by their numbers, none of which waits.
+/// A listener and the sockets of peers by their numbers. No call on a socket waits.
 #[derive(Drop)]
 pub struct PolledSockets<'r, R, A: Allocator> {
     clock: &'r R,
@@ -41,8 +41,8 @@ pub struct PolledSockets<'r, R, A: Allocator> {
 }
 
 impl<'r, R: Net + Clock, A: Allocator + Copy> PolledSockets<'r, R, A> {
-    /// A listener at this address, or at a port that the system chooses if its port is 0, with room for so many peers at once. It fails as the
-    /// system's calls do, with `AddrInUse` and `PermissionDenied` among others, and with `OutOfMemory` if a growth of memory is refused.
+    /// A listener at this address, or at a port that the system chooses if its port is 0, with room for `most` peers at once. It fails as the
+    /// system's calls do, with `AddrInUse` and `PermissionDenied` among others, and with `OutOfMemory` if memory runs out.
     pub fn bind(
         rt: &'r R,
         alloc: A,
@@ -70,7 +70,7 @@ impl<'r, R: Net + Clock, A: Allocator + Copy> PolledSockets<'r, R, A> {
         })
     }
 
-    /// Listens for browsers too, at this address, with room for so many at once. It fails as `bind` does.
+    /// Listens for browsers too, at this address, with room for `most` of them at once. It fails as `bind` does.
     pub fn listen_to_browsers(
         &mut self,
         rt: &'r R,
@@ -102,7 +102,7 @@ impl<'r, R, A: Allocator> PolledSockets<'r, R, A> {
         }
     }
 
-    /// Takes note of what the last wait told.
+    /// Takes note of the events of the last wait.
     fn take_events(&mut self) {
         for event in self.events.iter() {
             let token = event.token();
@@ -131,7 +131,7 @@ impl<'r, R, A: Allocator> PolledSockets<'r, R, A> {
     }
 }
 
-/// The line of the browser with this token, behind those of so many peers.
+/// The line of the browser with this token. The first `peers` tokens are those of peers.
 fn browser_at<A: Allocator>(
     browsers: &mut Vec<Option<Line>, A>,
     peers: usize,
@@ -141,7 +141,7 @@ fn browser_at<A: Allocator>(
     browsers.get_mut(number)?.as_mut()
 }
 
-/// So many numbers, all of them free.
+/// A line for each number below `most`, all of them free.
 fn no_lines<A: Allocator + Copy>(
     alloc: A,
     most: usize,
@@ -154,10 +154,10 @@ fn no_lines<A: Allocator + Copy>(
 }
 
 impl<'r, R: Clock, A: Allocator> Sockets for PolledSockets<'r, R, A> {
-    // What the system did is not kept.
+    // What the system did is not recorded.
     ghost happened = { λ _ _. ⊤ };
 
-    /// By the system's clock. Where that can't be read, it is as late as it was.
+    /// By the system's clock. If that can't be read, the time is the same as at the last call.
     fn now(&mut self) -> u64 {
         if let Ok(passed) = self.start.elapsed(self.clock) {
             let milliseconds = u64::try_from(passed.as_millis()).unwrap_or(u64::MAX);

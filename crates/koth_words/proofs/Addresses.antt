@@ -1,7 +1,6 @@
--- The texts of addresses. For `address_given`.
-use Rattle.std.proofs.Common.{◌≡◌, ℕ, List, [], ◌∷◌, Option, None, Some, Result, Ok, Err, codes, refl, inr, lit≤}
-use Rattle.std.specs.Prelude.{unwrap_or, MatchOption}
-use Rattle.std.specs.Result.{result_ok}
+-- The texts of addresses. For `address_given` and `has_address`.
+use Rattle.std.proofs.Common.{◌≡◌, ◌∙◌, ◌↔◌, ℕ, Bool, List, [], ◌∷◌, Option, None, Some, Result, Ok, Err, Bor, option_map, codes, refl, sym, inr, lit≤, true≢false}
+use Rattle.std.specs.Prelude.{unwrap_or, is_ok, IsOk, IsTrue}
 use Rattle.std.specs.Fmt.{digits}
 use Rattle.std.specs.Net.Grammar.{IsIpText, Parses}
 use Rattle.std.specs.Net.Reader.{read_ipv4, read_ipv6, read_number, read_octet, read_segment, read_segments}
@@ -12,7 +11,7 @@ use Rattle.std.proofs.NetLemmas.Ipv4.{read_ipv4_complete}
 use Rattle.std.proofs.NetLemmas.Ipv6.{EndsGroups-nil, read_ipv6_complete}
 use Rattle.std.proofs.NetLemmas.Options.{same_parts}
 use Rattle.clap.specs.Walk.{Text}
-use Rattle.koth_words.specs.Words.{IsAddress, WritesAddress}
+use Rattle.koth_words.specs.Words.{WritesAddress}
 
 -- the address of four numbers
 abbrev pub four : List ℕ → IpAddr
@@ -23,12 +22,18 @@ unfolding digits
 this_machine = record { a = 127; b = 0; c = 0; d = 1; fit = (lit≤ tt, lit≤ tt, lit≤ tt, lit≤ tt); value = refl; spelled = refl }
 
 module _ {E : Type 0} where
-  -- what a text is read as: an address, unless it is given and writes none
-  pub reads_address : (text : Option Text) (r : Result IpAddr E) (x : Option IpAddr) → Parses IsIpText (unwrap_or text (codes "127.0.0.1")) r → x ≡ result_ok r
-      → MatchOption x (WritesAddress text → ⊥) (IsAddress text)
-  reads_address text (Ok address) x parsed is = rw is parsed
-  reads_address None (Err e) x parsed is = absurd (parsed (four (127 ∷ 0 ∷ 0 ∷ 1 ∷ [])) this_machine)
-  reads_address (Some text) (Err e) x parsed is = rw is (λ written. parsed written.0 written.1)
+  -- a text that writes an address is read, and so is the default
+  pub reads_address : (text : Option Text) (r : Result IpAddr E) → WritesAddress text → Parses IsIpText (unwrap_or text (codes "127.0.0.1")) r → IsOk r
+  reads_address text (Ok address) writes parsed = refl
+  reads_address None (Err e) writes parsed = absurd (parsed (four (127 ∷ 0 ∷ 0 ∷ 1 ∷ [])) this_machine)
+  reads_address (Some text) (Err e) writes parsed = absurd (parsed writes.0 writes.1)
+
+  -- whether it is read is whether it writes an address
+  pub is_address : (given : Option (Bor Text)) (text : Bor Text) (written : Option Text) (r : Result IpAddr E) (b : Bool)
+      → option_map (λ s. s.now) given ≡ written → given ≡ Some text → Parses IsIpText text.now r → b ≡ is_ok r → IsTrue b ↔ WritesAddress written
+  is_address given text written (Ok address) b named is parsed e = rw (← named, is) (λ _. (address, parsed), λ _. e)
+  is_address given text written (Err error) b named is parsed e =
+      rw (← named, is) (λ yes. absurd (true≢false (sym yes ∙ e)), λ writes. absurd (parsed writes.0 writes.1))
 
 -- ---- texts that write an address, and texts that write none. For the rows of `Rows`.
 

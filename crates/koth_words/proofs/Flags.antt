@@ -20,7 +20,7 @@ module _ {E : Type 0} (G : List ℕ → Result Bool E → Type 0) (only : (u : L
       let neither = only text (Err h.0) h.1 in
       no_text text _ refl neither.0
 
-  -- the flag is given where its text is `true`
+  -- the flag is given if its text is `true`
   pub reads_flag : (text : Option Text) (r : Option Bool) → (text ≡ None → r ≡ None) → ((t : List ℕ) → text ≡ Some t → ReadsOne G t r)
       → unwrap_or r false ≡ is_true text
   reads_flag None r none value = rw (none refl) refl

@@ -81,7 +81,7 @@ is_required = refl
 abbrev entered_at : Text → List Text → Option Text
 entered_at name words = option_map (λ r. r.0) (option_map (λ s. rows_at s words) (find (λ s. answers_to name (label_of s)) (built koth_app).subs))
 
--- where a command's name is met, that command is entered
+-- at a command's name that command is entered
 named_at : (p : Text × List Text) (name : Text) → p.0 ≡ name → NamesCommand (entered_at name p.1) → NamesCommand (entered_at p.0 p.1)
 named_at p name is named = subst (λ n. NamesCommand (entered_at n p.1)) (sym is) named
 
@@ -116,7 +116,7 @@ names_command words none =
 on_faults : (app : App) (words : List Text) (P : Kinds → Type 0) → app ≡ koth_app → (is_simple_and_free app ≡ true → P (fault_of app words)) → P (fault_of koth_app words)
 on_faults app words P is holds = subst (λ a. P (fault_of a words)) is (holds (ap is_simple_and_free is ∙ koth_is_simple.1))
 
--- where clap finds no fault, the name that it gives is a command's, and the words are not wrong
+-- if clap finds no fault, the name that it gives is a command's, and the words are not wrong
 pub gives_command : (app : App) (m : ArgMatches) (words : List Text) → app ≡ koth_app → HasMatchesOf app words m
     → (is_simple_and_free app ≡ true → fault_of app words ≡ []) → NamesCommand (subcommand_name_of m)
 gives_command app m words is has none =
@@ -125,7 +125,7 @@ gives_command app m words is has none =
 pub not_wrong : (app : App) (words : List Text) → app ≡ koth_app → (is_simple_and_free app ≡ true → fault_of app words ≡ []) → HaveFault words → ⊥
 not_wrong app words is none wrong = wrong.0 (on_faults app words (λ faults. faults ≡ []) is none)
 
--- where the words are taken, an error is a refused growth
+-- if the words are taken, an error is a lack of memory
 pub memory_kind : (app : App) (words : List Text) (e : Error) → app ≡ koth_app → (takes app words ≡ true → kind_of e ≡ kinds.OutOfMemory)
     → AreTaken words → kind_of e ≡ kinds.OutOfMemory
 memory_kind app words e is passes taken = passes (ap (λ a. takes a words) is ∙ taken.0)
@@ -143,7 +143,7 @@ wrong_kind app words e is has wrong = by_kind (on_faults app words (λ faults. H
     by_kind (inr among) (inl fault) = (λ help. fault.1 (subst IsKind help among), λ version. fault.2 (subst IsKind version among))
     by_kind (inr among) (inr unclear) = absurd (subst (λ faults. IsAmong (kind_of e) faults) unclear.0 among)
 
--- what holds of what the words give a command holds of what the parse gives
+-- what holds of what the words give a command also holds of what the parse gives
 pub given_found : (app : App) (m : ArgMatches) (words : List Text) (P : List Row → Type 0) → app ≡ koth_app → HasMatchesOf app words m
     → P (given_by words) → P (given_in (subcommand_rows_of m))
 given_found app m words P is has holds = subst (λ e. P (given_in e)) (sym (found app m words is has)) holds

@@ -31,7 +31,7 @@ hills_ask : AsksFor (codes "create") (codes "koth" ∷ codes "create" ∷ codes 
 unfolding clap_on_literals koth_app
 hills_ask = (((refl, (refl, refl, tt)), refl), ((refl, (refl, refl, tt)), refl), ((refl, (refl, refl, tt)), refl), ((refl, (refl, refl, tt)), refl), ((refl, (refl, refl, tt)), refl), ((refl, (refl, refl, tt)), refl), ((refl, (refl, refl, tt)), refl), ((refl, (refl, refl, tt)), refl), ((refl, (refl, refl, tt)), refl))
 
--- the flag is given where the words have it, behind the file or before it, and else not
+-- the flag is given if the words have it, after the file or before it, and else not
 matches_given : (matches_named (codes "koth" ∷ codes "show" ∷ codes "h.hill" ∷ codes "--matches" ∷ []) ≡ true)
     × (matches_named (codes "koth" ∷ codes "show" ∷ codes "--matches" ∷ codes "h.hill" ∷ []) ≡ true)
     × (matches_named (codes "koth" ∷ codes "show" ∷ codes "h.hill" ∷ []) ≡ false)
@@ -98,7 +98,7 @@ faults = (refl, refl, refl, refl, refl, refl)
 defaults_are_settings : settings_of default_settings ≡ Ok (record default_settings { read_limit = 8000; write_limit = 8000 })
 defaults_are_settings = refl
 
--- ---- sources, layouts, forms, and words that `clap` takes and the program refuses
+-- ---- sources, layouts, formats, and words that `clap` takes and the program refuses
 
 checks_ask : AsksFor (codes "check") (codes "koth" ∷ codes "check" ∷ codes "a.red" ∷ codes "-s64" ∷ codes "b.red" ∷ codes "--format" ∷ codes "json" ∷ [])
     × AsksFor (codes "asm") (codes "koth" ∷ codes "asm" ∷ codes "a.red" ∷ [])
@@ -138,7 +138,7 @@ flags : (overwrite_named (codes "koth" ∷ codes "create" ∷ codes "h.hill" ∷
 unfolding clap_on_literals koth_app
 flags = (refl, refl, refl)
 
--- two layouts, a form that isn't there and no file to check are not taken
+-- two layouts, an unknown format and no file to check are not taken
 unclear : ¬ AreTaken (codes "koth" ∷ codes "show" ∷ codes "h.hill" ∷ codes "--plain" ∷ codes "--table" ∷ [])
     × ¬ AreTaken (codes "koth" ∷ codes "check" ∷ codes "a.red" ∷ codes "--format=xml" ∷ [])
     × ¬ AreTaken (codes "koth" ∷ codes "check" ∷ [])
@@ -160,7 +160,7 @@ versions = (refl, refl, refl)
 
 -- ---- a service of many, and a round that is shown
 
--- what the words of a service give it, and what they give it where the options are left out
+-- what the words of a service give it, and what they give it if the options are left out
 abbrev many_given : List Row
 many_given = given_by (codes "koth" ∷ codes "serve" ∷ codes "a.hill" ∷ codes "--port=0" ∷ codes "--peers" ∷ codes "1024" ∷ codes "--listen=0.0.0.0" ∷ codes "--http=8080" ∷ [])
 
@@ -176,7 +176,7 @@ services : (number_or 64 (one_of (codes "peers") many_given) ≡ 1024)
 unfolding clap_on_literals koth_app
 services = (refl, refl, refl, refl, refl, refl)
 
--- an address is asked for, of either kind; and `127.0.0.1` is the one where the option is left out
+-- an address of either kind is given, and 127.0.0.1 is the one if the option is left out
 addresses_ask : AsksFor (codes "serve") (codes "koth" ∷ codes "serve" ∷ codes "a.hill" ∷ codes "--port=0" ∷ codes "--listen=0.0.0.0" ∷ [])
     × AsksFor (codes "serve") (codes "koth" ∷ codes "serve" ∷ codes "a.hill" ∷ codes "--port=0" ∷ codes "--listen" ∷ codes "::" ∷ [])
     × IsAddress None (four (127 ∷ 0 ∷ 0 ∷ 1 ∷ []))

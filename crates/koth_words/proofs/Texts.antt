@@ -3,7 +3,7 @@ use Rattle.std.proofs.Common.{◌≡◌, List, [], map, Option, None, Some, Bor,
 use Rattle.std.specs.Prelude.{unwrap_or}
 use Rattle.clap.specs.Walk.{Text}
 
--- the text of a file's name, or of another word, where one is given
+-- the text of a file's name, or of another argument, if one is given
 pub file_text : {default : Text} (r : Option (Bor Text)) (empty x : Bor Text) (text : Option Text) → x ≡ unwrap_or r empty → empty.now ≡ default
     → option_map (λ s. s.now) r ≡ text → x.now ≡ unwrap_or text default
 file_text {default} None empty x text is none named = ap (λ (b : Bor Text). b.now) is ∙ none ∙ ap (λ (t : Option Text). unwrap_or t default) named

@@ -1,5 +1,5 @@
 -- The commands of `koth`, as `clap` reads them.
-use Rattle.std.specs.Prelude.{◌≡◌, true, false, codes, Some}
+use Rattle.std.specs.Prelude.{◌≡◌, true, false, List, [], ◌∷◌, codes, fold, Some}
 use Rattle.clap.specs.Words.{App, Rule, Text, app_of, new_app, new_rule, with_rule, with_subcommand}
 use Rattle.clap.specs.declared.builder.action.ArgAction.TheVariants as actions
 use Rattle.clap.specs.declared.builder.command.Command.{Command}
@@ -14,7 +14,7 @@ IsReadAs app command = (app_of command ≡ app) × ((out-Command command).has_gl
 abbrev pub wants_subcommand : App → App
 wants_subcommand app = record app { top = record app.top { subcommand_required = true } }
 
--- a command that tells its version at `--version` and `-V`
+-- a command that prints its version at `--version` and `-V`
 abbrev pub with_version : App → App
 with_version app = record app { top = record app.top { has_version = true } }
 
@@ -79,8 +79,11 @@ page_app = with_file (new_app (codes "page")) (codes "FILE")
 abbrev pub replay_app : App
 replay_app = with_settings (with_ranged (with_file (with_file (new_app (codes "replay")) (codes "A")) (codes "B")) (codes "round") 1 1000)
 
--- the program's words: `koth`, and a command's name with its files and options
+-- the commands, in the order of the help
+abbrev pub koth_commands : List App
+koth_commands = asm_app ∷ check_app ∷ fight_app ∷ create_app ∷ submit_app ∷ show_app ∷ serve_app ∷ audit_app
+    ∷ migrate_app ∷ page_app ∷ replay_app ∷ []
+
+-- the program: `koth`, and a command's name with its files and options
 unfoldable pub koth_app : App
-koth_app = with_subcommand (with_subcommand (with_subcommand (with_subcommand (with_subcommand (with_subcommand (with_subcommand (with_subcommand (with_subcommand (with_subcommand (with_subcommand
-    (wants_subcommand (with_version (new_app (codes "koth")))) asm_app.top) check_app.top) fight_app.top) create_app.top) submit_app.top) show_app.top)
-    serve_app.top) audit_app.top) migrate_app.top) page_app.top) replay_app.top
+koth_app = fold (λ app command. with_subcommand app command.top) (wants_subcommand (with_version (new_app (codes "koth")))) koth_commands

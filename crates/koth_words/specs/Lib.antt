@@ -1,7 +1,7 @@
--- What the words of the command line ask for.
+-- What a command line asks for.
 -- the options that give settings
 pub mod Options
 -- the commands, as `clap` reads them
 pub mod Commands
--- the requests that words name
+-- the requests that command lines make
 pub mod Words

@@ -64,7 +64,7 @@ number_in limit text =
 abbrev pub number_given : ℕ → Option Text → Option ℕ
 number_given limit text = option_and_then (number_in limit) text
 
--- the same, with a default where the option is left out
+-- the same, with a default if the option is left out
 abbrev pub number_below : ℕ → ℕ → Option Text → ℕ
 number_below limit default text = unwrap_or (number_given limit text) default
 
@@ -72,7 +72,7 @@ number_below limit default text = unwrap_or (number_given limit text) default
 abbrev pub number_or : ℕ → Option Text → ℕ
 number_or default text = number_below 4294967296 default text
 
--- the settings where the words give none
+-- the settings if no option gives another one
 abbrev pub default_settings : RawSettings
 default_settings = record {
   core = 8000;

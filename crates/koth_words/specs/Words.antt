@@ -1,4 +1,4 @@
--- What the words of the command line ask for.
+-- What a command line asks for. `words` are its arguments, of which the first is the program's name.
 use Rattle.std.specs.Prelude.{◌≡◌, ◌≢◌, ◌⊎◌, ◌&&◌, ◌||◌, ⊤, ℕ, Bool, true, false, not, List, [], codes, map, Option, None, Some, IfSome, option_map, unwrap_or, if◌then◌else◌}
 use Rattle.std.specs.Option.{option_map_or}
 use Rattle.std.specs.Net.Grammar.{IsIpText}
@@ -20,24 +20,24 @@ use Rattle.koth_words.specs.declared.words.Source.TheVariants as sources
 use Rattle.koth_words.specs.declared.words.View.{View}
 use Rattle.koth_words.specs.declared.words.View.TheVariants as views
 
--- what the words give a command
+-- what a command is given, if one is entered
 abbrev pub given_in : Option (Text × List Row) → List Row
 given_in entered = option_map_or (λ e. e.1) entered []
 
--- the same of the program's words
+-- what these words give their command
 abbrev pub given_by : List (List ℕ) → List Row
 given_by words = given_in (subcommand_of koth_app words)
 
 abbrev pub text_or_none : Option Text → Text
 text_or_none text = unwrap_or text []
 
--- the settings that the words give
+-- the settings that these words give
 abbrev pub settings_named : List (List ℕ) → RawSettings
 settings_named words = settings_in (given_by words)
 
 -- ---- flags
 
--- a flag is given: the words give it the text `true` where it is among them, and `false` where it isn't
+-- a flag is given: `clap` then has the text `true` for it, else `false`
 abbrev pub is_true : Option Text → Bool
 is_true None = false
 is_true (Some text) = bytes_eq text (codes "true")
@@ -48,11 +48,11 @@ has_flag name given = is_true (one_of name given)
 abbrev pub matches_in : List Row → Bool
 matches_in given = has_flag (codes "matches") given
 
--- whether the words give the flag of `show`
+-- whether `--matches` is given, of `show`
 abbrev pub matches_named : List (List ℕ) → Bool
 matches_named words = matches_in (given_by words)
 
--- whether the words give the flag of `create`
+-- whether `--overwrite` is given, of `create`
 abbrev pub overwrite_named : List (List ℕ) → Bool
 overwrite_named words = has_flag (codes "overwrite") (given_by words)
 
@@ -63,11 +63,11 @@ view_in given =
     if has_flag (codes "plain") given then Some views.Plain
     else (if has_flag (codes "table") given then Some views.Table else None)
 
--- the layout that the words ask for
+-- the layout that is asked for, if one is
 abbrev pub view_named : List (List ℕ) → Option View
 view_named words = view_in (given_by words)
 
--- not both layouts are asked for
+-- `--plain` and `--table` are not both given
 abbrev pub has_one_view : List Row → Bool
 has_one_view given = not (has_flag (codes "plain") given && has_flag (codes "table") given)
 
@@ -78,7 +78,7 @@ abbrev pub is_input : Option Text → Bool
 is_input None = true
 is_input (Some name) = bytes_eq name (codes "-")
 
--- whether `asm` reads the input, and no file
+-- whether `asm` reads standard input, and no file
 abbrev pub reads_input : List (List ℕ) → Bool
 reads_input words = is_input (first_of (codes "FILE") (given_by words))
 
@@ -95,24 +95,24 @@ is_json name = option_map_or (λ text. bytes_eq text (codes "json")) name false
 abbrev pub form_in : List Row → Form
 form_in given = if is_json (first_of (codes "format") given) then forms.Json else forms.Text
 
--- the form that the words ask `check` for
+-- the form of the report of `check`
 abbrev pub form_named : List (List ℕ) → Form
 form_named words = form_in (given_by words)
 
 abbrev pub is_form : Option Text → Bool
 is_form name = option_map_or (λ text. bytes_eq text (codes "text") || bytes_eq text (codes "json")) name true
 
--- no form is asked for but `text` and `json`
+-- `--format` is `text`, `json` or left out
 abbrev pub has_known_form : List Row → Bool
 has_known_form given = is_form (first_of (codes "format") given)
 
 -- ---- addresses
 
--- the address is the one that the text writes: that of this machine where the option is left out
+-- the address is the one that the text writes, or 127.0.0.1 if the option is left out
 abbrev pub IsAddress : Option Text → IpAddr → Type 0
 IsAddress text address = IsIpText (unwrap_or text (codes "127.0.0.1")) address
 
--- a text that is given writes an address, with no port
+-- the text, if it is given, writes an address without a port
 abbrev pub WritesAddress : Option Text → Type 0
 WritesAddress text = IfSome text (λ text. (address : IpAddr) × IsIpText text address)
 
@@ -121,11 +121,11 @@ HasAddress given = WritesAddress (first_of (codes "listen") given)
 
 -- ---- words that are taken, and words that are wrong
 
--- none of what the program refuses beside `clap`: two layouts, a form that it doesn't know, and no address where one is to be
+-- nothing that the program refuses beside `clap`: two layouts, an unknown form, or a text in place of an address
 abbrev pub AreClear : List Row → Type 0
 AreClear given = (has_one_view given ≡ true) × (has_known_form given ≡ true) × HasAddress given
 
--- the words are taken, by `clap`'s own definition and by the one above
+-- the words are taken, by `clap`'s own definition and by `AreClear`
 abbrev pub AreTaken : List (List ℕ) → Type 0
 AreTaken words = (takes koth_app words ≡ true) × AreClear (given_by words)
 
@@ -134,7 +134,7 @@ abbrev pub AsksFor : List ℕ → List (List ℕ) → Type 0
 AsksFor verb words = AreTaken words
     × (option_map (λ entered. entered.0) (subcommand_of koth_app words) ≡ Some verb)
 
--- `clap` finds a fault in the words, and they ask neither for help nor for the version
+-- `clap` finds a fault in the words, and they ask for neither help nor the version
 abbrev pub HaveFault : List (List ℕ) → Type 0
 HaveFault words = (fault_of koth_app words ≢ [])
     × ¬ IsAmong kinds.DisplayHelp (fault_of koth_app words)
@@ -150,7 +150,7 @@ AreWrong words = HaveFault words ⊎ AreUnclear words
 
 -- ---- requests
 
--- the request is that of a command with what the words give it
+-- the request is that of the command that was entered, by its name and what it was given
 abbrev pub Asks : Text × List Row → Request → Type 0
 Asks entered (Asm settings source) = (entered.0 ≡ codes "asm") × (settings ≡ settings_in entered.1)
     × IsSource (first_of (codes "FILE") entered.1) source
@@ -192,7 +192,7 @@ Asks entered (Replay settings watched) = (entered.0 ≡ codes "replay") × (sett
     × (watched.younger.now ≡ text_or_none (first_of (codes "B") entered.1))
     × (watched.round ≡ number_or 1 (one_of (codes "round") entered.1))
 
--- the same where a command is named
+-- the same, if a command was entered
 abbrev pub AsksBy : Option (Text × List Row) → Request → Type 0
 AsksBy None request = ⊥
 AsksBy (Some entered) request = Asks entered request
@@ -209,7 +209,7 @@ abbrev pub NamesCommand : Option Text → Type 0
 NamesCommand None = ⊥
 NamesCommand (Some name) = IsCommandName name
 
--- there is no request, and none for help either
+-- there is no request, and none for help or the version either
 abbrev pub IsRefusal : NoRequest → Type 0
 IsRefusal (reasons.Help text) = ⊥
 IsRefusal (reasons.WordFault text) = ⊤

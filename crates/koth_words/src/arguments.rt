@@ -21,7 +21,7 @@ pub(crate) fn source<'a>(heap: Global) -> Arg<'a>
     ensures rule { rule_of result ≡ new_rule (codes "FILE") }
     ensures global { result.global ≡ false }
 {
-    Arg::new(heap, "FILE").help("File of the source; standard input if left out, or if -")
+    Arg::new(heap, "FILE").help("File of the source; standard input if left out or -")
 }
 
 pub(crate) fn files<'a>(heap: Global) -> Arg<'a>
@@ -31,14 +31,12 @@ pub(crate) fn files<'a>(heap: Global) -> Arg<'a>
     file(heap, "FILE", "Files of the sources, one or more").action(ArgAction::Append)
 }
 
-pub(crate) fn form<'a>(heap: Global) -> Arg<'a>
-    ensures rule { rule_of result ≡ text_rule (codes "format") }
+/// An option with a text.
+pub(crate) fn text<'a>(heap: Global, name: &'a str, value: &'a str, help: &'a str) -> Arg<'a>
+    ensures rule { rule_of result ≡ text_rule name.entry.now }
     ensures global { result.global ≡ false }
 {
-    Arg::new(heap, "format")
-        .long("format")
-        .value_name("FORM")
-        .help("Form of what is written, text or json [default: text]")
+    Arg::new(heap, name).long(name).value_name(value).help(help)
 }
 
 pub(crate) fn port<'a>(heap: Global) -> Arg<'a>
@@ -51,18 +49,6 @@ pub(crate) fn port<'a>(heap: Global) -> Arg<'a>
         .value_parser(value_parser!(u16))
         .required(true)
         .help("Port to listen at, 0 to 65535; at 0 the system chooses one")
-}
-
-pub(crate) fn address<'a>(heap: Global) -> Arg<'a>
-    ensures rule { rule_of result ≡ text_rule (codes "listen") }
-    ensures global { result.global ≡ false }
-{
-    Arg::new(heap, "listen")
-        .long("listen")
-        .value_name("ADDRESS")
-        .help(
-            "Address to listen at, IPv4 or IPv6; whoever reaches it can submit [default: 127.0.0.1]",
-        )
 }
 
 /// An option with a whole number from the least to the greatest.

@@ -1,28 +1,28 @@
 //! The commands with their files and options, as `clap` reads them.
 
-ghost use Rattle.std.specs.Prelude.{codes, IfOk};
-ghost use Rattle.clap.specs.Words.{App, new_app, with_subcommand};
+ghost use Rattle.std.specs.Prelude.{◌≡◌, codes, false, IfOk};
+ghost use Rattle.clap.specs.Words.{App, Rule, new_app, rule_of, with_rule, with_subcommand};
 ghost use Rattle.koth_words.specs.Commands.{asm_app, audit_app, check_app, create_app, fight_app, koth_app, migrate_app, page_app, replay_app, serve_app, show_app, submit_app, wants_subcommand, with_version, with_view, IsReadAs};
 
-use crate::arguments::{address, file, files, flag, form, port, ranged, source};
+use crate::arguments::{file, files, flag, port, ranged, source, text};
 use crate::options::{option, with_settings};
-use clap::Command;
+use clap::{Arg, Command};
 use std::alloc::{AllocError, Global};
 
 /// The program with its commands.
 pub(crate) fn koth_command<'a>(heap: Global) -> Result<Command<'a>, AllocError>
     ensures { IfOk result (IsReadAs koth_app) }
 {
-    let command = with_command(program(heap), asm_command(heap))?;
-    let command = with_command(command, check_command(heap))?;
-    let command = with_command(command, fight_command(heap))?;
-    let command = with_command(command, create_command(heap))?;
-    let command = with_command(command, submit_command(heap))?;
-    let command = with_command(command, show_command(heap))?;
-    let command = with_command(command, serve_command(heap))?;
-    let command = with_command(command, audit_command(heap))?;
-    let command = with_command(command, migrate_command(heap))?;
-    let command = with_command(command, page_command(heap))?;
+    let command = with_command(Ok(program(heap)), asm_command(heap));
+    let command = with_command(command, check_command(heap));
+    let command = with_command(command, fight_command(heap));
+    let command = with_command(command, create_command(heap));
+    let command = with_command(command, submit_command(heap));
+    let command = with_command(command, show_command(heap));
+    let command = with_command(command, serve_command(heap));
+    let command = with_command(command, audit_command(heap));
+    let command = with_command(command, migrate_command(heap));
+    let command = with_command(command, page_command(heap));
     with_command(command, replay_command(heap))
 }
 
@@ -41,174 +41,131 @@ fn asm_command<'a>(heap: Global) -> Result<Command<'a>, AllocError>
     ensures { IfOk result (IsReadAs asm_app) }
 {
     let command = described(heap, "asm", "Assembles a source, and writes its load text");
-    with_settings(heap, command.arg(source(heap))?)
+    with_settings(heap, with_arg(Ok(command), source(heap)))
 }
 
 fn check_command<'a>(heap: Global) -> Result<Command<'a>, AllocError>
     ensures { IfOk result (IsReadAs check_app) }
 {
-    let command = described(
-        heap,
-        "check",
-        "Assembles sources, and writes what is wrong with them",
-    )
-    .arg(files(heap))?
-    .arg(form(heap))?;
-    with_settings(heap, command)
+    let about = "Assembles sources, and reports what is wrong with them";
+    let command = with_arg(Ok(described(heap, "check", about)), files(heap));
+    let help = "Format of the report, text or json [default: text]";
+    with_settings(heap, with_arg(command, text(heap, "format", "FORM", help)))
 }
 
 fn fight_command<'a>(heap: Global) -> Result<Command<'a>, AllocError>
     ensures { IfOk result (IsReadAs fight_app) }
 {
-    let command = described(
-        heap,
-        "fight",
-        "Plays a match, and writes the rounds that A won, those that B won, and the ties",
-    )
-    .arg(file(heap, "A", "File of the older warrior"))?
-    .arg(file(heap, "B", "File of the younger warrior"))?;
-    with_settings(heap, with_view(heap, command)?)
+    let about = "Plays a match, and writes how many rounds A won, how many B won, and the ties";
+    let a = file(heap, "A", "File of the older warrior");
+    let b = file(heap, "B", "File of the younger warrior");
+    let command = with_arg(Ok(described(heap, "fight", about)), a);
+    with_settings(heap, with_view(heap, with_arg(command, b)))
 }
 
 fn create_command<'a>(heap: Global) -> Result<Command<'a>, AllocError>
     ensures { IfOk result (IsReadAs create_app) }
 {
-    let command = described(
-        heap,
-        "create",
-        "Creates a hill without warriors in a file, and writes CREATED",
-    )
-    .arg(file(heap, "FILE", "Hill file; created if missing"))?
-    .arg(flag(heap, "overwrite", "Replace what the file has"))?;
-    with_settings(heap, command)
+    let about = "Creates a hill without warriors in a file, and writes CREATED";
+    let hill = file(heap, "FILE", "Hill file; created if missing");
+    let command = with_arg(Ok(described(heap, "create", about)), hill);
+    let overwrite = flag(heap, "overwrite", "Replace what is in the file");
+    with_settings(heap, with_arg(command, overwrite))
 }
 
 fn submit_command<'a>(heap: Global) -> Result<Command<'a>, AllocError>
     ensures { IfOk result (IsReadAs submit_app) }
 {
-    let command = described(
-        heap,
-        "submit",
-        "Submits a warrior to a hill, and writes its place, its points or its refusal",
-    )
-    .arg(file(heap, "FILE", "Hill file"))?
-    .arg(file(heap, "SOURCE", "File of the warrior's source"))?;
-    with_view(heap, command)
+    let about = "Submits a warrior to a hill, and writes whether it is placed, falls or is refused";
+    let hill = file(heap, "FILE", "Hill file");
+    let source = file(heap, "SOURCE", "File of the warrior's source");
+    let command = with_arg(Ok(described(heap, "submit", about)), hill);
+    with_view(heap, with_arg(command, source))
 }
 
 fn show_command<'a>(heap: Global) -> Result<Command<'a>, AllocError>
     ensures { IfOk result (IsReadAs show_app) }
 {
-    let command = described(
-        heap,
-        "show",
-        "Writes a hill's table: rank, entry, score, age, name and author of each warrior",
-    )
-    .arg(file(heap, "FILE", "Hill file"))?
-    .arg(flag(
-        heap,
-        "matches",
-        "Write after the table who won how many rounds against whom",
-    ))?;
-    with_view(heap, command)
+    let about = "Writes a hill's table: rank, entry, score, age, name and author of each warrior";
+    let hill = file(heap, "FILE", "Hill file");
+    let command = with_arg(Ok(described(heap, "show", about)), hill);
+    let help = "Write after the table how many rounds each warrior won against each other";
+    with_view(heap, with_arg(command, flag(heap, "matches", help)))
 }
 
 fn serve_command<'a>(heap: Global) -> Result<Command<'a>, AllocError>
     ensures { IfOk result (IsReadAs serve_app) }
 {
-    described(
-        heap,
-        "serve",
-        "Serves sessions on a hill over connections, those of many peers at once",
-    )
-    .arg(file(heap, "FILE", "Hill file"))?
-    .arg(port(heap))?
-    .arg(ranged(
-        heap,
-        "peers",
-        1,
-        1024,
-        "Most peers served at once, 1 to 1024; with 1 it is one after the other [default: 64]",
-    ))?
-    .arg(address(heap))?
-    .arg(option(
-        heap,
-        "connections",
-        "Connections to serve before the program ends, 0 to 4294967295 [default: no limit]",
-    ))?
-    .arg(ranged(
-        heap,
-        "http",
-        0,
-        65535,
-        "Port for browsers, which see the hill there, 0 to 65535; at 0 the system chooses one",
-    ))?
-    .arg(flag(heap, "quiet", "Write no line for each connection"))
+    let about = "Serves sessions on a hill over connections, those of many peers at once";
+    let hill = file(heap, "FILE", "Hill file");
+    let command = with_arg(Ok(described(heap, "serve", about)), hill);
+    let command = with_arg(command, port(heap));
+    let help =
+        "Most peers served at once, 1 to 1024; with 1 it is one after the other [default: 64]";
+    let command = with_arg(command, ranged(heap, "peers", 1, 1024, help));
+    let help =
+        "Address to listen at, IPv4 or IPv6; whoever reaches it can submit [default: 127.0.0.1]";
+    let command = with_arg(command, text(heap, "listen", "ADDRESS", help));
+    let help = "Connections to serve before the program ends, 0 to 4294967295 [default: no limit]";
+    let command = with_arg(command, option(heap, "connections", help));
+    let help = "Port at which browsers see the hill, 0 to 65535; at 0 the system chooses one";
+    let command = with_arg(command, ranged(heap, "http", 0, 65535, help));
+    let quiet = flag(heap, "quiet", "Write no line for each connection");
+    with_arg(command, quiet)
 }
 
 fn audit_command<'a>(heap: Global) -> Result<Command<'a>, AllocError>
     ensures { IfOk result (IsReadAs audit_app) }
 {
-    described(
-        heap,
-        "audit",
-        "Fights every pair on a hill again, and writes whether each kept result is what its match gives",
-    )
-    .arg(file(heap, "FILE", "Hill file"))
+    let about =
+        "Plays the match of each pair on a hill again, and writes whether all kept results are right";
+    let command = described(heap, "audit", about);
+    with_arg(Ok(command), file(heap, "FILE", "Hill file"))
 }
 
 fn migrate_command<'a>(heap: Global) -> Result<Command<'a>, AllocError>
     ensures { IfOk result (IsReadAs migrate_app) }
 {
-    described(
-        heap,
-        "migrate",
-        "Moves a hill of the layout before this one to a new file, and writes MIGRATED",
-    )
-    .arg(file(heap, "FILE", "Hill file, which stays as it is"))?
-    .arg(file(heap, "NEW", "New hill file; created if missing"))
+    let about = "Moves a hill of the old format to a new file, and writes MIGRATED";
+    let old = file(heap, "FILE", "Hill file, which stays as it is");
+    let new = file(heap, "NEW", "New hill file; created if missing");
+    with_arg(with_arg(Ok(described(heap, "migrate", about)), old), new)
 }
 
 fn page_command<'a>(heap: Global) -> Result<Command<'a>, AllocError>
     ensures { IfOk result (IsReadAs page_app) }
 {
-    described(
-        heap,
-        "page",
-        "Writes the page of a hill: its table and its matches, as one file for a browser",
-    )
-    .arg(file(heap, "FILE", "Hill file"))
+    let about = "Writes the page of a hill: its table and its matches, as one file for a browser";
+    let command = described(heap, "page", about);
+    with_arg(Ok(command), file(heap, "FILE", "Hill file"))
 }
 
 fn replay_command<'a>(heap: Global) -> Result<Command<'a>, AllocError>
     ensures { IfOk result (IsReadAs replay_app) }
 {
-    let command = described(
+    let about = "Writes a page that shows one round of a match turn by turn";
+    let a = file(heap, "A", "File of the older warrior");
+    let b = file(heap, "B", "File of the younger warrior");
+    let command = with_arg(with_arg(Ok(described(heap, "replay", about)), a), b);
+    let help = "Round that is shown, 1 to 1000 [default: 1]";
+    with_settings(
         heap,
-        "replay",
-        "Writes a page that shows one round of a match turn by turn",
+        with_arg(command, ranged(heap, "round", 1, 1000, help)),
     )
-    .arg(file(heap, "A", "File of the older warrior"))?
-    .arg(file(heap, "B", "File of the younger warrior"))?
-    .arg(ranged(
-        heap,
-        "round",
-        1,
-        1000,
-        "Round that is shown, 1 to 1000 [default: 1]",
-    ))?;
-    with_settings(heap, command)
 }
 
-/// The command with this one among its own, if that was made.
+/// The command with this one among its own, if both were made.
 fn with_command<'a>(
-    command: Command<'a>,
+    command: Result<Command<'a>, AllocError>,
     made: Result<Command<'a>, AllocError>,
 ) -> Result<Command<'a>, AllocError>
-    ensures { (app sub : App) → IsReadAs app command.entry → IfOk made.entry (IsReadAs sub)
+    ensures { (app sub : App) → IfOk command.entry (IsReadAs app) → IfOk made.entry (IsReadAs sub)
         → IfOk result (IsReadAs (with_subcommand app sub.top)) }
 {
-    command.subcommand(made?)
+    match (command, made) {
+        (Ok(command), Ok(made)) => command.subcommand(made),
+        _ => Err(AllocError),
+    }
 }
 
 /// The command of this name, with what help says of it.
@@ -219,10 +176,40 @@ fn described<'a>(heap: Global, name: &'a str, about: &'a str) -> Command<'a>
 }
 
 /// The command with the flags that say how output is laid out.
-fn with_view<'a>(heap: Global, command: Command<'a>) -> Result<Command<'a>, AllocError>
-    ensures { (app : App) → IsReadAs app command.entry → IfOk result (IsReadAs (with_view app)) }
+fn with_view<'a>(
+    heap: Global,
+    command: Result<Command<'a>, AllocError>,
+) -> Result<Command<'a>, AllocError>
+    ensures { (app : App) → IfOk command.entry (IsReadAs app) → IfOk result (IsReadAs (with_view app)) }
 {
-    command
-        .arg(flag(heap, "plain", "Write lines for programs; not with --table"))?
-        .arg(flag(heap, "table", "Write a table for people; not with --plain"))
+    let plain = flag(heap, "plain", "Write lines for programs; not with --table");
+    let table = flag(heap, "table", "Write a table for people; not with --plain");
+    with_arg(with_arg(command, plain), table)
+}
+
+/// The command with one argument more, if it was made.
+pub(crate) fn with_arg<'a>(
+    command: Result<Command<'a>, AllocError>,
+    arg: Arg<'a>,
+) -> Result<Command<'a>, AllocError>
+    ensures { (app : App) (rule : Rule) → IfOk command.entry (IsReadAs app) → rule_of arg.entry ≡ rule → arg.entry.global ≡ false
+        → IfOk result (IsReadAs (with_rule app rule)) }
+{
+    match command {
+        Ok(command) => command.arg(arg),
+        Err(error) => Err(error),
+    }
+}
+
+/// The command with this heading over the options that follow, if it was made.
+pub(crate) fn headed<'a>(
+    command: Result<Command<'a>, AllocError>,
+    heading: &'a str,
+) -> Result<Command<'a>, AllocError>
+    ensures { (app : App) → IfOk command.entry (IsReadAs app) → IfOk result (IsReadAs app) }
+{
+    match command {
+        Ok(command) => Ok(command.next_help_heading(heading)),
+        Err(error) => Err(error),
+    }
 }

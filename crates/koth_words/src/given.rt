@@ -1,6 +1,6 @@
-//! What words that `clap` took give a command.
+//! What the arguments that `clap` took give a command.
 
-ghost use Rattle.std.specs.Prelude.{◌≡◌, [], codes, map, option_map, unwrap_or, IfOk, MatchOption};
+ghost use Rattle.std.specs.Prelude.{◌≡◌, ◌↔◌, [], codes, map, option_map, unwrap_or, IfOk, IsTrue};
 ghost use Rattle.clap.specs.Words.{all_of, first_of, found_of, one_of, rows_of};
 ghost use Rattle.koth_words.specs.Options.{number_below, number_given, number_or};
 ghost use Rattle.koth_words.specs.Words.{form_in, has_flag, has_known_form, has_one_view, matches_in, text_or_none, view_in, HasAddress, IsAddress, IsSource};
@@ -13,10 +13,10 @@ use clap::ArgMatches;
 use std::alloc::{AllocError, Global};
 use std::net::IpAddr;
 
-/// Peers that are served at once, where the words give no number.
+/// Peers that are served at once, unless `--peers` is given.
 const PEERS: u32 = 64;
 
-/// The address to listen at, where the words give none.
+/// The address to listen at, unless `--listen` is given.
 const THIS_MACHINE: &str = "127.0.0.1";
 
 /// The source that `asm` reads.
@@ -29,7 +29,7 @@ pub(crate) fn source_named<'w>(matches: &ArgMatches<'w>) -> Source<'w>
     }
 }
 
-/// The sources that are checked, and the form of what is written of them.
+/// The sources to check, and the form of the report.
 pub(crate) fn checked_named<'w>(
     heap: Global,
     matches: &ArgMatches<'w>,
@@ -55,7 +55,7 @@ fn form_given(matches: &ArgMatches<'_>) -> Form
     }
 }
 
-/// Whether the form that is asked for, if there is one, is `text` or `json`.
+/// Whether `--format` is `text`, `json` or left out.
 pub(crate) fn has_known_form(matches: &ArgMatches<'_>) -> bool
     ensures { result ≡ has_known_form (rows_of (found_of matches.now)) }
 {
@@ -65,7 +65,7 @@ pub(crate) fn has_known_form(matches: &ArgMatches<'_>) -> bool
     }
 }
 
-/// The layout that is asked for.
+/// The layout that is asked for, if one is.
 fn view_given(matches: &ArgMatches<'_>) -> Option<View>
     ensures { result ≡ view_in (rows_of (found_of matches.now)) }
 {
@@ -131,9 +131,8 @@ pub(crate) fn shown_named<'w>(matches: &ArgMatches<'w>) -> Shown<'w>
     }
 }
 
-/// The service that listens at this address.
-pub(crate) fn service_named<'w>(matches: &ArgMatches<'w>, listen: IpAddr) -> Service<'w>
-    requires { IsAddress (first_of (codes "listen") (rows_of (found_of matches.now))) listen }
+pub(crate) fn service_named<'w>(matches: &ArgMatches<'w>) -> Service<'w>
+    requires { HasAddress (rows_of (found_of matches.now)) }
     ensures hill { result.hill.now ≡ text_or_none (first_of (codes "FILE") (rows_of (found_of matches.now))) }
     ensures port { result.port ≡ number_below 65536 0 (one_of (codes "port") (rows_of (found_of matches.now))) }
     ensures peers { result.peers ≡ number_or 64 (one_of (codes "peers") (rows_of (found_of matches.now))) }
@@ -147,10 +146,29 @@ pub(crate) fn service_named<'w>(matches: &ArgMatches<'w>, listen: IpAddr) -> Ser
         hill: file_named(matches, "FILE"),
         port: port_given(matches),
         peers: number_given(matches, "peers", PEERS),
-        listen,
+        listen: address_given(matches),
         connections: number_if_given(matches, "connections"),
         http: number_if_given(matches, "http"),
         quiet: flag_given(matches, "quiet"),
+    }
+}
+
+/// The address to listen at.
+fn address_given(matches: &ArgMatches<'_>) -> IpAddr
+    requires { HasAddress (rows_of (found_of matches.now)) }
+    ensures { IsAddress (first_of (codes "listen") (rows_of (found_of matches.now))) result }
+{
+    let text = text_given(matches, "listen").unwrap_or(THIS_MACHINE);
+    text.parse().unwrap()
+}
+
+/// Whether the address to listen at is one, if it is given.
+pub(crate) fn has_address(matches: &ArgMatches<'_>) -> bool
+    ensures { IsTrue result ↔ HasAddress (rows_of (found_of matches.now)) }
+{
+    match text_given(matches, "listen") {
+        Some(text) => text.parse::<IpAddr>().is_ok(),
+        None => true,
     }
 }
 
@@ -176,18 +194,7 @@ pub(crate) fn watched_named<'w>(matches: &ArgMatches<'w>) -> Watched<'w>
     }
 }
 
-/// The address to listen at, unless a text is given that writes none.
-pub(crate) fn address_given(matches: &ArgMatches<'_>) -> Option<IpAddr>
-    ensures { MatchOption result (HasAddress (rows_of (found_of matches.now)) → ⊥)
-        (IsAddress (first_of (codes "listen") (rows_of (found_of matches.now)))) }
-{
-    text_given(matches, "listen")
-        .unwrap_or(THIS_MACHINE)
-        .parse()
-        .ok()
-}
-
-/// The file that is named so. Words without it are refused.
+/// The file in this argument. `clap` refuses a command line without it.
 pub(crate) fn file_named<'w>(matches: &ArgMatches<'w>, name: &str) -> &'w str
     ensures { result.now ≡ text_or_none (first_of name.now (rows_of (found_of matches.now))) }
 {
@@ -201,14 +208,14 @@ fn text_given<'w>(matches: &ArgMatches<'w>, name: &str) -> Option<&'w str>
     matches.get_str(name)
 }
 
-/// The port. Words without it are refused.
+/// The port. `clap` refuses a command line without it.
 fn port_given(matches: &ArgMatches<'_>) -> u16
     ensures { result ≡ number_below 65536 0 (one_of (codes "port") (rows_of (found_of matches.now))) }
 {
     matches.get_one("port").unwrap_or(0)
 }
 
-/// Whether the flag is given. `clap` has the text `true` for a flag that is, and `false` for one that isn't.
+/// Whether the flag is given: `clap` then has the text `true` for it, else `false`.
 fn flag_given(matches: &ArgMatches<'_>, name: &str) -> bool
     ensures { result ≡ has_flag name.now (rows_of (found_of matches.now)) }
 {

@@ -1,10 +1,10 @@
-//! The words of the command line: what the program `koth` may be asked for.
+//! The command line: what the program `koth` may be asked for.
 //!
 //! - `options`: the options that give settings, and the settings that they give;
 //! - `arguments`: the files, options and flags of commands, one by one;
 //! - `commands`: the commands with their files and options, as `clap` reads them;
-//! - `given`: what words that `clap` took give a command;
-//! - `words`: the requests, and the words as one of them.
+//! - `given`: what the arguments that `clap` took give a command;
+//! - `words`: the requests, and how arguments become one.
 #![tactic(auto)]
 
 mod arguments;

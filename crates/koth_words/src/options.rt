@@ -5,11 +5,12 @@ ghost use Rattle.clap.specs.Words.{App, found_of, one_of, rows_of, rule_of};
 ghost use Rattle.koth_words.specs.Commands.{IsReadAs};
 ghost use Rattle.koth_words.specs.Options.{lettered_rule, number_given, number_or, option_rule, settings_in, with_bounds, with_settings, with_sizes};
 
+use crate::commands::{headed, with_arg};
 use clap::{Arg, ArgMatches, Command, value_parser};
 use std::alloc::{AllocError, Global};
 use war_types::RawSettings;
 
-/// The settings where the words give none.
+/// The settings if no option gives another one.
 pub const DEFAULTS: RawSettings = RawSettings {
     core: 8000,
     cycles: 80_000,
@@ -26,82 +27,51 @@ pub const DEFAULTS: RawSettings = RawSettings {
 /// The command with an option for each of the ten settings, which takes a whole number of 32 bits.
 pub(crate) fn with_settings<'a>(
     heap: Global,
-    command: Command<'a>,
+    command: Result<Command<'a>, AllocError>,
 ) -> Result<Command<'a>, AllocError>
-    ensures { (app : App) → IsReadAs app command.entry → IfOk result (IsReadAs (with_settings app)) }
+    ensures { (app : App) → IfOk command.entry (IsReadAs app) → IfOk result (IsReadAs (with_settings app)) }
 {
-    let sizes = with_sizes(heap, command.next_help_heading("Match"))?;
-    let bounds = with_bounds(heap, sizes)?;
-    bounds
-        .next_help_heading("Hill")
-        .arg(option(
-            heap,
-            "seed",
-            "Seed of the positions, 1 to 2147483646; give a hill one of its own, 1 is known to all [default: 1]",
-        ))?
-        .arg(option(
-            heap,
-            "capacity",
-            "Most warriors on the hill, 1 to 20 [default: 20]",
-        ))
+    let command = with_sizes(heap, headed(command, "Match"));
+    let command = headed(with_bounds(heap, command), "Hill");
+    let help =
+        "Seed of the positions, 1 to 2147483646; give each hill its own, 1 is known to all [default: 1]";
+    let command = with_arg(command, option(heap, "seed", help));
+    let help = "Most warriors on the hill, 1 to 20 [default: 20]";
+    with_arg(command, option(heap, "capacity", help))
 }
 
-fn with_sizes<'a>(heap: Global, command: Command<'a>) -> Result<Command<'a>, AllocError>
-    ensures { (app : App) → IsReadAs app command.entry → IfOk result (IsReadAs (with_sizes app)) }
+fn with_sizes<'a>(
+    heap: Global,
+    command: Result<Command<'a>, AllocError>,
+) -> Result<Command<'a>, AllocError>
+    ensures { (app : App) → IfOk command.entry (IsReadAs app) → IfOk result (IsReadAs (with_sizes app)) }
 {
-    command
-        .arg(lettered(
-            heap,
-            "core",
-            's',
-            "Cells of the core, 64 to 65535 [default: 8000]",
-        ))?
-        .arg(lettered(
-            heap,
-            "processes",
-            'p',
-            "Most processes of each side, 1 to 65535 [default: 8000]",
-        ))?
-        .arg(lettered(
-            heap,
-            "length",
-            'l',
-            "Most instructions of a warrior, 1 to 200 [default: 100]",
-        ))?
-        .arg(lettered(
-            heap,
-            "distance",
-            'd',
-            "Minimum distance between warriors, from --length to half of --core [default: 100]",
-        ))
+    let help = "Cells of the core, 64 to 65535 [default: 8000]";
+    let command = with_arg(command, lettered(heap, "core", 's', help));
+    let help = "Most processes of each side, 1 to 65535 [default: 8000]";
+    let command = with_arg(command, lettered(heap, "processes", 'p', help));
+    let help = "Most instructions of a warrior, 1 to 200 [default: 100]";
+    let command = with_arg(command, lettered(heap, "length", 'l', help));
+    let help = "Minimum distance between warriors, from --length to half of --core [default: 100]";
+    with_arg(command, lettered(heap, "distance", 'd', help))
 }
 
-fn with_bounds<'a>(heap: Global, command: Command<'a>) -> Result<Command<'a>, AllocError>
-    ensures { (app : App) → IsReadAs app command.entry → IfOk result (IsReadAs (with_bounds app)) }
+fn with_bounds<'a>(
+    heap: Global,
+    command: Result<Command<'a>, AllocError>,
+) -> Result<Command<'a>, AllocError>
+    ensures { (app : App) → IfOk command.entry (IsReadAs app) → IfOk result (IsReadAs (with_bounds app)) }
 {
-    command
-        .arg(lettered(
-            heap,
-            "cycles",
-            'c',
-            "Turns of each side in a round, 1 to 1000000 [default: 80000]",
-        ))?
-        .arg(lettered(
-            heap,
-            "rounds",
-            'r',
-            "Rounds of a match, 1 to 1000 [default: 10]",
-        ))?
-        .arg(option(
-            heap,
-            "read-limit",
-            "Cells within which an operand reads, a divisor of --core; 0 is all of it [default: 0]",
-        ))?
-        .arg(option(
-            heap,
-            "write-limit",
-            "Cells within which an operand writes, a divisor of --core; 0 is all of it [default: 0]",
-        ))
+    let help = "Turns of each side in a round, 1 to 1000000 [default: 80000]";
+    let command = with_arg(command, lettered(heap, "cycles", 'c', help));
+    let help = "Rounds of a match, 1 to 1000 [default: 10]";
+    let command = with_arg(command, lettered(heap, "rounds", 'r', help));
+    let help =
+        "Cells within which an operand reads, a divisor of --core; 0 is all of it [default: 0]";
+    let command = with_arg(command, option(heap, "read-limit", help));
+    let help =
+        "Cells within which an operand writes, a divisor of --core; 0 is all of it [default: 0]";
+    with_arg(command, option(heap, "write-limit", help))
 }
 
 fn lettered<'a>(heap: Global, name: &'a str, letter: char, help: &'a str) -> Arg<'a>
@@ -123,7 +93,7 @@ pub(crate) fn option<'a>(heap: Global, name: &'a str, help: &'a str) -> Arg<'a>
         .help(help)
 }
 
-/// The settings that the options of a command give, with the defaults where they give none.
+/// The settings that the options of a command give, with the default of each option that is left out.
 pub(crate) fn settings_given(matches: &ArgMatches<'_>) -> RawSettings
     ensures { result ≡ settings_in (rows_of (found_of matches.now)) }
 {
@@ -141,7 +111,7 @@ pub(crate) fn settings_given(matches: &ArgMatches<'_>) -> RawSettings
     }
 }
 
-/// The number that an option has, or the default where it is left out.
+/// The number that an option has, or the default if it is left out.
 pub(crate) fn number_given(matches: &ArgMatches<'_>, name: &str, default: u32) -> u32
     ensures { result ≡ number_or default (one_of name.now (rows_of (found_of matches.now))) }
 {

@@ -1,12 +1,12 @@
-//! The words of the command line: what `koth` may be asked for.
+//! The requests that the arguments of a command line make.
 
 ghost use Rattle.std.specs.Prelude.{◌≡◌, ◌≢◌, codes, map, IfOk, IfErr, IsErrAnd, string_bytes};
-ghost use Rattle.clap.specs.Words.{first_of, found_of, kind_of, rows_of, subcommand_name_of, subcommand_of, subcommand_rows_of};
-ghost use Rattle.koth_words.specs.Words.{given_in, koth_app, AreClear, AreTaken, AreWrong, Asks, AsksBy, IsAddress, IsCommandName, IsRefusal, NamesCommand};
+ghost use Rattle.clap.specs.Words.{found_of, kind_of, rows_of, subcommand_name_of, subcommand_of, subcommand_rows_of};
+ghost use Rattle.koth_words.specs.Words.{given_in, koth_app, AreClear, AreTaken, AreWrong, Asks, AsksBy, HasAddress, IsCommandName, IsRefusal, NamesCommand};
 
 use crate::commands::koth_command;
 use crate::given::{
-    address_given, checked_named, creation_named, fighters_named, file_named, has_known_form,
+    checked_named, creation_named, fighters_named, file_named, has_address, has_known_form,
     has_one_view, migration_named, service_named, shown_named, source_named, submission_named,
     watched_named,
 };
@@ -17,12 +17,12 @@ use std::alloc::{AllocError, Global};
 use std::net::IpAddr;
 use war_types::RawSettings;
 
-/// What the words ask for.
-#[derive(Debug, Drop)]
+/// What a command line asks for.
+#[derive(Drop)]
 pub enum Request<'w> {
     /// `asm`: assemble a source under these settings, and write its load text.
     Asm(RawSettings, Source<'w>),
-    /// `check`: assemble sources under these settings, and write what is wrong with them.
+    /// `check`: assemble sources under these settings, and report what is wrong with them.
     Check(RawSettings, Checked<'w>),
     /// `fight`: play a match under these settings, and write its counts.
     Fight(RawSettings, Fighters<'w>),
@@ -34,9 +34,9 @@ pub enum Request<'w> {
     Show(Shown<'w>),
     /// `serve`: serve sessions on a hill.
     Serve(Service<'w>),
-    /// `audit`: fight every pair of the hill in this file again, and write whether each kept result is the fight's.
+    /// `audit`: play the match of every pair on the hill in this file again, and write whether each kept result is right.
     Audit(&'w str),
-    /// `migrate`: move a hill of the layout before this one to a new file.
+    /// `migrate`: move a hill of the old format to a new file.
     Migrate(Migration<'w>),
     /// `page`: write the page of the hill in this file.
     Page(&'w str),
@@ -44,8 +44,8 @@ pub enum Request<'w> {
     Replay(RawSettings, Watched<'w>),
 }
 
-/// Where a source is read from.
-#[derive(Clone, Copy, Debug, PartialEq, Eq)]
+/// The place that a source is read from.
+#[derive(Clone, Copy, PartialEq, Eq)]
 pub enum Source<'w> {
     /// The standard input: no file is named, or `-`.
     Input,
@@ -54,16 +54,16 @@ pub enum Source<'w> {
 }
 
 /// The files of sources that are checked.
-#[derive(Debug, Drop)]
+#[derive(Drop)]
 pub struct Checked<'w> {
-    /// As the words name them, in their order; one or more.
+    /// In the order of the command line; one or more.
     pub files: Vec<&'w str>,
-    /// The form of what is written of them.
+    /// The form of the report.
     pub form: Form,
 }
 
-/// The form of what `check` writes.
-#[derive(Clone, Copy, Debug, PartialEq, Eq)]
+/// The form of the report of `check`.
+#[derive(Clone, Copy, PartialEq, Eq)]
 pub enum Form {
     /// Lines for people.
     Text,
@@ -72,7 +72,7 @@ pub enum Form {
 }
 
 /// How output for people is laid out.
-#[derive(Clone, Copy, Debug, PartialEq, Eq)]
+#[derive(Clone, Copy, PartialEq, Eq)]
 pub enum View {
     /// One fact a line.
     Plain,
@@ -81,7 +81,7 @@ pub enum View {
 }
 
 /// The files of two warriors.
-#[derive(Clone, Copy, Debug, PartialEq, Eq)]
+#[derive(Clone, Copy, PartialEq, Eq)]
 pub struct Fighters<'w> {
     pub older: &'w str,
     pub younger: &'w str,
@@ -90,7 +90,7 @@ pub struct Fighters<'w> {
 }
 
 /// The file of a new hill.
-#[derive(Clone, Copy, Debug, PartialEq, Eq)]
+#[derive(Clone, Copy, PartialEq, Eq)]
 pub struct Creation<'w> {
     /// Created if missing.
     pub hill: &'w str,
@@ -99,7 +99,7 @@ pub struct Creation<'w> {
 }
 
 /// The files of a hill and of a source for it.
-#[derive(Clone, Copy, Debug, PartialEq, Eq)]
+#[derive(Clone, Copy, PartialEq, Eq)]
 pub struct Submission<'w> {
     pub hill: &'w str,
     pub source: &'w str,
@@ -108,35 +108,35 @@ pub struct Submission<'w> {
 }
 
 /// The file of a hill, and what is written of it.
-#[derive(Clone, Copy, Debug, PartialEq, Eq)]
+#[derive(Clone, Copy, PartialEq, Eq)]
 pub struct Shown<'w> {
     pub hill: &'w str,
-    /// Whether the rounds that each won against each are written too.
+    /// Whether the table of matches is written too: the rounds that each warrior won against each other one.
     pub matches: bool,
     /// The layout that is asked for, if one is.
     pub view: Option<View>,
 }
 
 /// The file of a hill, and how it is served.
-#[derive(Clone, Copy, Debug, PartialEq, Eq)]
+#[derive(Clone, Copy, PartialEq, Eq)]
 pub struct Service<'w> {
     pub hill: &'w str,
     /// 0 to 65,535; with 0 the system finds one.
     pub port: u16,
-    /// Peers that are served at once at most; with 1 it is one connection after the other.
+    /// Most peers that are served at once; with 1 it is one connection after the other.
     pub peers: u32,
-    /// The address that the port is one of.
+    /// The address to listen at.
     pub listen: IpAddr,
-    /// Connections that are served before the service ends; without a number it goes on.
+    /// Connections to serve before the service ends; `None` for no limit.
     pub connections: Option<u32>,
-    /// The port for browsers, 0 to 65,535; with 0 the system finds one, and without a number there is none.
+    /// The port for browsers, 0 to 65,535; with 0 the system finds one. `None` for no pages.
     pub http: Option<u32>,
     /// Whether no line is written for a connection.
     pub quiet: bool,
 }
 
-/// The files of a hill of the old layout, and of the one that it moves to.
-#[derive(Clone, Copy, Debug, PartialEq, Eq)]
+/// The file of a hill of the old format, and the file that it moves to.
+#[derive(Clone, Copy, PartialEq, Eq)]
 pub struct Migration<'w> {
     /// Stays as it is.
     pub old: &'w str,
@@ -145,7 +145,7 @@ pub struct Migration<'w> {
 }
 
 /// The files of two warriors, and which round of their match is shown.
-#[derive(Clone, Copy, Debug, PartialEq, Eq)]
+#[derive(Clone, Copy, PartialEq, Eq)]
 pub struct Watched<'w> {
     pub older: &'w str,
     pub younger: &'w str,
@@ -153,14 +153,14 @@ pub struct Watched<'w> {
     pub round: u32,
 }
 
-/// Why the words ask for nothing that is done.
-#[derive(Debug, Drop)]
+/// Why a command line gives no request.
+#[derive(Drop)]
 pub enum NoRequest {
-    /// They ask for help or for the version, which is this text.
+    /// It asks for help or for the version, which is this text.
     Help(String),
-    /// They are wrong, as this text says.
+    /// It is wrong, as this text says.
     WordFault(String),
-    /// A growth of memory was refused.
+    /// Out of memory.
     Memory,
 }
 
@@ -180,11 +180,11 @@ const NO_ADDRESS: &str =
 For more information, try '--help'.
 ";
 
-/// What the words ask for. The first word is the program's name.
+/// What a command line asks for. The first of `words` is the program's name.
 ///
-/// Words that are taken (`AreTaken`) give the request of the command that they name: words that `koth_app` takes, by `clap`'s own definition,
-/// that ask for one layout at most, for no form but `text` and `json`, and to listen at nothing but an address. Others, and those that ask for
-/// help or for the version, give none, but a text. `NoRequest::Memory` may come in place of any of these, where a growth was refused.
+/// Words that are taken (`AreTaken`) give the request of their command: words that `koth_app` takes by `clap`'s own definition, with at most one
+/// of `--plain` and `--table`, with no format but `text` and `json`, and with an address if one to listen at is given. All others give a text,
+/// as do those that ask for help or for the version. Without memory for any of these the answer is `NoRequest::Memory`.
 pub fn parse(heap: Global, words: &[String]) -> Result<Request<'_>, NoRequest>
     ensures request { IfOk result (λ request.
         AsksBy (subcommand_of koth_app (map (λ w. string_bytes w) words.entry.now)) request) }
@@ -218,42 +218,39 @@ fn request_of<'w>(heap: Global, matches: &ArgMatches<'w>) -> Result<Request<'w>,
     if !has_known_form(given) {
         return Err(word_fault(heap, UNKNOWN_FORM));
     }
-    let Some(listen) = address_given(given) else {
+    if !has_address(given) {
         return Err(word_fault(heap, NO_ADDRESS));
-    };
-    match asked(heap, name, given, listen) {
+    }
+    match asked(heap, name, given) {
         Ok(request) => Ok(request),
         Err(AllocError) => Err(NoRequest::Memory),
     }
 }
 
-/// The request of the command of this name, with the address that a service listens at.
-fn asked<'w>(
-    heap: Global,
-    name: &str,
-    given: &ArgMatches<'w>,
-    listen: IpAddr,
-) -> Result<Request<'w>, AllocError>
+/// The request of the command of this name.
+fn asked<'w>(heap: Global, name: &str, given: &ArgMatches<'w>) -> Result<Request<'w>, AllocError>
     requires name { IsCommandName name.now }
-    requires listen { IsAddress (first_of (codes "listen") (rows_of (found_of given.now))) listen }
+    requires listen { HasAddress (rows_of (found_of given.now)) }
     ensures { IfOk result (Asks (name.now, rows_of (found_of given.now))) }
 {
     let settings = settings_given(given);
-    let request = match name {
-        "asm" => Request::Asm(settings, source_named(given)),
-        "check" => Request::Check(settings, checked_named(heap, given)?),
-        "fight" => Request::Fight(settings, fighters_named(given)),
-        "create" => Request::Create(settings, creation_named(given)),
-        "submit" => Request::Submit(submission_named(given)),
-        "show" => Request::Show(shown_named(given)),
-        "serve" => Request::Serve(service_named(given, listen)),
-        "audit" => Request::Audit(file_named(given, "FILE")),
-        "migrate" => Request::Migrate(migration_named(given)),
-        "page" => Request::Page(file_named(given, "FILE")),
-        "replay" => Request::Replay(settings, watched_named(given)),
+    match name {
+        "asm" => Ok(Request::Asm(settings, source_named(given))),
+        "check" => match checked_named(heap, given) {
+            Ok(checked) => Ok(Request::Check(settings, checked)),
+            Err(error) => Err(error),
+        },
+        "fight" => Ok(Request::Fight(settings, fighters_named(given))),
+        "create" => Ok(Request::Create(settings, creation_named(given))),
+        "submit" => Ok(Request::Submit(submission_named(given))),
+        "show" => Ok(Request::Show(shown_named(given))),
+        "serve" => Ok(Request::Serve(service_named(given))),
+        "audit" => Ok(Request::Audit(file_named(given, "FILE"))),
+        "migrate" => Ok(Request::Migrate(migration_named(given))),
+        "page" => Ok(Request::Page(file_named(given, "FILE"))),
+        "replay" => Ok(Request::Replay(settings, watched_named(given))),
         _ => unreachable!(),
-    };
-    Ok(request)
+    }
 }
 
 fn word_fault(heap: Global, text: &str) -> NoRequest

@@ -1,5 +1,5 @@
-//! Each warrior of this repository, assembled, and a full hill of them to which one more is submitted. What this is to print,
-//! the file `stdout`, comes from pMARS alone, by `bench/warriors`: the load texts from its listings, the points from its
+//! Each warrior of this repository, assembled, and a full hill of them to which one more is submitted. The file `stdout`, which
+//! this has to print, comes from pMARS alone, by `bench/warriors`: the load texts from its listings, the points from its
 //! matches at the same positions.
 #![tactic(auto)]
 
@@ -9,7 +9,7 @@ use sector_disk::MemoryDevice;
 use std::{fs, io};
 use war_types::{RawSettings, Settings};
 
-/// The warriors' files, which lie in the folder that the program is run in.
+/// The warriors' files, in the folder that the program is run in.
 const FILES: [&str; 6] = [
     "imp.red",
     "dwarf.red",
@@ -19,7 +19,7 @@ const FILES: [&str; 6] = [
     "ring.red",
 ];
 
-/// The warriors are submitted one after another and again from the first on, until the hill is full and one more has come.
+/// The warriors are submitted in turn, over and over, until the hill is full and one more has come.
 const SUBMISSIONS: usize = 21;
 
 /// The defaults, but for few rounds, which end sooner.

@@ -1,4 +1,4 @@
--- What a read gives goes behind what came before.
+-- What a read gives follows what came before.
 use Rattle.std.proofs.Common.{◌-◌, rules, length, sym, subst}
 use Rattle.std.specs.Io.KnownBytes.{Consumes}
 use Rattle.std.proofs.KnownBytes.{Consumes-trans}

@@ -1,4 +1,4 @@
--- Whole, or as far as the errors took it.
+-- Whole, or as far as standard error took it.
 use Rattle.std.proofs.Common.{refl}
 use Rattle.koth_commands.proofs.Told.{in_part}
 use Rattle.koth_commands.proofs.telling.tell_text.Goals as goal

@@ -1,4 +1,4 @@
--- The second text goes behind the first.
+-- The second text follows the first.
 use Rattle.std.proofs.Common.{refl}
 use Rattle.koth_commands.proofs.Told.{both_err, first_err}
 use Rattle.koth_commands.proofs.telling.write_both.Goals as goal

@@ -1,4 +1,4 @@
--- What stands behind the word goes behind it.
+-- The text follows the word.
 use Rattle.std.proofs.Common.{ap, ◌++◌}
 use Rattle.koth_commands.proofs.Told.{both_err, first_err}
 use Rattle.koth_commands.proofs.telling.write_told.Goals as goal

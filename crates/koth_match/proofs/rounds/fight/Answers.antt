@@ -13,7 +13,7 @@ count-requires g c =
 pub loop-round-preserved : goal.loop-round-preserved
 loop-round-preserved g c = rw add-one (record {
   counts = one_more _ _ _ _ _ c.loop-round.invariant.counts _ _ _ _ _ _ c.count.ensures c.play_round.ensures.outcome
-      (c.loop-round.invariant.settings ∙ c.requires.settings) c.position-place.ensures.value c.loop-round.invariant.seed c.first_in.ensures;
+      (c.loop-round.invariant.settings ∙ c.requires.settings) c.position-position.ensures.value c.loop-round.invariant.seed c.first_in.ensures;
   seed = seed_of_round-next c.args.settings.now c.loop-round.round _ _ c.next_seed-seed.ensures.value c.loop-round.invariant.seed;
   in_range = c.next_seed-seed.ensures.seed;
   settings = c.play_round.ensures.settings ∙ c.loop-round.invariant.settings;

@@ -1,4 +1,4 @@
--- The events of one cell more; none of those before it may have changed, and in the end none of those behind.
+-- The events of one cell more: no cell before it can have changed since the last one, and in the end no cell after it.
 use Rattle.std.proofs.Common.{ℕ, ◌<◌, ◌++◌, ◌∙◌, List, length, slice_index, sym, ap, arith}
 use Rattle.koth_replay.specs.declared.event.Event.{Event}
 use Rattle.koth_replay.proofs.Untold.{change_told, held_there, none_before, none_behind, now-found}

@@ -4,7 +4,8 @@ use Rattle.war_types.specs.declared.settings.RawSettings.{RawSettings}
 use Rattle.mars_core.specs.Round.{Round, is_over, after_turn, after_turns}
 use Rattle.koth_replay.specs.Turn.{turn_events}
 use Rattle.koth_replay.proofs.Drawing.{side-next}
-use Rattle.koth_replay.proofs.Endings.{after_turn-settings, after_turn-used, stays-over}
+use Rattle.koth_match.proofs.Kept.{after_turn-settings}
+use Rattle.koth_replay.proofs.Endings.{after_turn-used, stays-over}
 use Rattle.koth_replay.proofs.Histories.{no-turns, no-turns-yet, one_more, turns-more}
 use Rattle.koth_replay.proofs.turns.kept_turns.Goals as goal
 

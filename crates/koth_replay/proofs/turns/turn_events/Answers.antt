@@ -3,7 +3,8 @@ use Rattle.std.proofs.Common.{◌∙◌, refl, sym, ap, subst}
 use Rattle.war_types.specs.declared.settings.RawSettings.{RawSettings}
 use Rattle.mars_core.specs.Round.{Round, after_turn}
 use Rattle.mars_core.specs.Touched.{AreSameBut}
-use Rattle.koth_replay.proofs.Endings.{after_turn-settings, stays-over}
+use Rattle.koth_match.proofs.Kept.{after_turn-settings}
+use Rattle.koth_replay.proofs.Endings.{stays-over}
 use Rattle.koth_replay.proofs.Histories.{turn_told}
 use Rattle.koth_replay.proofs.turns.turn_events.Goals as goal
 

@@ -1,9 +1,9 @@
--- Two files, the layouts, and then the settings.
-use Rattle.koth_words.proofs.Build.{added}
+-- One argument after the other.
 use Rattle.koth_words.proofs.commands.fight_command.Goals as goal
 
 pub returns : goal.returns
 returns c =
-    let file = added c.in_ok-arg.ensures c.described.ensures c.file.ensures.rule c.file.ensures.global in
-    let file_2 = added c.in_ok-command.ensures file c.file-2.ensures.rule c.file-2.ensures.global in
-    c.with_settings.ensures _ (c.in_ok-with_view.ensures _ file_2)
+    let first = c.with_arg-command.ensures _ _ c.described.ensures c.file-a.ensures.rule c.file-a.ensures.global in
+    let second = c.with_arg.ensures _ _ first c.file-b.ensures.rule c.file-b.ensures.global in
+    let third = c.with_view.ensures _ second in
+    c.with_settings.ensures _ third

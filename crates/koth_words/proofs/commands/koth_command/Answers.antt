@@ -5,14 +5,14 @@ use Rattle.koth_words.proofs.commands.koth_command.Goals as goal
 pub returns : goal.returns
 unfolding koth_app
 returns c =
-    let asm = c.in_ok-command.ensures _ _ c.program.ensures c.asm_command.ensures in
-    let check = c.in_ok-command-2.ensures _ _ asm c.check_command.ensures in
-    let fight = c.in_ok-command-3.ensures _ _ check c.fight_command.ensures in
-    let create = c.in_ok-command-4.ensures _ _ fight c.create_command.ensures in
-    let submit = c.in_ok-command-5.ensures _ _ create c.submit_command.ensures in
-    let show = c.in_ok-command-6.ensures _ _ submit c.show_command.ensures in
-    let serve = c.in_ok-command-7.ensures _ _ show c.serve_command.ensures in
-    let audit = c.in_ok-command-8.ensures _ _ serve c.audit_command.ensures in
-    let migrate = c.in_ok-command-9.ensures _ _ audit c.migrate_command.ensures in
-    let page = c.in_ok-command-10.ensures _ _ migrate c.page_command.ensures in
-    c.with_command-11.ensures _ _ page c.replay_command.ensures
+    let asm = c.with_command-command.ensures _ _ c.program.ensures c.asm_command.ensures in
+    let check = c.with_command-command-2.ensures _ _ asm c.check_command.ensures in
+    let fight = c.with_command-command-3.ensures _ _ check c.fight_command.ensures in
+    let create = c.with_command-command-4.ensures _ _ fight c.create_command.ensures in
+    let submit = c.with_command-command-5.ensures _ _ create c.submit_command.ensures in
+    let show = c.with_command-command-6.ensures _ _ submit c.show_command.ensures in
+    let serve = c.with_command-command-7.ensures _ _ show c.serve_command.ensures in
+    let audit = c.with_command-command-8.ensures _ _ serve c.audit_command.ensures in
+    let migrate = c.with_command-command-9.ensures _ _ audit c.migrate_command.ensures in
+    let page = c.with_command-command-10.ensures _ _ migrate c.page_command.ensures in
+    c.with_command.ensures _ _ page c.replay_command.ensures

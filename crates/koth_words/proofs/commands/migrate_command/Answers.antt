@@ -1,9 +1,7 @@
--- Two files.
-use Rattle.std.proofs.lemmas.Result.{IfOk-weaker}
-use Rattle.koth_words.proofs.Build.{added}
+-- One argument after the other.
 use Rattle.koth_words.proofs.commands.migrate_command.Goals as goal
 
 pub returns : goal.returns
 returns c =
-    let file = added c.in_ok-arg.ensures c.described.ensures c.file.ensures.rule c.file.ensures.global in
-    IfOk-weaker c.arg-2.result _ _ (λ r adds. added adds file c.file-2.ensures.rule c.file-2.ensures.global) c.arg-2.ensures
+    let first = c.with_arg.ensures _ _ c.described.ensures c.file-old.ensures.rule c.file-old.ensures.global in
+    c.with_arg-2.ensures _ _ first c.file-new.ensures.rule c.file-new.ensures.global

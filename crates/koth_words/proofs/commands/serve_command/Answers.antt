@@ -1,14 +1,12 @@
--- A file, five options, and a flag.
-use Rattle.std.proofs.lemmas.Result.{IfOk-weaker}
-use Rattle.koth_words.proofs.Build.{added}
+-- One argument after the other.
 use Rattle.koth_words.proofs.commands.serve_command.Goals as goal
 
 pub returns : goal.returns
 returns c =
-    let file = added c.in_ok-arg.ensures c.described.ensures c.file.ensures.rule c.file.ensures.global in
-    let port = added c.in_ok-arg-2.ensures file c.port.ensures.rule c.port.ensures.global in
-    let peers = added c.in_ok-arg-3.ensures port c.ranged.ensures.rule c.ranged.ensures.global in
-    let address = added c.in_ok-arg-4.ensures peers c.address.ensures.rule c.address.ensures.global in
-    let option = added c.in_ok-arg-5.ensures address c.option.ensures.rule c.option.ensures.global in
-    let http = added c.in_ok-arg-6.ensures option c.ranged-2.ensures.rule c.ranged-2.ensures.global in
-    IfOk-weaker c.arg-7.result _ _ (λ r adds. added adds http c.flag.ensures.rule c.flag.ensures.global) c.arg-7.ensures
+    let first = c.with_arg-command.ensures _ _ c.described.ensures c.file-hill.ensures.rule c.file-hill.ensures.global in
+    let second = c.with_arg-command-2.ensures _ _ first c.port.ensures.rule c.port.ensures.global in
+    let third = c.with_arg-command-3.ensures _ _ second c.ranged.ensures.rule c.ranged.ensures.global in
+    let fourth = c.with_arg-command-4.ensures _ _ third c.text.ensures.rule c.text.ensures.global in
+    let fifth = c.with_arg-command-5.ensures _ _ fourth c.option.ensures.rule c.option.ensures.global in
+    let sixth = c.with_arg-command-6.ensures _ _ fifth c.ranged-2.ensures.rule c.ranged-2.ensures.global in
+    c.with_arg.ensures _ _ sixth c.flag-quiet.ensures.rule c.flag-quiet.ensures.global

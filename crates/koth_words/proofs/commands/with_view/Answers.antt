@@ -1,9 +1,7 @@
--- Two flags.
-use Rattle.std.proofs.lemmas.Result.{IfOk-weaker}
-use Rattle.koth_words.proofs.Build.{added}
+-- One argument after the other.
 use Rattle.koth_words.proofs.commands.with_view.Goals as goal
 
 pub returns : goal.returns
 returns c app is =
-    let flag = added c.in_ok-arg.ensures is c.flag.ensures.rule c.flag.ensures.global in
-    IfOk-weaker c.arg-2.result _ _ (λ r adds. added adds flag c.flag-2.ensures.rule c.flag-2.ensures.global) c.arg-2.ensures
+    let first = c.with_arg.ensures _ _ is c.flag-plain.ensures.rule c.flag-plain.ensures.global in
+    c.with_arg-2.ensures _ _ first c.flag-table.ensures.rule c.flag-table.ensures.global

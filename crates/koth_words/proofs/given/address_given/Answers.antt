@@ -5,7 +5,13 @@ use Rattle.koth_words.proofs.Addresses.{reads_address}
 use Rattle.koth_words.proofs.Texts.{file_text}
 use Rattle.koth_words.proofs.given.address_given.Goals as goal
 
+pub unwrap-requires : goal.unwrap-requires
+unwrap-requires c =
+    let text = file_text c.text_given.result _ c.unwrap_or-text.result _ c.unwrap_or-text.ensures refl c.text_given.ensures in
+    reads_address _ c.parse.result c.requires (subst (λ t. Parses IsIpText t c.parse.result) text c.parse.ensures.value)
+
 pub returns : goal.returns
 returns c =
-    let text = file_text c.text_given.result _ c.unwrap_or.result _ c.unwrap_or.ensures refl c.text_given.ensures in
-    reads_address _ c.parse.result c.ok.result (subst (λ t. Parses IsIpText t c.parse.result) text c.parse.ensures.value) c.ok.ensures.value
+    let text = file_text c.text_given.result _ c.unwrap_or-text.result _ c.unwrap_or-text.ensures refl c.text_given.ensures in
+    let parsed = subst (λ t. Parses IsIpText t c.parse.result) text c.parse.ensures.value in
+    rw c.unwrap.ensures at parsed

@@ -1,11 +1,9 @@
--- The options stand one behind the other.
-use Rattle.std.proofs.lemmas.Result.{IfOk-weaker}
-use Rattle.koth_words.proofs.Build.{added}
+-- One argument after the other.
 use Rattle.koth_words.proofs.options.with_sizes.Goals as goal
 
 pub returns : goal.returns
 returns c app is =
-    let lettered = added c.in_ok-arg.ensures is c.lettered.ensures.rule c.lettered.ensures.global in
-    let lettered_2 = added c.in_ok-arg-2.ensures lettered c.lettered-2.ensures.rule c.lettered-2.ensures.global in
-    let lettered_3 = added c.in_ok-arg-3.ensures lettered_2 c.lettered-3.ensures.rule c.lettered-3.ensures.global in
-    IfOk-weaker c.arg-4.result _ _ (λ r adds. added adds lettered_3 c.lettered-4.ensures.rule c.lettered-4.ensures.global) c.arg-4.ensures
+    let first = c.with_arg-command.ensures _ _ is c.lettered.ensures.rule c.lettered.ensures.global in
+    let second = c.with_arg-command-2.ensures _ _ first c.lettered-2.ensures.rule c.lettered-2.ensures.global in
+    let third = c.with_arg-command-3.ensures _ _ second c.lettered-3.ensures.rule c.lettered-3.ensures.global in
+    c.with_arg.ensures _ _ third c.lettered-4.ensures.rule c.lettered-4.ensures.global
