@@ -110,7 +110,7 @@ next_is met.Quit bytes (Exchange.Submission source mark) is same = absurd (cc)
 next_is met.Quit bytes Exchange.Table is same = absurd (cc)
 next_is met.Quit bytes Exchange.BadLine is same = absurd (cc)
 
--- what is behind the command that was met
+-- what comes after the command that was met
 behind_met : (m : Met) (bytes : List ℕ) (others : List Command) → is_met m ≡ true
     → (behind : List Command) × (commands_met m bytes others ≡ command_due m (kept_source bytes) ∷ behind)
 behind_met met.Nothing bytes others is = absurd (true≢false (sym is))
@@ -146,7 +146,7 @@ module _ {D A : Type 0} (facts : DeviceFacts D) where
     end = stands;
   }
 
-  -- the commands of what came, where one is due
+  -- the commands of what came, if one is due
   those_came : (inbox : Inbox A) (came : List ℕ) (done : List Command) → IsReadTo inbox came done
       → (others : List Command) × (commands_of came ≡ done ++ commands_met inbox.due inbox.script.source others)
   those_came inbox came done r =

@@ -1,4 +1,4 @@
-//! A run of the program, from its words to its status.
+//! A run of the program, from its arguments to its status.
 
 ghost use Rattle.std.specs.Prelude.{◌≡◌, None, map, string_bytes};
 ghost use Rattle.koth_server.specs.Run.{viewed, EndsRequest, EndsRun, EndsWithout, Leaves};
@@ -23,11 +23,11 @@ use std::io::{Read, Write};
 use std::net::Net;
 use std::rt::{Clock, Files};
 
-/// Does what the words ask for, and says which status to leave with: 0 where it is done, 1 where it is refused, 2
-/// for a fault of the words, 3 where a stream or a file fails, 4 for want of memory. The first word is the program's name.
-/// The words are parsed on `heap`, and all other memory comes from `alloc`. Where the words don't say how tables are laid out, it is in this
-/// view: columns for a terminal, and else lines for programs.
-pub fn run<R, A, I, O, E>(
+/// Does what the arguments ask for, and returns the exit status: 0 if it is done, 1 if it is refused, 2 for a fault of the
+/// arguments, 3 if a stream or a file fails, 4 if memory runs out. The first of `words` is the program's name. They are parsed on `heap`,
+/// and all other memory comes from `alloc`. If the arguments don't say how tables are laid out, they are in `view`: columns for a terminal,
+/// and else lines for programs.
+pub fn run<R: Files + Net + Clock, A: Allocator + Copy, I: Read, O: Write, E: Write>(
     rt: &R,
     heap: Global,
     alloc: A,
@@ -38,12 +38,7 @@ pub fn run<R, A, I, O, E>(
     errors: &mut E,
 ) -> u8
 where
-    R: Files + Net + Clock,
     R::File: TryLock,
-    A: Allocator + Copy,
-    I: Read,
-    O: Write,
-    E: Write,
     ensures ends { Leaves result (λ status. EndsRun view (map (λ w. string_bytes w) words.now) status
         (streams (I.remaining input.old) (O.contents output.old) (E.contents errors.old))
         (streams (I.remaining input.new) (O.contents output.new) (E.contents errors.new))) }
@@ -51,7 +46,7 @@ where
     carry_out(rt, heap, alloc, words, view, input, output, errors).code()
 }
 
-fn carry_out<R, A, I, O, E>(
+fn carry_out<R: Files + Net + Clock, A: Allocator + Copy, I: Read, O: Write, E: Write>(
     rt: &R,
     heap: Global,
     alloc: A,
@@ -62,73 +57,63 @@ fn carry_out<R, A, I, O, E>(
     errors: &mut E,
 ) -> Status
 where
-    R: Files + Net + Clock,
     R::File: TryLock,
-    A: Allocator + Copy,
-    I: Read,
-    O: Write,
-    E: Write,
     ensures ends { EndsRun view (map (λ w. string_bytes w) words.now) result
         (streams (I.remaining input.old) (O.contents output.old) (E.contents errors.old))
         (streams (I.remaining input.new) (O.contents output.new) (E.contents errors.new)) }
 {
     match parse(heap, words) {
-        Ok(request) => fulfil(rt, alloc, request, view, input, output, errors),
+        Ok(request) => fulfil(rt, alloc, &request, view, input, output, errors),
         Err(none) => answer_without(alloc, none, output, errors),
     }
 }
 
 /// Carries out a request.
-fn fulfil<R, A, I, O, E>(
+fn fulfil<R: Files + Net + Clock, A: Allocator + Copy, I: Read, O: Write, E: Write>(
     rt: &R,
     alloc: A,
-    request: Request<'_>,
+    request: &Request<'_>,
     view: View,
     input: &mut I,
     output: &mut O,
     errors: &mut E,
 ) -> Status
 where
-    R: Files + Net + Clock,
     R::File: TryLock,
-    A: Allocator + Copy,
-    I: Read,
-    O: Write,
-    E: Write,
-    ensures { EndsRequest view request.entry result
+    ensures { EndsRequest view request.now result
         (streams (I.remaining input.old) (O.contents output.old) (E.contents errors.old))
         (streams (I.remaining input.new) (O.contents output.new) (E.contents errors.new)) }
 {
     match request {
-        Request::Asm(given, source) => asm(rt, alloc, given, source, input, output, errors),
-        Request::Check(given, checked) => check(rt, alloc, given, &checked, output, errors),
+        Request::Asm(given, source) => asm(rt, alloc, *given, *source, input, output, errors),
+        Request::Check(given, checked) => check(rt, alloc, *given, checked, output, errors),
         Request::Fight(given, files) => fight(
             rt,
             alloc,
-            given,
-            files,
+            *given,
+            *files,
             viewed(files.view, view),
             output,
             errors,
         ),
-        Request::Create(given, creation) => create(rt, alloc, given, creation, output, errors),
+        Request::Create(given, creation) => create(rt, alloc, *given, *creation, output, errors),
         Request::Submit(files) => submit(
             rt,
             alloc,
-            files,
+            *files,
             viewed(files.view, view),
             output,
             errors,
         ),
-        Request::Show(shown) => show(rt, alloc, shown, viewed(shown.view, view), output, errors),
+        Request::Show(shown) => show(rt, alloc, *shown, viewed(shown.view, view), output, errors),
         Request::Audit(file) => audit(rt, alloc, file, output, errors),
-        Request::Migrate(files) => migrate(rt, alloc, files, output, errors),
+        Request::Migrate(files) => migrate(rt, alloc, *files, output, errors),
         Request::Page(file) => page(rt, alloc, file, output, errors),
-        Request::Serve(service) => serve(rt, alloc, service, output, errors),
+        Request::Serve(service) => serve(rt, alloc, *service, output, errors),
         Request::Replay(given, watched) => replay(
             rt,
             alloc,
-            given,
+            *given,
             watched.older,
             watched.younger,
             watched.round,
@@ -138,7 +123,7 @@ where
     }
 }
 
-/// Tells why the words ask for nothing that is done: help on the output, a fault on the errors.
+/// Writes why the arguments ask for no command: help on the output, a fault on standard error.
 fn answer_without<A: Allocator, O: Write, E: Write>(
     alloc: A,
     none: NoRequest,
@@ -162,7 +147,7 @@ fn answer_without<A: Allocator, O: Write, E: Write>(
     }
 }
 
-/// The view that the words ask for, and else this one.
+/// The view that the arguments ask for, and else the usual one.
 fn viewed(asked: Option<View>, usual: View) -> View
     ensures { result ≡ viewed asked usual }
 {

@@ -1,6 +1,6 @@
 //! The command `serve`: sessions of many peers over sockets on the hill in a file.
 
-ghost use Rattle.std.specs.Prelude.{◌≡◌, ◌≢◌, None, false, IfOk, MatchResult};
+ghost use Rattle.std.specs.Prelude.{◌≡◌, ◌≢◌, ℕ, List, Option, None, false, MatchResult};
 ghost use Rattle.koth_server.specs.Hills.{listening_line, Announces, AnnouncesPart, EndsServe};
 ghost use Rattle.koth_commands.specs.Streams.{streams};
 ghost use Rattle.koth_server.specs.Pages.{IsShown};
@@ -23,10 +23,10 @@ use std::io::{ErrorKind, Write};
 use std::net::{Net, SocketAddr};
 use std::rt::{Clock, Files};
 
-/// Browsers that are served at once at most.
+/// The most browsers that are served at once.
 const BROWSERS: usize = 16;
 
-/// The hill in a file, which is opened again where its device failed, and the log of its service.
+/// The hill in a file, which is opened again if its device failed, and the log of its service.
 #[derive(Drop)]
 struct Hosting<'f, R, A> {
     rt: &'f R,
@@ -35,11 +35,9 @@ struct Hosting<'f, R, A> {
     log: Log<'f, R>,
 }
 
-impl<'f, R, A> Host<HillFile<'f, R>, A> for Hosting<'f, R, A>
+impl<'f, R: Files + Clock, A: Allocator + Copy> Host<HillFile<'f, R>, A> for Hosting<'f, R, A>
 where
-    R: Files + Clock,
     R::File: TryLock,
-    A: Allocator + Copy,
 {
     type Fault = HillFault;
 
@@ -65,10 +63,10 @@ where
     }
 }
 
-/// Serves sessions on the hill in a file, of as many peers at once as are asked for, over connections to an address and a port, and ends after
-/// as many as are asked for, if a number is. The line `LISTENING port` tells that peers may connect, and to which port if the system
-/// chooses it. What happens is told on the errors, unless it is to be quiet, and so is where browsers see the hill, if they are to.
-pub(crate) fn serve<'f, R, A, O, E>(
+/// Serves sessions on the hill in a file over connections to an address and a port, `peers` at once at most, and ends after `connections`
+/// sessions if that is given. The line `LISTENING port` says that peers may connect, and to which port if the system chooses it. What happens
+/// is written on standard error, unless the service is quiet, and so is where browsers see the hill, if they may.
+pub(crate) fn serve<'f, R: Files + Net + Clock, A: Allocator + Copy, O: Write, E: Write>(
     rt: &'f R,
     alloc: A,
     service: Service<'f>,
@@ -76,14 +74,55 @@ pub(crate) fn serve<'f, R, A, O, E>(
     errors: &mut E,
 ) -> Status
 where
-    R: Files + Net + Clock,
     R::File: TryLock,
-    A: Allocator + Copy,
-    O: Write,
-    E: Write,
     ensures ends { EndsServe result
         (streams None (O.contents output.old) (E.contents errors.old))
         (streams None (O.contents output.new) (E.contents errors.new)) }
+    ensures words { result ≢ Status.WordFault }
+{
+    match open_hill(rt, alloc, service.hill, Sharing::Alone) {
+        Ok(store) => serve_hill(rt, alloc, service, store, output, errors),
+        Err(trouble) => trouble.tell(alloc, errors),
+    }
+}
+
+/// Serves sessions on a hill that was just opened, once the line of the port is written.
+fn serve_hill<'f, R: Files + Net + Clock, A: Allocator + Copy, O: Write, E: Write>(
+    rt: &'f R,
+    alloc: A,
+    service: Service<'f>,
+    store: HillStore<'f, R, A>,
+    output: &mut O,
+    errors: &mut E,
+) -> Status
+where
+    R::File: TryLock,
+    requires { store.reopen ≡ false }
+    ensures ends { EndsServe result
+        (streams None (O.contents output.old) (E.contents errors.old))
+        (streams None (O.contents output.new) (E.contents errors.new)) }
+    ensures words { result ≢ Status.WordFault }
+{
+    match announced(rt, alloc, service, output) {
+        Ok(mut sockets) => serve_sockets(rt, alloc, service, store, &mut sockets, errors),
+        Err(trouble) => trouble.tell(alloc, errors),
+    }
+}
+
+/// Serves sessions on a hill over sockets whose line is written.
+fn serve_sockets<'f, R: Files + Net + Clock, A: Allocator + Copy, E: Write>(
+    rt: &'f R,
+    alloc: A,
+    service: Service<'f>,
+    store: HillStore<'f, R, A>,
+    sockets: &mut PolledSockets<'f, R, A>,
+    errors: &mut E,
+) -> Status
+where
+    R::File: TryLock,
+    requires { store.reopen ≡ false }
+    ensures ends { (o : Option (List ℕ)) (p : Option (List ℕ)) → Announces o p
+        → EndsServe result (streams None o (E.contents errors.old)) (streams None p (E.contents errors.new)) }
     ensures words { result ≢ Status.WordFault }
 {
     let host = Hosting {
@@ -92,14 +131,10 @@ where
         path: service.hill,
         log: Log::new(rt, service.quiet),
     };
-    let (store, mut sockets) = match begin(&host, service, output) {
-        Ok(begun) => begun,
-        Err(trouble) => return trouble.tell(alloc, errors),
-    };
     host.log.tell_pages(alloc, sockets.pages_addr(), errors);
     let served = serve_peers(
         alloc,
-        &mut sockets,
+        sockets,
         service.peers as usize,
         BROWSERS,
         service.connections,
@@ -113,65 +148,37 @@ where
     }
 }
 
-/// Opens the hill and then the port, and writes the line of the port.
-fn begin<'f, R, A, O>(
-    host: &Hosting<'f, R, A>,
-    service: Service<'f>,
-    output: &mut O,
-) -> Result<(HillStore<'f, R, A>, PolledSockets<'f, R, A>), HillTrouble<'f>>
-where
-    R: Files + Net + Clock,
-    R::File: TryLock,
-    A: Allocator + Copy,
-    O: Write,
-    ensures open { IfOk result (λ begun. begun.0.reopen ≡ false) }
-    ensures announced { MatchResult result (λ _. Announces (O.contents output.old) (O.contents output.new))
-        (λ _. AnnouncesPart (O.contents output.old) (O.contents output.new)) }
-{
-    let store = match open_hill(host.rt, host.alloc, host.path, Sharing::Alone) {
-        Ok(store) => store,
-        Err(trouble) => return Err(trouble),
-    };
-    match announced(host.rt, host.alloc, service, output) {
-        Ok(sockets) => Ok((store, sockets)),
-        Err(trouble) => Err(trouble),
-    }
-}
-
 /// Sockets at the address that is asked for, whose line is written.
-fn announced<'r, 't, R, A, O>(
+fn announced<'r, 't, R: Net + Clock, A: Allocator + Copy, O: Write>(
     rt: &'r R,
     alloc: A,
     service: Service<'_>,
     output: &mut O,
 ) -> Result<PolledSockets<'r, R, A>, HillTrouble<'t>>
-where
-    R: Net + Clock,
-    A: Allocator + Copy,
-    O: Write,
     ensures { MatchResult result (λ _. Announces (O.contents output.old) (O.contents output.new))
         (λ _. AnnouncesPart (O.contents output.old) (O.contents output.new)) }
 {
-    match bound(rt, alloc, service) {
-        Ok(sockets) => match announce(sockets.local_addr(), service.port, output) {
+    let address = SocketAddr::new(service.listen, service.port);
+    match PolledSockets::bind(rt, alloc, address, service.peers as usize) {
+        Ok(mut sockets) => match announce(rt, alloc, &mut sockets, service, output) {
             Ok(()) => Ok(sockets),
             Err(trouble) => Err(trouble),
         },
-        Err(trouble) => Err(trouble),
+        Err(error) => Err(port_failed(service.port, &error)),
     }
 }
 
-/// Sockets at the address that is asked for, and of browsers at the same address, if they are asked for.
-fn bound<'r, 't, R: Net + Clock, A: Allocator + Copy>(
+/// Listens to browsers at the address of these sockets, if that is asked for, and writes the line of the sockets.
+fn announce<'r, 't, R: Net + Clock, A: Allocator + Copy, O: Write>(
     rt: &'r R,
     alloc: A,
+    sockets: &mut PolledSockets<'r, R, A>,
     service: Service<'_>,
-) -> Result<PolledSockets<'r, R, A>, HillTrouble<'t>> {
-    let address = SocketAddr::new(service.listen, service.port);
-    let mut sockets = match PolledSockets::bind(rt, alloc, address, service.peers as usize) {
-        Ok(sockets) => sockets,
-        Err(error) => return Err(port_failed(service.port, &error)),
-    };
+    output: &mut O,
+) -> Result<(), HillTrouble<'t>>
+    ensures { MatchResult result (λ _. Announces (O.contents output.old) (O.contents output.new))
+        (λ _. AnnouncesPart (O.contents output.old) (O.contents output.new)) }
+{
     if let Some(port) = service.http {
         let port = u16::try_from(port).unwrap_or(0);
         let address = SocketAddr::new(service.listen, port);
@@ -179,11 +186,11 @@ fn bound<'r, 't, R: Net + Clock, A: Allocator + Copy>(
             return Err(port_failed(port, &error));
         }
     }
-    Ok(sockets)
+    write_line(sockets.local_addr(), service.port, output)
 }
 
 /// Writes the line of sockets at this address.
-fn announce<'t, O: Write>(
+fn write_line<'t, O: Write>(
     address: io::Result<SocketAddr>,
     asked: u16,
     output: &mut O,
@@ -212,29 +219,22 @@ fn port_failed<'t>(port: u16, error: &io::Error) -> HillTrouble<'t> {
     }
 }
 
-/// Why a service has ended.
-fn trouble_of<'f, R, A>(host: &Hosting<'f, R, A>, fault: ServiceFault<HillFault>) -> HillTrouble<'f>
+/// Why a service has ended. A hill that can't be opened again is tried once more for what failed, and why.
+fn trouble_of<'f, R: Files + Clock, A: Allocator + Copy>(
+    host: &Hosting<'f, R, A>,
+    fault: ServiceFault<HillFault>,
+) -> HillTrouble<'f>
 where
-    R: Files + Clock,
     R::File: TryLock,
-    A: Allocator + Copy,
 {
     match fault {
         ServiceFault::Memory => HillTrouble::memory(),
-        ServiceFault::Reopening(fault) => trouble_at(host, fault),
-    }
-}
-
-/// Why the hill can't be opened again: it is tried once more for what failed, and why.
-fn trouble_at<'f, R, A>(host: &Hosting<'f, R, A>, fault: HillFault) -> HillTrouble<'f>
-where
-    R: Files + Clock,
-    R::File: TryLock,
-    A: Allocator + Copy,
-{
-    match open_hill(host.rt, host.alloc, host.path, Sharing::Alone) {
-        Ok(_store) => HillTrouble::of(host.path, fault),
-        Err(trouble) => trouble,
+        ServiceFault::Reopening(fault) => {
+            match open_hill(host.rt, host.alloc, host.path, Sharing::Alone) {
+                Ok(_store) => HillTrouble::of(host.path, fault),
+                Err(trouble) => trouble,
+            }
+        }
     }
 }
 

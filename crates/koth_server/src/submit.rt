@@ -23,9 +23,9 @@ use std::rt::Files;
 use war_types::Settings;
 
 /// Submits the source in a file to the hill in another, and writes the reply. The hill is opened before the source is
-/// read. The reply to a warrior that is placed or falls is written once that is durable. Behind a refusal's line it is told on the errors
-/// where in the source and why.
-pub(crate) fn submit<R, A, O, E>(
+/// read. The reply to a warrior that is placed or falls is written once that is durable. After a refusal's line standard error gets the
+/// place in the source and the reason.
+pub(crate) fn submit<R: Files, A: Allocator + Copy, O: Write, E: Write>(
     rt: &R,
     alloc: A,
     files: Submission<'_>,
@@ -34,43 +34,24 @@ pub(crate) fn submit<R, A, O, E>(
     errors: &mut E,
 ) -> Status
 where
-    R: Files,
     R::File: TryLock,
-    A: Allocator + Copy,
-    O: Write,
-    E: Write,
     ensures ends { EndsSubmit view result
         (streams None (O.contents output.old) (E.contents errors.old))
         (streams None (O.contents output.new) (E.contents errors.new)) }
     ensures words { result ≢ Status.WordFault }
 {
-    let mut store = match open_hill(rt, alloc, files.hill, Sharing::Alone) {
-        Ok(store) => store,
-        Err(trouble) => return trouble.tell(alloc, errors),
-    };
-    let text = match read_source(rt, alloc, files.source) {
-        Ok(text) => text,
-        Err(trouble) => return HillTrouble::from_source(trouble).tell(alloc, errors),
-    };
-    let source = Source {
-        path: files.source,
-        text: text.as_slice(),
-    };
-    submit_opened(alloc, &mut store, source, view, output, errors)
+    match open_hill(rt, alloc, files.hill, Sharing::Alone) {
+        Ok(mut store) => submit_file(rt, alloc, &mut store, files.source, view, output, errors),
+        Err(trouble) => trouble.tell(alloc, errors),
+    }
 }
 
-/// A source, and the path of its file.
-#[derive(Clone, Copy)]
-struct Source<'s> {
-    path: &'s str,
-    text: &'s [u8],
-}
-
-/// Submits a source to a store that was just opened, and then writes the reply.
-fn submit_opened<D: Device, A: Allocator + Copy, O: Write, E: Write>(
+/// Submits the source in a file to a store that was just opened, and then writes the reply.
+fn submit_file<R: Files, D: Device, A: Allocator + Copy, O: Write, E: Write>(
+    rt: &R,
     alloc: A,
     store: &mut Store<D, A>,
-    source: Source<'_>,
+    path: &str,
     view: View,
     output: &mut O,
     errors: &mut E,
@@ -81,10 +62,26 @@ fn submit_opened<D: Device, A: Allocator + Copy, O: Write, E: Write>(
         (streams None (O.contents output.new) (E.contents errors.new)) }
     ensures words { result ≢ Status.WordFault }
 {
-    submit_source(alloc, store, source, view, output, errors)
+    match read_source(rt, alloc, path) {
+        Ok(text) => {
+            let source = Source {
+                path,
+                text: text.as_slice(),
+            };
+            submit_source(alloc, store, source, view, output, errors)
+        }
+        Err(trouble) => HillTrouble::from_source(trouble).tell(alloc, errors),
+    }
 }
 
-/// Submits a source to a store, and then writes the reply: its line, and in the view for people behind it where the warrior stands.
+/// A source, and the path of its file.
+#[derive(Clone, Copy)]
+struct Source<'s> {
+    path: &'s str,
+    text: &'s [u8],
+}
+
+/// Submits a source to a store, and then writes the reply: its line, and in the view for people after it where the warrior stands.
 fn submit_source<D: Device, A: Allocator + Copy, O: Write, E: Write>(
     alloc: A,
     store: &mut Store<D, A>,
@@ -114,7 +111,7 @@ fn submit_source<D: Device, A: Allocator + Copy, O: Write, E: Write>(
     )
 }
 
-/// Writes the line of a reply and this text behind it, and tells on the errors where in the source and why, if it is refused.
+/// Writes the line of a reply and this text after it, and for a refusal the place in the source and the reason on standard error.
 fn answer_reply<A: Allocator + Copy, O: Write, E: Write>(
     alloc: A,
     settings: &Settings,
@@ -137,7 +134,7 @@ fn answer_reply<A: Allocator + Copy, O: Write, E: Write>(
     }
 }
 
-/// Who stands on the hill before a submission, if people are to be told what becomes of it and there is memory for that.
+/// Who stands on the hill before a submission, if people are to read what becomes of it and there is memory for that.
 fn roster_for<A: Allocator + Copy>(alloc: A, view: View, hill: &Hill<A>) -> Option<Vec<Entered, A>>
     ensures plain { view ≡ View.Plain → result ≡ None }
     ensures roster { IfSome result (λ stood. stood.items ≡ roster hill.now) }
@@ -148,7 +145,7 @@ fn roster_for<A: Allocator + Copy>(alloc: A, view: View, hill: &Hill<A>) -> Opti
     }
 }
 
-/// Where a warrior stands behind its submission, if it was asked for and there is memory for that; else nothing.
+/// Where a warrior stands after its submission, if that was asked for and there is memory for it; else nothing.
 fn placing_text<A: Allocator + Copy>(
     alloc: A,
     before: &Option<Vec<Entered, A>>,
@@ -167,7 +164,7 @@ fn placing_text<A: Allocator + Copy>(
     }
 }
 
-/// Tells on the errors where in a source and why, if it is refused.
+/// Writes on standard error the place in a source and the reason, if it is refused.
 fn explain_refusal<A: Allocator + Copy, E: Write>(
     alloc: A,
     settings: &Settings,

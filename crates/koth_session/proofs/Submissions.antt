@@ -1,4 +1,4 @@
--- What a submission makes of a session.
+-- What a submission makes of the store, and of a session.
 use Rattle.std.proofs.Common.{◌≡◌, inl, inr, ℕ, ◌+◌, ◌-◌, ◌^◌, true, false, arith, List, [], ◌∷◌, Option, Some, Result, Ok, Err, OnOk, OnErr, refl, sym, ap, subst, ◌∙◌, true≢false}
 use Rattle.std.specs.Io.KnownBytes.{Appends}
 use Rattle.std.proofs.KnownBytes.{Keeps-refl}
@@ -51,7 +51,7 @@ module _ {D : Type 0} (facts : DeviceFacts D) where
     anew = after_one old.hill new.hill (Exchange.Submission source Mark.Taken) is.hill (λ was. is.kept.hill);
   }
 
-  -- the exchange that a submission is, where the device did not fail
+  -- the exchange that a submission is, if the device did not fail
   abbrev pub IsExchanged : Seen D → Seen D → List ℕ → Reply → Type 0
   IsExchanged old new source reply = (mark : Mark) × (reply_line reply ≡ answer old.hill (Exchange.Submission source mark))
       × AreServed facts old new (Exchange.Submission source mark ∷ [])

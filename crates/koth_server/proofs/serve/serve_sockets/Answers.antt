@@ -1,0 +1,25 @@
+-- A service ends with its log behind its line, or with a fault.
+use Rattle.std.proofs.Common.{◌∙◌, inl, inr, refl, sym}
+use Rattle.koth_commands.proofs.Told.{whole_part, writes_more}
+use Rattle.koth_server.specs.Hills.{listening_line}
+use Rattle.koth_server.proofs.Logged.{is_log}
+use Rattle.koth_server.proofs.Statuses.{never-words}
+use Rattle.koth_server.proofs.serve.serve_sockets.Goals as goal
+
+pub returns-in-Ok-clause-ends : goal.returns-in-Ok-clause-ends
+returns-in-Ok-clause-ends g c = λ o p (port, whole).
+    inl (record { text = listening_line port; answer = (port, refl, refl); written = whole }, writes_more _ _ _ c.tell_pages.ensures (is_log _ _ c.serve_peers-served.ensures.told))
+
+pub returns-clause-ends : goal.returns-clause-ends
+returns-clause-ends g c = λ o p (port, whole). inr record {
+  fault = c.trouble_of.result.fault;
+  ends = c.tell.ensures.status;
+  port = port;
+  output = whole_part _ _ _ (listening_line port) refl whole;
+  logged = g.E.Write.contents c.serve_peers-served.new.errors;
+  log = writes_more _ _ _ c.tell_pages.ensures (is_log _ _ c.serve_peers-served.ensures.told);
+  told = c.tell.ensures.told;
+}
+
+pub returns-clause-words : goal.returns-clause-words
+returns-clause-words g c = λ is. never-words c.trouble_of.result.fault (sym c.tell.ensures.status ∙ is)
