@@ -43,8 +43,8 @@ may_come None false room = room
 abbrev pub may_come_now : {A : Type 0} → Peer A → ℕ
 may_come_now peer = may_come peer.end peer.closed (room_of peer.inbox)
 
--- what a session that stands so made of what came: these commands were carried out and answered, and as long as the session goes on, the
--- next one is due or more bytes may come
+-- What a session that stands so made of what came: these commands were carried out and answered. As long as the session goes on, the next
+-- one is due, or more bytes may come.
 abbrev pub HasRead : {A : Type 0} → Option PeerEnd → Inbox A → Bool → List ℕ → List Command → Type 0
 HasRead None inbox closed came done = IsReadTo inbox came done × (is_met inbox.due ≡ false → (closed ≡ false) × (length came < 16777216))
 HasRead (Some ends.Quit) inbox closed came done = commands_of came ≡ done ++ Command.Quit ∷ []

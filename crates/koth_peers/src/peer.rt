@@ -34,8 +34,8 @@ impl<A: Allocator + Copy> Peer<A> {
     }
 
     /// Carries out the command that is due, on the store, and puts its answer after those that are unsent. It returns how the
-    /// command ended the session, if it did: with `Quit`; with `Unread` if its answer may have no room, or with `Memory` if a
-    /// growth was refused, and the command is not carried out then; with `StoreFailed` if the device failed in it.
+    /// command ended the session, if it did: with `Quit`, or with `StoreFailed` if the device failed in it. With `Unread`, if its
+    /// answer may have no room, and with `Memory`, if a growth was refused, the command was not carried out.
     pub fn serve<D: Device>(&mut self, alloc: A, store: &mut Store<D, A>) -> Option<PeerEnd>
         requires { is_due_now self.old ≡ true }
         ensures { Serves D.facts result self.old store.old self.new store.new }

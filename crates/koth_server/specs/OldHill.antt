@@ -26,8 +26,7 @@ abbrev pub HoldsOldIf : (ℕ → List ℕ) → Bool → Type 0
 HoldsOldIf image true = HoldsOld image
 HoldsOldIf image false = HoldsNoneIn old_layout image
 
--- what is reported of a device without a hill of the new format: whether it holds a hill of the old one, or nothing of that if the device
--- failed when it was read for it
+-- what is reported of a device without a hill of the new format: whether it holds a hill of the old one, unless reading it for that failed
 abbrev pub TellsNoHill : {D : Type 0} → DeviceFacts D → D → D → HillFault → Type 0
 TellsNoHill facts old new OldHill = facts.lawful old → HoldsOld (current (facts.disk old))
 TellsNoHill facts old new NotAHill = Failed facts old new ⊎ (facts.lawful old → HoldsNoneIn old_layout (current (facts.disk old)))

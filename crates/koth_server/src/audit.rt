@@ -19,8 +19,8 @@ use std::io::Write;
 use std::rt::Files;
 
 /// Fights every pair of the hill in a file again, and writes `true` if each result that is kept is its match's, else `false`. Then it writes
-/// on standard error the first pair whose result isn't, by the younger warrior's entry and then the older's: their entries, the result that
-/// is kept, and that of their match, each as the rounds that the older won, that the younger won, and ties.
+/// on standard error the first pair whose result isn't, by the younger warrior's entry and then the older's. It writes their entries, the
+/// result that is kept, and that of their match, each as the rounds that the older won, that the younger won, and ties.
 pub(crate) fn audit<R: Files, A: Allocator + Copy, O: Write, E: Write>(
     rt: &R,
     alloc: A,

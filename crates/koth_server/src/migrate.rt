@@ -19,8 +19,8 @@ use std::rt::Files;
 const GREATEST_CAPACITY: u16 = 20;
 
 /// Moves the hill in a file of the old format to another file, in the new one. Nothing is written to the old file. The new one is made if it
-/// is missing, large enough for any hill, before it is known whether the old one holds a hill, and stays if the hill is not moved. A new file
-/// that holds anything but zeros is refused as `Occupied` and stays as it is.
+/// is missing, large enough for any hill. That is done before it is known whether the old one holds a hill, and the file stays if the hill is
+/// not moved. A new file that holds anything but zeros is refused as `Occupied` and stays as it is.
 pub(crate) fn migrate<R: Files, A: Allocator + Copy, O: Write, E: Write>(
     rt: &R,
     alloc: A,

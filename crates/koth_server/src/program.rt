@@ -23,10 +23,9 @@ use std::io::{Read, Write};
 use std::net::Net;
 use std::rt::{Clock, Files};
 
-/// Does what the arguments ask for, and returns the exit status: 0 if it is done, 1 if it is refused, 2 for a fault of the
-/// arguments, 3 if a stream or a file fails, 4 if memory runs out. The first of `words` is the program's name. They are parsed on `heap`,
-/// and all other memory comes from `alloc`. If the arguments don't say how tables are laid out, they are in `view`: columns for a terminal,
-/// and else lines for programs.
+/// Does what the arguments ask for, and returns the exit status: 0 done, 1 refused, 2 wrong arguments, 3 a stream or a file failed, 4 out of
+/// memory. The first of `words` is the program's name. They are parsed on `heap`, and all other memory comes from `alloc`. If the arguments
+/// don't say how tables are laid out, they are in `view`: columns for a terminal, and else lines for programs.
 pub fn run<R: Files + Net + Clock, A: Allocator + Copy, I: Read, O: Write, E: Write>(
     rt: &R,
     heap: Global,

@@ -18,8 +18,8 @@ use std::alloc::{AllocError, Allocator};
 use std::io::Write;
 use std::rt::Files;
 
-/// Writes the table of the hill in a file, and after it, if that is asked for, who won how many rounds against whom: as a session answers
-/// `SHOW`, or in columns for people. The hill's lock is not taken, so `show` can show a hill while a service works on it.
+/// Writes the table of the hill in a file, as a session answers `SHOW`, or in columns for people. If that is asked for, the matrix of its
+/// matches follows: who won how many rounds against whom. The hill's lock is not taken, so `show` can show a hill while a service works on it.
 pub(crate) fn show<R: Files, A: Allocator + Copy, O: Write, E: Write>(
     rt: &R,
     alloc: A,

@@ -9,8 +9,8 @@ use Rattle.koth_session.specs.Transcript.{Exchange, answer, command_in, hill_aft
 use Rattle.koth_service.specs.Answering.{AnswersBytes}
 use Rattle.koth_service.specs.Noted.{Noted}
 
--- something on the sockets; a command of a peer was carried out, and this is the store then; the device failed in a submission of a peer;
--- the hill was opened again; or a browser was given this answer
+-- Something happened on the sockets. A command of a peer was carried out, and this is the store then. The device failed in a submission of a
+-- peer. The hill was opened again. Or a browser was given this answer.
 pub data Happening (D : Type 0) : Type 0 where
   On : Noted → Happening D
   Answered : ℕ → Exchange → Seen D → Happening D
@@ -169,8 +169,8 @@ moment start (what ∷ older) = next what (moment start older)
 abbrev pub Begins : {T : Type 0} → List T → List T → Type 0
 Begins {T} short long = (rest : List T) × (long ≡ short ++ rest)
 
--- No stop loses what was answered: since the store was opened the hill went on by what was carried out, and each image that a stop may leave
--- of the device has that hill.
+-- No stop loses what was answered: since the store was opened the hill went on by what was carried out. Each image that a stop may leave of
+-- the device has that hill.
 pub record IsSafe {D : Type 0} (facts : DeviceFacts D) (m : Moment D) : Type 0 where
   pub hill : m.now.hill ≡ hill_after m.first.hill m.since
   pub still : m.now.reopen ≡ m.first.reopen
@@ -204,9 +204,8 @@ pub record Replies {D : Type 0} (shows : Shows D) (n : ℕ) (reply : List ℕ) (
   pub first : (m.browsers n).reply ≡ None
   pub as_asked : AnswersBytes (shows m.now) (m.browsers n).came reply
 
--- What may happen then: a number that is free is given to a peer; what goes out to a peer is the next of what it is owed; and commands are
--- carried out in their order. For browsers too: a number that is free is given to a browser, each is given one answer at most, and what
--- goes out to it is the next of that.
+-- What may happen then: a number that is free is given to a peer or to a browser. What goes out to a peer is the next of what it is owed,
+-- and its commands are carried out in their order. Each browser is given one answer at most, and what goes out to it is the next of that.
 abbrev pub Follows : {D : Type 0} → DeviceFacts D → Shows D → Happening D → Moment D → Type 0
 Follows facts shows (Happening.On (Noted.Seated n)) m = (m.sessions n).there ≡ false
 Follows facts shows (Happening.On (Noted.Heard n bytes)) m = ⊤

@@ -26,7 +26,7 @@ pub(crate) fn answer_visit<D: Device, A: Allocator + Copy, H: Host<D, A>>(
 }
 
 /// The answer to what a browser asks: the page that it asks for, of the hill that stands now, or that there is no such page, or no memory
-/// for it; or why it asks for none. `AllocError` comes if there is no memory for the answer.
+/// for it. A request that asks for no page is answered by why it doesn't. `AllocError` comes if there is no memory for the answer.
 fn answer<D: Device, A: Allocator + Copy, H: Host<D, A>>(
     alloc: A,
     store: &Store<D, A>,

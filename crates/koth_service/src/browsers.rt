@@ -1,5 +1,5 @@
-//! What each browser asks, and the answer to it. Whatever the sockets say of a browser, it goes on as `served` says of the whole service:
-//! each function says so of the connections that it moves, however the peers and the other browsers stand.
+//! What each browser asks, and the answer to it. Whatever the sockets say of a browser, it goes on as `served` says of the whole service.
+//! Each function says so of the connections that it moves, however the peers and the other browsers stand.
 
 ghost use Rattle.std.specs.Prelude.{[], None, Some};
 ghost use Rattle.hill_store.specs.Seen.{Seen};
@@ -87,11 +87,12 @@ fn admit<S: Sockets, D: Device, A: Allocator + Copy, H: Host<D, A>>(
 ) -> BrowsersRound
     ensures { (store : Seen D) (host : H) → BrowsersGoOn S.happened D.facts (H.shows host) store sockets.old browsers.old sockets.new browsers.new }
 {
+    let still = BrowsersRound {
+        moved: false,
+        retries: false,
+    };
     let Some(number) = browsers.free() else {
-        return BrowsersRound {
-            moved: false,
-            retries: false,
-        };
+        return still;
     };
     match sockets.admit_browser(number) {
         Arrival::Peer(_) => {
@@ -99,16 +100,13 @@ fn admit<S: Sockets, D: Device, A: Allocator + Copy, H: Host<D, A>>(
             settle(browsers, sockets, number, connection);
             BrowsersRound {
                 moved: true,
-                retries: false,
+                ..still
             }
         }
-        Arrival::Nobody => BrowsersRound {
-            moved: false,
-            retries: false,
-        },
+        Arrival::Nobody => still,
         Arrival::Failed => BrowsersRound {
-            moved: false,
             retries: true,
+            ..still
         },
     }
 }

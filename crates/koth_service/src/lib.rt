@@ -15,7 +15,7 @@
 //! out in between, and of the answers to browsers. In it each peer's commands are carried out in the order in which they came, and each is
 //! answered on the hill that stood then. What goes out to a peer is the next of what it was answered. At each answer every image that a stop
 //! may leave of the device has the hill with all submissions that were answered since it was opened. Each browser is answered at most once,
-//! as the bytes that came from it ask, by what the host shows of the hill that stood then, and what goes out to it is the next of that answer.
+//! as the bytes that came from it ask, by what the host shows of the hill that stood then. What goes out to it is the next of that answer.
 //!
 //! A peer must not wait for another peer's bytes, nor for room for another peer's answers. Each peer takes a seat of some tens of bytes,
 //! beside what its session takes, and no round takes memory of its own.

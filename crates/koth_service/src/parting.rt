@@ -55,14 +55,8 @@ fn part<S: Sockets, D: Device, A: Allocator + Copy, H: Host<D, A>, E: Write>(
             }
         }
         (_, Some(PeerEnd::Unread)) => {
-            let_go(
-                desk,
-                sockets,
-                host,
-                errors,
-                number,
-                HowEnded::By(PeerEnd::Unread),
-            );
+            let how = HowEnded::By(PeerEnd::Unread);
+            let_go(desk, sockets, host, errors, number, how);
         }
         _ => {
             if desk.peers.is_finished(number) {
@@ -76,8 +70,8 @@ fn part<S: Sockets, D: Device, A: Allocator + Copy, H: Host<D, A>, E: Write>(
     }
 }
 
-/// Throws away what still comes from a peer that was shut, of which `count` bytes were thrown away before, and returns whether its bytes are
-/// at their end, or it was waited for long enough.
+/// Throws away what still comes from a peer that was shut; `count` bytes of it were thrown away before. It returns whether the peer's bytes
+/// are at their end, or it was waited for long enough.
 fn has_drained<S: Sockets, D: Device, A: Allocator + Copy>(
     desk: &mut Desk<D, A>,
     sockets: &mut S,

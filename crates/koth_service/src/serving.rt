@@ -27,12 +27,12 @@ pub(crate) fn serve_one<S: Sockets, D: Device, A: Allocator + Copy, H: Host<D, A
     let now = sockets.now();
     desk.is_busy |= !matches!(step, Step::Nobody);
     desk.seats.note(step, now);
-    tell_step::<D, A, H, E>(&desk.peers, &desk.seats, step, host, errors);
+    tell_reply::<D, A, H, E>(&desk.peers, &desk.seats, step, host, errors);
     step
 }
 
 /// Has the host report what a submission was answered in this step, if one was.
-fn tell_step<D: Device, A: Allocator + Copy, H: Host<D, A>, E: Write>(
+fn tell_reply<D: Device, A: Allocator + Copy, H: Host<D, A>, E: Write>(
     peers: &Peers<A>,
     seats: &Seats<A>,
     step: Step,
@@ -41,21 +41,9 @@ fn tell_step<D: Device, A: Allocator + Copy, H: Host<D, A>, E: Write>(
 )
     ensures { Grows (E.contents errors.old) (E.contents errors.new) }
 {
-    if let Step::Served(number) = step {
-        tell_reply::<D, A, H, E>(peers, seats, number, host, errors);
-    }
-}
-
-/// Has the host report what this peer was answered last, if that was to a submission.
-fn tell_reply<D: Device, A: Allocator + Copy, H: Host<D, A>, E: Write>(
-    peers: &Peers<A>,
-    seats: &Seats<A>,
-    number: usize,
-    host: &H,
-    errors: &mut E,
-)
-    ensures { Grows (E.contents errors.old) (E.contents errors.new) }
-{
+    let Step::Served(number) = step else {
+        return;
+    };
     if !is_answered(peers.end(number)) {
         return;
     }

@@ -8,8 +8,8 @@ use Rattle.koth_protocol.specs.Commands.{Command}
 use Rattle.koth_protocol.specs.Table.{show_text}
 use Rattle.koth_session.specs.Reply.{reply_line}
 
--- how a submission was answered: by its reply, and it is in the list; or nothing was submitted, since memory ran out, or since the device
--- has taken as many headers as can be counted
+-- How a submission was answered: by its reply, and it is in the list. Or nothing was submitted, since memory ran out, or since the device
+-- has taken as many headers as can be counted.
 pub data Mark : Type 0 where
   Taken : Mark
   NoMemory : Mark

@@ -7,7 +7,7 @@
 //! - `reply`: the lines of the replies;
 //! - `laws`: what a session is in the life of its device.
 //!
-//! `session` writes the transcript of the commands in the bytes that it took, and nothing else, and leaves the hill of the
+//! `session` writes the transcript of the commands in the bytes that it took, and nothing else. It leaves the hill of the
 //! submissions that it answered: no stop of the device loses one of these (`ends`). It takes 16,777,216 bytes at most, and
 //! blames a stream only if that stream's count of faults rose. `write_reply` writes exactly the reply's line, or a part
 //! of it if the output fails. `line_of` and `table_of` give the program the same lines for its own outputs.

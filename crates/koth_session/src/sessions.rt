@@ -45,8 +45,8 @@ pub enum SessionEnd {
 /// submission is answered once it is stored.
 ///
 /// It ends with `Memory` if there is no memory for its buffers, and reads nothing then, or for the answer to `SHOW`, and writes
-/// none of it then; with `ReadFault` or `WriteFault` if a stream fails; with `StoreFailed` if the device fails in a submission,
-/// which is not answered then; with `Limit` if it has taken 16,777,216 bytes and needs another.
+/// none of it then. It ends with `ReadFault` or `WriteFault` if a stream fails, and with `Limit` if it has taken 16,777,216 bytes
+/// and needs another. If the device fails in a submission, it ends with `StoreFailed`, and the submission is not answered.
 pub fn session<R: Read, W: Write, D: Device, A: Allocator + Copy>(
     alloc: A,
     input: &mut Counted<R>,
