@@ -10,7 +10,7 @@ use Rattle.koth_protocol.specs.declared.script.Met.{Met}
 use Rattle.koth_protocol.specs.declared.script.Met.TheVariants as met
 use Rattle.koth_session.specs.Transcript.{Exchange, command_in}
 use Rattle.koth_peers.specs.Inbox.{IsNext, IsReadTo, is_met}
-use Rattle.koth_peers.specs.Peer.{AnswersPeer, Closes, HasRead, IsPeer, Serves, Takes, command_due, command_of, is_due, is_due_now, settled, settled_now}
+use Rattle.koth_peers.specs.Peer.{AnswersPeer, Closes, HasRead, Serves, Takes, command_due, command_of, is_due, is_due_now, settled, settled_now}
 use Rattle.koth_peers.specs.declared.end.PeerEnd.{PeerEnd}
 use Rattle.koth_peers.specs.declared.end.PeerEnd.TheVariants as ends
 use Rattle.koth_peers.specs.declared.inbox.Inbox.{Inbox}
