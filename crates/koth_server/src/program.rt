@@ -62,7 +62,7 @@ where
         (streams (I.remaining input.new) (O.contents output.new) (E.contents errors.new)) }
 {
     match parse(heap, words) {
-        Ok(request) => fulfil(rt, alloc, &request, view, input, output, errors),
+        Ok(request) => fulfil(rt, alloc, request, view, input, output, errors),
         Err(none) => answer_without(alloc, none, output, errors),
     }
 }
@@ -71,7 +71,7 @@ where
 fn fulfil<R: Files + Net + Clock, A: Allocator + Copy, I: Read, O: Write, E: Write>(
     rt: &R,
     alloc: A,
-    request: &Request<'_>,
+    request: Request<'_>,
     view: View,
     input: &mut I,
     output: &mut O,
@@ -79,40 +79,40 @@ fn fulfil<R: Files + Net + Clock, A: Allocator + Copy, I: Read, O: Write, E: Wri
 ) -> Status
 where
     R::File: TryLock,
-    ensures { EndsRequest view request.now result
+    ensures { EndsRequest view request.entry result
         (streams (I.remaining input.old) (O.contents output.old) (E.contents errors.old))
         (streams (I.remaining input.new) (O.contents output.new) (E.contents errors.new)) }
 {
     match request {
-        Request::Asm(given, source) => asm(rt, alloc, *given, *source, input, output, errors),
-        Request::Check(given, checked) => check(rt, alloc, *given, checked, output, errors),
+        Request::Asm(given, source) => asm(rt, alloc, given, source, input, output, errors),
+        Request::Check(given, checked) => check(rt, alloc, given, &checked, output, errors),
         Request::Fight(given, files) => fight(
             rt,
             alloc,
-            *given,
-            *files,
+            given,
+            files,
             viewed(files.view, view),
             output,
             errors,
         ),
-        Request::Create(given, creation) => create(rt, alloc, *given, *creation, output, errors),
+        Request::Create(given, creation) => create(rt, alloc, given, creation, output, errors),
         Request::Submit(files) => submit(
             rt,
             alloc,
-            *files,
+            files,
             viewed(files.view, view),
             output,
             errors,
         ),
-        Request::Show(shown) => show(rt, alloc, *shown, viewed(shown.view, view), output, errors),
+        Request::Show(shown) => show(rt, alloc, shown, viewed(shown.view, view), output, errors),
         Request::Audit(file) => audit(rt, alloc, file, output, errors),
-        Request::Migrate(files) => migrate(rt, alloc, *files, output, errors),
+        Request::Migrate(files) => migrate(rt, alloc, files, output, errors),
         Request::Page(file) => page(rt, alloc, file, output, errors),
-        Request::Serve(service) => serve(rt, alloc, *service, output, errors),
+        Request::Serve(service) => serve(rt, alloc, service, output, errors),
         Request::Replay(given, watched) => replay(
             rt,
             alloc,
-            *given,
+            given,
             watched.older,
             watched.younger,
             watched.round,

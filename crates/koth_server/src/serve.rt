@@ -1,6 +1,6 @@
 //! The command `serve`: sessions of many peers over sockets on the hill in a file.
 
-ghost use Rattle.std.specs.Prelude.{◌≡◌, ◌≢◌, ℕ, List, Option, None, false, MatchResult};
+ghost use Rattle.std.specs.Prelude.{◌≡◌, ◌≢◌, None, false, IfOk, MatchResult};
 ghost use Rattle.koth_server.specs.Hills.{listening_line, Announces, AnnouncesPart, EndsServe};
 ghost use Rattle.koth_commands.specs.Streams.{streams};
 ghost use Rattle.koth_server.specs.Pages.{IsShown};
@@ -80,61 +80,20 @@ where
         (streams None (O.contents output.new) (E.contents errors.new)) }
     ensures words { result ≢ Status.WordFault }
 {
-    match open_hill(rt, alloc, service.hill, Sharing::Alone) {
-        Ok(store) => serve_hill(rt, alloc, service, store, output, errors),
-        Err(trouble) => trouble.tell(alloc, errors),
-    }
-}
-
-/// Serves sessions on a hill that was just opened, once the line of the port is written.
-fn serve_hill<'f, R: Files + Net + Clock, A: Allocator + Copy, O: Write, E: Write>(
-    rt: &'f R,
-    alloc: A,
-    service: Service<'f>,
-    store: HillStore<'f, R, A>,
-    output: &mut O,
-    errors: &mut E,
-) -> Status
-where
-    R::File: TryLock,
-    requires { store.reopen ≡ false }
-    ensures ends { EndsServe result
-        (streams None (O.contents output.old) (E.contents errors.old))
-        (streams None (O.contents output.new) (E.contents errors.new)) }
-    ensures words { result ≢ Status.WordFault }
-{
-    match announced(rt, alloc, service, output) {
-        Ok(mut sockets) => serve_sockets(rt, alloc, service, store, &mut sockets, errors),
-        Err(trouble) => trouble.tell(alloc, errors),
-    }
-}
-
-/// Serves sessions on a hill over sockets whose line is written.
-fn serve_sockets<'f, R: Files + Net + Clock, A: Allocator + Copy, E: Write>(
-    rt: &'f R,
-    alloc: A,
-    service: Service<'f>,
-    store: HillStore<'f, R, A>,
-    sockets: &mut PolledSockets<'f, R, A>,
-    errors: &mut E,
-) -> Status
-where
-    R::File: TryLock,
-    requires { store.reopen ≡ false }
-    ensures ends { (o : Option (List ℕ)) (p : Option (List ℕ)) → Announces o p
-        → EndsServe result (streams None o (E.contents errors.old)) (streams None p (E.contents errors.new)) }
-    ensures words { result ≢ Status.WordFault }
-{
     let host = Hosting {
         rt,
         alloc,
         path: service.hill,
         log: Log::new(rt, service.quiet),
     };
+    let (store, mut sockets) = match begin(&host, service, output) {
+        Ok(begun) => begun,
+        Err(trouble) => return trouble.tell(alloc, errors),
+    };
     host.log.tell_pages(alloc, sockets.pages_addr(), errors);
     let served = serve_peers(
         alloc,
-        sockets,
+        &mut sockets,
         service.peers as usize,
         BROWSERS,
         service.connections,
@@ -148,6 +107,28 @@ where
     }
 }
 
+/// Opens the hill and then the port, and writes the line of the port.
+fn begin<'f, R: Files + Net + Clock, A: Allocator + Copy, O: Write>(
+    host: &Hosting<'f, R, A>,
+    service: Service<'f>,
+    output: &mut O,
+) -> Result<(HillStore<'f, R, A>, PolledSockets<'f, R, A>), HillTrouble<'f>>
+where
+    R::File: TryLock,
+    ensures open { IfOk result (λ begun. begun.0.reopen ≡ false) }
+    ensures announced { MatchResult result (λ _. Announces (O.contents output.old) (O.contents output.new))
+        (λ _. AnnouncesPart (O.contents output.old) (O.contents output.new)) }
+{
+    let store = match open_hill(host.rt, host.alloc, host.path, Sharing::Alone) {
+        Ok(store) => store,
+        Err(trouble) => return Err(trouble),
+    };
+    match announced(host.rt, host.alloc, service, output) {
+        Ok(sockets) => Ok((store, sockets)),
+        Err(trouble) => Err(trouble),
+    }
+}
+
 /// Sockets at the address that is asked for, whose line is written.
 fn announced<'r, 't, R: Net + Clock, A: Allocator + Copy, O: Write>(
     rt: &'r R,
@@ -158,27 +139,26 @@ fn announced<'r, 't, R: Net + Clock, A: Allocator + Copy, O: Write>(
     ensures { MatchResult result (λ _. Announces (O.contents output.old) (O.contents output.new))
         (λ _. AnnouncesPart (O.contents output.old) (O.contents output.new)) }
 {
-    let address = SocketAddr::new(service.listen, service.port);
-    match PolledSockets::bind(rt, alloc, address, service.peers as usize) {
-        Ok(mut sockets) => match announce(rt, alloc, &mut sockets, service, output) {
+    match bound(rt, alloc, service) {
+        Ok(sockets) => match announce(sockets.local_addr(), service.port, output) {
             Ok(()) => Ok(sockets),
             Err(trouble) => Err(trouble),
         },
-        Err(error) => Err(port_failed(service.port, &error)),
+        Err(trouble) => Err(trouble),
     }
 }
 
-/// Listens to browsers at the address of these sockets, if that is asked for, and writes the line of the sockets.
-fn announce<'r, 't, R: Net + Clock, A: Allocator + Copy, O: Write>(
+/// Sockets at the address that is asked for, and of browsers at the same address, if they are asked for.
+fn bound<'r, 't, R: Net + Clock, A: Allocator + Copy>(
     rt: &'r R,
     alloc: A,
-    sockets: &mut PolledSockets<'r, R, A>,
     service: Service<'_>,
-    output: &mut O,
-) -> Result<(), HillTrouble<'t>>
-    ensures { MatchResult result (λ _. Announces (O.contents output.old) (O.contents output.new))
-        (λ _. AnnouncesPart (O.contents output.old) (O.contents output.new)) }
-{
+) -> Result<PolledSockets<'r, R, A>, HillTrouble<'t>> {
+    let address = SocketAddr::new(service.listen, service.port);
+    let mut sockets = match PolledSockets::bind(rt, alloc, address, service.peers as usize) {
+        Ok(sockets) => sockets,
+        Err(error) => return Err(port_failed(service.port, &error)),
+    };
     if let Some(port) = service.http {
         let port = u16::try_from(port).unwrap_or(0);
         let address = SocketAddr::new(service.listen, port);
@@ -186,11 +166,11 @@ fn announce<'r, 't, R: Net + Clock, A: Allocator + Copy, O: Write>(
             return Err(port_failed(port, &error));
         }
     }
-    write_line(sockets.local_addr(), service.port, output)
+    Ok(sockets)
 }
 
 /// Writes the line of sockets at this address.
-fn write_line<'t, O: Write>(
+fn announce<'t, O: Write>(
     address: io::Result<SocketAddr>,
     asked: u16,
     output: &mut O,
@@ -219,7 +199,7 @@ fn port_failed<'t>(port: u16, error: &io::Error) -> HillTrouble<'t> {
     }
 }
 
-/// Why a service has ended. A hill that can't be opened again is tried once more for what failed, and why.
+/// Why a service has ended.
 fn trouble_of<'f, R: Files + Clock, A: Allocator + Copy>(
     host: &Hosting<'f, R, A>,
     fault: ServiceFault<HillFault>,
@@ -229,12 +209,21 @@ where
 {
     match fault {
         ServiceFault::Memory => HillTrouble::memory(),
-        ServiceFault::Reopening(fault) => {
-            match open_hill(host.rt, host.alloc, host.path, Sharing::Alone) {
-                Ok(_store) => HillTrouble::of(host.path, fault),
-                Err(trouble) => trouble,
-            }
-        }
+        ServiceFault::Reopening(fault) => trouble_at(host, fault),
+    }
+}
+
+/// Why the hill can't be opened again: it is tried once more for what failed, and why.
+fn trouble_at<'f, R: Files + Clock, A: Allocator + Copy>(
+    host: &Hosting<'f, R, A>,
+    fault: HillFault,
+) -> HillTrouble<'f>
+where
+    R::File: TryLock,
+{
+    match open_hill(host.rt, host.alloc, host.path, Sharing::Alone) {
+        Ok(_store) => HillTrouble::of(host.path, fault),
+        Err(trouble) => trouble,
     }
 }
 

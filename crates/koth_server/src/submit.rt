@@ -40,18 +40,33 @@ where
         (streams None (O.contents output.new) (E.contents errors.new)) }
     ensures words { result ≢ Status.WordFault }
 {
-    match open_hill(rt, alloc, files.hill, Sharing::Alone) {
-        Ok(mut store) => submit_file(rt, alloc, &mut store, files.source, view, output, errors),
-        Err(trouble) => trouble.tell(alloc, errors),
-    }
+    let mut store = match open_hill(rt, alloc, files.hill, Sharing::Alone) {
+        Ok(store) => store,
+        Err(trouble) => return trouble.tell(alloc, errors),
+    };
+    let text = match read_source(rt, alloc, files.source) {
+        Ok(text) => text,
+        Err(trouble) => return HillTrouble::from_source(trouble).tell(alloc, errors),
+    };
+    let source = Source {
+        path: files.source,
+        text: text.as_slice(),
+    };
+    submit_opened(alloc, &mut store, source, view, output, errors)
 }
 
-/// Submits the source in a file to a store that was just opened, and then writes the reply.
-fn submit_file<R: Files, D: Device, A: Allocator + Copy, O: Write, E: Write>(
-    rt: &R,
+/// A source, and the path of its file.
+#[derive(Clone, Copy)]
+struct Source<'s> {
+    path: &'s str,
+    text: &'s [u8],
+}
+
+/// Submits a source to a store that was just opened, and then writes the reply.
+fn submit_opened<D: Device, A: Allocator + Copy, O: Write, E: Write>(
     alloc: A,
     store: &mut Store<D, A>,
-    path: &str,
+    source: Source<'_>,
     view: View,
     output: &mut O,
     errors: &mut E,
@@ -62,23 +77,7 @@ fn submit_file<R: Files, D: Device, A: Allocator + Copy, O: Write, E: Write>(
         (streams None (O.contents output.new) (E.contents errors.new)) }
     ensures words { result ≢ Status.WordFault }
 {
-    match read_source(rt, alloc, path) {
-        Ok(text) => {
-            let source = Source {
-                path,
-                text: text.as_slice(),
-            };
-            submit_source(alloc, store, source, view, output, errors)
-        }
-        Err(trouble) => HillTrouble::from_source(trouble).tell(alloc, errors),
-    }
-}
-
-/// A source, and the path of its file.
-#[derive(Clone, Copy)]
-struct Source<'s> {
-    path: &'s str,
-    text: &'s [u8],
+    submit_source(alloc, store, source, view, output, errors)
 }
 
 /// Submits a source to a store, and then writes the reply: its line, and in the view for people after it where the warrior stands.
