@@ -12,7 +12,7 @@ use Rattle.koth_peers.specs.Peer.{AnswersPeer, Says}
 use Rattle.koth_peers.specs.declared.end.PeerEnd.{PeerEnd}
 use Rattle.koth_peers.specs.declared.end.PeerEnd.TheVariants as ends
 use Rattle.koth_session.proofs.Exchanges.{served_same}
-use Rattle.koth_peers.proofs.Submissions.{IsExchanged}
+use Rattle.koth_session.proofs.Submissions.{IsExchanged}
 
 module _ {D : Type 0} (facts : DeviceFacts D) where
   pub table_said : (r : Option PeerEnd) (text unsent new : List ℕ) (store : Seen D) → text ≡ show_text (table_kept store.hill) → Says text r unsent new

@@ -1,5 +1,4 @@
 mod Answering
-mod Holding
 mod Lengths
 mod Past
 mod PeerRows
@@ -7,4 +6,3 @@ mod Readings
 mod Serving
 mod Slots
 mod Standing
-mod Submissions

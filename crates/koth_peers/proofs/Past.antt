@@ -15,7 +15,7 @@ pub commands_append : (es fs : List Exchange) → commands_in (es ++ fs) ≡ com
 commands_append [] fs = refl
 commands_append (e ∷ es) fs = ap (λ l. command_in e ∷ l) (commands_append es fs)
 
--- ---- one behind the other
+-- ---- one after the other
 
 pub exchanges_append : (xs ys : List Turn) → exchanges (xs ++ ys) ≡ exchanges xs ++ exchanges ys
 exchanges_append [] ys = refl

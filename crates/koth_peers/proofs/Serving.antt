@@ -12,7 +12,7 @@ use Rattle.koth_peers.specs.declared.end.PeerEnd.{PeerEnd}
 use Rattle.koth_peers.specs.declared.end.PeerEnd.TheVariants as ends
 use Rattle.koth_peers.specs.declared.peer.Peer.{Peer}
 use Rattle.koth_session.proofs.Exchanges.{hill_append, served_none, served_on}
-use Rattle.koth_peers.proofs.Holding.{keeps_cut, keeps_list}
+use Rattle.koth_session.proofs.Holding.{keeps_cut, keeps_list}
 use Rattle.koth_peers.proofs.Slots.{serving_at}
 use Rattle.koth_peers.proofs.Past.{commands_append, exchanges_append, exchanges_kept, own_nobody, own_one, own_other, turn_of_nobody, written_nobody, written_one, written_other}
 

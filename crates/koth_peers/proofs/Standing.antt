@@ -10,7 +10,7 @@ use Rattle.koth_protocol.specs.declared.script.Met.{Met}
 use Rattle.koth_protocol.specs.declared.script.Met.TheVariants as met
 use Rattle.koth_session.specs.Transcript.{Exchange, command_in}
 use Rattle.koth_peers.specs.Inbox.{IsNext, IsReadTo, is_met}
-use Rattle.koth_peers.specs.Peer.{AnswersPeer, Closes, HasRead, IsPeer, Serves, Takes, command_due, command_of, is_due, is_due_now, settled, settled_now}
+use Rattle.koth_peers.specs.Peer.{AnswersPeer, Closes, HasRead, Serves, Takes, command_due, command_of, is_due, is_due_now, settled, settled_now}
 use Rattle.koth_peers.specs.declared.end.PeerEnd.{PeerEnd}
 use Rattle.koth_peers.specs.declared.end.PeerEnd.TheVariants as ends
 use Rattle.koth_peers.specs.declared.inbox.Inbox.{Inbox}
@@ -110,7 +110,7 @@ next_is met.Quit bytes (Exchange.Submission source mark) is same = absurd (cc)
 next_is met.Quit bytes Exchange.Table is same = absurd (cc)
 next_is met.Quit bytes Exchange.BadLine is same = absurd (cc)
 
--- what is behind the command that was met
+-- what comes after the command that was met
 behind_met : (m : Met) (bytes : List ℕ) (others : List Command) → is_met m ≡ true
     → (behind : List Command) × (commands_met m bytes others ≡ command_due m (kept_source bytes) ∷ behind)
 behind_met met.Nothing bytes others is = absurd (true≢false (sym is))
@@ -146,7 +146,7 @@ module _ {D A : Type 0} (facts : DeviceFacts D) where
     end = stands;
   }
 
-  -- the commands of what came, where one is due
+  -- the commands of what came, if one is due
   those_came : (inbox : Inbox A) (came : List ℕ) (done : List Command) → IsReadTo inbox came done
       → (others : List Command) × (commands_of came ≡ done ++ commands_met inbox.due inbox.script.source others)
   those_came inbox came done r =

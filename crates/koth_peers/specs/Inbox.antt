@@ -19,8 +19,8 @@ is_met met.Bad = true
 abbrev pub room_of : {A : Type 0} → Inbox A → ℕ
 room_of inbox = min (4096 - length inbox.waiting) (16777216 - inbox.taken)
 
--- These bytes came, and these commands of theirs were carried out. The commands of whatever comes next are those, the one that was met, and
--- the commands of the bytes that wait.
+-- These bytes came, and these commands in them were carried out. With whatever comes next their commands are those, the one that was met,
+-- and the commands of the bytes that wait.
 pub record IsFollowed {A : Type 0} (inbox : Inbox A) (came : List ℕ) (done : List Command) : Type 0 where
   pub line : List ℕ
   pub source : Option (List ℕ)
@@ -30,11 +30,11 @@ pub record IsFollowed {A : Type 0} (inbox : Inbox A) (came : List ℕ) (done : L
   pub taken : inbox.taken ≡ length came
   pub few : length came ≤ 16777216
 
--- and they were read up to the next command: where none was met, none waits
+-- and the bytes were read up to the next command: if none was met, no byte waits
 pub record IsReadTo {A : Type 0} (inbox : Inbox A) (came : List ℕ) (done : List Command) : Type 0 where
   pub followed : IsFollowed inbox came done
   pub read : is_met inbox.due ≡ false → inbox.waiting ≡ []
 
--- what was met is this command, whatever is behind it
+-- what was met is this command, whatever comes after it
 abbrev pub IsNext : Met → List ℕ → Command → Type 0
 IsNext met bytes command = (others : List Command) → commands_met met bytes others ≡ command ∷ others

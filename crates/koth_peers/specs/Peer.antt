@@ -43,8 +43,8 @@ may_come None false room = room
 abbrev pub may_come_now : {A : Type 0} → Peer A → ℕ
 may_come_now peer = may_come peer.end peer.closed (room_of peer.inbox)
 
--- what a session that stands so made of what came: these of its commands were carried out and answered, and as long as it goes on, the next one is due or
--- more bytes may come
+-- What a session that stands so made of what came: these commands were carried out and answered. As long as the session goes on, the next
+-- one is due, or more bytes may come.
 abbrev pub HasRead : {A : Type 0} → Option PeerEnd → Inbox A → Bool → List ℕ → List Command → Type 0
 HasRead None inbox closed came done = IsReadTo inbox came done × (is_met inbox.due ≡ false → (closed ≡ false) × (length came < 16777216))
 HasRead (Some ends.Quit) inbox closed came done = commands_of came ≡ done ++ Command.Quit ∷ []
@@ -83,7 +83,7 @@ pub record Closes {A : Type 0} (old new : Peer A) : Type 0 where
   pub end : new.end ≡ settled_now old.end new
   pub inbox : new.inbox ≡ old.inbox
 
--- so many bytes of its answers were sent
+-- `count` bytes of its answers were sent
 pub record Sends {A : Type 0} (old : Peer A) (count : ℕ) (new : Peer A) : Type 0 where
   pub unsent : new.outbox.unsent ≡ drop count old.outbox.unsent
   pub inbox : new.inbox ≡ old.inbox
@@ -98,14 +98,14 @@ command_due met.Show bytes = Command.Show
 command_due met.Quit bytes = Command.Quit
 command_due met.Bad bytes = Command.Bad
 
--- the answer to this command has no room behind the answers that are unsent; a reply takes 96 bytes at most
+-- the answer to this command has no room after the answers that are unsent; a reply takes 96 bytes at most
 abbrev pub IsFull : Kept → Command → List ℕ → Type 0
 IsFull hill (Command.Submit source) unsent = 1048576 < length unsent + 96
 IsFull hill Command.Show unsent = 1048576 < length unsent + length (show_text (table_kept hill))
 IsFull hill Command.Quit unsent = ⊥
 IsFull hill Command.Bad unsent = 1048576 < length unsent + 4
 
--- a text was put behind those that are unsent, or the session ends: it has no room, or no memory
+-- a text was put after the answers that are unsent, or the session ends: it has no room, or no memory
 abbrev pub Says : List ℕ → Option PeerEnd → List ℕ → List ℕ → Type 0
 Says text None unsent new = new ≡ unsent ++ text
 Says text (Some ends.Unread) unsent new = (1048576 < length unsent + length text) × (new ≡ unsent)
@@ -115,7 +115,7 @@ Says text (Some ends.EndOfInput) unsent new = ⊥
 Says text (Some ends.Limit) unsent new = ⊥
 Says text (Some ends.StoreFailed) unsent new = ⊥
 
--- What came of a command: it was carried out on the store, and its answer stands behind those that are unsent; or the session ends.
+-- What came of a command: it was carried out on the store, and its answer stands after those that are unsent; or the session ends.
 abbrev pub AnswersPeer : {D : Type 0} → DeviceFacts D → Command → Option PeerEnd → List ℕ → Seen D → List ℕ → Seen D → Type 0
 AnswersPeer facts command None unsent old unsent_new new =
     (e : Exchange) × (command ≡ command_in e) × AreServed facts old new (e ∷ []) × (unsent_new ≡ unsent ++ answer old.hill e)
@@ -127,7 +127,7 @@ AnswersPeer facts command (Some ends.StoreFailed) unsent old unsent_new new =
     (source : List ℕ) × (command ≡ Command.Submit source) × IsLeftOff facts old new source × (unsent_new ≡ unsent)
 AnswersPeer facts command (Some ends.Memory) unsent old unsent_new new = (new ≡ old) × (unsent_new ≡ unsent)
 
--- the commands that were carried out, behind this one
+-- the commands that were carried out, with this one
 abbrev pub done_after : Option PeerEnd → List Command → Command → List Command
 done_after None done command = done ++ command ∷ []
 done_after (Some end) done command = done

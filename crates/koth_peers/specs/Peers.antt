@@ -96,7 +96,7 @@ pub record IsFirstFree {A : Type 0} (slots : Slots A) (n : ℕ) : Type 0 where
 
 -- ---- what was answered
 
--- a command that was carried out, and the peer that it was answered to; those of a peer that has left are nobody's
+-- a command that was carried out, and the peer that it was answered to; a command of a peer that has left is nobody's
 pub record Turn : Type 0 where
   pub whose : Option ℕ
   pub exchange : Exchange
@@ -109,7 +109,7 @@ abbrev pub exchanges : List Turn → List Exchange
 exchanges [] = []
 exchanges (turn ∷ turns) = turn.exchange ∷ exchanges turns
 
--- those of one peer
+-- the commands of one peer
 abbrev pub own : ℕ → List Turn → List Exchange
 own p [] = []
 own p (turn ∷ turns) = if is_whose p turn.whose then turn.exchange ∷ own p turns else own p turns
@@ -158,8 +158,8 @@ turn_of n e = record { whose = Some n; exchange = e }
 abbrev pub answered : ℕ → Exchange → Past → Past
 answered n e past = record { turns = past.turns ++ turn_of n e ∷ []; came = past.came; sent = past.sent }
 
--- Of each peer: of the commands in what came, the first ones were carried out, in their order, and what was sent and what is unsent are their answers, each on the
--- hill that stood then. Nothing is said of a number that is free.
+-- For each peer the first commands in what came were carried out, in their order. What was sent and what is unsent are their answers, each
+-- on the hill that stood then. Nothing is said of a number that is free.
 abbrev pub StandsAt : {A : Type 0} → Kept → Past → ℕ → Option (Peer A) → Type 0
 StandsAt hill past p None = own p past.turns ≡ []
 StandsAt hill past p (Some peer) = IsPeer peer (past.came p) (commands_in (own p past.turns)) × (past.sent p ++ peer.outbox.unsent ≡ written p hill past.turns)
@@ -175,7 +175,7 @@ pub record ServesOne {D A : Type 0} (facts : DeviceFacts D) (outcome : Option Pe
   pub moves : MovesAt (λ p q. Serves facts outcome p old_store q new_store) n old new
   pub next_is : next ≡ n + 1
 
--- what is told of a step
+-- what a step reports
 abbrev pub step_after : Option PeerEnd → ℕ → Step
 step_after None n = steps.Served n
 step_after (Some ends.Quit) n = steps.Served n
@@ -204,16 +204,16 @@ pub record History (D : Type 0) : Type 0 where
 abbrev pub goes_by : {D : Type 0} → ℕ → Exchange → History D → History D
 goes_by n e history = record { hill = history.hill; past = answered n e history.past; first = history.first; since = history.since ++ e ∷ [] }
 
--- The peers stand by that past, and so does the hill; and each image that a stop may leave of the device has what the submissions that were answered since it was
--- opened earn, behind those from before.
+-- The peers and the hill are as that past left them. Each image that a stop may leave of the device has what the submissions that were
+-- answered since it was opened earn, after those from before.
 pub record AreServingOn {D A : Type 0} (facts : DeviceFacts D) (slots : Slots A) (now : Seen D) (history : History D) : Type 0 where
   pub serving : AreServing slots history.hill history.past
   pub hill_is : now.hill ≡ hill_after history.hill (exchanges history.past.turns)
   pub served : AreServed facts history.first now history.since
   pub holds : KeepsList facts history.first now history.since
 
--- The device failed in a submission, which is not answered: the peers stand as before, and each image has what the submissions answered earn, with this one or
--- without it.
+-- The device failed in a submission, which is not answered: the peers stand as before, and each image has what the submissions answered
+-- earn, with this one or without it.
 pub record AreCutOff {D A : Type 0} (facts : DeviceFacts D) (slots : Slots A) (old now : Seen D) (history : History D) : Type 0 where
   pub serving : AreServing slots history.hill history.past
   pub source : List ℕ
@@ -234,7 +234,7 @@ unanswered source past = record {
   sent = past.sent;
 }
 
--- How a history goes on where the store is opened, at the beginning or again, and where a peer leaves.
+-- How a history goes on when the store is opened, at the beginning or again, and when a peer leaves.
 pub record LawsOfPeers {D : Type 0} (A : Type 0) (facts : DeviceFacts D) : Type 0 where
   -- with a store whose hill is the one that was left, nothing was carried out since
   pub opened : (slots : Slots A) (now : Seen D) (hill : Kept) (past : Past) → AreServing slots hill past → now.hill ≡ hill_after hill (exchanges past.turns)

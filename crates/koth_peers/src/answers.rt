@@ -1,9 +1,8 @@
-//! What a command is answered, behind the answers that are unsent.
+//! What a command is answered, after the answers that are unsent.
 
 ghost use Rattle.std.specs.Prelude.{◌≡◌, ◌+◌, ◌<◌, ◌≤◌, ◌++◌, true, length};
 ghost use Rattle.koth_protocol.specs.Commands.{Command};
 ghost use Rattle.koth_session.specs.Reply.{reply_line};
-ghost use Rattle.koth_session.specs.Sessions.{has_failed};
 ghost use Rattle.koth_peers.specs.Inbox.{is_met};
 ghost use Rattle.koth_peers.specs.Peer.{command_due, AnswersPeer, Says};
 
@@ -11,12 +10,12 @@ use crate::end::PeerEnd;
 use crate::outbox::Outbox;
 use hill_store::{Reply, Store};
 use koth_protocol::Met;
-use koth_session::{line_of, table_of};
+use koth_session::{has_failed, line_of, table_of};
 use sector_disk::Device;
 use std::alloc::{AllocError, Allocator};
 use war_types::AsmKind;
 
-/// Bytes of the line of a reply at most.
+/// The most bytes that the line of a reply takes.
 const REPLY_MOST: usize = 96;
 
 /// Carries a command out, and answers it.
@@ -122,17 +121,3 @@ fn fell_is_short(_entry: u64, _score: u32)
 fn refused_is_short(_line: u32, _kind: AsmKind)
     ensures { length (reply_line (Reply.Refused (record { line = _line; kind = _kind }))) ≤ 96 }
 {}
-
-/// Whether the device failed, in this submission or before.
-fn has_failed(reply: &Reply) -> bool
-    ensures { result ≡ has_failed reply.now }
-{
-    match *reply {
-        Reply::Disk | Reply::Reopen => true,
-        Reply::Placed { .. }
-        | Reply::Fell { .. }
-        | Reply::Refused(_)
-        | Reply::Memory
-        | Reply::Worn => false,
-    }
-}

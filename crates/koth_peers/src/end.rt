@@ -9,7 +9,7 @@ pub enum PeerEnd {
     EndOfInput,
     /// 16,777,216 bytes came, and each command in them was answered.
     Limit,
-    /// 1,048,576 bytes of answers are unsent, or so many that the next answer may have no room: the command was not carried out.
+    /// The next answer may have no room, since 1,048,576 bytes of answers at most may be unsent: the command was not carried out.
     Unread,
     /// The device failed in a submission, now or earlier, which is not answered: close the store, and open it again.
     StoreFailed,

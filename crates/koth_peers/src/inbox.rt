@@ -8,10 +8,10 @@ use crate::waiting::Waiting;
 use koth_protocol::{Met, Script};
 use std::alloc::{AllocError, Allocator};
 
-/// Bytes that a peer may send at most.
+/// The most bytes that a peer may send.
 pub(crate) const LIMIT: usize = 16_777_216;
 
-/// A peer's bytes, read up to the command that is due, and those behind that one.
+/// A peer's bytes, read up to the command that is due, and the bytes after that command.
 #[derive(Drop)]
 pub(crate) struct Inbox<A: Allocator> {
     script: Script<A>,

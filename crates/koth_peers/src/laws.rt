@@ -6,8 +6,8 @@ use crate::peers::Peers;
 use sector_disk::Device;
 use std::alloc::Allocator;
 
-/// How the history of peers goes on where the store is opened, at the beginning, and again after the device failed in a submission, which stands
-/// or doesn't; and where a peer leaves.
+/// How the history of peers goes on when the store is opened, and when a peer leaves. The store is opened at the beginning, and again after
+/// the device failed in a submission, which stands or doesn't.
 pub fn laws_of_peers<D: Device, A: Allocator>(_device: &D, _peers: &Peers<A>)
     ensures { LawsOfPeers A D.facts }
 {}

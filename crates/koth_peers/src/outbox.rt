@@ -6,7 +6,7 @@ use crate::waiting::drop_front;
 use std::alloc::{AllocError, Allocator};
 use std::marker::Model;
 
-/// Bytes of answers that may be unsent at most.
+/// The most bytes of answers that may be unsent.
 pub(crate) const UNSENT_MOST: usize = 1_048_576;
 
 /// The answers in their order, 1,048,576 bytes at most.
@@ -38,14 +38,14 @@ impl<A: Allocator> Outbox<A> {
         }
     }
 
-    /// How many bytes more may be unsent.
+    /// How many more bytes may be unsent.
     pub(crate) fn room(&self) -> usize
         ensures { result + length self.now.unsent ≡ 1048576 }
     {
         UNSENT_MOST - (self.bytes.len() - self.sent)
     }
 
-    /// Takes memory for an answer of so many bytes. `AllocError` comes if a growth of memory is refused.
+    /// Takes memory for an answer of `count` bytes. `AllocError` comes if a growth of memory is refused.
     pub(crate) fn reserve(&mut self, count: usize) -> Result<(), AllocError>
         ensures same { self.new.unsent ≡ self.old.unsent }
         ensures spare { OnOk result (count ≤ self.new.spare) }
@@ -56,7 +56,7 @@ impl<A: Allocator> Outbox<A> {
         }
     }
 
-    /// Puts an answer behind the others. It needs no memory.
+    /// Puts an answer after the others. It needs no memory.
     pub(crate) fn put(&mut self, answer: &[u8])
         requires spare { length answer.now ≤ self.old.spare }
         requires room { length self.old.unsent + length answer.now ≤ 1048576 }
@@ -73,8 +73,8 @@ impl<A: Allocator> Outbox<A> {
         &self.bytes.as_slice()[self.sent..]
     }
 
-    /// So many bytes were sent. They are let go once they are as many as those that aren't, so a byte is moved for one that was
-    /// sent at most.
+    /// `count` bytes were sent. What was sent is dropped once it is as much as what is unsent, so at most one byte is moved for each
+    /// byte sent.
     pub(crate) fn pass(&mut self, count: usize)
         requires { count ≤ length self.old.unsent }
         ensures { self.new.unsent ≡ drop count self.old.unsent }

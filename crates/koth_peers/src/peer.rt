@@ -21,7 +21,7 @@ pub struct Peer<A: Allocator> {
 }
 
 impl<A: Allocator + Copy> Peer<A> {
-    /// A session of which nothing came. All its memory is taken here, but that for its answers.
+    /// A session in which nothing came yet. All its memory is taken here, except for its answers.
     pub fn new(alloc: A) -> Result<Peer<A>, AllocError>
         ensures { IfOk result IsNew }
     {
@@ -33,9 +33,9 @@ impl<A: Allocator + Copy> Peer<A> {
         })
     }
 
-    /// Carries out the command that is due, on the store, and puts its answer behind those that are unsent. It says how the
-    /// command ended the session, if it did: with `Quit`; with `Unread` if its answer may have no room, with `Memory` if a
-    /// growth was refused, and the command is not carried out then; with `StoreFailed` if the device failed in it.
+    /// Carries out the command that is due, on the store, and puts its answer after those that are unsent. It returns how the
+    /// command ended the session, if it did: with `Quit`, or with `StoreFailed` if the device failed in it. With `Unread`, if its
+    /// answer may have no room, and with `Memory`, if a growth was refused, the command was not carried out.
     pub fn serve<D: Device>(&mut self, alloc: A, store: &mut Store<D, A>) -> Option<PeerEnd>
         requires { is_due_now self.old ≡ true }
         ensures { Serves D.facts result self.old store.old self.new store.new }
@@ -61,8 +61,8 @@ impl<A: Allocator + Copy> Peer<A> {
 }
 
 impl<A: Allocator> Peer<A> {
-    /// How many bytes may come now: of these 4096 at most wait behind a command that is due, and 16,777,216 come in all. None
-    /// may once the session has ended, or its bytes are at their end.
+    /// How many bytes may come now: at most 4096 wait after a command that is due, and 16,777,216 come in all. None
+    /// may come once the session has ended, or its bytes are at their end.
     pub fn room(&self) -> usize
         ensures room { result ≡ may_come_now self.now }
         ensures most { length self.now.inbox.waiting + result ≤ 4096 }
@@ -112,7 +112,7 @@ impl<A: Allocator> Peer<A> {
         self.outbox.as_slice()
     }
 
-    /// So many bytes of the answers were sent.
+    /// `count` bytes of the answers were sent.
     pub fn pass(&mut self, count: usize)
         requires { count ≤ length self.old.outbox.unsent }
         ensures { Sends self.old count self.new }
@@ -127,7 +127,7 @@ impl<A: Allocator> Peer<A> {
         self.end
     }
 
-    /// How it stands after what came.
+    /// How the session stands after what came.
     fn settled(&self) -> Option<PeerEnd>
         ensures { result ≡ settled_now None self.now }
     {

@@ -40,7 +40,7 @@ use std::alloc::{AllocError, Allocator};
 /// Why no peer was connected.
 #[derive(Clone, Copy, Debug, PartialEq, Eq)]
 pub enum NotConnected {
-    /// As many peers are there as may be.
+    /// There are as many peers as may be.
     Full,
     /// A growth of memory was refused.
     Memory,
@@ -66,7 +66,7 @@ pub struct Peers<A: Allocator> {
 }
 
 impl<A: Allocator + Copy> Peers<A> {
-    /// No peers, of which so many may be at once. `AllocError` comes if a growth of memory is refused.
+    /// No peers yet, and room for `most` at once. `AllocError` comes if a growth of memory is refused.
     pub fn new(alloc: A, most: usize) -> Result<Peers<A>, AllocError>
         ensures most { IfOk result (λ peers. length peers.slots.items ≡ most) }
         ensures nobody { IfOk result (λ peers. (p : ℕ) → peer_at peers.slots.items p ≡ None) }
@@ -84,7 +84,7 @@ impl<A: Allocator + Copy> Peers<A> {
         })
     }
 
-    /// Begins a session, and says its number, which is the least that is free. `Full` comes if none is, and `Memory` if a
+    /// Begins a session, and returns its number, which is the least that is free. `Full` comes if none is, and `Memory` if a
     /// growth of memory is refused.
     pub fn connect(&mut self) -> Result<usize, NotConnected>
         ensures connects { Connects result self.old.slots.items self.new.slots.items }
@@ -104,7 +104,7 @@ impl<A: Allocator + Copy> Peers<A> {
         }
     }
 
-    /// Carries out one command at most: that of the first peer that has one due, beginning behind the one served last and going
+    /// Carries out one command at most: that of the first peer that has one due, beginning after the peer served last and going
     /// round.
     pub fn serve_next<D: Device>(&mut self, store: &mut Store<D, A>) -> Step
         ensures serves { ServesNext D.facts result self.old.slots.items self.old.next store.old self.new.slots.items self.new.next store.new }
@@ -167,7 +167,7 @@ impl<A: Allocator> Peers<A> {
         }
     }
 
-    /// So many bytes of the answers to this peer were sent.
+    /// `count` bytes of the answers to this peer were sent.
     pub fn sent(&mut self, number: usize, count: usize)
         requires { count ≤ length (unsent_at self.old.slots.items number) }
         ensures sends { MovesAt (λ old new. Sends old count new) number self.old.slots.items self.new.slots.items }
@@ -190,7 +190,7 @@ impl<A: Allocator> Peers<A> {
         }
     }
 
-    /// Whether nothing is left to be done for this peer: its session has ended, and all answers were sent. So it is of a number
+    /// Whether nothing is left to be done for this peer: its session has ended, and all answers were sent. So it is for a number
     /// that is free.
     pub fn is_finished(&self, number: usize) -> bool
         ensures { result ≡ is_finished_in (peer_at self.now.slots.items number) }
@@ -201,7 +201,7 @@ impl<A: Allocator> Peers<A> {
         }
     }
 
-    /// Lets a peer go, however it stands: its number is free.
+    /// Drops a peer, however its session stands: its number is free.
     pub fn leave(&mut self, number: usize)
         ensures only { OnlyAt number self.old.slots.items self.new.slots.items }
         ensures at { peer_at self.new.slots.items number ≡ None }
@@ -266,7 +266,7 @@ fn serve_at<D: Device, A: Allocator + Copy>(
     }
 }
 
-/// What is told of a step.
+/// What a step reports.
 fn step_after(outcome: Option<PeerEnd>, number: usize) -> Step
     ensures { result ≡ step_after outcome number }
 {

@@ -17,7 +17,7 @@ pub(crate) fn next_due<A: Allocator>(slots: &[Option<Peer<A>>], start: usize) ->
     }
 }
 
-/// The first peer that has a command due, of those from one number to before another.
+/// The first peer that has a command due, with a number of at least `from` and below `to`.
 fn first_due<A: Allocator>(slots: &[Option<Peer<A>>], from: usize, to: usize) -> Option<usize>
     requires { to ≤ length slots.now }
     ensures { MatchOption result (NoneIsDueWithin slots.now from to) (IsFirstDueWithin slots.now from to) }

@@ -5,7 +5,7 @@ ghost use Rattle.std.specs.Prelude.{◌≡◌, ◌+◌, ◌-◌, ◌≤◌, ◌+
 use std::alloc::{AllocError, Allocator};
 use std::marker::Model;
 
-/// Bytes that may wait at most.
+/// The most bytes that may wait.
 pub(crate) const WAITING_MOST: usize = 4096;
 
 /// The bytes in the order in which they came, 4096 at most.
@@ -66,7 +66,7 @@ impl<A: Allocator> Waiting<A> {
     }
 }
 
-/// Lets go of the first bytes. It needs no memory.
+/// Drops the first `count` bytes. It needs no memory.
 pub(crate) fn drop_front<A: Allocator>(bytes: &mut Vec<u8, A>, count: usize)
     requires { count ≤ length bytes.old.items }
     ensures items { bytes.new.items ≡ drop count bytes.old.items }

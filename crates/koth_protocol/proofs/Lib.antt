@@ -1,5 +1,5 @@
 mod Cuts
-mod KindNames
+pub mod KindNames
 mod MatchLines
 pub mod Parts
 mod ProtocolRows

@@ -1,4 +1,4 @@
--- What a run says of its words, from how its request ended, or from why there is none.
+-- What a run promises for its arguments, from how its request ended, or from why there is none.
 use Rattle.std.proofs.Common.{◌≡◌, ◌≢◌, ◌⊎◌, ℕ, Bool, true, false, ap, List, [], Option, None, Some, Result, Ok, Err, inl, inr, ◌∙◌, refl, sym, subst, codes, length, option_map}
 use Rattle.std.specs.Prelude.{⊤, unwrap_or}
 use Rattle.std.specs.Str.{bytes_eq}
@@ -38,7 +38,7 @@ use Rattle.koth_words.specs.declared.words.Source.TheVariants as sources
 use Rattle.koth_words.specs.declared.words.View.{View}
 use Rattle.koth_commands.proofs.Told.{kept_part, keeps_some, writes_nothing}
 
--- the one fact or the other
+-- one fact or the other
 abbrev Either : Bool → Type 0 → Type 0 → Type 0
 Either true one other = one
 Either false one other = other
@@ -47,7 +47,7 @@ either : (b : Bool) (one other : Type 0) → one → other → Either b one othe
 either true one other is else = is
 either false one other is else = else
 
--- How the command of this name ends, with what the words give it: of any other name nothing is said.
+-- How the command of this name ends, with what the arguments give it: nothing is said of any other name.
 abbrev pub EndsNamed : Text → View → List Row → Status → Streams → Streams → Type 0
 EndsNamed name view given status before after =
     let settings = settings_of (settings_in given) in
@@ -66,9 +66,9 @@ EndsNamed name view given status before after =
     (Either (bytes_eq name (codes "serve")) (EndsServe status u v)
     (Either (bytes_eq name (codes "replay")) (EndsReplay (number_or 1 (one_of (codes "round") given)) settings status u v) ⊤))))))))))
 
--- ---- a request: the command that the words name ended so, under the settings that they give
+-- ---- a request: the command that the arguments name ended so, under the settings that they give
 
--- a source is the input where the words say so
+-- a source is the input if the arguments say so
 same_source : (name : Option Text) (source : Source) → IsSource name source → is_of_input source ≡ is_input name
 same_source name sources.Input is = sym is
 same_source name (sources.File path) is = sym is.0
@@ -115,13 +115,13 @@ asm_word true (Err fault) before after ends = ends
 asm_word false (Ok s) before after ends = ends.0
 asm_word false (Err fault) before after ends = ends.0
 
--- `asm` never ends as at a fault of the words
+-- `asm` never ends as at a fault of the arguments
 pub asm_no_word : (source : Source) (r : Result RawSettings SettingsFault) (status : Status) (before after : Streams) → EndsAsmFrom source r status before after
     → status ≢ WordFault
 asm_no_word source r status before after ends is =
     asm_word (is_of_input source) r before after (subst (λ t. EndsAsmFrom source r t before after) is ends)
 
--- ---- no request: memory keeps a command whose words are taken from its beginning
+-- ---- no request: lack of memory keeps a command whose arguments are taken from its beginning
 
 memory_is_no_fault : (status : Status) → status ≡ NoMemory → status ≡ WordFault → ⊥
 memory_is_no_fault status memory word = absurd (cc)
@@ -196,19 +196,19 @@ module _ (i o p e f : Option (List ℕ)) (status : Status) where
       subst (λ n. EndsWithout n status (streams None o e) (streams None p f)) is ends in
       subst (λ t. EndsNamed name view given t (streams i o e) (streams i p f)) (sym memory.0) (named_no_memory i o p e f memory.1 memory.2 name view given)
 
-  -- such a run doesn't end as at a fault of the words
+  -- such a run doesn't end as at a fault of the arguments
   pub words_without : (none : NoRequest) → none ≡ reasons.Memory → EndsWithout none status (streams None o e) (streams None p f) → status ≢ WordFault
   words_without reasons.Memory is ends word = memory_is_no_fault status ends.0 word
   words_without (reasons.Help text) is ends word = absurd (cc)
   words_without (reasons.WordFault text) is ends word = absurd (cc)
 
-  -- words that are wrong end so, or for want of memory
+  -- wrong arguments end so, or out of memory
   pub wrong_without : (none : NoRequest) → IsRefusal none → EndsWithout none status (streams None o e) (streams None p f) → (status ≡ WordFault) ⊎ (status ≡ NoMemory)
   wrong_without reasons.Memory is ends = inr ends.0
   wrong_without (reasons.Help text) is ends = absurd is
   wrong_without (reasons.WordFault text) is ends = inl ends.0
 
-  -- at a fault of the words nothing is read, and nothing is written on the output
+  -- at a fault of the arguments nothing is read, and nothing is written on the output
   pub fault_without : (none : NoRequest) → EndsWithout none status (streams None o e) (streams None p f) → status ≡ WordFault → Keeps i i × Keeps o p
   fault_without reasons.Memory ends is = absurd (memory_is_no_fault status ends.0 is)
   fault_without (reasons.Help text) ends is = absurd (ends is)

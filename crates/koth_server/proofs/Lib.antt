@@ -5,5 +5,4 @@ mod OldHeaders
 mod Replies
 mod Said
 mod Shown
-mod StillOpen
 mod Statuses

@@ -1,4 +1,4 @@
--- What a service tells stands on the errors.
+-- What a service reports stands on standard error.
 use Rattle.std.proofs.Common.{ℕ, List, Option, refl}
 use Rattle.koth_commands.proofs.Told.{whole_part}
 use Rattle.koth_commands.specs.Told.{WritesSome}

@@ -5,7 +5,7 @@ use Rattle.hill_bytes.specs.Layout.{HeaderParts, IsHeader, old_layout}
 use Rattle.hill_images.proofs.Finds.{other_parity}
 use Rattle.koth_server.specs.OldHill.{IsOldHeaderIf}
 
--- a header is a sector's where the parity of its generation is
+-- a header belongs to the sector whose parity is that of its generation
 pub old_by_parity : (n : ℕ) (bytes : List ℕ) (h : HeaderParts) → IsHeader old_layout bytes h → IsOldHeaderIf n bytes (h.generation % 2 == n)
 old_by_parity n bytes h header = elim (eqb_tells (h.generation % 2) n) [
   | inl own ↦ subst (IsOldHeaderIf n bytes) (sym own.0) (h, (own.1, header))

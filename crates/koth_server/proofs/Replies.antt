@@ -1,4 +1,4 @@
--- The text that tells a reply.
+-- The text of a reply.
 use Rattle.std.proofs.Common.{◌≡◌, ◌⊎◌, ℕ, List, [], Option, None, Some, IfSome, ◌++◌, inl, inr, refl, subst}
 use Rattle.sector_disk.specs.Facts.{DeviceFacts}
 use Rattle.hill_store.specs.Seen.{Seen, Submits}
@@ -14,7 +14,7 @@ use Rattle.koth_views.specs.declared.entrants.Entered.{Entered}
 use Rattle.koth_words.specs.declared.words.View.{View}
 use Rattle.koth_words.specs.declared.words.View.TheVariants as views
 
--- what became of the warrior is told if it is known who stood on the hill
+-- what became of the warrior is written if it is known who stood on the hill
 pub is_placing : {V : Type 0} (items : V → List Entered) (view : View) (old new : Kept) (reply : Reply) (stood : Option V) (more : List ℕ)
     → (view ≡ views.Plain → stood ≡ None) → IfSome stood (λ v. items v ≡ roster old) → (stood ≡ None → more ≡ [])
     → IfSome stood (λ v. (more ≡ []) ⊎ (more ≡ placing_view (items v) new reply)) → IsPlacing view old new reply more
@@ -25,7 +25,7 @@ is_placing items views.Table old new reply (Some v) more plain known none some =
   | inr is ↦ inr (subst (λ r. more ≡ placing_view r new reply) known is)
 ]
 
--- how a submission ends, from how its reply is told
+-- how a submission ends, from how its reply is written
 pub submitted : {D : Type 0} (facts : DeviceFacts D) (old new : Seen D) (source : List ℕ) (view : View) (reply : Reply) (more : List ℕ) (status : Status)
     (o p e f : Option (List ℕ)) → Submits facts old source reply new → IsPlacing view old.hill new.hill reply more → EndsReply reply more status o p e f
     → EndsSubmission facts old source new view status (streams None o e) (streams None p f)

@@ -19,7 +19,7 @@ use Rattle.koth_server.specs.declared.hill_fault.HillFault.TheVariants as faults
 use Rattle.koth_server.specs.declared.trouble.HillTrouble.{HillTrouble}
 use Rattle.koth_words.specs.declared.words.View.{View}
 
--- nothing was
+-- nothing was written
 pub nothing_new : (said : Said) (fault : HillFault) (o p : Option (List ℕ)) → Keeps o p → WritesAt said fault o p
 nothing_new said (faults.Failed kinds.Stream) o p kept = inl kept
 nothing_new said (faults.Failed kinds.Memory) o p kept = kept
@@ -56,7 +56,7 @@ module _ {D : Type 0} (facts : DeviceFacts D) (before after : Seen D) (source : 
     told = told;
   }
 
--- what may be said of one hill may be said of some
+-- an answer that one hill allows is one that some hill allows
 pub said_of_some : (one some : Said) → ((status : Status) (text : List ℕ) → one status text → some status text) → (fault : HillFault) (o p : Option (List ℕ))
     → WritesAt one fault o p → WritesAt some fault o p
 said_of_some one some holds (faults.Failed kinds.Stream) o p said = elim said [
@@ -70,7 +70,7 @@ said_of_some one some holds faults.NotAHill o p said = said
 said_of_some one some holds faults.OldHill o p said = said
 said_of_some one some holds faults.Damaged o p said = said
 
--- what is said of a hill is said of some hill
+-- an answer of a hill is one of some hill
 pub of_some_hill : (says : Kept → Said) (hill : Kept) (r : Result Status HillTrouble) (o p : Option (List ℕ))
     → Tries (says hill) r o p → Tries (λ status text. (hill : Kept) × says hill status text) r o p
 of_some_hill says hill (Ok status) o p said = record { text = said.text; answer = (hill, said.answer); written = said.written }
@@ -84,7 +84,7 @@ says_migrated (Err trouble) o p said =
     let part : SaysPart SaysMigrated o p = record { status = statuses.Done; text = migrated_line; answer = (refl, refl); written = said.1 } in
     subst (λ f. WritesAt SaysMigrated f o p) (sym said.0) (inr part)
 
--- or it was not, and nothing was written
+-- or the hill was not moved, and nothing was written
 pub says_refused : (r : Result Status HillTrouble) (why : HillTrouble → Type 0) (o p : Option (List ℕ)) → IsErrAnd r why → Keeps o p → Tries SaysMigrated r o p
 says_refused (Ok status) why o p refused kept = absurd refused
 says_refused (Err trouble) why o p refused kept = nothing_new SaysMigrated trouble.fault o p kept

@@ -16,7 +16,7 @@ refused-status reply is = elim is [
   | inr worn ↦ sym (ap reply_status worn)
 ]
 
--- no fault of a hill is one of the words
+-- no fault of a hill is a fault of the arguments
 pub never-words : (fault : HillFault) → fault_status fault ≡ statuses.WordFault → ⊥
 never-words faults.TooSmall is = absurd (cc)
 never-words faults.Occupied is = absurd (cc)

@@ -10,18 +10,18 @@ use Rattle.koth_commands.specs.declared.status.Status.TheVariants as statuses
 use Rattle.koth_protocol.specs.Written.{WritesPart}
 use Rattle.koth_server.specs.Hills.{Said, TellsFault}
 
--- three counts of a match behind a word
+-- three counts of a match after a word
 abbrev pub counts_line : List ℕ → Bout → List ℕ
 counts_line word b = word ++ decimal b.older_wins ++ codes " " ++ decimal b.younger_wins ++ codes " " ++ decimal b.ties ++ codes "\n"
 
--- the pair, by its entries, what is kept of it and what its match comes to
+-- the pair, by its entries, the result that is kept of it, and the result of its match
 abbrev pub pair_line : ℕ → ℕ → List ℕ
 pair_line older younger = codes "PAIR " ++ decimal older ++ codes " " ++ decimal younger ++ codes "\n"
 
 abbrev pub untrue_text : Untrue → List ℕ
 untrue_text u = pair_line u.older u.younger ++ (counts_line (codes "KEPT ") u.kept ++ counts_line (codes "FOUGHT ") u.fought)
 
--- what an audit of a hill finds: nothing only where each result that it keeps is its match's, else the first that isn't
+-- what an audit of a hill finds: nothing only if each result that the hill keeps is its match's, else the first that isn't
 abbrev pub IsAudited : Kept → Option Untrue → Type 0
 IsAudited hill None = AreTrue hill
 IsAudited hill (Some u) = IsUntrue hill u.older u.younger u.kept u.fought × AreTrueBefore hill u.older u.younger
@@ -34,7 +34,7 @@ abbrev pub audit_answer : Option Untrue → List ℕ
 audit_answer None = codes "true\n"
 audit_answer (Some u) = codes "false\n"
 
--- what is told of it on the errors
+-- what is written of it on standard error
 abbrev pub told_of : Option Untrue → List ℕ
 told_of None = []
 told_of (Some u) = untrue_text u
@@ -43,11 +43,11 @@ told_of (Some u) = untrue_text u
 abbrev pub AuditsOf : Kept → Said
 AuditsOf hill status text = (found : Option Untrue) × IsAudited hill found × (status ≡ audit_status found) × (text ≡ audit_answer found)
 
--- that of some hill
+-- the answer to an audit of some hill
 abbrev pub SaysAudit : Said
 SaysAudit status text = (hill : Kept) × AuditsOf hill status text
 
--- the answer to an audit of this hill was written, and what is told of an untrue result, or a part of that
+-- the answer to an audit of this hill was written, and what is reported of an untrue result, or a part of that
 pub record Audits (hill : Kept) (status : Status) (before after : Streams) : Type 0 where
   pub found : Option Untrue
   pub audited : IsAudited hill found

@@ -1,4 +1,4 @@
--- What is told of a command on a hill that was not carried out.
+-- What is reported of a command on a hill that was not carried out.
 use Rattle.std.specs.Prelude.{ℕ, Option, None, Some, option_map, List, ◌++◌, codes, decimal}
 use Rattle.hill_file.specs.declared.open_fault.OpenFault.{OpenFault}
 use Rattle.hill_file.specs.declared.open_fault.OpenFault.TheVariants as files
@@ -15,7 +15,7 @@ use Rattle.koth_server.specs.declared.trouble.HillTrouble.{HillTrouble}
 use Rattle.koth_commands.specs.declared.status.Status.{Status}
 use Rattle.koth_commands.specs.declared.status.Status.TheVariants as statuses
 
--- the word on the standard error
+-- the word on standard error
 abbrev pub fault_word : HillFault → List ℕ
 fault_word TooSmall = codes "TooSmall"
 fault_word Occupied = codes "Occupied"
@@ -33,7 +33,7 @@ fault_status OldHill = statuses.Refused
 fault_status Damaged = statuses.Refused
 fault_status (Failed failure) = failure_status failure
 
--- what people are told of it
+-- what people read of it
 abbrev pub fault_reason : HillFault → Reason
 fault_reason TooSmall = reasons.TooShort
 fault_reason Occupied = reasons.NotEmpty
@@ -43,11 +43,11 @@ fault_reason Damaged = reasons.Damaged
 fault_reason (Failed failures.Stream) = reasons.Device
 fault_reason (Failed failures.Memory) = reasons.Memory
 
--- what people are told of the warrior with this entry that can't be read, of the hill in this file
+-- what people read of the warrior with this entry, on the hill in this file, that can't be read
 abbrev pub damage_told : List ℕ → ℕ → List ℕ
 damage_told path entry = path ++ (codes ", warrior " ++ reason_told (decimal entry) reasons.Unreadable)
 
--- a store's refusal: of a device's fault and of want of memory no name is told
+-- a store's refusal: a device's fault and lack of memory have no name of their own
 abbrev pub fault_of_refusal : Refusal → HillFault
 fault_of_refusal refusals.Disk = Failed failures.Stream
 fault_of_refusal refusals.TooSmall = TooSmall
@@ -67,13 +67,13 @@ fault_of_file files.Locked = stream_failed
 fault_of_file files.Occupied = Occupied
 fault_of_file (files.Failed kind) = stream_failed
 
--- and why, unless for want of memory
+-- and why, unless memory ran out
 abbrev pub open_reason : OpenFault → Option Reason
 open_reason files.Memory = None
 open_reason files.Locked = Some reasons.InUse
 open_reason files.Occupied = Some reasons.NotEmpty
 open_reason (files.Failed kind) = Some (error_reason kind)
 
--- the line of its cause, where that is known
+-- the line of its cause, if that is known
 abbrev pub trouble_told : HillTrouble → Option (List ℕ)
 trouble_told trouble = option_map (λ cause. cause_told cause) trouble.cause

@@ -32,21 +32,21 @@ use Rattle.koth_server.specs.declared.trouble.HillTrouble.{HillTrouble}
 use Rattle.koth_commands.specs.declared.status.Status.{Status}
 use Rattle.koth_commands.specs.declared.status.Status.TheVariants as statuses
 
--- the line that tells the port
+-- the line that names the port
 abbrev pub listening_line : ℕ → List ℕ
 listening_line port = codes "LISTENING " ++ decimal port ++ codes "\n"
 
--- what stands behind the line of a reply that made of the one hill the other: for people what became of the warrior, unless there was no
--- memory for that
+-- what stands after the line of a reply that turned the old hill into the new one: for people what became of the warrior, unless there was
+-- no memory for that
 abbrev pub IsPlacing : View → Kept → Kept → Reply → List ℕ → Type 0
 IsPlacing views.Plain old new reply more = more ≡ []
 IsPlacing views.Table old new reply more = (more ≡ []) ⊎ (more ≡ placing_view (roster old) new reply)
 
--- the text that tells a reply
+-- the text of a reply
 abbrev pub IsReplyText : View → Kept → Kept → Reply → List ℕ → Type 0
 IsReplyText view old new reply text = (more : List ℕ) × IsPlacing view old new reply more × (text ≡ reply_line reply ++ more)
 
--- what is told on the errors besides: some text that explains a refusal, and else nothing
+-- what is written on standard error besides: some text that explains a refusal, and else nothing
 abbrev pub ExplainsReply : Reply → Option (List ℕ) → Option (List ℕ) → Type 0
 ExplainsReply (replies.Refused fault) old new = WritesSome old new
 ExplainsReply (replies.Placed entry rank score) old new = Keeps old new
@@ -64,12 +64,12 @@ Said = Status → List ℕ → Type 0
 abbrev pub SaysCreated : Said
 SaysCreated status text = (status ≡ statuses.Done) × (text ≡ codes "CREATED\n")
 
--- the text that tells a reply, which a hill that was just opened gives
+-- the text of a reply that a hill gives that was just opened
 abbrev pub SaysReply : View → Said
 SaysReply view status text = (old : Kept) × (new : Kept) × (reply : Reply)
     × (reply ≢ replies.Reopen) × (status ≡ reply_status reply) × IsReplyText view old new reply text
 
--- the table of this hill, by the results that it keeps, and behind it the matrix of these, where it is asked for: for programs
+-- the table of this hill, by the results that it keeps, and after it their matrix, if that is asked for: for programs
 abbrev pub shown_lines : Bool → Kept → List ℕ
 shown_lines matches hill = if matches then show_text (table_kept hill) ++ matches_text hill else show_text (table_kept hill)
 
@@ -105,7 +105,7 @@ pub record SaysPart (said : Said) (old new : Option (List ℕ)) : Type 0 where
   pub answer : said status text
   pub written : WritesPart old new text
 
--- where a stream failed, a part of such an answer may be on the output; else nothing is
+-- if a stream failed, a part of such an answer may be on the output; else nothing is
 abbrev pub WritesAt : Said → HillFault → Option (List ℕ) → Option (List ℕ) → Type 0
 WritesAt said (faults.Failed kinds.Stream) old new = Keeps old new ⊎ SaysPart said old new
 WritesAt said (faults.Failed kinds.Memory) old new = Keeps old new
@@ -115,28 +115,28 @@ WritesAt said faults.NotAHill old new = Keeps old new
 WritesAt said faults.OldHill old new = Keeps old new
 WritesAt said faults.Damaged old new = Keeps old new
 
--- before a fault is told
+-- before a fault is reported
 abbrev pub Tries : Said → Result Status HillTrouble → Option (List ℕ) → Option (List ℕ) → Type 0
 Tries said (Ok status) old new = SaysWhole said status old new
 Tries said (Err trouble) old new = WritesAt said trouble.fault old new
 
--- a fault was told on the errors
+-- a fault was reported on standard error
 pub record TellsFault (said : Said) (status : Status) (before after : Streams) : Type 0 where
   pub fault : HillFault
   pub ends : status ≡ fault_status fault
   pub output : WritesAt said fault before.output after.output
   pub told : TellsWord (fault_word fault) before.errors after.errors
 
--- how such a command ends: carried out, with nothing on the errors, or with a fault
+-- how such a command ends: carried out, with nothing on standard error, or with a fault
 abbrev pub EndsHill : Said → Status → Streams → Streams → Type 0
 EndsHill said status before after =
     (SaysWhole said status before.output after.output × Keeps before.errors after.errors) ⊎ TellsFault said status before after
 
--- how `create` ends: as such a command under the settings that are given, with their refusal, or for want of memory
+-- how `create` ends: as such a command under the settings that are given, with their refusal, or out of memory
 abbrev pub EndsCreate : Result RawSettings SettingsFault → Status → Streams → Streams → Type 0
 EndsCreate settings status before after = EndsGiven (λ s. EndsHill SaysCreated) settings status before after
 
--- a submission that a store answered, which made of the one hill the other: the text that tells the reply was written, and a refusal
+-- a submission that a store answered, which turned the old hill into the new one: the text of the reply was written, and a refusal was
 -- explained
 pub record SaysSubmitted (view : View) (old new : Kept) (reply : Reply) (status : Status) (before after : Streams) : Type 0 where
   pub text : List ℕ
@@ -151,20 +151,20 @@ EndsSubmit view status before after =
     ((old : Kept) × (new : Kept) × (reply : Reply) × (reply ≢ replies.Reopen) × SaysSubmitted view old new reply status before after)
     ⊎ TellsFault (SaysReply view) status before after
 
--- how it ends that a reply is written and a text behind it, by what the output and then the errors hold before and after
+-- how writing a reply and a text after it ends, by what the output and then standard error hold before and after
 abbrev pub EndsReply : Reply → List ℕ → Status → Option (List ℕ) → Option (List ℕ) → Option (List ℕ) → Option (List ℕ) → Type 0
 EndsReply reply more status o p e f =
     ((status ≡ reply_status reply) × Appends o p (reply_line reply ++ more) × ExplainsReply reply e f)
     ⊎ ((status ≡ statuses.StreamFault) × WritesPart o p (reply_line reply ++ more) × TellsWord (failure_word kinds.Stream) e f)
 
--- how the submission of a source to a store ends: with its reply, or where the output failed with a part of what tells the reply
+-- how the submission of a source to a store ends: with its reply, or with a part of the reply's text if the output failed
 abbrev pub EndsSubmission : {D : Type 0} → DeviceFacts D → Seen D → List ℕ → Seen D → View → Status → Streams → Streams → Type 0
 EndsSubmission facts old source new view status before after = (reply : Reply) × Submits facts old source reply new
     × (SaysSubmitted view old.hill new.hill reply status before after
     ⊎ ((status ≡ statuses.StreamFault) × ((text : List ℕ) × IsReplyText view old.hill new.hill reply text × WritesPart before.output after.output text)
     × Tells kinds.Stream before after))
 
--- how `serve` ends: behind its line, or with a fault, and then a part of that line may stand on the output; the log stands on the errors
+-- how `serve` ends: after its line, or with a fault, and then a part of that line may stand on the output; the log stands on standard error
 pub record TellsServeFault (status : Status) (before after : Streams) : Type 0 where
   pub fault : HillFault
   pub ends : status ≡ fault_status fault

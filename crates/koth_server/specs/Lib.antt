@@ -1,7 +1,7 @@
--- What is told of a fault of a hill, and how the program ends with it, and with a reply.
+-- What is reported of a fault of a hill, and how the program ends with it, and with a reply.
 pub mod HillFault
 pub mod ReplyStatus
--- What is told of a device whose hill is not opened, and of a hill of the old format.
+-- What is reported of a device whose hill is not opened, and of a hill of the old format.
 pub mod OldHill
 -- What each command on a hill writes and how it ends.
 pub mod Hills

@@ -24,7 +24,7 @@ pub record Migrates {D : Type 0} (facts : DeviceFacts D) (old new : D) : Type 0 
   pub store : Seen D
   pub migrated : IsMigrated facts facts old after new store
 
--- it was not, and this is told of it
+-- the hill was not moved, and this is reported
 pub record RefusesToMigrate {D : Type 0} (facts : DeviceFacts D) (old new : D) (trouble : HillTrouble) : Type 0 where
   pub old_after : D
   pub new_after : D
@@ -32,12 +32,12 @@ pub record RefusesToMigrate {D : Type 0} (facts : DeviceFacts D) (old new : D) (
   pub refused : IsNotMigrated facts facts old old_after new new_after why
   pub told : trouble.fault ≡ fault_of_refusal why.refusal
 
--- the line that says so was written, or a part of it where the output failed
+-- the line that says so was written, or a part of it if the output failed
 abbrev pub TellsMigrated : Result Status HillTrouble → Option (List ℕ) → Option (List ℕ) → Type 0
 TellsMigrated (Ok status) before after = (status ≡ statuses.Done) × Appends before after migrated_line
 TellsMigrated (Err trouble) before after = (trouble.fault ≡ stream_failed) × WritesPart before after migrated_line
 
--- what moving a hill from one device to another answers and writes: nothing where it was not moved
+-- what moving a hill from one device to another answers and writes: nothing if it was not moved
 abbrev pub MigratesTo : {D : Type 0} → DeviceFacts D → D → D → Result Status HillTrouble → Option (List ℕ) → Option (List ℕ) → Type 0
 MigratesTo facts old new result before after =
     (Migrates facts old new × TellsMigrated result before after)

@@ -1,4 +1,4 @@
--- How it is known that a device holds a hill of the old format, and what is told of a device whose hill is not opened.
+-- How it is known that a device holds a hill of the old format, and what is reported of a device whose hill is not opened.
 use Rattle.std.specs.Prelude.{◌≡◌, ◌≢◌, ◌⊎◌, ℕ, ◌%◌, Bool, true, false, List, Some, None}
 use Rattle.sector_disk.specs.Disk.{current}
 use Rattle.sector_disk.specs.Facts.{DeviceFacts}
@@ -17,17 +17,16 @@ abbrev pub IsOldHeaderIf : ℕ → List ℕ → Bool → Type 0
 IsOldHeaderIf n bytes true = (h : HeaderParts) × IsFoundIn old_layout n bytes (Some h)
 IsOldHeaderIf n bytes false = IsFoundIn old_layout n bytes None
 
--- a sector holds one
+-- a sector holds a valid header of the old format
 abbrev pub HoldsOld : (ℕ → List ℕ) → Type 0
 HoldsOld image = (h : HeaderParts) × IsHeader old_layout (image (h.generation % 2)) h
 
--- whether one does
+-- whether one of the first two sectors does
 abbrev pub HoldsOldIf : (ℕ → List ℕ) → Bool → Type 0
 HoldsOldIf image true = HoldsOld image
 HoldsOldIf image false = HoldsNoneIn old_layout image
 
--- what is told of a device without a hill of the new format: whether it holds one of the old, and where it failed when it was read for that,
--- nothing of the old
+-- what is reported of a device without a hill of the new format: whether it holds a hill of the old one, unless reading it for that failed
 abbrev pub TellsNoHill : {D : Type 0} → DeviceFacts D → D → D → HillFault → Type 0
 TellsNoHill facts old new OldHill = facts.lawful old → HoldsOld (current (facts.disk old))
 TellsNoHill facts old new NotAHill = Failed facts old new ⊎ (facts.lawful old → HoldsNoneIn old_layout (current (facts.disk old)))
@@ -36,12 +35,12 @@ TellsNoHill facts old new Occupied = ⊥
 TellsNoHill facts old new Damaged = ⊥
 TellsNoHill facts old new (Fails failure) = ⊥
 
--- what is told of a device that was refused
+-- what is reported of a device that was refused
 pub record TellsRefusal {D : Type 0} (facts : DeviceFacts D) (old new : D) (why : Refusal) (fault : HillFault) : Type 0 where
   pub no_hill : why ≡ refusals.NotAHill → TellsNoHill facts old new fault
   pub other : why ≢ refusals.NotAHill → fault ≡ fault_of_refusal why
 
--- the hill on a device was not opened, and this is told of it
+-- the hill on a device was not opened, and this is reported
 pub record IsUnopened {D : Type 0} (facts : DeviceFacts D) (device : D) (fault : HillFault) : Type 0 where
   pub refused : D
   pub kept : IsKept facts device refused

@@ -1,4 +1,4 @@
--- What the page of a hill is told as.
+-- What `page` writes.
 use Rattle.std.specs.Prelude.{◌≡◌}
 use Rattle.koth_hill.specs.Kept.{Kept}
 use Rattle.koth_page.specs.declared.links.Links.TheVariants as links

@@ -9,13 +9,13 @@ use Rattle.koth_http.specs.declared.target.Page.{Page}
 use Rattle.koth_http.specs.declared.target.Page.TheVariants as pages
 use Rattle.koth_commands.specs.Replay.{has_round, IsRoundText}
 
--- this warrior entered as this one, and is among those on the hill
+-- this warrior is on the hill, under this entry
 pub record HasWarrior (members : List Member) (entry : ℕ) (warrior : WarriorParts) : Type 0 where
   pub place : ℕ
   pub age : ℕ
   pub stands : slice_get members place ≡ Some (member_of entry age warrior)
 
--- a warrior on the hill entered as this one
+-- a warrior on the hill has this entry
 abbrev pub IsOnHill : List Member → ℕ → Type 0
 IsOnHill members entry = (warrior : WarriorParts) × HasWarrior members entry warrior
 

@@ -29,11 +29,11 @@ use Rattle.koth_words.specs.declared.words.View.{View}
 abbrev pub Leaves : ℕ → (Status → Type 0) → Type 0
 Leaves code holds = (status : Status) × (code ≡ status_code status) × holds status
 
--- the view that the words ask for, and else this one
+-- the view that the arguments ask for, and else the usual one
 abbrev pub viewed : Option View → View → View
 viewed asked usual = unwrap_or asked usual
 
--- how a request's command ends where tables are in this view unless it asks for one
+-- how a request's command ends if tables are in this view unless it asks for one
 abbrev pub CommandEnds : View → Request → Status → Streams → Streams → Type 0
 CommandEnds view (Asm given source) status before after = EndsAsmFrom source (settings_of given) status before after
 CommandEnds view (Check given checked) status before after =
@@ -50,27 +50,28 @@ CommandEnds view (Page file) status before after = EndsHill SaysPage status (unr
 CommandEnds view (Serve service) status before after = EndsServe status (unread before) (unread after)
 CommandEnds view (Replay given watched) status before after = EndsReplay watched.round (settings_of given) status (unread before) (unread after)
 
--- how a run ends that carried a request out: as its command does, and never as at a fault of the words
+-- how a run ends that carried a request out: as its command does, and never as at a fault of the arguments
 abbrev pub EndsRequest : View → Request → Status → Streams → Streams → Type 0
 EndsRequest view request status before after = CommandEnds view request status before after × (status ≢ statuses.WordFault)
 
--- how a run ends at words that ask for nothing that is done; the input is not read
+-- how a run ends at arguments that ask for no command; the input is not read
 abbrev pub EndsWithout : NoRequest → Status → Streams → Streams → Type 0
 EndsWithout (reasons.Help text) status before after = status ≢ statuses.WordFault
 EndsWithout (reasons.WordFault text) status before after = (status ≡ statuses.WordFault) × Keeps before.output after.output
 EndsWithout reasons.Memory status before after =
     (status ≡ statuses.NoMemory) × Keeps before.output after.output × Tells failures.Memory before after
 
--- the files that the words name for `check`
+-- the files that the arguments name for `check`
 abbrev pub files_named : List (List ℕ) → List Text
 files_named given = unwrap_or (all_of (codes "FILE") (given_by given)) []
 
--- the round that the words name for `replay`, counted from 1
+-- the round that the arguments name for `replay`, counted from 1
 abbrev pub round_named : List (List ℕ) → ℕ
 round_named given = number_or 1 (one_of (codes "round") (given_by given))
 
--- How a run with these words ends, where tables are in this view unless the words ask for one: as the command that they name does, under the
--- settings that they give; only words that are wrong end as a fault of the words, and then nothing is read, and nothing written on the output.
+-- How a run with these arguments ends, if tables are in this view unless the arguments ask for one: as the command that they name does, under
+-- the settings that they give. Only wrong arguments end as a fault of the arguments, and then nothing is read, and nothing is written on the
+-- output.
 pub record EndsRun (view : View) (given : List (List ℕ)) (status : Status) (before after : Streams) : Type 0 where
   pub asm : AsksFor (codes "asm") given → EndsAsmOf (reads_input given) (settings_of (settings_named given)) status before after
   pub check : AsksFor (codes "check") given

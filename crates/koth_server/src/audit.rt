@@ -18,10 +18,10 @@ use std::alloc::Allocator;
 use std::io::Write;
 use std::rt::Files;
 
-/// Fights every pair of the hill in a file anew, and writes `true` where each result that is kept is what its match comes to, else `false`.
-/// Then it tells on the errors the first pair of which it isn't, by the younger warrior's entry and then the older's: their entries, what is
-/// kept of them, and what their match comes to, each as the rounds that the older won, that the younger won, and ties.
-pub(crate) fn audit<R, A, O, E>(
+/// Fights every pair of the hill in a file again, and writes `true` if each result that is kept is its match's, else `false`. Then it writes
+/// on standard error the first pair whose result isn't, by the younger warrior's entry and then the older's. It writes their entries, the
+/// result that is kept, and that of their match, each as the rounds that the older won, that the younger won, and ties.
+pub(crate) fn audit<R: Files, A: Allocator + Copy, O: Write, E: Write>(
     rt: &R,
     alloc: A,
     path: &str,
@@ -29,11 +29,7 @@ pub(crate) fn audit<R, A, O, E>(
     errors: &mut E,
 ) -> Status
 where
-    R: Files,
     R::File: TryLock,
-    A: Allocator + Copy,
-    O: Write,
-    E: Write,
     ensures ends { EndsAudit result
         (streams None (O.contents output.old) (E.contents errors.old))
         (streams None (O.contents output.new) (E.contents errors.new)) }
@@ -73,7 +69,7 @@ fn answer(found: Option<Untrue>) -> &'static [u8]
     }
 }
 
-/// Tells of an untrue result, and says how the program ends. Where it can't be told, the answer and the status tell.
+/// Reports an untrue result, and returns how the program ends. If it can't be reported, the answer and the status still say it.
 fn finish<E: Write>(found: Option<Untrue>, errors: &mut E) -> Status
     ensures status { result ≡ audit_status found }
     ensures told { WritesPart (E.contents errors.old) (E.contents errors.new) (told_of found) }
@@ -87,7 +83,7 @@ fn finish<E: Write>(found: Option<Untrue>, errors: &mut E) -> Status
     }
 }
 
-/// Writes the pair of an untrue result, what is kept of it, and what its match comes to.
+/// Writes the pair of an untrue result, the result that is kept, and that of its match.
 fn write_untrue<E: Write>(untrue: &Untrue, errors: &mut E) -> Result<(), StreamFault>
     ensures whole { OnOk result (Appends (E.contents errors.old) (E.contents errors.new) (untrue_text untrue.now)) }
     ensures part { OnErr result (WritesPart (E.contents errors.old) (E.contents errors.new) (untrue_text untrue.now)) }

@@ -17,10 +17,10 @@ use std::io::Write;
 use std::rt::Files;
 use war_types::{RawSettings, Settings};
 
-/// Makes the file where it is missing, just large enough for the hill, and creates the hill in it. Settings that are out of
+/// Makes the file if it is missing, just large enough for the hill, and creates the hill in it. Settings that are out of
 /// their ranges are refused before the file is touched. A file that holds anything but zeros is refused as `Occupied` and stays as it is,
-/// unless the words say that it is to be overwritten.
-pub(crate) fn create<R, A, O, E>(
+/// unless the arguments say that it is to be overwritten.
+pub(crate) fn create<R: Files, A: Allocator + Copy, O: Write, E: Write>(
     rt: &R,
     alloc: A,
     given: RawSettings,
@@ -29,11 +29,7 @@ pub(crate) fn create<R, A, O, E>(
     errors: &mut E,
 ) -> Status
 where
-    R: Files,
     R::File: TryLock,
-    A: Allocator + Copy,
-    O: Write,
-    E: Write,
     ensures ends { EndsCreate (settings_of given) result
         (streams None (O.contents output.old) (E.contents errors.old))
         (streams None (O.contents output.new) (E.contents errors.new)) }
@@ -45,7 +41,7 @@ where
     }
 }
 
-fn create_under<R, A, O, E>(
+fn create_under<R: Files, A: Allocator + Copy, O: Write, E: Write>(
     rt: &R,
     alloc: A,
     settings: Settings,
@@ -54,11 +50,7 @@ fn create_under<R, A, O, E>(
     errors: &mut E,
 ) -> Status
 where
-    R: Files,
     R::File: TryLock,
-    A: Allocator + Copy,
-    O: Write,
-    E: Write,
     ensures ends { EndsHill SaysCreated result
         (streams None (O.contents output.old) (E.contents errors.old))
         (streams None (O.contents output.new) (E.contents errors.new)) }
@@ -70,7 +62,7 @@ where
     }
 }
 
-fn create_file<'c, R, A, O>(
+fn create_file<'c, R: Files, A: Allocator + Copy, O: Write>(
     rt: &'c R,
     alloc: A,
     settings: Settings,
@@ -78,10 +70,7 @@ fn create_file<'c, R, A, O>(
     output: &mut O,
 ) -> Result<Status, HillTrouble<'c>>
 where
-    R: Files,
     R::File: TryLock,
-    A: Allocator + Copy,
-    O: Write,
     ensures { Tries SaysCreated result (O.contents output.old) (O.contents output.new) }
 {
     let existing = if creation.overwrite {

@@ -9,7 +9,7 @@ use std::alloc::{AllocError, Allocator};
 use war_types::Settings;
 
 /// The entry of the first warrior, in the order in which they entered, whose slot holds no warrior of this hill. `None` if all can be read,
-/// or if it can't be known: the device fails, memory runs out, or there is no header.
+/// or if that can't be known: the device fails, memory runs out, or there is no header.
 pub(crate) fn damaged_entry<D: Device, A: Allocator + Copy>(
     alloc: A,
     device: &mut D,
@@ -36,7 +36,7 @@ fn can_be_read<D: Device, A: Allocator + Copy>(
     }
 }
 
-/// The header of the greater generation, of those in the first two sectors that stand where theirs belongs.
+/// The header of the greater generation in the first two sectors, of those whose generation has the parity of its sector.
 fn newest_header<D: Device>(device: &mut D) -> Option<Header> {
     let even = header_at(device, 0);
     let odd = header_at(device, 1);
@@ -64,7 +64,7 @@ fn header_at<D: Device>(device: &mut D, n: u32) -> Option<Header> {
     }
 }
 
-/// The sectors of a slot, which lie behind those of the slots before it.
+/// The sectors of a slot, which lie after those of the slots before it.
 fn slot_of<D: Device>(device: &mut D, slot: u8) -> Option<Slot> {
     let end = sectors_for(u16::from(slot));
     let mut content = Slot::blank();

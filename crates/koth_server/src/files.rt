@@ -18,16 +18,14 @@ use std::rt::Files;
 pub(crate) type HillStore<'f, R, A> = Store<HillFile<'f, R>, A>;
 
 /// Opens the hill in a file.
-pub(crate) fn open_hill<'f, R, A>(
+pub(crate) fn open_hill<'f, R: Files, A: Allocator + Copy>(
     rt: &'f R,
     alloc: A,
     path: &'f str,
     sharing: Sharing,
 ) -> Result<HillStore<'f, R, A>, HillTrouble<'f>>
 where
-    R: Files,
     R::File: TryLock,
-    A: Allocator + Copy,
     ensures { IfOk result (λ store. store.reopen ≡ false) }
 {
     match HillFile::open(rt, path, sharing) {
@@ -40,16 +38,14 @@ where
 }
 
 /// Why the hill in a file isn't opened. If a warrior in it can't be read, the file is read once more for which one it is.
-fn trouble_of_opening<'f, R, A>(
+fn trouble_of_opening<'f, R: Files, A: Allocator + Copy>(
     rt: &'f R,
     alloc: A,
     path: &'f str,
     fault: HillFault,
 ) -> HillTrouble<'f>
 where
-    R: Files,
     R::File: TryLock,
-    A: Allocator + Copy,
     ensures { result.fault ≡ fault }
 {
     match fault {
@@ -62,11 +58,9 @@ where
 }
 
 /// The entry of the first warrior of the hill in a file that can't be read, if that can be known.
-fn damaged_in<R, A>(rt: &R, alloc: A, path: &str) -> Option<u64>
+fn damaged_in<R: Files, A: Allocator + Copy>(rt: &R, alloc: A, path: &str) -> Option<u64>
 where
-    R: Files,
     R::File: TryLock,
-    A: Allocator + Copy,
 {
     match HillFile::open(rt, path, Sharing::Shared) {
         Ok(mut device) => damaged_entry(alloc, &mut device),
@@ -88,7 +82,7 @@ fn open_on<D: Device + Drop, A: Allocator + Copy>(
     }
 }
 
-/// What a refused opening comes to.
+/// The fault for a refused opening.
 fn fault_of_opening<D: Device>(device: &mut D, refusal: Refusal) -> HillFault
     requires { refusal ≡ Refusal.NotAHill → 2 ≤ D.facts.size device.old }
     ensures { TellsRefusal D.facts device.old device.new refusal result }
@@ -99,7 +93,7 @@ fn fault_of_opening<D: Device>(device: &mut D, refusal: Refusal) -> HillFault
     }
 }
 
-/// What it comes to that a device holds no hill. Where the device fails, nothing is told of the old format.
+/// The fault for a device that holds no hill. If the device fails, the fault says nothing of the old format.
 fn fault_without_hill<D: Device>(device: &mut D) -> HillFault
     requires { 2 ≤ D.facts.size device.old }
     ensures { TellsNoHill D.facts device.old device.new result }

@@ -3,7 +3,7 @@
 use koth_commands::{Failure, Reason, Status};
 
 /// Why a command on a hill was not carried out.
-#[derive(Clone, Copy, Debug, PartialEq, Eq)]
+#[derive(Clone, Copy, PartialEq, Eq)]
 pub enum HillFault {
     /// The file has too few sectors for its hill.
     TooSmall,
@@ -46,7 +46,7 @@ impl HillFault {
         }
     }
 
-    /// What people are told of it.
+    /// What people read of it.
     pub(crate) fn reason(self) -> Reason
         ensures { result ≡ fault_reason self }
     {

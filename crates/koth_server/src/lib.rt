@@ -1,21 +1,21 @@
-//! The program `koth`: its words, and the commands on a hill.
+//! The program `koth`: its arguments, and the commands on a hill.
 //!
-//! It stands on all other layers and says what each word of the command line makes of them. The modules, in the order in
-//! which the data pass:
+//! It stands on all other layers and carries out what the command line asks of them. The modules, in the order in which the
+//! data pass:
 //!
-//! - `program`: `run`, which carries out what the words of the command line ask for, by `koth_words`, and ends with a status;
-//! - `create`, `submit`, `show`, `page`, `audit`, `migrate`, `serve`: a command on a hill each, and `log`: what is told of a service;
+//! - `program`: `run`, which carries out what the arguments of the command line ask for, by `koth_words`, and ends with a status;
+//! - `create`, `submit`, `show`, `page`, `audit`, `migrate`, `serve`: a command on a hill each, and `log`: what a service reports;
 //! - `pages`: the pages that browsers of a service ask for;
 //! - `files`: the hill in a file, opened, `old_hill`: how one of the old format is known, and `damage`: which warrior can't be read;
-//! - `hill_fault`, `reply_status`: what is told of a hill that can't be worked on, and how the program ends then, and with a
-//!   reply.
+//! - `hill_fault`, `trouble`, `reply_status`: what is reported of a hill that can't be worked on, and how the program ends then, and with
+//!   a reply.
 //!
-//! `run` says what is written and how it ends as a function of the words and of what was read (`asm`, `fight`, `create`,
-//! `submit`, `show`, `page`, `audit`, `migrate`, `serve`); at words with a fault nothing is read, and nothing is written on the output (`word_fault`).
-//! What a service does is `koth_service`'s.
+//! The clause of `run` gives what is written and how it ends as a function of the arguments and of what was read (`asm`, `fight`, `create`,
+//! `submit`, `show`, `page`, `audit`, `migrate`, `serve`). At wrong arguments nothing is read, and nothing is written on the output
+//! (`word_fault`). What a service does is in `koth_service`.
 //!
-//! Settings must be checked before anything is read, and a hill opened before a source is. `asm`, `fight` and the statuses
-//! are `koth_commands`', a session and its lines `koth_session`'s, and this crate passes on what is public of them.
+//! Settings must be checked before anything is read, and a hill opened before a source is. `asm`, `fight` and the statuses are in
+//! `koth_commands`, a session and its lines in `koth_session`, and this crate passes on what is public of them.
 #![tactic(auto)]
 
 mod audit;

@@ -1,4 +1,4 @@
-//! What is told of a service while it runs: its connections, its submissions and its faults, each with the time.
+//! What a service reports while it runs: its connections, its submissions and its faults, each with the time.
 
 ghost use Rattle.koth_commands.specs.Told.{WritesSome};
 
@@ -10,7 +10,7 @@ use std::io::Write;
 use std::net::SocketAddr;
 use std::rt::Clock;
 
-/// Who is told what happens.
+/// The log of a service.
 #[derive(Clone, Copy)]
 pub struct Log<'r, R> {
     clock: &'r R,
@@ -18,12 +18,12 @@ pub struct Log<'r, R> {
 }
 
 impl<'r, R: Clock> Log<'r, R> {
-    /// A log by this clock. A quiet one tells only of devices that failed.
+    /// A log by this clock. A quiet log reports only devices that failed.
     pub fn new(clock: &'r R, quiet: bool) -> Log<'r, R> {
         Log { clock, quiet }
     }
 
-    /// Tells what happened with a peer, unless it is quiet.
+    /// Reports what happened with a peer, unless the log is quiet.
     pub(crate) fn tell<A: Allocator, E: Write>(
         &self,
         alloc: A,
@@ -41,7 +41,7 @@ impl<'r, R: Clock> Log<'r, R> {
         }
     }
 
-    /// Tells where browsers see the hill, if they do.
+    /// Reports where browsers see the hill, if they do.
     pub(crate) fn tell_pages<A: Allocator, E: Write>(
         &self,
         alloc: A,

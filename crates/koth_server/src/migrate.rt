@@ -19,9 +19,9 @@ use std::rt::Files;
 const GREATEST_CAPACITY: u16 = 20;
 
 /// Moves the hill in a file of the old format to another file, in the new one. Nothing is written to the old file. The new one is made if it
-/// is missing, large enough for any hill, before it is known whether the old one holds a hill, and stays if the hill is not moved. A new file
-/// that holds anything but zeros is refused as `Occupied` and stays as it is.
-pub(crate) fn migrate<R, A, O, E>(
+/// is missing, large enough for any hill. That is done before it is known whether the old one holds a hill, and the file stays if the hill is
+/// not moved. A new file that holds anything but zeros is refused as `Occupied` and stays as it is.
+pub(crate) fn migrate<R: Files, A: Allocator + Copy, O: Write, E: Write>(
     rt: &R,
     alloc: A,
     files: Migration<'_>,
@@ -29,11 +29,7 @@ pub(crate) fn migrate<R, A, O, E>(
     errors: &mut E,
 ) -> Status
 where
-    R: Files,
     R::File: TryLock,
-    A: Allocator + Copy,
-    O: Write,
-    E: Write,
     ensures ends { EndsHill SaysMigrated result
         (streams None (O.contents output.old) (E.contents errors.old))
         (streams None (O.contents output.new) (E.contents errors.new)) }
@@ -45,17 +41,14 @@ where
     }
 }
 
-fn migrate_files<'m, R, A, O>(
+fn migrate_files<'m, R: Files, A: Allocator + Copy, O: Write>(
     rt: &'m R,
     alloc: A,
     files: Migration<'m>,
     output: &mut O,
 ) -> Result<Status, HillTrouble<'m>>
 where
-    R: Files,
     R::File: TryLock,
-    A: Allocator + Copy,
-    O: Write,
     ensures { Tries SaysMigrated result (O.contents output.old) (O.contents output.new) }
 {
     let old = match HillFile::open(rt, files.old, Sharing::Alone) {

@@ -1,4 +1,4 @@
-//! How it is known that a device without a hill holds one of the old format.
+//! How it is known that a device without a hill holds a hill of the old format.
 
 ghost use Rattle.std.specs.Prelude.{◌≡◌, ◌<◌, ◌≤◌, IfOk};
 ghost use Rattle.sector_disk.specs.Disk.{current};

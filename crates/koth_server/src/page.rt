@@ -17,9 +17,9 @@ use std::alloc::{AllocError, Allocator};
 use std::io::Write;
 use std::rt::Files;
 
-/// Writes the page of the hill in a file: one file of HTML, whole on the output. The hill's lock is not taken: it shows a hill beside the
-/// service that works on it.
-pub(crate) fn page<R, A, O, E>(
+/// Writes the page of the hill in a file: one file of HTML, whole on the output. The hill's lock is not taken, so `page` can show a hill while
+/// a service works on it.
+pub(crate) fn page<R: Files, A: Allocator + Copy, O: Write, E: Write>(
     rt: &R,
     alloc: A,
     path: &str,
@@ -27,11 +27,7 @@ pub(crate) fn page<R, A, O, E>(
     errors: &mut E,
 ) -> Status
 where
-    R: Files,
     R::File: TryLock,
-    A: Allocator + Copy,
-    O: Write,
-    E: Write,
     ensures ends { EndsHill SaysPage result
         (streams None (O.contents output.old) (E.contents errors.old))
         (streams None (O.contents output.new) (E.contents errors.new)) }
@@ -43,17 +39,14 @@ where
     }
 }
 
-fn page_file<'p, R, A, O>(
+fn page_file<'p, R: Files, A: Allocator + Copy, O: Write>(
     rt: &'p R,
     alloc: A,
     path: &'p str,
     output: &mut O,
 ) -> Result<Status, HillTrouble<'p>>
 where
-    R: Files,
     R::File: TryLock,
-    A: Allocator + Copy,
-    O: Write,
     ensures { Tries SaysPage result (O.contents output.old) (O.contents output.new) }
 {
     match open_hill(rt, alloc, path, Sharing::Shared) {

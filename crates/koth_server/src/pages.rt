@@ -1,4 +1,4 @@
-//! The pages that browsers ask for: that of the hill, and those of rounds on it.
+//! The pages that browsers ask for: the hill's page, and pages of rounds on it.
 
 ghost use Rattle.std.specs.Prelude.{IfOk, IfNone, IfSome, MatchOption};
 ghost use Rattle.war_types.specs.Warrior.{Fits};
@@ -13,7 +13,7 @@ use sector_disk::Device;
 use std::alloc::{AllocError, Allocator};
 use war_types::Warrior;
 
-/// The text of a page of a store's hill, or none where the hill has no such page. The error is want of memory.
+/// The text of a page of a store's hill, or none if the hill has no such page. `AllocError` comes if memory ran out.
 pub(crate) fn page_shown<D: Device, A: Allocator + Copy>(
     alloc: A,
     store: &Store<D, A>,
@@ -31,7 +31,7 @@ pub(crate) fn page_shown<D: Device, A: Allocator + Copy>(
     }
 }
 
-/// The page of a round, counted from 1, of the match of the warriors with these entries, or none where the hill has no such round.
+/// The page of a round, counted from 1, of the match of the warriors with these entries, or none if the hill has no such round.
 fn round_shown<A: Allocator + Copy>(
     alloc: A,
     hill: &Hill<A>,

@@ -1,4 +1,4 @@
-//! A run of the program, from its words to its status.
+//! A run of the program, from its arguments to its status.
 
 ghost use Rattle.std.specs.Prelude.{◌≡◌, None, map, string_bytes};
 ghost use Rattle.koth_server.specs.Run.{viewed, EndsRequest, EndsRun, EndsWithout, Leaves};
@@ -23,11 +23,10 @@ use std::io::{Read, Write};
 use std::net::Net;
 use std::rt::{Clock, Files};
 
-/// Does what the words ask for, and says which status to leave with: 0 where it is done, 1 where it is refused, 2
-/// for a fault of the words, 3 where a stream or a file fails, 4 for want of memory. The first word is the program's name.
-/// The words are parsed on `heap`, and all other memory comes from `alloc`. Where the words don't say how tables are laid out, it is in this
-/// view: columns for a terminal, and else lines for programs.
-pub fn run<R, A, I, O, E>(
+/// Does what the arguments ask for, and returns the exit status: 0 done, 1 refused, 2 wrong arguments, 3 a stream or a file failed, 4 out of
+/// memory. The first of `words` is the program's name. They are parsed on `heap`, and all other memory comes from `alloc`. If the arguments
+/// don't say how tables are laid out, they are in `view`: columns for a terminal, and else lines for programs.
+pub fn run<R: Files + Net + Clock, A: Allocator + Copy, I: Read, O: Write, E: Write>(
     rt: &R,
     heap: Global,
     alloc: A,
@@ -38,12 +37,7 @@ pub fn run<R, A, I, O, E>(
     errors: &mut E,
 ) -> u8
 where
-    R: Files + Net + Clock,
     R::File: TryLock,
-    A: Allocator + Copy,
-    I: Read,
-    O: Write,
-    E: Write,
     ensures ends { Leaves result (λ status. EndsRun view (map (λ w. string_bytes w) words.now) status
         (streams (I.remaining input.old) (O.contents output.old) (E.contents errors.old))
         (streams (I.remaining input.new) (O.contents output.new) (E.contents errors.new))) }
@@ -51,7 +45,7 @@ where
     carry_out(rt, heap, alloc, words, view, input, output, errors).code()
 }
 
-fn carry_out<R, A, I, O, E>(
+fn carry_out<R: Files + Net + Clock, A: Allocator + Copy, I: Read, O: Write, E: Write>(
     rt: &R,
     heap: Global,
     alloc: A,
@@ -62,12 +56,7 @@ fn carry_out<R, A, I, O, E>(
     errors: &mut E,
 ) -> Status
 where
-    R: Files + Net + Clock,
     R::File: TryLock,
-    A: Allocator + Copy,
-    I: Read,
-    O: Write,
-    E: Write,
     ensures ends { EndsRun view (map (λ w. string_bytes w) words.now) result
         (streams (I.remaining input.old) (O.contents output.old) (E.contents errors.old))
         (streams (I.remaining input.new) (O.contents output.new) (E.contents errors.new)) }
@@ -79,7 +68,7 @@ where
 }
 
 /// Carries out a request.
-fn fulfil<R, A, I, O, E>(
+fn fulfil<R: Files + Net + Clock, A: Allocator + Copy, I: Read, O: Write, E: Write>(
     rt: &R,
     alloc: A,
     request: Request<'_>,
@@ -89,12 +78,7 @@ fn fulfil<R, A, I, O, E>(
     errors: &mut E,
 ) -> Status
 where
-    R: Files + Net + Clock,
     R::File: TryLock,
-    A: Allocator + Copy,
-    I: Read,
-    O: Write,
-    E: Write,
     ensures { EndsRequest view request.entry result
         (streams (I.remaining input.old) (O.contents output.old) (E.contents errors.old))
         (streams (I.remaining input.new) (O.contents output.new) (E.contents errors.new)) }
@@ -138,7 +122,7 @@ where
     }
 }
 
-/// Tells why the words ask for nothing that is done: help on the output, a fault on the errors.
+/// Writes why the arguments ask for no command: help on the output, a fault on standard error.
 fn answer_without<A: Allocator, O: Write, E: Write>(
     alloc: A,
     none: NoRequest,
@@ -162,7 +146,7 @@ fn answer_without<A: Allocator, O: Write, E: Write>(
     }
 }
 
-/// The view that the words ask for, and else this one.
+/// The view that the arguments ask for, and else the usual one.
 fn viewed(asked: Option<View>, usual: View) -> View
     ensures { result ≡ viewed asked usual }
 {

@@ -23,10 +23,10 @@ use std::io::{ErrorKind, Write};
 use std::net::{Net, SocketAddr};
 use std::rt::{Clock, Files};
 
-/// Browsers that are served at once at most.
+/// The most browsers that are served at once.
 const BROWSERS: usize = 16;
 
-/// The hill in a file, which is opened again where its device failed, and the log of its service.
+/// The hill in a file, which is opened again if its device failed, and the log of its service.
 #[derive(Drop)]
 struct Hosting<'f, R, A> {
     rt: &'f R,
@@ -35,11 +35,9 @@ struct Hosting<'f, R, A> {
     log: Log<'f, R>,
 }
 
-impl<'f, R, A> Host<HillFile<'f, R>, A> for Hosting<'f, R, A>
+impl<'f, R: Files + Clock, A: Allocator + Copy> Host<HillFile<'f, R>, A> for Hosting<'f, R, A>
 where
-    R: Files + Clock,
     R::File: TryLock,
-    A: Allocator + Copy,
 {
     type Fault = HillFault;
 
@@ -65,10 +63,10 @@ where
     }
 }
 
-/// Serves sessions on the hill in a file, of as many peers at once as are asked for, over connections to an address and a port, and ends after
-/// as many as are asked for, if a number is. The line `LISTENING port` tells that peers may connect, and to which port if the system
-/// chooses it. What happens is told on the errors, unless it is to be quiet, and so is where browsers see the hill, if they are to.
-pub(crate) fn serve<'f, R, A, O, E>(
+/// Serves sessions on the hill in a file over connections to an address and a port, `peers` at once at most, and ends after `connections`
+/// sessions if that is given. The line `LISTENING port` says that peers may connect, and to which port if the system chooses it. What happens
+/// is written on standard error, unless the service is quiet, and so is where browsers see the hill, if they may.
+pub(crate) fn serve<'f, R: Files + Net + Clock, A: Allocator + Copy, O: Write, E: Write>(
     rt: &'f R,
     alloc: A,
     service: Service<'f>,
@@ -76,11 +74,7 @@ pub(crate) fn serve<'f, R, A, O, E>(
     errors: &mut E,
 ) -> Status
 where
-    R: Files + Net + Clock,
     R::File: TryLock,
-    A: Allocator + Copy,
-    O: Write,
-    E: Write,
     ensures ends { EndsServe result
         (streams None (O.contents output.old) (E.contents errors.old))
         (streams None (O.contents output.new) (E.contents errors.new)) }
@@ -114,16 +108,13 @@ where
 }
 
 /// Opens the hill and then the port, and writes the line of the port.
-fn begin<'f, R, A, O>(
+fn begin<'f, R: Files + Net + Clock, A: Allocator + Copy, O: Write>(
     host: &Hosting<'f, R, A>,
     service: Service<'f>,
     output: &mut O,
 ) -> Result<(HillStore<'f, R, A>, PolledSockets<'f, R, A>), HillTrouble<'f>>
 where
-    R: Files + Net + Clock,
     R::File: TryLock,
-    A: Allocator + Copy,
-    O: Write,
     ensures open { IfOk result (λ begun. begun.0.reopen ≡ false) }
     ensures announced { MatchResult result (λ _. Announces (O.contents output.old) (O.contents output.new))
         (λ _. AnnouncesPart (O.contents output.old) (O.contents output.new)) }
@@ -139,16 +130,12 @@ where
 }
 
 /// Sockets at the address that is asked for, whose line is written.
-fn announced<'r, 't, R, A, O>(
+fn announced<'r, 't, R: Net + Clock, A: Allocator + Copy, O: Write>(
     rt: &'r R,
     alloc: A,
     service: Service<'_>,
     output: &mut O,
 ) -> Result<PolledSockets<'r, R, A>, HillTrouble<'t>>
-where
-    R: Net + Clock,
-    A: Allocator + Copy,
-    O: Write,
     ensures { MatchResult result (λ _. Announces (O.contents output.old) (O.contents output.new))
         (λ _. AnnouncesPart (O.contents output.old) (O.contents output.new)) }
 {
@@ -213,11 +200,12 @@ fn port_failed<'t>(port: u16, error: &io::Error) -> HillTrouble<'t> {
 }
 
 /// Why a service has ended.
-fn trouble_of<'f, R, A>(host: &Hosting<'f, R, A>, fault: ServiceFault<HillFault>) -> HillTrouble<'f>
+fn trouble_of<'f, R: Files + Clock, A: Allocator + Copy>(
+    host: &Hosting<'f, R, A>,
+    fault: ServiceFault<HillFault>,
+) -> HillTrouble<'f>
 where
-    R: Files + Clock,
     R::File: TryLock,
-    A: Allocator + Copy,
 {
     match fault {
         ServiceFault::Memory => HillTrouble::memory(),
@@ -226,11 +214,12 @@ where
 }
 
 /// Why the hill can't be opened again: it is tried once more for what failed, and why.
-fn trouble_at<'f, R, A>(host: &Hosting<'f, R, A>, fault: HillFault) -> HillTrouble<'f>
+fn trouble_at<'f, R: Files + Clock, A: Allocator + Copy>(
+    host: &Hosting<'f, R, A>,
+    fault: HillFault,
+) -> HillTrouble<'f>
 where
-    R: Files + Clock,
     R::File: TryLock,
-    A: Allocator + Copy,
 {
     match open_hill(host.rt, host.alloc, host.path, Sharing::Alone) {
         Ok(_store) => HillTrouble::of(host.path, fault),

@@ -18,9 +18,9 @@ use std::alloc::{AllocError, Allocator};
 use std::io::Write;
 use std::rt::Files;
 
-/// Writes the table of the hill in a file, and behind it, where that is asked for, who won how many rounds against whom: as a session
-/// answers `SHOW`, or in columns for people. The file's lock is not taken: it shows a hill beside the service that works on it.
-pub(crate) fn show<R, A, O, E>(
+/// Writes the table of the hill in a file, as a session answers `SHOW`, or in columns for people. If that is asked for, the matrix of its
+/// matches follows: who won how many rounds against whom. The hill's lock is not taken, so `show` can show a hill while a service works on it.
+pub(crate) fn show<R: Files, A: Allocator + Copy, O: Write, E: Write>(
     rt: &R,
     alloc: A,
     shown: Shown<'_>,
@@ -29,11 +29,7 @@ pub(crate) fn show<R, A, O, E>(
     errors: &mut E,
 ) -> Status
 where
-    R: Files,
     R::File: TryLock,
-    A: Allocator + Copy,
-    O: Write,
-    E: Write,
     ensures ends { EndsHill (SaysShown view shown.entry.matches) result
         (streams None (O.contents output.old) (E.contents errors.old))
         (streams None (O.contents output.new) (E.contents errors.new)) }
@@ -45,7 +41,7 @@ where
     }
 }
 
-fn show_file<'s, R, A, O>(
+fn show_file<'s, R: Files, A: Allocator + Copy, O: Write>(
     rt: &'s R,
     alloc: A,
     shown: Shown<'s>,
@@ -53,10 +49,7 @@ fn show_file<'s, R, A, O>(
     output: &mut O,
 ) -> Result<Status, HillTrouble<'s>>
 where
-    R: Files,
     R::File: TryLock,
-    A: Allocator + Copy,
-    O: Write,
     ensures { Tries (SaysShown view shown.entry.matches) result (O.contents output.old) (O.contents output.new) }
 {
     match open_hill(rt, alloc, shown.hill, Sharing::Shared) {
@@ -65,7 +58,7 @@ where
     }
 }
 
-/// Writes the table of a store's hill, and the matrix of its matches where that is asked for.
+/// Writes the table of a store's hill, and the matrix of its matches if that is asked for.
 fn show_store<'s, D: Device, A: Allocator + Copy, O: Write>(
     alloc: A,
     store: &Store<D, A>,

@@ -23,9 +23,9 @@ use std::rt::Files;
 use war_types::Settings;
 
 /// Submits the source in a file to the hill in another, and writes the reply. The hill is opened before the source is
-/// read. The reply to a warrior that is placed or falls is written once that is durable. Behind a refusal's line it is told on the errors
-/// where in the source and why.
-pub(crate) fn submit<R, A, O, E>(
+/// read. The reply to a warrior that is placed or falls is written once that is durable. After a refusal's line standard error gets the
+/// place in the source and the reason.
+pub(crate) fn submit<R: Files, A: Allocator + Copy, O: Write, E: Write>(
     rt: &R,
     alloc: A,
     files: Submission<'_>,
@@ -34,11 +34,7 @@ pub(crate) fn submit<R, A, O, E>(
     errors: &mut E,
 ) -> Status
 where
-    R: Files,
     R::File: TryLock,
-    A: Allocator + Copy,
-    O: Write,
-    E: Write,
     ensures ends { EndsSubmit view result
         (streams None (O.contents output.old) (E.contents errors.old))
         (streams None (O.contents output.new) (E.contents errors.new)) }
@@ -84,7 +80,7 @@ fn submit_opened<D: Device, A: Allocator + Copy, O: Write, E: Write>(
     submit_source(alloc, store, source, view, output, errors)
 }
 
-/// Submits a source to a store, and then writes the reply: its line, and in the view for people behind it where the warrior stands.
+/// Submits a source to a store, and then writes the reply: its line, and in the view for people after it where the warrior stands.
 fn submit_source<D: Device, A: Allocator + Copy, O: Write, E: Write>(
     alloc: A,
     store: &mut Store<D, A>,
@@ -114,7 +110,7 @@ fn submit_source<D: Device, A: Allocator + Copy, O: Write, E: Write>(
     )
 }
 
-/// Writes the line of a reply and this text behind it, and tells on the errors where in the source and why, if it is refused.
+/// Writes the line of a reply and this text after it, and for a refusal the place in the source and the reason on standard error.
 fn answer_reply<A: Allocator + Copy, O: Write, E: Write>(
     alloc: A,
     settings: &Settings,
@@ -137,7 +133,7 @@ fn answer_reply<A: Allocator + Copy, O: Write, E: Write>(
     }
 }
 
-/// Who stands on the hill before a submission, if people are to be told what becomes of it and there is memory for that.
+/// Who stands on the hill before a submission, if people are to read what becomes of it and there is memory for that.
 fn roster_for<A: Allocator + Copy>(alloc: A, view: View, hill: &Hill<A>) -> Option<Vec<Entered, A>>
     ensures plain { view ≡ View.Plain → result ≡ None }
     ensures roster { IfSome result (λ stood. stood.items ≡ roster hill.now) }
@@ -148,7 +144,7 @@ fn roster_for<A: Allocator + Copy>(alloc: A, view: View, hill: &Hill<A>) -> Opti
     }
 }
 
-/// Where a warrior stands behind its submission, if it was asked for and there is memory for that; else nothing.
+/// Where a warrior stands after its submission, if that was asked for and there is memory for it; else nothing.
 fn placing_text<A: Allocator + Copy>(
     alloc: A,
     before: &Option<Vec<Entered, A>>,
@@ -167,7 +163,7 @@ fn placing_text<A: Allocator + Copy>(
     }
 }
 
-/// Tells on the errors where in a source and why, if it is refused.
+/// Writes on standard error the place in a source and the reason, if it is refused.
 fn explain_refusal<A: Allocator + Copy, E: Write>(
     alloc: A,
     settings: &Settings,

@@ -1,4 +1,4 @@
-//! Why a command on a hill was not carried out, what it worked on, and what is told of it.
+//! Why a command on a hill was not carried out, what it worked on, and what is reported of it.
 
 ghost use Rattle.std.specs.Prelude.{◌≡◌, codes, option_map};
 ghost use Rattle.koth_commands.specs.Cause.{reason_told};
@@ -16,18 +16,18 @@ use std::alloc::Allocator;
 use std::io::Write;
 
 /// Why a command on a hill was not carried out, and what it worked on then.
-#[derive(Clone, Copy, Debug)]
+#[derive(Clone, Copy)]
 pub struct HillTrouble<'t> {
     pub fault: HillFault,
-    /// What failed, and why, where that is known.
+    /// What failed, and why, if that is known.
     pub cause: Option<Cause<'t>>,
 }
 
 impl<'t> HillTrouble<'t> {
     ghost use Rattle.koth_server.specs.HillFault.{fault_status, fault_word};
 
-    /// Writes the fault's word, and behind it what failed and why, and says how the program ends. Where that can't be written, the status
-    /// alone tells.
+    /// Writes the fault's word, and after it what failed and why, and returns how the program ends. If that can't be written, the status
+    /// alone says it.
     pub(crate) fn tell<A: Allocator, E: Write>(self, alloc: A, errors: &mut E) -> Status
         ensures status { result ≡ fault_status self.entry.fault }
         ensures told { TellsWord (fault_word self.entry.fault) (E.contents errors.old) (E.contents errors.new) }
@@ -48,7 +48,7 @@ impl<'t> HillTrouble<'t> {
         }
     }
 
-    /// The warrior with this entry can't be read, of the hill in a file.
+    /// The warrior with this entry, on the hill in a file, can't be read.
     pub(crate) fn damaged(path: &'t str, entry: u64) -> HillTrouble<'t>
         ensures fault { result.fault ≡ HillFault.Damaged }
         ensures cause { trouble_told result ≡ Some (damage_told path.now entry) }
@@ -136,7 +136,7 @@ impl<'t> HillTrouble<'t> {
     }
 }
 
-/// What a store's refusal comes to.
+/// The fault for a store's refusal.
 pub(crate) fn fault_of_refusal(refusal: Refusal) -> HillFault
     ensures { result ≡ fault_of_refusal refusal }
 {
@@ -150,7 +150,7 @@ pub(crate) fn fault_of_refusal(refusal: Refusal) -> HillFault
     }
 }
 
-/// Tells that standard output failed, and says how the program ends.
+/// Reports that standard output failed, and returns how the program ends.
 pub(crate) fn tell_output<A: Allocator, E: Write>(
     alloc: A,
     fault: StreamFault,

@@ -94,7 +94,7 @@ module _ {A : Type 0} where
       standing_with sessions n (session_went (take count (unsent_at old n)) (sessions n)) old new moves.only
       (went_at count (sessions n) (peer_at old n) (peer_at new n) moves.at (standing n)) standing
 
-  -- what goes out is the next of what is owed, of a peer that is there
+  -- what goes out to a peer that is there is the next of what it is owed
   owed_next : (count : ℕ) (s : Session) (slot : Option (Peer A)) → slot ≢ None → StandsAt s slot → Begins (s.went ++ take count (unsent_in slot)) s.owed
   owed_next count s None there stands = absurd (there refl)
   owed_next count s (Some peer) there stands =

@@ -104,7 +104,7 @@ module _ {S D A : Type 0} (happened : S → List Noted → Type 0) (facts : Devi
         safe_session facts m n (session_went (take count (unsent_at old n)) (m.sessions n)) on.2,
       )
 
-  -- a peer was let go
+  -- a peer was disconnected
   pub left : (old_sockets sockets : S) (old new : Slots A) (store : Seen D) (n : ℕ) → OnlyAt n old new → peer_at new n ≡ None
       → Adds happened (Noted.Closed n) old_sockets sockets
       → GoesOn happened facts shows start old_sockets old browsers store → GoesOn happened facts shows start sockets new browsers store

@@ -11,12 +11,12 @@ use Rattle.koth_http.specs.Response.{page_response, refusal_response}
 abbrev pub ShowsNothing : (List ℕ → Type 0) → Type 0
 ShowsNothing shows = (text : List ℕ) → ¬ (shows text)
 
--- what is found of a page: a text that is shown, or none where nothing is
+-- what is found of a page: a text that is shown, or none if nothing is
 abbrev pub IsFound : {A : Type 0} → (List ℕ → Type 0) → Option (Vec ℕ A) → Type 0
 IsFound shows found = MatchOption found (ShowsNothing shows) (λ text. shows text.items)
 
--- A page that can be asked for is answered by a text that is shown of it, or as not found where nothing is shown, or as unavailable if memory ran out; and
--- what asks for none by why it doesn't.
+-- A page that can be asked for is answered by a text that is shown of it, as not found if nothing is shown, or as unavailable if memory ran
+-- out. A request that asks for no page is answered by why it doesn't.
 abbrev pub IsAnswerTo : (Page → List ℕ → Type 0) → Result Page Refusal → Bool → List ℕ → Type 0
 IsAnswerTo shows (Ok page) with_body answer =
     ((text : List ℕ) × shows page text × (answer ≡ page_response text with_body))

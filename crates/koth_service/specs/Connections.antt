@@ -43,24 +43,24 @@ pub record ComesTo {A : Type 0} (n : ℕ) (stage : Option (Stage A)) (old new : 
 
 -- ---- one connection
 
--- where it stands then: nothing more goes out if it is over
+-- the stage of the connection then: nothing more goes out if it is over
 abbrev pub stage_after : {A : Type 0} → Moved A → Stage A
 stage_after (moved.Next stage) = stage
 stage_after (moved.On stage) = stage
 stage_after (moved.Still stage) = stage
 stage_after moved.Over = stages.Parting
 
--- it stays at its stage, if it is kept
+-- the connection stays at its stage, if it is kept
 abbrev pub StaysAt : {A : Type 0} → Stage A → Option (Connection A) → Type 0
 StaysAt stage None = ⊤
 StaysAt stage (Some connection) = connection.stage ≡ stage
 
--- its socket is closed, unless it is kept
+-- the connection's socket is closed, unless it is kept
 abbrev pub ClosesUnless : {S A : Type 0} → (S → List Noted → Type 0) → ℕ → Option (Connection A) → S → S → Type 0
 ClosesUnless happened n None old new = Adds happened (Noted.Left n) old new
 ClosesUnless happened n (Some connection) old new = Stays happened old new
 
--- the answer by what was found of a page, or by the want of memory for it
+-- the answer to what was found of a page, or to there being no memory for it
 abbrev pub found_response : {A : Type 0} → Result (Option (Vec ℕ A)) AllocError → Bool → List ℕ
 found_response (Ok (Some text)) with_body = page_response text.items with_body
 found_response (Ok None) with_body = refusal_response refusals.NotFound with_body
@@ -71,21 +71,21 @@ abbrev pub AnswersOnceKnown : {A : Type 0} → (Page → List ℕ → Type 0) �
 AnswersOnceKnown shows bytes None = IsAsked bytes None
 AnswersOnceKnown shows bytes (Some answer) = AnswersBytes shows bytes answer.items
 
--- ---- how they go on
+-- ---- how connections go on
 
--- it goes on where the connection of this number comes from one stage to another, however the peers and the other browsers stand
+-- the service goes on when the connection of this number comes from one stage to another, however the peers and the other browsers stand
 abbrev pub MovesOn : {S D A : Type 0} → (S → List Noted → Type 0) → DeviceFacts D → Shows D → Seen D → ℕ → S → Option (Stage A) → S → Option (Stage A) → Type 0
 MovesOn {S} {D} {A} happened facts shows store n sockets stage new_sockets new_stage =
     (start : Seen D) (slots : Slots A) (browsers : ℕ → Option (Stage A)) → GoesOn happened facts shows start sockets slots (instead browsers n stage) store
     → GoesOn happened facts shows start new_sockets slots (instead browsers n new_stage) store
 
--- it goes on as it did, however the peers stand
+-- the service goes on as it did, however the peers stand
 abbrev pub BrowsersGoOn : {S D A : Type 0} → (S → List Noted → Type 0) → DeviceFacts D → Shows D → Seen D → S → Browsers A → S → Browsers A → Type 0
 BrowsersGoOn {S} {D} {A} happened facts shows store sockets browsers new_sockets new_browsers =
     (start : Seen D) (slots : Slots A) → GoesOn happened facts shows start sockets slots (stage_at browsers.connections.items) store
     → GoesOn happened facts shows start new_sockets slots (stage_at new_browsers.connections.items) store
 
--- it goes on as it did, for peers and browsers
+-- the service goes on as it did, for peers and browsers
 abbrev pub AllGoOn : {S D A : Type 0} → (S → List Noted → Type 0) → DeviceFacts D → Shows D → S → Desk D A → Browsers A → S → Desk D A → Browsers A → Type 0
 AllGoOn {S} {D} {A} happened facts shows sockets desk browsers new_sockets new_desk new_browsers =
     (start : Seen D) → GoesOn happened facts shows start sockets desk.peers.slots.items (stage_at browsers.connections.items) desk.store

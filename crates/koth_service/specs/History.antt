@@ -1,4 +1,4 @@
--- What happens in a service: on the sockets, and of commands and answers to browsers in between.
+-- What happens in a service: on the sockets, and the commands and answers to browsers in between.
 use Rattle.std.specs.Prelude.{◌≡◌, ⊤, ℕ, ◌==◌, Bool, true, false, if◌then◌else◌, List, [], ◌∷◌, ◌++◌, Option, None, Some}
 use Rattle.sector_disk.specs.Facts.{DeviceFacts}
 use Rattle.hill_store.specs.Seen.{Seen}
@@ -9,8 +9,8 @@ use Rattle.koth_session.specs.Transcript.{Exchange, answer, command_in, hill_aft
 use Rattle.koth_service.specs.Answering.{AnswersBytes}
 use Rattle.koth_service.specs.Noted.{Noted}
 
--- something on the sockets; a command of a peer was carried out, and this is the store then; the device failed in a submission of a peer; the hill was opened again;
--- or a browser was given this answer
+-- Something happened on the sockets. A command of a peer was carried out, and this is the store then. The device failed in a submission of a
+-- peer. The hill was opened again. Or a browser was given this answer.
 pub data Happening (D : Type 0) : Type 0 where
   On : Noted → Happening D
   Answered : ℕ → Exchange → Seen D → Happening D
@@ -18,7 +18,7 @@ pub data Happening (D : Type 0) : Type 0 where
   Reopened : Seen D → Happening D
   Replied : ℕ → List ℕ → Happening D
 
--- what of it was on the sockets
+-- the part of a history that was on the sockets
 abbrev pub noted : {D : Type 0} → List (Happening D) → List Noted
 noted [] = []
 noted (Happening.On what ∷ older) = what ∷ noted older
@@ -29,7 +29,7 @@ noted (Happening.Replied n reply ∷ older) = noted older
 
 -- ---- how it stands then
 
--- Of a peer whether it is there, what came of it, which of its commands were carried out, what they were answered, and what went out.
+-- For a peer: whether it is there, what came from it, which of its commands were carried out, what they were answered, and what went out.
 pub record Session : Type 0 where
   pub there : Bool
   pub came : List ℕ
@@ -37,7 +37,7 @@ pub record Session : Type 0 where
   pub owed : List ℕ
   pub went : List ℕ
 
--- Of a browser whether it is there, what came of it, its answer once that was given, and what went out.
+-- For a browser: whether it is there, what came from it, its answer once that was given, and what went out.
 pub record Browser : Type 0 where
   pub there : Bool
   pub came : List ℕ
@@ -169,8 +169,8 @@ moment start (what ∷ older) = next what (moment start older)
 abbrev pub Begins : {T : Type 0} → List T → List T → Type 0
 Begins {T} short long = (rest : List T) × (long ≡ short ++ rest)
 
--- No stop loses what was answered: since the store was opened the hill went on by what was carried out, and each image that a stop may leave of the device has
--- that hill.
+-- No stop loses what was answered: since the store was opened the hill went on by what was carried out. Each image that a stop may leave of
+-- the device has that hill.
 pub record IsSafe {D : Type 0} (facts : DeviceFacts D) (m : Moment D) : Type 0 where
   pub hill : m.now.hill ≡ hill_after m.first.hill m.since
   pub still : m.now.reopen ≡ m.first.reopen
@@ -194,18 +194,18 @@ abbrev pub owed_by : Option (List ℕ) → List ℕ
 owed_by None = []
 owed_by (Some reply) = reply
 
--- of a store the text of a page
+-- the text of a page of a store
 abbrev pub Shows : Type 0 → Type 1
 Shows D = Seen D → Page → List ℕ → Type 0
 
--- a browser that is there is given its answer, and it had none: it answers what came of it, by what is shown of the store as it is
+-- a browser that is there, and had no answer, is given one: it answers what came from the browser, by what is shown of the store as it is
 pub record Replies {D : Type 0} (shows : Shows D) (n : ℕ) (reply : List ℕ) (m : Moment D) : Type 0 where
   pub there : (m.browsers n).there ≡ true
   pub first : (m.browsers n).reply ≡ None
   pub as_asked : AnswersBytes (shows m.now) (m.browsers n).came reply
 
--- What may happen then: a number that is free is given to a peer; what goes out to a peer is the next of what it is owed; and commands are carried out in their order.
--- So it is of browsers: a number that is free is given to one, each is given one answer at most, and what goes out to it is the next of that.
+-- What may happen then: a number that is free is given to a peer or to a browser. What goes out to a peer is the next of what it is owed,
+-- and its commands are carried out in their order. Each browser is given one answer at most, and what goes out to it is the next of that.
 abbrev pub Follows : {D : Type 0} → DeviceFacts D → Shows D → Happening D → Moment D → Type 0
 Follows facts shows (Happening.On (Noted.Seated n)) m = (m.sessions n).there ≡ false
 Follows facts shows (Happening.On (Noted.Heard n bytes)) m = ⊤

@@ -2,7 +2,7 @@
 pub mod Noted
 -- What a browser is answered.
 pub mod Answering
--- What happens in a service: on the sockets, and of commands and answers to browsers in between.
+-- What happens in a service: on the sockets, and the commands and answers to browsers in between.
 pub mod History
 -- How the sessions of peers, the connections of browsers and the store stand by a history.
 pub mod Standing

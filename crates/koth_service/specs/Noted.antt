@@ -7,7 +7,7 @@ use Rattle.koth_service.specs.declared.sockets.Came.TheVariants as came
 use Rattle.koth_service.specs.declared.sockets.Went.{Went}
 use Rattle.koth_service.specs.declared.sockets.Went.TheVariants as went
 
--- a peer was put under a number; bytes of it came; bytes went out to it; its socket was closed; and the same of a browser, under a number of the browsers'
+-- a peer was put under a number; bytes came from it; bytes went out to it; its socket was closed; and the same for a browser, under its number
 pub data Noted : Type 0 where
   Seated : ℕ → Noted
   Heard : ℕ → List ℕ → Noted
@@ -45,7 +45,7 @@ Writes happened told old bytes (went.Bytes count) new = (count ≤ length bytes)
 Writes happened told old bytes went.Nothing new = Stays happened old new
 Writes happened told old bytes went.Gone new = Stays happened old new
 
--- For those that keep no history: a read or a write counts bytes that there are.
+-- For sockets that keep no history: a read or a write counts bytes that there are.
 abbrev pub CameWithin : Came → List ℕ → Type 0
 CameWithin (came.Bytes count) bytes = count ≤ length bytes
 CameWithin came.End bytes = ⊤

@@ -21,8 +21,8 @@ StandsAt s (Some peer) = IsPeer peer s.came s.done × (s.went ++ peer.outbox.uns
 abbrev pub AreStanding : {A : Type 0} → (ℕ → Session) → Slots A → Type 0
 AreStanding sessions slots = (p : ℕ) → StandsAt (sessions p) (peer_at slots p)
 
--- A browser's connection read what came, and was not answered; or has what is owed and did not go out; or nothing more goes out to it. There is none of a number
--- that is free.
+-- A browser's connection read what came, and was not answered; or has what is owed and did not go out; or nothing more goes out to it. A
+-- number that is free has none.
 abbrev pub IsAtStage : {A : Type 0} → Browser → Option (Stage A) → Type 0
 IsAtStage b None = b.there ≡ false
 IsAtStage b (Some (stages.Asking visit)) = b ≡ record { there = true; came = visit; reply = None; went = [] }
@@ -32,7 +32,7 @@ IsAtStage b (Some stages.Parting) = ⊤
 abbrev pub AreAtStages : {A : Type 0} → (ℕ → Browser) → (ℕ → Option (Stage A)) → Type 0
 AreAtStages browsers at = (p : ℕ) → IsAtStage (browsers p) (at p)
 
--- the sessions, the connections and the store came to be so by this history, and it is true of the sockets
+-- the sessions, the connections and the store are as this history left them, and it is true of the sockets
 pub record CameToBe {S D A : Type 0} (happened : S → List Noted → Type 0) (facts : DeviceFacts D) (shows : Shows D) (start : Seen D) (sockets : S) (slots : Slots A) (browsers : ℕ → Option (Stage A)) (store : Seen D) (history : List (Happening D)) : Type 0 where
   pub logged : happened sockets (noted history)
   pub follows : IsHistory facts shows start history
@@ -40,17 +40,17 @@ pub record CameToBe {S D A : Type 0} (happened : S → List Noted → Type 0) (f
   pub visiting : AreAtStages (moment start history).browsers browsers
   pub now_is : (moment start history).now ≡ store
 
--- by some history, in which the device is sound
+-- as some history left them, in which the device is sound
 abbrev pub GoesOn : {S D A : Type 0} → (S → List Noted → Type 0) → DeviceFacts D → Shows D → Seen D → S → Slots A → (ℕ → Option (Stage A)) → Seen D → Type 0
 GoesOn {S} {D} {A} happened facts shows start sockets slots browsers store =
     (history : List (Happening D)) × CameToBe happened facts shows start sockets slots browsers store history × IsSafe facts (moment start history)
 
--- by some history, and the device has failed
+-- as some history left them, and the device has failed
 abbrev pub IsCutOff : {S D A : Type 0} → (S → List Noted → Type 0) → DeviceFacts D → Shows D → Seen D → S → Slots A → (ℕ → Option (Stage A)) → Seen D → Type 0
 IsCutOff {S} {D} {A} happened facts shows start sockets slots browsers store =
     (history : List (Happening D)) × CameToBe happened facts shows start sockets slots browsers store history
 
--- it goes on as it did, however the browsers stand
+-- the service goes on as it did, however the browsers stand
 abbrev pub KeepsOn : {S D A : Type 0} → (S → List Noted → Type 0) → DeviceFacts D → Shows D → S → Desk D A → S → Desk D A → Type 0
 KeepsOn {S} {D} {A} happened facts shows sockets desk new_sockets new_desk =
     (start : Seen D) (browsers : ℕ → Option (Stage A)) → GoesOn happened facts shows start sockets desk.peers.slots.items browsers desk.store
@@ -61,7 +61,7 @@ StandsAfter happened facts shows steps.Nobody start sockets slots browsers store
 StandsAfter happened facts shows (steps.Served n) start sockets slots browsers store = GoesOn happened facts shows start sockets slots browsers store
 StandsAfter happened facts shows (steps.StoreFailed n) start sockets slots browsers store = IsCutOff happened facts shows start sockets slots browsers store
 
--- and it goes on as it did, unless the device failed in this step
+-- the service goes on as it did, however the browsers stand, unless the device failed in this step
 abbrev pub KeepsOnBy : {S D A : Type 0} → (S → List Noted → Type 0) → DeviceFacts D → Shows D → Step → S → Desk D A → S → Desk D A → Type 0
 KeepsOnBy {S} {D} {A} happened facts shows step sockets desk new_sockets new_desk =
     (start : Seen D) (browsers : ℕ → Option (Stage A)) → GoesOn happened facts shows start sockets desk.peers.slots.items browsers desk.store
@@ -73,7 +73,8 @@ IsSoundAfter steps.Nobody old new = new ≡ old
 IsSoundAfter (steps.Served n) old new = new ≡ old
 IsSoundAfter (steps.StoreFailed n) old new = (new.peers ≡ old.peers) × (new.store.reopen ≡ false)
 
--- Where nothing had happened on the sockets, what happened since, the commands that were carried out and the answers to browsers are a history of this store.
+-- If nothing had happened on the sockets before, what happened since, the commands that were carried out and the answers to browsers are a
+-- history of this store.
 abbrev pub ServesPeers : {S D : Type 0} → (S → List Noted → Type 0) → DeviceFacts D → Shows D → Seen D → S → S → Type 0
 ServesPeers {S} {D} happened facts shows start old new =
     happened old [] → (history : List (Happening D)) × happened new (noted history) × IsHistory facts shows start history

@@ -10,17 +10,13 @@ use koth_http::{Asked, Refusal, Visit, page_response, refusal_response};
 use sector_disk::Device;
 use std::alloc::{AllocError, Allocator};
 
-/// The answer to what the bytes of a connection ask, once that is known. The error is want of memory for it.
-pub(crate) fn answer_visit<D, A, H>(
+/// The answer to what the bytes of a connection ask, once that is known. `AllocError` comes if there is no memory for it.
+pub(crate) fn answer_visit<D: Device, A: Allocator + Copy, H: Host<D, A>>(
     alloc: A,
     store: &Store<D, A>,
     host: &H,
     visit: &Visit<A>,
 ) -> Result<Option<Vec<u8, A>>, AllocError>
-where
-    D: Device,
-    A: Allocator + Copy,
-    H: Host<D, A>,
     ensures { IfOk result (AnswersOnceKnown (H.shows host.now store.now) visit.now) }
 {
     match visit.asked() {
@@ -29,18 +25,14 @@ where
     }
 }
 
-/// The answer to what a browser asks: the page that it asks for, of the hill that stands now, or that there is no such page, or no memory for it; or why it
-/// asks for none. The error is want of memory for the answer.
-fn answer<D, A, H>(
+/// The answer to what a browser asks: the page that it asks for, of the hill that stands now, or that there is no such page, or no memory
+/// for it. A request that asks for no page is answered by why it doesn't. `AllocError` comes if there is no memory for the answer.
+fn answer<D: Device, A: Allocator + Copy, H: Host<D, A>>(
     alloc: A,
     store: &Store<D, A>,
     host: &H,
     asked: Asked,
 ) -> Result<Vec<u8, A>, AllocError>
-where
-    D: Device,
-    A: Allocator + Copy,
-    H: Host<D, A>,
     ensures { IfOk result (λ answer. IsAnswer (H.shows host.now store.now) asked answer.items) }
 {
     match asked.page {
@@ -49,7 +41,7 @@ where
     }
 }
 
-/// The answer by what was found of a page, or by the want of memory for it.
+/// The answer to what was found of a page, or to there being no memory for it.
 fn found_response<A: Allocator + Copy>(
     alloc: A,
     found: Result<Option<Vec<u8, A>>, AllocError>,

@@ -13,23 +13,18 @@ use std::alloc::Allocator;
 use std::io::Write;
 use std::net::SocketAddr;
 
-/// How many connections are taken in a round at most.
+/// The most connections that are taken in a round.
 const ARRIVALS: usize = 16;
 
-/// Takes the connections that wait, unless as many peers are there as may be, or as many sessions have begun as are asked for: then they wait on.
-pub(crate) fn take_arrivals<S, D, A, H, E>(
+/// Takes the connections that wait, unless there are as many peers as may be, or as many sessions have begun as are asked for: then they
+/// wait on.
+pub(crate) fn take_arrivals<S: Sockets, D: Device, A: Allocator + Copy, H: Host<D, A>, E: Write>(
     desk: &mut Desk<D, A>,
     sockets: &mut S,
     host: &H,
     errors: &mut E,
     now: u64,
 )
-where
-    S: Sockets,
-    D: Device,
-    A: Allocator + Copy,
-    H: Host<D, A>,
-    E: Write,
     ensures served { KeepsOn S.happened D.facts (H.shows host.now) sockets.old desk.old sockets.new desk.new }
     ensures told { Grows (E.contents errors.old) (E.contents errors.new) }
 {
@@ -48,8 +43,8 @@ where
     }
 }
 
-/// Begins a session with the peer that was accepted. It is refused if as many are there as may be, or if there is no memory for it.
-fn admit<S, D, A, H, E>(
+/// Begins a session with the peer that was accepted. It is refused if there are as many as may be, or if there is no memory for it.
+fn admit<S: Sockets, D: Device, A: Allocator + Copy, H: Host<D, A>, E: Write>(
     desk: &mut Desk<D, A>,
     sockets: &mut S,
     host: &H,
@@ -57,12 +52,6 @@ fn admit<S, D, A, H, E>(
     address: SocketAddr,
     now: u64,
 )
-where
-    S: Sockets,
-    D: Device,
-    A: Allocator + Copy,
-    H: Host<D, A>,
-    E: Write,
     ensures served { KeepsOn S.happened D.facts (H.shows host.now) sockets.old desk.old sockets.new desk.new }
     ensures told { Grows (E.contents errors.old) (E.contents errors.new) }
 {

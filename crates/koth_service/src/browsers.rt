@@ -1,5 +1,5 @@
-//! What each browser asks, and the answer to it. Whatever the sockets say of a browser, it goes on as `served` says of the whole service: each function
-//! says so of the connections that it moves, however the peers and the other browsers stand.
+//! What each browser asks, and the answer to it. Whatever the sockets say of a browser, it goes on as `served` says of the whole service.
+//! Each function says so of the connections that it moves, however the peers and the other browsers stand.
 
 ghost use Rattle.std.specs.Prelude.{[], None, Some};
 ghost use Rattle.hill_store.specs.Seen.{Seen};
@@ -25,19 +25,19 @@ use koth_http::Visit;
 use sector_disk::Device;
 use std::alloc::{AllocError, Allocator};
 
-/// Bytes that one read takes at most.
+/// The most bytes that one read takes.
 const CHUNK: usize = 4096;
 
 /// What became of a connection.
 #[derive(Drop)]
 pub(crate) enum Moved<A: Allocator> {
-    /// It came to its next stage.
+    /// It went on to its next stage.
     Next(Stage<A>),
     /// It is at the same stage, and something came or went.
     On(Stage<A>),
-    /// Nothing did.
+    /// It is at the same stage, and nothing came or went.
     Still(Stage<A>),
-    /// It is at its end.
+    /// It has ended.
     Over,
 }
 
@@ -50,20 +50,15 @@ pub(crate) struct BrowsersRound {
     pub(crate) retries: bool,
 }
 
-/// Takes a connection of a browser that waits, and moves each one on. One request is answered at most: the others wait for their turn, since a page
-/// takes time in which no peer is served.
-pub(crate) fn serve_browsers<S, D, A, H>(
+/// Takes a connection of a browser that waits, and moves each connection on. One request is answered at most: the others wait for their
+/// turn, since a page takes time in which no peer is served.
+pub(crate) fn serve_browsers<S: Sockets, D: Device, A: Allocator + Copy, H: Host<D, A>>(
     browsers: &mut Browsers<A>,
     sockets: &mut S,
     store: &Store<D, A>,
     host: &H,
     now: u64,
 ) -> BrowsersRound
-where
-    S: Sockets,
-    D: Device,
-    A: Allocator + Copy,
-    H: Host<D, A>,
     ensures { BrowsersGoOn S.happened D.facts (H.shows host.now) store.now sockets.old browsers.old sockets.new browsers.new }
 {
     let mut round = admit::<S, D, A, H>(browsers, sockets, now);
@@ -85,19 +80,19 @@ where
 }
 
 /// Takes one connection that waits, if a number is free. It is closed if there is no memory for its request.
-fn admit<S, D, A, H>(browsers: &mut Browsers<A>, sockets: &mut S, now: u64) -> BrowsersRound
-where
-    S: Sockets,
-    D: Device,
-    A: Allocator + Copy,
-    H: Host<D, A>,
+fn admit<S: Sockets, D: Device, A: Allocator + Copy, H: Host<D, A>>(
+    browsers: &mut Browsers<A>,
+    sockets: &mut S,
+    now: u64,
+) -> BrowsersRound
     ensures { (store : Seen D) (host : H) → BrowsersGoOn S.happened D.facts (H.shows host) store sockets.old browsers.old sockets.new browsers.new }
 {
+    let still = BrowsersRound {
+        moved: false,
+        retries: false,
+    };
     let Some(number) = browsers.free() else {
-        return BrowsersRound {
-            moved: false,
-            retries: false,
-        };
+        return still;
     };
     match sockets.admit_browser(number) {
         Arrival::Peer(_) => {
@@ -105,21 +100,18 @@ where
             settle(browsers, sockets, number, connection);
             BrowsersRound {
                 moved: true,
-                retries: false,
+                ..still
             }
         }
-        Arrival::Nobody => BrowsersRound {
-            moved: false,
-            retries: false,
-        },
+        Arrival::Nobody => still,
         Arrival::Failed => BrowsersRound {
-            moved: false,
             retries: true,
+            ..still
         },
     }
 }
 
-/// A connection of which nothing came yet, or none if there is no memory for its request.
+/// A connection from which nothing came yet, or none if there is no memory for its request.
 fn begun<A: Allocator + Copy>(alloc: A, now: u64) -> Option<Connection<A>>
     ensures { StaysAt (stages.Asking []) result }
 {
@@ -132,16 +124,13 @@ fn begun<A: Allocator + Copy>(alloc: A, now: u64) -> Option<Connection<A>>
     }
 }
 
-/// Puts the connection that this number is for under it. Its socket is closed if there is none any more: then the number stays free.
-fn settle<S, A>(
+/// Puts a connection under its number. Its socket is closed if there is no connection any more: then the number stays free.
+fn settle<S: Sockets, A: Allocator>(
     browsers: &mut Browsers<A>,
     sockets: &mut S,
     number: usize,
     connection: Option<Connection<A>>,
 )
-where
-    S: Sockets,
-    A: Allocator,
     requires { IsFree browsers.old.connections.items number }
     ensures comes { ComesTo number (stage_in connection) browsers.old.connections.items browsers.new.connections.items }
     ensures closes { ClosesUnless S.happened number connection sockets.old sockets.new }
@@ -152,8 +141,8 @@ where
     }
 }
 
-/// Moves the connection of this number on, if there is one, and tells whether anything came or went.
-fn move_on<S, D, A, H>(
+/// Moves the connection of this number on, if there is one, and returns whether anything came or went.
+fn move_on<S: Sockets, D: Device, A: Allocator + Copy, H: Host<D, A>>(
     browsers: &mut Browsers<A>,
     sockets: &mut S,
     store: &Store<D, A>,
@@ -161,11 +150,6 @@ fn move_on<S, D, A, H>(
     number: usize,
     now: u64,
 ) -> bool
-where
-    S: Sockets,
-    D: Device,
-    A: Allocator + Copy,
-    H: Host<D, A>,
     ensures { BrowsersGoOn S.happened D.facts (H.shows host.now) store.now sockets.old browsers.old sockets.new browsers.new }
 {
     let Some(connection) = browsers.take(number) else {
@@ -180,7 +164,7 @@ where
     !(is_still && is_kept)
 }
 
-/// The connection that was at its stage since this time, where it has come to now, unless it is at its end, or has been at its stage for too long.
+/// The connection at the stage that it has now, unless it has ended, or has been at that stage for too long.
 fn kept_after<A: Allocator>(moved: Moved<A>, since: u64, now: u64) -> Option<Connection<A>>
     ensures { StaysAt (stage_after moved) result }
 {
@@ -193,7 +177,7 @@ fn kept_after<A: Allocator>(moved: Moved<A>, since: u64, now: u64) -> Option<Con
 }
 
 /// What becomes of a connection at this stage.
-fn after_stage<S, D, A, H>(
+fn after_stage<S: Sockets, D: Device, A: Allocator + Copy, H: Host<D, A>>(
     alloc: A,
     sockets: &mut S,
     store: &Store<D, A>,
@@ -201,11 +185,6 @@ fn after_stage<S, D, A, H>(
     number: usize,
     stage: Stage<A>,
 ) -> Moved<A>
-where
-    S: Sockets,
-    D: Device,
-    A: Allocator + Copy,
-    H: Host<D, A>,
     ensures { MovesOn S.happened D.facts (H.shows host.now) store.now number sockets.old (Some stage) sockets.new (Some (stage_after result)) }
 {
     match stage {
@@ -215,8 +194,8 @@ where
     }
 }
 
-/// Reads what comes of a request, and answers it once it is there.
-fn read<S, D, A, H>(
+/// Reads what comes of a request, and answers the request once it is whole.
+fn read<S: Sockets, D: Device, A: Allocator + Copy, H: Host<D, A>>(
     alloc: A,
     sockets: &mut S,
     store: &Store<D, A>,
@@ -224,11 +203,6 @@ fn read<S, D, A, H>(
     number: usize,
     visit: Visit<A>,
 ) -> Moved<A>
-where
-    S: Sockets,
-    D: Device,
-    A: Allocator + Copy,
-    H: Host<D, A>,
     ensures { MovesOn S.happened D.facts (H.shows host.now) store.now number sockets.old (Some (stages.Asking visit)) sockets.new (Some (stage_after result)) }
 {
     let mut visit = visit;
@@ -249,12 +223,11 @@ where
 }
 
 /// Sends what the browser takes of its answer.
-fn write<S, D, A, H>(sockets: &mut S, number: usize, unsent: Unsent<A>) -> Moved<A>
-where
-    S: Sockets,
-    D: Device,
-    A: Allocator,
-    H: Host<D, A>,
+fn write<S: Sockets, D: Device, A: Allocator, H: Host<D, A>>(
+    sockets: &mut S,
+    number: usize,
+    unsent: Unsent<A>,
+) -> Moved<A>
     ensures { (store : Seen D) (host : H) → MovesOn S.happened D.facts (H.shows host) store number sockets.old (Some (stages.Answering unsent)) sockets.new (Some (stage_after result)) }
 {
     let mut unsent = unsent;
@@ -274,12 +247,10 @@ where
 }
 
 /// Throws away what still comes.
-fn drain<S, D, A, H>(sockets: &mut S, number: usize) -> Moved<A>
-where
-    S: Sockets,
-    D: Device,
-    A: Allocator,
-    H: Host<D, A>,
+fn drain<S: Sockets, D: Device, A: Allocator, H: Host<D, A>>(
+    sockets: &mut S,
+    number: usize,
+) -> Moved<A>
     ensures { (store : Seen D) (host : H) → MovesOn S.happened D.facts (H.shows host) store number sockets.old (Some stages.Parting) sockets.new (Some (stage_after result)) }
 {
     let mut chunk = [0; CHUNK];

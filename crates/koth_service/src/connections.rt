@@ -12,7 +12,7 @@ use std::alloc::{AllocError, Allocator};
 #[derive(Drop)]
 pub(crate) struct Connection<A: Allocator> {
     pub(crate) stage: Stage<A>,
-    /// When it came to this stage, in milliseconds.
+    /// When it began this stage, in milliseconds.
     pub(crate) since: u64,
 }
 
@@ -32,12 +32,12 @@ pub(crate) enum Stage<A: Allocator> {
 pub(crate) struct Browsers<A: Allocator> {
     pub(crate) alloc: A,
     connections: Vec<Option<Connection<A>>, A>,
-    /// The number behind the one that was answered last.
+    /// The number after the one that was answered last.
     turn: usize,
 }
 
 impl<A: Allocator + Copy> Browsers<A> {
-    /// No connections, of which so many may be at once. `AllocError` comes if the growth of memory is refused.
+    /// No connections yet, and room for `most` at once. `AllocError` comes if the growth of memory is refused.
     pub(crate) fn new(alloc: A, most: usize) -> Result<Browsers<A>, AllocError>
         ensures { IfOk result (λ browsers. (p : ℕ) → stage_at browsers.connections.items p ≡ None) }
     {
@@ -60,7 +60,7 @@ impl<A: Allocator> Browsers<A> {
         self.connections.len()
     }
 
-    /// The number that is so many places behind the turn.
+    /// The number `place` places after the turn.
     pub(crate) fn number(&self, place: usize) -> usize {
         let number = self.turn.saturating_add(place);
         if number < self.len() {
@@ -106,7 +106,7 @@ impl<A: Allocator> Browsers<A> {
         self.connections[number] = Some(connection);
     }
 
-    /// The first number that no connection has.
+    /// The least number that no connection has.
     pub(crate) fn free(&self) -> Option<usize>
         ensures { IfSome result (IsFree self.now.connections.items) }
     {
@@ -118,7 +118,7 @@ impl<A: Allocator> Browsers<A> {
         None
     }
 
-    /// Milliseconds until the first of them will have been waited for as long as it may be.
+    /// Milliseconds until the first connection has been waited for as long as it may be.
     pub(crate) fn until(&self, now: u64) -> u64 {
         let mut least = ANSWERING;
         for connection in &self.connections {

@@ -1,4 +1,4 @@
-//! The peers, the store and the seats together, and how a peer is let go.
+//! The peers, the store and the seats together, and how a peer is disconnected.
 #![tactic(auto, using(crate::proofs::Told::stays))]
 
 ghost use Rattle.std.specs.Prelude.{◌≡◌, ℕ, None, IfOk};
@@ -45,7 +45,7 @@ impl Sessions {
         }
     }
 
-    /// Whether another one may begin, if so many may be at once.
+    /// Whether another session may begin, if `at_once` may be at once.
     pub(crate) fn may_begin(&self, at_once: usize) -> bool {
         let there = self.begun.saturating_sub(self.ended);
         let has_room = usize::try_from(there).is_ok_and(|there| there < at_once);
@@ -78,7 +78,7 @@ impl Sessions {
 }
 
 impl<D: Device, A: Allocator + Copy> Desk<D, A> {
-    /// No peers, of which so many may be at once. `AllocError` comes if a growth of memory is refused.
+    /// No peers yet, and room for `most` at once. `AllocError` comes if a growth of memory is refused.
     pub(crate) fn new(
         alloc: A,
         most: usize,
@@ -101,8 +101,8 @@ impl<D: Device, A: Allocator + Copy> Desk<D, A> {
     }
 }
 
-/// Lets a peer go, however its session stands: its socket is closed, and its number is free.
-pub(crate) fn let_go<S, D, A, H, E>(
+/// Disconnects a peer, however its session stands: its socket is closed, and its number is free.
+pub(crate) fn let_go<S: Sockets, D: Device, A: Allocator + Copy, H: Host<D, A>, E: Write>(
     desk: &mut Desk<D, A>,
     sockets: &mut S,
     host: &H,
@@ -110,12 +110,6 @@ pub(crate) fn let_go<S, D, A, H, E>(
     number: usize,
     how: HowEnded,
 )
-where
-    S: Sockets,
-    D: Device,
-    A: Allocator + Copy,
-    H: Host<D, A>,
-    E: Write,
     ensures served { KeepsOn S.happened D.facts (H.shows host.now) sockets.old desk.old sockets.new desk.new }
     ensures told { Grows (E.contents errors.old) (E.contents errors.new) }
 {

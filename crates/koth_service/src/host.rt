@@ -1,4 +1,4 @@
-//! Who is told what happens, and opens the hill again.
+//! The host of a service: it reports what happens, and opens the hill again.
 
 ghost use Rattle.std.specs.Prelude.{◌≡◌, ℕ, List, false, IfOk};
 ghost use Rattle.koth_http.specs.declared.target.Page.{Page};
@@ -17,16 +17,16 @@ use std::net::SocketAddr;
 /// How a peer's session ended.
 #[derive(Clone, Copy, Debug, PartialEq, Eq)]
 pub enum HowEnded {
-    /// By itself, and all its answers went out; or with `Unread`, and it was let go.
+    /// By itself, and all its answers went out; or with `Unread`, and the peer was disconnected.
     By(PeerEnd),
-    /// No byte of it came for 60 seconds, and none of its answers went out.
+    /// No byte came from the peer for 60 seconds, and none of its answers went out.
     Silent,
     /// The peer is gone.
     Gone,
 }
 
 /// What happens with a peer.
-#[derive(Clone, Copy, Debug, PartialEq, Eq)]
+#[derive(Clone, Copy, PartialEq, Eq)]
 pub enum Event<'t> {
     /// It has connected.
     Connected,
@@ -41,18 +41,18 @@ pub trait Host<D: Device, A: Allocator> {
     /// Why the hill can't be opened again.
     type Fault;
 
-    // Of a store the text of a page.
+    // The text of a page of a store.
     ghost shows: { Self → Seen D → Page → List ℕ → Type 0 };
 
     /// Opens the hill again, after its device failed and the store was closed.
     fn reopen(&self) -> Result<Store<D, A>, Self::Fault>
         ensures { IfOk result (λ store. store.reopen ≡ false) };
 
-    /// The text of a page of the store's hill, HTML in ASCII, or none where there is no such page. The error is want of memory.
+    /// The text of a page of the store's hill, HTML in ASCII, or none if there is no such page. `AllocError` comes if memory ran out.
     fn page(&self, store: &Store<D, A>, page: Page) -> Result<Option<Vec<u8, A>>, AllocError>
         ensures { IfOk result (IsFound (Self.shows self.now store.now page)) };
 
-    /// Writes of what happened with the peer of this address, as much as is to be told.
+    /// Reports what happened with the peer of this address, as far as it is to be reported.
     fn tell<E: Write>(&self, peer: SocketAddr, event: Event<'_>, errors: &mut E)
         ensures { Grows (E.contents errors.old) (E.contents errors.new) };
 }

@@ -1,24 +1,24 @@
-//! The service of many peers at once: bytes go from sockets that don't wait to the sessions of `koth_peers`, and their answers back. Browsers see the
-//! hill beside them.
+//! The service of many peers at once: bytes go from sockets that don't wait to the sessions of `koth_peers`, and their answers back. Browsers
+//! see the hill beside them.
 //!
-//! It knows what sockets, a clock and a host say through two traits, and nothing of the system: `koth_sockets` has its sockets. The modules, in
-//! the order in which the data pass:
+//! It knows sockets, a clock and a host through two traits, and nothing of the system: `koth_sockets` has its sockets. The modules, in the
+//! order in which the data pass:
 //!
 //! - `sockets`: what sockets may say, and what happened on them;
-//! - `host`: who is told what happens, and opens the hill again;
+//! - `host`: who reports what happens, and opens the hill again;
 //! - `times` and `seats`: how long a peer is waited for, and what is kept of each beside its session;
 //! - `desk`: the peers, the store and the seats; `arrivals`, `reading`, `serving`, `sending` and `parting` move one peer on it;
 //! - `unsent`, `connections`, `answering` and `browsers`: connections of browsers, what they are answered, by `koth_http`, and how that goes out;
 //! - `service`: round after round of them, until as many sessions as are asked for have ended.
 //!
 //! The main clause: whatever the sockets say, there is a history (`IsHistory`) of what happened on them, of the commands that were carried
-//! out in between, and of the answers to browsers. In it each peer's commands are carried out in the order in which they came, each is answered on
-//! the hill that stood then, what goes out to a peer is the next of what it was answered, and at each answer every image that a stop may leave of
-//! the device has the hill with all submissions that were answered since it was opened. Each browser is answered at most once, as the bytes that came
-//! of it ask, by what the host shows of the hill that stood then, and what goes out to it is the next of that answer.
+//! out in between, and of the answers to browsers. In it each peer's commands are carried out in the order in which they came, and each is
+//! answered on the hill that stood then. What goes out to a peer is the next of what it was answered. At each answer every image that a stop
+//! may leave of the device has the hill with all submissions that were answered since it was opened. Each browser is answered at most once,
+//! as the bytes that came from it ask, by what the host shows of the hill that stood then. What goes out to it is the next of that answer.
 //!
-//! A peer must not wait for another one's bytes, nor for room for another one's answers. Each peer takes a seat of some tens of bytes, beside
-//! what its session takes, and no round takes memory of its own.
+//! A peer must not wait for another peer's bytes, nor for room for another peer's answers. Each peer takes a seat of some tens of bytes,
+//! beside what its session takes, and no round takes memory of its own.
 #![tactic(auto)]
 
 mod answering;

@@ -16,20 +16,14 @@ use sector_disk::Device;
 use std::alloc::Allocator;
 use std::io::Write;
 
-/// Lets those go of which nothing more is awaited.
-pub(crate) fn part_all<S, D, A, H, E>(
+/// Disconnects the peers from which nothing more is awaited.
+pub(crate) fn part_all<S: Sockets, D: Device, A: Allocator + Copy, H: Host<D, A>, E: Write>(
     desk: &mut Desk<D, A>,
     sockets: &mut S,
     host: &H,
     errors: &mut E,
     now: u64,
 )
-where
-    S: Sockets,
-    D: Device,
-    A: Allocator + Copy,
-    H: Host<D, A>,
-    E: Write,
     ensures served { KeepsOn S.happened D.facts (H.shows host.now) sockets.old desk.old sockets.new desk.new }
     ensures told { Grows (E.contents errors.old) (E.contents errors.new) }
 {
@@ -38,8 +32,8 @@ where
     }
 }
 
-/// Shuts a peer that is finished, and lets one go that was shut or silent for long enough, or that reads none of its answers.
-fn part<S, D, A, H, E>(
+/// Shuts a peer that is finished, and disconnects one that was shut or silent for long enough, or that reads none of its answers.
+fn part<S: Sockets, D: Device, A: Allocator + Copy, H: Host<D, A>, E: Write>(
     desk: &mut Desk<D, A>,
     sockets: &mut S,
     host: &H,
@@ -47,12 +41,6 @@ fn part<S, D, A, H, E>(
     number: usize,
     now: u64,
 )
-where
-    S: Sockets,
-    D: Device,
-    A: Allocator + Copy,
-    H: Host<D, A>,
-    E: Write,
     ensures served { KeepsOn S.happened D.facts (H.shows host.now) sockets.old desk.old sockets.new desk.new }
     ensures told { Grows (E.contents errors.old) (E.contents errors.new) }
 {
@@ -67,14 +55,8 @@ where
             }
         }
         (_, Some(PeerEnd::Unread)) => {
-            let_go(
-                desk,
-                sockets,
-                host,
-                errors,
-                number,
-                HowEnded::By(PeerEnd::Unread),
-            );
+            let how = HowEnded::By(PeerEnd::Unread);
+            let_go(desk, sockets, host, errors, number, how);
         }
         _ => {
             if desk.peers.is_finished(number) {
@@ -88,9 +70,9 @@ where
     }
 }
 
-/// Throws away what still comes from a peer that was shut, of which so many bytes were thrown away, and says whether it is at its end, or was
-/// waited for long enough.
-fn has_drained<S, D, A>(
+/// Throws away what still comes from a peer that was shut; `count` bytes of it were thrown away before. It returns whether the peer's bytes
+/// are at their end, or it was waited for long enough.
+fn has_drained<S: Sockets, D: Device, A: Allocator + Copy>(
     desk: &mut Desk<D, A>,
     sockets: &mut S,
     number: usize,
@@ -98,10 +80,6 @@ fn has_drained<S, D, A>(
     count: usize,
     now: u64,
 ) -> bool
-where
-    S: Sockets,
-    D: Device,
-    A: Allocator + Copy,
     ensures stays { Stays S.happened sockets.old sockets.new }
     ensures peers { desk.new.peers ≡ desk.old.peers }
     ensures store { desk.new.store ≡ desk.old.store }

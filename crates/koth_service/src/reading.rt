@@ -11,23 +11,17 @@ use sector_disk::Device;
 use std::alloc::Allocator;
 use std::io::Write;
 
-/// Bytes that one read takes at most.
+/// The most bytes that one read takes.
 const CHUNK: usize = 4096;
 
 /// Reads what each peer has room for, once from each.
-pub(crate) fn read_all<S, D, A, H, E>(
+pub(crate) fn read_all<S: Sockets, D: Device, A: Allocator + Copy, H: Host<D, A>, E: Write>(
     desk: &mut Desk<D, A>,
     sockets: &mut S,
     host: &H,
     errors: &mut E,
     now: u64,
 )
-where
-    S: Sockets,
-    D: Device,
-    A: Allocator + Copy,
-    H: Host<D, A>,
-    E: Write,
     ensures served { KeepsOn S.happened D.facts (H.shows host.now) sockets.old desk.old sockets.new desk.new }
     ensures told { Grows (E.contents errors.old) (E.contents errors.new) }
 {
@@ -37,7 +31,7 @@ where
 }
 
 /// Reads what a peer has room for.
-fn read_from<S, D, A, H, E>(
+fn read_from<S: Sockets, D: Device, A: Allocator + Copy, H: Host<D, A>, E: Write>(
     desk: &mut Desk<D, A>,
     sockets: &mut S,
     host: &H,
@@ -45,12 +39,6 @@ fn read_from<S, D, A, H, E>(
     number: usize,
     now: u64,
 )
-where
-    S: Sockets,
-    D: Device,
-    A: Allocator + Copy,
-    H: Host<D, A>,
-    E: Write,
     ensures served { KeepsOn S.happened D.facts (H.shows host.now) sockets.old desk.old sockets.new desk.new }
     ensures told { Grows (E.contents errors.old) (E.contents errors.new) }
 {

@@ -13,7 +13,7 @@ pub(crate) struct Seat {
     pub(crate) since: u64,
     /// Whether bytes came, and the turn has not passed the peer since: a command of it may be due.
     pub(crate) waits: bool,
-    /// How many bytes were thrown away since the writing side was shut, if it was.
+    /// The number of bytes that were thrown away since the writing side was shut, if it was.
     pub(crate) drained: Option<usize>,
 }
 
@@ -23,12 +23,12 @@ impl Seat {
         !self.waits && self.has_passed(now, PATIENCE)
     }
 
-    /// Whether so many milliseconds have passed since something came or went.
+    /// Whether at least `milliseconds` have passed since something came or went.
     pub(crate) fn has_passed(&self, now: u64, milliseconds: u64) -> bool {
         now.saturating_sub(self.since) >= milliseconds
     }
 
-    /// Milliseconds until it will have been waited for as long as it may be.
+    /// Milliseconds until the peer has been waited for as long as it may be.
     fn until(&self, now: u64) -> u64 {
         let patience = match self.drained {
             Some(_) => DRAIN,
@@ -42,12 +42,12 @@ impl Seat {
 #[derive(Drop)]
 pub(crate) struct Seats<A: Allocator> {
     seats: Vec<Option<Seat>, A>,
-    /// The number behind the one that was served last.
+    /// The number after the one that was served last.
     turn: usize,
 }
 
 impl<A: Allocator> Seats<A> {
-    /// So many free seats. `AllocError` comes if the growth of memory is refused.
+    /// `most` free seats. `AllocError` comes if the growth of memory is refused.
     pub(crate) fn new(alloc: A, most: usize) -> Result<Seats<A>, AllocError> {
         Ok(Seats {
             seats: Vec::from_elem(alloc, None, most)?,
@@ -55,7 +55,7 @@ impl<A: Allocator> Seats<A> {
         })
     }
 
-    /// How many there are.
+    /// How many seats there are.
     pub(crate) fn len(&self) -> usize {
         self.seats.len()
     }
@@ -85,50 +85,32 @@ impl<A: Allocator> Seats<A> {
 
     /// Bytes of this peer came.
     pub(crate) fn heard(&mut self, number: usize, now: u64) {
-        if let Some(seat) = self.at(number) {
-            self.put(
-                number,
-                Some(Seat {
-                    since: now,
-                    waits: true,
-                    ..seat
-                }),
-            );
+        if let Some(Some(seat)) = self.seats.get_mut(number) {
+            seat.since = now;
+            seat.waits = true;
         }
     }
 
     /// Bytes went out to this peer.
     pub(crate) fn told(&mut self, number: usize, now: u64) {
-        if let Some(seat) = self.at(number) {
-            self.put(number, Some(Seat { since: now, ..seat }));
+        if let Some(Some(seat)) = self.seats.get_mut(number) {
+            seat.since = now;
         }
     }
 
     /// The writing side of this peer is shut, and what still comes is thrown away.
     pub(crate) fn shut(&mut self, number: usize, now: u64) {
-        if let Some(seat) = self.at(number) {
-            self.put(
-                number,
-                Some(Seat {
-                    since: now,
-                    waits: false,
-                    drained: Some(0),
-                    ..seat
-                }),
-            );
+        if let Some(Some(seat)) = self.seats.get_mut(number) {
+            seat.since = now;
+            seat.waits = false;
+            seat.drained = Some(0);
         }
     }
 
-    /// So many bytes were thrown away in all.
+    /// `count` bytes of this peer were thrown away in all.
     pub(crate) fn drained(&mut self, number: usize, count: usize) {
-        if let Some(seat) = self.at(number) {
-            self.put(
-                number,
-                Some(Seat {
-                    drained: Some(count),
-                    ..seat
-                }),
-            );
+        if let Some(Some(seat)) = self.seats.get_mut(number) {
+            seat.drained = Some(count);
         }
     }
 
@@ -160,7 +142,7 @@ impl<A: Allocator> Seats<A> {
         self.pass(0, count);
     }
 
-    /// Milliseconds until the first of the peers will have been waited for as long as it may be, and no more than a peer may be silent.
+    /// Milliseconds until the first peer has been waited for as long as it may be, and no more than a peer may be silent.
     pub(crate) fn until(&self, now: u64) -> u64 {
         let mut least = PATIENCE;
         for seat in &self.seats {
@@ -174,14 +156,8 @@ impl<A: Allocator> Seats<A> {
     /// The turn passed these numbers.
     fn pass(&mut self, from: usize, to: usize) {
         for number in from..to {
-            if let Some(seat) = self.at(number) {
-                self.put(
-                    number,
-                    Some(Seat {
-                        waits: false,
-                        ..seat
-                    }),
-                );
+            if let Some(Some(seat)) = self.seats.get_mut(number) {
+                seat.waits = false;
             }
         }
     }

@@ -12,19 +12,13 @@ use std::alloc::Allocator;
 use std::io::Write;
 
 /// Sends what each peer takes of its answers, by one write to each.
-pub(crate) fn send_all<S, D, A, H, E>(
+pub(crate) fn send_all<S: Sockets, D: Device, A: Allocator + Copy, H: Host<D, A>, E: Write>(
     desk: &mut Desk<D, A>,
     sockets: &mut S,
     host: &H,
     errors: &mut E,
     now: u64,
 )
-where
-    S: Sockets,
-    D: Device,
-    A: Allocator + Copy,
-    H: Host<D, A>,
-    E: Write,
     ensures served { KeepsOn S.happened D.facts (H.shows host.now) sockets.old desk.old sockets.new desk.new }
     ensures told { Grows (E.contents errors.old) (E.contents errors.new) }
 {
@@ -34,7 +28,7 @@ where
 }
 
 /// Sends what a peer takes of its answers.
-fn send_to<S, D, A, H, E>(
+fn send_to<S: Sockets, D: Device, A: Allocator + Copy, H: Host<D, A>, E: Write>(
     desk: &mut Desk<D, A>,
     sockets: &mut S,
     host: &H,
@@ -42,12 +36,6 @@ fn send_to<S, D, A, H, E>(
     number: usize,
     now: u64,
 )
-where
-    S: Sockets,
-    D: Device,
-    A: Allocator + Copy,
-    H: Host<D, A>,
-    E: Write,
     ensures served { KeepsOn S.happened D.facts (H.shows host.now) sockets.old desk.old sockets.new desk.new }
     ensures told { Grows (E.contents errors.old) (E.contents errors.new) }
 {

@@ -24,7 +24,7 @@ use sector_disk::Device;
 use std::alloc::{AllocError, Allocator};
 use std::io::Write;
 
-/// Why a service ended before its time.
+/// Why a service ended early.
 #[derive(Clone, Copy, Debug, PartialEq, Eq)]
 pub enum ServiceFault<F> {
     /// There was no memory for the seats of the peers, or for the connections of browsers.
@@ -33,13 +33,13 @@ pub enum ServiceFault<F> {
     Reopening(F),
 }
 
-/// Serves the sessions of peers on a hill, of which so many may be at once, and ends after as many sessions as are asked for, if a number is.
+/// Serves up to `most` peers at once on a hill; returns after `connections` sessions if that is given.
 ///
-/// A peer that connects while as many are there as may be waits until one of them is let go. A peer is let go when its session has ended
-/// and its answers went out, or 60 seconds after the last byte came of it or went out to it, or as soon as its answers have no room. If the
-/// device fails in a submission, the store is closed, and the host opens the hill again. So many browsers may be at once, none of which is a peer:
-/// each is answered one request, with a page of the hill that stands then. `served` speaks of peers and of browsers.
-pub fn serve_peers<S, D, A, H, E>(
+/// A peer that connects while there are `most` waits until one of them is disconnected. A peer is disconnected when its session has ended
+/// and its answers went out, 60 seconds after the last byte in or out, or as soon as its answers have no room. If the device fails in a
+/// submission, the store is closed, and the host opens the hill again. Beside the peers up to `browsers` browsers are served at once: each is
+/// answered one request, with a page of the hill that stands then. `served` speaks of peers and of browsers.
+pub fn serve_peers<S: Sockets, D: Device + Drop, A: Allocator + Copy, H: Host<D, A>, E: Write>(
     alloc: A,
     sockets: &mut S,
     most: usize,
@@ -49,12 +49,6 @@ pub fn serve_peers<S, D, A, H, E>(
     host: &H,
     errors: &mut E,
 ) -> Result<(), ServiceFault<H::Fault>>
-where
-    S: Sockets,
-    D: Device + Drop,
-    A: Allocator + Copy,
-    H: Host<D, A>,
-    E: Write,
     requires { store.reopen ≡ false }
     ensures served { ServesPeers S.happened D.facts (H.shows host.now) store sockets.old sockets.new }
     ensures told { Grows (E.contents errors.old) (E.contents errors.new) }
@@ -81,20 +75,14 @@ where
     Ok(())
 }
 
-/// Sends answers, and lets peers go; and serves browsers.
-fn give_out<S, D, A, H, E>(
+/// Sends answers, disconnects peers, and serves browsers.
+fn give_out<S: Sockets, D: Device, A: Allocator + Copy, H: Host<D, A>, E: Write>(
     desk: &mut Desk<D, A>,
     browsers: &mut Browsers<A>,
     sockets: &mut S,
     host: &H,
     errors: &mut E,
 )
-where
-    S: Sockets,
-    D: Device,
-    A: Allocator + Copy,
-    H: Host<D, A>,
-    E: Write,
     ensures served { AllGoOn S.happened D.facts (H.shows host.now) sockets.old desk.old browsers.old sockets.new desk.new browsers.new }
     ensures told { Grows (E.contents errors.old) (E.contents errors.new) }
 {
@@ -106,20 +94,14 @@ where
     desk.retries |= round.retries;
 }
 
-/// Waits for peers, takes what comes of them, and carries out one command at most.
-fn take_in<S, D, A, H, E>(
+/// Waits for peers, takes what comes from them, and carries out one command at most.
+fn take_in<S: Sockets, D: Device, A: Allocator + Copy, H: Host<D, A>, E: Write>(
     desk: &mut Desk<D, A>,
     browsers: &Browsers<A>,
     sockets: &mut S,
     host: &H,
     errors: &mut E,
 ) -> Step
-where
-    S: Sockets,
-    D: Device,
-    A: Allocator + Copy,
-    H: Host<D, A>,
-    E: Write,
     ensures served { KeepsOnBy S.happened D.facts (H.shows host.now) result sockets.old desk.old sockets.new desk.new }
     ensures told { Grows (E.contents errors.old) (E.contents errors.new) }
 {
@@ -130,12 +112,13 @@ where
     serve_one(desk, sockets, host, errors)
 }
 
-/// Waits until something comes or may go, but not after a round in which it did, and no longer than a peer may be silent or a browser is waited for.
-fn wait<S, D, A>(desk: &mut Desk<D, A>, browsers: &Browsers<A>, sockets: &mut S)
-where
-    S: Sockets,
-    D: Device,
-    A: Allocator + Copy,
+/// Waits until something comes or may go, but not after a round in which it did. It waits no longer than a peer may be silent or a browser is
+/// waited for.
+fn wait<S: Sockets, D: Device, A: Allocator + Copy>(
+    desk: &mut Desk<D, A>,
+    browsers: &Browsers<A>,
+    sockets: &mut S,
+)
     ensures stays { Stays S.happened sockets.old sockets.new }
     ensures peers { desk.new.peers ≡ desk.old.peers }
     ensures store { desk.new.store ≡ desk.old.store }
@@ -155,11 +138,11 @@ where
 }
 
 /// The same desk, on the hill opened again if the device failed in this step.
-fn sound<D, A, H>(desk: Desk<D, A>, step: Step, host: &H) -> Result<Desk<D, A>, H::Fault>
-where
-    D: Device + Drop,
-    A: Allocator + Copy,
-    H: Host<D, A>,
+fn sound<D: Device + Drop, A: Allocator + Copy, H: Host<D, A>>(
+    desk: Desk<D, A>,
+    step: Step,
+    host: &H,
+) -> Result<Desk<D, A>, H::Fault>
     ensures { IfOk result (IsSoundAfter step desk) }
 {
     match step {
@@ -168,33 +151,21 @@ where
     }
 }
 
-/// The same desk, on the hill opened again. The store is closed before.
-fn reopened<D, A, H>(desk: Desk<D, A>, host: &H) -> Result<Desk<D, A>, H::Fault>
-where
-    D: Device + Drop,
-    A: Allocator + Copy,
-    H: Host<D, A>,
+/// The same desk, on the hill opened again. The store is closed first.
+fn reopened<D: Device + Drop, A: Allocator + Copy, H: Host<D, A>>(
+    desk: Desk<D, A>,
+    host: &H,
+) -> Result<Desk<D, A>, H::Fault>
     ensures peers { IfOk result (λ new. new.peers ≡ desk.peers) }
     ensures store { IfOk result (λ new. new.store.reopen ≡ false) }
 {
-    let Desk {
-        peers,
-        store,
-        seats,
-        sessions,
-        is_busy,
-        retries,
-    } = desk;
-    drop(store.close());
+    let mut desk = desk;
+    drop(desk.store.close());
     match host.reopen() {
-        Ok(store) => Ok(Desk {
-            peers,
-            store,
-            seats,
-            sessions,
-            is_busy,
-            retries,
-        }),
+        Ok(store) => {
+            desk.store = store;
+            Ok(desk)
+        }
         Err(fault) => Err(fault),
     }
 }

@@ -13,19 +13,13 @@ use sector_disk::Device;
 use std::alloc::Allocator;
 use std::io::Write;
 
-/// Carries out one command at most, and tells the host what a submission was answered.
-pub(crate) fn serve_one<S, D, A, H, E>(
+/// Carries out one command at most, and has the host report what a submission was answered.
+pub(crate) fn serve_one<S: Sockets, D: Device, A: Allocator + Copy, H: Host<D, A>, E: Write>(
     desk: &mut Desk<D, A>,
     sockets: &mut S,
     host: &H,
     errors: &mut E,
 ) -> Step
-where
-    S: Sockets,
-    D: Device,
-    A: Allocator + Copy,
-    H: Host<D, A>,
-    E: Write,
     ensures served { KeepsOnBy S.happened D.facts (H.shows host.now) result sockets.old desk.old sockets.new desk.new }
     ensures told { Grows (E.contents errors.old) (E.contents errors.new) }
 {
@@ -33,39 +27,23 @@ where
     let now = sockets.now();
     desk.is_busy |= !matches!(step, Step::Nobody);
     desk.seats.note(step, now);
-    tell_step::<D, A, H, E>(&desk.peers, &desk.seats, step, host, errors);
+    tell_reply::<D, A, H, E>(&desk.peers, &desk.seats, step, host, errors);
     step
 }
 
-/// Tells the host what a submission was answered in this step, if one was.
-fn tell_step<D, A, H, E>(peers: &Peers<A>, seats: &Seats<A>, step: Step, host: &H, errors: &mut E)
-where
-    D: Device,
-    A: Allocator + Copy,
-    H: Host<D, A>,
-    E: Write,
-    ensures { Grows (E.contents errors.old) (E.contents errors.new) }
-{
-    if let Step::Served(number) = step {
-        tell_reply::<D, A, H, E>(peers, seats, number, host, errors);
-    }
-}
-
-/// Tells the host what this peer was answered last, if that was to a submission.
-fn tell_reply<D, A, H, E>(
+/// Has the host report what a submission was answered in this step, if one was.
+fn tell_reply<D: Device, A: Allocator + Copy, H: Host<D, A>, E: Write>(
     peers: &Peers<A>,
     seats: &Seats<A>,
-    number: usize,
+    step: Step,
     host: &H,
     errors: &mut E,
 )
-where
-    D: Device,
-    A: Allocator + Copy,
-    H: Host<D, A>,
-    E: Write,
     ensures { Grows (E.contents errors.old) (E.contents errors.new) }
 {
+    let Step::Served(number) = step else {
+        return;
+    };
     if !is_answered(peers.end(number)) {
         return;
     }
@@ -75,12 +53,12 @@ where
     }
 }
 
-/// Whether the command that was carried out last was answered, if the session stands so after it.
+/// Whether the command that was carried out last was answered, if the session has this end after it.
 fn is_answered(end: Option<PeerEnd>) -> bool {
     matches!(end, None | Some(PeerEnd::EndOfInput | PeerEnd::Limit))
 }
 
-/// The last line of a text that ends with a line feed, without that.
+/// The last line of a text that ends with a line feed, without the line feed.
 fn last_line(text: &[u8]) -> &[u8] {
     let [lines @ .., b'\n'] = text else {
         return &[];

@@ -6,7 +6,7 @@ ghost use Rattle.koth_service.specs.Noted.{Adds, Admits, Noted, Reads, Stays, Wr
 use std::net::SocketAddr;
 
 /// What came of an accept.
-#[derive(Clone, Copy, Debug, PartialEq, Eq)]
+#[derive(Clone, Copy, PartialEq, Eq)]
 pub enum Arrival {
     /// A peer, with its address: it is seated or refused next.
     Peer(SocketAddr),
@@ -17,35 +17,35 @@ pub enum Arrival {
 }
 
 /// What came of a read.
-#[derive(Clone, Copy, Debug, PartialEq, Eq)]
+#[derive(Clone, Copy, PartialEq, Eq)]
 pub enum Came {
-    /// So many bytes; none if a signal came first, and it is tried again.
+    /// This many bytes came; none if a signal came first, and the read is tried again.
     Bytes(usize),
     /// The peer's bytes are at their end.
     End,
-    /// None are there now.
+    /// No bytes are there now.
     Nothing,
-    /// The peer is gone: nothing more comes of it, or goes out to it.
+    /// The peer is gone: nothing more comes from it, or goes out to it.
     Gone,
 }
 
 /// What came of a write.
-#[derive(Clone, Copy, Debug, PartialEq, Eq)]
+#[derive(Clone, Copy, PartialEq, Eq)]
 pub enum Went {
-    /// So many of the bytes went out; none if a signal came first, and it is tried again.
+    /// This many of the bytes went out; none if a signal came first, and the write is tried again.
     Bytes(usize),
     /// There is no room for any now.
     Nothing,
-    /// The peer is gone: nothing more comes of it, or goes out to it.
+    /// The peer is gone: nothing more comes from it, or goes out to it.
     Gone,
 }
 
 /// What came of throwing away.
-#[derive(Clone, Copy, Debug, PartialEq, Eq)]
+#[derive(Clone, Copy, PartialEq, Eq)]
 pub enum Drained {
-    /// So many bytes were thrown away.
+    /// This many bytes were thrown away.
     Bytes(usize),
-    /// None are there now.
+    /// No bytes are there now.
     Nothing,
     /// The peer's bytes are at their end, or it is gone.
     End,
@@ -53,14 +53,15 @@ pub enum Drained {
 
 /// Sockets of peers by their numbers, and of browsers by numbers of their own, none of whose calls but `wait` waits.
 pub trait Sockets {
-    // What happened on them, with peers and with browsers, the latest first, as far as they keep it: a history that is true of them stays true of them as it goes on.
+    // What happened on the sockets, with peers and with browsers, the latest first, as far as they keep it. A history that is true of them stays
+    // true of them as it goes on.
     ghost happened: { Self → List Noted → Type 0 };
 
     /// Milliseconds since some moment in the past. They don't go back.
     fn now(&mut self) -> u64
         ensures { Stays Self.happened self.old self.new };
 
-    /// Waits until a peer can be accepted, read from or written to, and no longer than so many milliseconds.
+    /// Waits until a peer can be accepted, read from or written to, and no longer than `most` milliseconds.
     fn wait(&mut self, most: u64)
         ensures { Stays Self.happened self.old self.new };
 
@@ -68,11 +69,11 @@ pub trait Sockets {
     fn accept(&mut self) -> Arrival
         ensures { Stays Self.happened self.old self.new };
 
-    /// Puts the one that was accepted last under this number. It sends small answers at once.
+    /// Puts the peer that was accepted last under this number. It sends small answers at once.
     fn seat(&mut self, number: usize)
         ensures { Adds Self.happened (Noted.Seated number) self.old self.new };
 
-    /// Closes the one that was accepted last.
+    /// Closes the connection that was accepted last.
     fn refuse(&mut self)
         ensures { Stays Self.happened self.old self.new };
 
@@ -84,7 +85,7 @@ pub trait Sockets {
     fn write(&mut self, number: usize, bytes: &[u8]) -> Went
         ensures { Writes Self.happened (Noted.Told number) self.old bytes.now result self.new };
 
-    /// Tells the peer of this number that no more will go out to it. What went out still reaches it.
+    /// Shuts the writing side of the peer of this number: no more goes out to it. What went out still reaches it.
     fn shut(&mut self, number: usize)
         ensures { Stays Self.happened self.old self.new };
 
@@ -96,8 +97,8 @@ pub trait Sockets {
     fn close(&mut self, number: usize)
         ensures { Adds Self.happened (Noted.Closed number) self.old self.new };
 
-    /// Takes a connection of a browser that waits, and puts it under this number of the browsers'. Its address is told. Nothing is put there if it
-    /// failed for now.
+    /// Takes a connection of a browser that waits, and puts it under this number of the browsers'. It returns the browser's address. Nothing is
+    /// put there if it failed for now.
     fn admit_browser(&mut self, number: usize) -> Arrival
         ensures { Admits Self.happened number self.old result self.new };
 
@@ -109,7 +110,7 @@ pub trait Sockets {
     fn write_browser(&mut self, number: usize, bytes: &[u8]) -> Went
         ensures { Writes Self.happened (Noted.Shown number) self.old bytes.now result self.new };
 
-    /// Tells the browser of this number that no more will go out to it. What went out still reaches it.
+    /// Shuts the writing side of the browser of this number: no more goes out to it. What went out still reaches it.
     fn shut_browser(&mut self, number: usize)
         ensures { Stays Self.happened self.old self.new };
 

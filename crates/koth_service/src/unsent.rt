@@ -5,7 +5,7 @@ ghost use Rattle.std.specs.Prelude.{◌≡◌, ◌≤◌, drop, length};
 use std::alloc::Allocator;
 use std::marker::Model;
 
-/// An answer, of which so many bytes went out.
+/// An answer, of which `sent` bytes went out.
 #[derive(Drop)]
 pub(crate) struct Unsent<A: Allocator> {
     answer: Vec<u8, A>,
@@ -36,7 +36,7 @@ impl<A: Allocator> Unsent<A> {
         &self.answer.as_slice()[self.sent..]
     }
 
-    /// So many bytes more went out.
+    /// `count` more bytes went out.
     pub(crate) fn pass(&mut self, count: usize)
         requires { count ≤ length self.old }
         ensures { self.new ≡ drop count self.old }

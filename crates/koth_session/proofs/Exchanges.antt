@@ -1,4 +1,4 @@
--- Exchanges that are served one after another, as far as the store goes.
+-- What exchanges make of the store, one after another.
 use Rattle.std.proofs.Common.{◌≡◌, ◌⊎◌, inl, inr, ℕ, ◌+◌, ◌-◌, ◌^◌, false, arith, List, [], ◌∷◌, ◌++◌, refl, sym, ap, ap₂, subst, ◌∙◌, append_assoc}
 use Rattle.sector_disk.specs.Facts.{DeviceFacts}
 use Rattle.sector_disk.proofs.Kept.{kept_on, kept_same}
@@ -31,7 +31,7 @@ anew_append h (e ∷ es) fs =
     ap (λ l. answer_anew h e ++ l) (anew_append (next_anew h e) es fs)
     ∙ sym (append_assoc (answer_anew h e) (transcript_anew (next_anew h e) es) (transcript_anew (after_anew (next_anew h e) es) fs))
 
--- what is kept after more of them
+-- what is kept after more exchanges
 after_more : (hill : Hill) (es fs : List Exchange) (mid new : Kept) → mid ≡ hill_after (fought hill) es → IsAfter hill es mid → IsAfter (after_anew hill es) fs new → IsAfter hill (es ++ fs) new
 after_more hill es fs mid new through first second = record {
   is_hill = subst IsHill (sym (after_append hill es fs)) second.is_hill;
@@ -56,7 +56,7 @@ answer_is hill (Exchange.Submission source Mark.Worn) is = refl
 answer_is hill Exchange.Table is = ap show_text (fought_rows hill is)
 answer_is hill Exchange.BadLine is = refl
 
--- what is kept after one, where the hill then is one
+-- what is kept after one exchange that leaves a hill
 pub after_one : (old new : Kept) (e : Exchange) → new ≡ hill_after old (e ∷ []) → (IsHill (hill_in old) → IsHill (hill_in new)) → (hill : Hill) → IsHill hill → old ≡ fought hill → IsAfter hill (e ∷ []) new
 after_one old new e moved is_new hill is same =
     let now : new ≡ fought (next_anew hill e) = moved ∙ ap (λ (k : Kept). hill_next k e) same ∙ next_is hill e is in record {
@@ -93,7 +93,7 @@ module _ {D : Type 0} (facts : DeviceFacts D) where
     anew = λ hill is same. record { is_hill = is; fought_is = same; transcript_is = refl };
   }
 
-  -- one that changed nothing
+  -- an exchange that changed nothing
   pub served_same : (s : Seen D) (e : Exchange) → hill_after s.hill (e ∷ []) ≡ s.hill → (HasWorn (e ∷ []) → s.generation ≡ 2 ^ 64 - 1)
       → (HasSubmission (e ∷ []) → s.reopen ≡ false) → AreServed facts s s (e ∷ [])
   served_same s e same worn open_at = record {

@@ -1,4 +1,4 @@
--- What the device holds behind a session.
+-- What the device holds after exchanges that were served, and after a session.
 use Rattle.std.proofs.Common.{◌≡◌, ◌⊎◌, ℕ, List, [], ◌∷◌, ◌++◌, None, Some, refl, sym, ap, subst, ◌∙◌}
 use Rattle.war_types.specs.declared.settings.RawSettings.{RawSettings}
 use Rattle.sector_disk.specs.Facts.{DeviceFacts}
@@ -25,7 +25,7 @@ steps_append : (h : Hill) (xs ys : List (List ℕ)) → steps h (xs ++ ys) ≡ s
 steps_append h [] ys = refl
 steps_append h (x ∷ xs) ys = steps_append (step_source h x) xs ys
 
--- the hill is that of the submissions answered
+-- the hill after exchanges is the one that their answered submissions earn
 pub hill_is : (h : Hill) (es : List Exchange) → after_anew h es ≡ steps h (submitted es)
 hill_is h [] = refl
 hill_is h (Exchange.Submission source Mark.Taken ∷ es) = hill_is (step_source h source) es
@@ -53,7 +53,7 @@ module _ {D : Type 0} (facts : DeviceFacts D) where
       let before = subst (λ k. Images (facts.disk old.device) (λ image. Reads (facts.size old.device) image k)) (sym earns) holds in
       (now, subst (λ k. Images (facts.disk new.device) (λ image. Reads (facts.size new.device) image k)) now (is.reads lawful open_still before))
 
-  keeps_cut : (old last new : Seen D) (es : List Exchange) (source : List ℕ) → AreServed facts old last es
+  pub keeps_cut : (old last new : Seen D) (es : List Exchange) (source : List ℕ) → AreServed facts old last es
       → IsLeftOff facts last new source → KeepsCut facts old new es source
   keeps_cut old last new es source is cut = λ s sources lawful open_still earns holds.
       let after = is.anew (earned s sources) (held_hill old.device s sources holds) earns in

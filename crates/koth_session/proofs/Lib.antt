@@ -1,7 +1,7 @@
 mod Endings
 pub mod Exchanges
-mod Holding
+pub mod Holding
 mod Living
 mod Serving
 mod SessionRows
-mod Submissions
+pub mod Submissions

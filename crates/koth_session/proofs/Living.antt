@@ -30,20 +30,20 @@ module _ {D : Type 0} (facts : DeviceFacts D) where
       → Lives (facts.size old.device) true (facts.disk old.device) (answers_to es ∷ []) (facts.disk new.device)
   served old new es lawful standing is = (facts.disk new.device, refl, moves_by old new es lawful standing is, refl)
 
-  -- and nothing changed behind them
+  -- and nothing changed after them
   served_to : (old last new : Seen D) (es : List Exchange) → facts.lawful old.device → IsStanding facts old → AreServed facts old last es → new ≡ last
       → Lives (facts.size old.device) true (facts.disk old.device) (answers_to es ∷ []) (facts.disk new.device)
   served_to old last new es lawful standing is same =
       subst (λ (s : Seen D). Lives (facts.size old.device) true (facts.disk old.device) (answers_to es ∷ []) (facts.disk s.device)) (sym same) (served old last es lawful standing is)
 
-  -- the store still stands behind them
+  -- the store still stands after them
   standing_on : (old new : Seen D) (es : List Exchange) → facts.lawful old.device → IsStanding facts old → AreServed facts old new es → IsStanding facts new
   standing_on old new es lawful standing is = record {
     is_open = is.still ∙ standing.is_open;
     reads = is.reads lawful standing.is_open standing.reads;
   }
 
-  -- the device failed behind them
+  -- the device failed after them
   cut_behind : (old last new : Seen D) (es : List Exchange) (source : List ℕ) → facts.lawful old.device → IsStanding facts old
       → AreServed facts old last es → IsLeftOff facts last new source
       → Lives (facts.size old.device) true (facts.disk old.device) (answers_to es ∷ Event.Unanswered source ∷ []) (facts.disk new.device)

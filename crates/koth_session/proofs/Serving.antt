@@ -1,5 +1,5 @@
 -- Commands that are served one after another.
-use Rattle.std.proofs.Common.{◌≡◌, ℕ, ◌+◌, ◌-◌, ◌<◌, length, arith, List, [], ◌∷◌, ◌++◌, Option, None, Some, refl, sym, ap, subst, ◌∙◌, append_assoc, append-nil}
+use Rattle.std.proofs.Common.{◌≡◌, ℕ, ◌<◌, length, arith, List, [], ◌∷◌, ◌++◌, Option, None, Some, refl, sym, ap, subst, ◌∙◌, append_assoc, append-nil}
 use Rattle.std.proofs.lemmas.List.{length-append}
 use Rattle.std.specs.Io.KnownBytes.{Appends}
 use Rattle.std.proofs.KnownBytes.{Appends-nil, Appends-trans, Keeps-refl}
@@ -33,7 +33,7 @@ module _ {D : Type 0} (facts : DeviceFacts D) where
         subst (Appends a.output c.output) (sym (transcript_append a.store.hill es fs)) (Appends-trans a.output b.output c.output _ _ p.written second);
   }
 
-  -- more bytes behind those that ended the session
+  -- more bytes after those that ended the session
   pub stops_early : (line : List ℕ) (source : Option (List ℕ)) (bs cs : List ℕ) (end : SessionEnd) (a c : Scene D)
       → Stopped facts line source bs end a c → Stopped facts line source (bs ++ cs) end a c
   stops_early line source bs cs end a c v = record {
@@ -56,7 +56,7 @@ module _ {D : Type 0} (facts : DeviceFacts D) where
   }
 
   module _ {A : Type 0} where
-    -- what comes behind bytes that went on
+    -- what comes after bytes that went on
     pub goes_on : (line : List ℕ) (source : Option (List ℕ)) (bs cs : List ℕ) (mid script : Script A) (r : Option SessionEnd) (a b c : Scene D)
         → (w : WentOn facts line source bs mid a b)
         → Goes facts w.new_line w.new_source cs r script b c

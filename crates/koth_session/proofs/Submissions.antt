@@ -1,7 +1,6 @@
--- What a submission makes of a session.
-use Rattle.std.proofs.Common.{◌≡◌, inl, inr, ℕ, ◌+◌, ◌-◌, ◌^◌, true, false, arith, List, [], ◌∷◌, Option, Some, Result, Ok, Err, OnOk, OnErr, refl, sym, ap, subst, ◌∙◌, true≢false}
+-- What a submission makes of the store, and of a session.
+use Rattle.std.proofs.Common.{◌≡◌, ℕ, ◌+◌, ◌-◌, ◌^◌, false, arith, List, [], ◌∷◌, Result, Ok, Err, OnOk, OnErr, refl, sym, ap, subst, ◌∙◌}
 use Rattle.std.specs.Io.KnownBytes.{Appends}
-use Rattle.std.proofs.KnownBytes.{Keeps-refl}
 use Rattle.sector_disk.specs.Facts.{DeviceFacts}
 use Rattle.sector_disk.specs.Served.{IsKept}
 use Rattle.sector_disk.specs.Image.{Images}
@@ -14,10 +13,9 @@ use Rattle.hill_store.specs.declared.reply.Reply.{Reply}
 use Rattle.hill_store.specs.declared.reply.Reply.TheVariants as replies
 use Rattle.koth_protocol.specs.Commands.{Command}
 use Rattle.koth_session.specs.Reply.{reply_line}
-use Rattle.koth_session.specs.Sessions.{AnswersCommand, HasWorn, AreServed, Scene, has_failed, said, scene}
+use Rattle.koth_session.specs.Sessions.{AnswersCommand, HasWorn, AreServed, Scene, has_failed, said}
 use Rattle.koth_protocol.specs.Written.{WritesPart}
 use Rattle.koth_session.specs.Transcript.{Exchange, Mark, answer, command_in, hill_after}
-use Rattle.koth_session.specs.declared.sessions.SessionEnd.TheVariants as ends
 use Rattle.koth_session.proofs.Exchanges.{after_one, served_same}
 
 module _ {D : Type 0} (facts : DeviceFacts D) where
@@ -51,7 +49,7 @@ module _ {D : Type 0} (facts : DeviceFacts D) where
     anew = after_one old.hill new.hill (Exchange.Submission source Mark.Taken) is.hill (λ was. is.kept.hill);
   }
 
-  -- the exchange that a submission is, where the device did not fail
+  -- the exchange that a submission is, if the device did not fail
   abbrev pub IsExchanged : Seen D → Seen D → List ℕ → Reply → Type 0
   IsExchanged old new source reply = (mark : Mark) × (reply_line reply ≡ answer old.hill (Exchange.Submission source mark))
       × AreServed facts old new (Exchange.Submission source mark ∷ [])
@@ -77,41 +75,3 @@ module _ {D : Type 0} (facts : DeviceFacts D) where
       → AnswersCommand facts (Command.Submit source) (said r) a c
   submission_said source reply r a c x whole part =
       answers_said (Exchange.Submission source x.0) (reply_line reply) r a c x.1 x.2 whole part
-
-  -- the device failed, now or before
-  pub cut_off : (old new : Seen D) (output : Option (List ℕ)) (source : List ℕ) (reply : Reply) → Submits facts old source reply new
-      → IsKept facts old.device new.device → (old.generation ≡ 2 ^ 64 - 1 → new ≡ old) → has_failed reply ≡ true
-      → AnswersCommand facts (Command.Submit source) (Some ends.StoreFailed) (scene output old) (scene output new)
-  cut_off old new output source replies.Disk s kept full failed = (
-    source,
-    refl,
-    record {
-      hill = s.1.hill;
-      generation = s.1.generation;
-      broken = s.1.broken;
-      kept = kept;
-      cause = inr s.1.cause;
-      full = λ most. ap (λ (x : Seen D). x.generation) (full most) ∙ most;
-      reads = λ lawful open_still. s.1.reads lawful;
-    },
-    Keeps-refl output,
-  )
-  cut_off old new output source replies.Reopen s kept full failed = (
-    source,
-    refl,
-    record {
-      hill = ap (λ (x : Seen D). x.hill) s.1;
-      generation = ap (λ (x : Seen D). x.generation) s.1;
-      kept = kept;
-      broken = ap (λ (x : Seen D). x.reopen) s.1 ∙ s.0;
-      cause = inl s.0;
-      full = λ most. ap (λ (x : Seen D). x.generation) (full most) ∙ most;
-      reads = λ lawful open_still. absurd (true≢false (sym s.0 ∙ open_still));
-    },
-    Keeps-refl output,
-  )
-  cut_off old new output source (replies.Placed entry rank score) s kept full failed = absurd (cc)
-  cut_off old new output source (replies.Fell entry score) s kept full failed = absurd (cc)
-  cut_off old new output source (replies.Refused fault) s kept full failed = absurd (cc)
-  cut_off old new output source replies.Memory s kept full failed = absurd (cc)
-  cut_off old new output source replies.Worn s kept full failed = absurd (cc)

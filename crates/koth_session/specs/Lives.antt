@@ -25,7 +25,7 @@ events_of facts ends.StoreFailed taken left old new is = answers_to is.es ∷ Ev
 events_of facts ends.Memory taken left old new (inl nothing) = []
 events_of facts ends.Memory taken left old new (inr is) = answers_to is.es ∷ []
 
--- on a lawful device, where the session began with a store that takes submissions
+-- on a lawful device, if the session began with a store that takes submissions
 pub record SessionsAreEvents {D : Type 0} (facts : DeviceFacts D) : Type 0 where
   pub ended : (end : SessionEnd) (taken : List ℕ) (left : Option (List ℕ)) (old new : Scene D) → facts.lawful old.store.device → IsStanding facts old.store
       → (is : EndsSo facts end taken left old new)

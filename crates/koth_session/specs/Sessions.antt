@@ -35,7 +35,7 @@ scene output store = record { output = output; store = store }
 abbrev pub ReadsNow : {D : Type 0} → DeviceFacts D → Seen D → Type 0
 ReadsNow facts s = Images (facts.disk s.device) (λ image. Reads (facts.size s.device) image s.hill)
 
--- one is marked so
+-- a submission is marked as worn
 abbrev pub HasWorn : List Exchange → Type 0
 HasWorn [] = ⊥
 HasWorn (Exchange.Submission source Mark.Worn ∷ es) = ⊤
@@ -44,20 +44,20 @@ HasWorn (Exchange.Submission source Mark.Taken ∷ es) = HasWorn es
 HasWorn (Exchange.Table ∷ es) = HasWorn es
 HasWorn (Exchange.BadLine ∷ es) = HasWorn es
 
--- one is a submission
+-- an exchange is a submission
 abbrev pub HasSubmission : List Exchange → Type 0
 HasSubmission [] = ⊥
 HasSubmission (Exchange.Submission source mark ∷ es) = ⊤
 HasSubmission (Exchange.Table ∷ es) = HasSubmission es
 HasSubmission (Exchange.BadLine ∷ es) = HasSubmission es
 
--- what is kept after these, of a hill with every pair fought anew
+-- what is kept after these exchanges, of a hill with every pair fought again
 pub record IsAfter (hill : Hill) (es : List Exchange) (new : Kept) : Type 0 where
   pub is_hill : IsHill (after_anew hill es)
   pub fought_is : new ≡ fought (after_anew hill es)
   pub transcript_is : transcript (fought hill) es ≡ transcript_anew hill es
 
--- These were answered, as far as the store goes. Its generation rose as often as its hill counted a warrior.
+-- What exchanges that were answered made of the store. Its generation rose as often as its hill counted a warrior.
 pub record AreServed {D : Type 0} (facts : DeviceFacts D) (old new : Seen D) (es : List Exchange) : Type 0 where
   pub hill : new.hill ≡ hill_after old.hill es
   pub generation : new.generation + old.hill.counter ≡ old.generation + new.hill.counter
@@ -67,7 +67,7 @@ pub record AreServed {D : Type 0} (facts : DeviceFacts D) (old new : Seen D) (es
   pub worn : HasWorn es → new.generation ≡ 2 ^ 64 - 1
   pub full : old.generation ≡ 2 ^ 64 - 1 → new.generation ≡ 2 ^ 64 - 1
   pub reads : facts.lawful old.device → old.reopen ≡ false → ReadsNow facts old → ReadsNow facts new
-  -- where the results that the hill keeps are true, every pair is fought anew, and they are true again
+  -- if the results that the hill keeps are true, they are those of every pair fought again, and true again after these exchanges
   pub anew : (hill : Hill) → IsHill hill → old.hill ≡ fought hill → IsAfter hill es new.hill
 
 -- this source was submitted, and the device failed then or before
@@ -99,12 +99,12 @@ AnswersCommand facts command (Some ends.EndOfInput) old new = ⊥
 AnswersCommand facts command (Some ends.ReadFault) old new = ⊥
 AnswersCommand facts command (Some ends.Limit) old new = ⊥
 
--- these were answered whole
+-- these exchanges were answered whole
 pub record IsAnsweredTo {D : Type 0} (facts : DeviceFacts D) (old new : Scene D) (es : List Exchange) : Type 0 where
   pub served : AreServed facts old.store new.store es
   pub written : Appends old.output new.output (transcript old.store.hill es)
 
--- The bytes from here on went on: these commands of theirs were answered, and the reading stands there now.
+-- These bytes did not end the session: the commands in them were answered, and the reading stands at this line and source now.
 pub record WentOn {D A : Type 0} (facts : DeviceFacts D) (line : List ℕ) (source : Option (List ℕ)) (bytes : List ℕ) (script : Script A) (old new : Scene D) : Type 0 where
   pub es : List Exchange
   pub answered : IsAnsweredTo facts old new es
@@ -114,7 +114,7 @@ pub record WentOn {D A : Type 0} (facts : DeviceFacts D) (line : List ℕ) (sour
   pub commands : (more : List ℕ) → commands_from source (lines_from line (bytes ++ more))
       ≡ commands_in es ++ commands_from new_source (lines_from new_line more)
 
--- A command in the bytes from here on ended the session: those up to it are split off.
+-- A command in these bytes ended the session: the bytes up to it are split off.
 pub record Stopped {D : Type 0} (facts : DeviceFacts D) (line : List ℕ) (source : Option (List ℕ)) (bytes : List ℕ) (end : SessionEnd) (old new : Scene D) : Type 0 where
   pub es : List Exchange
   pub last : Scene D
@@ -143,24 +143,24 @@ has_failed (replies.Refused fault) = false
 has_failed (replies.Fell entry score) = false
 has_failed (replies.Placed entry rank score) = false
 
--- how a session goes on behind an answer
+-- how a session goes on after an answer
 abbrev pub said : {T E : Type 0} → Result T E → Option SessionEnd
 said (Ok done) = None
 said (Err fault) = Some ends.WriteFault
 
--- Where every image stood for the hill that these sources earn, every image stands for what they and the submissions answered earn.
+-- If every image stood for the hill that these sources earn, every image stands for what they and the submissions answered earn.
 abbrev pub KeepsList : {D : Type 0} → DeviceFacts D → Seen D → Seen D → List Exchange → Type 0
 KeepsList facts old new es = (s : RawSettings) (sources : List (List ℕ)) → facts.lawful old.device → old.reopen ≡ false → old.hill ≡ fought (earned s sources)
     → Holds (facts.size old.device) (facts.disk old.device) s sources None
     → (new.hill ≡ fought (earned s (sources ++ submitted es))) × Holds (facts.size new.device) (facts.disk new.device) s (sources ++ submitted es) None
 
--- The same with one source more, which was under way: each image has it or does not.
+-- The same with one more source, which was being submitted: each image has it or does not.
 abbrev pub KeepsCut : {D : Type 0} → DeviceFacts D → Seen D → Seen D → List Exchange → List ℕ → Type 0
 KeepsCut facts old new es source = (s : RawSettings) (sources : List (List ℕ)) → facts.lawful old.device → old.reopen ≡ false → old.hill ≡ fought (earned s sources)
     → Holds (facts.size old.device) (facts.disk old.device) s sources None
     → Holds (facts.size new.device) (facts.disk new.device) s (sources ++ submitted es) (Some source)
 
--- what the device holds where a command ended the session
+-- what the device holds after a command that ended the session
 abbrev pub HoldsAt : {D : Type 0} → DeviceFacts D → SessionEnd → Command → Seen D → Seen D → List Exchange → Type 0
 HoldsAt facts ends.Quit command old new es = KeepsList facts old new es
 HoldsAt facts ends.Memory command old new es = KeepsList facts old new es
@@ -179,8 +179,8 @@ pub record AnswersAll {D : Type 0} (facts : DeviceFacts D) (taken : List ℕ) (o
   pub answered : IsAnsweredTo facts old new es
   pub holds : KeepsList facts old.store new.store es
 
--- Those before one of the commands of the bytes that were taken were answered, and it ended the session so. Of these bytes fewer than one
--- read takes lie behind that command: no answer is held back while others are read.
+-- One of the commands of the bytes that were taken ended the session so, and those before it were answered. Fewer bytes than one read
+-- takes lie after that command: no answer is held back while more bytes are read.
 pub record AnswersFirst {D : Type 0} (facts : DeviceFacts D) (taken : List ℕ) (end : SessionEnd) (old new : Scene D) : Type 0 where
   pub es : List Exchange
   pub last : Scene D

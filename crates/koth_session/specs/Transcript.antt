@@ -8,8 +8,8 @@ use Rattle.koth_protocol.specs.Commands.{Command}
 use Rattle.koth_protocol.specs.Table.{show_text}
 use Rattle.koth_session.specs.Reply.{reply_line}
 
--- whether a submission is of the list: it is answered by its reply; or nothing was submitted, for want of memory, or since the
--- device has taken as many headers as can be counted
+-- How a submission was answered: by its reply, and it is in the list. Or nothing was submitted, since memory ran out, or since the device
+-- has taken as many headers as can be counted.
 pub data Mark : Type 0 where
   Taken : Mark
   NoMemory : Mark
@@ -38,7 +38,7 @@ answer hill (Exchange.Submission source Mark.Worn) = codes "WORN\n"
 answer hill Exchange.Table = show_text (table_kept hill)
 answer hill Exchange.BadLine = codes "BAD\n"
 
--- the hill behind it
+-- the hill after it
 abbrev pub hill_next : Kept → Exchange → Kept
 hill_next hill (Exchange.Submission source Mark.Taken) = kept_next hill source
 hill_next hill (Exchange.Submission source Mark.NoMemory) = hill
@@ -55,7 +55,7 @@ abbrev pub hill_after : Kept → List Exchange → Kept
 hill_after hill [] = hill
 hill_after hill (e ∷ es) = hill_after (hill_next hill e) es
 
--- ---- every pair fought anew
+-- ---- every pair fought again
 
 -- the answer on this hill
 abbrev pub answer_anew : Hill → Exchange → List ℕ
@@ -65,7 +65,7 @@ answer_anew hill (Exchange.Submission source Mark.Worn) = codes "WORN\n"
 answer_anew hill Exchange.Table = show_text (table hill)
 answer_anew hill Exchange.BadLine = codes "BAD\n"
 
--- the hill behind it
+-- the hill after it
 abbrev pub next_anew : Hill → Exchange → Hill
 next_anew hill (Exchange.Submission source Mark.Taken) = step_source hill source
 next_anew hill (Exchange.Submission source Mark.NoMemory) = hill
@@ -81,7 +81,7 @@ abbrev pub after_anew : Hill → List Exchange → Hill
 after_anew hill [] = hill
 after_anew hill (e ∷ es) = after_anew (next_anew hill e) es
 
--- the submissions that are of the list
+-- the sources of the submissions that are in the list
 abbrev pub taken_of : Exchange → List (List ℕ) → List (List ℕ)
 taken_of (Exchange.Submission source Mark.Taken) others = source ∷ others
 taken_of (Exchange.Submission source Mark.NoMemory) others = others

@@ -20,7 +20,7 @@ use std::io::Write;
 /// | `Refused` | `REFUSED line Kind` |
 /// | `Memory`, `Worn`, `Disk`, `Reopen` | `MEMORY`, `WORN`, `DISK`, `REOPEN` |
 ///
-/// One blank stands between the parts, numbers are decimal, and a line feed ends the line. `WriteFault` comes where the stream
+/// One blank stands between the parts, numbers are decimal, and a line feed ends the line. `WriteFault` comes if the stream
 /// fails or takes no byte; a part of the line is written then, from its beginning on. It needs no memory.
 pub fn write_reply<W: Write>(output: &mut Counted<W>, reply: &Reply) -> Result<(), WriteFault>
     ensures whole { OnOk result (Appends (W.contents output.old.stream) (W.contents output.new.stream) (reply_line reply.now)) }

@@ -44,10 +44,9 @@ pub enum SessionEnd {
 /// Serves a session: takes commands from the input, and writes each one's answer before the next one is served. A
 /// submission is answered once it is stored.
 ///
-/// It ends with `Memory` where there is no memory for its buffers, and nothing is read then, or for the answer to `SHOW`,
-/// of which nothing is written then; with `ReadFault` and `WriteFault` where a stream fails; with `StoreFailed` where the
-/// device fails in a submission, which is not answered then; with `Limit` where it has taken 16,777,216 bytes and needs
-/// another.
+/// It ends with `Memory` if there is no memory for its buffers, and reads nothing then, or for the answer to `SHOW`, and writes
+/// none of it then. It ends with `ReadFault` or `WriteFault` if a stream fails, and with `Limit` if it has taken 16,777,216 bytes
+/// and needs another. If the device fails in a submission, it ends with `StoreFailed`, and the submission is not answered.
 pub fn session<R: Read, W: Write, D: Device, A: Allocator + Copy>(
     alloc: A,
     input: &mut Counted<R>,
@@ -96,7 +95,7 @@ fn serve<R: Read, W: Write, D: Device, A: Allocator + Copy>(
     SessionEnd::Limit
 }
 
-/// Reads into the chunk, so many bytes at most, and says how many came; 0 says that the input is at its end.
+/// Reads at most `most` bytes into the chunk, and returns how many came; 0 means that the input is at its end.
 fn read_chunk<R: Read>(
     input: &mut Counted<R>,
     chunk: &mut [u8],
@@ -121,7 +120,7 @@ fn read_chunk<R: Read>(
     }
 }
 
-/// Serves what these bytes bring to its end, up to the end of the session.
+/// Serves the commands that these bytes complete, up to the end of the session.
 fn serve_bytes<W: Write, D: Device, A: Allocator + Copy>(
     alloc: A,
     script: &mut Script<A>,
@@ -200,7 +199,7 @@ fn show<W: Write, D: Device, A: Allocator + Copy>(
     }
 }
 
-/// The answer to `SHOW` on a store's hill. `AllocError` comes where a growth of memory was refused.
+/// The answer to `SHOW` on a store's hill. `AllocError` comes if a growth of memory was refused.
 pub fn table_of<D: Device, A: Allocator + Copy>(
     alloc: A,
     store: &Store<D, A>,
@@ -212,7 +211,7 @@ pub fn table_of<D: Device, A: Allocator + Copy>(
 }
 
 /// Whether the device failed, in this submission or before.
-fn has_failed(reply: &Reply) -> bool
+pub fn has_failed(reply: &Reply) -> bool
     ensures { result ≡ has_failed reply.now }
 {
     match *reply {

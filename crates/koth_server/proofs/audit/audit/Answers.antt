@@ -1,4 +1,4 @@
--- The hill that opens is some hill; where none opens, nothing is written.
+-- The hill that opens is some hill; if none opens, nothing is written.
 use Rattle.std.proofs.Common.{inr}
 use Rattle.koth_server.specs.Audit.{SaysAudit}
 use Rattle.koth_server.proofs.Audited.{some_audit}

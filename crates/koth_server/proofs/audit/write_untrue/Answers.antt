@@ -1,4 +1,4 @@
--- Three lines, as far as the errors took them.
+-- Three lines, as far as standard error took them.
 use Rattle.std.proofs.Common.{◌∙◌, ◌++◌, List, ℕ, ap₂, codes}
 use Rattle.koth_commands.proofs.Told.{both_err, both_ok, first_err}
 use Rattle.koth_server.specs.Audit.{counts_line, pair_line}

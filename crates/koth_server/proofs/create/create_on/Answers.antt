@@ -1,4 +1,4 @@
--- The store that is let go is the one that was created.
+-- The store that is dropped is the one that was created.
 use Rattle.koth_server.proofs.create.create_on.Goals as goal
 
 pub returns-in-Ok : goal.returns-in-Ok

@@ -1,4 +1,4 @@
--- What a run says of its words, from how its request ended, or from why there is none.
+-- What a run promises for its arguments, from how its request ended, or from why there is none.
 use Rattle.std.proofs.Common.{None, codes, map, string_bytes}
 use Rattle.koth_words.specs.Words.{given_by}
 use Rattle.koth_server.proofs.Carried.{carried, fault_without, without, words_without, wrong_without}

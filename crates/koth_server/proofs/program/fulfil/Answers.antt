@@ -1,4 +1,4 @@
--- `asm` never ends as at a fault of the words.
+-- `asm` never ends as at a fault of the arguments.
 use Rattle.std.proofs.Common.{subst, sym}
 use Rattle.war_types.specs.Settings.{settings_of}
 use Rattle.koth_commands.specs.Streams.{streams}

@@ -1,4 +1,4 @@
--- A service ends behind its line and its log, or with a fault.
+-- A service ends after its line and its log, or with a fault.
 use Rattle.std.proofs.Common.{◌∙◌, inl, inr, refl, sym}
 use Rattle.koth_commands.proofs.Told.{whole_part, writes_more, writes_nothing}
 use Rattle.koth_server.specs.Hills.{listening_line}

@@ -1,4 +1,4 @@
--- The line of the reply and the text behind it were written, or a part of them.
+-- The line of the reply and the text after it were written, or a part of them.
 use Rattle.std.proofs.Common.{◌∙◌, ◌++◌, inl, inr, subst}
 use Rattle.std.specs.Io.KnownBytes.{Appends}
 use Rattle.koth_protocol.specs.Written.{WritesPart}

@@ -1,4 +1,4 @@
--- Where the hill or the source can't be read, nothing is written.
+-- If the hill or the source can't be read, nothing is written.
 use Rattle.std.proofs.Common.{inr}
 use Rattle.koth_server.specs.Hills.{SaysReply}
 use Rattle.koth_server.proofs.Said.{nothing}

@@ -1,4 +1,4 @@
--- What stands behind the line is what became of the warrior between the hill before and the hill after.
+-- What stands after the line is what became of the warrior between the hill before and the hill after.
 use Rattle.std.proofs.Common.{◌≡◌, ◌⊎◌, [], IfSome, subst, sym}
 use Rattle.koth_views.specs.Placing.{placing_view}
 use Rattle.koth_views.specs.Roster.{roster}

@@ -1,4 +1,4 @@
--- What is told of the one stands behind what is told of the other, and browsers go on behind the peers.
+-- The reports of parting stand after those of sending, and browsers go on after the peers.
 use Rattle.koth_service.specs.Connections.{stage_at}
 use Rattle.koth_service.proofs.Steps.{stays}
 use Rattle.koth_service.proofs.Told.{grows_on}

@@ -1,4 +1,4 @@
--- What is behind is within the line.
+-- The line begins within the lines.
 use Rattle.std.proofs.Common.{◌≤◌, length}
 use Rattle.koth_service.proofs.serving.last_line.Given as goal
 

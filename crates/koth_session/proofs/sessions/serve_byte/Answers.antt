@@ -1,4 +1,4 @@
--- What a byte brings to its end is answered.
+-- A command that a byte completes is answered.
 use Rattle.std.proofs.Common.{refl, subst}
 use Rattle.koth_protocol.specs.Commands.{Command, kept_source}
 use Rattle.koth_protocol.specs.Reading.{Reads}

@@ -1,4 +1,4 @@
--- The word is told with its cause, and so with some text.
+-- The word is written with its cause, and so with some text.
 use Rattle.std.proofs.Common.{subst}
 use Rattle.koth_commands.specs.Told.{TellsWord}
 use Rattle.koth_commands.proofs.Told.{cause_word}

@@ -1,0 +1,11 @@
+use Rattle.std.proofs.Common.{arith, set}
+use Rattle.koth_peers.specs.Peer.{Sends}
+use Rattle.koth_peers.proofs.Slots.{moves_written, serving_sent}
+use Rattle.koth_peers.proofs.peers.Peers.sent.Goals as goal
+
+pub returns-then-number-len-clause-serving : goal.returns-then-number-len-clause-serving
+returns-then-number-len-clause-serving g c =
+    let slots = c.args.self.now.slots.items in
+    let n = c.args.number in
+    serving_sent slots (set slots n c.pass_at.new.slot) n c.args.count
+    (moves_written (λ p q. Sends p c.args.count q) n slots c.index_mut.result.now c.pass_at.new.slot (omega arith) c.index_mut.ensures.value c.pass_at.ensures)
