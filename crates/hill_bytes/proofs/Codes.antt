@@ -12,7 +12,7 @@ use Rattle.hill_bytes.specs.Layout.{Layout, HeaderParts, IsHeader, IsSlot, code_
 use Rattle.hill_bytes.proofs.OneHeader.{same_header}
 use Rattle.hill_bytes.proofs.OneSlot.{same_warrior}
 
--- of lists that are equal with something behind, those of one length are equal, and so is what stands behind
+-- if two lists of one length are equal with something after them, they are equal, and so is what stands after
 pub front_same : {X : Type 0} (xs ys us vs : List X) → length xs ≡ length ys → xs ++ us ≡ ys ++ vs → xs ≡ ys
 front_same xs ys us vs same e =
     sym (take-append_seam xs us) ∙ ap (λ n. take n (xs ++ us)) same ∙ ap (take (length ys)) e ∙ take-append_seam ys vs

@@ -15,7 +15,7 @@ use Rattle.hill_bytes.specs.Layout.{HeaderParts, IsHeaderParts, IsEntry, Layout,
 pub number-at : (k n : ℕ) (bytes rest : List ℕ) → n < 256 ^ k → bytes ≡ bytes_high_first k n ++ rest → big_from 0 k bytes ≡ n
 number-at k n bytes rest below e = ap (big_from 0 k) e ∙ big_number-reads_back k n rest below
 
--- the fields of a header, behind the eight bytes that it begins with
+-- the fields of a header, after the eight bytes that it begins with
 abbrev pub header_fields : HeaderParts → List ℕ
 header_fields h =
     bytes_high_first 8 h.generation ++ settings_bytes h.settings ++ limit_bytes h.settings ++ bytes_high_first 8 h.counter

@@ -93,7 +93,7 @@ places-same (suc n) core (i ∷ is) (j ∷ js) r q most size below_i below_j sam
     let tail : take n is ≡ take n js = places-same n core is js r q most (omega (arith, size)) (All-tail (HasNumbersBelow core) i is below_i) (All-tail (HasNumbersBelow core) j js below_j) (ap (drop 8) same) in
     ap (λ x. x ∷ take n is) head ∙ ap (λ xs. j ∷ xs) tail
 
--- all of them where they stand in the same sectors
+-- all of them, if they stand in the same sectors
 code-same : (n m core : ℕ) (is js : List Instr) (r q : List ℕ) → core ≤ 65535 → length is ≡ length js → length is ≤ 64 * n + m → All (HasNumbersBelow core) is → All (HasNumbersBelow core) js
     → code_sectors n is ++ (code_places m (drop (64 * n) is) ++ r) ∷ [] ≡ code_sectors n js ++ (code_places m (drop (64 * n) js) ++ q) ∷ [] → is ≡ js
 code-same zero m core is js r q most size few below_i below_j same =
@@ -113,7 +113,7 @@ code-same (suc n) m core is js r q most size few below_i below_j same =
 not-zero : (b : ℕ) → IsPrintable b → b ≡ 0 → ⊥
 not-zero b is e = let low = is.low in omega (arith, low, e)
 
--- titles are the same where the same bytes are filled with them
+-- titles are the same if the same bytes are filled with them
 title-same : (n : ℕ) (x y r q : List ℕ) → length x ≤ n → length y ≤ n → All IsPrintable x → All IsPrintable y → filled n x ++ r ≡ filled n y ++ q → x ≡ y
 title-same n [] [] r q few_x few_y is_x is_y same = refl
 title-same zero [] (b ∷ y) r q few_x few_y is_x is_y same = absurd (omega (arith, few_y))

@@ -1,4 +1,4 @@
--- The bytes of a slot: places of instructions, and titles with zeros behind them.
+-- The bytes of a slot: places of instructions, and titles with zeros after them.
 use Rattle.std.proofs.Common.{◌≡◌, ℕ, zero, suc, ◌+◌, ◌-◌, ◌*◌, ◌<◌, ◌≤◌, List, [], ◌∷◌, ◌++◌, length, get_or, min, drop, replicate, arith, refl, sym, ap, ap₂, ◌∙◌, subst, Option, None, Some}
 use Rattle.std.proofs.lemmas.List.{append_assoc, append-nil, drop_more, drop_all, drop_at, drop-drop, get_or-drop, length-append, length-drop, length-replicate}
 use Rattle.std.specs.Int.{bytes_high_first}
@@ -32,7 +32,7 @@ filled-zeros (suc n) [] few = ap (λ zs. 0 ∷ zs) (filled-zeros n [] (omega ari
 filled-zeros (suc n) (b ∷ bs) few =
     ap (λ zs. b ∷ zs) (filled-zeros n bs (omega (arith, few)) ∙ ap (λ k. bs ++ replicate k 0) (omega arith))
 
--- the instructions behind the first n, and none where there are no more
+-- the instructions after the first n; none if there are no more
 pub drop-min : (is : List Instr) (n at : ℕ) → at ≡ min (length is) n → drop at is ≡ drop n is
 drop-min [] n at h = drop_all at [] (omega arith) ∙ sym (drop_all n [] (omega arith))
 drop-min (i ∷ is) zero at h = let none : at ≡ 0 = omega (arith, h) in ap (λ k. drop k (i ∷ is)) none
@@ -72,7 +72,7 @@ last-of : (n : ℕ) (is : List Instr) (bytes d : List ℕ) → get_or (code_sect
 last-of zero is bytes d = refl
 last-of (suc n) is bytes d = last-of n (drop 64 is) bytes d
 
--- the instructions behind the first n + 1 sectors full of code
+-- the instructions after the first n + 1 sectors full of code
 pub drop-sectors : {X : Type 0} (n : ℕ) (xs : List X) → drop (64 * suc n) xs ≡ drop (64 * n) (drop 64 xs)
 drop-sectors n xs =
     let all : 64 * suc n ≡ 64 + 64 * n = omega arith in
@@ -107,7 +107,7 @@ code-in (suc n) m (suc q) r i is d behind low at inside room most =
 regrouped : (a b c d e f : List ℕ) → (((((a ++ b) ++ c) ++ d) ++ e) ++ f) ≡ a ++ (b ++ (c ++ (d ++ (e ++ f))))
 regrouped a b c d e f = simp append_assoc
 
--- the fields of a slot, each with what stands behind it
+-- the fields of a slot, each with what stands after it
 abbrev pub fields_rest : WarriorParts → List Wins → List ℕ
 fields_rest w results =
     bytes_high_first 2 (length w.code) ++ (bytes_high_first 2 w.start ++ (filled 48 w.name ++ (filled 48 w.author ++ (result_places results ++ replicate 40 0))))

@@ -103,7 +103,7 @@ wide_same first last long = record {
   warriors = λ s. λ w. λ room. (slot_to_old first last s w long room, slot_to_new first last s w room);
 }
 
--- two sectors, one behind the other
+-- two sectors, one after the other
 two_sectors : (sectors : List (List ℕ)) → length sectors ≡ 2 → sectors ≡ slice_index_or sectors 0 [] ∷ slice_index_or sectors 1 [] ∷ []
 two_sectors [] two = absurd (omega (arith, two))
 two_sectors (a ∷ []) two = absurd (omega (arith, two))

@@ -1,4 +1,4 @@
--- Writes one behind the other, and the settings that stand in a header.
+-- Writes one after the other, and the settings that stand in a header.
 use Rattle.std.proofs.Common.{◌≡◌, ℕ, ◌%◌, ◌≤◌, ◌==◌, Bool, true, false, if◌then◌else◌, List, [], ◌++◌, Ok, arith, ap, ◌∙◌, mod-eq_of_lt}
 use Rattle.std.proofs.lemmas.List.{append_assoc}
 use Rattle.std.proofs.lemmas.Bool.Decides.{nat_tests}

@@ -21,7 +21,7 @@ pub record Layout : Type 0 where
   pub magic_long : length magic ≡ 8
   -- the sectors of a slot that are full of code
   pub full : ℕ
-  -- the instructions in its last sector, and the zeros behind them
+  -- the instructions in its last sector, and the zeros after them
   pub last : ℕ
   pub zeros : ℕ
   pub fields_at : 8 * last + zeros ≡ 288
@@ -37,7 +37,7 @@ pub record HeaderParts : Type 0 where
   pub counter : ℕ
   pub entries : List HeaderEntry
 
--- entries rise from one to the next, behind the entry of one before them
+-- entries rise from one to the next, and from an entry before them
 abbrev pub EntriesRise : ℕ → List HeaderEntry → Type 0
 EntriesRise before [] = Unit {0}
 EntriesRise before (e ∷ es) = (before < e.entry) × EntriesRise e.entry es
@@ -83,7 +83,7 @@ limit_bytes s = bytes_high_first 2 (stored_limit s.core s.read_limit) ++ bytes_h
 abbrev pub entry_bytes : HeaderEntry → List ℕ
 entry_bytes e = bytes_high_first 8 e.entry ++ e.slot ∷ bytes_high_first 8 e.age
 
--- so many places of 17 bytes, in which these entries stand; a place without one is zero
+-- a number of places of 17 bytes, in which these entries stand; a place without one is zero
 abbrev pub entry_places : ℕ → List HeaderEntry → List ℕ
 entry_places zero es = []
 entry_places (suc n) [] = replicate 17 0 ++ entry_places n []
@@ -102,19 +102,19 @@ pub record IsHeader (layout : Layout) (bytes : List ℕ) (h : HeaderParts) : Typ
   pub room : h.settings.length ≤ code_room layout
   pub bytes_are : bytes ≡ header_bytes layout h
 
--- so many places of 8 bytes, in which these instructions stand; a place without one is zero
+-- a number of places of 8 bytes, in which these instructions stand; a place without one is zero
 abbrev pub code_places : ℕ → List Instr → List ℕ
 code_places zero is = []
 code_places (suc n) [] = replicate 8 0 ++ code_places n []
 code_places (suc n) (i ∷ is) = instr_bytes i ++ code_places n is
 
--- a text, and zeros behind it, so many bytes in all
+-- a text, and zeros after it up to this length
 abbrev pub filled : ℕ → List ℕ → List ℕ
 filled zero bs = []
 filled (suc n) [] = 0 ∷ filled n []
 filled (suc n) (b ∷ bs) = b ∷ filled n bs
 
--- so many sectors full of code, 64 instructions each
+-- this many sectors full of code, 64 instructions each
 abbrev pub code_sectors : ℕ → List Instr → List (List ℕ)
 code_sectors zero is = []
 code_sectors (suc n) is = code_places 64 is ∷ code_sectors n (drop 64 is)
@@ -123,12 +123,12 @@ code_sectors (suc n) is = code_places 64 is ∷ code_sectors n (drop 64 is)
 abbrev pub wins_bytes : Wins → List ℕ
 wins_bytes w = bytes_high_first 2 w.older ++ bytes_high_first 2 w.younger
 
--- the places of these results, one behind the other
+-- the places of these results, one after the other
 abbrev pub result_places : List Wins → List ℕ
 result_places [] = []
 result_places (w ∷ ws) = wins_bytes w ++ result_places ws
 
--- the sectors of a slot with this code, of which the last has these bytes behind its part of it
+-- the sectors of a slot with this code; the last has these bytes after its part of it
 abbrev pub with_code : Layout → List Instr → List ℕ → List (List ℕ)
 with_code layout is behind = code_sectors layout.full is ++ (code_places layout.last (drop (64 * layout.full) is) ++ behind) ∷ []
 
@@ -146,7 +146,7 @@ slot_bytes layout w results = with_code layout w.code (replicate layout.zeros 0 
 abbrev pub wins_in : List ℕ → Wins
 wins_in bytes = record { older = big_number 2 bytes; younger = big_number 2 (drop 2 bytes) }
 
--- so many results, one behind the other
+-- a number of results, one after the other
 abbrev pub results_from : ℕ → List ℕ → List Wins
 results_from zero bytes = []
 results_from (suc n) bytes = wins_in bytes ∷ results_from n (drop 4 bytes)
@@ -175,11 +175,11 @@ pub record IsSlot (layout : Layout) (s : RawSettings) (sectors : List (List ℕ)
   pub rounds : FitRounds s.rounds (results_in layout sectors)
   pub sectors_are : sectors ≡ slot_bytes layout w (results_in layout sectors)
 
--- where the first sector of a slot lies; the others lie behind it
+-- where the first sector of a slot lies; the others follow it
 abbrev pub slot_at : Layout → ℕ → ℕ
 slot_at layout slot = 2 + (layout.full + 1) * slot
 
--- so many sectors of an image, from one on
+-- `count` sectors of an image, from one on
 abbrev pub sectors_from : ℕ → ℕ → (ℕ → List ℕ) → List (List ℕ)
 sectors_from zero at image = []
 sectors_from (suc n) at image = image at ∷ sectors_from n (at + 1) image
@@ -192,7 +192,7 @@ slot_in layout image slot = sectors_from (layout.full + 1) (slot_at layout slot)
 abbrev pub sectors_in : Layout → ℕ → ℕ
 sectors_in layout capacity = slot_at layout (capacity + 1)
 
--- what decoding has to find in these bytes: the header whose bytes they are, and nothing only where there is none
+-- what decoding has to find in these bytes: the header whose bytes they are, and nothing only if there is none
 abbrev pub IsDecoded : Layout → List ℕ → Option HeaderParts → Type 0
 IsDecoded layout bytes None = (h : HeaderParts) → IsHeader layout bytes h → ⊥
 IsDecoded layout bytes (Some h) = IsHeader layout bytes h
@@ -233,8 +233,8 @@ abbrev pub layout_of : Format → Layout
 layout_of formats.Old = old_layout
 layout_of formats.New = new_layout
 
--- these sectors of the new format hold what those of a slot of this layout hold: the same results, and the same warriors, where it has
--- room for the longest
+-- these sectors of the new format hold what those of a slot of this layout hold: the same results, and the same warriors, if it has room
+-- for the longest
 pub record HoldsSame (layout : Layout) (sectors : List (List ℕ)) (others : List (List ℕ)) : Type 0 where
   pub results : results_in new_layout sectors ≡ results_in layout others
   pub warriors : (s : RawSettings) (w : WarriorParts) → s.length ≤ code_room layout → IsSlot new_layout s sectors w ↔ IsSlot layout s others w

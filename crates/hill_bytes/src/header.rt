@@ -1,4 +1,4 @@
-//! The header: all of a hill but its warriors, and where these lie.
+//! The header: all of a hill but its warriors, and the slots that hold them.
 
 ghost use Rattle.std.specs.Prelude.{◌≡◌, ◌↔◌, ◌+◌, ◌^◌, ◌≤◌, ◌<◌, ◌++◌, ℕ, List, All, IsTrue, length, take, drop};
 ghost use Rattle.std.specs.Option.{SomeIff};
@@ -26,11 +26,11 @@ pub struct HeaderEntry {
     pub entry: u64,
     /// The slot that holds its code and its names.
     pub slot: u8,
-    /// How many warriors have stayed on the hill since it entered.
+    /// The number of warriors that have stayed on the hill since it entered.
     pub age: u64,
 }
 
-/// A header: how many were written before it, and of a hill all but its warriors, with the slots that hold these.
+/// A header: the number of headers before it, and all of a hill but its warriors, with the slots that hold these.
 #[derive(Debug, Drop)]
 pub struct Header {
     generation: u64,
@@ -52,9 +52,9 @@ impl Model for Header {
 }
 
 impl Header {
-    /// The header of these parts: of at most as many entries as the settings' capacity, which rise from at least 1 to at most
-    /// the counter; their slots are distinct and at most the capacity, no age is above the counter less the entry, and the
-    /// counter is at most the generation. `None` for others. It needs no memory: its answer stands whatever is refused.
+    /// The header of these parts. There are at most as many entries as the settings' capacity. They rise from at least 1 to at most the
+    /// counter, their slots are distinct and at most the capacity, and no age is above the counter less the entry. The counter is at most
+    /// the generation. `None` for others. It needs no memory.
     pub fn new(
         generation: u64,
         settings: Settings,
@@ -77,7 +77,7 @@ impl Header {
         })
     }
 
-    /// How many headers were written before it, at least as many as warriors were judged.
+    /// The number of headers that were written before it, at least the number of warriors that were judged.
     pub fn generation(&self) -> u64
         ensures value { result ≡ self.now.generation }
         ensures header { IsHeaderParts self.now }
@@ -93,7 +93,7 @@ impl Header {
         &self.settings
     }
 
-    /// How many warriors were ever judged and then admitted or passed.
+    /// The number of warriors that were ever judged and then admitted or passed.
     pub fn counter(&self) -> u64
         ensures value { result ≡ self.now.counter }
         ensures header { IsHeaderParts self.now }
@@ -110,7 +110,7 @@ impl Header {
     }
 }
 
-/// Stands where a header has no entry.
+/// Fills a place without an entry.
 const NO_ENTRY: HeaderEntry = HeaderEntry {
     entry: 0,
     slot: 0,
@@ -171,15 +171,14 @@ fn slot_is_free(slot: u8, entries: &[HeaderEntry]) -> bool
     true
 }
 
-/// The 512 bytes of a header. It needs no memory: its answer stands whatever is refused.
+/// The 512 bytes of a header. It needs no memory.
 pub fn encode_header(header: &Header) -> [u8; 512]
     ensures { result ≡ header_bytes new_layout header.now }
 {
     encode_in(Format::New, header)
 }
 
-/// The 512 bytes of a header in the old format, `None` where its warriors may have more than 100 instructions. It needs no memory: its answer
-/// stands whatever is refused.
+/// The 512 bytes of a header in the old format; `None` if its warriors may have more than 100 instructions. It needs no memory.
 pub fn encode_old_header(header: &Header) -> Option<[u8; 512]>
     ensures { SomeIff result (header.now.settings.length ≤ 100) (header_bytes old_layout header.now) }
 {
@@ -189,8 +188,7 @@ pub fn encode_old_header(header: &Header) -> Option<[u8; 512]>
     Some(encode_in(Format::Old, header))
 }
 
-/// The 512 bytes of a header in a format, whether or not it has room for the longest warriors. It needs no memory: its answer stands
-/// whatever is refused.
+/// The 512 bytes of a header in a format, whether or not it has room for the longest warriors. It needs no memory.
 pub fn encode_in(format: Format, header: &Header) -> [u8; 512]
     ensures { result ≡ header_bytes (layout_of format) header.now }
 {
@@ -260,22 +258,21 @@ fn put_entries(sector: &mut SectorWriter, entries: &[HeaderEntry])
     }
 }
 
-/// The header whose bytes these are; `None` where they are no header's. It needs no memory: its answer stands whatever is refused.
+/// The header whose bytes these are; `None` if they are no header's. It needs no memory.
 pub fn decode_header(bytes: &[u8; 512]) -> Option<Header>
     ensures { IsDecoded new_layout bytes.now result }
 {
     decode_in(Format::New, bytes)
 }
 
-/// The header whose bytes these are in the old format; `None` where they are none's. It needs no memory: its answer stands whatever is
-/// refused.
+/// The header whose bytes these are in the old format; `None` if they are no header's. It needs no memory.
 pub fn decode_old_header(bytes: &[u8; 512]) -> Option<Header>
     ensures { IsDecoded old_layout bytes.now result }
 {
     decode_in(Format::Old, bytes)
 }
 
-/// The header whose bytes these are in a format; `None` where they are none's. It needs no memory: its answer stands whatever is refused.
+/// The header whose bytes these are in a format; `None` if they are no header's. It needs no memory.
 pub fn decode_in(format: Format, bytes: &[u8; 512]) -> Option<Header>
     ensures { IsDecoded (layout_of format) bytes.now result }
 {
@@ -287,7 +284,7 @@ pub fn decode_in(format: Format, bytes: &[u8; 512]) -> Option<Header>
     }
 }
 
-/// Reads the fields, which stand at the same places in each format. Of bytes that are no header's it may give any header, or none.
+/// Reads the fields, which have the same offsets in each format. Bytes that are no header's may give any header, or none.
 fn read_header(bytes: &[u8; 512]) -> Option<Header>
     ensures { (layout : Layout) (h : HeaderParts) → IsHeader layout bytes.now h → result ≡ Some h }
 {

@@ -30,7 +30,7 @@ impl OldSlot {
     }
 }
 
-/// The code of a last sector, and zeros behind it.
+/// The code of a last sector, and zeros after it.
 fn code_part(last: &[u8; 512]) -> [u8; 512]
     ensures value { result ≡ take 288 last.now ++ replicate 224 0 }
     ensures len { length last.now ≡ 512 }

@@ -26,13 +26,13 @@ const FULL_PLACES: usize = 64;
 /// Instructions that stand in the last sector.
 const LAST_PLACES: usize = 8;
 
-/// Where its fields begin.
+/// The offset of its fields.
 pub(crate) const FIELDS_AT: usize = 288;
 
 /// Results that stand in it: one for each slot that an older warrior may have.
 pub const RESULTS: usize = 21;
 
-/// Where they begin.
+/// The offset of the results.
 const RESULTS_AT: usize = 388;
 
 /// The sectors of a slot: the first three hold instructions 0 to 191, 64 each, the last instructions 192 to 199, the number of all, the
@@ -66,7 +66,7 @@ impl Slot {
         Slot { sectors }
     }
 
-    /// The warrior that these sectors hold; `None` where they are no slot's that holds a warrior of these settings.
+    /// The warrior that these sectors hold; `None` if they are no slot with a warrior of these settings.
     pub fn decode<A: Allocator + Copy>(
         &self,
         alloc: A,
@@ -101,7 +101,7 @@ impl Slot {
         results
     }
 
-    /// Reads the fields. Of sectors that hold no warrior it may give any that fits, or none.
+    /// Reads the fields. Sectors that hold no warrior may give any that fits, or none.
     fn read<A: Allocator + Copy>(
         &self,
         alloc: A,
@@ -127,7 +127,7 @@ impl Slot {
         Ok(Warrior::new(code, start, name, author, settings))
     }
 
-    /// Reads so many instructions, or those before the first place that holds none.
+    /// Reads `len` instructions, or those before the first place that holds none.
     fn read_code<A: Allocator + Copy>(
         &self,
         alloc: A,
@@ -162,7 +162,7 @@ impl Slot {
     }
 }
 
-/// The instructions from one on; none where there are no more.
+/// The instructions from number `from` on; none if there are no more.
 fn code_from(code: &[Instr], from: usize) -> &[Instr]
     ensures { result.now ≡ drop from code.now }
 {
@@ -211,7 +211,7 @@ fn wins_at(sector: &[u8; 512], at: usize) -> Wins
     }
 }
 
-/// Whether no more rounds were won than a match has.
+/// Whether no result has more rounds won than a match has rounds.
 fn fit_rounds(rounds: u16, results: &[Wins]) -> bool
     ensures { IsTrue result ↔ FitRounds rounds results.now }
 {
@@ -236,7 +236,7 @@ fn title_at(sector: &[u8; 512], at: usize) -> Option<Title>
     Title::read(&bytes)
 }
 
-/// Writes instructions to so many places, and zeros to the places that are left.
+/// Writes instructions to `places` places, and zeros to the places that are left.
 fn put_code(sector: &mut SectorWriter, code: &[Instr], places: usize)
     requires few { places ≤ 64 }
     requires room { length sector.old + 8 * places ≤ 512 }
@@ -251,7 +251,7 @@ fn put_code(sector: &mut SectorWriter, code: &[Instr], places: usize)
     }
 }
 
-/// Writes results one behind the other.
+/// Writes results one after the other.
 fn put_results(sector: &mut SectorWriter, results: &[Wins])
     requires { length sector.old + 4 * length results.now ≤ 512 }
     ensures value { sector.new ≡ sector.old ++ result_places results.now }

@@ -4,12 +4,12 @@ use Rattle.std.specs.declared.io.ErrorKind.TheVariants as kinds
 use Rattle.hill_file.specs.declared.open_fault.OpenFault.{OpenFault}
 use Rattle.hill_file.specs.declared.open_fault.OpenFault.TheVariants as faults
 
--- want of memory, and all else by its kind
+-- lack of memory, and all else by its kind
 abbrev pub open_fault_of : ErrorKind → OpenFault
 open_fault_of kinds.OutOfMemory = faults.Memory
 open_fault_of kind = faults.Failed kind
 
--- the file is refused neither for its lock nor for what it holds
+-- the file is refused for the system's own reason, and not for its lock or for what it holds
 abbrev pub IsOfSystem : OpenFault → Type 0
 IsOfSystem faults.Memory = Unit {0}
 IsOfSystem faults.Locked = ⊥

@@ -8,17 +8,13 @@ ghost use Rattle.hill_file.specs.OpenFault.{IsOfSystem, IsWhateverHeld};
 use crate::lock::TryLock;
 use crate::open_fault::OpenFault;
 use crate::zeros::{require_zeros, write_zeros};
-use sector_disk::{Device, Fault, FileDevice, FileFault};
+use sector_disk::{Device, Fault, FileDevice, FileFault, SECTOR_BYTES, sync_name};
 use std::alloc::Allocator;
 use std::fs::{File, Files, Metadata, OpenFile};
+use std::io;
 use std::io::ErrorKind;
 use std::marker::Model;
 use std::os::unix::fs::{MetadataExt, OpenOptionsExt};
-use std::path::Path;
-use std::{fs, io};
-
-/// Bytes of a sector.
-const SECTOR_BYTES: u64 = 512;
 
 /// Who may read and write a file that is made: its owner.
 const OWNER_ONLY: u32 = 0o600;
@@ -45,7 +41,7 @@ pub enum Existing {
 /// dropped.
 ///
 /// Before each sync it looks whether the path still leads to the file that is open and the file still has each of the device's sectors,
-/// and once more after it, as a sync takes its time. If not, or if the system doesn't tell, the sync is a fault: a hill whose file was
+/// and again after it, as a sync takes its time. If not, or if the system doesn't say, the sync is a fault. So a hill whose file was
 /// removed, replaced or cut is never said to be synced. It is lawful in no contract, as `FileDevice`.
 #[derive(Drop)]
 pub struct HillFile<'f, R: Files> {
@@ -69,9 +65,11 @@ impl<'f, R: Files> HillFile<'f, R>
 where
     R::File: TryLock,
 {
-    /// The device over the file at this path, which has to be there. It has counted no fault. `Locked` if `sharing` is `Alone` and another
-    /// program holds the lock. `Failed` with `NotFound` if there is no file, or another by the time that it is locked, with the system's
-    /// reason if the file can't be read and written, as a folder, and with `Other` if it can't be opened once more. Never `Occupied`.
+    /// The device over the file at this path, which has to be there. It has counted no fault.
+    ///
+    /// `Locked` if `sharing` is `Alone` and another program holds the lock. `Failed` with `NotFound` if there is no file, or another by the
+    /// time that it is locked, with `Other` if it can't be opened a second time, and else with the system's reason, as for a folder. Never
+    /// `Occupied`.
     pub fn open(rt: &'f R, path: &'f str, sharing: Sharing) -> Result<HillFile<'f, R>, OpenFault>
         ensures faults { IfOk result (λ hill. hill.faults ≡ 0) }
         ensures shared { sharing ≡ Sharing.Shared → IfErr result IsOfSystem }
@@ -84,18 +82,18 @@ where
             Sharing::Alone => handle.lock_now()?,
             Sharing::Shared => {}
         }
-        HillFile::over(rt, path, handle)
+        HillFile::over(rt, path, handle, 0)
     }
 
-    /// A device of at least this many sectors, which all hold zeros, over the file at this path, locked for this program alone. It has
+    /// A device of at least `sectors` sectors, which all hold zeros, over the file at this path, locked for this program alone. It has
     /// counted no fault.
     ///
     /// If there is no file, one is created that only its owner may read and write. A longer file of zeros is not shortened. The zeros have
-    /// been written, and they and the file's name have reached the disk, also if an earlier call that made the file was cut short; the
-    /// name in the file's own folder, if the path is a link.
+    /// been written. They and the file's name have reached the disk, also if an earlier call that made the file was cut short. If the path
+    /// is a link, that is the name in the folder of the file itself.
     ///
-    /// `Locked` if another program holds the lock, and `Occupied` if `existing` is `Kept` and one byte of the file isn't zero: the file is
-    /// as it was then. `Failed` as `open` says, with the system's reason if the file can't be created, read, written or synced, as with
+    /// `Locked` if another program holds the lock, and `Occupied` if `existing` is `Kept` and one byte of the file isn't zero: then the
+    /// file is as it was. `Failed` as `open` says, with the system's reason if the file can't be created, read, written or synced, as with
     /// `StorageFull`, with `InvalidInput` if the path leads to what is no file, as a pipe, and with `ResourceBusy` if the file grows while
     /// it is read. After a failed write, what was written of the zeros stays.
     pub fn make<A: Allocator>(
@@ -114,22 +112,22 @@ where
         options.mode(OWNER_ONLY);
         let mut handle = options.open(rt, path)?;
         handle.lock_now()?;
-        clear(&mut handle, existing)?;
-        write_zeros(&mut handle, sectors)?;
-        handle.sync_all()?;
+        fill(&mut handle, existing, sectors)?;
         sync_name(rt, alloc, path)?;
-        let hill = HillFile::over(rt, path, handle)?;
-        if hill.sectors() < sectors {
-            return Err(OpenFault::Failed(ErrorKind::UnexpectedEof));
-        }
-        Ok(hill)
+        HillFile::over(rt, path, handle, sectors)
     }
 }
 
 impl<'f, R: Files> HillFile<'f, R> {
-    /// The device over the file of this handle. `Failed` with `NotFound` if the path leads elsewhere by now, and with `Other` if the file can't
-    /// be opened once more.
-    fn over(rt: &'f R, path: &'f str, handle: R::File) -> Result<HillFile<'f, R>, OpenFault>
+    /// The device over the file of this handle. `Failed` with `NotFound` if the path leads elsewhere by now, with `Other` if the file can't
+    /// be opened a second time, and with `UnexpectedEof` if it has fewer than `least` sectors.
+    fn over(
+        rt: &'f R,
+        path: &'f str,
+        handle: R::File,
+        least: u32,
+    ) -> Result<HillFile<'f, R>, OpenFault>
+        ensures enough { IfOk result (λ hill. least ≤ hill.sectors) }
         ensures faults { IfOk result (λ hill. hill.faults ≡ 0) }
         ensures system { IfErr result IsOfSystem }
     {
@@ -148,10 +146,13 @@ impl<'f, R: Files> HillFile<'f, R> {
         if !hill.is_in_place()? {
             return Err(OpenFault::Failed(ErrorKind::NotFound));
         }
+        if hill.sectors() < least {
+            return Err(OpenFault::Failed(ErrorKind::UnexpectedEof));
+        }
         Ok(hill)
     }
 
-    /// Counts a fault if the file isn't in place, or if the system doesn't tell.
+    /// Counts a fault if the file isn't in place, or if the system doesn't say.
     fn look(&mut self) -> Result<(), Fault>
         ensures { IsFileServed self.old self.new result }
     {
@@ -192,12 +193,25 @@ impl<R: Files> Device for HillFile<'_, R> {
         self.device.write(n, from)
     }
 
-    /// What was written has reached the disk, as far as the system tells, in the file to which the path led.
+    /// What was written has reached the disk, as far as the system says, in the file to which the path led.
     fn sync(&mut self) -> Result<(), Fault> {
         self.look()?;
         self.device.sync()?;
         self.look()
     }
+}
+
+/// Gives a file this many sectors of zeros at its front, which have reached the disk.
+fn fill<F: OpenFile + io::Read + io::Write + io::Seek>(
+    file: &mut F,
+    existing: Existing,
+    sectors: u32,
+) -> Result<(), OpenFault>
+    ensures { existing ≡ Existing.Overwritten → IfErr result IsOfSystem }
+{
+    clear(file, existing)?;
+    write_zeros(file, sectors)?;
+    Ok(file.sync_all()?)
 }
 
 /// Makes a file ready for zeros: one that is kept holds nothing else, and one that is overwritten is emptied.
@@ -213,22 +227,7 @@ fn clear<F: OpenFile + io::Read>(file: &mut F, existing: Existing) -> Result<(),
     }
 }
 
-/// They are of one file, by its device and its number there.
+/// Whether they are of one file, by its device and its number there.
 fn is_same_file(one: &Metadata, other: &Metadata) -> bool {
     one.dev() == other.dev() && one.ino() == other.ino()
-}
-
-/// Makes the file's own name reach the disk, in the folder of the file to which this path leads.
-fn sync_name<R: Files, A: Allocator>(rt: &R, alloc: A, path: &str) -> io::Result<()> {
-    let own = rt.canonicalize(alloc, path)?;
-    sync_folder(rt, own.as_path())
-}
-
-/// Makes the names in the folder of this path reach the disk.
-fn sync_folder<R: Files>(rt: &R, path: Path<'_>) -> io::Result<()> {
-    let folder = match path.parent() {
-        Some(folder) if !folder.as_os_str().is_empty() => folder,
-        _ => Path::new("."),
-    };
-    fs::open(rt, folder)?.sync_all()
 }

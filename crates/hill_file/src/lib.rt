@@ -1,8 +1,13 @@
-//! The file of a hill: that nothing is overwritten in it, and that one program at a time works on it.
+//! The file of a hill: nothing in it is overwritten by mistake, and one program at a time works on it.
 //!
-//! `open_fault` has what a file is refused for, `lock` its lock, `zeros` what a new hill starts from, and `device` the device over the
-//! file. Its calls meet what `sector_disk` asks of each device, and a file that is made has as many sectors as were asked for. A lock,
-//! what a file holds and where a path leads are the system's, so no contract speaks of them; tests do.
+//! `open_fault` says why a file is refused, `lock` takes its lock, and `zeros` writes and finds the zeros that a new hill starts from.
+//! `device` is the device over the file.
+//!
+//! The main clauses: the device meets what `sector_disk` asks of each device, and one that is made has at least the sectors that were
+//! asked for. A file is refused for its lock only if it is opened alone, and for what it holds only if that is kept. A lock, what a file
+//! holds and where a path leads are the system's. No contract speaks of them; tests do.
+//!
+//! Nothing here knows what the sectors hold, and a file is never shortened but to overwrite it.
 #![tactic(auto)]
 
 mod device;

@@ -7,7 +7,7 @@ ghost use Rattle.hill_file.specs.OpenFault.{IsWhateverHeld};
 use crate::open_fault::OpenFault;
 use std::fs::{File, TryLockError};
 
-/// A file whose lock can be taken without waiting. The system lets the lock go with the handle, also if the program is stopped.
+/// A file whose lock can be taken without waiting. The system releases the lock with the handle, also if the program is stopped.
 pub trait TryLock {
     /// Takes the lock. `Locked` if another open of the file holds it, and `Memory` or `Failed` if the system can't lock the file.
     fn lock_now(&self) -> Result<(), OpenFault>

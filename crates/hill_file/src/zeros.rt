@@ -1,4 +1,4 @@
-//! Zeros: that a file holds nothing else, and that it really holds them.
+//! The zeros that a new hill starts from: a file is searched for other bytes, and zeros are written to it.
 
 ghost use Rattle.std.specs.Prelude.{◌≡◌, ◌↔◌, All, IsTrue};
 

@@ -55,7 +55,7 @@ drop_other slot k (e ∷ es) apart used = elim (cases_eq e.slot slot) [
   ])
 ]
 
--- as many slots as are taken, so many entries there are at least
+-- there are at least as many entries as taken slots
 taken_few : (n : ℕ) (es : List HeaderEntry) → ((k : ℕ) → k < n → has_slot k es ≡ true) → n ≤ length es
 taken_few zero es taken = omega arith
 taken_few (suc n) es taken =
@@ -67,7 +67,7 @@ bool_cases : (b : Bool) → (b ≡ true) ⊎ (b ≡ false)
 bool_cases true = inl refl
 bool_cases false = inr refl
 
--- where there are as many entries as slots below one, and all of those are taken, that one is free
+-- if there are as many entries as slots below one, and all of those are taken, that one is free
 pub past_taken : (es : List HeaderEntry) → ((k : ℕ) → k < length es → has_slot k es ≡ true) → SlotIsFree (length es) es
 past_taken es taken = elim (bool_cases (has_slot (length es) es)) [
   | inl used ↦

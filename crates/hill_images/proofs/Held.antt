@@ -26,7 +26,7 @@ pub apart_slot : (layout : Layout) (n slot : ℕ) (es : List HeaderEntry) → sl
 apart_slot layout n slot [] from to free = tt
 apart_slot layout n slot (e ∷ es) from to free = (outside_slot layout n slot e.slot free.0 from to, apart_slot layout n slot es from to free.1)
 
--- a slot is as it was where its sectors are
+-- a slot is as it was if its sectors are
 pub held_same : {layout : Layout} (s : RawSettings) (image other : ℕ → List ℕ) (e : HeaderEntry) (m : Member) → slot_in layout other e.slot ≡ slot_in layout image e.slot → IsHeld layout s image e m → IsHeld layout s other e m
 held_same {layout} s image other e m same held = record {
   entry = held.entry;

@@ -60,7 +60,7 @@ kept_this : (fallen : Option ℕ) (e : HeaderEntry) (es : List HeaderEntry) → 
 kept_this fallen e es this =
     ap slots_of (cond-true (is_entry e.entry fallen) (kept_entries fallen es) (record { entry = e.entry; slot = e.slot; age = e.age + 1 } ∷ kept_entries fallen es) this)
 
--- none falls of those behind the one that does
+-- none falls of those after the one that does
 kept_behind : (fallen before : ℕ) (es : List HeaderEntry) → fallen ≤ before → EntriesRise before es → slots_of (kept_entries (Some fallen) es) ≡ slots_of es
 kept_behind fallen before [] past rising = refl
 kept_behind fallen before (e ∷ es) past rising =
@@ -147,7 +147,7 @@ results-placed layout rounds image fallen place es new rising found =
     within : (i : ℕ) → place ≡ Some i → i < length (slots_of es)
     within i is = let below = place_within fallen es i (found ∙ is) in let long = length-map es (λ (e : HeaderEntry). e.slot) in omega (arith, below, long)
 
--- one more, behind the others
+-- one more, after the others
 pub results-push : (layout : Layout) (rounds : ℕ) (image : ℕ → List ℕ) (es : List HeaderEntry) (e : HeaderEntry)
     → results_read layout rounds image (es ++ e ∷ []) ≡ results_read layout rounds image es ++ map (λ older. result_read layout rounds image older e.slot) (slots_of es) ∷ []
 results-push layout rounds image es e =

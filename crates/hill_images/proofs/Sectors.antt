@@ -54,7 +54,7 @@ pub length-from : (k at : ℕ) (image : ℕ → List ℕ) → length (sectors_fr
 length-from zero at image = refl
 length-from (suc k) at image = ap suc (length-from k (at + 1) image)
 
--- the image with these sectors, one behind the other from one on
+-- the image with these sectors, one after the other from one on
 abbrev pub puts : ℕ → List (List ℕ) → (ℕ → List ℕ) → ℕ → List ℕ
 puts at [] image = image
 puts at (bytes ∷ sectors) image = puts (at + 1) sectors (put at bytes image)

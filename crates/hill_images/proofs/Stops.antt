@@ -99,7 +99,7 @@ slot_written {layout} image slot w results h hill free is =
 pub current-slot : (layout : Layout) (disk : Disk) (slot : ℕ) (w : WarriorParts) (results : List Wins) → current (after (slot_writes layout slot w results) disk) ≡ with_slot layout slot w results (current disk)
 current-slot layout disk slot w results = current-writes (slot_at layout slot) (slot_bytes layout w results) disk
 
--- on a settled device that shows a hill, a warrior for a free slot, and the header behind it with the hill that it shows then
+-- on a settled device that shows a hill, a warrior for a free slot, and the header after it with the hill that it shows then
 pub record IsPlacing (layout : Layout) (disk : Disk) (h next : HeaderParts) (slot : ℕ) (w : WarriorParts) (results : List Wins) (old new : Kept) : Type 0 where
   pub settled : IsSettled disk
   pub before : ShowsIn layout (current disk) h old

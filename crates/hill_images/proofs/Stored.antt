@@ -33,7 +33,7 @@ use Rattle.hill_images.proofs.Stops.{current-slot, slot_room}
 use Rattle.hill_images.proofs.Nexts.{agree_length, row_back, slot_holds}
 use Rattle.hill_images.proofs.WarriorsRead.{low_before}
 
--- so many were written
+-- `n` of them were written
 pub record IsStoredTo {D : Type 0} (facts : DeviceFacts D) (old now : D) (h : HeaderParts) (hill : Kept) (i : ℕ) : Type 0 where
   pub kept : IsKept facts old now
   pub faultless : facts.faults now ≡ facts.faults old
@@ -194,7 +194,7 @@ module _ (h : HeaderParts) (hill : Kept) (i : ℕ) (e : HeaderEntry) (m : Member
       ∙ sym (results-push new_layout hill.settings.rounds after_it es e)
       ∙ ap (results_read new_layout hill.settings.rounds after_it) (sym more_entries)
 
--- so many were written, and one more
+-- `n` of them were written, and one more
 pub stored_next : {D : Type 0} (facts : DeviceFacts D) (old mid new : D) (h : HeaderParts) (hill : Kept) (i : ℕ) (e : HeaderEntry) (m : Member) (row : List Bout) (sectors : List (List ℕ)) → IsNextStored h hill i e m row → sectors ≡ slot_bytes new_layout m.warrior (results_by_slot (take i h.entries) row)
     → IsStoredTo facts old mid h hill i → IsKept facts mid new → facts.faults new ≡ facts.faults mid → (facts.lawful mid → facts.disk new ≡ after (writes_from (slot_at new_layout e.slot) sectors) (facts.disk mid)) → IsStoredTo facts old new h hill (i + 1)
 stored_next {D} facts old mid new h hill i e m row sectors is are before kept faultless made = record {
@@ -223,13 +223,13 @@ stored_all facts old now h hill i past kept named stored lawful =
       results = sym (take_all i hill.results (omega (arith, past, many, kept.each))) ∙ stored.results lawful ∙ ap (results_read new_layout hill.settings.rounds (current (facts.disk now))) (take_all i h.entries past);
     }
 
--- an entry that is there is found, whatever stands where there is none
+-- an entry that is there is found, whatever stands for a missing one
 get_or-any : (es : List HeaderEntry) (i : ℕ) (a b : HeaderEntry) → i < length es → get_or es i a ≡ get_or es i b
 get_or-any [] i a b below = absurd (omega (arith, below))
 get_or-any (e ∷ es) zero a b below = refl
 get_or-any (e ∷ es) (suc i) a b below = get_or-any es i a b (omega (arith, below))
 
--- what is known of the next where it is written
+-- what is known of the next when it is written
 module _ (h : HeaderParts) (hill : Kept) (i : ℕ) (entries : List HeaderEntry) (same : entries ≡ h.entries) (kept : IsKeptHill hill) (named : IsNamed h (hill_in hill)) (inside : i < length hill.members) where
   pub below_entries : i < length entries
   below_entries = let many = agree_length h.entries hill.members named.entries in omega (arith, inside, many, ap length same)

@@ -139,7 +139,7 @@ named_placed h hill w fallen slot named = record {
 pub named_passed : (h : HeaderParts) (hill : Hill) → IsNamed h hill → IsNamed (header_passed h) (after_fall hill)
 named_passed h hill named = record { settings = named.settings; counter = ap (λ n. n + 1) named.counter; entries = named.entries }
 
--- a header that names those on a hill keeps what a header has to, where its slots do
+-- a header that names the warriors of a hill keeps what a header has to, if its slots do
 pub header_fits : (h : HeaderParts) (hill : Hill) → IsHill hill → IsNamed h hill → h.generation ≤ 2 ^ 64 - 1 → h.counter ≤ h.generation → SlotsUpTo h.settings.capacity h.entries → SlotsDiffer h.entries → IsHeaderParts h
 header_fits h hill is named generation counter slots differ = record {
   settings = subst (λ s. AreSettings s) (sym named.settings) is.settings;

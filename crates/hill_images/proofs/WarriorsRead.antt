@@ -26,7 +26,7 @@ use Rattle.hill_images.proofs.Results.{results-push, row-slots}
 use Rattle.hill_images.proofs.Nexts.{agree_length, slots_low}
 use Rattle.hill_images.proofs.Submitted.{agree_more}
 
--- so many entries were read
+-- `n` entries were read
 pub record IsReadTo {D : Type 0} (layout : Layout) (facts : DeviceFacts D) (old now : D) (h : HeaderParts) (i : ℕ) (hill : Kept) : Type 0 where
   pub kept : IsKept facts old now
   pub faultless : facts.faults now ≡ facts.faults old
@@ -174,7 +174,7 @@ within_of n (e ∷ es) long low =
     let this : e.slot ≤ 20 = All-head (λ x. x.slot ≤ 20) e es low in
     All-cons (λ x. x.slot < n) e es (omega (arith, this, long)) (within_of n es long (All-tail (λ x. x.slot ≤ 20) e es low))
 
--- so many were put back as were read
+-- all that were read were put back
 pub members_read : {D : Type 0} {layout : Layout} (facts : DeviceFacts D) (old now : D) (h : HeaderParts) (i : ℕ) (hill : Kept) (es : List HeaderEntry) → es ≡ h.entries → i < length es → IsReadTo layout facts old now h i hill → length hill.members ≡ i
 members_read {layout = layout} facts old now h i hill es same below read =
     let count : length (take i h.entries) ≡ length hill.members = agree_length (take i h.entries) hill.members read.agree in

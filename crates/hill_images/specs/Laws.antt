@@ -11,7 +11,7 @@ use Rattle.hill_images.specs.Stands.{ReadsIn, StandsIn}
 pub record LawsOfStorage : Type 0 where
   -- bytes are one header's at most
   pub one_header : (layout : Layout) (bytes : List ℕ) (g h : HeaderParts) → IsHeader layout bytes g → IsHeader layout bytes h → g ≡ h
-  -- sectors hold one warrior at most, where a slot has room for the longest
+  -- sectors hold one warrior at most, if a slot has room for the longest
   pub one_warrior : (layout : Layout) (s : RawSettings) (sectors : List (List ℕ)) (v w : WarriorParts) → AreSettings s → s.length ≤ code_room layout
       → IsSlot layout s sectors v → IsSlot layout s sectors w → v ≡ w
   -- an image reads as one hill at most, with one result of each pair

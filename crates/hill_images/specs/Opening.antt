@@ -56,7 +56,7 @@ pub record IsNotOpenedIn {D : Type 0} (layout : Layout) (facts : DeviceFacts D) 
 
 -- ---- a hill is written to a device that held none
 
--- an image after that, where the device failed in it: one that was there before, one without a hill, or one that reads as this hill
+-- an image after that, if the device failed in it: one that was there before, one without a hill, or one that reads as this hill
 abbrev pub MayHold : Disk → ℕ → Kept → (ℕ → List ℕ) → Type 0
 MayHold old size hill image = IsImage old image ⊎ (HoldsNone image ⊎ Reads size image hill)
 

@@ -23,7 +23,7 @@ results_onto places (e ∷ es) (b ∷ bouts) = results_onto (set places e.slot (
 abbrev pub results_by_slot : List HeaderEntry → List Bout → List Wins
 results_by_slot es bouts = results_onto (replicate 21 no_wins) es bouts
 
--- these sectors, one behind the other from one on
+-- these sectors, one after the other from one on
 abbrev pub writes_from : ℕ → List (List ℕ) → List (Disk → Disk)
 writes_from at [] = []
 writes_from at (bytes ∷ sectors) = wrote at bytes ∷ writes_from (at + 1) sectors

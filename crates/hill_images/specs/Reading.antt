@@ -1,4 +1,4 @@
--- How the warriors of a hill are read from their slots, behind its header.
+-- How the warriors of a hill are read from their slots, after its header.
 use Rattle.std.specs.Prelude.{◌≡◌, ℕ, ◌<◌, ◌≤◌, List, Option, Some, None, Result, Ok, Err}
 use Rattle.war_types.specs.declared.settings.RawSettings.{RawSettings}
 use Rattle.war_types.specs.Warrior.{WarriorParts}
@@ -16,7 +16,7 @@ use Rattle.hill_images.specs.declared.reading.Unread.TheVariants as unread
 use Rattle.hill_images.specs.declared.refusal.Refusal.{Refusal}
 use Rattle.hill_images.specs.declared.refusal.Refusal.TheVariants as refusals
 
--- what is answered where it was not read
+-- what is answered if it was not read
 abbrev pub refusal_of : Unread → Refusal
 refusal_of unread.Disk = refusals.Disk
 refusal_of unread.Memory = refusals.Memory

@@ -31,7 +31,7 @@ AllHeld layout s image (e ∷ es) (m ∷ ms) = IsHeld layout s image e m × AllH
 abbrev pub no_wins : Wins
 no_wins = record { older = 0; younger = 0 }
 
--- a stored result of a match of so many rounds: those that nobody won were ties
+-- a stored result of a match of `rounds` rounds: those that nobody won were ties
 abbrev pub bout_of : ℕ → Wins → Bout
 bout_of rounds w = record { older_wins = w.older; younger_wins = w.younger; ties = rounds - (w.older + w.younger) }
 
@@ -54,14 +54,14 @@ pub record ShowsIn (layout : Layout) (image : ℕ → List ℕ) (h : HeaderParts
   pub members : AllHeld layout hill.settings image h.entries hill.members
   pub results : hill.results ≡ results_read layout hill.settings.rounds image h.entries
 
--- what an image of a device of so many sectors reads as
+-- what an image of a device of `size` sectors reads as
 pub record ReadsIn (layout : Layout) (size : ℕ) (image : ℕ → List ℕ) (hill : Kept) : Type 0 where
   pub header : HeaderParts
   pub shows : ShowsIn layout image header hill
   pub room : sectors_in layout hill.settings.capacity ≤ size
 
--- An image of a device of so many sectors stands for the hill: it reads as that hill with every pair fought anew, so each result of two is
--- their match.
+-- An image of a device of `size` sectors stands for the hill: it reads as that hill with every pair fought again, so each result is that of
+-- the match.
 abbrev pub StandsIn : Layout → ℕ → (ℕ → List ℕ) → Hill → Type 0
 StandsIn layout size image hill = ReadsIn layout size image (fought hill)
 

@@ -11,7 +11,7 @@ ghost use Rattle.hill_images.specs.Stands.{IsNewestIn};
 use hill_bytes::{Format, Header, decode_in};
 use sector_disk::{Device, Fault};
 
-/// The newest header of a format on a device; `None` where it holds none. Nothing is written.
+/// The newest header of a format on a device; `None` if it holds none. Nothing is written.
 pub(crate) fn newest_header<D: Device>(
     device: &mut D,
     format: Format,
@@ -38,7 +38,7 @@ pub(crate) fn holds_header<D: Device>(device: &mut D) -> Result<bool, Fault>
     Ok(even || odd)
 }
 
-/// The header of a format that a sector holds; `None` where it holds none, or one of the other parity.
+/// The header of a format that a sector holds; `None` if it holds none, or one of the other parity.
 fn read_header<D: Device>(device: &mut D, format: Format, n: u32) -> Result<Option<Header>, Fault>
     requires { n < D.facts.size device.old }
     ensures served { IsServed D.facts device.old device.new result }

@@ -21,7 +21,7 @@ use war_types::{Settings, Warrior};
 pub(crate) enum Unread {
     /// The device failed.
     Disk,
-    /// A growth was refused.
+    /// There was no memory.
     Memory,
     /// A slot holds no warrior that fits the settings.
     Damaged,

@@ -14,7 +14,7 @@ pub enum Refusal {
     /// The device holds a hill already.
     #[error("Occupied")]
     Occupied,
-    /// A growth was refused.
+    /// There was no memory.
     #[error("Memory")]
     Memory,
     /// The device holds no hill.

@@ -27,7 +27,7 @@ pub(crate) fn sectors_in(format: Format, capacity: u16) -> u32
     HEADERS + format.slot_sectors() * (u32::from(capacity) + 1)
 }
 
-/// Where the first sector of a slot lies; the others lie behind it.
+/// The first sector of a slot; the others follow it.
 fn slot_at(format: Format, slot: u8) -> u32
     ensures { result ≡ slot_at (layout_of format) slot }
 {

@@ -52,7 +52,7 @@ decided facts old s before (Some source) store kept opened lawful holds = elim (
   | inr stands ↦ record { found = before ++ source ∷ []; are = inr refl; holding = opened_holding facts old s (before ++ source ∷ []) store kept opened lawful stands }
 ]
 
--- a device that reads as a hill is refused for want of memory or for a failure alone
+-- a device that reads as a hill is refused for lack of memory or for a failure alone
 reason_of : (layout : Layout) (size : ℕ) (image : ℕ → List ℕ) (hill : Kept) (why : Refusal) → ReadsIn layout size image hill → RefusesIn layout size image why → (why ≡ refusals.Disk) ⊎ (why ≡ refusals.Memory)
 reason_of layout size image hill refusals.Disk stands reason = inl refl
 reason_of layout size image hill refusals.Memory stands reason = inr refl

@@ -46,7 +46,7 @@ may_move_on size old new k next source held now earns = λ other. λ is_other.
 pub next_by : (k : Kept) (source : List ℕ) → (h : Hill) → IsHill h → k ≡ fought h → kept_next k source ≡ fought (step_source h source)
 next_by k source h is same = ap (λ x. kept_next x source) same ∙ fought_next h source is
 
--- a submission that was answered, and those behind it
+-- a submission that was answered, and those after it
 answered_on : {D : Type 0} (facts : DeviceFacts D) (old mid : Seen D) (source : List ℕ) (events : List Event) (new : Disk) → IsStanding facts old → facts.size mid.device ≡ facts.size old.device → Images (facts.disk mid.device) (λ image. Reads (facts.size mid.device) image (kept_next old.hill source)) → Lives (facts.size old.device) true (facts.disk mid.device) events new → Lives (facts.size old.device) true (facts.disk old.device) (Event.Answered (source ∷ []) ∷ events) new
 answered_on facts old mid source events new is same next lives = (
   facts.disk mid.device,
@@ -68,11 +68,11 @@ refused_next facts old mid source is stays same =
     subst (λ (s : Seen _). Images (facts.disk s.device) (λ image. Reads (facts.size s.device) image (kept_next old.hill source))) (sym same)
     (subst (λ h. Images (facts.disk old.device) (λ image. Reads (facts.size old.device) image h)) (sym stays) is.reads)
 
--- the events behind a submission, on a device of as many sectors
+-- the events after a submission, on a device of as many sectors
 resized : {D : Type 0} (facts : DeviceFacts D) (old mid : Seen D) (events : List Event) (new : Disk) → facts.size mid.device ≡ facts.size old.device → Lives (facts.size mid.device) true (facts.disk mid.device) events new → Lives (facts.size old.device) true (facts.disk mid.device) events new
 resized facts old mid events new same lives = subst (λ n. Lives n true (facts.disk mid.device) events new) same lives
 
--- nothing is behind a `Disk`
+-- nothing comes after a `Disk`
 none_behind : {D : Type 0} (facts : DeviceFacts D) (size : ℕ) (mid new : Seen D) (sources : List (List ℕ)) (replied : List Reply) → RunsOn facts true mid sources replied new → Lives size false (facts.disk mid.device) (events_in sources replied) (facts.disk new.device)
 none_behind facts size mid new [] [] runs = ap (λ (s : Seen _). facts.disk s.device) runs
 none_behind facts size mid new (x ∷ xs) [] runs = ap (λ (s : Seen _). facts.disk s.device) runs

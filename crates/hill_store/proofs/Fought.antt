@@ -1,4 +1,4 @@
--- Where the results that a hill keeps are true, what is due by them is due with every pair fought anew: for `laws_of_kept` and for what a store holds.
+-- If the results that a hill keeps are true, what is due by them is due with every pair fought again: for `laws_of_kept` and for what a store holds.
 use Rattle.std.proofs.Common.{◌≡◌, ℕ, true, false, List, Result, Ok, Err, refl, sym, ap, subst, ◌∙◌, true≢false}
 use Rattle.war_types.specs.Warrior.{WarriorParts}
 use Rattle.war_types.specs.declared.fault.AsmFault.{AsmFault}
@@ -44,7 +44,7 @@ fought_rows h is = true-table (fought h) (IsKept-fought h is) refl
 
 -- ---- submissions
 
--- what a submission that moved the hill or not comes to
+-- what a submission that moved the hill or not gives
 anew_answered : (old : Kept) (source : List ℕ) (reply : Reply) (new : Kept) → is_answer reply ≡ true → IsHill (hill_in old) → AreTrue old → reply ≡ kept_reply old source → new ≡ kept_next old source → IsAnew old source reply new
 anew_answered old source reply new is_one hill holds due next =
     let now : new ≡ fought (step_source (hill_in old) source) = next ∙ ap (λ k. kept_next k source) (fought_is old holds) ∙ fought_next (hill_in old) source hill in record {

@@ -107,7 +107,7 @@ more_holds facts s before xs x cut new holds =
 none_holds : {D : Type 0} (facts : DeviceFacts D) (s : RawSettings) (before : List (List ℕ)) (store : Seen D) → IsHolding facts s (before ++ []) store → IsHolding facts s before store
 none_holds facts s before store holds = subst (λ xs. IsHolding facts s xs store) (append-nil before) holds
 
--- nothing was submitted behind a `Disk`
+-- nothing was submitted after a `Disk`
 stopped_holds : {D : Type 0} (facts : DeviceFacts D) (s : RawSettings) (before xs : List (List ℕ)) (x : List ℕ) (rs : List Reply) (mid new : Seen D) → RunsOn facts true mid xs rs new → IsCutOff facts s (before ++ []) x mid → HoldsMore facts s before (x ∷ xs) (replies.Disk ∷ rs) new
 stopped_holds facts s before [] x [] mid new runs cut =
     subst (λ store. IsCutOff facts s (before ++ []) x store) (sym runs) cut

@@ -126,7 +126,7 @@ not_migrated_by old_facts facts old after new new_after why side fault side_is w
 pub too_small : {D : Type 0} (facts : DeviceFacts D) (new : D) (h : HeaderParts) (hill : Kept) → h.settings ≡ hill.settings → facts.size new < sectors_for h.settings.capacity → IsNotTaken facts new hill new refusals.TooSmall
 too_small facts new h hill settings few = (subst (λ (s : RawSettings). facts.size new < sectors_for s.capacity) settings few, refl)
 
--- why it did not take the hill, where that was to be written
+-- why it did not take the hill that was to be written
 pub taken_or_not : {D : Type 0} (facts : DeviceFacts D) (new after : D) (hill : Kept) (why : Refusal) → IsNotWritten facts new hill after why → IsNotTaken facts new hill after why
 taken_or_not facts new after hill refusals.Disk is = is
 taken_or_not facts new after hill refusals.Occupied is = is

@@ -60,7 +60,7 @@ pub record MigrationsAreEvents {O D : Type 0} (old_facts : DeviceFacts O) (facts
   -- one that was refused is an opening that was refused
   pub not_migrated : (old old_after : O) (new new_after : D) (fault : MigrateFault) → old_facts.lawful old → IsNotMigrated old_facts facts old old_after new new_after fault
       → LivesIn formats.Old (old_facts.size old) false (old_facts.disk old) (Event.NotOpened ∷ []) (old_facts.disk old_after)
-  -- where it was stopped, and an image of the other device stands for the hill, the life goes on with that
+  -- if it was stopped, and an image of the other device stands for the hill, the life goes on with that
   pub stopped : (old old_after : O) (new new_after : D) (fault : MigrateFault) (image : ℕ → List ℕ) (hill : Hill) → old_facts.lawful old → IsNotMigrated old_facts facts old old_after new new_after fault
       → StandsIn old_layout (old_facts.size old) (current (old_facts.disk old)) hill → IsImage (facts.disk new_after) image → Stands (facts.size new_after) image hill
       → LivesIn formats.Old (old_facts.size old) false (old_facts.disk old) (Event.MovedAtStop (facts.size new_after) image hill ∷ []) (started image)

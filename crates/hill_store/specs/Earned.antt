@@ -15,7 +15,7 @@ abbrev pub step_found : Hill → Result WarriorParts AsmFault → Hill
 step_found h (Ok w) = step h w
 step_found h (Err fault) = h
 
--- the hill after a source: that of its warrior, and the same hill where the source is refused
+-- the hill after a source: the step of its warrior, or the same hill if the source is refused
 abbrev pub step_source : Hill → List ℕ → Hill
 step_source h source = step_found h (assembly h.settings source)
 
@@ -35,7 +35,7 @@ abbrev pub steps : Hill → List (List ℕ) → Hill
 steps h [] = h
 steps h (source ∷ sources) = steps (step_source h source) sources
 
--- what a list of sources earns from the beginning, with every pair fought anew at each step
+-- what a list of sources earns from the beginning, with every pair fought again at each step
 abbrev pub earned : RawSettings → List (List ℕ) → Hill
 earned s sources = steps (new_hill s 0) sources
 

@@ -23,9 +23,9 @@ abbrev pub StandsForIn : Layout → ℕ → RawSettings → List (List ℕ) → 
 StandsForIn layout size s sources None image = StandsIn layout size image (earned s sources)
 StandsForIn layout size s sources (Some source) image = StandsIn layout size image (earned s sources) ⊎ StandsIn layout size image (earned s (sources ++ source ∷ []))
 
--- What a disk of so many sectors holds: whatever a stop leaves of it stands for the hill that these sources earn from the beginning, with every
--- pair fought anew, or where one more source is named, for that hill or for the one that it earns behind them. It stands for no other hill: an
--- image stands for one at most.
+-- What a disk of `size` sectors holds: whatever a stop leaves of it stands for the hill that these sources earn from the beginning, with every
+-- pair fought again. If one more source is named, it may stand for the hill that this one earns after them instead. It stands for no other
+-- hill: an image stands for one at most.
 abbrev pub HoldsIn : Layout → ℕ → Disk → RawSettings → List (List ℕ) → Option (List ℕ) → Type 0
 HoldsIn layout size disk s sources more = Images disk (StandsForIn layout size s sources more)
 

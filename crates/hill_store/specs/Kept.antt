@@ -1,4 +1,4 @@
--- What a store whose results are true answers, and what its hill is then: every pair fought anew.
+-- What a store whose results are true answers, and what its hill is then: every pair fought again.
 use Rattle.std.specs.Prelude.{◌≡◌, ℕ, true, false, List}
 use Rattle.koth_hill.specs.Hill.{Hill, IsHill}
 use Rattle.koth_hill.specs.Table.{table}
@@ -15,9 +15,9 @@ pub record IsAnew (old : Kept) (source : List ℕ) (reply : Reply) (new : Kept) 
   pub still_true : AreTrue new
 
 pub record LawsOfKept : Type 0 where
-  -- the reply that is due by what is kept is the one that is due where every pair is fought anew
+  -- the reply that is due by what is kept is the one that is due if every pair is fought again
   pub reply : (h : Hill) (source : List ℕ) → IsHill h → kept_reply (fought h) source ≡ reply_of h source
-  -- the hill after a source is that of every pair fought anew, and the results that it keeps are true again
+  -- the hill after a source is that of every pair fought again, and the results that it keeps stay true
   pub next : (h : Hill) (source : List ℕ) → IsHill h → kept_next (fought h) source ≡ fought (step_source h source)
   -- and so is the table
   pub rows : (h : Hill) → IsHill h → table_kept (fought h) ≡ table h

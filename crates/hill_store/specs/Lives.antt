@@ -13,9 +13,10 @@ use Rattle.hill_store.specs.Earned.{earned, step_source, steps}
 use Rattle.hill_store.specs.Holding.{HoldsIn, AreDecided}
 
 -- What happens to a device: an opening is refused, or gives a hill; submissions are answered; the device fails in one; the store on it is
--- closed; a stop leaves an image, and the device starts from that. A source is its bytes, an image what each sector holds. A hill moves from a
--- device of the old format to another one, of so many sectors, with which the life goes on: by a migration that was answered, or by one that
--- was not, but left an image of the other device that stands for the hill. Where a migration is refused, so is an opening.
+-- closed; a stop leaves an image, and the device starts from that. A source is its bytes, an image what each sector holds.
+-- A hill moves from a device of the old format to another one, with this number of sectors, and the life goes on with that one. It moves by a
+-- migration that was answered, or by one that was not, but left an image of the other device that stands for the hill. A refused migration
+-- is a refused opening.
 pub data Event : Type 0 where
   NotOpened : Event
   Opened : Hill → Event
@@ -26,16 +27,17 @@ pub data Event : Type 0 where
   Moved : ℕ → Disk → Hill → Event
   MovedAtStop : ℕ → (ℕ → List ℕ) → Hill → Event
 
--- where every image stood for a hill, every image stands for that hill after these sources
+-- if every image stood for a hill, every image stands for that hill after these sources
 abbrev pub MovesOnIn : Layout → ℕ → List (List ℕ) → Disk → Disk → Type 0
 MovesOnIn layout size sources old new = (hill : Hill) → Images old (λ image. StandsIn layout size image hill) → Images new (λ image. StandsIn layout size image (steps hill sources))
 
--- where every image stood for a hill, each stands for that hill, or for that hill after this source
+-- if every image stood for a hill, each stands for that hill, or for that hill after this source
 abbrev pub MayMoveOnIn : Layout → ℕ → List ℕ → Disk → Disk → Type 0
 MayMoveOnIn layout size source old new =
     (hill : Hill) → Images old (λ image. StandsIn layout size image hill) → Images new (λ image. StandsIn layout size image hill ⊎ StandsIn layout size image (step_source hill source))
 
--- These events happened to a device of this format and of so many sectors. Submissions stand only where a store is open that has answered no `Disk`.
+-- These events happened to a device of this format and number of sectors. Submissions come only while a store is open that has answered no
+-- `Disk`.
 abbrev pub LivesIn : Format → ℕ → Bool → Disk → List Event → Disk → Type 0
 LivesIn format size is_open old [] new = new ≡ old
 LivesIn format size is_open old (Event.NotOpened ∷ events) new = (mid : Disk) × Begun (synced ∷ []) old mid × LivesIn format size false mid events new
@@ -63,7 +65,7 @@ MayMoveOn size source old new = MayMoveOnIn new_layout size source old new
 abbrev pub Lives : ℕ → Bool → Disk → List Event → Disk → Type 0
 Lives size is_open old events new = LivesIn formats.New size is_open old events new
 
--- the format of the device behind these events, and how many sectors it has
+-- the format and the number of sectors of the device after these events
 abbrev pub format_after : Format → List Event → Format
 format_after format [] = format
 format_after format (Event.NotOpened ∷ events) = format_after format events
@@ -86,8 +88,8 @@ size_after size (Event.Stopped image ∷ events) = size_after size events
 size_after size (Event.Moved moved_size disk hill ∷ events) = size_after moved_size events
 size_after size (Event.MovedAtStop moved_size image hill ∷ events) = size_after moved_size events
 
--- What is to be told of a life that begins where each image stands for what these sources earn, or these and one more: which count in
--- the end, and which one more may. A source that was answered counts; of one that was not, the next opening or move decides.
+-- The record of a life at whose beginning each image stands for what these sources earn, or these and one more: the sources that count in
+-- the end, and the one more that may. A source that was answered counts. The next opening or move decides on one that was not.
 abbrev pub IsRecord : RawSettings → List (List ℕ) → Option (List ℕ) → List Event → List (List ℕ) → Option (List ℕ) → Type 0
 IsRecord s sources more [] found last = (found ≡ sources) × (last ≡ more)
 IsRecord s sources more (Event.NotOpened ∷ events) found last = IsRecord s sources more events found last
@@ -102,7 +104,7 @@ IsRecord s sources more (Event.Moved size disk hill ∷ events) found last =
 IsRecord s sources more (Event.MovedAtStop size image hill ∷ events) found last =
     (decided : List (List ℕ)) × AreDecided sources more decided × (hill ≡ earned s decided) × IsRecord s decided None events found last
 
--- a record of the life, and the device holds what it tells
+-- a record of the life, and the device holds what it says
 pub record HasRecord (format : Format) (size : ℕ) (s : RawSettings) (sources : List (List ℕ)) (more : Option (List ℕ)) (events : List Event) (new : Disk) : Type 0 where
   pub found : List (List ℕ)
   pub last : Option (List ℕ)

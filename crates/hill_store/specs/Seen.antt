@@ -56,7 +56,7 @@ pub record IsLeft {D : Type 0} (old new : Seen D) : Type 0 where
 abbrev pub Assembled : {D : Type 0} → Seen D → List ℕ → Type 0
 Assembled old source = (w : WarriorParts) × (assembly old.hill.settings source ≡ Ok w)
 
--- what a submission made of a store, by its reply and by the results that its hill keeps; where these are true, `IsAnew` says more
+-- what a submission made of a store, by its reply and by the results that its hill keeps; if these are true, `IsAnew` says more
 abbrev pub Submits : {D : Type 0} → DeviceFacts D → Seen D → List ℕ → Reply → Seen D → Type 0
 Submits facts old source (replies.Placed entry rank score) new =
     (replies.Placed entry rank score ≡ kept_reply old.hill source) × IsAnswered facts old (kept_next old.hill source) new
@@ -81,7 +81,7 @@ Challenges facts old w replies.Worn new = (old.generation ≡ 2 ^ 64 - 1) × IsL
 Challenges facts old w replies.Disk new = IsCut facts old (step_kept old.hill w) new
 Challenges facts old w replies.Reopen new = ⊥
 
--- a fault of the assembler as a reply: a refusal, but for want of memory
+-- a fault of the assembler as a reply: a refusal, but for lack of memory
 abbrev pub IsRefusal : AsmFault → Reply → Type 0
 IsRefusal fault (replies.Refused other) = (other ≡ fault) × (fault.kind ≢ kinds.Memory)
 IsRefusal fault replies.Memory = fault.kind ≡ kinds.Memory

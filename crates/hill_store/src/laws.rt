@@ -6,14 +6,14 @@ ghost use Rattle.hill_store.specs.Lives.{LawsOfLives};
 
 use sector_disk::Device;
 
-/// Where the results that a hill keeps are true, replies, hills and tables by what is kept are those of every pair fought anew.
+/// If the results that a hill keeps are true, replies, hills and tables by what is kept are those of every pair fought again.
 pub fn laws_of_kept()
     ensures { LawsOfKept }
 {}
 
-/// The life of a device that holds a hill, in either format: whatever openings, submissions, faults and stops there are, one after another,
-/// it holds what the submissions that were answered earn, in their order, and of each time it was open at most one more: the last one, where
-/// that was not answered. Where the hill moves to a device of the new format, so it is with that device from there on.
+/// The life of a device that holds a hill, in either format, through any openings, submissions, faults and stops, one after another. It
+/// holds what the submissions that were answered earn, in their order. Each time that it was open may add one more: the last one, if that
+/// was not answered. If the hill moves to a device of the new format, the same holds of that device from there on.
 pub fn laws_of_lives()
     ensures { LawsOfLives }
 {}
@@ -24,8 +24,8 @@ pub fn calls_in_lives<D: Device>(_device: &D)
     ensures { CallsAreEvents D.facts }
 {}
 
-/// What a migration is in the life of the device that it begins with: the move to the other device, or an opening that was refused; and
-/// where it was stopped, the move too, if what is left of the other device stands for the hill.
+/// What a migration is in the life of the device that it begins with: the move to the other device, or an opening that was refused. A
+/// stopped migration is the move too, if what is left of the other device stands for the hill.
 pub fn migrations_in_lives<O: Device, D: Device>(_old: &O, _new: &D)
     ensures { MigrationsAreEvents O.facts D.facts }
 {}

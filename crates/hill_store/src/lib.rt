@@ -5,9 +5,9 @@
 //! answers.
 //!
 //! The main clauses: `submit` and `submit_all` answer the reply that is due, and on a lawful device every image then stands for
-//! the hill after the sources that were answered (`Seen`, `Runs`, `Holding` in `specs`); after a stop, `open` finds the hill with
-//! or without the source that was under way, and `migrate` moves it so from a device of the old format to another one (`migration` has
-//! its faults).
+//! the hill after the sources that were answered (`Seen`, `Runs`, `Holding` in `specs`). After a stop, `open` finds the hill with
+//! or without the source that was under way. `migrate` moves it likewise from a device of the old format to another one; its faults are
+//! those of `migration`.
 #![tactic(auto)]
 
 mod laws;

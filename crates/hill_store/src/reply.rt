@@ -14,7 +14,7 @@ pub enum Reply {
     Fell { entry: u64, score: u32 },
     /// The source is refused.
     Refused(AsmFault),
-    /// A growth was refused. Nothing was submitted.
+    /// There was no memory. Nothing was submitted.
     Memory,
     /// The device has taken as many headers as can be counted. Nothing was submitted.
     Worn,

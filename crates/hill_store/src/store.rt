@@ -56,8 +56,8 @@ impl<D: Device, A: Allocator> Model for Store<D, A> {
 impl<D: Device, A: Allocator + Copy> Store<D, A> {
     /// Creates a hill without warriors on a device that holds none.
     ///
-    /// The refusals, in their order: `TooSmall` where the device has fewer sectors than the hill needs, `Memory` (all memory
-    /// is taken here), `Disk`, `Occupied` where a sector holds a valid header of either format, and `Disk` while the first header is written.
+    /// The refusals, in their order: `TooSmall` if the device has fewer sectors than the hill needs, `Memory` (all memory is taken
+    /// here), `Disk`, `Occupied` if a sector holds a valid header of either format, and `Disk` while the first header is written.
     /// The device comes back with each.
     pub fn create(alloc: A, mut device: D, settings: Settings) -> Result<Store<D, A>, (D, Refusal)>
         ensures kept { MatchResult result (λ store. IsKept D.facts device store.device) (λ refused. IsKept D.facts device refused.0) }
@@ -92,9 +92,9 @@ impl<D: Device, A: Allocator + Copy> Store<D, A> {
 
     /// Opens the hill that a device holds. Nothing is written.
     ///
-    /// The refusals, in their order: `TooSmall` where the device has fewer than two sectors, `Disk`, `NotAHill`, `TooSmall`
-    /// for the capacity that the header names, and while the slots are read `Disk`, or `Damaged` where the bytes are no
-    /// slot's. `Memory` stands wherever a growth was refused. The device comes back with each.
+    /// The refusals, in their order: `TooSmall` if the device has fewer than two sectors, `Disk`, `NotAHill`, `TooSmall`
+    /// for the capacity that the header names, and while the slots are read `Disk`, or `Damaged` if the bytes are no
+    /// slot. `Memory` comes whenever there is no memory. The device comes back with each.
     pub fn open(alloc: A, mut device: D) -> Result<Store<D, A>, (D, Refusal)>
         ensures kept { MatchResult result (λ store. IsKept D.facts device store.device) (λ refused. IsKept D.facts device refused.0) }
         ensures small { D.facts.size device < 2 → result ≡ Err (device, Refusal.TooSmall) }
@@ -118,8 +118,8 @@ impl<D: Device, A: Allocator + Copy> Store<D, A> {
 
     /// Moves the hill that a device holds in the old format to another device, in the new one. Nothing is written to the old device.
     ///
-    /// The refusals, in their order: those of the old device, as `open` has them; then those of the new one, `TooSmall` where it has fewer
-    /// sectors than the hill needs, `Disk`, `Occupied` where a sector holds a valid header of either format, and `Disk` while the slots of the
+    /// The refusals, in their order: those of the old device, as `open` has them; then those of the new one, `TooSmall` if it has fewer
+    /// sectors than the hill needs, `Disk`, `Occupied` if a sector holds a valid header of either format, and `Disk` while the slots of the
     /// warriors and then the header are written. All memory is taken before the new device is looked at. Both devices come back with each.
     pub fn migrate<O: Device>(
         alloc: A,
@@ -284,7 +284,7 @@ impl<D: Device, A: Allocator + Copy> Store<D, A> {
         &self.hill
     }
 
-    /// Whether each result that is kept is what the match comes to when it is fought anew. It needs no memory: its answer stands whatever is refused.
+    /// Whether each result that is kept is the one that the match gives when it is fought again. It needs no memory.
     pub fn audit(&mut self) -> bool
         ensures value { (result ≡ true → AreTrue self.old.hill) × (AreTrue self.old.hill → result ≡ true) }
         ensures unchanged { self.new ≡ self.old }
@@ -292,8 +292,8 @@ impl<D: Device, A: Allocator + Copy> Store<D, A> {
         self.hill.audit(&mut self.arena)
     }
 
-    /// The first result, by the younger warrior's entry and then the older's, that is kept and is not what the match comes to when it is
-    /// fought anew; `None` where each is. It needs no memory: its answer stands whatever is refused.
+    /// The first kept result that is not the one that the match gives when it is fought again, by the younger warrior's entry and then the
+    /// older's; `None` if there is no such result. It needs no memory.
     pub fn first_untrue(&mut self) -> Option<Untrue>
         ensures none { result ≡ None → AreTrue self.old.hill }
         ensures some { IfSome result (λ u. IsUntrue self.old.hill u.older u.younger u.kept u.fought) }
@@ -305,7 +305,7 @@ impl<D: Device, A: Allocator + Copy> Store<D, A> {
 }
 
 impl<D: Device, A: Allocator> Store<D, A> {
-    /// The device, as it stands. It needs no memory: its answer stands whatever is refused.
+    /// The device, as it stands. It needs no memory.
     pub fn close(self) -> D
         ensures { result ≡ self.device }
     {

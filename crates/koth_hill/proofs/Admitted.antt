@@ -127,7 +127,7 @@ enlarged-rising h w is =
     let most : last_entry h.members ≤ h.counter = last_entry_from-most 0 h.counter h.members (omega arith) (entries-most h is) in
     RiseFrom-push 0 h.members (challenger h w) is.rising (omega (arith, most))
 
--- where they are too many, one falls
+-- if they are too many, one falls
 pub falling-one : (f : Results) (h : Hill) (w : WarriorParts) → IsHill h → last_among (scores_of f (enlarged h w)) (scores_of f (enlarged h w)) ≡ None → ⊥
 falling-one f h w is none =
     last_among-none (scores_of f (enlarged h w)) (scores-rising f (enlarged h w) (enlarged-rising h w is))
@@ -157,7 +157,7 @@ room-full : (f : Results) (h : Hill) (w : WarriorParts) (found : Option ℕ) →
 room-full f h w None is stay falls last = absurd (falling-one f h w is last)
 room-full f h w (Some entry) is stay falls last = room-some f h w entry stay falls last
 
--- where there is room nobody falls
+-- if there is room, nobody falls
 pub falling-room : (f : Results) (h : Hill) (w : WarriorParts) → length h.members < h.settings.capacity → falling_by f h w ≡ None
 falling-room f h w room =
     cond-false (nat_lt h.settings.capacity (length (enlarged h w))) (last_among (scores_of f (enlarged h w)) (scores_of f (enlarged h w))) None
@@ -180,7 +180,7 @@ room-left f h w is stay = elim (cases_lt (length h.members) h.settings.capacity)
       omega (arith, less, is.room)
 ]
 
--- ---- the hill behind it
+-- ---- the hill after it
 
 without-stand : (h : Hill) (fallen : Option ℕ) → IsHill h → All (MayStand h.settings h.counter) (without fallen h.members)
 without-stand h fallen is =

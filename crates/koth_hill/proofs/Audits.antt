@@ -49,7 +49,7 @@ kept-at : (es : List Entrant) (n : ℕ) (e : Entrant) (row other : List Bout) �
 kept-at es n e row other within here same =
     get_or-map (λ (x : Entrant). x.bouts) es n e other within ∙ ap (λ (x : Entrant). x.bouts) (sym here) ∙ sym same
 
--- ---- the rows that were fought anew
+-- ---- the rows that were fought again
 
 -- one row more is true
 pub true-more : (s t : RawSettings) (es : List Entrant) (n : ℕ) (e : Entrant) (w : WarriorParts) (bouts row : List Bout) → s ≡ t →
@@ -63,7 +63,7 @@ true-more s t es n e w bouts row settings within here same fought kept equal bef
     before
     (kept-at es n e row row within here kept ∙ sym equal ∙ sym (fought-at s t es n e w bouts row settings within here same fought))
 
--- behind the last row, all are true
+-- after the last row, all are true
 pub true-all : (k : Kept) (es xs : List Entrant) (n : ℕ) → members_of es ≡ k.members → rows_of es ≡ k.results → xs ≡ es → length xs ≤ n →
     take n (rows_of xs) ≡ take n (fought_from k.settings [] (members_of xs)) → AreTrue k
 true-all k es xs n members rows is past before =

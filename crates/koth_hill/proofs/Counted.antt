@@ -24,7 +24,7 @@ of_rank-In all (y ∷ xs) r x here = elim (cases_Bool (rank_among all y == r)) [
       (inr found.0, found.1)
 ]
 
--- where none is of a rank, the list of that rank is empty
+-- if none is of a rank, the list of that rank is empty
 of_rank-none : (all xs : List Score) (r : ℕ) → ((x : Score) → InScores x xs → rank_among all x ≡ r → ⊥) → of_rank all r xs ≡ []
 of_rank-none all [] r none = refl
 of_rank-none all (y ∷ xs) r none =
@@ -50,14 +50,14 @@ of_rank-few all (y ∷ xs) before r rising are = elim (cases_Bool (rank_among al
 pub of_rank-one : (all : List Score) (r : ℕ) → Rising 0 all → length (of_rank all r all) ≤ 1
 of_rank-one all r rising = of_rank-few all all 0 r rising (λ x here. here)
 
--- ---- those of so many ranks
+-- ---- those of a number of ranks
 
--- those of so many ranks from one on
+-- those of `n` ranks from one on
 abbrev pub by_rank : List Score → ℕ → ℕ → List Score
 by_rank all r zero = []
 by_rank all r (suc n) = of_rank all r all ++ by_rank all (r + 1) n
 
--- 1 where a rank is one of n from r on
+-- 1 if a rank is one of n from r on
 hit : ℕ → ℕ → ℕ → ℕ
 hit r n k = if (nat_le r k && nat_lt k (r + n)) then 1 else 0
 

@@ -112,7 +112,7 @@ rounds-members k es is rows =
 
 -- ---- one more on the hill
 
--- the warrior behind those on the hill, with the results of its matches with them
+-- the warrior after those on the hill, with the results of its matches with them
 pub IsKept-put_back : (k : Kept) (entry age : ℕ) (w : WarriorParts) (bouts : List Bout) → IsKept k → length k.members < k.settings.capacity → last_entry k.members < entry →
     entry ≤ k.counter → age ≤ k.counter - entry → Fits k.settings w → length bouts ≡ length k.members → All (λ b. rounds_in b ≡ k.settings.rounds) bouts →
     IsKept (kept_of k.settings k.counter (k.members ++ member_of entry age w ∷ []) (k.results ++ bouts ∷ []))
@@ -122,7 +122,7 @@ IsKept-put_back k entry age w bouts is room above counted old fits each rounds =
   rows = AreRows-push k.settings.rounds k.results bouts is.rows (each ∙ sym is.each) rounds;
 }
 
--- what the hill's value is behind the push
+-- the hill's value after the push
 pub put_back-is : (seen now : Kept) (es items : List Entrant) (e : Entrant) (entry age : ℕ) (w : WarriorParts) (bouts : List Bout) → seen ≡ now → members_of es ≡ seen.members → rows_of es ≡ seen.results →
     e ≡ entrant_of (member_of entry age w) bouts → items ≡ es ++ e ∷ [] →
     kept_of seen.settings seen.counter (members_of items) (rows_of items) ≡ kept_of now.settings now.counter (now.members ++ member_of entry age w ∷ []) (now.results ++ bouts ∷ [])

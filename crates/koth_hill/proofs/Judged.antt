@@ -29,7 +29,7 @@ placed_in r all own falls =
     let es = left falls all in
     record { entry = own.entry; stays = true; falls = falls; score = points_among r es own.entry; rank = rank_among (scores_among r es) (score_among r es own.entry); bouts = own.bouts }
 
--- the verdict on one entry among these, who are so many
+-- the verdict on one entry among these
 abbrev pub judged_in : (ℕ → ℕ → Bout) → List ℕ → ℕ → ℕ → StandingParts → Verdict
 judged_in r es n capacity own =
     if is_entry own.entry (falling_in r es n capacity) then fallen_in r es own else placed_in r es own (falling_in r es n capacity)

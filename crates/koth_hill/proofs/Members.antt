@@ -24,7 +24,7 @@ pub RiseFrom-push : (before : ℕ) (ms : List Member) (m : Member) → RiseFrom 
 RiseFrom-push before [] m rising above = (above, tt)
 RiseFrom-push before (n ∷ ms) m rising above = (rising.0, RiseFrom-push n.entry ms m rising.1 above)
 
--- one that is not above a number is not among members behind it
+-- one that is not above a number is not among members after it
 pub without-behind : (entry before : ℕ) (ms : List Member) → RiseFrom before ms → entry ≤ before → without (Some entry) ms ≡ ms
 without-behind entry before [] rising below = refl
 without-behind entry before (m ∷ ms) rising below =
@@ -35,7 +35,7 @@ pub without-None : (ms : List Member) → without None ms ≡ ms
 without-None [] = refl
 without-None (m ∷ ms) = ap (λ rest. m ∷ rest) (without-None ms)
 
--- where no member has the entry, none goes
+-- if no member has the entry, none goes
 pub without-absent : (fallen : Option ℕ) (ms : List Member) → ((k : ℕ) (d : Member) → k < length ms → is_entry (get_or ms k d).entry fallen ≡ false) → without fallen ms ≡ ms
 without-absent fallen [] absent = refl
 without-absent fallen (m ∷ ms) absent =
@@ -47,7 +47,7 @@ no_some : (b : Bool) (n : ℕ) → cond b (Some n) None ≡ None → b ≡ false
 no_some true n none = cc
 no_some false n none = refl
 
--- where none passes a test, the first that passes would be past the end
+-- if none passes a test, the first that passes would be past the end
 none_past : (p : Member → Bool) (ms : List Member) → position p ms ≡ None → length ms ≤ position_or_len p ms
 none_past p ms none = ltb-false (position_or_len p ms) (length ms) (no_some (nat_lt (position_or_len p ms) (length ms)) (position_or_len p ms) none)
 
@@ -80,7 +80,7 @@ removed-none fallen ms none = sym (no_entry fallen ms none)
 
 -- ---- hills
 
--- a member behind those on a hill
+-- a member after those on a hill
 pub IsHill-put_back : (h : Hill) (m : Member) → IsHill h → length h.members < h.settings.capacity → last_entry h.members < m.entry → m.entry ≤ h.counter → m.age ≤ h.counter - m.entry → Fits h.settings m.warrior →
     IsHill (hill_of h.settings h.counter (h.members ++ m ∷ []))
 IsHill-put_back h m is room above counted age fits = record {

@@ -54,7 +54,7 @@ above-total p q a b fails lacks =
 
 -- ---- scores of a list
 
--- entries rise from one score to the next, behind the entry of one before them
+-- entries rise from one score to the next, and from an entry before them
 abbrev pub Rising : ℕ → List Score → Type 0
 Rising before [] = Unit {0}
 Rising before (x ∷ xs) = (before < x.entry) × Rising x.entry xs

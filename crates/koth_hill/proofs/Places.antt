@@ -37,15 +37,15 @@ module _ (ss : List Standing) (older younger : ℕ) where
   abbrev rows : List (List Bout)
   rows = rows_in (map standing_parts ss)
 
-  -- where the older is none of these
+  -- the older is none of these
   pub no-older : position (λ s. s.entry == older) ss ≡ None → result_in_standings (map standing_parts ss) older younger ≡ None
   no-older none = ap (λ (o : Option ℕ). result_at rows o (place_of (entries_in (map standing_parts ss)) younger)) (place-standing ss older ∙ none)
 
-  -- where the younger is none of these
+  -- the younger is none of these
   pub no-younger : (i : ℕ) → position (λ s. s.entry == older) ss ≡ Some i → position (λ s. s.entry == younger) ss ≡ None → result_in_standings (map standing_parts ss) older younger ≡ None
   no-younger i one none = ap₂ (λ (o p : Option ℕ). result_at rows o p) (place-standing ss older ∙ one) (place-standing ss younger ∙ none)
 
-  -- where both are
+  -- both are
   pub both-there : (i j : ℕ) (d : Standing) → position (λ s. s.entry == older) ss ≡ Some i → position (λ s. s.entry == younger) ss ≡ Some j →
       result_in_standings (map standing_parts ss) older younger ≡ slice_get (get_or ss j d).bouts.now i
   both-there i j d one other =
@@ -55,7 +55,7 @@ module _ (ss : List Standing) (older younger : ℕ) where
 
 -- ---- one taken out of its place
 
--- those behind it move up by one
+-- those after it move up by one
 pub moved-up : (xs new : List Bout) (place len : ℕ) → place < len → len ≤ length xs → new ≡ copy_within xs (place + 1) len place → take (len - 1) new ≡ remove (take len xs) place
 moved-up xs new place len within long moved =
     ap₂ (λ (n : ℕ) (ys : List Bout). take n ys) split moved

@@ -39,7 +39,7 @@ pub HaveAll-remove : (rounds : ℕ) (row : List Bout) (i : ℕ) → HaveAll roun
 HaveAll-remove rounds row i each =
     All-append (λ b. rounds_in b ≡ rounds) (take i row) (drop (suc i) row) (All-take (λ b. rounds_in b ≡ rounds) i row each) (All-drop (λ b. rounds_in b ≡ rounds) (suc i) row each)
 
--- rows behind the one that goes are each one shorter
+-- rows after the one that goes are each one shorter
 AreRows-shorter : (rounds n i : ℕ) (rows : List (List Bout)) → i ≤ n → AreRows rounds (n + 1) rows → AreRows rounds n (map (λ row. remove row i) rows)
 AreRows-shorter rounds n i [] le are = tt
 AreRows-shorter rounds n i (row ∷ rows) le are =
@@ -106,7 +106,7 @@ HaveAll-left rounds row (Some i) each = HaveAll-remove rounds row i each
 
 -- ---- steps
 
--- where the challenger stays, there is a row for each member
+-- if the challenger stays, there is a row for each member
 pub each-stay : (k : Kept) (w : WarriorParts) (fallen : Option ℕ) → IsKept k → length (kept_stay k w fallen).results ≡ length (kept_stay k w fallen).members
 each-stay k w fallen is =
     let place : Option ℕ = fallen_place fallen k.members in
@@ -171,7 +171,7 @@ either-kept : (b : Bool) (x y : Kept) → (IsHill (hill_in x) → IsKept x) → 
 either-kept true x y stay fall hill = stay hill
 either-kept false x y stay fall hill = fall hill
 
--- a step by what is kept leaves a row for each, where it leaves a hill
+-- a step by what is kept leaves a row for each, if it leaves a hill
 pub IsKept-step : (k : Kept) (w : WarriorParts) → IsKept k → IsHill (hill_in (step_kept k w)) → IsKept (step_kept k w)
 IsKept-step k w is hill =
     either-kept (stays_by (known k w) (hill_in k) w) (kept_stay k w (falling_by (known k w) (hill_in k) w)) (kept_fall k)

@@ -82,7 +82,7 @@ last_among-empty all (x ∷ xs) none = elim (cases_Bool (rank_among all x == len
       ∙ last_among-empty all xs (sym (cond-false (rank_among all x == length all) (Some x.entry) (last_among all xs) fails) ∙ none)
 ]
 
--- where there are scores one is the last
+-- if there are scores, one is the last
 pub last_among-none : (xs : List Score) → Rising 0 xs → 1 ≤ length xs → last_among xs xs ≡ None → ⊥
 last_among-none xs rising some none =
     let one : length (of_rank xs (length xs) xs) ≡ 1 = one-of_rank xs (length xs) rising some (omega arith) in

@@ -19,7 +19,7 @@ use Rattle.koth_hill.proofs.Looked.{fought-looked}
 
 -- ---- rows
 
--- rows are the same where each comes to the same with all others
+-- rows are the same if each match of theirs gives the same
 pub rows_with-same : {X Y : Type 0} (f g : X → X → Y) (before xs : List X) → All (λ younger. (older : X) → f older younger ≡ g older younger) xs → rows_with f before xs ≡ rows_with g before xs
 rows_with-same f g before [] same = refl
 rows_with-same {X} f g before (x ∷ xs) same =
@@ -103,7 +103,7 @@ remove-middle : {X : Type 0} (xs ys : List X) (x : X) → remove (xs ++ x ∷ ys
 remove-middle [] ys x = refl
 remove-middle (y ∷ xs) ys x = ap (λ zs. y ∷ zs) (remove-middle xs ys x)
 
--- behind the one that goes, each row is without it
+-- after the one that goes, each row is without it
 rows_with-without : {X Y : Type 0} (f : X → X → Y) (before : List X) (m : X) (between xs : List X) →
     map (λ row. remove row (length before)) (rows_with f (before ++ m ∷ between) xs) ≡ rows_with f (before ++ between) xs
 rows_with-without f before m between [] = refl
@@ -130,7 +130,7 @@ rows_with-less f before (m ∷ xs) (suc i) within =
     (ap (λ (n : ℕ). map (λ row. remove row n) (remove (rows_with f (before ++ m ∷ []) xs) i)) place
     ∙ rows_with-less f (before ++ m ∷ []) xs i (omega (arith, within)))
 
--- without the one at a place, the rows are those that are left, each without what it comes to with that one
+-- without the one at a place, the rows are those that are left, each without the result with that one
 pub rows_with-left : {X Y : Type 0} (f : X → X → Y) (xs : List X) (i : ℕ) → i < length xs →
     rows_with f [] (remove xs i) ≡ map (λ row. remove row i) (remove (rows_with f [] xs) i)
 rows_with-left f xs i within =
@@ -152,7 +152,7 @@ known-agrees k w is holds =
     let P : List (List Bout) → Type 0 = λ rows. Agree (kept_results (entries_of (enlarged (hill_in k) w)) rows) (fights k.settings) (enlarged (hill_in k) w) in
     subst P (sym (enlarged-true k w holds)) (fought-looked k.settings (enlarged (hill_in k) w) (enlarged-rising (hill_in k) w is.hill))
 
--- a verdict by what is kept is that of every pair fought anew
+-- a verdict by what is kept is that of every pair fought again
 pub true-verdict : (k : Kept) (w : WarriorParts) → IsKept k → AreTrue k → verdict_kept k w ≡ verdict (hill_in k) w
 true-verdict k w is holds = verdict_by-agree (known k w) (fights k.settings) (fresh k w) (hill_in k) w (known-agrees k w is holds)
 
@@ -214,6 +214,6 @@ still-true k w is holds =
     either-true (stays_by (known k w) (hill_in k) w) (kept_stay k w (falling_by (known k w) (hill_in k) w)) (kept_fall k)
     (true-stay k w (falling_by (known k w) (hill_in k) w) is holds) holds
 
--- a step by what is kept is that of every pair fought anew
+-- a step by what is kept is that of every pair fought again
 pub true-step : (k : Kept) (w : WarriorParts) → IsKept k → AreTrue k → hill_in (step_kept k w) ≡ step (hill_in k) w
 true-step k w is holds = hill-step k w ∙ step_by-agree (known k w) (fights k.settings) (hill_in k) w (known-agrees k w is holds)

@@ -1,4 +1,4 @@
--- The first kept result that is not what its match comes to.
+-- The first kept result that is not the result of its match.
 use Rattle.std.proofs.Common.{◌≡◌, ℕ, ◌+◌, ◌<◌, List, [], ◌∷◌, length, map, take, get_or, refl, sym, ap, ap₂, subst, ◌∙◌, arith, suc, zero, Option, None, Some, slice_get}
 use Rattle.std.specs.Option.{option_map}
 use Rattle.std.proofs.lemmas.List.{length-map, length-take, take-map}
@@ -84,7 +84,7 @@ module _ (k : Kept) (p n : ℕ) (older younger : Member) (row fought : List Bout
       ∙ slice_get-same row fought i p (places-rise 0 k.members i p (get_or k.members i older) older at.is.hill.rising one.0 older_is (omega (arith, less, one.1, of_older))) first.before
       ∙ sym (ap (λ (r : Option (List Bout)). result_in r i) at.fought_is)
 
-  -- and before it all are, where the rows so far are true
+  -- and before it all are, if the rows so far are true
   pub first-before : take n k.results ≡ take n matches → AreTrueBefore k older_entry younger_entry
   first-before before = record {
     youngers = λ o y less. same-looked k.results matches (place_of (entries_of k.members) o) (place_of (entries_of k.members) y) (λ j there. rows-same y j less before there);

@@ -34,11 +34,11 @@ older_points b = 3 * b.older_wins + b.ties
 abbrev pub younger_points : Bout → ℕ
 younger_points b = 3 * b.younger_wins + b.ties
 
--- what the match of two came to: the entry and the warrior of the older, then those of the younger
+-- the result of a match: the entry and the warrior of the older, then those of the younger
 abbrev pub Results : Type 0
 Results = ℕ → WarriorParts → ℕ → WarriorParts → Bout
 
--- every pair fought anew
+-- every pair fought again
 abbrev pub fights : RawSettings → Results
 fights s older_entry older younger_entry younger = match_of s older younger
 
@@ -56,17 +56,17 @@ points f (m ∷ ms) e = points_against f e m + points f ms e
 abbrev pub AllFit : RawSettings → List Member → Type 0
 AllFit s ms = All (λ m. Fits s m.warrior) ms
 
--- entries rise from one to the next, behind the entry of one before them
+-- entries rise from one to the next, and from an entry before them
 abbrev pub RiseFrom : ℕ → List Member → Type 0
 RiseFrom before [] = Unit {0}
 RiseFrom before (m ∷ ms) = (before < m.entry) × RiseFrom m.entry ms
 
--- the entry of the last, or one before all of them where there is none
+-- the entry of the last, or one before all of them if there is none
 abbrev pub last_entry_from : ℕ → List Member → ℕ
 last_entry_from before [] = before
 last_entry_from before (m ∷ ms) = last_entry_from m.entry ms
 
--- the entry of the last, 0 where there is none
+-- the entry of the last, 0 if there is none
 abbrev pub last_entry : List Member → ℕ
 last_entry ms = last_entry_from 0 ms
 

@@ -39,7 +39,7 @@ rows_of es = map (λ e. e.bouts) es
 
 -- ---- what is true
 
--- what each of these comes to with all before it: a row for each
+-- the results of each of these with all before it: a row for each
 abbrev pub rows_with : {X Y : Type 0} → (X → X → Y) → List X → List X → List (List Y)
 rows_with f before [] = []
 rows_with f before (x ∷ xs) = map (λ older. f older x) before ∷ rows_with f (before ++ x ∷ []) xs
@@ -48,7 +48,7 @@ rows_with f before (x ∷ xs) = map (λ older. f older x) before ∷ rows_with f
 abbrev pub fought_from : RawSettings → List Member → List Member → List (List Bout)
 fought_from s before ms = rows_with (λ older younger. match_of s older.warrior younger.warrior) before ms
 
--- a hill with every pair fought anew
+-- a hill with every pair fought again
 abbrev pub fought : Hill → Kept
 fought h = kept_of h.settings h.counter h.members (fought_from h.settings [] h.members)
 
@@ -58,7 +58,7 @@ AreTrue k = k.results ≡ fought_from k.settings [] k.members
 
 -- ---- what is kept
 
--- at a place of a row, where it has so many
+-- at a place of a row, if the row is that long
 abbrev pub result_in : Option (List Bout) → ℕ → Option Bout
 result_in None i = None
 result_in (Some row) i = slice_get row i
@@ -94,7 +94,7 @@ table_kept k = table_by (kept_results (entries_of k.members) k.results) k.member
 
 -- ---- what is not true
 
--- what is kept of two entries is what their match comes to, or there is none of either
+-- what is kept of two entries is the result of their match, or there is none of either
 abbrev pub IsTrueOf : Kept → ℕ → ℕ → Type 0
 IsTrueOf k older younger = result_of (entries_of k.members) k.results older younger ≡ result_of (entries_of k.members) (fought_from k.settings [] k.members) older younger
 

@@ -54,9 +54,9 @@ pub record WasAged (h : Hill) (w : WarriorParts) (m : Member) : Type 0 where
   pub warrior : m.warrior ≡ before.warrior
   pub age : m.age ≡ before.age + (if stays h w then 1 else 0)
 
--- who falls where the challenger comes
+-- who falls when the challenger comes
 pub record LeastFalls (h : Hill) (w : WarriorParts) (falls : Option ℕ) : Type 0 where
-  -- where there is room nobody
+  -- nobody, if there is room
   pub room : length h.members < h.settings.capacity → falls ≡ None
   -- and else the last of the lowest
   pub full : h.settings.capacity ≤ length h.members → falls ≡ None → ⊥
@@ -64,7 +64,7 @@ pub record LeastFalls (h : Hill) (w : WarriorParts) (falls : Option ℕ) : Type 
 
 -- who is on the hill after the challenger
 pub record OthersStay (h : Hill) (w : WarriorParts) (new : Hill) : Type 0 where
-  -- the challenger, or one that was on it before, one older exactly where the challenger stays
+  -- the challenger, or one that was on it before, one older exactly if the challenger stays
   pub ages : (m : Member) → In m new.members → (m ≡ challenger h w) ⊎ WasAged h w m
   -- and all who were on it before and don't fall
   pub keeps : (m : Member) → In m h.members → (falling h w ≡ Some m.entry → ⊥) → In (with_age (m.age + (if stays h w then 1 else 0)) m) new.members

@@ -1,4 +1,4 @@
--- One step of a hill: a challenger fights all on it, and the lowest falls where they are too many.
+-- One step of a hill: a challenger fights all on it, and the lowest falls if they are too many.
 use Rattle.std.specs.Prelude.{ℕ, ◌+◌, ◌==◌, Bool, true, false, nat_lt, if◌then◌else◌, List, [], ◌∷◌, ◌++◌, length, map, Option, Some, None}
 use Rattle.war_types.specs.declared.settings.RawSettings.{RawSettings}
 use Rattle.war_types.specs.Warrior.{WarriorParts}
@@ -16,7 +16,7 @@ challenger h w = record { entry = h.counter + 1; age = 0; warrior = w }
 abbrev pub enlarged : Hill → WarriorParts → List Member
 enlarged h w = h.members ++ challenger h w ∷ []
 
--- the entry that falls, where they are more than the hill holds: the one of least points, among equals the one that entered last
+-- the entry that falls, if they are more than the hill holds: the one of least points, among equals the one that entered last
 abbrev pub falling_by : Results → Hill → WarriorParts → Option ℕ
 falling_by f h w =
     if nat_lt h.settings.capacity (length (enlarged h w)) then last_among (scores_of f (enlarged h w)) (scores_of f (enlarged h w)) else None
@@ -72,7 +72,7 @@ fallen_verdict f bouts h w fallen =
 unfoldable pub verdict_by : Results → List Bout → Hill → WarriorParts → Verdict
 verdict_by f bouts h w = if stays_by f h w then placed_verdict f bouts h w (falling_by f h w) else fallen_verdict f bouts h w (falling_by f h w)
 
--- ---- every pair fought anew
+-- ---- every pair fought again
 
 -- the matches of a warrior with each of these, who are older
 abbrev pub matches_with : RawSettings → List Member → WarriorParts → List Bout

@@ -22,7 +22,7 @@ rows_of_rank all r [] xs = []
 rows_of_rank all r (m ∷ ms) [] = []
 rows_of_rank all r (m ∷ ms) (x ∷ xs) = if rank_among all x == r then row_with x.points m ∷ rows_of_rank all r ms xs else rows_of_rank all r ms xs
 
--- the rows of so many ranks from one on
+-- the rows of a number of ranks from one on
 abbrev pub rows_by_rank : List Score → List Member → ℕ → ℕ → List RowParts
 rows_by_rank all ms r zero = []
 rows_by_rank all ms r (suc n) = rows_of_rank all r ms all ++ rows_by_rank all ms (r + 1) n
@@ -31,6 +31,6 @@ rows_by_rank all ms r (suc n) = rows_of_rank all r ms all ++ rows_by_rank all ms
 abbrev pub table_by : Results → List Member → List RowParts
 table_by f ms = rows_by_rank (scores_of f ms) ms 1 (length ms)
 
--- the table of a hill: every pair fought anew
+-- the table of a hill: every pair fought again
 unfoldable pub table : Hill → List RowParts
 table h = table_by (fights h.settings) h.members

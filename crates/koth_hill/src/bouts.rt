@@ -74,7 +74,7 @@ impl Bouts {
         }
     }
 
-    /// Takes out the result at a place, where there is one.
+    /// Takes out the result at a place, if there is one.
     pub(crate) fn forget(&mut self, place: Option<usize>)
         ensures { self.new ≡ without_place place self.old }
     {

@@ -8,7 +8,7 @@ use crate::member::Entrant;
 use crate::points::is_entry;
 use std::alloc::Allocator;
 
-/// The place of the one that falls, where it is one of these.
+/// The index of the member that falls, if it is one of these.
 pub(crate) fn place_of<A: Allocator>(members: &[Entrant<A>], falls: Option<u64>) -> Option<usize>
     ensures { result ≡ position (λ e. is_entry e.member.entry falls) members.now }
 {

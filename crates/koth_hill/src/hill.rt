@@ -27,8 +27,8 @@ use std::alloc::{AllocError, Allocator};
 use std::marker::Model;
 use war_types::{Settings, Warrior};
 
-/// A hill: its settings, how many warriors were ever judged, and the warriors on it, by their entries, each with the results of its
-/// matches with those that entered before it. A challenger fights its own matches and no others, and a table none. Only `new`,
+/// A hill: its settings, the number of warriors that were ever judged, and the warriors on it, by their entries. Each has the results of
+/// its matches with those that entered before it. A challenger fights its own matches and no others, and a table none. Only `new`,
 /// `with_counter` and `rows` take memory.
 #[derive(Debug, Drop)]
 pub struct Hill<A: Allocator> {
@@ -49,14 +49,14 @@ impl<A: Allocator> Model for Hill<A> {
 }
 
 impl<A: Allocator> Hill<A> {
-    /// A hill without warriors. It takes the memory for as many as the hill holds and one more.
+    /// A hill without warriors. It takes the memory for the hill's capacity and one more.
     pub fn new(alloc: A, settings: Settings) -> Result<Hill<A>, AllocError>
         ensures { IfOk result (λ hill. hill ≡ new_kept settings 0) }
     {
         Hill::with_counter(alloc, settings, 0)
     }
 
-    /// A hill without warriors, on which so many were judged already, as `put_back` asks for.
+    /// A hill without warriors, on which `counter` were judged already, as `put_back` asks for.
     pub fn with_counter(alloc: A, settings: Settings, counter: u64) -> Result<Hill<A>, AllocError>
         ensures { IfOk result (λ hill. hill ≡ new_kept settings counter) }
     {
@@ -68,7 +68,7 @@ impl<A: Allocator> Hill<A> {
         })
     }
 
-    /// How many warriors were ever judged and then admitted or passed.
+    /// The number of warriors that were ever judged and then admitted or passed.
     pub fn counter(&self) -> u64
         ensures value { result ≡ self.now.counter }
         ensures hill { IsKept self.now }
@@ -76,7 +76,7 @@ impl<A: Allocator> Hill<A> {
         self.counter
     }
 
-    /// How many warriors are on the hill, at most its capacity.
+    /// The number of warriors on the hill, at most its capacity.
     pub fn len(&self) -> usize
         ensures value { result ≡ length self.now.members }
         ensures hill { IsKept self.now }
@@ -92,7 +92,7 @@ impl<A: Allocator> Hill<A> {
         &self.settings
     }
 
-    /// The warrior at place `i` of those on the hill, by rising entry; `None` past them.
+    /// The warrior at index `i` of those on the hill, by rising entry; `None` past them.
     pub fn member(&self, i: usize) -> Option<Member<'_, A>>
         ensures value { result ≡ slice_get self.now.members i }
         ensures hill { IsKept self.now }
@@ -103,7 +103,7 @@ impl<A: Allocator> Hill<A> {
         }
     }
 
-    /// The results kept of the warrior at place `i` with those that entered before it, by rising entry. There has to be one at that place.
+    /// The results kept of the warrior at index `i` with those that entered before it, by rising entry.
     pub fn bouts(&self, i: usize) -> &[Bout]
         requires { i < length self.now.members }
         ensures value { slice_get self.now.results i ≡ Some result.now }
@@ -112,8 +112,7 @@ impl<A: Allocator> Hill<A> {
         self.members[i].bouts().as_slice()
     }
 
-    /// The result kept of two warriors on the hill, by their entries; `None` where they aren't both on it, the first entered before the
-    /// other.
+    /// The result kept of two warriors on the hill, by their entries; `None` unless both are on it, the first entered before the other.
     pub fn bout(&self, older_entry: u64, younger_entry: u64) -> Option<Bout>
         ensures { result ≡ result_of (entries_of self.now.members) self.now.results older_entry younger_entry }
     {
@@ -121,8 +120,7 @@ impl<A: Allocator> Hill<A> {
         result_of(standings.as_slice(), older_entry, younger_entry)
     }
 
-    /// What becomes of a challenger. Its own matches are fought in the arena, of all others the results are there, and nothing visible
-    /// changes.
+    /// What becomes of a challenger. Its own matches are fought in the arena; the results of all others are there. Nothing visible changes.
     pub fn judge<B: Allocator, C: Allocator>(
         &mut self,
         arena: &mut Arena<B>,
@@ -185,7 +183,7 @@ impl<A: Allocator> Hill<A> {
         self.counter = judged.entry;
     }
 
-    /// Puts a warrior behind those on the hill, with the entry and the age that it had, and the results of its matches with them, by
+    /// Puts a warrior after those on the hill, with the entry and the age that it had, and the results of its matches with them, by
     /// their rising entries.
     pub fn put_back(&mut self, entry: u64, age: u64, warrior: Warrior<A>, bouts: &[Bout])
         requires room { length self.old.members < self.old.settings.capacity }
@@ -210,7 +208,7 @@ impl<A: Allocator> Hill<A> {
         rows_of(alloc, self.members.as_slice())
     }
 
-    /// The first result that is not what the match comes to when it is fought anew in the arena, by the younger's entry and then the
+    /// The first result that is not the one that the match gives when it is fought again in the arena, by the younger's entry and then the
     /// older's. No memory is taken.
     pub fn first_untrue<B: Allocator>(&self, arena: &mut Arena<B>) -> Option<Untrue>
         requires { arena.old.settings ≡ self.now.settings }
@@ -236,7 +234,7 @@ impl<A: Allocator> Hill<A> {
         None
     }
 
-    /// Whether each result is what the match comes to when it is fought anew in the arena.
+    /// Whether each result is the one that the match gives when it is fought again in the arena.
     pub fn audit<B: Allocator>(&self, arena: &mut Arena<B>) -> bool
         requires { arena.old.settings ≡ self.now.settings }
         ensures value { (result ≡ true → AreTrue self.now) × (AreTrue self.now → result ≡ true) }

@@ -24,7 +24,7 @@ pub(crate) fn judged(standings: &[Standing<'_>], capacity: usize, own: Standing<
     }
 }
 
-/// The entry that falls, where there are more than the hill holds.
+/// The entry that falls, if there are more than the hill holds.
 fn falling(standings: &[Standing<'_>], capacity: usize) -> Option<u64>
     requires rounds { HaveRounds (map standing_parts standings.now) }
     requires few { length standings.now ≤ 21 }

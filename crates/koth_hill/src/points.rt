@@ -10,7 +10,7 @@ use crate::score::{Score, Scores};
 use crate::standings::Standing;
 use koth_match::Bout;
 
-/// The result of two entries; `None` where there is none.
+/// The result of two entries; `None` if there is none.
 pub(crate) fn result_of(standings: &[Standing<'_>], older: u64, younger: u64) -> Option<Bout>
     ensures { result ≡ result_in_standings (map standing_parts standings.now) older younger }
 {

@@ -1,4 +1,4 @@
-//! Those whose results make the scores: all on a hill, and a challenger behind them.
+//! The warriors whose results make the scores: all on a hill, and a challenger after them.
 
 ghost use Rattle.std.specs.Prelude.{◌≡◌, ◌<◌, ◌≤◌, ◌++◌, ◌∷◌, [], length, map};
 ghost use Rattle.koth_hill.specs.Standings.{standing_of, standing_parts};
@@ -50,7 +50,7 @@ impl<'h> Standings<'h> {
         standings
     }
 
-    /// Those of a hill, and a challenger behind them.
+    /// The warriors of a hill, and a challenger after them.
     pub(crate) fn with<A: Allocator>(
         members: &'h [Entrant<A>],
         challenger: Standing<'h>,

@@ -13,7 +13,7 @@ use crate::score::{Score, rank_among};
 use crate::standings::Standings;
 use std::alloc::{AllocError, Allocator};
 
-/// The rows of these members by rank. An error is want of memory.
+/// The rows of these members by rank. An error is lack of memory.
 pub(crate) fn rows_of<'h, A: Allocator, B: Allocator>(
     alloc: A,
     members: &'h [Entrant<B>],
@@ -31,7 +31,7 @@ pub(crate) fn rows_of<'h, A: Allocator, B: Allocator>(
     Ok(rows)
 }
 
-/// Appends the rows of those of one rank, each member having its score at its own place.
+/// Appends the rows of the members of one rank. Each member has its score at its own index of `scores`.
 fn push_rank<'h, A: Allocator, B: Allocator>(
     rows: &mut Vec<Row<'h>, A>,
     members: &'h [Entrant<B>],

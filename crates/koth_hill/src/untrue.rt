@@ -2,7 +2,7 @@
 
 use koth_match::Bout;
 
-/// A result that is kept of two warriors, by their entries, and is not what their match comes to.
+/// A kept result of two warriors, by their entries, that is not the result of their match.
 #[derive(Clone, Copy, Debug, PartialEq, Eq)]
 pub struct Untrue {
     /// The entry of the older warrior.
@@ -11,6 +11,6 @@ pub struct Untrue {
     pub younger: u64,
     /// What is kept of the two.
     pub kept: Bout,
-    /// What their match comes to.
+    /// The result of their match.
     pub fought: Bout,
 }

@@ -12,11 +12,11 @@ pub struct Verdict {
     pub entry: u64,
     /// Whether it stays on the hill.
     pub stays: bool,
-    /// The entry that falls, the challenger's own where it does not stay; `None` where the hill has room.
+    /// The entry that falls, the challenger's own if it does not stay; `None` if the hill has room.
     pub falls: Option<u64>,
-    /// Its points: on the hill as it is then, where it stays, and against all on the hill, where it falls.
+    /// Its points: on the hill as it is then, if it stays, and against all on the hill, if it falls.
     pub score: u32,
-    /// Its rank on the hill as it is then, from 1 on, and 0 where it falls.
+    /// Its rank on the hill as it is then, from 1 on, and 0 if it falls.
     pub rank: u32,
     pub(crate) bouts: Bouts,
 }

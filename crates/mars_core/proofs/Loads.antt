@@ -17,14 +17,14 @@ IsCore-blank size core new h is = rw (is, h.length) (record {
   numbers = All-replicate (HasNumbersBelow size) size blank (record { a = h.some; b = h.some });
 })
 
--- the next instruction of a code is put behind those before it
+-- the next instruction of a code is put after those before it
 pub paste-put : (core code before new : List Instr) (size at from n : ℕ) (i d : Instr) → IsCore size core → at + length code ≤ size → n < length code →
     before ≡ paste core at code n → from ≡ at → i ≡ get_or code n d → new ≡ set before (from + n) i → new ≡ paste core at code (n + 1)
 paste-put core code before new size at from n i d h inside below is_before is_from is_i is_new =
     let within : at + n < length core = omega (arith, h.length) in
     rw (is_new, is_before, is_from, is_i) (paste_more core at code n d within below)
 
--- behind the first code there are blank cells up to the second code, under it, and behind it
+-- after the first code there are blank cells up to the second code, under it, and after it
 blanks : (code0 : List Instr) (size at n : ℕ) → length code0 ≤ at → at + n ≤ size →
     code0 ++ drop (length code0) (replicate size blank) ≡ (code0 ++ replicate (at - length code0) blank) ++ (replicate n blank ++ replicate (size - (at + n)) blank)
 blanks code0 size at n apart inside =

@@ -23,12 +23,12 @@ count_by-set_more : (p : ℕ → Bool) (xs : List ℕ) (i y : ℕ) → i < lengt
 count_by-set_more p xs i y inside passes before =
     omega (arith, count_by-set p xs i y inside passes, cond-false {A = ℕ} (p (get_or xs i 0)) 1 0 before)
 
--- where one doesn't pass, but another would, fewer pass than there are
+-- if one doesn't pass, but another would, fewer pass than there are
 count_by-lt : (p : ℕ → Bool) (xs : List ℕ) (i y : ℕ) → i < length xs → p y ≡ true → p (get_or xs i 0) ≡ false → count_by p xs < length xs
 count_by-lt p xs i y inside passes before =
     omega (arith, count_by-set_more p xs i y inside passes before, count_by-le-length p (set xs i y), length-set xs i y)
 
--- where none passes
+-- if none passes
 count_by-none : (p : ℕ → Bool) (xs : List ℕ) → All (λ x. p x ≡ false) xs → count_by p xs ≡ 0
 count_by-none p [] h = refl
 count_by-none p (x ∷ xs) h =
@@ -53,7 +53,7 @@ module _ (p : ℕ → Bool) (cells written : List ℕ) where
         | inr other ↦ h k within (ap p (sym (get_or-set_other cells at k bits 0 other)) ∙ passes)
       ]
 
-  -- a write into another, which is listed behind the others
+  -- a write into another, which is listed after the others
   AllListed-push : (count at bits : ℕ) → count < length written → AllListed p cells written 0 count → AllListed p (set cells at bits) (set written count at) 0 (count + 1)
   AllListed-push count at bits room h k inside passes =
       let within : k < length cells = omega (arith, length-set cells at bits) in
@@ -86,7 +86,7 @@ module _ (p : ℕ → Bool) (cells written : List ℕ) where
             (l.0, omega (arith, l.1), l.2, l.3)
       ]
 
-  -- where no place is left none passes
+  -- if no place is left, none passes
   AllListed-none : (first last : ℕ) → last ≤ first → AllListed p cells written first last → All (λ x. p x ≡ false) cells
   AllListed-none first last none h =
       All-from_get_or (λ x. p x ≡ false) cells 0 (λ k inside. false_from_ne_true (p (get_or cells k 0)) (λ passes. let l = h k inside passes in omega (arith, l.1, l.2)))
@@ -120,7 +120,7 @@ AreCells-set cells written count at bits h inside word m before = record {
   as_many = h.as_many ∙ sym (count_by-set_kept is_marked cells at bits inside m before);
 }
 
--- and into one that isn't, whose address goes behind those of the list
+-- and into one that isn't, whose address goes to the end of the list
 pub AreCells-push : (cells written : List ℕ) (count at bits : ℕ) → AreCells cells written count → at < length cells → IsWord bits → is_marked bits ≡ true →
     is_marked (get_or cells at 0) ≡ false → AreCells (set cells at bits) (set written count at) (count + 1)
 AreCells-push cells written count at bits h inside word m before =
@@ -195,7 +195,7 @@ HasNumbersBelow-cell size at core i h below is =
     let inside : at < length core = omega (arith, h.length) in
     subst (HasNumbersBelow size) (sym is) (All-get_or (HasNumbersBelow size) core at blank inside h.numbers)
 
--- what a word that was read tells of the mark
+-- the mark of a word that was read
 pub is_marked-read : (cells : List ℕ) (at bits : ℕ) (word : Word) (result b : Bool) → at < length cells → bits ≡ get_or cells at bits → word ≡ word_in bits → result ≡ word.is_marked → result ≡ b →
     is_marked (get_or cells at 0) ≡ b
 is_marked-read cells at bits word result b inside read is tells told =

@@ -25,7 +25,7 @@ instr op modifier a_mode a b_mode b = record { op = op; modifier = modifier; a_m
 abbrev dat : ℕ → ℕ → Instr
 dat a b = instr ops.Dat modifiers.F modes.Direct a modes.Direct b
 
--- cells from 0, and none loaded behind them
+-- cells from 0, and none loaded after them
 abbrev core_of : List Instr → List Instr
 core_of cells = cells ++ replicate (64 - length cells) blank
 
@@ -196,7 +196,7 @@ warrior_of i = warrior_parts (i ∷ []) 0 [] []
 abbrev stay : Instr
 stay = instr ops.Jmp modifiers.B modes.Direct 0 modes.Direct 0
 
--- a round of two short warriors, the second at 10, after so many turns
+-- a round of two short warriors, the second at 10, after `n` turns
 abbrev round_of : Instr → Instr → ℕ → Round
 round_of first second turns = after_turns turns (opening small (warrior_of first) (warrior_of second) 10 sides.First)
 
@@ -222,7 +222,7 @@ nobody_dies-used : (round_of stay stay 5).used ≡ 5
 unfolding operand effect executed side_turn after_turn after_turns
 nobody_dies-used = refl
 
--- SPL.B $5,$0, where the side may have one process
+-- SPL.B $5,$0, if the side may have one process
 one_process : (after_turn (record { settings = (record small { processes = 1 }); core = core_of (instr ops.Spl modifiers.B modes.Direct 5 modes.Direct 0 ∷ []); first = 0 ∷ []; second = 63 ∷ []; to_move = sides.First; used = 0 })).first ≡ 1 ∷ []
 unfolding operand effect executed side_turn after_turn
 one_process = refl

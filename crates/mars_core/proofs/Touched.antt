@@ -61,7 +61,7 @@ cell-put P (y ∷ core) zero (suc at) x new old = old
 cell-put P (y ∷ core) (suc i) zero x new old = old
 cell-put P (y ∷ core) (suc i) (suc at) x new old = cell-put P core i at x (λ e. new (ap suc e)) old
 
--- a number of an instruction of which one is raised, or lowered
+-- a number of an instruction, after one of its numbers is raised, or lowered
 raised-number : (P : ℕ → Type 0) (size : ℕ) (field f : Field) (i : Instr) → P (number f i) → P (plus size (number f i) 1) → P (number f (raised size field i))
 raised-number P size Field.A Field.A i same more = more
 raised-number P size Field.A Field.B i same more = same
@@ -74,7 +74,7 @@ lowered-number P size Field.A Field.B i same less = same
 lowered-number P size Field.B Field.A i same less = same
 lowered-number P size Field.B Field.B i same less = less
 
--- and one of a cell, in a core of which one is raised, or lowered
+-- and a number of a cell, after one number of the core is raised, or lowered
 module _ (P : ℕ → Type 0) (size : ℕ) (core : List Instr) (i at : ℕ) (field f : Field) (same : P (number f (cell core at))) where
   raised_at-number : P (plus size (number f (cell core at)) 1) → P (number f (cell (raised_at size core i field) at))
   raised_at-number more =
@@ -98,7 +98,7 @@ by_mode-number P reach core pc at modes.BPre p f same more less = lowered_at-num
 by_mode-number P reach core pc at modes.APost p f same more less = raised_at-number P reach.size core (plus reach.size pc p.write) at Field.A f same more
 by_mode-number P reach core pc at modes.BPost p f same more less = raised_at-number P reach.size core (plus reach.size pc p.write) at Field.B f same more
 
--- where a pointer leads on by a number, counted from an instruction
+-- the address to which a pointer leads on by a number, counted from an instruction
 abbrev pub on_by : ℕ → ℕ → ℕ → ℕ → ℕ → ℕ
 on_by size write pc pointer n = plus size pc (folded size write (pointer + n))
 

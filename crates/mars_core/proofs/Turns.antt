@@ -23,7 +23,7 @@ queue_at sides.Second first second = second
 abbrev pub without_front : Processes → Processes
 without_front q = processes q.limit (behind_front q.addresses)
 
--- a side's turn leaves of its own queue the processes behind the front one and what is queued behind them, and of the other's all
+-- a side's turn leaves of its own queue the processes after the front one and what is queued after them, and of the other's all
 pub record AreQueuesAfter (m : Side) (more : List ℕ) (first second first' second' : Processes) : Type 0 where
   pub own : queue_at m first' second' ≡ queued (without_front (queue_at m first second)) more
   pub others : queue_at (other m) first' second' ≡ queue_at (other m) first second
@@ -51,7 +51,7 @@ behind_front-short : (xs : List ℕ) (limit : ℕ) → length xs ≤ limit → l
 behind_front-short [] limit h = h
 behind_front-short (x ∷ xs) limit h = omega arith
 
--- where nothing is queued, the processes behind the front one are left
+-- if nothing is queued, the processes after the front one are left
 pub queued_nothing : (q p : Processes) → length q.addresses ≤ q.limit → p ≡ without_front q → p ≡ queued (without_front q) []
 queued_nothing q p room e =
     let rest = behind_front q.addresses in
@@ -84,7 +84,7 @@ pub limits_kept : (m : Side) (more : List ℕ) (first second first' second' : Pr
 limits_kept sides.First more first second first' second' h = (ap (λ (p : Processes). p.limit) h.own, ap (λ (p : Processes). p.limit) h.others)
 limits_kept sides.Second more first second first' second' h = (ap (λ (p : Processes). p.limit) h.others, ap (λ (p : Processes). p.limit) h.own)
 
--- where the side's own queue has a process left, both still have one
+-- if the side's own queue has a process left, both still have one
 pub both_live : (m : Side) (more : List ℕ) (first second first' second' : Processes) → is_empty first.addresses ≡ false → is_empty second.addresses ≡ false → AreQueuesAfter m more first second first' second' →
     is_empty (queue_at m first' second').addresses ≡ false → (is_empty first'.addresses ≡ false) × (is_empty second'.addresses ≡ false)
 both_live sides.First more first second first' second' f g h own = (own, ap (λ (p : Processes). is_empty p.addresses) h.others ∙ g)
@@ -118,7 +118,7 @@ is_over-used false false m n h = grind (arith, nat_tests)
 pub both_sides_live : (r : Round) → is_over r ≡ false → (is_empty r.first ≡ false) × (is_empty r.second ≡ false) × (r.used < 2 * r.settings.cycles)
 both_sides_live r o = is_over-parts (is_empty r.first) (is_empty r.second) (2 * r.settings.cycles) r.used o
 
--- a round is over where the queue of a side is empty
+-- a round is over if the queue of a side is empty
 pub over-empty : (m : Side) (s : RawSettings) (core : List Instr) (first second : Processes) (next : Side) (used : ℕ) → is_empty (queue_at m first second).addresses ≡ true →
     is_over (round_in s core first.addresses second.addresses next used) ≡ true
 over-empty sides.First s core first second next used e = is_over-first (is_empty first.addresses) (is_empty second.addresses) (leb (2 * s.cycles) used) e

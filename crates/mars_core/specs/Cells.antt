@@ -1,4 +1,4 @@
--- Cells, and sums and differences in a core of so many cells.
+-- Cells, and sums and differences in a core of `size` cells.
 use Rattle.std.specs.Prelude.{ℕ, ◌+◌, ◌-◌, ◌%◌, ◌≤◌, ◌≡◌, List, length, slice_index_or, All}
 use Rattle.war_types.specs.declared.instr.Op.TheVariants as ops
 use Rattle.war_types.specs.declared.instr.Modifier.TheVariants as modifiers
@@ -40,7 +40,7 @@ raised size field i = with_number field (plus size (number field i) 1) i
 abbrev pub lowered : ℕ → Field → Instr → Instr
 lowered size field i = with_number field (minus size (number field i) 1) i
 
--- a core of so many cells, each number in it below that
+-- a core of `size` cells, each number in it below `size`
 pub record IsCore (size : ℕ) (core : List Instr) : Type 0 where
   pub some : 1 ≤ size
   pub length : length core ≡ size

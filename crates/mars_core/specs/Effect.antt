@@ -30,7 +30,7 @@ pub data Arithmetic : Type 0 where
   Quotient : Arithmetic
   Remainder : Arithmetic
 
--- y, of the B operand, with x, of the A operand; nothing where y is to be divided by 0
+-- y, of the B operand, with x, of the A operand; nothing for a division by 0
 abbrev pub combined : ℕ → Arithmetic → ℕ → ℕ → Option ℕ
 combined size Arithmetic.Sum y x = Some (plus size y x)
 combined size Arithmetic.Difference y x = Some (minus size y x)
@@ -46,7 +46,7 @@ abbrev pub with_value : Field → Option ℕ → Instr → Instr
 with_value field None target = target
 with_value field (Some n) target = with_number field n target
 
--- each target field is the value of its pair, where it has one
+-- each target field is the value of its pair, if it has one
 abbrev pub calculated : ℕ → Arithmetic → Instr → Instr → List Pair → Instr → Instr
 calculated size arithmetic a b [] target = target
 calculated size arithmetic a b (p ∷ ps) target = calculated size arithmetic a b ps (with_value p.target (value size arithmetic a b p) target)
@@ -102,7 +102,7 @@ next size pc = plus size pc 1 ∷ []
 abbrev pub skip_where : ℕ → ℕ → Bool → List ℕ
 skip_where size pc test = plus size pc (if test then 2 else 1) ∷ []
 
--- the A pointer is queued, elsewhere the next instruction
+-- the A pointer is queued if the test holds, and else the next instruction
 abbrev pub jump_where : ℕ → ℕ → Operand → Bool → List ℕ
 jump_where size pc a test = (if test then a.pointer else plus size pc 1) ∷ []
 
@@ -113,7 +113,7 @@ target b core = cell core b.target
 abbrev pub put : Operand → Instr → List Instr → List Instr
 put b i core = slice_set core b.target i
 
--- the process ends where a pair has no value
+-- the process ends if a pair has no value
 abbrev pub calculates : ℕ → ℕ → Arithmetic → Modifier → Operand → Operand → List Instr → Effect
 calculates size pc arithmetic m a b core =
     queues (put b (calculated size arithmetic a.register b.register (pairs m) (target b core)) core)

@@ -12,7 +12,7 @@ pub record Reach : Type 0 where
   pub read : ℕ
   pub write : ℕ
 
--- the draft's "Fold": a pointer within a limit leads half of it ahead, and the rest behind
+-- the draft's "Fold": a pointer within a limit leads at most half of it forwards, and the rest backwards
 abbrev pub folded : ℕ → ℕ → ℕ → ℕ
 folded size limit pointer =
     let rest = pointer % limit in
@@ -37,7 +37,7 @@ led_on reach core pc field p =
     (folded reach.size reach.read (p.read + number field (cell core (plus reach.size pc p.read))))
     (folded reach.size reach.write (p.write + number field (cell core (plus reach.size pc p.write))))
 
--- what an operand comes to: the address that it reads, the one that it writes, and the instruction copied from the first
+-- a found operand: the address that it reads, the one that it writes, and the instruction copied from the first
 pub record Operand : Type 0 where
   pub pointer : ℕ
   pub target : ℕ

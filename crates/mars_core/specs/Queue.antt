@@ -3,7 +3,7 @@
 use Rattle.std.specs.Prelude.{◌≡◌, ℕ, ◌+◌, ◌<◌, ◌≤◌, Bool, true, false, List, [], ◌∷◌, ◌++◌, length, take, Some, None, Option}
 use Rattle.circular_buffer.specs.Buffer.{Buffer}
 
--- a queue is its addresses, front first, and how many it may hold
+-- a queue is its addresses, front first, and the number that it may hold
 pub record Processes : Type 0 where
   pub limit : ℕ
   pub addresses : List ℕ
@@ -23,12 +23,12 @@ abbrev pub behind_front : List ℕ → List ℕ
 behind_front [] = []
 behind_front (x ∷ xs) = xs
 
--- the processes in a front place, where one is there, and in a ring of those behind it; the front is one more than the ring may hold
+-- the front process, if there is one, and a ring of those after it; the queue may hold one more than the ring
 abbrev pub processes_in : Bool → ℕ → Buffer ℕ → Processes
 processes_in false front rest = processes (rest.capacity + 1) []
 processes_in true front rest = processes (rest.capacity + 1) (front ∷ rest.items)
 
--- what holds of the parts of a queue: where no process is in front, none is behind it
+-- what holds of the parts of a queue: without a front process the ring is empty
 pub record AreQueueParts (has_front : Bool) (front : ℕ) (rest : Buffer ℕ) : Type 0 where
   pub none : has_front ≡ false → rest.items ≡ []
   pub address : front ≤ 65535

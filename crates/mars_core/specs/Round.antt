@@ -64,7 +64,7 @@ pub record SideTurn : Type 0 where
 abbrev pub side_turned : List Instr → List ℕ → Turned → SideTurn
 side_turned core queue turned = record { core = core; queue = queue; turned = turned }
 
--- the front process is taken and executed, and what it queues goes behind the others as far as there is room
+-- the front process is taken and executed, and what it queues goes after the others as far as there is room
 unfoldable pub side_turn : Reach → ℕ → List Instr → List ℕ → SideTurn
 side_turn reach limit core [] = side_turned core [] turneds.Over
 side_turn reach limit core (pc ∷ rest) =
@@ -87,7 +87,7 @@ after_turn r = if is_over r then r else after_side r.to_move (turn_of r).core (t
 unfoldable pub turned : Round → Turned
 turned r = if is_over r then turneds.Over else (turn_of r).turned
 
--- so many turns
+-- a number of turns
 unfoldable pub after_turns : ℕ → Round → Round
 after_turns zero r = r
 after_turns (suc n) r = after_turns n (after_turn r)
@@ -124,7 +124,7 @@ opening s w0 w1 position first =
       used = 0;
     }
 
--- every address is one of the core, and there are at most so many
+-- every address is one of the core, and there are at most `limit`
 pub record IsQueue (size limit : ℕ) (queue : List ℕ) : Type 0 where
   pub room : length queue ≤ limit
   pub addresses : All (λ a. a < size) queue

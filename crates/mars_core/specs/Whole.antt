@@ -1,5 +1,5 @@
 -- Of the machine without limits: an operand reads and writes anywhere in the core, so one address stands for both pointers. The laws of limits say
--- that this is the definition where both limits are the core size.
+-- that this is the definition if both limits are the core size.
 use Rattle.std.specs.Prelude.{ℕ, List, [], ◌∷◌, ◌++◌, take}
 use Rattle.war_types.specs.declared.instr.Mode.{Mode}
 use Rattle.war_types.specs.declared.instr.Mode.TheVariants as modes

@@ -99,7 +99,7 @@ impl<A: Allocator> Arena<A> {
         self.turns(1)
     }
 
-    /// Makes turns until the round is over, at most twice the cycles, and tells who won.
+    /// Makes turns until the round is over, at most twice the cycles, and answers who won.
     pub fn play(&mut self) -> Outcome
         ensures over { is_over self.new ≡ true }
         ensures after { self.new ≡ after_turns (2 * self.old.settings.cycles - self.old.used) self.old }
@@ -113,7 +113,7 @@ impl<A: Allocator> Arena<A> {
         self.outcome()
     }
 
-    /// Makes so many turns, or fewer where the round is over before, and tells how the last one went.
+    /// Makes `most` turns, or fewer if the round is over before, and answers how the last one went.
     fn turns(&mut self, most: u32) -> Turned
         requires on { is_over self.old ≡ false }
         requires most { self.old.used + most ≤ 2 * self.old.settings.cycles }
@@ -130,8 +130,8 @@ impl<A: Allocator> Arena<A> {
         }
     }
 
-    /// Makes them under the settings' limits. Each kind of limits has its loop in a function of its own: as one function, the two loops would share the
-    /// processor's registers.
+    /// Makes them under the settings' limits. Each kind of limits has its loop in a function of its own. In one function, the two loops
+    /// would share the processor's registers.
     #[inline(never)]
     fn turns_under<L: Limits>(&mut self, limits: L, most: u32) -> Turned
         requires on { is_over self.old ≡ false }
@@ -155,7 +155,8 @@ impl<A: Allocator> Arena<A> {
         played.last
     }
 
-    /// The addresses of the cells that the next turn may change: all others keep what they hold. Some may be the same. `None` if the round is over.
+    /// The addresses of the cells that the next turn may change, some maybe twice. All other cells keep what they hold. `None` if the round
+    /// is over.
     pub fn touchable(&self) -> Option<[u16; 8]>
         ensures same { MatchOption result (is_over self.now ≡ true) (λ addresses. (is_over self.now ≡ false) × AreSameBut addresses self.now.core (after_turn self.now).core) }
         ensures addresses { IfSome result (λ addresses. All (λ a. a < self.now.settings.core) addresses) }
@@ -193,7 +194,7 @@ impl<A: Allocator> Arena<A> {
         }
     }
 
-    /// How many processes a side has, at most the settings' limit.
+    /// The number of a side's processes, at most the settings' limit.
     pub fn processes(&self, side: Side) -> u32
         ensures value { result ≡ length (queue_of side self.now) }
         ensures round { IsRound self.now }
@@ -204,7 +205,7 @@ impl<A: Allocator> Arena<A> {
         }
     }
 
-    /// The address of the process at place `i` of a side's queue, counted from the front.
+    /// The address of the process at index `i` of a side's queue, counted from the front.
     pub fn process(&self, side: Side, i: u32) -> Option<u16>
         ensures value { result ≡ slice_get (queue_of side self.now) i }
         ensures round { IsRound self.now }

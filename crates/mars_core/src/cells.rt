@@ -12,7 +12,7 @@ use std::alloc::{AllocError, Allocator};
 use std::marker::Model;
 use war_types::{Instr, Mode, Modifier, Op};
 
-/// What a cell holds that nothing was loaded into: `DAT.F $0,$0`.
+/// What a cell holds before anything is loaded into it: `DAT.F $0,$0`.
 const BLANK: Instr = Instr {
     op: Op::Dat,
     modifier: Modifier::F,
@@ -26,7 +26,7 @@ const BLANK: Instr = Instr {
 #[derive(Debug, Drop)]
 pub(crate) struct Core<A: Allocator> {
     cells: Vec<u64, A>,
-    /// In its first `count` places the addresses that were written, each once.
+    /// Its first `count` elements are the addresses that were written, each once.
     written: Vec<u16, A>,
     count: usize,
 }
@@ -44,7 +44,7 @@ impl<A: Allocator> Model for Core<A> {
 }
 
 impl<A: Allocator + Copy> Core<A> {
-    /// A core of so many blank cells.
+    /// A core of `size` blank cells.
     pub(crate) fn new(alloc: A, size: u16) -> Result<Core<A>, AllocError>
         ensures { IfOk result (λ c. c ≡ replicate size blank) }
     {
@@ -110,7 +110,7 @@ impl<A: Allocator> Core<A> {
     }
 }
 
-/// Puts an address behind the others of a list.
+/// Puts an address after the others of a list.
 #[cold]
 #[inline(never)]
 fn list(written: &mut [u16], count: &mut usize, at: u16)

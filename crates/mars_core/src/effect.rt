@@ -29,7 +29,7 @@ pub(crate) enum Queued {
     Two(u32, u32),
 }
 
-/// Executes the instruction at `pc` in a core of so many cells, of which operands reach so many: A is evaluated wholly before B.
+/// Executes the instruction at `pc` in a core of `size` cells, under `limits`. A is evaluated wholly before B.
 #[inline(always)]
 #[tactic(auto, unfolding(crate::specs::Round::executed))]
 pub(crate) fn execute<L: Limits, A: Allocator>(
@@ -51,8 +51,8 @@ pub(crate) fn execute<L: Limits, A: Allocator>(
     effect(core, size, limits, pc, i, a, b)
 }
 
-/// Executes an instruction that stands at `pc`, once its operands are evaluated, in a core of so many cells. It is passed the limits for the compiler
-/// alone: so each kind of them has one of its own, called from one place, which is written out there.
+/// Executes an instruction that stands at `pc`, once its operands are evaluated, in a core of `size` cells. The limits are for the
+/// compiler alone: each kind of them then has a copy of its own, which is called from one place and written out there.
 #[inline(always)]
 #[tactic(auto, unfolding(crate::specs::Effect::effect))]
 fn effect<L: Limits, A: Allocator>(
@@ -103,7 +103,7 @@ fn effect<L: Limits, A: Allocator>(
     }
 }
 
-/// An operation on numbers: each target field gets the value of its pair, where it has one.
+/// An operation on numbers: each target field gets the value of its pair, if it has one.
 #[inline(always)]
 fn calculates<A: Allocator>(
     core: &mut Core<A>,
@@ -133,7 +133,7 @@ fn calculates<A: Allocator>(
     }
 }
 
-/// Queues the A pointer where the test holds, and the next instruction elsewhere.
+/// Queues the A pointer if the test holds, and else the next instruction.
 #[inline(always)]
 fn jump_where(size: Size, pc: u32, a: Operand, test: bool) -> Queued
     requires pc { pc < size }
@@ -148,7 +148,7 @@ fn jump_where(size: Size, pc: u32, a: Operand, test: bool) -> Queued
     }
 }
 
-/// Queues the next instruction, or the one after it where the test holds.
+/// Queues the next instruction, or the one after it if the test holds.
 #[inline(always)]
 fn skip_where(size: Size, pc: u32, test: bool) -> Queued
     requires wide { 2 ≤ size }

@@ -1,4 +1,17 @@
 //! The machine of Core War: a core, the processes of two warriors, turns and rounds.
+//!
+//! A round passes through the modules in this order. `arena` owns the core and both queues. It loads two warriors (`load`) into the
+//! `cells`, each a `word` of 64 bits, and makes turns by the loop in `turn`. A turn takes a process from its `queue`; `effect` executes its
+//! instruction. Operands are evaluated first: without limits by `operand`, else by `limits`. MOV is in `copying`, and what other
+//! operations read and make of numbers in `registers`, by the pairs of `field`; `size` has sums and differences in a core, and
+//! `arithmetic` and `round` the types. `touchable` lists the cells that a turn may change. `laws` is a law of the definitions.
+//!
+//! The main clauses: `begin` makes the round `opening`, `turn` the round `after_turn`, and `play` plays on until the round is over, at most
+//! twice the cycles. Each says that the arena is a round again (`IsRound`): its core has the core's size, all numbers are below it, and
+//! each queue has at most the settings' processes.
+//!
+//! The crate knows nothing of sources, matches or hills. Only `Arena::new` takes memory, and a turn divides by no core size: what is
+//! written out inline there is so for speed.
 #![tactic(auto)]
 
 mod arena;

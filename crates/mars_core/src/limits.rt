@@ -16,9 +16,9 @@ use std::alloc::Allocator;
 use std::marker::Model;
 use war_types::Mode;
 
-/// How far operands reach. A round is played by one of the kinds that follow, chosen once, so that one without limits pays for none.
+/// How far operands reach. One of the two kinds below is chosen once for a round, so a round without limits pays for none.
 pub(crate) trait Limits: Copy {
-    /// The limits, and the size of the core that they are of.
+    /// The limits, and the size of their core.
     ghost reach: { Self → Reach };
 
     /// Evaluates the operands of an instruction that stands at `pc`.
@@ -41,7 +41,7 @@ pub(crate) trait Limits: Copy {
         ensures b_numbers { HasNumbersBelow size result.1.register.instr };
 }
 
-/// Operands read and write anywhere in a core of so many cells.
+/// Operands read and write anywhere in a core of `size` cells.
 #[derive(Clone, Copy, Debug)]
 pub(crate) struct Whole {
     pub(crate) size: Size,
@@ -108,7 +108,7 @@ impl Limits for Within {
 }
 
 impl Within {
-    /// These limits in a core of so many cells.
+    /// These limits in a core of `size` cells.
     pub(crate) fn of(size: Size, read: u16, write: u16) -> Within
         requires read_least { 1 ≤ read }
         requires read_most { read ≤ size }
@@ -125,7 +125,7 @@ impl Within {
         }
     }
 
-    /// The operand of this mode and number in the instruction at `pc`, in a core of so many cells.
+    /// The operand of this mode and number in the instruction at `pc`, in a core of `size` cells.
     #[tactic(auto, unfolding(crate::specs::Operand::operand))]
     fn evaluate<A: Allocator>(
         self,
@@ -190,7 +190,7 @@ impl Within {
         }
     }
 
-    /// An operand of which each pointer leads on from the cell that it leads to, by one of that cell's numbers.
+    /// An operand whose pointers each lead on from the cell that they lead to, by one of that cell's numbers.
     fn indirect<A: Allocator>(
         self,
         core: &Core<A>,

@@ -32,7 +32,7 @@ pub(crate) fn load<A: Allocator>(
     put_code(core, size, code1, position);
 }
 
-/// Puts a code into the core from an address on.
+/// Puts a code into the core, from `position` on.
 fn put_code<A: Allocator>(core: &mut Core<A>, size: Size, code: &[Instr], position: u16)
     requires core { IsCore size core.old }
     requires numbers { All (HasNumbersBelow size) code.now }

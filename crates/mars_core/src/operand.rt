@@ -1,4 +1,4 @@
-//! The evaluation of operands where there are no limits.
+//! The evaluation of operands without limits.
 
 ghost use Rattle.std.specs.Prelude.{◌≡◌, ◌<◌, true};
 ghost use Rattle.war_types.specs.Warrior.{HasNumbersBelow};
@@ -15,7 +15,7 @@ use crate::word::Word;
 use std::alloc::Allocator;
 use war_types::Mode;
 
-/// What an operand comes to.
+/// What evaluating an operand gives.
 #[derive(Clone, Copy, Debug)]
 pub(crate) struct Operand {
     /// The address that it reads.
@@ -26,7 +26,7 @@ pub(crate) struct Operand {
     pub(crate) register: Word,
 }
 
-/// The operand of this mode and number in the instruction at `pc`, in a core of so many cells. An indirect mode
+/// The operand of this mode and number in the instruction at `pc`, in a core of `size` cells. An indirect mode
 /// may raise or lower a number of the cell that it goes through.
 #[inline(always)]
 #[tactic(auto, unfolding(crate::specs::Whole::operand))]

@@ -8,14 +8,14 @@ use circular_buffer::HeapCircularBuffer;
 use std::alloc::{AllocError, Allocator};
 use std::marker::Model;
 
-/// The processes of a side, by their addresses: first in, first out, in places that are taken once. The front
-/// process stands beside a ring of the others, whose places a single process never touches.
+/// The processes of a side, by their addresses: first in, first out, in memory that is taken once. The front process stands beside a
+/// ring of the others, so a single process never touches the ring's memory.
 #[derive(Debug, Drop)]
 pub(crate) struct Queue<A: Allocator> {
-    /// The front process, where there is one.
+    /// The front process, if there is one.
     front: u32,
     has_front: bool,
-    /// The processes behind the front one: at most one fewer than the queue may hold.
+    /// The processes after the front one: at most one fewer than the queue may hold.
     rest: HeapCircularBuffer<u16, A>,
 }
 
@@ -43,7 +43,7 @@ impl<A: Allocator> Queue<A> {
         })
     }
 
-    /// How many processes there are, at most 65,535.
+    /// The number of processes, at most 65,535.
     pub(crate) fn len(&self) -> usize
         ensures value { result ≡ length self.now.addresses }
         ensures small { result ≤ 65535 }
@@ -62,7 +62,7 @@ impl<A: Allocator> Queue<A> {
         !self.has_front
     }
 
-    /// The address of the process at place `i`, counted from the front.
+    /// The address of the process at index `i`, counted from the front.
     pub(crate) fn get(&self, i: usize) -> Option<u16>
         ensures { result ≡ slice_get self.now.addresses i }
     {
@@ -84,7 +84,7 @@ impl<A: Allocator> Queue<A> {
         self.front
     }
 
-    /// Takes the front process, and tells whether none is left.
+    /// Takes the front process, and answers whether none is left.
     #[inline(always)]
     pub(crate) fn end(&mut self) -> bool
         requires { is_empty self.old.addresses ≡ false }
@@ -103,7 +103,7 @@ impl<A: Allocator> Queue<A> {
         }
     }
 
-    /// Takes the front process, and queues another one behind the others: there is room then.
+    /// Takes the front process, and queues another one after the others: there is room then.
     #[inline(always)]
     pub(crate) fn follow(&mut self, address: u32)
         requires some { is_empty self.old.addresses ≡ false }
@@ -120,7 +120,7 @@ impl<A: Allocator> Queue<A> {
         }
     }
 
-    /// Takes the front process, and queues two behind the others: the second one only where there is room.
+    /// Takes the front process, and queues two after the others: the second one only if there is room.
     #[inline(always)]
     pub(crate) fn split(&mut self, address: u32, behind: u32)
         requires some { is_empty self.old.addresses ≡ false }

@@ -47,7 +47,7 @@ pub(crate) fn calculated(
     }
 }
 
-/// The value of a pair, by the registers; nothing where it would be divided by 0.
+/// The value of a pair, by the registers; `None` for a division by 0.
 #[inline(always)]
 fn value(size: Size, arithmetic: Arithmetic, a: Word, b: Word, pair: Pair) -> Option<u32>
     requires a { HasNumbersBelow size a.instr }
@@ -58,7 +58,7 @@ fn value(size: Size, arithmetic: Arithmetic, a: Word, b: Word, pair: Pair) -> Op
     size.combined(arithmetic, b.number(pair.target), a.number(pair.source))
 }
 
-/// The target with a value in one of its fields, where there is one.
+/// The target with the value in one of its fields, if there is a value.
 #[inline(always)]
 fn with_value(size: Size, field: Field, value: Option<u32>, target: Word) -> Word
     requires value { IfSome value (λ n. n < size) }

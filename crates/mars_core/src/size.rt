@@ -9,7 +9,7 @@ ghost use Rattle.mars_core.specs.Code.{arithmetic_of};
 use crate::arithmetic::Arithmetic;
 use std::marker::Model;
 
-/// How many cells a core has, at most 65,535: in 32 bits, as its addresses are.
+/// The number of a core's cells, at most 65,535: in 32 bits, as its addresses are.
 #[derive(Clone, Copy, Debug)]
 pub(crate) struct Size {
     cells: u32,
@@ -64,7 +64,7 @@ impl Size {
         if n <= m { m - n } else { m + (self.cells - n) }
     }
 
-    /// A number of the B operand with one of the A operand; nothing where it would be divided by 0.
+    /// A number of the B operand with one of the A operand; `None` for a division by 0.
     #[inline(always)]
     pub(crate) fn combined(self, arithmetic: Arithmetic, y: u32, x: u32) -> Option<u32>
         requires x { x < self }
@@ -81,7 +81,7 @@ impl Size {
         }
     }
 
-    /// A pointer within a limit: it leads half of the limit ahead, and the rest behind.
+    /// A pointer within a limit: it leads at most half of the limit forwards, and the rest backwards.
     #[inline(always)]
     pub(crate) fn folded(self, limit: u32, pointer: u32) -> u32
         requires least { 1 ≤ limit }

@@ -13,8 +13,8 @@ use crate::size::Size;
 use std::alloc::Allocator;
 use war_types::Mode;
 
-/// The addresses of the cells that the process at `pc` may write, within this limit: its own, those that its operands go through, and those to which
-/// the B operand may lead on. That goes by a number of a cell that the operands themselves may raise or lower before.
+/// The addresses of the cells that the process at `pc` may write, within the limit `write`: its own, those that its operands go through,
+/// and those to which the B operand may lead on. It leads on by a number of a cell that the operands themselves may raise or lower before.
 pub(crate) fn touchable<A: Allocator>(core: &Core<A>, size: Size, write: u32, pc: u32) -> [u16; 8]
     requires core { IsCore size core.now }
     requires pc { pc < size }
@@ -42,7 +42,7 @@ pub(crate) fn touchable<A: Allocator>(core: &Core<A>, size: Size, write: u32, pc
     ]
 }
 
-/// The address to which a pointer leads that is counted from the instruction at `pc`.
+/// The address to which a pointer leads, counted from the instruction at `pc`.
 fn led_on(size: Size, write: u32, pc: u32, pointer: u32) -> u16
     requires pc { pc < size }
     requires write_least { 1 ≤ write }

@@ -15,10 +15,10 @@ use crate::round::{Side, Turned};
 use crate::size::Size;
 use std::alloc::Allocator;
 
-/// Where turns led that were made in one go.
+/// What a run of turns led to.
 #[derive(Clone, Copy, Debug)]
 pub(crate) struct Played {
-    /// How many of them were not made, since a side had no process left.
+    /// The number of turns that were not made, since a side had no process left.
     pub(crate) left: u32,
     /// The side whose turn is next.
     pub(crate) to_move: Side,
@@ -38,7 +38,7 @@ impl Side {
     }
 }
 
-/// Makes so many turns of two sides that have processes, in turn, or fewer where one of them has none left.
+/// Makes `most` turns of two sides that have processes, alternately, or fewer if one of them has none left.
 pub(crate) fn turns<L: Limits, A: Allocator>(
     core: &mut Core<A>,
     size: Size,

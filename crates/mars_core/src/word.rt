@@ -23,8 +23,8 @@ const OP: u32 = 41;
 
 const MARK: u32 = 63;
 
-/// An instruction, and the mark of a cell that was written since its core was cleared: the B number from bit 0 on, the A number from
-/// bit 16 on, then the B mode, the A mode, the modifier and the operation, and the mark as the highest bit.
+/// An instruction, and the mark of a cell that was written since its core was cleared. The B number stands from bit 0 on, the A number from
+/// bit 16 on, then the B mode, the A mode, the modifier and the operation. The mark is the highest bit.
 #[derive(Clone, Copy, Debug)]
 pub(crate) struct Word {
     bits: u64,
@@ -148,7 +148,7 @@ impl Word {
         }
     }
 
-    /// The word with another such number.
+    /// The word with `n` as one of the two numbers.
     #[inline(always)]
     pub(crate) fn with_number(self, field: Field, n: u32) -> Word
         requires { n ≤ 65535 }
@@ -181,7 +181,7 @@ impl Word {
     }
 }
 
-/// A number in 64 bits, of which it takes the lowest 16.
+/// A number in 64 bits: it takes the lowest 16.
 fn wide(number: u16) -> u64
     ensures value { result ≡ number }
     ensures small { result ≤ 65535 }

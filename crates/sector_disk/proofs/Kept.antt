@@ -1,4 +1,4 @@
--- What holds of each run of calls of a device.
+-- What holds of each run of calls of a device, for every function that makes some.
 use Rattle.std.proofs.Common.{Result, le_refl, le_trans, refl, ◌∙◌}
 use Rattle.sector_disk.specs.Facts.{DeviceFacts}
 use Rattle.sector_disk.specs.Served.{IsKept, IsServed}
@@ -8,7 +8,7 @@ module _ {D : Type 0} (facts : DeviceFacts D) where
   pub kept_same : (d : D) → IsKept facts d d
   kept_same d = record { same_size = refl; same_laws = ((λ is. is), (λ is. is)); later = le_refl (facts.faults d) }
 
-  -- of one behind another
+  -- of one after another
   pub kept_on : (a b c : D) → IsKept facts a b → IsKept facts b c → IsKept facts a c
   kept_on a b c p q = record {
     same_size = q.same_size ∙ p.same_size;

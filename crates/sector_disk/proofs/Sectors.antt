@@ -81,15 +81,15 @@ stopped_more choice sectors stopped n sector are is = record {
   ];
 }
 
-pub disk-stopped : (choice : List ℕ) (sectors stopped : List SectorState) → AreStopped choice sectors stopped (length sectors) → disk_of stopped ≡ stopped_at choice (disk_of sectors)
-disk-stopped choice sectors stopped are =
-    same_disks _ _ (λ n. ap (λ (s : SectorState). s.stable) (at_place n)) (λ n. ap (λ (s : SectorState). s.written) (at_place n))
+pub disk-stopped : (choice : List ℕ) (sectors stopped : List SectorState) (n : ℕ) → AreStopped choice sectors stopped n → length sectors ≡ n → disk_of stopped ≡ stopped_at choice (disk_of sectors)
+disk-stopped choice sectors stopped n are all =
+    same_disks _ _ (λ k. ap (λ (s : SectorState). s.stable) (at_place k)) (λ k. ap (λ (s : SectorState). s.written) (at_place k))
   where
-    at_place : (n : ℕ) → get_or stopped n nothing ≡ chosen_sector choice sectors n
-    at_place n = elim (cases_lt n (length sectors)) [
-      | inl within ↦ are.each n within
-      | inr past ↦ get_or_past stopped n nothing (rw are.count past)
-          ∙ sym (rw (get_or_past sectors n nothing past) (ap (λ contents. sector_of (last_of [] contents) []) (take-nil (get_or choice n 0))))
+    at_place : (k : ℕ) → get_or stopped k nothing ≡ chosen_sector choice sectors k
+    at_place k = elim (cases_lt k n) [
+      | inl within ↦ are.each k within
+      | inr past ↦ get_or_past stopped k nothing (rw are.count past)
+          ∙ sym (rw (get_or_past sectors k nothing (rw all past)) (ap (λ contents. sector_of (last_of [] contents) []) (take-nil (get_or choice k 0))))
     ]
 
 -- what the numbers name is an image
@@ -98,5 +98,4 @@ image-chosen choice disk n = may_hold_chosen (disk.stable n) (disk.written n) (g
 
 pub image-stopped : (choice : List ℕ) (sectors stopped : List SectorState) (n : ℕ) → AreStopped choice sectors stopped n → length sectors ≡ n → IsImage (disk_of sectors) (disk_of stopped).stable
 image-stopped choice sectors stopped n are all =
-    let whole : AreStopped choice sectors stopped (length sectors) = rw all are
-    in subst (λ (disk : Disk). IsImage (disk_of sectors) disk.stable) (sym (disk-stopped choice sectors stopped whole)) (image-chosen choice (disk_of sectors))
+    subst (λ (disk : Disk). IsImage (disk_of sectors) disk.stable) (sym (disk-stopped choice sectors stopped n are all)) (image-chosen choice (disk_of sectors))

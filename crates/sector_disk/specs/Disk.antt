@@ -6,7 +6,7 @@ pub record Disk : Type 0 where
   pub stable : ℕ → List ℕ
   pub written : ℕ → List (List ℕ)
 
--- the last of these contents, or the stable one where there is none
+-- the last of these contents, or the stable one if there is none
 abbrev pub last_of : List ℕ → List (List ℕ) → List ℕ
 last_of stable [] = stable
 last_of stable (content ∷ contents) = last_of content contents

@@ -4,7 +4,7 @@ use Rattle.std.specs.declared.io.ErrorKind.TheVariants as kinds
 use Rattle.sector_disk.specs.declared.file_device.FileFault.{FileFault}
 use Rattle.sector_disk.specs.declared.file_device.FileFault.TheVariants as faults
 
--- want of memory, and one fault for all else
+-- lack of memory, and one fault for all else
 abbrev pub fault_of : ErrorKind → FileFault
 fault_of kinds.OutOfMemory = faults.Memory
 fault_of _ = faults.Failed

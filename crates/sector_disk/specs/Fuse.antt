@@ -30,7 +30,7 @@ abbrev pub left_after : FuseKind → Option ℕ → Option ℕ
 left_after kind None = None
 left_after kind (Some left) = if left == 0 then left_burning kind else Some (left - 1)
 
--- what becomes of the next call: the fuse burns where no call is left to pass, and a fuse without a number passes all
+-- what becomes of the next call: the fuse burns if no call is left to pass, and a fuse without a number passes all
 abbrev pub fate_of : Fuse → Fate
 fate_of fuse = fate_at fuse.kind fuse.left
 
@@ -58,8 +58,8 @@ pub record IsRead {D T E : Type 0} (facts : DeviceFacts D) (n : ℕ) (content : 
   pub kept : facts.lawful old → facts.disk new ≡ facts.disk old
   pub given : facts.lawful old → OnOk result (content ≡ current (facts.disk old) n)
 
--- What a call made of the device within: where it passes, what such a call makes of it at this answer; where it is lost, nothing;
--- where it is kept, what such a call makes of it at an answer of its own, in whose place stands an Err.
+-- What a call made of the device within. A call that passes makes of it what such a call does at this answer, and one that is lost nothing.
+-- One that is kept makes of it what such a call does at an answer of its own, which an Err replaces.
 abbrev pub IsFused : {D T E : Type 0} → Fate → (Result T E → Type 0) → D → D → Result T E → Type 0
 IsFused fates.Passes call old new result = call result
 IsFused fates.Lost call old new result = IsErr result × (new ≡ old)

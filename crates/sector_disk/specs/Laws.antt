@@ -3,7 +3,7 @@ use Rattle.std.specs.Prelude.{◌≡◌, ◌⊎◌, ℕ, List}
 use Rattle.sector_disk.specs.Disk.{Disk, current, wrote, synced, IsSettled}
 use Rattle.sector_disk.specs.Image.{IsImage, put, started}
 
--- the image has this content in this sector, and is elsewhere as some image of the disk
+-- the image has this content in this sector, and is in the others as some image of the disk
 abbrev pub HasPut : ℕ → List ℕ → Disk → (ℕ → List ℕ) → Type 0
 HasPut n content disk image = (before : ℕ → List ℕ) × IsImage disk before × (image ≡ put n content before)
 

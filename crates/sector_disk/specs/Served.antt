@@ -6,14 +6,14 @@ use Rattle.sector_disk.specs.Facts.{DeviceFacts}
 abbrev pub Failed : {D : Type 0} → DeviceFacts D → D → D → Type 0
 Failed facts old new = (facts.faults old < facts.faults new) ⊎ (facts.faults old ≡ 2 ^ 64 - 1)
 
--- What holds of each run of calls: its sectors stay as many, it is as lawful as it was, and its count of faults doesn't fall.
+-- What holds of each run of calls: the number of sectors stays, the device is as lawful as it was, and its count of faults doesn't fall.
 pub record IsKept {D : Type 0} (facts : DeviceFacts D) (old new : D) : Type 0 where
   pub same_size : facts.size new ≡ facts.size old
   pub same_laws : facts.lawful new ↔ facts.lawful old
   pub later : facts.faults old ≤ facts.faults new
 
--- Its sectors stay as many. It is as lawful as it was. Its faults are counted where an Err is answered, and nowhere else;
--- at the greatest u64 the count stands still.
+-- The number of sectors stays, and the device is as lawful as it was. A fault is counted if an Err is answered, and at no Ok. At the
+-- greatest u64 the count stands still.
 pub record IsServed {D T E : Type 0} (facts : DeviceFacts D) (old new : D) (result : Result T E) : Type 0 where
   pub same_size : facts.size new ≡ facts.size old
   pub same_laws : facts.lawful new ↔ facts.lawful old

@@ -15,17 +15,17 @@ pub struct Fault;
 
 /// A device of sectors of 512 bytes each, numbered from 0.
 ///
-/// Of each sector it has a stable content and the contents written since the last sync. A stop leaves of each sector, by
-/// itself, the stable content or any one of those. All that is said of contents is said of a lawful device.
+/// Each sector has a stable content, and the contents written to it since the last sync. A stop leaves of each sector, by
+/// itself, the stable content or any one of the others. All that is said of contents is said of a lawful device.
 pub trait Device {
-    /// How many sectors it has, whether it keeps the laws of contents, what its sectors hold, and how many faults it has counted.
+    /// The number of its sectors, whether it keeps the laws of contents, what its sectors hold, and the faults that it has counted.
     ghost facts: { DeviceFacts Self };
 
-    /// How many sectors the device has. No call changes this.
+    /// The number of sectors. No call changes it.
     fn sectors(&self) -> u32
         ensures { result ≡ facts.size self.now };
 
-    /// How many calls have answered a fault, up to the greatest `u64`.
+    /// The number of calls that have answered a fault, up to the greatest `u64`.
     fn faults(&self) -> u64
         ensures { result ≡ facts.faults self.now };
 

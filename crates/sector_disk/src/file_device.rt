@@ -13,7 +13,7 @@ use std::{fs, io};
 use thiserror::Error;
 
 /// Bytes of a sector.
-const SECTOR_BYTES: u64 = 512;
+pub const SECTOR_BYTES: u64 = 512;
 
 /// Why a file gives no device.
 #[derive(Clone, Copy, Debug, PartialEq, Eq, Error)]
@@ -40,11 +40,11 @@ impl From<io::Error> for FileFault {
     }
 }
 
-/// A device over a file: the n-th 512 bytes of the file are sector n, and bytes behind the last whole sector belong to none.
+/// A device over a file: the n-th 512 bytes of the file are sector n, and bytes after the last whole sector belong to none.
 ///
-/// Nothing is claimed of what a file holds, so this device is not lawful in any contract; that it is, is the premise of whoever
-/// uses one. What holds of every device holds of it: its faults are counted, and its sectors stay as many.
-#[derive(Debug, Drop)]
+/// Nothing is claimed of what a file holds, so this device is not lawful in any contract. Whoever uses one has to assume that it is.
+/// What holds of every device holds of it: its faults are counted, and the number of its sectors stays.
+#[derive(Drop)]
 pub struct FileDevice<F> {
     file: F,
     sectors: u32,
@@ -60,8 +60,8 @@ impl<F> Model for FileDevice<F> {
 }
 
 impl<F: Read + Write + Seek + OpenFile + Drop> FileDevice<F> {
-    /// A device over the file at this path, as many sectors as the file has whole ones, none maybe, and at most 2³² - 1. It has counted
-    /// no fault. `Failed` where the file is missing or can't be read and written, as a folder.
+    /// A device over the file at this path. It has the whole sectors of the file, maybe none, and at most 2³² - 1. It has counted no
+    /// fault. `Failed` if the file is missing or can't be read and written, as a folder.
     pub fn open<R: Files<File = F>, P: AsPath>(
         files: &R,
         path: P,
@@ -70,13 +70,14 @@ impl<F: Read + Write + Seek + OpenFile + Drop> FileDevice<F> {
     {
         let mut options = File::options();
         options.read(true).write(true);
-        FileDevice::over(options.open(files, path)?)
+        FileDevice::over(options.open(files, path)?, 0)
     }
 
-    /// A device of at least this many sectors over the file at this path. Where there is no file it is created, and where the
-    /// file has fewer whole sectors it is extended with zeros; its length and its name have reached the disk, also where an earlier call
-    /// that made it was cut short. A path that is a link leads to the file, and it is the file's own folder that is synced. It is never
-    /// shortened. It has counted no fault. `Failed` as `open` says, and where the file can't be created or extended.
+    /// A device of at least `sectors` sectors over the file at this path. It has counted no fault.
+    ///
+    /// A missing file is created, and one with fewer whole sectors is extended with zeros. None is shortened. The file's length and its
+    /// name have reached the disk, also if an earlier call that made it was cut short. If the path is a link, the folder of the file
+    /// itself is synced. `Failed` as `open` says, and if the file can't be created or extended.
     pub fn make<R: Files<File = F>, A: Allocator, P: AsPath>(
         files: &R,
         alloc: A,
@@ -90,23 +91,20 @@ impl<F: Read + Write + Seek + OpenFile + Drop> FileDevice<F> {
         options.read(true).write(true).create(true);
         let path = path.path_text();
         let file = options.open(files, path)?;
-        if whole_sectors(&file)? < sectors {
-            file.set_len(u64::from(sectors) * SECTOR_BYTES)?;
-        }
-        file.sync_all()?;
-        let own = files.canonicalize(alloc, path)?;
-        sync_folder(files, own.as_path())?;
-        let device = FileDevice::over(file)?;
-        if device.sectors < sectors {
-            return Err(FileFault::Failed);
-        }
-        Ok(device)
+        extend(&file, sectors)?;
+        sync_name(files, alloc, path)?;
+        FileDevice::over(file, sectors)
     }
 
-    fn over(file: F) -> Result<FileDevice<F>, FileFault>
+    /// The device over this file. `Failed` if the file has fewer than `least` sectors.
+    fn over(file: F, least: u32) -> Result<FileDevice<F>, FileFault>
+        ensures enough { IfOk result (λ device. least ≤ device.sectors) }
         ensures faults { IfOk result (λ device. device.faults ≡ 0) }
     {
         let sectors = whole_sectors(&file)?;
+        if sectors < least {
+            return Err(FileFault::Failed);
+        }
         Ok(FileDevice {
             file,
             sectors,
@@ -153,14 +151,22 @@ impl<F: Read + Write + Seek + OpenFile> Device for FileDevice<F> {
         self.counted(answer)
     }
 
-    /// What was written has reached the disk, as far as the system tells.
+    /// What was written has reached the disk, as far as the system says.
     fn sync(&mut self) -> Result<(), Fault> {
         let answer = self.file.sync_all();
         self.counted(answer)
     }
 }
 
-/// Whole sectors of a file, and 2³² - 1 where it has more.
+/// Gives a file the length of this many sectors, if it is shorter, and makes its length reach the disk.
+fn extend<F: OpenFile>(file: &F, sectors: u32) -> Result<(), FileFault> {
+    if whole_sectors(file)? < sectors {
+        file.set_len(u64::from(sectors) * SECTOR_BYTES)?;
+    }
+    Ok(file.sync_all()?)
+}
+
+/// The number of whole sectors of a file, or 2³² - 1 if it has more.
 fn whole_sectors<F: OpenFile>(file: &F) -> Result<u32, FileFault> {
     let sectors = file.metadata()?.len() / SECTOR_BYTES;
     Ok(u32::try_from(sectors).unwrap_or(u32::MAX))
@@ -176,7 +182,13 @@ fn write_sector<F: Write + Seek>(file: &mut F, n: u32, from: &[u8; 512]) -> io::
     file.write_all(from)
 }
 
-/// Makes the names in the folder of this path reach the disk: a file that was just created has one there.
+/// Makes the name of the file at this path reach the disk. If the path is a link, that is its name in the folder of the file itself.
+pub fn sync_name<R: Files, A: Allocator>(files: &R, alloc: A, path: &str) -> io::Result<()> {
+    let own = files.canonicalize(alloc, path)?;
+    sync_folder(files, own.as_path())
+}
+
+/// Makes the names in the folder of this path reach the disk.
 fn sync_folder<R: Files>(files: &R, path: Path<'_>) -> io::Result<()> {
     let folder = match path.parent() {
         Some(folder) if !folder.as_os_str().is_empty() => folder,

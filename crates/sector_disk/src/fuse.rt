@@ -15,7 +15,7 @@ pub enum FuseKind {
 }
 
 /// What becomes of a call.
-#[derive(Clone, Copy, Debug, PartialEq, Eq)]
+#[derive(Clone, Copy, PartialEq, Eq)]
 pub enum Fate {
     /// It is made, and its answer is handed on.
     Passes,
@@ -25,8 +25,8 @@ pub enum Fate {
     Kept,
 }
 
-/// A fuse that has so many calls left to pass. With no number it passes every call.
-#[derive(Clone, Copy, Debug, PartialEq, Eq)]
+/// A fuse that has `left` calls left to pass. With no number it passes every call.
+#[derive(Clone, Copy, PartialEq, Eq)]
 pub struct Fuse {
     kind: FuseKind,
     left: Option<u64>,

@@ -10,8 +10,8 @@ use crate::device::{Device, Fault};
 use crate::fuse::{Fate, Fuse, FuseKind};
 
 /// A device over another, which passes a number of calls of read, write and sync and then does what its kind says. It is
-/// lawful where the device within is.
-#[derive(Debug, Drop)]
+/// lawful if the device within is.
+#[derive(Drop)]
 pub struct FuseDevice<D> {
     inner: D,
     fuse: Fuse,

@@ -11,8 +11,8 @@ use crate::sector::Sector;
 use std::alloc::{AllocError, Allocator};
 use std::marker::Model;
 
-/// A lawful device in memory. It fails only where a growth is refused in a write.
-#[derive(Debug, Drop)]
+/// A lawful device in memory. It fails only if a write gets no memory.
+#[derive(Drop)]
 pub struct MemoryDevice<A: Allocator> {
     alloc: A,
     sectors: Vec<Sector<A>, A>,
@@ -46,9 +46,10 @@ impl<A: Allocator + Copy> MemoryDevice<A> {
         })
     }
 
-    /// The device after a stop that left the image that `choice` names, a number for each sector: 0 names the stable content,
-    /// k the k-th one written since the last sync, a greater number the last. A missing number is 0, and one without a
-    /// sector names nothing. It has counted no fault.
+    /// The device after a stop that left the image that `choice` names. It has counted no fault.
+    ///
+    /// `choice` has a number for each sector: 0 names the stable content, k the k-th one written since the last sync, and a greater
+    /// number the last. A missing number is 0, and one without a sector names nothing.
     pub fn stopped(&self, choice: &[u32]) -> Result<MemoryDevice<A>, AllocError>
         ensures image { IfOk result (λ device. memory_disk device ≡ stopped_at choice.now (memory_disk self.now)) }
         ensures possible { IfOk result (λ device. IsImage (memory_disk self.now) (memory_disk device).stable) }
@@ -69,7 +70,7 @@ impl<A: Allocator + Copy> MemoryDevice<A> {
 }
 
 impl<A: Allocator> MemoryDevice<A> {
-    /// Makes a content the stable one of a sector, and drops what was written to it. It needs no memory: its answer stands whatever is refused.
+    /// Makes a content the stable one of a sector, and drops what was written to it. It needs no memory, so it can't fail.
     pub fn set(&mut self, n: u32, content: &[u8; 512])
         requires { n < memory_size self.old }
         ensures { self.new ≡ set_at n content.now self.old }
@@ -103,7 +104,7 @@ impl<A: Allocator> Device for MemoryDevice<A> {
         Ok(())
     }
 
-    /// Where a growth is refused, that is a counted fault, and no content changes.
+    /// Lack of memory is a counted fault, and then no content changes.
     fn write(&mut self, n: u32, from: &[u8; 512]) -> Result<(), Fault>
         requires { n < memory_size self.old }
         ensures served { IsMemoryServed self.old self.new result }

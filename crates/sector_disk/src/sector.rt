@@ -8,7 +8,7 @@ use std::alloc::{AllocError, Allocator};
 use std::marker::Model;
 
 /// A stable content, and the contents written since the last sync.
-#[derive(Debug, Drop)]
+#[derive(Drop)]
 pub struct Sector<A: Allocator> {
     stable: [u8; 512],
     written: Vec<[u8; 512], A>,
@@ -48,7 +48,7 @@ impl<A: Allocator> Sector<A> {
         last_of(&self.stable, &self.written[..count])
     }
 
-    /// Writes a content. Where a growth is refused, nothing changes.
+    /// Writes a content. If there is no memory, nothing changes.
     pub fn write(&mut self, content: &[u8; 512]) -> Result<(), AllocError>
         ensures ok { OnOk result (self.new ≡ sector_of self.old.stable (self.old.written ++ content.now ∷ [])) }
         ensures err { OnErr result (self.new ≡ self.old) }
@@ -73,7 +73,7 @@ impl<A: Allocator> Sector<A> {
     }
 }
 
-/// The last of these contents, or the stable one where there is none.
+/// The last of these contents, or the stable one if there is none.
 fn last_of<'c>(stable: &'c [u8; 512], contents: &'c [[u8; 512]]) -> &'c [u8; 512]
     ensures { result.now ≡ last_of stable.now contents.now }
 {

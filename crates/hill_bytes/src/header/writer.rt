@@ -33,7 +33,7 @@ impl SectorWriter {
         }
     }
 
-    /// Writes bytes behind those that are there.
+    /// Writes bytes after those that are there.
     pub(crate) fn put(&mut self, bytes: &[u8])
         requires { length self.old + length bytes.now ≤ 512 }
         ensures value { self.new ≡ self.old ++ bytes.now }

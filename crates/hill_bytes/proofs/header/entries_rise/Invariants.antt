@@ -1,4 +1,4 @@
--- The entries rise where those that are left rise behind the last one.
+-- The entries rise if those that are left rise from the last one on.
 use Rattle.std.proofs.Common.{◌↔◌, drop}
 use Rattle.hill_bytes.specs.Layout.{EntriesRise}
 use Rattle.hill_bytes.proofs.header.entries_rise.Given as goal

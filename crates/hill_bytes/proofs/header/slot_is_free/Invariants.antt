@@ -1,4 +1,4 @@
--- The slot is free where it is free among the entries that are left.
+-- The slot is free if it is free among the entries that are left.
 use Rattle.std.proofs.Common.{◌↔◌, drop}
 use Rattle.hill_bytes.specs.Layout.{SlotIsFree}
 use Rattle.hill_bytes.proofs.header.slot_is_free.Given as goal

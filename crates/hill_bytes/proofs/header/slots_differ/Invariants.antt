@@ -1,4 +1,4 @@
--- The slots differ where those of the entries that are left differ.
+-- The slots differ if the slots of the entries that are left differ.
 use Rattle.std.proofs.Common.{◌↔◌, drop}
 use Rattle.hill_bytes.specs.Layout.{SlotsDiffer}
 use Rattle.hill_bytes.proofs.header.slots_differ.Given as goal

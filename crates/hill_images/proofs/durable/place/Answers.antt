@@ -20,7 +20,7 @@ module _ (h : HeaderParts) (slot : ℕ) (w : WarriorParts) (results : List Wins)
   slot_made : (old mid : Disk) → mid ≡ after (writes_from (slot_at new_layout slot) sectors) old → mid ≡ after (slot_writes new_layout slot w results) old
   slot_made old mid made = made ∙ ap (λ xs. after (writes_from (slot_at new_layout slot) xs) old) is
 
-  -- it was, and what is behind it was not
+  -- it was, and what comes after it was not
   rest_cut : {T E : Type 0} (old mid new : Disk) (result : Result T E) → mid ≡ after (writes_from (slot_at new_layout slot) sectors) old → IsErr result → Begun (synced ∷ commits new_layout h) mid new → Changes (places new_layout h slot w results) old new result
   rest_cut old mid new result made err begun =
       changes_cut (places new_layout h slot w results) old new result err

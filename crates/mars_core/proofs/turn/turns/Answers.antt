@@ -92,7 +92,7 @@ loop-left-preserved g c =
           ∙ ap turned (same_round s used c.loop-left.core c.args.core.now first c.args.first.now second c.args.second.now m c.args.to_move same.0 same.1 same.2 same.3));
     }
 
--- where a process ends and was the last one of its side
+-- a process ends that was the last one of its side
 moved-at-end : (g : Over) (c : goal.After-other g) → Moved c.loop-left.to_move (addresses c.execute-queued.result) c.loop-left.first c.loop-left.second c.match-to_move-2.first c.match-to_move-2.second true
 moved-at-end g c =
     let m = c.loop-left.to_move in

@@ -11,7 +11,7 @@ of-requires g c =
     let is : IsKept c.args.self.now = subst IsKept c.self.view_is c.self.invariant.0 in
     omega (arith, c.requires.each, few-members c.args.self.now is)
 
--- those on the hill behind the push
+-- those on the hill after the push
 items : (g : Over) (c : goal.Joined-push g) → c.push.new.self.items ≡ c.self.inside.members.items ++ c.new.result ∷ []
 items g c =
     let es = c.self.inside.members.items in
