@@ -3,7 +3,7 @@
 ghost use Rattle.std.specs.Prelude.{◌≡◌, ◌+◌, ◌<◌, ◌^◌, ◌++◌, ◌∷◌, [], length, IfOk, OnOk};
 ghost use Rattle.koth_hill.specs.Rows.{row_parts, rows_parts};
 ghost use Rattle.koth_text.specs.Columns.{columns_text};
-ghost use Rattle.koth_views.specs.Standing.{hill_cells, hill_heading, hill_rows, hill_view, note_of_none, standing_text};
+ghost use Rattle.koth_views.specs.Standing.{hill_cells, hill_heading, hill_rows, hill_view, note_of_none};
 ghost use Rattle.koth_views.specs.Tally.{against_all};
 
 use crate::tally::against_all;
@@ -34,19 +34,10 @@ pub fn hill_view<A: Allocator + Copy, B: Allocator>(
     ensures { IfOk result (λ text. text.items ≡ hill_view hill.now) }
 {
     let rows = hill.rows(alloc)?;
-    standing_text(alloc, hill, rows.as_slice())
-}
-
-/// The table of these rows.
-fn standing_text<A: Allocator + Copy, B: Allocator>(
-    alloc: A,
-    hill: &Hill<B>,
-    rows: &[Row<'_>],
-) -> Result<Vec<u8, A>, AllocError>
-    ensures { IfOk result (λ text. text.items ≡ standing_text hill.now (rows_parts rows.now)) }
-{
-    let lines = lines_of(alloc, hill, rows)?;
-    noted_text(alloc, &SIDES, lines.as_slice(), rows)
+    let lines = lines_of(alloc, hill, rows.as_slice())?;
+    let mut text = columns_text(alloc, &SIDES, lines.as_slice())?;
+    text.extend_from_slice(note_of_none(rows.as_slice()))?;
+    Ok(text)
 }
 
 /// Lines in columns, and what stands under a table of these rows.
