@@ -1,11 +1,11 @@
 -- The tags and the attributes of a page are those of the same hill without names, for `hill_page`.
 use Rattle.std.proofs.Common.{◌≡◌, ℕ, ◌+◌, Bool, true, false, cond, eqb, ltb, List, [], ◌∷◌, ◌++◌, codes, decimal, map, refl, sym, ap, ◌∙◌}
 use Rattle.std.specs.List.{enumerate_from, flat_map, sum_by}
-use Rattle.std.proofs.lemmas.List.Elements.{filter-append}
 use Rattle.koth_match.specs.declared.bout.Bout.{Bout}
 use Rattle.koth_hill.specs.Kept.{Kept, or_no_rounds, result_of, table_kept}
 use Rattle.koth_hill.specs.Table.{RowParts}
 use Rattle.koth_text.specs.Characters.{markup_of}
+use Rattle.koth_text.specs.Escape.{escaped}
 use Rattle.koth_text.specs.Tally.{of_older, of_younger}
 use Rattle.koth_text.specs.declared.tally.Tally.{Tally}
 use Rattle.koth_text.proofs.Markup.{Alike, both, markup_of-escaped}
@@ -51,13 +51,27 @@ against_all-nameless k one = ap (λ es. against_by es k.results one) (sym (entri
 
 -- ---- the parts of a page
 
-markup_of-name_cell : (name : List ℕ) → markup_of (name_cell name) ≡ markup_of (codes "<td class=\"name\"></td>")
+-- two names have no markup, either of them
+names : (name other : List ℕ) → Alike (escaped name) (escaped other)
+names name other = markup_of-escaped name ∙ sym (markup_of-escaped other)
+
+name_cells : (name other : List ℕ) → Alike (name_cell name) (name_cell other)
 unfolding name_cell
-markup_of-name_cell name = simp (filter-append, markup_of-escaped)
+name_cells name other =
+    let start = codes "<td class=\"name\">" in
+    let end = codes "</td>" in
+    both (start ++ escaped name) (start ++ escaped other) end end (both start start (escaped name) (escaped other) refl (names name other)) refl
 
 standing_row-nameless : (rank : ℕ) (row : RowParts) (rounds : Tally) → Alike (standing_row rank row rounds) (standing_row rank (nameless_row row) rounds)
 unfolding standing_row
-standing_row-nameless rank row rounds = simp (filter-append, markup_of-name_cell)
+standing_row-nameless rank row rounds =
+    let start = codes "<tr>" ++ number_cells (rank ∷ row.entry ∷ row.score ∷ rounds.won ∷ rounds.lost ∷ rounds.tied ∷ row.age ∷ []) in
+    let end = codes "</tr>\n" in
+    let none = name_cell [] in
+    both (start ++ name_cell row.name ++ name_cell row.author) (start ++ none ++ none) end end
+    (both (start ++ name_cell row.name) (start ++ none) (name_cell row.author) none
+    (both start start (name_cell row.name) none refl (name_cells row.name [])) (name_cells row.author []))
+    refl
 
 standing_rows-nameless : (k : Kept) (rows : List RowParts) → Alike (standing_rows k rows) (standing_rows (nameless k) (map nameless_row rows))
 standing_rows-nameless k rows =
@@ -76,7 +90,15 @@ standing-nameless k rows =
 
 rank_heading-nameless : (rank : ℕ) (row : RowParts) → Alike (rank_heading rank row) (rank_heading rank (nameless_row row))
 unfolding rank_heading
-rank_heading-nameless rank row = simp (filter-append, markup_of-escaped)
+rank_heading-nameless rank row =
+    let start = codes "<th title=\"" in
+    let middle = codes "\">" in
+    let end = codes "</th>" in
+    let none = escaped [] in
+    both (start ++ escaped row.name ++ middle ++ decimal rank) (start ++ none ++ middle ++ decimal rank) end end
+    (both (start ++ escaped row.name ++ middle) (start ++ none ++ middle) (decimal rank) (decimal rank)
+    (both (start ++ escaped row.name) (start ++ none) middle middle (both start start (escaped row.name) none refl (names row.name [])) refl) refl)
+    refl
 
 matches_heading-nameless : (rows : List RowParts) → Alike (matches_heading rows) (matches_heading (map nameless_row rows))
 unfolding matches_heading
@@ -88,16 +110,35 @@ matches_heading-nameless rows =
     let unnamed = flat_map f (enumerate_from 1 (map nameless_row rows)) in
     both (start ++ ranks) (start ++ unnamed) end end (both start start ranks unnamed refl (each_ranked f f rank_heading-nameless 1 rows)) refl
 
-markup_of-sides : (row other : RowParts) → markup_of (sides_text row other) ≡ []
+sides-nameless : (row other : RowParts) → Alike (sides_text row other) (sides_text (nameless_row row) (nameless_row other))
 unfolding sides_text
-markup_of-sides row other = simp (filter-append, markup_of-escaped)
+sides-nameless row other =
+    let middle = codes " against " in
+    let none = escaped [] in
+    both (escaped row.name ++ middle) (none ++ middle) (escaped other.name) none (both (escaped row.name) none middle middle (names row.name []) refl) (names other.name [])
 
 -- a link asks for no name
+fought-nameless : (links : Links) (rounds : Tally) (row other : RowParts) → fought_text links rounds row other ≡ fought_text links rounds (nameless_row row) (nameless_row other)
+unfolding fought_text
+fought-nameless kinds.None rounds row other = refl
+fought-nameless kinds.Rounds rounds row other = refl
+
 fought_cell-nameless : (links : Links) (rounds : Tally) (row other : RowParts)
     → Alike (fought_cell links rounds row other) (fought_cell links rounds (nameless_row row) (nameless_row other))
-unfolding fought_cell fought_text
-fought_cell-nameless kinds.None rounds row other = simp (filter-append, markup_of-sides)
-fought_cell-nameless kinds.Rounds rounds row other = simp (filter-append, markup_of-sides)
+unfolding fought_cell
+fought_cell-nameless links rounds row other =
+    let start = codes "<td title=\"" in
+    let named = sides_text row other in
+    let none = sides_text (nameless_row row) (nameless_row other) in
+    let middle = codes "\">" in
+    let last = codes "</td>" in
+    let fought = fought_text links rounds row other in
+    let others = fought_text links rounds (nameless_row row) (nameless_row other) in
+    both (start ++ named ++ middle ++ fought) (start ++ none ++ middle ++ others) last last
+    (both (start ++ named ++ middle) (start ++ none ++ middle) fought others
+    (both (start ++ named) (start ++ none) middle middle (both start start named none refl (sides-nameless row other)) refl)
+    (ap markup_of (fought-nameless links rounds row other)))
+    refl
 
 either : (b : Bool) (own some others : List ℕ) → Alike some others → Alike (cond b own some) (cond b own others)
 either true own some others same = refl
@@ -122,7 +163,7 @@ matches_row-nameless k links rows rank row =
     let end = codes "</tr>\n" in
     let cells = flat_map (match_cell k links row) rows in
     let others = flat_map (match_cell (nameless k) links unnamed) (map nameless_row rows) in
-    let named : Alike (start ++ name_cell row.name) (start ++ name_cell []) = simp (filter-append, markup_of-name_cell) in
+    let named : Alike (start ++ name_cell row.name) (start ++ name_cell []) = both start start (name_cell row.name) (name_cell []) refl (name_cells row.name []) in
     both (start ++ name_cell row.name ++ cells) (start ++ name_cell [] ++ others) end end
     (both (start ++ name_cell row.name) (start ++ name_cell []) cells others named
     (each (match_cell k links row) (match_cell (nameless k) links unnamed) nameless_row (match_cell-nameless k links row) rows))

@@ -9,7 +9,7 @@ use crate::cells::{number_cell, put_name_cell};
 use crate::links::Links;
 use crate::parts::{MATCHES_START, TABLE_END};
 use koth_hill::{Hill, Row};
-use koth_text::{Line, Tally, put_escaped, put_line};
+use koth_text::{Line, Tally, put_escaped, put_line, put_number};
 use koth_views::between;
 use std::alloc::{AllocError, Allocator};
 
@@ -51,7 +51,6 @@ fn put_rank_headings<A: Allocator>(
 }
 
 /// Puts the heading of the column of a rank, which names the warrior.
-#[tactic(auto, unfolding(crate::specs::Matches::rank_heading))]
 fn put_rank_heading<A: Allocator>(
     page: &mut Vec<u8, A>,
     rank: u64,
@@ -61,18 +60,10 @@ fn put_rank_heading<A: Allocator>(
 {
     page.extend_from_slice(b"<th title=\"")?;
     put_escaped(page, row.name.bytes())?;
-    put_line(page, rank_heading_end(rank))?;
+    page.extend_from_slice(b"\">")?;
+    put_number(page, rank)?;
+    page.extend_from_slice(b"</th>")?;
     Ok(())
-}
-
-fn rank_heading_end(rank: u64) -> Line
-    ensures { result ≡ codes "\">" ++ decimal rank ++ codes "</th>" }
-{
-    let mut line = Line::new();
-    line.put(b"\">");
-    line.put_number(rank);
-    line.put(b"</th>");
-    line
 }
 
 fn put_rows<A: Allocator, B: Allocator>(
