@@ -7,7 +7,7 @@ use Rattle.war_types.specs.declared.fault.AsmFault.{AsmFault}
 use Rattle.war_types.specs.declared.settings.RawSettings.{RawSettings}
 use Rattle.redcode_asm.specs.Assembly.{assembly}
 use Rattle.redcode_asm.specs.LoadText.{load_text}
-use Rattle.koth_protocol.specs.Written.{WritesPart}
+use Rattle.koth_text.specs.Written.{WritesPart}
 use Rattle.koth_commands.specs.Answer.{EndsRefusal, EndsText}
 use Rattle.koth_commands.specs.Asm.{Answers, EndsSource, EndsUnder, Explains, answer_of}
 use Rattle.koth_commands.specs.Failure.{failure_word}

@@ -2,7 +2,7 @@
 use Rattle.std.proofs.Common.{◌≡◌, inl, inr, ℕ, List, [], ◌++◌, Option, None, Some, Result, Ok, Err, OnOk, OnErr, refl, sym, ap, subst, ◌∙◌, append-nil, append_assoc}
 use Rattle.std.specs.Io.KnownBytes.{Appends, Keeps}
 use Rattle.std.proofs.KnownBytes.{Appends-nil, Appends-trans}
-use Rattle.koth_protocol.specs.Written.{WritesPart}
+use Rattle.koth_text.specs.Written.{WritesPart}
 use Rattle.koth_commands.specs.Cause.{cause_told}
 use Rattle.koth_commands.specs.Told.{TellsAlone, TellsCause, TellsWord, WritesSome}
 use Rattle.koth_commands.specs.declared.cause.Cause.{Cause}

@@ -5,8 +5,8 @@ use Rattle.war_types.specs.declared.fault.AsmFault.{AsmFault}
 use Rattle.war_types.specs.declared.settings.RawSettings.{RawSettings}
 use Rattle.war_types.specs.declared.settings.SettingsFault.{SettingsFault}
 use Rattle.war_types.specs.declared.settings.SettingsFault.TheVariants as faults
-use Rattle.koth_protocol.specs.Refusal.{refusal_line}
-use Rattle.koth_protocol.specs.Written.{WritesPart}
+use Rattle.koth_text.specs.Refusal.{refusal_line}
+use Rattle.koth_text.specs.Written.{WritesPart}
 use Rattle.koth_commands.specs.Failure.{failure_word}
 use Rattle.koth_commands.specs.Streams.{Streams}
 use Rattle.koth_commands.specs.Told.{TellsWord, WritesSome}

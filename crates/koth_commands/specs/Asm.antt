@@ -7,8 +7,8 @@ use Rattle.war_types.specs.declared.settings.RawSettings.{RawSettings}
 use Rattle.war_types.specs.declared.settings.SettingsFault.{SettingsFault}
 use Rattle.redcode_asm.specs.Assembly.{assembly}
 use Rattle.redcode_asm.specs.LoadText.{load_text}
-use Rattle.koth_protocol.specs.Refusal.{refusal_line}
-use Rattle.koth_protocol.specs.Written.{WritesPart}
+use Rattle.koth_text.specs.Refusal.{refusal_line}
+use Rattle.koth_text.specs.Written.{WritesPart}
 use Rattle.koth_words.specs.declared.words.Source.{Source}
 use Rattle.koth_words.specs.declared.words.Source.TheVariants as sources
 use Rattle.koth_commands.specs.Answer.{EndsGiven, Tells}

@@ -5,7 +5,7 @@ use Rattle.war_types.specs.declared.settings.RawSettings.{RawSettings}
 use Rattle.war_types.specs.declared.settings.SettingsFault.{SettingsFault}
 use Rattle.koth_match.specs.Match.{match_of}
 use Rattle.koth_match.specs.declared.bout.Bout.{Bout}
-use Rattle.koth_views.specs.Bout.{bout_view}
+use Rattle.koth_text.specs.Bout.{bout_view}
 use Rattle.koth_words.specs.declared.words.View.{View}
 use Rattle.koth_words.specs.declared.words.View.TheVariants as views
 use Rattle.koth_commands.specs.Answer.{EndsGiven}

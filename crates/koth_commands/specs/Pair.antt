@@ -5,8 +5,8 @@ use Rattle.war_types.specs.Warrior.{WarriorParts, Fits}
 use Rattle.war_types.specs.declared.fault.AsmFault.{AsmFault}
 use Rattle.war_types.specs.declared.settings.RawSettings.{RawSettings}
 use Rattle.redcode_asm.specs.Assembly.{assembly}
-use Rattle.koth_protocol.specs.Refusal.{refusal_line}
-use Rattle.koth_protocol.specs.Written.{WritesPart}
+use Rattle.koth_text.specs.Refusal.{refusal_line}
+use Rattle.koth_text.specs.Written.{WritesPart}
 use Rattle.koth_commands.specs.Failure.{failure_word}
 use Rattle.koth_commands.specs.Told.{TellsWord, WritesSome}
 use Rattle.koth_commands.specs.declared.failure.Failure.TheVariants as failures

@@ -1,6 +1,6 @@
 -- What is reported on standard error.
 use Rattle.std.specs.Prelude.{◌⊎◌, ℕ, Option, None, Some, List, ◌++◌, codes}
-use Rattle.koth_protocol.specs.Written.{WritesPart}
+use Rattle.koth_text.specs.Written.{WritesPart}
 use Rattle.koth_commands.specs.Cause.{cause_told}
 use Rattle.koth_commands.specs.declared.cause.Cause.{Cause}
 use Rattle.koth_commands.specs.declared.telling.Apart.{Apart}

@@ -8,7 +8,7 @@ use crate::explanation::explain;
 use crate::failure::Failure;
 use crate::status::Status;
 use crate::stream::write_whole;
-use koth_protocol::refusal_line;
+use koth_text::refusal_line;
 use std::alloc::Allocator;
 use std::io::Write;
 use war_types::{AsmFault, Settings};

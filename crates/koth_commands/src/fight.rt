@@ -12,7 +12,7 @@ use crate::pair::{Pair, answer_no_match, pair_in};
 use crate::settings::refuse_settings;
 use crate::status::Status;
 use koth_match::Bout;
-use koth_views::bout_view;
+use koth_text::bout_view;
 use koth_words::{Fighters, View};
 use mars_core::Arena;
 use std::alloc::{AllocError, Allocator};

@@ -2,10 +2,10 @@
 
 ghost use Rattle.std.specs.Prelude.{◌≡◌, ◌<◌, ◌≤◌, ℕ, List, length, take, IfOk, OnOk, OnErr};
 ghost use Rattle.std.specs.Io.KnownBytes.{Appends, Consumes, IsAtEnd};
-ghost use Rattle.koth_protocol.specs.Written.{WritesPart};
+ghost use Rattle.koth_text.specs.Written.{WritesPart};
 
 use crate::cause::{Reason, reason_of};
-use koth_protocol::{read_uninterrupted, write_uninterrupted};
+use koth_text::{read_uninterrupted, write_uninterrupted};
 use std::io;
 use std::io::{ErrorKind, Read, Write};
 

@@ -3,7 +3,7 @@
 ghost use Rattle.std.specs.Prelude.{◌≡◌, ◌++◌, OnErr, OnOk};
 ghost use Rattle.std.specs.Io.KnownBytes.{Appends};
 ghost use Rattle.koth_commands.specs.Told.{apart_text, TellsCause, TellsWord};
-ghost use Rattle.koth_protocol.specs.Written.{WritesPart};
+ghost use Rattle.koth_text.specs.Written.{WritesPart};
 
 use crate::cause::{Cause, cause_text};
 use crate::stream::{StreamFault, write_whole};

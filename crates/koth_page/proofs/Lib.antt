@@ -1,7 +1,6 @@
-mod Rows
-pub mod Steps
-mod Escapes
-pub mod Ascii
+mod Ascii
+mod Markup
 mod Nameless
-pub mod Markup
+mod Rows
 mod Seed
+mod Steps

@@ -1,33 +1,25 @@
 -- The tags and the attributes of a page are those of the same hill without names, for `hill_page`.
-use Rattle.std.proofs.Common.{◌≡◌, ℕ, ◌+◌, Bool, true, false, not, cond, eqb, ltb, List, [], ◌∷◌, ◌++◌, codes, decimal, map, refl, sym, ap, ap₂, ◌∙◌}
-use Rattle.std.specs.List.{enumerate_from, flat_map, list_all, sum_by}
-use Rattle.std.proofs.lemmas.Bool.{and_parts, not-true}
-use Rattle.std.proofs.lemmas.List.Elements.{filter-append}
+use Rattle.std.proofs.Common.{◌≡◌, ℕ, ◌+◌, Bool, true, false, cond, eqb, ltb, List, [], ◌∷◌, ◌++◌, codes, decimal, map, refl, sym, ap, ◌∙◌}
+use Rattle.std.specs.List.{enumerate_from, flat_map, sum_by}
 use Rattle.koth_match.specs.declared.bout.Bout.{Bout}
 use Rattle.koth_hill.specs.Kept.{Kept, or_no_rounds, result_of, table_kept}
 use Rattle.koth_hill.specs.Table.{RowParts}
-use Rattle.koth_views.specs.Tally.{against_all, between, no_tally, of_older, of_younger}
+use Rattle.koth_text.specs.Characters.{markup_of}
+use Rattle.koth_text.specs.Escape.{escaped}
+use Rattle.koth_text.specs.Tally.{of_older, of_younger}
+use Rattle.koth_text.specs.declared.tally.Tally.{Tally}
+use Rattle.koth_text.proofs.Markup.{Alike, both, markup_of-escaped}
+use Rattle.koth_views.specs.Tally.{against_all, between, no_tally}
 use Rattle.koth_page.specs.declared.links.Links.{Links}
 use Rattle.koth_page.specs.declared.links.Links.TheVariants as kinds
 use Rattle.koth_page.specs.declared.parts.TheConstants.{END, HEAD, MATCHES_START, STANDING_START, TABLE_END}
-use Rattle.koth_views.specs.declared.tally.Tally.{Tally}
 use Rattle.koth_page.specs.Cells.{name_cell, number_cell, number_cells}
-use Rattle.koth_page.specs.Escape.{escaped}
-use Rattle.koth_page.specs.Laws.{is_harmless, is_markup, is_printable, markup_of, nameless}
+use Rattle.koth_page.specs.Laws.{nameless}
 use Rattle.koth_page.specs.Matches.{fought_cell, fought_text, match_cell, matches_heading, matches_row, matches_rows, matches_text, rank_heading, sides_text}
 use Rattle.koth_page.specs.Page.{hill_page, page_of, tables_text}
 use Rattle.koth_page.specs.Settings.{settings_text}
 use Rattle.koth_page.specs.Standing.{standing_heading, standing_row, standing_rows, standing_text}
-use Rattle.koth_page.proofs.Ascii.{harmless}
 use Rattle.koth_page.proofs.Nameless.{entries_of-nameless, nameless_row, table_kept-nameless}
-
--- ---- texts with the same markup
-
-abbrev pub Alike : List ℕ → List ℕ → Type 0
-Alike a b = markup_of a ≡ markup_of b
-
-pub both : (a b c d : List ℕ) → Alike a b → Alike c d → Alike (a ++ c) (b ++ d)
-both a b c d first second = filter-append is_markup a c ∙ ap₂ (λ (x y : List ℕ). x ++ y) first second ∙ sym (filter-append is_markup b d)
 
 each : {X : Type 0} (f g : X → List ℕ) (h : X → X) → ((x : X) → Alike (f x) (g (h x))) → (xs : List X) → Alike (flat_map f xs) (flat_map g (map h xs))
 each f g h same [] = refl
@@ -39,16 +31,6 @@ each_ranked f g same n [] = refl
 each_ranked f g same n (row ∷ rows) =
     both (f (n, row)) (g (n, nameless_row row)) (flat_map f (enumerate_from (n + 1) rows)) (flat_map g (enumerate_from (n + 1) (map nameless_row rows)))
     (same n row) (each_ranked f g same (n + 1) rows)
-
-markup_of-harmless : (text : List ℕ) → list_all is_harmless text ≡ true → markup_of text ≡ []
-markup_of-harmless [] h = refl
-markup_of-harmless (b ∷ text) h =
-    let parts = and_parts (is_harmless b) (list_all is_harmless text) h in
-    let none : is_markup b ≡ false = not-true (is_markup b) (and_parts (is_printable b) (not (is_markup b)) parts.0).1 in
-    ap (λ t. cond t (b ∷ markup_of text) (markup_of text)) none ∙ markup_of-harmless text parts.1
-
-markup_of-escaped : (text : List ℕ) → markup_of (escaped text) ≡ []
-markup_of-escaped text = markup_of-harmless (escaped text) (harmless text)
 
 -- ---- rounds ask for no name
 
@@ -70,7 +52,7 @@ against_all-nameless k one = ap (λ es. against_by es k.results one) (sym (entri
 -- ---- the parts of a page
 
 -- two names have no markup, either of them
-pub names : (name other : List ℕ) → Alike (escaped name) (escaped other)
+names : (name other : List ℕ) → Alike (escaped name) (escaped other)
 names name other = markup_of-escaped name ∙ sym (markup_of-escaped other)
 
 name_cells : (name other : List ℕ) → Alike (name_cell name) (name_cell other)

@@ -12,21 +12,11 @@ use Rattle.koth_hill.specs.Kept.{Kept, kept_of, table_kept}
 use Rattle.koth_page.specs.declared.links.Links.TheVariants as kinds
 use Rattle.koth_page.specs.declared.parts.TheConstants.{END, HEAD, MATCHES_START, STANDING_START, TABLE_END}
 use Rattle.koth_page.specs.Cells.{name_cell, number_cell}
-use Rattle.koth_page.specs.Escape.{escaped}
+use Rattle.koth_text.specs.Escape.{escaped}
 use Rattle.koth_page.specs.Matches.{fought_cell, fought_text, link_start, matches_heading, matches_row, matches_text, rank_heading, rounds_text, sides_text}
 use Rattle.koth_page.specs.Page.{hill_page, page_of}
 use Rattle.koth_page.specs.Settings.{machine_text, rules_text, setting_text, settings_text}
 use Rattle.koth_page.specs.Standing.{standing_heading, standing_row, standing_text}
-
--- names that are more than letters: a tag, and a letter of two bytes; an apostrophe, and a control character; a byte that no text has; a text
--- that is cut off within a character, and goes on; and no name at all
-names : (escaped (codes "<b>&\"" ++ 0xC3 ∷ 0xA9 ∷ []) ≡ codes "&lt;b&gt;&amp;&quot;&#233;")
-    × (escaped (codes "it's" ++ 7 ∷ []) ≡ codes "it&#39;s&#65533;")
-    × (escaped (0xFF ∷ []) ≡ codes "&#65533;")
-    × (escaped (0xE2 ∷ 0x82 ∷ codes "x") ≡ codes "&#65533;x")
-    × (escaped [] ≡ [])
-unfolding digits chars encode_utf8 escaped is_utf8 utf8_error_len utf8_lossy utf8_valid_len
-names = (refl, refl, refl, refl, refl)
 
 abbrev settings : RawSettings
 settings =

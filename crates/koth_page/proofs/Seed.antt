@@ -1,4 +1,4 @@
--- A page tells nothing of the seed, for `hill_page`.
+-- A page is the same under any seed, for `hill_page`.
 use Rattle.std.proofs.Common.{◌≡◌, ℕ, List, [], ◌∷◌, ◌++◌, refl, ap}
 use Rattle.koth_hill.specs.Kept.{Kept, table_kept}
 use Rattle.koth_hill.specs.Table.{RowParts}

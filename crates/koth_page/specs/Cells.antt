@@ -1,7 +1,7 @@
 -- Cells of a table.
 use Rattle.std.specs.Prelude.{ℕ, List, ◌++◌, codes, decimal}
 use Rattle.std.specs.List.{flat_map}
-use Rattle.koth_page.specs.Escape.{escaped}
+use Rattle.koth_text.specs.Escape.{escaped}
 
 -- a number
 unfoldable pub number_cell : ℕ → List ℕ

@@ -1,5 +1,6 @@
 -- What others wrote, as it stands in a page.
-pub mod Escape
+pub use Rattle.koth_text.specs.Characters
+pub use Rattle.koth_text.specs.Escape
 -- Numbers and names in the cells of a table.
 pub mod Cells
 -- The settings of a hill, its table, and its matches.

@@ -5,10 +5,10 @@ use Rattle.koth_hill.specs.Kept.{Kept}
 use Rattle.koth_hill.specs.Table.{RowParts}
 use Rattle.koth_page.specs.declared.links.Links.{Links}
 use Rattle.koth_page.specs.declared.links.Links.TheVariants as kinds
-use Rattle.koth_views.specs.declared.tally.Tally.{Tally}
+use Rattle.koth_text.specs.declared.tally.Tally.{Tally}
 use Rattle.koth_page.specs.declared.parts.TheConstants.{MATCHES_START, TABLE_END}
 use Rattle.koth_page.specs.Cells.{name_cell, number_cell}
-use Rattle.koth_page.specs.Escape.{escaped}
+use Rattle.koth_text.specs.Escape.{escaped}
 use Rattle.koth_views.specs.Tally.{between}
 
 -- the heading of the column of a rank, which names the warrior
@@ -33,7 +33,7 @@ sides_text row other = escaped row.name ++ codes " against " ++ escaped other.na
 unfoldable pub link_start : ℕ → ℕ → List ℕ
 link_start older younger = codes "<a href=\"/replay/" ++ decimal older ++ codes "/" ++ decimal younger ++ codes "/1\">"
 
--- the rounds of two that fought: where rounds are linked, in a link to the first round
+-- the rounds of two that fought, in a link to the first round if rounds are linked
 unfoldable pub fought_text : Links → Tally → RowParts → RowParts → List ℕ
 fought_text kinds.None rounds row other = rounds_text rounds
 fought_text kinds.Rounds rounds row other =
@@ -43,7 +43,7 @@ fought_text kinds.Rounds rounds row other =
 unfoldable pub fought_cell : Links → Tally → RowParts → RowParts → List ℕ
 fought_cell links rounds row other = codes "<td title=\"" ++ sides_text row other ++ codes "\">" ++ fought_text links rounds row other ++ codes "</td>"
 
--- what the row of one warrior tells of another, and of itself
+-- what the row of one warrior says of another, and of itself
 abbrev pub match_cell : Kept → Links → RowParts → RowParts → List ℕ
 match_cell k links row other =
     if row.entry == other.entry then codes "<td class=\"self\">&middot;</td>" else fought_cell links (between k row.entry other.entry) row other

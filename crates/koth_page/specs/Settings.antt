@@ -1,4 +1,4 @@
--- The settings of a hill. Its seed is none of those that are told.
+-- The settings of a hill, without its seed.
 use Rattle.std.specs.Prelude.{ℕ, List, ◌++◌, codes, decimal}
 use Rattle.war_types.specs.declared.settings.RawSettings.{RawSettings}
 

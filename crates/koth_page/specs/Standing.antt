@@ -3,7 +3,7 @@ use Rattle.std.specs.Prelude.{ℕ, List, [], ◌∷◌, ◌++◌, codes}
 use Rattle.std.specs.List.{enumerate_from, flat_map}
 use Rattle.koth_hill.specs.Kept.{Kept}
 use Rattle.koth_hill.specs.Table.{RowParts}
-use Rattle.koth_views.specs.declared.tally.Tally.{Tally}
+use Rattle.koth_text.specs.declared.tally.Tally.{Tally}
 use Rattle.koth_page.specs.declared.parts.TheConstants.{STANDING_START, TABLE_END}
 use Rattle.koth_page.specs.Cells.{name_cell, number_cells}
 use Rattle.koth_views.specs.Tally.{against_all}

@@ -1,31 +1,20 @@
 //! Cells of a table.
 
-ghost use Rattle.std.specs.Prelude.{◌≡◌, ◌++◌, codes, decimal, OnOk};
+ghost use Rattle.std.specs.Prelude.{◌≡◌, ◌+◌, ◌≤◌, ◌++◌, length, codes, decimal, OnOk};
 ghost use Rattle.koth_page.specs.Cells.{name_cell, number_cell, number_cells};
 
-use crate::escape::put_escaped;
-use koth_protocol::Line;
+use koth_text::{Line, put_escaped, put_line};
 use std::alloc::{AllocError, Allocator};
 
-/// Puts a number in decimal digits.
-pub fn put_number<A: Allocator>(page: &mut Vec<u8, A>, number: u64) -> Result<(), AllocError>
-    ensures { OnOk result (page.new.items ≡ page.old.items ++ decimal number) }
-{
-    let mut digits = Line::new();
-    digits.put_number(number);
-    page.extend_from_slice(digits.as_slice())
-}
-
 #[tactic(auto, unfolding(crate::specs::Cells::number_cell))]
-pub(crate) fn put_number_cell<A: Allocator>(
-    page: &mut Vec<u8, A>,
-    number: u64,
-) -> Result<(), AllocError>
-    ensures { OnOk result (page.new.items ≡ page.old.items ++ number_cell number) }
+pub(crate) fn number_cell(number: u64) -> Line
+    ensures { result ≡ number_cell number }
 {
-    page.extend_from_slice(b"<td>")?;
-    put_number(page, number)?;
-    page.extend_from_slice(b"</td>")
+    let mut line = Line::new();
+    line.put(b"<td>");
+    line.put_number(number);
+    line.put(b"</td>");
+    line
 }
 
 pub(crate) fn put_number_cells<A: Allocator>(
@@ -35,7 +24,7 @@ pub(crate) fn put_number_cells<A: Allocator>(
     ensures { OnOk result (page.new.items ≡ page.old.items ++ number_cells numbers.now) }
 {
     for number in numbers {
-        put_number_cell(page, *number)?;
+        put_line(page, number_cell(*number))?;
     }
     Ok(())
 }

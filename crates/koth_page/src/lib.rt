@@ -1,19 +1,18 @@
 //! The page of a hill: one file of HTML that needs nothing from outside, with or without links to rounds that a service shows.
 //!
-//! It knows a hill with the results that it keeps, and no store, files or sockets. The modules, in the order in which the data pass:
+//! It knows a hill with the results that it keeps, and no store, files or sockets. What others wrote is escaped by `koth_text`.
+//! The modules, in the order in which the data pass:
 //!
-//! - `escape`: what others wrote, as it stands in a page;
 //! - `cells`: numbers and names in the cells of a table; `links`: what the rounds of a match lead to;
 //! - `parts`: what is the same on every page, with the style sheet;
 //! - `settings`, `standing` and `matches`: the settings of a hill, its table, and its matches;
 //! - `page`: all of these.
 //!
 //! The page is exactly what its definition in `specs` makes of the hill. Whatever a warrior or its author is called, no tag and no value
-//! of an attribute begins or ends with that; each byte is ASCII; and the seed is not told. No page has a script.
+//! of an attribute begins or ends with that. Each byte is ASCII, the seed is not shown, and no page has a script.
 #![tactic(auto)]
 
 mod cells;
-mod escape;
 mod links;
 mod matches;
 mod page;
@@ -21,7 +20,6 @@ mod parts;
 mod settings;
 mod standing;
 
-pub use cells::put_number;
-pub use escape::put_escaped;
+pub use koth_text::{put_escaped, put_number};
 pub use links::Links;
 pub use page::hill_page;

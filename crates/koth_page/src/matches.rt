@@ -1,16 +1,16 @@
 //! The matches on a hill: who won, lost and tied how many rounds against whom.
 
-ghost use Rattle.std.specs.Prelude.{◌≡◌, ◌+◌, ◌<◌, ◌^◌, ◌++◌, length, codes, decimal, OnOk};
+ghost use Rattle.std.specs.Prelude.{◌≡◌, ◌+◌, ◌<◌, ◌≤◌, ◌^◌, ◌++◌, length, codes, decimal, OnOk};
 ghost use Rattle.std.specs.List.{enumerate_from, flat_map};
 ghost use Rattle.koth_hill.specs.Rows.{row_parts, rows_parts};
 ghost use Rattle.koth_page.specs.Matches.{fought_cell, fought_text, link_start, match_cell, matches_heading, matches_row, matches_rows, matches_text, rank_heading, rounds_text, sides_text};
 
-use crate::cells::{put_name_cell, put_number, put_number_cell};
-use crate::escape::put_escaped;
+use crate::cells::{number_cell, put_name_cell};
 use crate::links::Links;
 use crate::parts::{MATCHES_START, TABLE_END};
 use koth_hill::{Hill, Row};
-use koth_views::{Tally, between};
+use koth_text::{Line, Tally, put_escaped, put_line, put_number};
+use koth_views::between;
 use std::alloc::{AllocError, Allocator};
 
 /// Puts the matches of these rows: a row for each warrior by rank, and a column for each other by rank.
@@ -93,7 +93,7 @@ fn put_row<A: Allocator, B: Allocator>(
     ensures { OnOk result (page.new.items ≡ page.old.items ++ matches_row hill.now links (rows_parts rows.now) rank (row_parts row.now)) }
 {
     page.extend_from_slice(b"<tr>")?;
-    put_number_cell(page, rank)?;
+    put_line(page, number_cell(rank))?;
     put_name_cell(page, row.name.bytes())?;
     put_cells(page, hill, links, row, rows)?;
     page.extend_from_slice(b"</tr>\n")
@@ -114,7 +114,7 @@ fn put_cells<A: Allocator, B: Allocator>(
     Ok(())
 }
 
-/// Puts what the row of one warrior tells of another, or of itself.
+/// Puts what the row of one warrior says of another, or of itself.
 fn put_cell<A: Allocator, B: Allocator>(
     page: &mut Vec<u8, A>,
     hill: &Hill<B>,
@@ -150,7 +150,7 @@ fn put_fought_cell<A: Allocator>(
     Ok(())
 }
 
-/// Puts the rounds of two that fought: where rounds are linked, in a link to the first round.
+/// Puts the rounds of two that fought, in a link to the first round if rounds are linked.
 #[tactic(auto, unfolding(crate::specs::Matches::fought_text))]
 fn put_fought<A: Allocator>(
     page: &mut Vec<u8, A>,
@@ -162,31 +162,29 @@ fn put_fought<A: Allocator>(
     ensures { OnOk result (page.new.items ≡ page.old.items ++ fought_text links rounds (row_parts row.now) (row_parts other.now)) }
 {
     match links {
-        Links::None => put_rounds(page, rounds),
+        Links::None => put_line(page, rounds_line(rounds)),
         Links::Rounds => {
             let older = row.entry.min(other.entry);
             let younger = row.entry.max(other.entry);
-            put_link_start(page, older, younger)?;
-            put_rounds(page, rounds)?;
+            put_line(page, link_start(older, younger))?;
+            put_line(page, rounds_line(rounds))?;
             page.extend_from_slice(b"</a>")
         }
     }
 }
 
-/// Puts what begins a link to the first round of a match.
-fn put_link_start<A: Allocator>(
-    page: &mut Vec<u8, A>,
-    older: u64,
-    younger: u64,
-) -> Result<(), AllocError>
-    ensures { OnOk result (page.new.items ≡ page.old.items ++ link_start older younger) }
+/// What begins a link to the first round of a match.
+#[tactic(auto, unfolding(crate::specs::Matches::link_start))]
+fn link_start(older: u64, younger: u64) -> Line
+    ensures { result ≡ link_start older younger }
 {
-    page.extend_from_slice(b"<a href=\"/replay/")?;
-    put_number(page, older)?;
-    page.extend_from_slice(b"/")?;
-    put_number(page, younger)?;
-    page.extend_from_slice(b"/1\">")?;
-    Ok(())
+    let mut line = Line::new();
+    line.put(b"<a href=\"/replay/");
+    line.put_number(older);
+    line.put(b"/");
+    line.put_number(younger);
+    line.put(b"/1\">");
+    line
 }
 
 /// Puts who fought whom.
@@ -204,12 +202,14 @@ fn put_sides<A: Allocator>(
 }
 
 #[tactic(auto, unfolding(crate::specs::Matches::rounds_text))]
-fn put_rounds<A: Allocator>(page: &mut Vec<u8, A>, rounds: Tally) -> Result<(), AllocError>
-    ensures { OnOk result (page.new.items ≡ page.old.items ++ rounds_text rounds) }
+fn rounds_line(rounds: Tally) -> Line
+    ensures { result ≡ rounds_text rounds }
 {
-    put_number(page, rounds.won)?;
-    page.extend_from_slice(b"/")?;
-    put_number(page, rounds.lost)?;
-    page.extend_from_slice(b"/")?;
-    put_number(page, rounds.tied)
+    let mut line = Line::new();
+    line.put_number(rounds.won);
+    line.put(b"/");
+    line.put_number(rounds.lost);
+    line.put(b"/");
+    line.put_number(rounds.tied);
+    line
 }

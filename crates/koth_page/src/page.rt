@@ -3,9 +3,10 @@
 ghost use Rattle.std.specs.Prelude.{◌≡◌, ℕ, List, ◌++◌, codes, IfOk, IsTrue, OnOk};
 ghost use Rattle.std.specs.List.{list_all};
 ghost use Rattle.koth_hill.specs.Rows.{rows_parts};
-ghost use Rattle.koth_page.specs.Escape.{escaped};
-ghost use Rattle.koth_page.specs.Laws.{is_harmless, is_page_byte, markup_of, nameless, with_seed};
-ghost use Rattle.koth_page.specs.Page.{hill_page, tables_text};
+ghost use Rattle.koth_text.specs.Characters.{is_harmless, is_page_byte, markup_of};
+ghost use Rattle.koth_text.specs.Escape.{escaped};
+ghost use Rattle.koth_page.specs.Laws.{nameless, with_seed};
+ghost use Rattle.koth_page.specs.Page.{hill_page, page_of, tables_text};
 
 use crate::links::Links;
 use crate::matches::put_matches;
@@ -17,7 +18,7 @@ use std::alloc::{AllocError, Allocator};
 
 /// The page of a hill: what a hill is, its settings without the seed, its table, and its matches; a hill without warriors has a sentence
 /// instead of the two tables. It is HTML in ASCII that loads nothing and has no script. No match is fought. The links say whether each
-/// result leads to the first round of its match, which a service shows. The error is want of memory.
+/// result leads to the first round of its match, which a service shows. The error is lack of memory.
 pub fn hill_page<A: Allocator + Copy, B: Allocator>(
     alloc: A,
     hill: &Hill<B>,
@@ -32,7 +33,7 @@ pub fn hill_page<A: Allocator + Copy, B: Allocator>(
     ensures markup { IfOk result (λ page. markup_of page.items ≡ markup_of (hill_page (nameless hill.now) links)) }
     ensures ascii { IfOk result (λ page. IsTrue (list_all is_page_byte page.items)) }
 
-    // It tells nothing of the seed but what the results of matches do.
+    // The page is the same under any other seed, but for what the seed does to the results of matches.
     ensures seed { (seed : ℕ) → IfOk result (λ page. page.items ≡ hill_page (with_seed seed hill.now) links) }
 {
     page_of(alloc, hill, links)
@@ -46,12 +47,36 @@ fn page_of<A: Allocator + Copy, B: Allocator>(
     ensures { IfOk result (λ page. page.items ≡ hill_page hill.now links) }
 {
     let rows = hill.rows(alloc)?;
+    page_with(alloc, hill, links, rows.as_slice())
+}
+
+/// The page of a hill with these rows.
+fn page_with<A: Allocator, B: Allocator>(
+    alloc: A,
+    hill: &Hill<B>,
+    links: Links,
+    rows: &[Row<'_>],
+) -> Result<Vec<u8, A>, AllocError>
+    ensures { IfOk result (λ page. page.items ≡ page_of hill.now links (rows_parts rows.now)) }
+{
     let mut page = Vec::new(alloc);
-    page.extend_from_slice(HEAD)?;
-    put_settings(&mut page, hill.settings())?;
-    put_tables(&mut page, hill, links, rows.as_slice())?;
-    page.extend_from_slice(END)?;
+    put_page(&mut page, hill, links, rows)?;
     Ok(page)
+}
+
+fn put_page<A: Allocator, B: Allocator>(
+    page: &mut Vec<u8, A>,
+    hill: &Hill<B>,
+    links: Links,
+    rows: &[Row<'_>],
+) -> Result<(), AllocError>
+    ensures { OnOk result (page.new.items ≡ page.old.items ++ page_of hill.now links (rows_parts rows.now)) }
+{
+    page.extend_from_slice(HEAD)?;
+    put_settings(page, hill.settings())?;
+    put_tables(page, hill, links, rows)?;
+    page.extend_from_slice(END)?;
+    Ok(())
 }
 
 /// Puts the tables of these rows, or that there are none.

@@ -1,9 +1,9 @@
 //! The settings of a hill.
 
-ghost use Rattle.std.specs.Prelude.{◌≡◌, ◌++◌, codes, decimal, OnOk};
+ghost use Rattle.std.specs.Prelude.{◌≡◌, ◌+◌, ◌≤◌, ◌++◌, length, codes, decimal, OnOk};
 ghost use Rattle.koth_page.specs.Settings.{machine_text, rules_text, setting_text, settings_text};
 
-use crate::cells::put_number;
+use koth_text::{Line, put_line};
 use std::alloc::{AllocError, Allocator};
 use war_types::Settings;
 
@@ -52,7 +52,15 @@ fn put_setting<A: Allocator>(
 {
     page.extend_from_slice(b"<div><dt>")?;
     page.extend_from_slice(name)?;
-    page.extend_from_slice(b"</dt><dd>")?;
-    put_number(page, number)?;
-    page.extend_from_slice(b"</dd></div>\n")
+    put_line(page, setting_end(number))
+}
+
+fn setting_end(number: u64) -> Line
+    ensures { result ≡ codes "</dt><dd>" ++ decimal number ++ codes "</dd></div>\n" }
+{
+    let mut line = Line::new();
+    line.put(b"</dt><dd>");
+    line.put_number(number);
+    line.put(b"</dd></div>\n");
+    line
 }

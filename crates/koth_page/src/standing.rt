@@ -8,7 +8,8 @@ ghost use Rattle.koth_page.specs.Standing.{standing_heading, standing_row, stand
 use crate::cells::{put_name_cell, put_number_cells};
 use crate::parts::{STANDING_START, TABLE_END};
 use koth_hill::{Hill, Row};
-use koth_views::{Tally, against_all};
+use koth_text::Tally;
+use koth_views::against_all;
 use std::alloc::{AllocError, Allocator};
 
 /// Puts the table of these rows: by rank, with entry, points, rounds won, lost and tied against all others, age, name and author.

@@ -1,4 +1,4 @@
--- Lists that are cut after so many elements.
+-- Lists that are cut after their first elements.
 use Rattle.std.proofs.Common.{◌≡◌, ℕ, ◌+◌, ◌-◌, ◌<◌, ◌≤◌, ◌==◌, Result, is_ok, min, Bool, true, false, if◌then◌else◌, zero, suc, List, [], ◌∷◌, ◌++◌, length, take, refl, sym, ap, ◌∙◌, arith}
 use Rattle.std.proofs.lemmas.List.{take-take, take_min}
 use lib.Seq.{take-append-add}
@@ -22,14 +22,14 @@ same_append (suc n) (x ∷ xs) (y ∷ ys) b d e f =
     let rest = same_append n xs ys b d tails (same_below n b d f) in
     rw heads (ap (λ l. y ∷ l) rest)
 
--- a carriage return at the end is far behind the cut
+-- a carriage return at the end is far after the cut
 pub same_return : (n : ℕ) (xs behind : List ℕ) → n < length xs → Same n (without_return xs ++ behind) xs
 same_return zero xs behind below = refl
 same_return (suc n) [] behind below = absurd (omega (arith, below))
 same_return (suc n) (b ∷ []) behind below = absurd (omega (arith, below))
 same_return (suc n) (b ∷ c ∷ cs) behind below = ap (λ l. b ∷ l) (same_return n (c ∷ cs) behind (omega (arith, below)))
 
--- a line enters its source with the same first bytes wherever it is cut far behind them
+-- a line enters its source with the same first bytes wherever it is cut far after them
 pub same_entry : (n : ℕ) (xs : List ℕ) → n + 1 < length xs → Same n (without_dot (without_return xs) ++ 10 ∷ []) (without_dot xs)
 same_entry n [] below = absurd (omega (arith, below))
 same_entry n (b ∷ []) below = absurd (omega (arith, below))
@@ -48,7 +48,7 @@ same_dot n (suc m) (x ∷ xs) below = at (x == 46)
     at true = take-take n m xs (omega (arith, below))
     at false = take-take n (suc m) (x ∷ xs) (omega (arith, below))
 
--- bytes were put in behind others, as many as there was room for
+-- bytes were put in after others, as many as there was room for
 pub put_in : {T E : Type 0} (old more items : List ℕ) (count : ℕ) (r : Result T E) → length old ≤ 65540 → count ≡ min (65540 - length old) (length more)
     → is_ok r ≡ true → items ≡ (if is_ok r then old ++ take count more else old) → items ≡ take 65540 (old ++ more)
 put_in old more items count r within is ok put =

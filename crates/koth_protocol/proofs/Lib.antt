@@ -1,7 +1,6 @@
 mod Cuts
-pub mod KindNames
 mod MatchLines
-pub mod Parts
 mod ProtocolRows
 mod Readings
 mod RowLines
+pub use Rattle.koth_text.proofs.KindNames

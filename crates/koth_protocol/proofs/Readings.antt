@@ -1,11 +1,11 @@
--- What a line makes of a reading, where only its beginning is kept.
+-- What a line does to a reading, if only its beginning is kept.
 use Rattle.std.proofs.Common.{◌≡◌, ◌≢◌, ◌⊎◌, inl, inr, ℕ, ◌+◌, ◌-◌, ◌<◌, ◌≤◌, ◌==◌, ◌&&◌, Bool, true, false, if◌then◌else◌, suc, List, [], ◌∷◌, ◌++◌, length, take, get_or, eqb-true, Option, None, Some, refl, sym, ap, append_assoc, subst, ◌∙◌, arith, codes}
 use Rattle.std.specs.Str.{bytes_eq}
 use Rattle.std.proofs.lemmas.List.{take-take, take_all, length-take-le}
-use Rattle.koth_protocol.specs.Lines.{without_dot, without_return}
-use Rattle.koth_protocol.specs.Commands.{kept_source, with_line, word_of}
+use Rattle.koth_protocol.specs.Lines.{lines_from, without_dot, without_return}
+use Rattle.koth_protocol.specs.Commands.{commands_from, kept_source, with_line, word_of}
 use Rattle.koth_protocol.specs.Kept.{kept}
-use Rattle.koth_protocol.specs.Reading.{IsReading, IsSourceKept, Reads, TakesCommand, TakesSourceLine}
+use Rattle.koth_protocol.specs.Reading.{IsReading, IsSourceKept, Reads, TakesCommand, TakesSourceLine, commands_met}
 use Rattle.koth_protocol.specs.declared.script.Met.{Met}
 use Rattle.koth_protocol.specs.declared.script.Met.TheVariants as met
 use Rattle.koth_protocol.specs.declared.script.Script.{Script}
@@ -120,6 +120,17 @@ not_equal : (a b : ℕ) → a ≢ b → (a == b) ≡ false
 not_equal a b other = elim (eqb_tells a b) [ inl same ↦ absurd (other same.1) | inr differ ↦ differ.0 ]
 
 module _ {A : Type 0} where
+  -- a line that leaves no source under way
+  no_source : (script : Script A) (line : List ℕ) (source : Option (List ℕ)) (m : Met) → script.line ≡ [] → script.in_source ≡ false
+      → ((more : List ℕ) → commands_from source (lines_from line (10 ∷ more)) ≡ commands_met m script.source (commands_from None (lines_from [] more)))
+      → Reads line source 10 m script
+  no_source script line source m empty out commands = record {
+    new_line = [];
+    new_source = None;
+    reading = record { line_kept = empty; source_kept = rw out tt };
+    commands = commands;
+  }
+
   command_line : (script : Script A) (line : List ℕ) (m : Met) → script.line ≡ []
       → TakesCommand (without_return (kept line)) m script.in_source script.source → Reads line None 10 m script
   command_line script line met.Nothing empty takes = record {
@@ -129,24 +140,9 @@ module _ {A : Type 0} where
     commands = λ more. rw (sym (word_kept line) ∙ takes.0) refl;
   }
   command_line script line met.Submit empty takes = absurd takes
-  command_line script line met.Show empty takes = record {
-    new_line = [];
-    new_source = None;
-    reading = record { line_kept = empty; source_kept = rw takes.1 tt };
-    commands = λ more. rw (sym (word_kept line) ∙ takes.0) refl;
-  }
-  command_line script line met.Quit empty takes = record {
-    new_line = [];
-    new_source = None;
-    reading = record { line_kept = empty; source_kept = rw takes.1 tt };
-    commands = λ more. rw (sym (word_kept line) ∙ takes.0) refl;
-  }
-  command_line script line met.Bad empty takes = record {
-    new_line = [];
-    new_source = None;
-    reading = record { line_kept = empty; source_kept = rw takes.1 tt };
-    commands = λ more. rw (sym (word_kept line) ∙ takes.0) refl;
-  }
+  command_line script line met.Show empty takes = no_source script line None met.Show empty takes.1 (λ more. rw (sym (word_kept line) ∙ takes.0) refl)
+  command_line script line met.Quit empty takes = no_source script line None met.Quit empty takes.1 (λ more. rw (sym (word_kept line) ∙ takes.0) refl)
+  command_line script line met.Bad empty takes = no_source script line None met.Bad empty takes.1 (λ more. rw (sym (word_kept line) ∙ takes.0) refl)
 
   source_line : (script : Script A) (bytes line source : List ℕ) (m : Met) → script.line ≡ [] → kept_source bytes ≡ kept_source source
       → TakesSourceLine (without_return (kept line)) bytes m script.in_source script.source → Reads line (Some source) 10 m script
@@ -156,17 +152,13 @@ module _ {A : Type 0} where
     reading = record { line_kept = empty; source_kept = rw (takes.1, takes.2) (grown_kept bytes source line is) };
     commands = λ more. rw (sym (end_kept line) ∙ takes.0) refl;
   }
-  source_line script bytes line source met.Submit empty is takes = record {
-    new_line = [];
-    new_source = None;
-    reading = record { line_kept = empty; source_kept = rw takes.1 tt };
-    commands = λ more. rw (sym (end_kept line) ∙ takes.0, takes.2, is) refl;
-  }
+  source_line script bytes line source met.Submit empty is takes =
+      no_source script line (Some source) met.Submit empty takes.1 (λ more. rw (sym (end_kept line) ∙ takes.0, takes.2, is) refl)
   source_line script bytes line source met.Show empty is takes = absurd takes
   source_line script bytes line source met.Quit empty is takes = absurd takes
   source_line script bytes line source met.Bad empty is takes = absurd takes
 
-  -- the end of a line where a command is due
+  -- the end of a line while a command is due
   pub command_ends : (old script : Script A) (cut : List ℕ) (m : Met) → old.in_source ≡ false → cut ≡ without_return old.line → script.line ≡ []
       → TakesCommand cut m script.in_source script.source
       → (line : List ℕ) (source : Option (List ℕ)) → IsReading old line source → Reads line source 10 m script

@@ -15,14 +15,14 @@ pub data Command : Type 0 where
 abbrev pub kept_source : List ℕ → List ℕ
 kept_source source = take 65537 source
 
--- what a line asks for where a command is due
+-- what a line asks for if a command is due
 abbrev pub word_of : List ℕ → Word
 word_of line =
     if bytes_eq line (codes "SUBMIT") then words.Submit else (
     if bytes_eq line (codes "SHOW") then words.Show else (
     if bytes_eq line (codes "QUIT") then words.Quit else words.Other))
 
--- a command line in front of others, which are the source's lines behind `SUBMIT`
+-- a command line in front of other commands; after `SUBMIT` the lines are the source's
 abbrev pub commands_by : Word → List Command → List Command → List Command
 commands_by words.Submit behind others = behind
 commands_by words.Show behind others = Show ∷ others
@@ -33,7 +33,7 @@ commands_by words.Other behind others = Bad ∷ others
 abbrev pub with_line : List ℕ → List ℕ → List ℕ
 with_line source line = source ++ without_dot line ++ 10 ∷ []
 
--- the commands of these lines, behind a source that is under way or where a command is due; a source without its last line is none
+-- the commands of these lines, after the beginning of a source or while a command is due; a source without its last line is none
 abbrev pub commands_from : Option (List ℕ) → List (List ℕ) → List Command
 commands_from source [] = []
 commands_from None (line ∷ lines) = commands_by (word_of line) (commands_from (Some []) lines) (commands_from None lines)

@@ -1,6 +1,6 @@
 -- How a stream's faults are counted, and what is written of a text.
 pub mod Counted
-pub mod Written
+pub use Rattle.koth_text.specs.Written
 -- From bytes to lines, and from lines to commands.
 pub mod Lines
 pub mod Commands
@@ -8,7 +8,7 @@ pub mod Commands
 pub mod Kept
 pub mod Reading
 -- The lines of the answers that need no store.
-pub mod Refusal
+pub use Rattle.koth_text.specs.Refusal
 pub mod Table
--- The lines that tell of the matches of a hill.
+-- The matches of a hill.
 pub mod Matches

@@ -1,4 +1,4 @@
--- The lines that tell who won how many rounds against whom on a hill.
+-- Who won how many rounds against whom on a hill, in lines.
 use Rattle.std.specs.Prelude.{ℕ, ◌-◌, ◌==◌, max, nat_lt, if◌then◌else◌, List, ◌++◌, length, map, replicate, codes, decimal}
 use Rattle.std.specs.List.{enumerate_from, flat_map, range_with_len}
 use Rattle.koth_hill.specs.Kept.{Kept, entries_of, or_no_rounds, result_of, table_kept}
@@ -8,7 +8,7 @@ use Rattle.koth_hill.specs.Table.{RowParts}
 abbrev pub entries_shown : List RowParts → List ℕ
 entries_shown rows = map (λ r. r.entry) rows
 
--- a text at the right of so many places
+-- a text at the right of `places` places
 abbrev pub right : ℕ → List ℕ → List ℕ
 right places text = replicate (places - length text) 32 ++ text
 
@@ -26,7 +26,7 @@ rounds_won k one other =
     if nat_lt one other then (or_no_rounds (result_of (entries_of k.members) k.results one other)).older_wins
     else (or_no_rounds (result_of (entries_of k.members) k.results other one)).younger_wins
 
--- what the line of one entry tells of another, and of itself
+-- what the line of one entry says of another, and of itself
 abbrev pub told_of : Kept → ℕ → ℕ → List ℕ
 told_of k one other = if one == other then codes "-" else decimal (rounds_won k one other)
 

@@ -21,7 +21,7 @@ pub record IsReading {A : Type 0} (script : Script A) (line : List ℕ) (source 
   pub line_kept : script.line ≡ kept line
   pub source_kept : IsSourceKept script.in_source script.source source
 
--- the commands where this was met just now, with these bytes of a source, in front of others
+-- what was met just now, with these bytes of a source, in front of other commands
 abbrev pub commands_met : Met → List ℕ → List Command → List Command
 commands_met met.Nothing bytes others = others
 commands_met met.Submit bytes others = Command.Submit (kept_source bytes) ∷ others
@@ -29,7 +29,7 @@ commands_met met.Show bytes others = Command.Show ∷ others
 commands_met met.Quit bytes others = Command.Quit ∷ []
 commands_met met.Bad bytes others = Command.Bad ∷ others
 
--- what a byte makes of a reading: the commands of the bytes from it on are that which was met, and those of the reading behind it
+-- what a byte makes of a reading: the commands of the bytes from it on are the one that was met, and those of the reading after it
 pub record Reads {A : Type 0} (line : List ℕ) (source : Option (List ℕ)) (byte : ℕ) (met : Met) (script : Script A) : Type 0 where
   pub new_line : List ℕ
   pub new_source : Option (List ℕ)
@@ -37,7 +37,7 @@ pub record Reads {A : Type 0} (line : List ℕ) (source : Option (List ℕ)) (by
   pub commands : (more : List ℕ) → commands_from source (lines_from line (byte ∷ more))
       ≡ commands_met met script.source (commands_from new_source (lines_from new_line more))
 
--- what a line makes where a command is due
+-- what a line does if a command is due
 abbrev pub TakesCommand : List ℕ → Met → Bool → List ℕ → Type 0
 TakesCommand line met.Nothing in_source bytes = (word_of line ≡ words.Submit) × (in_source ≡ true) × (bytes ≡ [])
 TakesCommand line met.Submit in_source bytes = ⊥
@@ -45,7 +45,7 @@ TakesCommand line met.Show in_source bytes = (word_of line ≡ words.Show) × (i
 TakesCommand line met.Quit in_source bytes = (word_of line ≡ words.Quit) × (in_source ≡ false)
 TakesCommand line met.Bad in_source bytes = (word_of line ≡ words.Other) × (in_source ≡ false)
 
--- what a line makes of the source under way
+-- what a line does to the source under way
 abbrev pub TakesSourceLine : List ℕ → List ℕ → Met → Bool → List ℕ → Type 0
 TakesSourceLine line old met.Nothing in_source bytes = (bytes_eq line (codes ".") ≡ false) × (in_source ≡ true)
     × (bytes ≡ kept (kept (old ++ without_dot line) ++ 10 ∷ []))

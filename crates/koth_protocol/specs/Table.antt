@@ -1,4 +1,4 @@
--- The lines that tell which warriors stand on a hill.
+-- The warriors on a hill, a line each.
 use Rattle.std.specs.Prelude.{ℕ, ◌+◌, List, [], ◌∷◌, ◌++◌, codes, decimal}
 use Rattle.koth_hill.specs.Table.{RowParts}
 

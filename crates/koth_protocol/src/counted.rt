@@ -3,9 +3,9 @@
 ghost use Rattle.std.specs.Prelude.{◌≡◌, ◌≢◌, ◌+◌, ◌-◌, ◌^◌, ◌<◌, ◌≤◌, min, [], length, IfOk, OnOk, OnErr};
 ghost use Rattle.std.specs.Io.KnownBytes.{Appends, ReadConsumes, WriteAppends};
 ghost use Rattle.koth_protocol.specs.Counted.{raised, Rose};
-ghost use Rattle.koth_protocol.specs.Written.{WritesPart};
+ghost use Rattle.koth_text.specs.Written.{WritesPart};
 
-use crate::uninterrupted::{read_uninterrupted, write_uninterrupted};
+use koth_text::{read_uninterrupted, write_uninterrupted};
 use std::io::{Read, Write};
 use thiserror::Error;
 
@@ -20,7 +20,7 @@ pub struct ReadFault;
 pub struct WriteFault;
 
 /// A stream with the number of its faults, and of the bytes that were read from it. It needs no memory.
-#[derive(Debug, Drop)]
+#[derive(Drop)]
 pub struct Counted<S> {
     stream: S,
     faults: u64,
@@ -28,7 +28,7 @@ pub struct Counted<S> {
 }
 
 impl<S> Counted<S> {
-    /// The stream, of which no fault is counted yet.
+    /// The stream, with no fault counted yet.
     pub fn new(stream: S) -> Counted<S>
         ensures stream { result.stream ≡ stream }
         ensures faults { result.faults ≡ 0 }
@@ -48,7 +48,7 @@ impl<S> Counted<S> {
         self.faults
     }
 
-    /// How many bytes were read, up to the greatest `u64`, also of a stream that doesn't tell what it holds.
+    /// How many bytes were read, up to the greatest `u64`, also of a stream whose bytes no clause can name.
     pub fn taken(&self) -> u64
         ensures { result ≡ self.now.taken }
     {
@@ -64,8 +64,8 @@ impl<S> Counted<S> {
 }
 
 impl<S: Read> Counted<S> {
-    /// Reads at least one byte, and says how many; 0 says that the input is at its end. `ReadFault` comes where the stream
-    /// gives an error, and not where a signal interrupts the read: that is made again.
+    /// Reads at least one byte, and says how many; 0 says that the input is at its end. `ReadFault` comes if the stream
+    /// gives an error. A read that a signal interrupts is made again.
     pub fn read(&mut self, to: &mut [u8]) -> Result<usize, ReadFault>
         requires { length to.old ≢ 0 }
         ensures size { length to.new ≡ length to.old }
@@ -91,8 +91,8 @@ impl<S: Read> Counted<S> {
 }
 
 impl<S: Write> Counted<S> {
-    /// Writes at least one byte, and says how many. `WriteFault` comes where the stream gives an error or takes no byte, and
-    /// not where a signal interrupts the write: that is made again.
+    /// Writes at least one byte, and says how many. `WriteFault` comes if the stream gives an error or takes no byte. A
+    /// write that a signal interrupts is made again.
     pub fn write(&mut self, from: &[u8]) -> Result<usize, WriteFault>
         requires { length from.now ≢ 0 }
         ensures some { IfOk result (λ count. 0 < count) }

@@ -6,8 +6,8 @@ ghost use Rattle.koth_protocol.specs.Kept.{kept};
 use std::alloc::{AllocError, Allocator};
 use std::marker::Model;
 
-/// Bytes that are kept. A source of one byte less than three of these is refused by its length, so what is cut off behind
-/// them changes no answer.
+/// Bytes that are kept. 65,537 bytes are enough to refuse a source. Three more leave room for what a line loses before it
+/// enters its source, its dot and its carriage return. So what is cut off after them changes no answer.
 const ROOM: usize = 65_540;
 
 /// The first 65,540 bytes of what was put in.
@@ -36,7 +36,7 @@ impl<A: Allocator> Kept<A> {
         })
     }
 
-    /// Puts bytes in behind the others. It needs no memory.
+    /// Puts bytes in after the others. It needs no memory.
     pub(crate) fn put(&mut self, more: &[u8])
         ensures { self.new ≡ kept (self.old ++ more.now) }
     {

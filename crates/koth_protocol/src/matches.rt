@@ -32,7 +32,7 @@ fn places_for(rounds: u16) -> usize
     buffer.format(u64::from(rounds)).len().max(2)
 }
 
-/// The first line, with so many ranks.
+/// The first line, with `count` ranks.
 fn put_ranks<A: Allocator>(
     text: &mut Vec<u8, A>,
     places: usize,
@@ -88,7 +88,7 @@ fn put_line<A: Allocator, B: Allocator>(
     text.extend_from_slice(b"\n")
 }
 
-/// What the line of one entry tells of another, or of itself.
+/// What the line of one entry says of another, or of itself.
 fn put_told<A: Allocator, B: Allocator>(
     text: &mut Vec<u8, A>,
     places: usize,
@@ -144,7 +144,7 @@ fn put_cell<A: Allocator>(
     put_right(text, places, part)
 }
 
-/// Puts a part at the right of so many places, or of as many as it has where those are too few.
+/// Puts a part at the right of `places` places; a longer part stands as it is.
 fn put_right<A: Allocator>(
     text: &mut Vec<u8, A>,
     places: usize,

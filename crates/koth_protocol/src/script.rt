@@ -9,11 +9,11 @@ ghost use Rattle.koth_protocol.specs.Reading.{IsReading, Reads, TakesCommand, Ta
 use crate::kept::Kept;
 use std::alloc::{AllocError, Allocator};
 
-/// Bytes of a source that are handed on at most: one more than a source may have.
+/// Bytes of a source that are passed on at most: one more than a source may have.
 const SOURCE_KEPT: usize = 65_537;
 
-/// What a line asks for where a command is due.
-#[derive(Clone, Copy, Debug, PartialEq, Eq)]
+/// What a line asks for if a command is due.
+#[derive(Clone, Copy, PartialEq, Eq)]
 pub(crate) enum Word {
     Submit,
     Show,
@@ -22,7 +22,7 @@ pub(crate) enum Word {
 }
 
 /// What a byte brought to its end.
-#[derive(Clone, Copy, Debug, PartialEq, Eq)]
+#[derive(Clone, Copy, PartialEq, Eq)]
 pub enum Met {
     /// No command: a line goes on, or a source does.
     Nothing,
@@ -109,7 +109,7 @@ impl<A: Allocator> Script<A> {
     }
 }
 
-/// A line where a command is due.
+/// Takes a line while a command is due.
 fn take_command_line<A: Allocator>(source: &mut Kept<A>, in_source: &mut bool, line: &[u8]) -> Met
     requires { in_source.old ≡ false }
     ensures { TakesCommand line.now result in_source.new source.new }
@@ -126,7 +126,7 @@ fn take_command_line<A: Allocator>(source: &mut Kept<A>, in_source: &mut bool, l
     }
 }
 
-/// A line of the source that is under way.
+/// Takes a line of the source that is under way.
 fn take_source_line<A: Allocator>(source: &mut Kept<A>, in_source: &mut bool, line: &[u8]) -> Met
     requires { in_source.old ≡ true }
     ensures { TakesSourceLine line.now source.old result in_source.new source.new }

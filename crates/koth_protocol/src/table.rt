@@ -4,8 +4,8 @@ ghost use Rattle.std.specs.Prelude.{◌≡◌, ◌+◌, ◌<◌, ◌^◌, ◌++�
 ghost use Rattle.koth_hill.specs.Rows.{row_parts, rows_parts};
 ghost use Rattle.koth_protocol.specs.Table.{row_line, row_numbers, show_text};
 
-use crate::line::Line;
 use koth_hill::Row;
+use koth_text::{Line, put_line};
 use std::alloc::{AllocError, Allocator};
 
 /// A line for each warrior on the hill, `rank entry score age name by author`, and then a line with a dot.
@@ -23,14 +23,14 @@ pub fn show_text<A: Allocator>(alloc: A, rows: &[Row<'_>]) -> Result<Vec<u8, A>,
 fn put_row<A: Allocator>(text: &mut Vec<u8, A>, rank: u64, row: &Row<'_>) -> Result<(), AllocError>
     ensures { OnOk result (text.new.items ≡ text.old.items ++ row_line rank (row_parts row.now)) }
 {
-    text.extend_from_slice(numbers_of(rank, row).as_slice())?;
+    put_line(text, numbers_of(rank, row))?;
     text.extend_from_slice(row.name.bytes())?;
     text.extend_from_slice(b" by ")?;
     text.extend_from_slice(row.author.bytes())?;
     text.extend_from_slice(b"\n")
 }
 
-/// The numbers in a row, with a blank behind each.
+/// The numbers in a row, with a blank after each.
 fn numbers_of(rank: u64, row: &Row<'_>) -> Line
     ensures { result ≡ row_numbers rank (row_parts row.now) }
 {

@@ -1,2 +1,2 @@
 mod Rows
-mod Steps
+pub mod Steps

@@ -6,18 +6,10 @@ use Rattle.war_types.specs.Warrior.{warrior_parts}
 use Rattle.koth_match.specs.declared.bout.Bout.{Bout}
 use Rattle.koth_hill.specs.Hill.{Member, member_of}
 use Rattle.koth_hill.specs.Kept.{Kept, kept_of}
-use Rattle.koth_views.specs.declared.columns.Alignment.TheVariants as sides
-use Rattle.koth_views.specs.Bout.{bout_view}
-use Rattle.koth_views.specs.Columns.{columns_text}
 use Rattle.koth_views.specs.Matrix.{matches_view}
 use Rattle.koth_views.specs.Placed.{fell_text, placed_text}
 use Rattle.koth_views.specs.Roster.{roster}
 use Rattle.koth_views.specs.Standing.{hill_view}
-
--- a column past the sides that are given, a cell that is missing, and a row whose cells behind the first are blanks
-columns : columns_text (sides.Left ∷ sides.Right ∷ []) ((codes "a" ∷ codes "bb" ∷ codes "c" ∷ []) ∷ (codes "dd" ∷ codes "e" ∷ []) ∷ (codes "f" ∷ codes " " ∷ codes " " ∷ []) ∷ [])
-    ≡ codes "a   bb  c\ndd   e\nf\n"
-columns = refl
 
 abbrev settings : RawSettings
 settings =
@@ -57,13 +49,6 @@ matches_of_three : matches_view three
     ++ codes "   3  Dwarf    2-7-1  3-6-1      .\n"
 unfolding digits
 matches_of_three = refl
-
-counts : bout_view (warrior_parts [] 0 (codes "Imp") (codes "A. K. Dewdney")) (warrior_parts [] 0 (codes "Scanner") (codes "koth")) (rounds 1 9 0)
-    ≡ codes "warrior  author         won  lost  tied\n"
-    ++ codes "Imp      A. K. Dewdney    1     9     0\n"
-    ++ codes "Scanner  koth             9     1     0\n"
-unfolding digits
-counts = refl
 
 -- a hill of two: the one that had entered first fell as the third came
 abbrev two_left : Kept

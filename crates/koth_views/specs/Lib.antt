@@ -1,11 +1,11 @@
 -- Rows of cells, laid out in columns.
-pub mod Columns
+pub use Rattle.koth_text.specs.Columns
 -- Rounds that one entry won, lost and tied against others.
 pub mod Tally
 -- The table of a hill, its matches, and the counts of one match.
 pub mod Standing
 pub mod Matrix
-pub mod Bout
+pub use Rattle.koth_text.specs.Bout
 -- What became of a submission.
 pub mod Roster
 pub mod Placed

@@ -3,10 +3,10 @@ use Rattle.std.specs.Prelude.{ℕ, ◌==◌, if◌then◌else◌, List, [], ◌�
 use Rattle.std.specs.List.{enumerate_from, range_with_len}
 use Rattle.koth_hill.specs.Kept.{Kept, table_kept}
 use Rattle.koth_hill.specs.Table.{RowParts}
-use Rattle.koth_views.specs.declared.columns.Alignment.{Alignment}
-use Rattle.koth_views.specs.declared.columns.Alignment.TheVariants as sides
-use Rattle.koth_views.specs.declared.tally.Tally.{Tally}
-use Rattle.koth_views.specs.Columns.{columns_text}
+use Rattle.koth_text.specs.declared.columns.Alignment.{Alignment}
+use Rattle.koth_text.specs.declared.columns.Alignment.TheVariants as sides
+use Rattle.koth_text.specs.declared.tally.Tally.{Tally}
+use Rattle.koth_text.specs.Columns.{columns_text}
 use Rattle.koth_views.specs.Standing.{note_of_none}
 use Rattle.koth_views.specs.Tally.{between}
 
@@ -22,7 +22,7 @@ matrix_heading count = codes "rank" ∷ codes "warrior" ∷ map decimal (range_w
 abbrev pub tally_text : Tally → List ℕ
 tally_text t = decimal t.won ++ codes "-" ++ decimal t.lost ++ codes "-" ++ decimal t.tied
 
--- what the line of one entry tells of another, and of itself
+-- what the line of one entry says of another, and of itself
 abbrev pub told_of : Kept → ℕ → ℕ → List ℕ
 told_of k one other = if one == other then codes "." else tally_text (between k one other)
 

@@ -6,7 +6,7 @@ use Rattle.koth_hill.specs.Kept.{Kept}
 use Rattle.koth_views.specs.declared.entrants.Entered.{Entered}
 use Rattle.koth_views.specs.Placed.{fell_text, placed_text}
 
--- what a reply comes to, where these stood before and the hill is the one after it: nothing if no warrior was judged
+-- what a reply says, by who stood before it and the hill after it: nothing if no warrior was judged
 abbrev pub placing_view : List Entered → Kept → Reply → List ℕ
 placing_view before k (replies.Placed entry rank score) = placed_text before k (record { entry = entry; rank = rank; score = score })
 placing_view before k (replies.Fell entry score) = fell_text entry score

@@ -8,7 +8,7 @@ use Rattle.koth_views.specs.declared.entrants.Entered.{Entered}
 abbrev pub entered_of : RowParts → Entered
 entered_of row = record { entry = row.entry; name = row.name; author = row.author }
 
--- those of these rows
+-- the warriors of these rows
 abbrev pub roster_of : List RowParts → List Entered
 roster_of rows = map entered_of rows
 

@@ -3,10 +3,10 @@ use Rattle.std.specs.Prelude.{ℕ, List, [], ◌∷◌, ◌++◌, map, codes, de
 use Rattle.std.specs.List.{enumerate_from}
 use Rattle.koth_hill.specs.Kept.{Kept, table_kept}
 use Rattle.koth_hill.specs.Table.{RowParts}
-use Rattle.koth_views.specs.declared.columns.Alignment.{Alignment}
-use Rattle.koth_views.specs.declared.columns.Alignment.TheVariants as sides
-use Rattle.koth_views.specs.declared.tally.Tally.{Tally}
-use Rattle.koth_views.specs.Columns.{columns_text}
+use Rattle.koth_text.specs.declared.columns.Alignment.{Alignment}
+use Rattle.koth_text.specs.declared.columns.Alignment.TheVariants as sides
+use Rattle.koth_text.specs.declared.tally.Tally.{Tally}
+use Rattle.koth_text.specs.Columns.{columns_text}
 use Rattle.koth_views.specs.Tally.{against_all}
 
 -- numbers at the right, texts at the left

@@ -3,15 +3,8 @@ use Rattle.std.specs.Prelude.{ℕ, nat_lt, if◌then◌else◌, List}
 use Rattle.std.specs.List.{sum_by}
 use Rattle.koth_match.specs.declared.bout.Bout.{Bout}
 use Rattle.koth_hill.specs.Kept.{Kept, entries_of, or_no_rounds, result_of}
-use Rattle.koth_views.specs.declared.tally.Tally.{Tally}
-
--- a result from the side of the older warrior
-abbrev pub of_older : Bout → Tally
-of_older b = record { won = b.older_wins; lost = b.younger_wins; tied = b.ties }
-
--- and from the side of the younger
-abbrev pub of_younger : Bout → Tally
-of_younger b = record { won = b.younger_wins; lost = b.older_wins; tied = b.ties }
+use Rattle.koth_text.specs.Tally.{of_older, of_younger}
+use Rattle.koth_text.specs.declared.tally.Tally.{Tally}
 
 abbrev pub no_tally : Tally
 no_tally = record { won = 0; lost = 0; tied = 0 }
@@ -20,7 +13,7 @@ no_tally = record { won = 0; lost = 0; tied = 0 }
 abbrev pub kept_of_two : Kept → ℕ → ℕ → Bout
 kept_of_two k older younger = or_no_rounds (result_of (entries_of k.members) k.results older younger)
 
--- what one entry came to in its match against another: the earlier entry is the older warrior, and nobody fights itself
+-- the rounds of one entry in its match against another: the earlier entry is the older warrior, and nobody fights itself
 abbrev pub between : Kept → ℕ → ℕ → Tally
 between k one other =
     if nat_lt one other then of_older (kept_of_two k one other) else (

@@ -4,13 +4,13 @@ ghost use Rattle.std.specs.Prelude.{◌≡◌, IfOk};
 ghost use Rattle.koth_hill.specs.Rows.{row_parts, rows_parts};
 ghost use Rattle.koth_views.specs.Roster.{entered_of, roster, roster_of};
 
-use crate::cells::named;
 use koth_hill::{Hill, Row};
-use koth_protocol::Line;
+use koth_text::Line;
+use koth_text::cells::named;
 use std::alloc::{AllocError, Allocator};
 
 /// A warrior that stands on a hill, or stood there.
-#[derive(Debug, Drop)]
+#[derive(Drop)]
 pub struct Entered {
     /// The number of its entry, from 1 on.
     pub entry: u64,
@@ -20,7 +20,7 @@ pub struct Entered {
     pub author: Line,
 }
 
-/// All on a hill, by rank. They stay as they are here whatever becomes of the hill. The error is want of memory.
+/// All on a hill, by rank. They stay as they are whatever becomes of the hill. The error is lack of memory.
 pub fn roster<A: Allocator + Copy, B: Allocator>(
     alloc: A,
     hill: &Hill<B>,

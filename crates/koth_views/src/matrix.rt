@@ -3,22 +3,22 @@
 ghost use Rattle.std.specs.Prelude.{◌≡◌, ◌+◌, ◌≤◌, ◌++◌, ◌∷◌, [], length, map, codes, decimal, IfOk, OnOk};
 ghost use Rattle.std.specs.List.{range_with_len};
 ghost use Rattle.koth_hill.specs.Rows.{row_parts, rows_parts};
-ghost use Rattle.koth_views.specs.Matrix.{matches_view, matrix_cells, matrix_heading, matrix_rows, tally_text, told_of};
+ghost use Rattle.koth_views.specs.Matrix.{matches_view, matrix_cells, matrix_heading, matrix_rows, matrix_text, tally_text, told_of};
 
-use crate::cells::{Cells, named, number, word};
-use crate::columns::{Alignment, columns_text};
-use crate::standing::note_of_none;
-use crate::tally::{Tally, between};
+use crate::standing::noted_text;
+use crate::tally::between;
 use koth_hill::{Hill, Row};
-use koth_protocol::Line;
+use koth_text::cells::{Cells, named, number, word};
+use koth_text::columns::Alignment;
+use koth_text::{Line, Tally};
 use std::alloc::{AllocError, Allocator};
 
-/// How the first columns are aligned: those of the rounds are at the right.
+/// The sides of the first two columns. The columns of rounds after them are aligned at the right.
 const SIDES: [Alignment; 2] = [Alignment::Right, Alignment::Left];
 
-/// The matches on a hill with headings: a line for each warrior by rank with its name, and a column for each other by rank, in which
-/// stand the rounds that it won, lost and tied against that one, as `45-10-7`; in its own stands a dot. A hill without warriors has
-/// the headings and the line `no warriors yet`. No match is fought. The error is want of memory.
+/// The matches on a hill with headings: a line for each warrior by rank with its name, and a column for each warrior by rank. A cell
+/// has the rounds that the line's warrior won, lost and tied against the column's, as `45-10-7`, and a dot if the two are one. A hill
+/// without warriors has the headings and the line `no warriors yet`. No match is fought. The error is lack of memory.
 pub fn matches_view<A: Allocator + Copy, B: Allocator>(
     alloc: A,
     hill: &Hill<B>,
@@ -26,29 +26,39 @@ pub fn matches_view<A: Allocator + Copy, B: Allocator>(
     ensures { IfOk result (λ text. text.items ≡ matches_view hill.now) }
 {
     let rows = hill.rows(alloc)?;
-    let lines = lines_of(alloc, hill, rows.as_slice())?;
-    let mut text = columns_text(alloc, &SIDES, lines.as_slice())?;
-    text.extend_from_slice(note_of_none(rows.as_slice()))?;
-    Ok(text)
+    matrix_text(alloc, hill, rows.as_slice())
 }
 
-/// The headings, and the cells of each of these rows.
-fn lines_of<A: Allocator + Copy, B: Allocator>(
+/// The matches of these rows.
+fn matrix_text<A: Allocator + Copy, B: Allocator>(
     alloc: A,
     hill: &Hill<B>,
     rows: &[Row<'_>],
-) -> Result<Vec<Cells<A>, A>, AllocError>
-    ensures { IfOk result (λ lines. lines.items ≡ matrix_heading (length rows.now) ∷ matrix_rows hill.now (rows_parts rows.now) (rows_parts rows.now)) }
+) -> Result<Vec<u8, A>, AllocError>
+    ensures { IfOk result (λ text. text.items ≡ matrix_text hill.now (rows_parts rows.now)) }
 {
     let mut lines = Vec::new(alloc);
     lines.push(heading(alloc, rows.len())?)?;
+    push_rows(alloc, &mut lines, hill, rows)?;
+    noted_text(alloc, &SIDES, lines.as_slice(), rows)
+}
+
+/// Pushes the cells of each of these rows.
+fn push_rows<A: Allocator + Copy, B: Allocator>(
+    alloc: A,
+    lines: &mut Vec<Cells<A>, A>,
+    hill: &Hill<B>,
+    rows: &[Row<'_>],
+) -> Result<(), AllocError>
+    ensures { OnOk result (lines.new.items ≡ lines.old.items ++ matrix_rows hill.now (rows_parts rows.now) (rows_parts rows.now)) }
+{
     for place in 0..rows.len() {
         lines.push(cells_of(alloc, hill, rows, place as u64 + 1, &rows[place])?)?;
     }
-    Ok(lines)
+    Ok(())
 }
 
-/// The headings of so many ranks.
+/// The headings of `count` ranks.
 fn heading<A: Allocator>(alloc: A, count: usize) -> Result<Cells<A>, AllocError>
     ensures { IfOk result (λ cells. cells ≡ matrix_heading count) }
 {
@@ -76,7 +86,7 @@ fn cells_of<A: Allocator, B: Allocator>(
     Ok(cells)
 }
 
-/// What the line of one entry tells of another, or of itself.
+/// What the line of one entry says of another, or of itself.
 fn told_of<B: Allocator>(hill: &Hill<B>, one: u64, other: u64) -> Line
     ensures { result ≡ told_of hill.now one other }
 {

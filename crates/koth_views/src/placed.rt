@@ -1,28 +1,29 @@
 //! What became of a warrior that was submitted.
 
-ghost use Rattle.std.specs.Prelude.{◌≡◌, ◌++◌, ◌∷◌, [], length, decimal, IfOk, OnOk};
+ghost use Rattle.std.specs.Prelude.{◌≡◌, ◌+◌, ◌≤◌, ◌++◌, ◌∷◌, [], length, codes, decimal, IfOk, OnOk};
 ghost use Rattle.std.specs.List.{flat_map};
 ghost use Rattle.koth_hill.specs.Rows.{row_parts, rows_parts};
-ghost use Rattle.koth_views.specs.Bout.{rounds_heading};
-ghost use Rattle.koth_views.specs.Placed.{entry_text, fallen_line, fallen_lines, fell_text, is_on, opponent_cells, opponents_text, own_line, own_lines, place_text, placed_text, points_text, rank_text, who_text};
+ghost use Rattle.koth_text.specs.Bout.{rounds_heading};
+ghost use Rattle.koth_views.specs.Placed.{entry_text, fallen_line, fallen_lines, fell_text, is_on, opponent_cells, opponents_text, own_line, own_lines, place_text, placed_among, placed_text, points_text, rank_text, who_text};
 
-use crate::cells::{Cells, number};
-use crate::columns::columns_text;
-use crate::counts::{SIDES, cells_of, heading};
 use crate::entrants::Entered;
 use crate::tally::between;
 use koth_hill::{Hill, Row};
+use koth_text::cells::Cells;
+use koth_text::columns::columns_text;
+use koth_text::counts::{SIDES, cells_of, heading};
+use koth_text::{Line, put_line};
 use std::alloc::{AllocError, Allocator};
 
-/// Where a warrior is placed.
-#[derive(Clone, Copy, Debug)]
+/// The place of a warrior on a hill.
+#[derive(Clone, Copy)]
 pub(crate) struct Place {
     pub entry: u64,
     pub rank: u32,
     pub score: u32,
 }
 
-/// The place of a warrior on the hill, which of those before it fell, and its matches by the rank of the opponent.
+/// The place of a warrior on the hill, who fell of the warriors before it, and its matches by the rank of the opponent.
 pub(crate) fn placed_text<A: Allocator + Copy, B: Allocator>(
     alloc: A,
     before: &[Entered],
@@ -32,11 +33,23 @@ pub(crate) fn placed_text<A: Allocator + Copy, B: Allocator>(
     ensures { IfOk result (λ text. text.items ≡ placed_text before.now hill.now place) }
 {
     let rows = hill.rows(alloc)?;
+    placed_among(alloc, before, hill, rows.as_slice(), place)
+}
+
+/// The same among these rows.
+fn placed_among<A: Allocator + Copy, B: Allocator>(
+    alloc: A,
+    before: &[Entered],
+    hill: &Hill<B>,
+    rows: &[Row<'_>],
+    place: Place,
+) -> Result<Vec<u8, A>, AllocError>
+    ensures { IfOk result (λ text. text.items ≡ placed_among before.now hill.now (rows_parts rows.now) place) }
+{
     let mut text = Vec::new(alloc);
-    put_own_lines(&mut text, place, rows.as_slice())?;
-    put_fallen_lines(&mut text, rows.as_slice(), before)?;
-    let opponents = opponents_text(alloc, hill, place.entry, rows.as_slice())?;
-    text.extend_from_slice(opponents.as_slice())?;
+    put_own_lines(&mut text, place, rows)?;
+    put_fallen_lines(&mut text, rows, before)?;
+    put_opponents(alloc, &mut text, hill, place.entry, rows)?;
     Ok(text)
 }
 
@@ -49,12 +62,20 @@ pub(crate) fn fell_text<A: Allocator>(
     ensures { IfOk result (λ text. text.items ≡ fell_text entry score) }
 {
     let mut text = Vec::new(alloc);
-    text.extend_from_slice(b"entry ")?;
-    put_number(&mut text, entry)?;
-    text.extend_from_slice(b" with ")?;
-    put_points(&mut text, score)?;
-    text.extend_from_slice(b" fell: it is not on the hill\n")?;
+    put_line(&mut text, fell_line(entry, score))?;
     Ok(text)
+}
+
+fn fell_line(entry: u64, score: u32) -> Line
+    ensures { result ≡ fell_text entry score }
+{
+    let mut line = Line::new();
+    line.put(b"entry ");
+    line.put_number(entry);
+    line.put(b" with ");
+    put_points(&mut line, score);
+    line.put(b" fell: it is not on the hill\n");
+    line
 }
 
 fn put_own_lines<A: Allocator>(
@@ -70,7 +91,7 @@ fn put_own_lines<A: Allocator>(
     Ok(())
 }
 
-/// The line of the one that was placed, if it is in this row of so many.
+/// The line of the warrior that was placed among `count`, if it is in this row.
 fn put_own_line<A: Allocator>(
     text: &mut Vec<u8, A>,
     place: Place,
@@ -87,7 +108,7 @@ fn put_own_line<A: Allocator>(
     }
 }
 
-/// Puts the place of a warrior among so many.
+/// Puts the place of a warrior among `count`.
 fn put_place<A: Allocator>(
     text: &mut Vec<u8, A>,
     place: Place,
@@ -95,29 +116,33 @@ fn put_place<A: Allocator>(
 ) -> Result<(), AllocError>
     ensures { OnOk result (text.new.items ≡ text.old.items ++ place_text place count) }
 {
-    put_entry(text, place.entry)?;
-    put_rank(text, place.rank, count)?;
-    text.extend_from_slice(b", ")?;
-    put_points(text, place.score)?;
-    text.extend_from_slice(b"\n")
+    put_line(text, entry_line(place.entry))?;
+    put_line(text, rank_line(place, count))
 }
 
-fn put_entry<A: Allocator>(text: &mut Vec<u8, A>, entry: u64) -> Result<(), AllocError>
-    ensures { OnOk result (text.new.items ≡ text.old.items ++ entry_text entry) }
+fn entry_line(entry: u64) -> Line
+    ensures { result ≡ entry_text entry }
 {
-    text.extend_from_slice(b" is warrior ")?;
-    put_number(text, entry)?;
-    text.extend_from_slice(b" of this hill: ")
+    let mut line = Line::new();
+    line.put(b" is warrior ");
+    line.put_number(entry);
+    line.put(b" of this hill: ");
+    line
 }
 
-/// Puts a rank among so many.
-fn put_rank<A: Allocator>(text: &mut Vec<u8, A>, rank: u32, count: u64) -> Result<(), AllocError>
-    ensures { OnOk result (text.new.items ≡ text.old.items ++ rank_text rank count) }
+/// A rank among `count`, and points.
+fn rank_line(place: Place, count: u64) -> Line
+    ensures { result ≡ rank_text place.rank count ++ codes ", " ++ points_text place.score ++ codes "\n" }
 {
-    text.extend_from_slice(b"rank ")?;
-    put_number(text, u64::from(rank))?;
-    text.extend_from_slice(b" of ")?;
-    put_number(text, count)
+    let mut line = Line::new();
+    line.put(b"rank ");
+    line.put_number(u64::from(place.rank));
+    line.put(b" of ");
+    line.put_number(count);
+    line.put(b", ");
+    put_points(&mut line, place.score);
+    line.put(b"\n");
+    line
 }
 
 fn put_fallen_lines<A: Allocator>(
@@ -133,7 +158,7 @@ fn put_fallen_lines<A: Allocator>(
     Ok(())
 }
 
-/// The line of one that stood before, if it is in none of these rows.
+/// The line of a warrior that stood on the hill before, if it is in none of these rows.
 fn put_fallen_line<A: Allocator>(
     text: &mut Vec<u8, A>,
     rows: &[Row<'_>],
@@ -145,9 +170,18 @@ fn put_fallen_line<A: Allocator>(
         return Ok(());
     }
     put_who(text, one.name.as_slice(), one.author.as_slice())?;
-    text.extend_from_slice(b" (entry ")?;
-    put_number(text, one.entry)?;
-    text.extend_from_slice(b") fell\n")
+    put_line(text, fallen_line_end(one.entry))
+}
+
+/// What the line of an entry that fell ends with.
+fn fallen_line_end(entry: u64) -> Line
+    ensures { result ≡ codes " (entry " ++ decimal entry ++ codes ") fell\n" }
+{
+    let mut line = Line::new();
+    line.put(b" (entry ");
+    line.put_number(entry);
+    line.put(b") fell\n");
+    line
 }
 
 /// Whether an entry is in one of these rows.
@@ -162,7 +196,20 @@ fn is_on(rows: &[Row<'_>], entry: u64) -> bool
     false
 }
 
-/// The matches of an entry against those in these rows, from its side.
+fn put_opponents<A: Allocator + Copy, B: Allocator>(
+    alloc: A,
+    text: &mut Vec<u8, A>,
+    hill: &Hill<B>,
+    entry: u64,
+    rows: &[Row<'_>],
+) -> Result<(), AllocError>
+    ensures { OnOk result (text.new.items ≡ text.old.items ++ opponents_text hill.now entry (rows_parts rows.now)) }
+{
+    let opponents = opponents_text(alloc, hill, entry, rows)?;
+    text.extend_from_slice(opponents.as_slice())
+}
+
+/// The matches of an entry against the warriors in these rows, from its side.
 fn opponents_text<A: Allocator + Copy, B: Allocator>(
     alloc: A,
     hill: &Hill<B>,
@@ -192,7 +239,7 @@ fn push_opponents<A: Allocator + Copy, B: Allocator>(
     Ok(())
 }
 
-/// Pushes the cells of one in a row, unless it is this entry itself.
+/// Pushes the cells of the warrior in a row, unless it is this entry itself.
 fn push_opponent<A: Allocator, B: Allocator>(
     alloc: A,
     lines: &mut Vec<Cells<A>, A>,
@@ -221,16 +268,11 @@ fn put_who<A: Allocator>(
     text.extend_from_slice(author)
 }
 
-fn put_points<A: Allocator>(text: &mut Vec<u8, A>, points: u32) -> Result<(), AllocError>
-    ensures { OnOk result (text.new.items ≡ text.old.items ++ points_text points) }
+fn put_points(line: &mut Line, points: u32)
+    requires { length line.old + 27 ≤ 96 }
+    ensures value { line.new ≡ line.old ++ points_text points }
+    ensures len { length line.new ≤ length line.old + 27 }
 {
-    put_number(text, u64::from(points))?;
-    let unit: &[u8] = if points == 1 { b" point" } else { b" points" };
-    text.extend_from_slice(unit)
-}
-
-fn put_number<A: Allocator>(text: &mut Vec<u8, A>, value: u64) -> Result<(), AllocError>
-    ensures { OnOk result (text.new.items ≡ text.old.items ++ decimal value) }
-{
-    text.extend_from_slice(number(value).as_slice())
+    line.put_number(u64::from(points));
+    line.put(if points == 1 { b" point" } else { b" points" });
 }

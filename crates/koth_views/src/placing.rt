@@ -9,7 +9,7 @@ use hill_store::Reply;
 use koth_hill::Hill;
 use std::alloc::{AllocError, Allocator};
 
-/// What became of a submission, where `before` is the hill's `roster` from before it and the hill is the one after it:
+/// What became of a submission: `before` is the hill's `roster` from before it, and `hill` the hill after it:
 ///
 /// | Reply | Text |
 /// |---|---|
@@ -17,7 +17,7 @@ use std::alloc::{AllocError, Allocator};
 /// | `Fell` | a line with its entry and its points |
 /// | any other | nothing |
 ///
-/// No match is fought. The error is want of memory.
+/// No match is fought. The error is lack of memory.
 pub fn placing_view<A: Allocator + Copy, B: Allocator>(
     alloc: A,
     before: &[Entered],

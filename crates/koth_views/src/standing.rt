@@ -1,14 +1,15 @@
 //! The table of a hill.
 
-ghost use Rattle.std.specs.Prelude.{◌≡◌, ◌+◌, ◌<◌, ◌^◌, ◌++◌, ◌∷◌, [], length, IfOk};
+ghost use Rattle.std.specs.Prelude.{◌≡◌, ◌+◌, ◌<◌, ◌^◌, ◌++◌, ◌∷◌, [], length, IfOk, OnOk};
 ghost use Rattle.koth_hill.specs.Rows.{row_parts, rows_parts};
+ghost use Rattle.koth_text.specs.Columns.{columns_text};
 ghost use Rattle.koth_views.specs.Standing.{hill_cells, hill_heading, hill_rows, hill_view, note_of_none};
 ghost use Rattle.koth_views.specs.Tally.{against_all};
 
-use crate::cells::{Cells, named, number, word};
-use crate::columns::{Alignment, columns_text};
 use crate::tally::against_all;
 use koth_hill::{Hill, Row};
+use koth_text::cells::{Cells, named, number, word};
+use koth_text::columns::{Alignment, columns_text};
 use std::alloc::{AllocError, Allocator};
 
 const SIDES: [Alignment; 9] = [
@@ -25,7 +26,7 @@ const SIDES: [Alignment; 9] = [
 
 /// The table of a hill with headings: a line for each warrior by rank, with its entry, its points, the rounds that it won, lost
 /// and tied against all others on the hill, its age, its name and its author. A hill without warriors has the headings and
-/// the line `no warriors yet`. No match is fought. The error is want of memory.
+/// the line `no warriors yet`. No match is fought. The error is lack of memory.
 pub fn hill_view<A: Allocator + Copy, B: Allocator>(
     alloc: A,
     hill: &Hill<B>,
@@ -39,8 +40,22 @@ pub fn hill_view<A: Allocator + Copy, B: Allocator>(
     Ok(text)
 }
 
+/// Lines in columns, and what stands under a table of these rows.
+pub(crate) fn noted_text<A: Allocator + Copy>(
+    alloc: A,
+    sides: &[Alignment],
+    lines: &[Cells<A>],
+    rows: &[Row<'_>],
+) -> Result<Vec<u8, A>, AllocError>
+    ensures { IfOk result (λ text. text.items ≡ columns_text sides.now lines.now ++ note_of_none (rows_parts rows.now)) }
+{
+    let mut text = columns_text(alloc, sides, lines)?;
+    text.extend_from_slice(note_of_none(rows))?;
+    Ok(text)
+}
+
 /// What stands under the table of these rows.
-pub(crate) fn note_of_none(rows: &[Row<'_>]) -> &'static [u8]
+fn note_of_none(rows: &[Row<'_>]) -> &'static [u8]
     ensures { result.now ≡ note_of_none (rows_parts rows.now) }
 {
     match rows {
@@ -59,10 +74,23 @@ fn lines_of<A: Allocator + Copy, B: Allocator>(
 {
     let mut lines = Vec::new(alloc);
     lines.push(heading(alloc)?)?;
+    push_rows(alloc, &mut lines, hill, rows)?;
+    Ok(lines)
+}
+
+/// Pushes the cells of each of these rows.
+fn push_rows<A: Allocator + Copy, B: Allocator>(
+    alloc: A,
+    lines: &mut Vec<Cells<A>, A>,
+    hill: &Hill<B>,
+    rows: &[Row<'_>],
+) -> Result<(), AllocError>
+    ensures { OnOk result (lines.new.items ≡ lines.old.items ++ hill_rows hill.now (rows_parts rows.now)) }
+{
     for place in 0..rows.len() {
         lines.push(cells_of(alloc, hill, place as u64 + 1, &rows[place])?)?;
     }
-    Ok(lines)
+    Ok(())
 }
 
 fn heading<A: Allocator>(alloc: A) -> Result<Cells<A>, AllocError>

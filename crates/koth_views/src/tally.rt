@@ -2,22 +2,13 @@
 
 ghost use Rattle.std.specs.Prelude.{◌≡◌, ◌<◌, ◌≤◌, length, slice_index};
 ghost use Rattle.koth_hill.specs.Kept.{entries_of};
-ghost use Rattle.koth_views.specs.Tally.{against_all, between, kept_of_two, no_tally, of_older, of_younger};
+ghost use Rattle.koth_text.specs.Tally.{of_older, of_younger};
+ghost use Rattle.koth_views.specs.Tally.{against_all, between, kept_of_two, no_tally};
 
 use koth_hill::Hill;
 use koth_match::Bout;
+use koth_text::Tally;
 use std::alloc::Allocator;
-
-/// Rounds of one warrior.
-#[derive(Clone, Copy, Debug, PartialEq, Eq)]
-pub struct Tally {
-    /// Rounds that it won.
-    pub won: u64,
-    /// Rounds that the other one won.
-    pub lost: u64,
-    /// Rounds that neither won.
-    pub tied: u64,
-}
 
 const NO_TALLY: Tally = Tally {
     won: 0,
@@ -25,31 +16,7 @@ const NO_TALLY: Tally = Tally {
     tied: 0,
 };
 
-impl Tally {
-    /// A result from the side of the older warrior.
-    pub(crate) fn of_older(bout: Bout) -> Tally
-        ensures { result ≡ of_older bout }
-    {
-        Tally {
-            won: u64::from(bout.older_wins),
-            lost: u64::from(bout.younger_wins),
-            tied: u64::from(bout.ties),
-        }
-    }
-
-    /// A result from the side of the younger warrior.
-    pub(crate) fn of_younger(bout: Bout) -> Tally
-        ensures { result ≡ of_younger bout }
-    {
-        Tally {
-            won: u64::from(bout.younger_wins),
-            lost: u64::from(bout.older_wins),
-            tied: u64::from(bout.ties),
-        }
-    }
-}
-
-/// What one entry came to in its match against another, as the hill keeps it; no rounds if there was no match.
+/// The rounds of one entry in its match against another, as the hill keeps them; no rounds if there was no match.
 pub fn between<B: Allocator>(hill: &Hill<B>, one: u64, other: u64) -> Tally
     ensures value { result ≡ between hill.now one other }
     ensures won { result.won ≤ 65535 }
@@ -65,7 +32,7 @@ pub fn between<B: Allocator>(hill: &Hill<B>, one: u64, other: u64) -> Tally
     }
 }
 
-/// What one entry came to in its matches against all on the hill: the sums of these.
+/// The rounds of one entry in its matches against all on the hill: the sums over these.
 pub fn against_all<B: Allocator>(hill: &Hill<B>, one: u64) -> Tally
     ensures { result ≡ against_all hill.now one }
 {
@@ -81,7 +48,7 @@ pub fn against_all<B: Allocator>(hill: &Hill<B>, one: u64) -> Tally
     Tally { won, lost, tied }
 }
 
-/// The result that the hill keeps of two entries, the first of them the earlier one.
+/// The result that the hill keeps of two entries, the earlier first.
 fn kept_of_two<B: Allocator>(hill: &Hill<B>, older: u64, younger: u64) -> Bout
     ensures { result ≡ kept_of_two hill.now older younger }
 {
@@ -95,7 +62,7 @@ fn kept_of_two<B: Allocator>(hill: &Hill<B>, older: u64, younger: u64) -> Bout
     }
 }
 
-/// The entry of the warrior at a place of those on the hill.
+/// The entry of the warrior at a place on the hill, in the order in which they entered.
 fn entry_at<B: Allocator>(hill: &Hill<B>, place: usize) -> u64
     requires { place < length hill.now.members }
     ensures { result ≡ slice_index (entries_of hill.now.members) place }

@@ -16,8 +16,8 @@ use Rattle.mars_core.specs.declared.round.Outcome.{Outcome}
 use Rattle.mars_core.specs.declared.round.Outcome.TheVariants as outcomes
 use Rattle.mars_core.specs.declared.round.Side.{Side}
 use Rattle.mars_core.specs.declared.round.Side.TheVariants as sides
-use Rattle.koth_page.specs.Laws.{is_harmless, is_markup, is_page_byte, is_printable}
-use Rattle.koth_page.proofs.Ascii.{Pass, Ascii, both, each, weaker, page_byte, harmless_decimal, ascii_decimal, ascii_escaped}
+use Rattle.koth_text.specs.Characters.{is_harmless, is_markup, is_page_byte, is_printable}
+use Rattle.koth_text.proofs.Ascii.{Pass, Ascii, both, each, weaker, page_byte, harmless_decimal, ascii_decimal, ascii_escaped}
 use Rattle.koth_replay.specs.declared.event.Event.{Event}
 use Rattle.koth_replay.specs.declared.event.Event.TheVariants as events
 use Rattle.koth_replay.specs.declared.opening.Opening.{Opening}
@@ -99,17 +99,10 @@ data_side : (side : Side) → Data (side_text side)
 data_side sides.First = refl
 data_side sides.Second = refl
 
-data_turn : (side : Side) (at : ℕ) → Data (turn_text side at)
-unfolding turn_text
-data_turn side at = simp (list_all-append, data_side, data_decimal)
-
-data_cell : (core at : ℕ) (i : Instr) → Data (cell_text core at i)
-unfolding cell_text
-data_cell core at i = simp (list_all-append, data_decimal, data_instruction)
-
 data_event : (core : ℕ) (event : Event) → Data (event_text core event)
-data_event core (events.Turn side at) = data_turn side at
-data_event core (events.Cell at i) = data_cell core at i
+unfolding cell_text turn_text
+data_event core (events.Turn side at) = simp (list_all-append, data_side, data_decimal)
+data_event core (events.Cell at i) = simp (list_all-append, data_decimal, data_instruction)
 data_event core (events.Process at) = data_decimal at
 
 data_comma : (place : ℕ) → Data (comma_before place)
@@ -155,26 +148,16 @@ ascii_sides : (older younger : WarriorParts) → Ascii (sides_text older younger
 unfolding sides_text
 ascii_sides older younger = simp (list_all-append, ascii_escaped)
 
-ascii_winner : (warrior : WarriorParts) → Ascii (winner_text warrior)
-unfolding winner_text
-ascii_winner warrior = simp (list_all-append, ascii_escaped)
-
 ascii_outcome : (older younger : WarriorParts) (o : Outcome) → Ascii (outcome_text older younger o)
-ascii_outcome older younger outcomes.First = ascii_winner older
-ascii_outcome older younger outcomes.Second = ascii_winner younger
+unfolding winner_text
+ascii_outcome older younger outcomes.First = simp (list_all-append, ascii_escaped)
+ascii_outcome older younger outcomes.Second = simp (list_all-append, ascii_escaped)
 ascii_outcome older younger outcomes.Tie = refl
 
-ascii_cut_told : (turns : ℕ) → Ascii (cut_told turns)
-unfolding cut_told
-ascii_cut_told turns = simp (list_all-append, ascii_decimal)
-
-ascii_whole_told : (turns : ℕ) → Ascii (whole_told turns)
-unfolding whole_told
-ascii_whole_told turns = simp (list_all-append, ascii_decimal)
-
 ascii_turns_told : (is_cut : Bool) (turns : ℕ) → Ascii (turns_told is_cut turns)
-ascii_turns_told true turns = ascii_cut_told turns
-ascii_turns_told false turns = ascii_whole_told turns
+unfolding cut_told whole_told
+ascii_turns_told true turns = simp (list_all-append, ascii_decimal)
+ascii_turns_told false turns = simp (list_all-append, ascii_decimal)
 
 ascii_ending : (older younger : WarriorParts) (round : ℕ) (r : ReplayParts) → Ascii (ending_text older younger round r)
 unfolding ending_text round_told
@@ -192,13 +175,9 @@ ascii_heading older younger round r =
     (both is_page_byte first STYLE.now (both is_page_byte HEAD.now named refl (ascii_sides older younger)) refl) (ascii_sides older younger)) refl)
     (ascii_ending older younger round r)
 
-ascii_warrior : (warrior : WarriorParts) → Ascii (warrior_text warrior)
-unfolding warrior_text
-ascii_warrior warrior = simp (list_all-append, ascii_escaped)
-
 ascii_warriors : (older younger : WarriorParts) → Ascii (warriors_text older younger)
-unfolding warriors_text
-ascii_warriors older younger = simp (list_all-append, ascii_warrior)
+unfolding warrior_text warriors_text
+ascii_warriors older younger = simp (list_all-append, ascii_escaped)
 
 ascii_scripts : Ascii scripts_text
 unfolding scripts_text

@@ -1,11 +1,11 @@
 -- The tags and the attributes of a page are those of the same round without names, for `round_page`.
 use Rattle.std.proofs.Common.{◌≡◌, ℕ, List, [], ◌++◌, length, codes, refl}
+use Rattle.std.proofs.lemmas.List.Elements.{filter-append}
 use Rattle.war_types.specs.Warrior.{WarriorParts}
 use Rattle.mars_core.specs.declared.round.Outcome.{Outcome}
 use Rattle.mars_core.specs.declared.round.Outcome.TheVariants as outcomes
-use Rattle.koth_page.specs.Escape.{escaped}
-use Rattle.koth_page.specs.Laws.{markup_of}
-use Rattle.koth_page.proofs.Markup.{Alike, both, names}
+use Rattle.koth_text.specs.Characters.{markup_of}
+use Rattle.koth_text.proofs.Markup.{Alike, both, markup_of-escaped}
 use Rattle.koth_replay.specs.Replay.{ReplayParts}
 use Rattle.koth_watch.specs.declared.parts.TheConstants.{CONTROLS, END, HEAD, OLDER_START, STYLE, WARRIORS_END, YOUNGER_START}
 use Rattle.koth_watch.specs.Data.{data_text}
@@ -13,7 +13,7 @@ use Rattle.koth_watch.specs.Heading.{ending_text, outcome_text, round_told, side
 use Rattle.koth_watch.specs.Laws.{unnamed}
 use Rattle.koth_watch.specs.Page.{heading_text, round_page, scripts_text}
 
--- the same text before two that are alike, and behind them
+-- the same text before two that are alike, and after them
 before : (start a b : List ℕ) → Alike a b → Alike (start ++ a) (start ++ b)
 before start a b same = both start start a b refl same
 
@@ -22,18 +22,12 @@ behind a b end same = both a b end end same refl
 
 sides_alike : (older younger : WarriorParts) → Alike (sides_text older younger) (sides_text (unnamed older) (unnamed younger))
 unfolding sides_text
-sides_alike older younger =
-    let middle = codes " against " in
-    both (escaped older.name ++ middle) (escaped [] ++ middle) (escaped younger.name) (escaped [])
-    (behind (escaped older.name) (escaped []) middle (names older.name [])) (names younger.name [])
-
-winner_alike : (warrior : WarriorParts) → Alike (winner_text warrior) (winner_text (unnamed warrior))
-unfolding winner_text
-winner_alike warrior = behind (escaped warrior.name) (escaped []) (codes " won") (names warrior.name [])
+sides_alike older younger = simp (filter-append, markup_of-escaped)
 
 outcome_alike : (older younger : WarriorParts) (o : Outcome) → Alike (outcome_text older younger o) (outcome_text (unnamed older) (unnamed younger) o)
-outcome_alike older younger outcomes.First = winner_alike older
-outcome_alike older younger outcomes.Second = winner_alike younger
+unfolding winner_text
+outcome_alike older younger outcomes.First = simp (filter-append, markup_of-escaped)
+outcome_alike older younger outcomes.Second = simp (filter-append, markup_of-escaped)
 outcome_alike older younger outcomes.Tie = refl
 
 ending_alike : (older younger : WarriorParts) (round : ℕ) (r : ReplayParts)
@@ -61,10 +55,7 @@ heading_alike older younger round r =
 
 warrior_alike : (warrior : WarriorParts) → Alike (warrior_text warrior) (warrior_text (unnamed warrior))
 unfolding warrior_text
-warrior_alike warrior =
-    let middle = codes "</b> by " in
-    both (escaped warrior.name ++ middle) (escaped [] ++ middle) (escaped warrior.author) (escaped [])
-    (behind (escaped warrior.name) (escaped []) middle (names warrior.name [])) (names warrior.author [])
+warrior_alike warrior = simp (filter-append, markup_of-escaped)
 
 warriors_alike : (older younger : WarriorParts) → Alike (warriors_text older younger) (warriors_text (unnamed older) (unnamed younger))
 unfolding warriors_text

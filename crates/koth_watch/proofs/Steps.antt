@@ -2,7 +2,7 @@
 use Rattle.std.proofs.Common.{◌≡◌, ℕ, ◌+◌, ◌<◌, ◌≤◌, suc, List, ◌++◌, length, take, get_or, ap, ◌∙◌, arith}
 use Rattle.std.specs.List.{enumerate_from, flat_map}
 use Rattle.std.proofs.lemmas.List.{take_all}
-use Rattle.koth_page.proofs.Steps.{next_ranked, put_behind}
+use Rattle.koth_text.proofs.Steps.{next_ranked, put_behind}
 
 pub one_more : {X : Type 0} (f : ℕ × X → List ℕ) (xs : List X) (i : ℕ) (d : X) (start now new : List ℕ) → i < length xs
     → now ≡ start ++ flat_map f (enumerate_from 0 (take i xs)) → new ≡ now ++ f (i, get_or xs i d) → new ≡ start ++ flat_map f (enumerate_from 0 (take (i + 1) xs))

@@ -45,7 +45,7 @@ turn_at core place turn = comma_before place ++ codes "\n" ++ events_text core t
 abbrev pub turns_text : ℕ → List (List Event) → List ℕ
 turns_text core turns = flat_map (λ (place, turn). turn_at core place turn) (enumerate_from 0 turns)
 
--- how the round begins: the size of the core, from where on the younger warrior is loaded, both processes, and who moves first
+-- how the round begins: the size of the core, where the younger warrior is loaded, both processes, and who moves first
 unfoldable pub place_text : ℕ → ℕ → List ℕ
 place_text core position = codes "{\"core\":" ++ decimal core ++ codes ",\"position\":" ++ decimal position
 

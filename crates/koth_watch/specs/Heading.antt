@@ -3,7 +3,7 @@ use Rattle.std.specs.Prelude.{ℕ, ◌+◌, Bool, if◌then◌else◌, List, ◌
 use Rattle.war_types.specs.Warrior.{WarriorParts}
 use Rattle.mars_core.specs.declared.round.Outcome.{Outcome}
 use Rattle.mars_core.specs.declared.round.Outcome.TheVariants as outcomes
-use Rattle.koth_page.specs.Escape.{escaped}
+use Rattle.koth_text.specs.Escape.{escaped}
 use Rattle.koth_replay.specs.Replay.{ReplayParts}
 use Rattle.koth_watch.specs.declared.parts.TheConstants.{OLDER_START, WARRIORS_END, YOUNGER_START}
 

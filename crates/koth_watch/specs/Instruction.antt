@@ -5,11 +5,11 @@ use Rattle.war_types.specs.declared.instr.Mode.{Mode}
 use Rattle.war_types.specs.declared.instr.Mode.TheVariants as modes
 use Rattle.redcode_text.specs.Vocabulary.{op_text, modifier_text, mode_text}
 
--- a number, as the one of its remainder class nearest to 0
+-- the number nearest to 0 that is equal to this one modulo the size of the core
 abbrev pub number_text : ℕ → ℕ → List ℕ
 number_text core n = if nat_lt core (2 * n) then codes "-" ++ decimal (core - n) else decimal n
 
--- the sign of a mode: the one that could end the data by its number
+-- the sign of a mode: a `<`, which could end the data, by its number
 abbrev pub sign_text : Mode → List ℕ
 sign_text modes.Immediate = mode_text modes.Immediate
 sign_text modes.Direct = mode_text modes.Direct

@@ -1,13 +1,13 @@
 //! The data of a page, as JSON: the events of a round, each of them, in their order.
 
-ghost use Rattle.std.specs.Prelude.{◌≡◌, ◌++◌, codes, decimal, OnOk};
+ghost use Rattle.std.specs.Prelude.{◌≡◌, ◌+◌, ◌≤◌, ◌++◌, length, codes, decimal, OnOk};
 ghost use Rattle.std.specs.List.{enumerate_from, flat_map};
 ghost use Rattle.koth_replay.specs.Replay.{ReplayParts};
 ghost use Rattle.koth_watch.specs.Data.{cell_text, comma_before, data_text, event_at, event_text, events_text, opening_text, place_text, processes_text, side_text, start_text, turn_at, turn_text, turns_text};
 
 use crate::instruction::put_instruction;
-use koth_page::put_number;
 use koth_replay::{Event, Opening, Replay};
+use koth_text::{Line, put_line, put_number};
 use mars_core::Side;
 use std::alloc::{AllocError, Allocator};
 use war_types::Instr;
@@ -44,40 +44,36 @@ fn put_start<A: Allocator>(
 fn put_opening<A: Allocator>(page: &mut Vec<u8, A>, opening: Opening) -> Result<(), AllocError>
     ensures { OnOk result (page.new.items ≡ page.old.items ++ opening_text opening) }
 {
-    put_place(page, opening.core, opening.position)?;
-    put_processes(page, opening.older, opening.younger)?;
+    put_line(page, place_line(opening.core, opening.position))?;
+    put_line(page, processes_line(opening.older, opening.younger))?;
     page.extend_from_slice(b"],\"first\":")?;
     page.extend_from_slice(side_text(opening.first))
 }
 
-/// Puts the size of the core, and from where on the younger warrior is loaded.
+/// The size of the core, and the address at which the younger warrior is loaded.
 #[tactic(auto, unfolding(crate::specs::Data::place_text))]
-fn put_place<A: Allocator>(
-    page: &mut Vec<u8, A>,
-    core: u16,
-    position: u16,
-) -> Result<(), AllocError>
-    ensures { OnOk result (page.new.items ≡ page.old.items ++ place_text core position) }
+fn place_line(core: u16, position: u16) -> Line
+    ensures { result ≡ place_text core position }
 {
-    page.extend_from_slice(b"{\"core\":")?;
-    put_number(page, u64::from(core))?;
-    page.extend_from_slice(b",\"position\":")?;
-    put_number(page, u64::from(position))
+    let mut line = Line::new();
+    line.put(b"{\"core\":");
+    line.put_number(u64::from(core));
+    line.put(b",\"position\":");
+    line.put_number(u64::from(position));
+    line
 }
 
-/// Puts where the processes of both sides begin.
+/// The addresses at which the processes of both sides begin.
 #[tactic(auto, unfolding(crate::specs::Data::processes_text))]
-fn put_processes<A: Allocator>(
-    page: &mut Vec<u8, A>,
-    older: u16,
-    younger: u16,
-) -> Result<(), AllocError>
-    ensures { OnOk result (page.new.items ≡ page.old.items ++ processes_text older younger) }
+fn processes_line(older: u16, younger: u16) -> Line
+    ensures { result ≡ processes_text older younger }
 {
-    page.extend_from_slice(b",\"processes\":[")?;
-    put_number(page, u64::from(older))?;
-    page.extend_from_slice(b",")?;
-    put_number(page, u64::from(younger))
+    let mut line = Line::new();
+    line.put(b",\"processes\":[");
+    line.put_number(u64::from(older));
+    line.put(b",");
+    line.put_number(u64::from(younger));
+    line
 }
 
 fn put_turns<A: Allocator, B: Allocator>(
@@ -150,22 +146,24 @@ fn put_event<A: Allocator>(page: &mut Vec<u8, A>, core: u16, event: Event) -> Re
     ensures { OnOk result (page.new.items ≡ page.old.items ++ event_text core event) }
 {
     match event {
-        Event::Turn(side, at) => put_turn(page, side, at),
+        Event::Turn(side, at) => put_line(page, turn_line(side, at)),
         Event::Cell(at, instr) => put_cell(page, core, at, instr),
         Event::Process(at) => put_number(page, u64::from(at)),
     }
 }
 
-/// Puts that a turn of a side begins, at an address.
+/// A turn of a side begins, at an address.
 #[tactic(auto, unfolding(crate::specs::Data::turn_text))]
-fn put_turn<A: Allocator>(page: &mut Vec<u8, A>, side: Side, at: u16) -> Result<(), AllocError>
-    ensures { OnOk result (page.new.items ≡ page.old.items ++ turn_text side at) }
+fn turn_line(side: Side, at: u16) -> Line
+    ensures { result ≡ turn_text side at }
 {
-    page.extend_from_slice(b"[")?;
-    page.extend_from_slice(side_text(side))?;
-    page.extend_from_slice(b",")?;
-    put_number(page, u64::from(at))?;
-    page.extend_from_slice(b"]")
+    let mut line = Line::new();
+    line.put(b"[");
+    line.put(side_text(side));
+    line.put(b",");
+    line.put_number(u64::from(at));
+    line.put(b"]");
+    line
 }
 
 /// Puts what the cell at an address holds.
@@ -178,11 +176,20 @@ fn put_cell<A: Allocator>(
 ) -> Result<(), AllocError>
     ensures { OnOk result (page.new.items ≡ page.old.items ++ cell_text core at instr) }
 {
-    page.extend_from_slice(b"[")?;
-    put_number(page, u64::from(at))?;
-    page.extend_from_slice(b",\"")?;
+    put_line(page, cell_start(at))?;
     put_instruction(page, core, instr)?;
     page.extend_from_slice(b"\"]")
+}
+
+/// What stands before the instruction of a cell.
+fn cell_start(at: u16) -> Line
+    ensures { result ≡ codes "[" ++ decimal at ++ codes ",\"" }
+{
+    let mut line = Line::new();
+    line.put(b"[");
+    line.put_number(u64::from(at));
+    line.put(b",\"");
+    line
 }
 
 /// What parts the element of this place from the one before it.
@@ -193,7 +200,8 @@ fn comma_before(place: usize) -> &'static [u8]
 }
 
 fn side_text(side: Side) -> &'static [u8]
-    ensures { result.now ≡ side_text side }
+    ensures value { result.now ≡ side_text side }
+    ensures len { length result.now ≡ 1 }
 {
     match side {
         Side::First => b"0",

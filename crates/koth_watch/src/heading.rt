@@ -1,12 +1,12 @@
 //! What a page says of its round in words.
 
-ghost use Rattle.std.specs.Prelude.{◌≡◌, ◌++◌, codes, decimal, length, OnOk};
-ghost use Rattle.koth_page.specs.Escape.{escaped};
+ghost use Rattle.std.specs.Prelude.{◌≡◌, ◌+◌, ◌≤◌, ◌++◌, length, codes, decimal, OnOk};
+ghost use Rattle.koth_text.specs.Escape.{escaped};
 ghost use Rattle.koth_watch.specs.Heading.{cut_told, ending_text, outcome_text, round_told, sides_text, turns_told, warrior_text, warriors_text, whole_told, winner_text};
 
 use crate::parts::{OLDER_START, WARRIORS_END, YOUNGER_START};
-use koth_page::{put_escaped, put_number};
 use koth_replay::Replay;
+use koth_text::{Line, put_escaped, put_line};
 use mars_core::Outcome;
 use std::alloc::{AllocError, Allocator};
 use war_types::{Title, Warrior};
@@ -36,20 +36,22 @@ pub(crate) fn put_ending<A: Allocator, B: Allocator, C: Allocator, D: Allocator>
 ) -> Result<(), AllocError>
     ensures { OnOk result (page.new.items ≡ page.old.items ++ ending_text older.now younger.now round replay.now) }
 {
-    put_round(page, round, replay.opening().core)?;
+    put_line(page, round_line(round, replay.opening().core))?;
     put_outcome(page, older, younger, replay.outcome())?;
-    put_turns_told(page, replay.is_cut(), replay.turns() as u64)
+    put_line(page, turns_line(replay.is_cut(), replay.turns() as u64))
 }
 
 #[tactic(auto, unfolding(crate::specs::Heading::round_told))]
-fn put_round<A: Allocator>(page: &mut Vec<u8, A>, round: u16, core: u16) -> Result<(), AllocError>
-    ensures { OnOk result (page.new.items ≡ page.old.items ++ round_told round core) }
+fn round_line(round: u16, core: u16) -> Line
+    ensures { result ≡ round_told round core }
 {
-    page.extend_from_slice(b"<p>Round ")?;
-    put_number(page, u64::from(round) + 1)?;
-    page.extend_from_slice(b" in a core of ")?;
-    put_number(page, u64::from(core))?;
-    page.extend_from_slice(b" cells: ")
+    let mut line = Line::new();
+    line.put(b"<p>Round ");
+    line.put_number(u64::from(round) + 1);
+    line.put(b" in a core of ");
+    line.put_number(u64::from(core));
+    line.put(b" cells: ");
+    line
 }
 
 fn put_outcome<A: Allocator, B: Allocator, C: Allocator>(
@@ -78,37 +80,22 @@ fn put_winner<A: Allocator, B: Allocator>(
     page.extend_from_slice(b" won")
 }
 
-/// Puts how many turns there are, or how many of them the page has.
-fn put_turns_told<A: Allocator>(
-    page: &mut Vec<u8, A>,
-    is_cut: bool,
-    turns: u64,
-) -> Result<(), AllocError>
-    ensures { OnOk result (page.new.items ≡ page.old.items ++ turns_told is_cut turns) }
+/// How many turns there are, or how many of them the page has.
+#[tactic(auto, unfolding(crate::specs::Heading::cut_told, crate::specs::Heading::whole_told))]
+fn turns_line(is_cut: bool, turns: u64) -> Line
+    ensures { result ≡ turns_told is_cut turns }
 {
+    let mut line = Line::new();
     if is_cut {
-        put_cut_told(page, turns)
+        line.put(b". The first ");
+        line.put_number(turns);
+        line.put(b" turns are here.</p>\n");
     } else {
-        put_whole_told(page, turns)
+        line.put(b" after ");
+        line.put_number(turns);
+        line.put(b" turns.</p>\n");
     }
-}
-
-fn put_cut_told<A: Allocator>(page: &mut Vec<u8, A>, turns: u64) -> Result<(), AllocError>
-    ensures { OnOk result (page.new.items ≡ page.old.items ++ cut_told turns) }
-{
-    page.extend_from_slice(b". The first ")?;
-    put_number(page, turns)?;
-    page.extend_from_slice(b" turns are here.</p>\n")?;
-    Ok(())
-}
-
-fn put_whole_told<A: Allocator>(page: &mut Vec<u8, A>, turns: u64) -> Result<(), AllocError>
-    ensures { OnOk result (page.new.items ≡ page.old.items ++ whole_told turns) }
-{
-    page.extend_from_slice(b" after ")?;
-    put_number(page, turns)?;
-    page.extend_from_slice(b" turns.</p>\n")?;
-    Ok(())
+    line
 }
 
 /// Puts both warriors with their authors.

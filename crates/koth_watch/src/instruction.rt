@@ -3,7 +3,7 @@
 ghost use Rattle.std.specs.Prelude.{◌≡◌, ◌++◌, codes, decimal, OnOk};
 ghost use Rattle.koth_watch.specs.Instruction.{instruction_text, number_text, operand_text, sign_text};
 
-use koth_page::put_number;
+use koth_text::put_number;
 use redcode_text::{mode_text, modifier_text, op_text};
 use std::alloc::{AllocError, Allocator};
 use war_types::{Instr, Mode};
@@ -39,7 +39,7 @@ fn put_operand<A: Allocator>(
     put_signed(page, core, number)
 }
 
-/// Puts a number as the one of its remainder class nearest to 0, the positive one of two as near.
+/// Puts the number nearest to 0 that is equal to this one modulo the size of the core; of two as near, the positive one.
 fn put_signed<A: Allocator>(page: &mut Vec<u8, A>, core: u16, number: u16) -> Result<(), AllocError>
     ensures { OnOk result (page.new.items ≡ page.old.items ++ number_text core number) }
 {

@@ -9,10 +9,10 @@
 //!   draws them;
 //! - `page`: all of these.
 //!
-//! The page is exactly what its definition in `specs` makes of the two warriors, the number of the round and the events, each of which it
-//! carries, in their order: so the picture after some turns is the one that `koth_replay` promises of these events. Whatever a warrior or
+//! The page is exactly what its definition in `specs` makes of the two warriors, the number of the round and the events. It has each event,
+//! in their order: so the picture after some turns is the one that `koth_replay` promises of these events. Whatever a warrior or
 //! its author is called, no tag and no value of an attribute begins or ends with that, and nothing of the data ends the element that they
-//! stand in; each byte is ASCII. What the script makes of the data is outside of the proofs.
+//! stand in. Each byte is ASCII. What the script makes of the data is outside of the proofs.
 #![tactic(auto)]
 
 mod data;

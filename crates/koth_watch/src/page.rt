@@ -2,7 +2,7 @@
 
 ghost use Rattle.std.specs.Prelude.{◌≡◌, ◌++◌, codes, IfOk, IsTrue, OnOk};
 ghost use Rattle.std.specs.List.{list_all};
-ghost use Rattle.koth_page.specs.Laws.{is_page_byte, markup_of};
+ghost use Rattle.koth_text.specs.Characters.{is_page_byte, markup_of};
 ghost use Rattle.koth_watch.specs.Data.{data_text};
 ghost use Rattle.koth_watch.specs.Laws.{is_data_byte, unnamed};
 ghost use Rattle.koth_watch.specs.Page.{heading_text, round_page, scripts_text};
@@ -17,7 +17,7 @@ use std::alloc::{AllocError, Allocator};
 use war_types::Warrior;
 
 /// The page of the round of this number, counted from 0, of two warriors: who fights whom, how it ended, and its turns, to be watched one by
-/// one. It is HTML in ASCII that loads nothing. What is drawn are the events of the replay, all of which stand in the page. The error is want of
+/// one. It is HTML in ASCII that loads nothing. What is drawn are the events of the replay, and the page has them all. The error is lack of
 /// memory.
 pub fn round_page<A: Allocator, B: Allocator, C: Allocator, D: Allocator>(
     alloc: A,

@@ -1,7 +1,7 @@
 //! The script that plays a round: what the core and the queues are after each turn.
 
-/// From the data to the script that draws. It changes a picture of the round by the events of the data and knows no rule of the machine; a copy
-/// of the picture is kept every so many turns, so that it is a short way to any turn.
+/// From the data to the script that draws. It changes a picture of the round by the events of the data and knows no rule of the machine. A copy
+/// of the picture is kept every `STRIDE` turns, so that any turn is reached quickly.
 pub(crate) const ROUND_SCRIPT: &[u8] = b"</script>
 <script>
 'use strict';

@@ -4,7 +4,7 @@ use Rattle.std.specs.List.{enumerate_from, flat_map}
 use Rattle.koth_hill.specs.Rows.{rows_parts}
 use Rattle.koth_hill.specs.Table.{RowParts}
 use Rattle.koth_page.specs.Matches.{matches_heading, rank_heading}
-use Rattle.koth_page.proofs.Steps.{three_parts}
+use Rattle.koth_text.proofs.Steps.{three_parts}
 use Rattle.koth_page.proofs.matches.put_heading.Goals as goal
 
 pub returns : goal.returns

@@ -2,9 +2,11 @@
 use Rattle.std.proofs.Common.{◌≡◌, true, ap, ◌∙◌}
 use Rattle.std.specs.List.{list_all}
 use Rattle.std.proofs.lemmas.Result.{IfOk-weaker}
-use Rattle.koth_page.specs.Laws.{is_page_byte, markup_of, nameless, with_seed}
+use Rattle.koth_text.specs.Characters.{is_page_byte, markup_of}
+use Rattle.koth_text.proofs.Ascii.{harmless}
+use Rattle.koth_page.specs.Laws.{nameless, with_seed}
 use Rattle.koth_page.specs.Page.{hill_page}
-use Rattle.koth_page.proofs.Ascii.{ascii, harmless}
+use Rattle.koth_page.proofs.Ascii.{ascii}
 use Rattle.koth_page.proofs.Markup.{markup}
 use Rattle.koth_page.proofs.Seed.{page-seed}
 use Rattle.koth_page.proofs.page.hill_page.Goals as goal

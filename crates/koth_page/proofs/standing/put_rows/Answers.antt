@@ -2,7 +2,7 @@
 use Rattle.std.proofs.Common.{ℕ, ◌+◌, ◌++◌, ◌∙◌, ap}
 use Rattle.koth_hill.specs.Rows.{row_parts}
 use Rattle.koth_hill.specs.Table.{RowParts}
-use Rattle.koth_views.specs.declared.tally.Tally.{Tally}
+use Rattle.koth_text.specs.declared.tally.Tally.{Tally}
 use Rattle.koth_views.specs.Tally.{against_all}
 use Rattle.koth_page.specs.Standing.{standing_row}
 use Rattle.koth_page.proofs.Steps.{one_row_more}

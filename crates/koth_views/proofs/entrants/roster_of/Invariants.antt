@@ -1,4 +1,4 @@
--- Those so far are those of the rows so far.
+-- The warriors so far are those of the rows so far.
 use Rattle.std.proofs.Common.{◌≡◌, take}
 use Rattle.koth_hill.specs.Rows.{rows_parts}
 use Rattle.koth_views.specs.Roster.{roster_of}

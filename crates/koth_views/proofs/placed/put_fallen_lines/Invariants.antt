@@ -1,4 +1,4 @@
--- The lines so far are those of the ones so far.
+-- The lines so far are those of the warriors so far.
 use Rattle.std.proofs.Common.{◌≡◌, ◌++◌, take}
 use Rattle.std.specs.List.{flat_map}
 use Rattle.koth_hill.specs.Rows.{rows_parts}

@@ -1,6 +1,6 @@
 -- The four parts before the turns.
 use Rattle.std.proofs.Common.{codes}
-use Rattle.koth_page.proofs.Steps.{four_parts}
+use Rattle.koth_text.proofs.Steps.{four_parts}
 use Rattle.koth_watch.specs.Data.{events_text, opening_text, start_text}
 use Rattle.koth_watch.proofs.data.put_start.Goals as goal
 

@@ -2,7 +2,7 @@
 use Rattle.std.proofs.Common.{◌≡◌, true, ap, ◌∙◌}
 use Rattle.std.specs.List.{list_all}
 use Rattle.std.proofs.lemmas.Result.{IfOk-weaker}
-use Rattle.koth_page.specs.Laws.{is_page_byte, markup_of}
+use Rattle.koth_text.specs.Characters.{is_page_byte, markup_of}
 use Rattle.koth_watch.specs.Laws.{unnamed}
 use Rattle.koth_watch.specs.Page.{round_page}
 use Rattle.koth_watch.proofs.Bytes.{ascii, contained}

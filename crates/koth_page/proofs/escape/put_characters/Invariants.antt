@@ -1,8 +1,0 @@
--- The characters so far are put.
-use Rattle.std.proofs.Common.{◌≡◌, ◌++◌}
-use Rattle.std.specs.List.{flat_map}
-use Rattle.koth_page.specs.Escape.{character_text}
-use Rattle.koth_page.proofs.escape.put_characters.Given as goal
-
-abbrev pub invariant-loop-character : goal.invariant-loop-character
-invariant-loop-character g l = l.page.items ≡ l.fn.page.items ++ flat_map character_text l.yielded

@@ -1,8 +1,0 @@
--- What is put, with what stands for the bytes that are left, is what stands for all of them.
-use Rattle.std.proofs.Common.{◌≡◌, ◌++◌}
-use Rattle.std.specs.Str.Chunks.{utf8_chunks_rest}
-use Rattle.koth_page.specs.Escape.{escaped}
-use Rattle.koth_page.proofs.escape.put_escaped.Given as goal
-
-abbrev pub invariant-loop-chunk : goal.invariant-loop-chunk
-invariant-loop-chunk g l = l.page.items ++ escaped (utf8_chunks_rest l.chunk-iterator) ≡ l.fn.page.items ++ escaped l.fn.text

@@ -1,0 +1,16 @@
+-- The four parts of a page.
+use Rattle.std.proofs.Common.{◌++◌, ◌∙◌, ap}
+use Rattle.koth_hill.specs.Rows.{rows_parts}
+use Rattle.koth_text.proofs.Steps.{four_parts}
+use Rattle.koth_page.specs.declared.parts.TheConstants.{END, HEAD}
+use Rattle.koth_page.specs.Page.{page_of, tables_text}
+use Rattle.koth_page.specs.Settings.{settings_text}
+use Rattle.koth_page.proofs.page.put_page.Goals as goal
+
+pub returns : goal.returns
+unfolding page_of
+returns g c =
+    let k = c.args.hill.now in
+    let one = c.extend_from_slice.new.self.items in
+    four_parts c.args.page.now.items HEAD.now (settings_text k.settings) (tables_text k c.args.links (rows_parts c.args.rows.now)) END.now one c.put_settings.new.page.items c.put_tables.new.page.items c.extend_from_slice-2.new.self.items
+    c.in_ok-extend_from_slice.ensures.items (c.in_ok-put_settings.ensures ∙ ap (λ s. one ++ settings_text s) c.settings.ensures.value) c.in_ok-put_tables.ensures c.in_ok-extend_from_slice-2.ensures.items

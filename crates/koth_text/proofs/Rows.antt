@@ -1,0 +1,44 @@
+-- Small texts, computed.
+use Rattle.std.proofs.Common.{◌≡◌, [], ◌∷◌, ◌++◌, codes, refl}
+use Rattle.std.specs.Char.{encode_utf8}
+use Rattle.std.specs.Fmt.{digits}
+use Rattle.std.specs.Str.{chars, is_utf8}
+use Rattle.std.specs.Str.Lossy.{utf8_error_len, utf8_lossy, utf8_valid_len}
+use Rattle.war_types.specs.Warrior.{warrior_parts}
+use Rattle.war_types.specs.declared.fault.AsmKind.TheVariants as kinds
+use Rattle.war_types.specs.declared.fault.ExprFault.TheVariants as expressions
+use Rattle.koth_text.specs.declared.columns.Alignment.TheVariants as sides
+use Rattle.koth_text.specs.Bout.{bout_view}
+use Rattle.koth_text.specs.Columns.{columns_text}
+use Rattle.koth_text.specs.Escape.{escaped}
+use Rattle.koth_text.specs.Refusal.{refusal_line}
+
+no_line_to_blame : refusal_line (record { line = 0; kind = kinds.Empty }) ≡ codes "REFUSED 0 Empty\n"
+unfolding digits
+no_line_to_blame = refl
+
+name_of_the_expression's_fault : refusal_line (record { line = 4097; kind = kinds.Expression expressions.Overflow }) ≡ codes "REFUSED 4097 Overflow\n"
+unfolding digits
+name_of_the_expression's_fault = refl
+
+-- names that are more than letters: a tag, and a letter of two bytes; an apostrophe, and a control character; a byte that no text has; a text
+-- that is cut off within a character, and goes on; and no name at all
+names : (escaped (codes "<b>&\"" ++ 0xC3 ∷ 0xA9 ∷ []) ≡ codes "&lt;b&gt;&amp;&quot;&#233;")
+    × (escaped (codes "it's" ++ 7 ∷ []) ≡ codes "it&#39;s&#65533;")
+    × (escaped (0xFF ∷ []) ≡ codes "&#65533;")
+    × (escaped (0xE2 ∷ 0x82 ∷ codes "x") ≡ codes "&#65533;x")
+    × (escaped [] ≡ [])
+unfolding digits chars encode_utf8 escaped is_utf8 utf8_error_len utf8_lossy utf8_valid_len
+names = (refl, refl, refl, refl, refl)
+
+-- a column past the sides that are given, a cell that is missing, and a row whose cells after the first are blank
+columns : columns_text (sides.Left ∷ sides.Right ∷ []) ((codes "a" ∷ codes "bb" ∷ codes "c" ∷ []) ∷ (codes "dd" ∷ codes "e" ∷ []) ∷ (codes "f" ∷ codes " " ∷ codes " " ∷ []) ∷ [])
+    ≡ codes "a   bb  c\ndd   e\nf\n"
+columns = refl
+
+counts : bout_view (warrior_parts [] 0 (codes "Imp") (codes "A. K. Dewdney")) (warrior_parts [] 0 (codes "Scanner") (codes "koth")) (record { older_wins = 1; younger_wins = 9; ties = 0 })
+    ≡ codes "warrior  author         won  lost  tied\n"
+    ++ codes "Imp      A. K. Dewdney    1     9     0\n"
+    ++ codes "Scanner  koth             9     1     0\n"
+unfolding digits
+counts = refl

@@ -1,0 +1,8 @@
+-- The cells so far are those of the columns so far.
+use Rattle.std.proofs.Common.{◌≡◌, ◌++◌}
+use Rattle.std.specs.List.{flat_map, range_with_len}
+use Rattle.koth_text.specs.Columns.{cell_text}
+use Rattle.koth_text.proofs.columns.put_cells.Given as goal
+
+abbrev pub invariant-loop-column : goal.invariant-loop-column
+invariant-loop-column g l = l.line.items ≡ l.fn.line.items ++ flat_map (cell_text l.alignments l.rows l.row) (range_with_len 0 l.column)

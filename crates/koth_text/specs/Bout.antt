@@ -1,0 +1,26 @@
+-- The counts of one match, for people.
+use Rattle.std.specs.Prelude.{ℕ, List, [], ◌∷◌, codes, decimal}
+use Rattle.war_types.specs.Warrior.{WarriorParts}
+use Rattle.koth_match.specs.declared.bout.Bout.{Bout}
+use Rattle.koth_text.specs.declared.columns.Alignment.{Alignment}
+use Rattle.koth_text.specs.declared.columns.Alignment.TheVariants as sides
+use Rattle.koth_text.specs.declared.tally.Tally.{Tally}
+use Rattle.koth_text.specs.Columns.{columns_text}
+use Rattle.koth_text.specs.Tally.{of_older, of_younger}
+
+-- names at the left, and the numbers after them at the right
+abbrev pub rounds_sides : List Alignment
+rounds_sides = sides.Left ∷ sides.Left ∷ []
+
+abbrev pub rounds_heading : List (List ℕ)
+rounds_heading = codes "warrior" ∷ codes "author" ∷ codes "won" ∷ codes "lost" ∷ codes "tied" ∷ []
+
+-- the cells of one of these names with these rounds
+abbrev pub rounds_cells : List ℕ → List ℕ → Tally → List (List ℕ)
+rounds_cells name author rounds = name ∷ author ∷ decimal rounds.won ∷ decimal rounds.lost ∷ decimal rounds.tied ∷ []
+
+-- the counts of a match, the older warrior first
+abbrev pub bout_view : WarriorParts → WarriorParts → Bout → List ℕ
+bout_view older younger bout =
+    columns_text rounds_sides
+    (rounds_heading ∷ rounds_cells older.name older.author (of_older bout) ∷ rounds_cells younger.name younger.author (of_younger bout) ∷ [])

@@ -1,0 +1,75 @@
+//! A line that is built in place.
+
+ghost use Rattle.std.specs.Prelude.{◌≡◌, ◌+◌, ◌≤◌, ◌++◌, [], length, codes, decimal};
+ghost use Rattle.war_types.specs.Fault.{kind_name};
+
+use itoa::Buffer;
+use std::marker::Model;
+use war_types::AsmKind;
+
+/// The bytes of a line so far, at most 96. It needs no memory.
+#[derive(Drop)]
+pub struct Line {
+    bytes: [u8; 96],
+    len: usize,
+}
+
+impl Model for Line {
+    ghost use Rattle.std.specs.Prelude.{◌≤◌, ℕ, List, take};
+
+    ghost Value = { List ℕ };
+
+    ghost view = { λ l. take l.len l.bytes };
+
+    ghost invariant = { λ l. l.len ≤ 96 };
+}
+
+impl Line {
+    /// A line without bytes.
+    pub fn new() -> Line
+        ensures { result ≡ [] }
+    {
+        Line {
+            bytes: [0; 96],
+            len: 0,
+        }
+    }
+
+    /// Writes bytes after those that are there.
+    pub fn put(&mut self, bytes: &[u8])
+        requires { length self.old + length bytes.now ≤ 96 }
+        ensures value { self.new ≡ self.old ++ bytes.now }
+        ensures len { length self.new ≡ length self.old + length bytes.now }
+    {
+        let end = self.len + bytes.len();
+        self.bytes[self.len..end].copy_from_slice(bytes);
+        self.len = end;
+    }
+
+    /// Writes a number in decimal digits.
+    pub fn put_number(&mut self, number: u64)
+        requires { length self.old + 20 ≤ 96 }
+        ensures value { self.new ≡ self.old ++ decimal number }
+        ensures len { length self.new ≤ length self.old + 20 }
+    {
+        let mut buffer = Buffer::new();
+        self.put(buffer.format(number).as_bytes());
+    }
+
+    /// Writes the name of a refusal.
+    #[tactic(auto, using(crate::proofs::KindNames::kind_is_short))]
+    pub(crate) fn put_kind(&mut self, kind: AsmKind)
+        requires { length self.old + 20 ≤ 96 }
+        ensures value { self.new ≡ self.old ++ kind_name kind }
+        ensures len { length self.new ≤ length self.old + 20 }
+    {
+        self.put(kind.name().as_bytes());
+    }
+
+    /// The bytes that were put.
+    pub fn as_slice(&self) -> &[u8]
+        ensures { result.now ≡ self.now }
+    {
+        &self.bytes[..self.len]
+    }
+}

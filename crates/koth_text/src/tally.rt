@@ -1,0 +1,41 @@
+//! The rounds of a match from one side.
+
+ghost use Rattle.std.specs.Prelude.{◌≡◌};
+ghost use Rattle.koth_text.specs.Tally.{of_older, of_younger};
+
+use koth_match::Bout;
+
+/// Rounds of one warrior.
+#[derive(Clone, Copy, PartialEq, Eq)]
+pub struct Tally {
+    /// Rounds that it won.
+    pub won: u64,
+    /// Rounds that the other one won.
+    pub lost: u64,
+    /// Rounds that neither won.
+    pub tied: u64,
+}
+
+impl Tally {
+    /// A result from the side of the older warrior.
+    pub fn of_older(bout: Bout) -> Tally
+        ensures { result ≡ of_older bout }
+    {
+        Tally {
+            won: u64::from(bout.older_wins),
+            lost: u64::from(bout.younger_wins),
+            tied: u64::from(bout.ties),
+        }
+    }
+
+    /// A result from the side of the younger warrior.
+    pub fn of_younger(bout: Bout) -> Tally
+        ensures { result ≡ of_younger bout }
+    {
+        Tally {
+            won: u64::from(bout.younger_wins),
+            lost: u64::from(bout.older_wins),
+            tied: u64::from(bout.ties),
+        }
+    }
+}

@@ -1,8 +1,0 @@
--- The lines so far are those of the rows so far.
-use Rattle.std.proofs.Common.{◌≡◌, take}
-use Rattle.std.specs.List.{flat_map}
-use Rattle.koth_views.specs.Columns.{row_text}
-use Rattle.koth_views.proofs.columns.columns_text.Given as goal
-
-abbrev pub invariant-loop-place : goal.invariant-loop-place
-invariant-loop-place g l = l.text.items ≡ flat_map (row_text l.alignments l.rows) (take l.place l.rows)

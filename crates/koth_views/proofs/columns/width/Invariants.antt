@@ -1,7 +1,0 @@
--- The width so far is that of the rows so far.
-use Rattle.std.proofs.Common.{◌≡◌, take}
-use Rattle.koth_views.specs.Columns.{width}
-use Rattle.koth_views.proofs.columns.width.Given as goal
-
-abbrev pub invariant-loop-place : goal.invariant-loop-place
-invariant-loop-place g l = l.width ≡ width (take l.place l.rows) l.column
