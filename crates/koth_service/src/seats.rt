@@ -85,32 +85,50 @@ impl<A: Allocator> Seats<A> {
 
     /// Bytes of this peer came.
     pub(crate) fn heard(&mut self, number: usize, now: u64) {
-        if let Some(Some(seat)) = self.seats.get_mut(number) {
-            seat.since = now;
-            seat.waits = true;
+        if let Some(seat) = self.at(number) {
+            self.put(
+                number,
+                Some(Seat {
+                    since: now,
+                    waits: true,
+                    ..seat
+                }),
+            );
         }
     }
 
     /// Bytes went out to this peer.
     pub(crate) fn told(&mut self, number: usize, now: u64) {
-        if let Some(Some(seat)) = self.seats.get_mut(number) {
-            seat.since = now;
+        if let Some(seat) = self.at(number) {
+            self.put(number, Some(Seat { since: now, ..seat }));
         }
     }
 
     /// The writing side of this peer is shut, and what still comes is thrown away.
     pub(crate) fn shut(&mut self, number: usize, now: u64) {
-        if let Some(Some(seat)) = self.seats.get_mut(number) {
-            seat.since = now;
-            seat.waits = false;
-            seat.drained = Some(0);
+        if let Some(seat) = self.at(number) {
+            self.put(
+                number,
+                Some(Seat {
+                    since: now,
+                    waits: false,
+                    drained: Some(0),
+                    ..seat
+                }),
+            );
         }
     }
 
     /// `count` bytes of this peer were thrown away in all.
     pub(crate) fn drained(&mut self, number: usize, count: usize) {
-        if let Some(Some(seat)) = self.seats.get_mut(number) {
-            seat.drained = Some(count);
+        if let Some(seat) = self.at(number) {
+            self.put(
+                number,
+                Some(Seat {
+                    drained: Some(count),
+                    ..seat
+                }),
+            );
         }
     }
 
@@ -156,8 +174,14 @@ impl<A: Allocator> Seats<A> {
     /// The turn passed these numbers.
     fn pass(&mut self, from: usize, to: usize) {
         for number in from..to {
-            if let Some(Some(seat)) = self.seats.get_mut(number) {
-                seat.waits = false;
+            if let Some(seat) = self.at(number) {
+                self.put(
+                    number,
+                    Some(Seat {
+                        waits: false,
+                        ..seat
+                    }),
+                );
             }
         }
     }
