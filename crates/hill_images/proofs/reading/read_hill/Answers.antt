@@ -1,3 +1,5 @@
+use Rattle.sector_disk.proofs.Kept.{kept_on}
+use Rattle.std.proofs.lemmas.Grind.{common_steps}
 use Rattle.std.proofs.Common.{◌≡◌, ◌<◌, ◌≤◌, List, length, min, take, All, arith, sym, ap, subst, ◌∙◌, length-take}
 use Rattle.war_types.specs.declared.settings.RawSettings.{RawSettings}
 use Rattle.koth_match.specs.Match.{rounds_in}
@@ -70,3 +72,28 @@ pub returns-clause-read : goal.returns-clause-read
 returns-clause-read g c =
     let past : length c.args.header.now.entries ≤ c.loop-i.i = subst (λ (xs : List HeaderEntry). length xs ≤ c.loop-i.i) c.entries-entries.ensures.value c.loop-i-test.false in
     read_all g.D.Device.facts c.args.device.now c.loop-i.device c.args.header.now c.loop-i.i c.loop-i.hill past c.len-count.ensures.hill c.loop-i.invariant
+
+pub read_warrior-requires-clause-size : goal.read_warrior-requires-clause-size
+read_warrior-requires-clause-size g c = grind (arith, common_steps)
+
+pub read_warrior-requires-clause-room : goal.read_warrior-requires-clause-room
+read_warrior-requires-clause-room g c = grind (arith, common_steps)
+
+pub bouts_with-bouts-requires-clause-few : goal.bouts_with-bouts-requires-clause-few
+bouts_with-bouts-requires-clause-few g c = grind (arith, common_steps)
+
+pub returns-clause-kept : goal.returns-clause-kept
+returns-clause-kept g c = c.loop-i.invariant.kept
+
+pub returns-clause-same : goal.returns-clause-same
+returns-clause-same g c = c.loop-i.invariant.same
+
+pub returns-in-Err-read_warrior-clause-kept : goal.returns-in-Err-read_warrior-clause-kept
+returns-in-Err-read_warrior-clause-kept g c =
+    kept_on g.D.Device.facts c.args.device.now c.loop-i.device c.read_warrior.new.device c.loop-i.invariant.kept c.in-Err-read_warrior.ensures.kept
+
+pub returns-in-Err-read_warrior-clause-same : goal.returns-in-Err-read_warrior-clause-same
+returns-in-Err-read_warrior-clause-same g c = λ lawful. c.in-Err-read_warrior.ensures.same (c.loop-i.invariant.kept.same_laws.1 lawful) ∙ c.loop-i.invariant.same lawful
+
+pub bouts_with-bouts-requires-clause-rounds : goal.bouts_with-bouts-requires-clause-rounds
+bouts_with-bouts-requires-clause-rounds g c = subst (λ n. FitRounds n c.in-Ok-read_warrior.held.results) (sym c.rounds.ensures.value) c.in-Ok-read_warrior.ensures.rounds
