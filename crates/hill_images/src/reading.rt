@@ -17,7 +17,7 @@ use std::alloc::{AllocError, Allocator};
 use war_types::{Settings, Warrior};
 
 /// Why a warrior was not read, and so the hill that it stands on.
-#[derive(Clone, Copy, Debug, PartialEq, Eq)]
+#[derive(Clone, Copy, PartialEq, Eq)]
 pub(crate) enum Unread {
     /// The device failed.
     Disk,

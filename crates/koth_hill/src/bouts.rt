@@ -16,7 +16,7 @@ const NO_ROUNDS: Bout = Bout {
 };
 
 /// The results of a warrior's matches with those that entered before it, in places of their own.
-#[derive(Debug, Drop)]
+#[derive(Drop)]
 pub(crate) struct Bouts {
     places: [Bout; PLACES],
     len: usize,

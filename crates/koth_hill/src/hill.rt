@@ -30,7 +30,7 @@ use war_types::{Settings, Warrior};
 /// A hill: its settings, the number of warriors that were ever judged, and the warriors on it, by their entries. Each has the results of
 /// its matches with those that entered before it. A challenger fights its own matches and no others, and a table none. Only `new`,
 /// `with_counter` and `rows` take memory.
-#[derive(Debug, Drop)]
+#[derive(Drop)]
 pub struct Hill<A: Allocator> {
     settings: Settings,
     counter: u64,

@@ -15,7 +15,7 @@ use std::marker::Model;
 use war_types::Warrior;
 
 /// A warrior on a hill, as `Hill::member` shows it.
-#[derive(Debug, Drop)]
+#[derive(Drop)]
 pub struct Member<'h, A: Allocator> {
     /// The number of its entry, from 1 on.
     pub entry: u64,
@@ -33,7 +33,7 @@ impl<'h, A: Allocator> Model for Member<'h, A> {
 }
 
 /// A warrior on a hill, which the hill owns, with the results of its matches with those that entered before it.
-#[derive(Debug, Drop)]
+#[derive(Drop)]
 pub(crate) struct Entrant<A: Allocator> {
     entry: u64,
     age: u64,

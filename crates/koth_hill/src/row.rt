@@ -3,7 +3,7 @@
 use war_types::Title;
 
 /// A line of the table: a warrior on the hill with its score.
-#[derive(Clone, Copy, Debug)]
+#[derive(Clone, Copy)]
 pub struct Row<'h> {
     /// The number of its entry, from 1 on.
     pub entry: u64,

@@ -7,7 +7,7 @@ use crate::standings::PLACES;
 use std::marker::Model;
 
 /// What one has earned.
-#[derive(Clone, Copy, Debug)]
+#[derive(Clone, Copy)]
 pub(crate) struct Score {
     pub(crate) entry: u64,
     pub(crate) points: u32,
@@ -23,7 +23,7 @@ impl Score {
 }
 
 /// The scores of those on a hill and of a challenger, in places of their own.
-#[derive(Debug, Drop)]
+#[derive(Drop)]
 pub(crate) struct Scores {
     places: [Score; PLACES],
     len: usize,

@@ -12,14 +12,14 @@ use std::marker::Model;
 pub(crate) const PLACES: usize = 21;
 
 /// An entry and its results with those before it.
-#[derive(Clone, Copy, Debug)]
+#[derive(Clone, Copy)]
 pub(crate) struct Standing<'h> {
     pub(crate) entry: u64,
     pub(crate) bouts: &'h [Bout],
 }
 
 /// Standings by rising entry, in places of their own.
-#[derive(Debug, Drop)]
+#[derive(Drop)]
 pub(crate) struct Standings<'h> {
     places: [Standing<'h>; PLACES],
     len: usize,

@@ -6,7 +6,7 @@ use crate::bouts::Bouts;
 use koth_match::Bout;
 
 /// What becomes of a challenger, as `Hill::judge` finds it.
-#[derive(Debug, Drop)]
+#[derive(Drop)]
 pub struct Verdict {
     /// The number of its entry: 1 and the number of warriors ever judged.
     pub entry: u64,

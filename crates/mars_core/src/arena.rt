@@ -18,7 +18,7 @@ use std::marker::Model;
 use war_types::{Instr, Settings, Warrior};
 
 /// A core and the processes of two sides, under settings that stay. Only `new` takes memory.
-#[derive(Debug, Drop)]
+#[derive(Drop)]
 pub struct Arena<A: Allocator> {
     settings: Settings,
     core: Core<A>,

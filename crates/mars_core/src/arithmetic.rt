@@ -1,6 +1,6 @@
 //! What an operation makes of two numbers.
 
-#[derive(Clone, Copy, Debug, PartialEq, Eq)]
+#[derive(Clone, Copy, PartialEq, Eq)]
 pub(crate) enum Arithmetic {
     Sum,
     Difference,

@@ -23,7 +23,7 @@ const BLANK: Instr = Instr {
 };
 
 /// The cells of a core. Those that were written since it was cleared are listed, so that clearing touches no others.
-#[derive(Debug, Drop)]
+#[derive(Drop)]
 pub(crate) struct Core<A: Allocator> {
     cells: Vec<u64, A>,
     /// Its first `count` elements are the addresses that were written, each once.

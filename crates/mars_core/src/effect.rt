@@ -20,7 +20,7 @@ use std::alloc::Allocator;
 use war_types::{Modifier, Op};
 
 /// The addresses that an operation queues in place of the process that was executed.
-#[derive(Clone, Copy, Debug, PartialEq, Eq)]
+#[derive(Clone, Copy, PartialEq, Eq)]
 pub(crate) enum Queued {
     /// None: the process ends.
     Nothing,

@@ -7,14 +7,14 @@ ghost use Rattle.mars_core.specs.Code.{listed};
 use war_types::Modifier;
 
 /// One of the two numbers of an instruction.
-#[derive(Clone, Copy, Debug, PartialEq, Eq)]
+#[derive(Clone, Copy, PartialEq, Eq)]
 pub(crate) enum Field {
     A,
     B,
 }
 
 /// A number of the A operand's register, with a number of the B operand's register or target.
-#[derive(Clone, Copy, Debug, PartialEq, Eq)]
+#[derive(Clone, Copy, PartialEq, Eq)]
 pub(crate) struct Pair {
     pub(crate) source: Field,
     pub(crate) target: Field,
@@ -41,7 +41,7 @@ const B_TO_A: Pair = Pair {
 };
 
 /// The pairs that a modifier names, in the order in which they are written.
-#[derive(Clone, Copy, Debug, PartialEq, Eq)]
+#[derive(Clone, Copy, PartialEq, Eq)]
 pub(crate) enum Paired {
     One(Pair),
     Two(Pair, Pair),

@@ -42,7 +42,7 @@ pub(crate) trait Limits: Copy {
 }
 
 /// Operands read and write anywhere in a core of `size` cells.
-#[derive(Clone, Copy, Debug)]
+#[derive(Clone, Copy)]
 pub(crate) struct Whole {
     pub(crate) size: Size,
 }
@@ -63,7 +63,7 @@ impl Limits for Whole {
 }
 
 /// Operands read within one limit and write within another, around their instruction.
-#[derive(Clone, Copy, Debug)]
+#[derive(Clone, Copy)]
 pub(crate) struct Within {
     size: Size,
     read: u32,
@@ -84,7 +84,7 @@ impl Model for Within {
 }
 
 /// Where an operand reads and where it writes, counted from its instruction.
-#[derive(Clone, Copy, Debug)]
+#[derive(Clone, Copy)]
 struct Pointers {
     read: u32,
     write: u32,

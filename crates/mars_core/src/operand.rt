@@ -16,7 +16,7 @@ use std::alloc::Allocator;
 use war_types::Mode;
 
 /// What evaluating an operand gives.
-#[derive(Clone, Copy, Debug)]
+#[derive(Clone, Copy)]
 pub(crate) struct Operand {
     /// The address that it reads.
     pub(crate) pointer: u32,

@@ -10,7 +10,7 @@ use std::marker::Model;
 
 /// The processes of a side, by their addresses: first in, first out, in memory that is taken once. The front process stands beside a
 /// ring of the others, so a single process never touches the ring's memory.
-#[derive(Debug, Drop)]
+#[derive(Drop)]
 pub(crate) struct Queue<A: Allocator> {
     /// The front process, if there is one.
     front: u32,

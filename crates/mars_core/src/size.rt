@@ -10,7 +10,7 @@ use crate::arithmetic::Arithmetic;
 use std::marker::Model;
 
 /// The number of a core's cells, at most 65,535: in 32 bits, as its addresses are.
-#[derive(Clone, Copy, Debug)]
+#[derive(Clone, Copy)]
 pub(crate) struct Size {
     cells: u32,
 }

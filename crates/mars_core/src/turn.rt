@@ -16,7 +16,7 @@ use crate::size::Size;
 use std::alloc::Allocator;
 
 /// What a run of turns led to.
-#[derive(Clone, Copy, Debug)]
+#[derive(Clone, Copy)]
 pub(crate) struct Played {
     /// The number of turns that were not made, since a side had no process left.
     pub(crate) left: u32,

@@ -25,7 +25,7 @@ const MARK: u32 = 63;
 
 /// An instruction, and the mark of a cell that was written since its core was cleared. The B number stands from bit 0 on, the A number from
 /// bit 16 on, then the B mode, the A mode, the modifier and the operation. The mark is the highest bit.
-#[derive(Clone, Copy, Debug)]
+#[derive(Clone, Copy)]
 pub(crate) struct Word {
     bits: u64,
 }
