@@ -1,5 +1,7 @@
 //! What is kept of each peer beside its session.
 
+ghost use Rattle.std.specs.Prelude.{◌≡◌, ◌↔◌, ◌-◌, ◌≤◌, IsTrue, false};
+
 use crate::times::{DRAIN, PATIENCE};
 use koth_peers::Step;
 use std::alloc::{AllocError, Allocator};
@@ -19,12 +21,16 @@ pub(crate) struct Seat {
 
 impl Seat {
     /// Whether the peer was silent for too long: while it waits for its turn it is not silent.
-    pub(crate) fn is_silent(&self, now: u64) -> bool {
+    pub(crate) fn is_silent(&self, now: u64) -> bool
+        ensures { IsTrue result ↔ ((self.now.waits ≡ false) × (PATIENCE ≤ now - self.now.since)) }
+    {
         !self.waits && self.has_passed(now, PATIENCE)
     }
 
     /// Whether at least `milliseconds` have passed since something came or went.
-    pub(crate) fn has_passed(&self, now: u64, milliseconds: u64) -> bool {
+    pub(crate) fn has_passed(&self, now: u64, milliseconds: u64) -> bool
+        ensures { IsTrue result ↔ (milliseconds ≤ now - self.now.since) }
+    {
         now.saturating_sub(self.since) >= milliseconds
     }
 

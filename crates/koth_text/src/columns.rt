@@ -1,11 +1,11 @@
 //! Rows of cells, laid out in columns. The words, numbers and names in cells are printable ASCII, so a byte takes one place.
 
 ghost use Rattle.std.specs.Prelude.{◌≡◌, ◌+◌, ◌-◌, ◌<◌, ◌≤◌, ◌++◌, length, codes, replicate, IfOk, OnOk};
-ghost use Rattle.war_types.specs.Title.{before_blanks, is_blank};
 ghost use Rattle.koth_text.specs.Columns.{alignment_at, cell_text, cells_text, columns_text, gap, padded, row_text, width};
 
 use crate::cells::Cells;
 use std::alloc::{AllocError, Allocator};
+use war_types::without_blanks_behind;
 
 /// At which side of its column a cell stands.
 #[derive(Clone, Copy, PartialEq, Eq)]
@@ -136,23 +136,4 @@ fn width<A: Allocator>(rows: &[Cells<A>], column: usize) -> usize
         width = rows[place].cell(column).len().max(width);
     }
     width
-}
-
-fn is_blank(byte: u8) -> bool
-    ensures { result ≡ is_blank byte }
-{
-    byte == b' ' || byte == b'\t' || byte == b'\r'
-}
-
-fn without_blanks_behind(text: &[u8]) -> &[u8]
-    ensures { result.now ≡ before_blanks text.now }
-{
-    let mut rest = text;
-    while let [before @ .., last] = rest {
-        if !is_blank(*last) {
-            break;
-        }
-        rest = before;
-    }
-    rest
 }

@@ -23,5 +23,5 @@ mod warrior;
 pub use fault::{AsmFault, AsmKind, ExprFault};
 pub use instr::{Instr, Mode, Modifier, Op};
 pub use settings::{RawSettings, Settings, SettingsFault};
-pub use title::{Title, is_blank};
+pub use title::{Title, is_blank, without_blanks_behind};
 pub use warrior::Warrior;

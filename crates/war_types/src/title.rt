@@ -128,7 +128,8 @@ fn without_blanks_before(text: &[u8]) -> &[u8]
     rest
 }
 
-fn without_blanks_behind(text: &[u8]) -> &[u8]
+/// The text without the blanks at its end.
+pub fn without_blanks_behind(text: &[u8]) -> &[u8]
     ensures { result.now ≡ before_blanks text.now }
 {
     let mut rest = text;
