@@ -1,5 +1,6 @@
 -- The warriors of a header, read one after another.
 use Rattle.std.proofs.Common.{◌≡◌, ℕ, zero, suc, ◌+◌, ◌-◌, ◌<◌, ◌≤◌, List, [], ◌∷◌, ◌++◌, length, map, All, take, get_or, Option, None, Some, Result, Ok, Err, IfOk, refl, sym, ap, ap₂, subst, ◌∙◌, inl, inr, min, arith, length-take}
+use Rattle.std.proofs.Math.Nat.{mul-le-mul_left}
 use Rattle.std.proofs.lemmas.Bool.{cases_eq}
 use Rattle.std.proofs.lemmas.List.{take_more, take_all}
 use Rattle.std.proofs.lemmas.List.Elements.{All-nil, All-cons, All-head, All-tail, All-take, All-get_or}
@@ -13,7 +14,7 @@ use Rattle.koth_hill.specs.Hill.{Member, member_of, last_entry, last_entry_from}
 use Rattle.koth_hill.specs.Kept.{Kept, IsKept as IsKeptHill, kept_of}
 use Rattle.hill_bytes.specs.declared.header.HeaderEntry.{HeaderEntry}
 use Rattle.hill_bytes.specs.declared.wins.Wins.{Wins}
-use Rattle.hill_bytes.specs.Layout.{HeaderParts, IsHeaderParts, IsEntry, EntriesRise, FitRounds, HoldsSame, IsSlotRead, Layout, code_room, new_layout, results_in, slot_in}
+use Rattle.hill_bytes.specs.Layout.{HeaderParts, IsHeaderParts, IsEntry, EntriesRise, FitRounds, HoldsSame, IsSlotRead, Layout, code_room, new_layout, results_in, sectors_in, slot_in}
 use Rattle.hill_images.specs.Stands.{IsHeld, AllHeld, no_wins, bout_of, slots_of, results_read}
 use Rattle.hill_images.specs.Named.{Agree}
 use Rattle.sector_disk.specs.Served.{IsKept, Failed}
@@ -101,6 +102,15 @@ next_read {layout = layout} facts old now h i hill es d same is below read =
 
     this : IsEntry h.settings.capacity h.counter (get_or h.entries i d)
     this = entry_of h i d is here
+
+-- the slot of an entry is on the device
+pub slot_there : {D : Type 0} (layout : Layout) (facts : DeviceFacts D) (old now : D) (h : HeaderParts) (es : List HeaderEntry) (i : ℕ) (d : HeaderEntry) → es ≡ h.entries → IsHeaderParts h → i < length es → IsKept facts old now
+    → sectors_in layout h.settings.capacity ≤ facts.size old → sectors_in layout (get_or es i d).slot ≤ facts.size now
+slot_there layout facts old now h es i d same is below kept room =
+    let low : (get_or es i d).slot ≤ h.settings.capacity =
+    subst (λ xs. (get_or xs i d).slot ≤ h.settings.capacity) (sym same) (entry_of h i d is (subst (λ xs. i < length xs) same below)).slot in
+    subst (λ n. sectors_in layout (get_or es i d).slot ≤ n) (sym kept.same_size)
+    (omega (arith, room, mul-le-mul_left {m = (get_or es i d).slot + 1} {n = h.settings.capacity + 1} (layout.full + 1) (omega (arith, low))))
 
 -- the results of the next, with those before it
 abbrev pub row_of : ℕ → List Wins → List HeaderEntry → List Bout

@@ -1,12 +1,12 @@
 use Rattle.sector_disk.proofs.Kept.{kept_on}
-use Rattle.std.proofs.lemmas.Grind.{common_steps}
 use Rattle.std.proofs.Common.{◌≡◌, ◌<◌, ◌≤◌, List, length, min, take, All, arith, sym, ap, subst, ◌∙◌, length-take}
 use Rattle.war_types.specs.declared.settings.RawSettings.{RawSettings}
+use Rattle.war_types.specs.Warrior.{Fits}
 use Rattle.koth_match.specs.Match.{rounds_in}
 use Rattle.hill_bytes.specs.declared.header.HeaderEntry.{HeaderEntry}
-use Rattle.hill_bytes.specs.Layout.{FitRounds}
+use Rattle.hill_bytes.specs.Layout.{FitRounds, code_room, layout_of}
 use Rattle.hill_images.specs.Places.{new_entry}
-use Rattle.hill_images.proofs.WarriorsRead.{next_read, read_next, read_failed, read_all, IsRowRead, row_rounds, low_before, within_of, members_read}
+use Rattle.hill_images.proofs.WarriorsRead.{next_read, read_next, read_failed, read_all, IsRowRead, row_rounds, low_before, within_of, members_read, slot_there}
 use Rattle.hill_images.proofs.reading.read_hill.Given.{Over}
 use Rattle.hill_images.proofs.reading.read_hill.Goals as goal
 
@@ -74,13 +74,22 @@ returns-clause-read g c =
     read_all g.D.Device.facts c.args.device.now c.loop-i.device c.args.header.now c.loop-i.i c.loop-i.hill past c.len-count.ensures.hill c.loop-i.invariant
 
 pub read_warrior-requires-clause-size : goal.read_warrior-requires-clause-size
-read_warrior-requires-clause-size g c = grind (arith, common_steps)
+read_warrior-requires-clause-size g c =
+    slot_there (layout_of c.args.format) g.D.Device.facts c.args.device.now c.loop-i.device c.args.header.now c.entries-entries.result.now c.loop-i.i (new_entry 0 0) c.entries-entries.ensures.value c.settings.ensures.header c.loop-i-test.true c.loop-i.invariant.kept c.requires.size
 
 pub read_warrior-requires-clause-room : goal.read_warrior-requires-clause-room
-read_warrior-requires-clause-room g c = grind (arith, common_steps)
+read_warrior-requires-clause-room g c = λ lawful.
+    subst (λ (s : RawSettings). s.length ≤ code_room (layout_of c.args.format)) (sym c.settings.ensures.value) (c.requires.room (c.loop-i.invariant.kept.same_laws.0 lawful))
 
 pub bouts_with-bouts-requires-clause-few : goal.bouts_with-bouts-requires-clause-few
-bouts_with-bouts-requires-clause-few g c = grind (arith, common_steps)
+bouts_with-bouts-requires-clause-few g c =
+    let few : length c.args.header.now.entries ≤ c.args.header.now.settings.capacity = c.settings.ensures.header.few in
+    let most : c.args.header.now.settings.capacity ≤ 20 = c.settings.ensures.header.settings.capacity_most in
+    let taken : length (take c.loop-i.i c.entries-entries.result.now) ≡ min c.loop-i.i (length c.entries-entries.result.now) = length-take c.loop-i.i c.entries-entries.result.now in
+    omega (arith, few, most, taken, ap length c.entries-entries.ensures.value)
+
+pub put_back-requires-clause-fits : goal.put_back-requires-clause-fits
+put_back-requires-clause-fits g c = subst (λ (s : RawSettings). Fits s c.in-Ok-read_warrior.held.warrior) (c.settings.ensures.value ∙ sym c.loop-i.invariant.settings) c.in-Ok-read_warrior.ensures.fits
 
 pub returns-clause-kept : goal.returns-clause-kept
 returns-clause-kept g c = c.loop-i.invariant.kept

@@ -5,6 +5,7 @@ use Rattle.hill_bytes.specs.Layout.{IsTitled, new_layout, slot_at}
 use Rattle.hill_images.specs.Places.{new_entry, results_by_slot, writes_from}
 use Rattle.sector_disk.specs.Changes.{after}
 use Rattle.hill_images.proofs.Nexts.{agree_length}
+use Rattle.hill_images.proofs.WarriorsRead.{slot_there}
 use Rattle.hill_images.proofs.Stored.{below_entries, content_is, next_stored, none_cut, row_long, stored_all, stored_next}
 use Rattle.hill_images.proofs.writing.write_members.Goals as goal
 
@@ -45,3 +46,9 @@ pub returns-clause-stored : goal.returns-clause-stored
 returns-clause-stored g c = λ lawful.
     let many = agree_length c.args.header.now.entries c.args.hill.now.members c.requires.named.entries in
     stored_all g.D.Device.facts c.args.device.now c.loop-i.device c.args.header.now c.args.hill.now c.loop-i.i (omega (arith, many, c.loop-i-test.false, c.len-i-end.ensures.value)) c.len-i-end.ensures.hill c.requires.named c.loop-i.invariant lawful
+
+pub write_slot-requires : goal.write_slot-requires
+write_slot-requires g c =
+    slot_there new_layout g.D.Device.facts c.args.device.now c.loop-i.device c.args.header.now c.entries-entries.result.now c.loop-i.i (new_entry 0 0) c.entries-entries.ensures.value c.entries-entries.ensures.header
+    (below_entries c.args.header.now c.args.hill.now c.loop-i.i c.entries-entries.result.now c.entries-entries.ensures.value c.len-i-end.ensures.hill c.requires.named (subst (λ n. c.loop-i.i < n) c.len-i-end.ensures.value c.loop-i-test.true))
+    c.loop-i.invariant.kept c.requires.size
