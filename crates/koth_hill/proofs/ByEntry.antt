@@ -1,5 +1,6 @@
 -- Scores of members by what is kept are those of their entries.
-use Rattle.std.proofs.Common.{◌≡◌, ℕ, ◌+◌, Bool, true, false, List, [], ◌∷◌, ◌++◌, map, refl, sym, ap, ap₂, ◌∙◌, Option, None}
+use Rattle.std.proofs.Common.{◌≡◌, ℕ, ◌+◌, ◌<◌, ◌≤◌, Bool, true, false, List, [], ◌∷◌, ◌++◌, get_or, length, map, take, refl, sym, ap, ap₂, ◌∙◌, Option, None}
+use Rattle.std.proofs.lemmas.List.{length-map, map-append, take_all, take_more}
 use Rattle.std.specs.Prelude.{if◌then◌else◌}
 use Rattle.koth_match.specs.declared.bout.Bout.{Bout}
 use Rattle.koth_hill.specs.declared.score.Score.{Score}
@@ -7,7 +8,8 @@ use Rattle.koth_hill.specs.Hill.{Member, Results, points}
 use Rattle.koth_hill.specs.Scores.{score_of, scores_of}
 use Rattle.koth_hill.specs.Step.{is_entry, without, one_older}
 use Rattle.koth_hill.specs.Kept.{Entrant, entries_of, members_of, rows_of, result_of, or_no_rounds}
-use Rattle.koth_hill.specs.Standings.{standing_of, entries_in, rows_in, points_between, points_among, left, score_among, scores_among}
+use Rattle.koth_hill.specs.declared.standings.Standing.{Standing}
+use Rattle.koth_hill.specs.Standings.{StandingParts, standing_of, standing_parts, entries_in, rows_in, points_between, points_among, left, score_among, scores_among}
 
 -- results that look at entries alone
 abbrev pub by_entry : (ℕ → ℕ → Bout) → Results
@@ -66,3 +68,19 @@ entries-entrants (e ∷ es) = ap (λ (xs : List ℕ). e.member.entry ∷ xs) (en
 pub rows-entrants : (es : List Entrant) → rows_in (map standing_of es) ≡ rows_of es
 rows-entrants [] = refl
 rows-entrants (e ∷ es) = ap (λ (xs : List (List Bout)). e.bouts ∷ xs) (rows-entrants es)
+
+-- ---- standings
+
+pub standing-more : (es : List Entrant) (n : ℕ) (e : Entrant) (s : Standing) (ss new : List Standing) → n < length es → e ≡ get_or es n e → standing_parts s ≡ standing_of e → new ≡ ss ++ s ∷ [] →
+    map standing_parts ss ≡ map standing_of (take n es) → map standing_parts new ≡ map standing_of (take (n + 1) es)
+standing-more es n e s ss new within here shown pushed before =
+    ap (map standing_parts) pushed ∙ map-append standing_parts ss (s ∷ [])
+    ∙ ap₂ (λ (xs : List StandingParts) (x : StandingParts). xs ++ x ∷ []) before (shown ∙ ap standing_of here)
+    ∙ sym (map-append standing_of (take n es) (get_or es n e ∷ []))
+    ∙ ap (map standing_of) (sym (take_more es n e within))
+
+pub all-standings : (es : List Entrant) (n : ℕ) (ss : List Standing) → length es ≤ n → map standing_parts ss ≡ map standing_of (take n es) → map standing_parts ss ≡ map standing_of es
+all-standings es n ss past before = before ∙ ap (map standing_of) (take_all n es past)
+
+pub many-standings : (es : List Entrant) (ss : List Standing) → map standing_parts ss ≡ map standing_of es → length ss ≡ length es
+many-standings es ss are = sym (length-map ss standing_parts) ∙ ap length are ∙ length-map es standing_of

@@ -17,6 +17,7 @@ pub mod ByEntry
 pub mod Judged
 pub mod Tables
 pub mod Hills
+pub mod Shown
 pub mod Audits
 pub mod Untruths
 pub mod Admitting

@@ -1,6 +1,6 @@
 -- The matches of one warrior, one after another.
-use Rattle.std.proofs.Common.{◌≡◌, ℕ, ◌+◌, ◌<◌, All, List, [], ◌∷◌, ◌++◌, length, take, get_or, sym, ap, ap₂, subst, ◌∙◌, arith}
-use Rattle.std.proofs.lemmas.List.{get_or-map, length-map, map-append, take_more}
+use Rattle.std.proofs.Common.{◌≡◌, ℕ, ◌+◌, ◌<◌, ◌≤◌, All, List, [], ◌∷◌, ◌++◌, length, take, get_or, sym, ap, ap₂, subst, ◌∙◌, arith}
+use Rattle.std.proofs.lemmas.List.{get_or-map, length-map, length-take, map-append, take_all, take_more}
 use Rattle.std.proofs.lemmas.List.Elements.{All-push}
 use Rattle.war_types.specs.declared.settings.RawSettings.{RawSettings}
 use Rattle.war_types.specs.Warrior.{WarriorParts, Fits}
@@ -32,3 +32,13 @@ pub rounds-more : (rounds : ℕ) (bouts new : List Bout) (bout : Bout) → round
 rounds-more rounds bouts new bout one pushed all =
     let P : List Bout → Type 0 = λ xs. All (λ b. rounds_in b ≡ rounds) xs in
     subst P (sym pushed) (All-push (λ b. rounds_in b ≡ rounds) bouts bout all one)
+
+-- as many matches as others before this place
+pub many-matches : (s : RawSettings) (es : List Entrant) (n : ℕ) (w : WarriorParts) (bouts : List Bout) → n ≤ length es → bouts ≡ matches_with s (members_of (take n es)) w → length bouts ≡ n
+many-matches s es n w bouts within fought =
+    let many : length bouts ≡ length (take n es) =
+    ap length fought ∙ length-map (members_of (take n es)) (λ (m : Member). match_of s m.warrior w) ∙ length-map (take n es) (λ (e : Entrant). e.member) in
+    omega (arith, within, many, length-take n es)
+
+pub all-matched : (s : RawSettings) (es : List Entrant) (n : ℕ) (w : WarriorParts) (bouts : List Bout) → length es ≤ n → bouts ≡ matches_with s (members_of (take n es)) w → bouts ≡ matches_with s (members_of es) w
+all-matched s es n w bouts past fought = fought ∙ ap (λ (xs : List Entrant). matches_with s (members_of xs) w) (take_all n es past)

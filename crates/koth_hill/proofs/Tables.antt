@@ -2,7 +2,7 @@
 use Rattle.std.proofs.Common.{◌≡◌, ℕ, ◌+◌, ◌-◌, ◌<◌, ◌≤◌, List, [], ◌∷◌, ◌++◌, length, map, drop, get_or, sym, ap, ap₂, ◌∙◌, arith, suc, None, append_assoc}
 use Rattle.std.specs.Prelude.{◌==◌, if◌then◌else◌}
 use Rattle.std.proofs.lemmas.Bool.{cond-true, cond-false, eq-eqb, ne_eqb}
-use Rattle.std.proofs.lemmas.List.{append-nil, length-map, drop_more, get_or_default, get_or-map}
+use Rattle.std.proofs.lemmas.List.{append-nil, drop_all, length-map, drop_more, get_or_default, get_or-map}
 use Rattle.koth_match.specs.declared.bout.Bout.{Bout}
 use Rattle.koth_hill.specs.declared.score.Score.{Score}
 use Rattle.koth_hill.specs.declared.standings.Standing.{Standing}
@@ -62,6 +62,10 @@ row-passed all r ms xs i m d done due within beside here other before =
 
     rest : List RowParts
     rest = rows_of_rank all r (drop (i + 1) ms) (drop (i + 1) xs)
+
+pub rows-last : (all : List Score) (r : ℕ) (ms : List Member) (xs : List Score) (i : ℕ) (done due : List RowParts) → length ms ≤ i → done ++ rows_of_rank all r (drop i ms) (drop i xs) ≡ due → done ≡ due
+rows-last all r ms xs i done due past before =
+    sym (append-nil done) ∙ ap (λ (ns : List Member). done ++ rows_of_rank all r ns (drop i xs)) (sym (drop_all i ms past)) ∙ before
 
 -- ---- members that are shown
 

@@ -1,8 +1,7 @@
 -- The first kept result that is not the result of its match.
-use Rattle.std.proofs.Common.{◌≡◌, ℕ, ◌+◌, ◌<◌, List, [], ◌∷◌, length, map, take, get_or, refl, sym, ap, ap₂, subst, ◌∙◌, arith, suc, zero, Option, None, Some, slice_get}
-use Rattle.std.specs.Option.{option_map}
+use Rattle.std.proofs.Common.{◌≡◌, ℕ, ◌+◌, ◌<◌, List, [], ◌∷◌, length, take, get_or, refl, sym, ap, ap₂, subst, ◌∙◌, arith, suc, zero, Option, None, Some, slice_get}
 use Rattle.std.proofs.lemmas.List.{length-map, length-take, take-map}
-use Rattle.std.proofs.lemmas.Option.{slice_get-get_or, slice_get-map}
+use Rattle.std.proofs.lemmas.Option.{slice_get-get_or}
 use Rattle.war_types.specs.declared.settings.RawSettings.{RawSettings}
 use Rattle.war_types.specs.Warrior.{WarriorParts}
 use Rattle.koth_match.specs.declared.bout.Bout.{Bout}
@@ -11,6 +10,7 @@ use Rattle.koth_hill.specs.Hill.{Member}
 use Rattle.koth_hill.specs.Step.{matches_with}
 use Rattle.koth_hill.specs.Kept.{Kept, Entrant, AreRows, AreTrueBefore, IsFirstDifference, IsKept, IsUntrue, entries_of, fought_from, kept_of, members_of, place_of, result_at, result_in, result_of, rows_of}
 use Rattle.koth_hill.proofs.RowsKept.{AreRows-fought}
+use Rattle.koth_hill.proofs.Shown.{shown-at}
 use Rattle.koth_hill.proofs.Looked.{fought_from-row, place_of-at, placed, places-rise, slice_get-take}
 
 -- ---- looked up in rows that are the same so far
@@ -95,11 +95,6 @@ module _ (k : Kept) (p n : ℕ) (older younger : Member) (row fought : List Bout
   }
 
 -- ---- what a hill has in its entrants
-
-shown-at : {X : Type 0} (f : Entrant → X) (es xs : List Entrant) (n : ℕ) (e : Entrant) → xs ≡ es → n < length xs → e ≡ get_or xs n e → slice_get (map f es) n ≡ Some (f e)
-shown-at f es xs n e same within here =
-    ap (λ (ys : List Entrant). slice_get (map f ys) n) (sym same) ∙ slice_get-map f xs n
-    ∙ ap (option_map f) (slice_get-get_or xs n e within ∙ ap Some (sym here))
 
 module _ (k : Kept) (s : RawSettings) (counter : ℕ) (es xs : List Entrant) (view : kept_of s counter (members_of es) (rows_of es) ≡ k) (same : xs ≡ es) where
   pub older-at : (p n : ℕ) (o : Entrant) (w : WarriorParts) (fought : List Bout) → p < length fought → fought ≡ matches_with s (members_of (take n xs)) w →

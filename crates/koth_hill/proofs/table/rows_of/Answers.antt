@@ -1,9 +1,9 @@
-use Rattle.std.proofs.Common.{◌∙◌, ◌+◌, ◌++◌, List, ap, length, map}
+use Rattle.std.proofs.Common.{◌≡◌, ◌∙◌, ◌+◌, ◌-◌, ◌++◌, List, ap, arith, length, map, subst, sym}
 use Rattle.koth_hill.specs.declared.score.Score.{Score}
 use Rattle.koth_hill.specs.Rows.{rows_parts}
-use Rattle.koth_hill.specs.Table.{rows_of_rank}
+use Rattle.koth_hill.specs.Table.{rows_by_rank, rows_of_rank}
 use Rattle.koth_hill.specs.Kept.{members_of}
-use Rattle.koth_hill.specs.Standings.{standing_parts}
+use Rattle.koth_hill.specs.Standings.{HaveRounds, StandingParts, standing_parts}
 use Rattle.koth_hill.proofs.Tables.{scores-kept, scores-beside, table-kept, rank-more, rank-last}
 use Rattle.koth_hill.proofs.table.rows_of.Goals as goal
 
@@ -24,3 +24,26 @@ returns g c =
     table-kept c.args.members.now c.scores-all_scores.result (rows_parts c.loop-place.rows.items)
     (scores-kept c.args.members.now c.as_slice.result.now c.scores-all_scores.result (ap (map standing_parts) c.as_slice.ensures.value ∙ c.of-standings.ensures.parts) c.scores-all_scores.ensures)
     (rank-last (members_of c.args.members.now) c.scores-all_scores.result (rows_parts c.loop-place.rows.items) _ c.loop-place.place (length c.args.members.now) c.loop-place-test.false c.loop-place.invariant)
+
+pub scores-all_scores-requires-clause-rounds : goal.scores-all_scores-requires-clause-rounds
+scores-all_scores-requires-clause-rounds g c =
+    let P : List StandingParts → Type 0 = λ ss. HaveRounds ss in
+    subst P (sym (ap (map standing_parts) c.as_slice.ensures.value ∙ c.of-standings.ensures.parts)) c.requires.rounds
+
+pub scores-all_scores-requires-clause-few : goal.scores-all_scores-requires-clause-few
+scores-all_scores-requires-clause-few g c = c.as_slice.ensures.few
+
+pub overflow_cast-place-end : goal.overflow_cast-place-end
+overflow_cast-place-end g c = omega (arith, c.requires.few)
+
+pub overflow_add-place : goal.overflow_add-place
+overflow_add-place g c = omega (arith, c.loop-place-test.true, c.requires.few)
+
+pub push_rank-requires-clause-few : goal.push_rank-requires-clause-few
+push_rank-requires-clause-few g c = c.requires.few
+
+pub loop-place-init : goal.loop-place-init
+loop-place-init g c =
+    let all : length c.args.members.now - 0 ≡ length c.args.members.now = omega arith in
+    ap (λ n. rows_parts c.in_ok-rows.rows.items ++ rows_by_rank c.scores-all_scores.result (members_of c.args.members.now) 1 n) all
+    ∙ ap (λ xs. rows_parts xs ++ rows_by_rank c.scores-all_scores.result (members_of c.args.members.now) 1 (length c.args.members.now)) c.in_ok-rows.ensures.items

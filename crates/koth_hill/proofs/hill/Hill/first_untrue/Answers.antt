@@ -1,7 +1,8 @@
-use Rattle.std.proofs.Common.{◌∙◌, ap, arith, refl, sym}
+use Rattle.std.proofs.Common.{◌∙◌, ap, arith, length-take, refl, sym}
 use Rattle.koth_match.specs.Match.{no_rounds}
 use Rattle.koth_hill.specs.Kept.{Kept, kept_of, members_of, rows_of}
-use Rattle.koth_hill.proofs.Matches.{fits-at}
+use Rattle.koth_hill.proofs.Hills.{few-entrants}
+use Rattle.koth_hill.proofs.Matches.{fits-at, many-matches}
 use Rattle.koth_hill.proofs.Audits.{all-entrants-fit, fit-before, true-all, true-more}
 use Rattle.koth_hill.proofs.Untruths.{at-member, first-before, first-untrue, older-at, same-long, same-so_far}
 use Rattle.koth_hill.proofs.hill.Hill.first_untrue.Goals as goal
@@ -71,3 +72,37 @@ returns-clause-none g c none =
     true-all c.args.self.now c.self.inside.members.items c.as_slice-members.result.now c.loop-i.i
     (ap (λ (k : Kept). k.members) c.self.view_is) (ap (λ (k : Kept). k.results) c.self.view_is) c.as_slice-members.ensures.value
     (omega (arith, c.loop-i-test.false)) c.loop-i.invariant.fought
+
+pub loop-i-init : goal.loop-i-init
+loop-i-init g c = record { fought = refl; settings = refl }
+
+pub slice_bounds-matches_with-end : goal.slice_bounds-matches_with-end
+slice_bounds-matches_with-end g c = omega (arith, c.loop-i-test.true, length-take c.loop-i.i c.as_slice-members.result.now)
+
+pub matches_with-bouts-requires-clause-settings : goal.matches_with-bouts-requires-clause-settings
+matches_with-bouts-requires-clause-settings g c = c.loop-i.invariant.settings ∙ c.requires ∙ ap (λ (k : Kept). k.settings) (sym c.self.view_is)
+
+pub matches_with-bouts-requires-clause-few : goal.matches_with-bouts-requires-clause-few
+matches_with-bouts-requires-clause-few g c =
+    let es = c.self.inside.members.items in
+    omega (arith, length-take c.loop-i.i c.as_slice-members.result.now, few-entrants (kept_of c.self.inside.settings c.self.inside.counter (members_of es) (rows_of es)) c.as_slice-members.result.now (ap members_of c.as_slice-members.ensures.value) c.self.invariant.0)
+
+pub bounds-members-place : goal.bounds-members-place
+bounds-members-place g c =
+    let many = many-matches c.self.inside.settings c.as_slice-members.result.now c.loop-i.i c.warrior.result.now c.as_slice-fought.result.now (omega (arith, c.loop-i-test.true)) (c.as_slice-fought.ensures.value ∙ c.matches_with-bouts.ensures.value) in
+    omega (arith, many, c.in-Some.ensures.beside, c.loop-i-test.true)
+
+pub bounds-kept-place : goal.bounds-kept-place
+bounds-kept-place g c = c.in-Some.ensures.within
+
+pub bounds-fought-place : goal.bounds-fought-place
+bounds-fought-place g c = c.in-Some.ensures.beside
+
+pub returns-in-Some-clause-none : goal.returns-in-Some-clause-none
+returns-in-Some-clause-none g c = λ none. cc
+
+pub returns-in-Some-clause-arena : goal.returns-in-Some-clause-arena
+returns-in-Some-clause-arena g c = c.matches_with-bouts.ensures.settings ∙ c.loop-i.invariant.settings
+
+pub returns-clause-arena : goal.returns-clause-arena
+returns-clause-arena g c = c.loop-i.invariant.settings

@@ -6,7 +6,7 @@ use Rattle.koth_hill.specs.Laws.{IsRanking}
 use Rattle.koth_hill.specs.Rows.{rows_parts}
 use Rattle.koth_hill.specs.Table.{RowParts, table, table_by}
 use Rattle.koth_hill.proofs.HillLaws.{ranking}
-use Rattle.koth_hill.proofs.Hills.{rounds-members}
+use Rattle.koth_hill.proofs.Hills.{few-entrants, rounds-members}
 use Rattle.koth_hill.proofs.Truths.{true-table}
 use Rattle.koth_hill.proofs.hill.Hill.rows.Goals as goal
 
@@ -38,3 +38,8 @@ returns-clause-ranking g c = λ holds.
     let is : IsKept c.args.self.now = subst IsKept c.self.view_is c.self.invariant.0 in
     if-ok (λ rows. rows_parts rows.items ≡ table (hill_in c.args.self.now)) (λ rows. IsRanking (hill_in c.args.self.now) (rows_parts rows.items)) c.rows_of.result
     (λ rows same. ranking (hill_in c.args.self.now) (hill_in c.args.self.now) (rows_parts rows.items) refl is.hill same) (returns-clause-table g c holds)
+
+pub rows_of-requires-clause-few : goal.rows_of-requires-clause-few
+rows_of-requires-clause-few g c =
+    let es = c.self.inside.members.items in
+    few-entrants (kept_of c.self.inside.settings c.self.inside.counter (members_of es) (rows_of es)) c.as_slice.result.now (ap members_of c.as_slice.ensures.value) c.self.invariant.0
