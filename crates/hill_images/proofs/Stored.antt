@@ -11,7 +11,7 @@ use Rattle.sector_disk.specs.Image.{Images, put}
 use Rattle.sector_disk.specs.Changes.{after, Begun}
 use Rattle.sector_disk.specs.Served.{IsKept}
 use Rattle.sector_disk.proofs.Images.{put-other}
-use Rattle.sector_disk.proofs.Kept.{kept_on}
+use Rattle.sector_disk.proofs.Kept.{kept_on, kept_same}
 use Rattle.sector_disk.proofs.Runs.{begun_front}
 use Rattle.koth_match.specs.declared.bout.Bout.{Bout}
 use Rattle.koth_hill.specs.Hill.{Member, MayStand}
@@ -40,6 +40,16 @@ pub record IsStoredTo {D : Type 0} (facts : DeviceFacts D) (old now : D) (h : He
   pub none : facts.lawful old → Images (facts.disk old) HoldsNone → Images (facts.disk now) HoldsNone
   pub members : facts.lawful old → AllHeld new_layout hill.settings (current (facts.disk now)) (take i h.entries) (take i hill.members)
   pub results : facts.lawful old → take i hill.results ≡ results_read new_layout hill.settings.rounds (current (facts.disk now)) (take i h.entries)
+
+-- none was written
+pub none_stored : {D : Type 0} (facts : DeviceFacts D) (now : D) (h : HeaderParts) (hill : Kept) → IsStoredTo facts now now h hill 0
+none_stored facts now h hill = record {
+  kept = kept_same facts now;
+  faultless = refl;
+  none = λ lawful. λ each. each;
+  members = λ lawful. tt;
+  results = λ lawful. refl;
+}
 
 -- ---- no header comes into being
 

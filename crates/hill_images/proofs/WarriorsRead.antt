@@ -11,14 +11,14 @@ use Rattle.sector_disk.specs.Disk.{current}
 use Rattle.koth_match.specs.declared.bout.Bout.{Bout}
 use Rattle.koth_match.specs.Match.{rounds_in}
 use Rattle.koth_hill.specs.Hill.{Member, member_of, last_entry, last_entry_from}
-use Rattle.koth_hill.specs.Kept.{Kept, IsKept as IsKeptHill, kept_of}
+use Rattle.koth_hill.specs.Kept.{Kept, IsKept as IsKeptHill, kept_of, new_kept}
 use Rattle.hill_bytes.specs.declared.header.HeaderEntry.{HeaderEntry}
 use Rattle.hill_bytes.specs.declared.wins.Wins.{Wins}
 use Rattle.hill_bytes.specs.Layout.{HeaderParts, IsHeaderParts, IsEntry, EntriesRise, FitRounds, HoldsSame, IsSlotRead, Layout, code_room, new_layout, results_in, sectors_in, slot_in}
 use Rattle.hill_images.specs.Stands.{IsHeld, AllHeld, no_wins, bout_of, slots_of, results_read}
 use Rattle.hill_images.specs.Named.{Agree}
 use Rattle.sector_disk.specs.Served.{IsKept, Failed}
-use Rattle.sector_disk.proofs.Kept.{kept_on}
+use Rattle.sector_disk.proofs.Kept.{kept_on, kept_same}
 use Rattle.hill_images.specs.Reading.{IsDecodedAs, ResultsRead, SlotHolds, WarriorRead, WarriorNotRead, HillRead, HillNotRead}
 use Rattle.hill_images.specs.declared.reading.Unread.{Unread}
 use Rattle.hill_images.specs.declared.reading.Unread.TheVariants as unread
@@ -102,6 +102,20 @@ next_read {layout = layout} facts old now h i hill es d same is below read =
 
     this : IsEntry h.settings.capacity h.counter (get_or h.entries i d)
     this = entry_of h i d is here
+
+-- none was read
+pub none_read : {D : Type 0} {layout : Layout} (facts : DeviceFacts D) (now : D) (h : HeaderParts) (hill : Kept) (s : RawSettings) (counter : ℕ) → hill ≡ new_kept s counter → s ≡ h.settings → counter ≡ h.counter → IsReadTo layout facts now now h 0 hill
+none_read {layout = layout} facts now h hill s counter is same_s same_counter =
+    subst (λ x. IsReadTo layout facts now now h 0 x) (sym is) (record {
+      kept = kept_same facts now;
+      faultless = refl;
+      same = λ lawful. refl;
+      settings = same_s;
+      counter = same_counter;
+      agree = tt;
+      held = λ lawful. tt;
+      results = λ lawful. refl;
+    })
 
 -- the slot of an entry is on the device
 pub slot_there : {D : Type 0} (layout : Layout) (facts : DeviceFacts D) (old now : D) (h : HeaderParts) (es : List HeaderEntry) (i : ℕ) (d : HeaderEntry) → es ≡ h.entries → IsHeaderParts h → i < length es → IsKept facts old now

@@ -1,12 +1,12 @@
-use Rattle.sector_disk.proofs.Kept.{kept_on}
-use Rattle.std.proofs.Common.{◌≡◌, ◌<◌, ◌≤◌, List, length, min, take, All, arith, sym, ap, subst, ◌∙◌, length-take}
+use Rattle.sector_disk.proofs.Kept.{kept_on, kept_same}
+use Rattle.std.proofs.Common.{◌≡◌, ◌<◌, ◌≤◌, List, length, min, take, All, arith, sym, ap, refl, subst, ◌∙◌, length-take}
 use Rattle.war_types.specs.declared.settings.RawSettings.{RawSettings}
 use Rattle.war_types.specs.Warrior.{Fits}
 use Rattle.koth_match.specs.Match.{rounds_in}
 use Rattle.hill_bytes.specs.declared.header.HeaderEntry.{HeaderEntry}
 use Rattle.hill_bytes.specs.Layout.{FitRounds, code_room, layout_of}
 use Rattle.hill_images.specs.Places.{new_entry}
-use Rattle.hill_images.proofs.WarriorsRead.{next_read, read_next, read_failed, read_all, IsRowRead, row_rounds, low_before, within_of, members_read, slot_there}
+use Rattle.hill_images.proofs.WarriorsRead.{next_read, none_read, read_next, read_failed, read_all, IsRowRead, row_rounds, low_before, within_of, members_read, slot_there}
 use Rattle.hill_images.proofs.reading.read_hill.Given.{Over}
 use Rattle.hill_images.proofs.reading.read_hill.Goals as goal
 
@@ -106,3 +106,25 @@ returns-in-Err-read_warrior-clause-same g c = λ lawful. c.in-Err-read_warrior.e
 
 pub bouts_with-bouts-requires-clause-rounds : goal.bouts_with-bouts-requires-clause-rounds
 bouts_with-bouts-requires-clause-rounds g c = subst (λ n. FitRounds n c.in-Ok-read_warrior.held.results) (sym c.rounds.ensures.value) c.in-Ok-read_warrior.ensures.rounds
+
+pub loop-i-init : goal.loop-i-init
+loop-i-init g c =
+    none_read g.D.Device.facts c.args.device.now c.args.header.now c.in-Ok.hill c.settings.result.now c.counter.result c.in-Ok.ensures c.settings.ensures.value c.counter.ensures.value
+
+pub slice_bounds-bouts_with-end : goal.slice_bounds-bouts_with-end
+slice_bounds-bouts_with-end g c = omega (arith, c.loop-i-test.true, length-take c.loop-i.i c.entries-entries.result.now)
+
+pub slice_bounds-put_back-end : goal.slice_bounds-put_back-end
+slice_bounds-put_back-end g c =
+    let few : length c.args.header.now.entries ≤ c.args.header.now.settings.capacity = c.settings.ensures.header.few in
+    let most : c.args.header.now.settings.capacity ≤ 20 = c.settings.ensures.header.settings.capacity_most in
+    omega (arith, few, most, ap length c.entries-entries.ensures.value, c.loop-i-test.true, c.bouts_with-bouts.ensures.len, length-take c.loop-i.i c.bouts_with-bouts.result)
+
+pub returns-in-Err-clause-kept : goal.returns-in-Err-clause-kept
+returns-in-Err-clause-kept g c = kept_same g.D.Device.facts c.args.device.now
+
+pub returns-in-Err-clause-same : goal.returns-in-Err-clause-same
+returns-in-Err-clause-same g c = λ lawful. refl
+
+pub returns-clause-faultless : goal.returns-clause-faultless
+returns-clause-faultless g c = c.loop-i.invariant.faultless

@@ -5,8 +5,8 @@ use Rattle.hill_bytes.specs.Layout.{IsTitled, new_layout, slot_at}
 use Rattle.hill_images.specs.Places.{new_entry, results_by_slot, writes_from}
 use Rattle.sector_disk.specs.Changes.{after}
 use Rattle.hill_images.proofs.Nexts.{agree_length}
-use Rattle.hill_images.proofs.WarriorsRead.{slot_there}
-use Rattle.hill_images.proofs.Stored.{below_entries, content_is, next_stored, none_cut, row_long, stored_all, stored_next}
+use Rattle.hill_images.proofs.WarriorsRead.{low_before, slot_there}
+use Rattle.hill_images.proofs.Stored.{below_entries, content_is, next_stored, none_cut, none_stored, row_long, stored_all, stored_next}
 use Rattle.hill_images.proofs.writing.write_members.Goals as goal
 
 pub slice_bounds-results_by_slot-end : goal.slice_bounds-results_by_slot-end
@@ -52,3 +52,18 @@ write_slot-requires g c =
     slot_there new_layout g.D.Device.facts c.args.device.now c.loop-i.device c.args.header.now c.entries-entries.result.now c.loop-i.i (new_entry 0 0) c.entries-entries.ensures.value c.entries-entries.ensures.header
     (below_entries c.args.header.now c.args.hill.now c.loop-i.i c.entries-entries.result.now c.entries-entries.ensures.value c.len-i-end.ensures.hill c.requires.named (subst (λ n. c.loop-i.i < n) c.len-i-end.ensures.value c.loop-i-test.true))
     c.loop-i.invariant.kept c.requires.size
+
+pub results_by_slot-results-requires-clause-slots : goal.results_by_slot-results-requires-clause-slots
+results_by_slot-results-requires-clause-slots g c = low_before c.args.header.now c.entries-entries.result.now c.loop-i.i c.entries-entries.ensures.value c.entries-entries.ensures.header
+
+pub loop-i-init : goal.loop-i-init
+loop-i-init g c = none_stored g.D.Device.facts c.args.device.now c.args.header.now c.args.hill.now
+
+pub returns-clause-none : goal.returns-clause-none
+returns-clause-none g c = c.loop-i.invariant.none
+
+pub returns-clause-header : goal.returns-clause-header
+returns-clause-header g c = c.entries-entries.ensures.header
+
+pub returns-in_err-write_slot-clause-header : goal.returns-in_err-write_slot-clause-header
+returns-in_err-write_slot-clause-header g c = c.entries-entries.ensures.header
