@@ -1,23 +1,38 @@
 -- What opening decides of a device that may stand for either of two hills.
-use Rattle.std.proofs.Common.{◌≡◌, ◌⊎◌, inl, inr, ℕ, ◌<◌, ◌≤◌, List, [], ◌∷◌, ◌++◌, Option, Some, None, refl, sym, ap, subst, ◌∙◌, arith}
+use Rattle.std.proofs.Common.{◌≡◌, false, ◌⊎◌, inl, inr, ℕ, ◌<◌, ◌≤◌, List, [], ◌∷◌, ◌++◌, Option, Some, None, refl, sym, ap, subst, ◌∙◌, arith}
 use Rattle.war_types.specs.declared.settings.RawSettings.{RawSettings}
 use Rattle.sector_disk.specs.Facts.{DeviceFacts}
 use Rattle.sector_disk.specs.Disk.{current}
 use Rattle.sector_disk.specs.Image.{Images}
 use Rattle.sector_disk.proofs.Images.{images_read}
-use Rattle.koth_hill.specs.Kept.{Kept, fought}
+use Rattle.koth_hill.specs.Kept.{Kept, fought, new_kept}
 use Rattle.hill_images.specs.declared.refusal.Refusal.{Refusal}
 use Rattle.hill_images.specs.declared.refusal.Refusal.TheVariants as refusals
-use Rattle.hill_bytes.specs.Layout.{HeaderParts, Layout, new_layout, sectors_in}
+use Rattle.hill_bytes.specs.Layout.{HeaderParts, Layout, new_layout, sectors_for, sectors_in}
 use Rattle.hill_store.specs.Earned.{earned}
-use Rattle.hill_images.specs.Stands.{ReadsIn, Reads, ShowsIn, Stands}
+use Rattle.hill_images.specs.Stands.{IsReady, ReadsIn, Reads, ShowsIn, Stands}
 use Rattle.hill_store.specs.Seen.{Seen}
 use Rattle.sector_disk.specs.Served.{IsKept}
-use Rattle.hill_images.specs.Opening.{IsNotOpened, RefusesIn}
+use Rattle.hill_images.specs.Opening.{IsFirst, IsNotOpened, RefusesIn}
 use Rattle.hill_store.specs.Opened.{IsCreated, IsOpened}
 use Rattle.hill_store.specs.Holding.{StandsFor, StandsForIn, Holds, IsHolding, IsDecided, IsUndecided}
+use Rattle.hill_images.specs.Named.{IsSound}
+use Rattle.hill_images.proofs.Firsts.{first_fits, first_hill}
 use Rattle.hill_images.proofs.Newest.{one_newest, reads_once}
 use Rattle.hill_store.proofs.Living.{begun_holds}
+
+-- a store on the first header of a hill is sound
+pub first_sound : {D : Type 0} (facts : DeviceFacts D) (old new : D) (s : RawSettings) (h : HeaderParts) (hill : Kept) (arena : RawSettings) → IsFirst facts old s new h → hill ≡ new_kept s 0 → arena ≡ s → sectors_for s.capacity ≤ facts.size old → IsKept facts old new → IsSound facts new h hill arena false
+first_sound facts old new s h hill arena first is arena_is room kept =
+    subst (λ k. IsSound facts new h k arena false) (sym is)
+    (subst (λ x. IsSound facts new x (new_kept s 0) arena false) (sym first.first) (record {
+      room = subst (λ n. sectors_for s.capacity ≤ n) (sym kept.same_size) room;
+      arena_of = arena_is;
+      header = first_fits s first.settings;
+      kept = record { hill = first_hill s first.settings; each = refl; rows = tt };
+      named = record { settings = refl; counter = refl; entries = tt };
+      ready = λ lawful. λ is_open. subst (λ x. IsReady new_layout (facts.disk new) x (new_kept s 0)) first.first (first.written.ready (kept.same_laws.0 lawful));
+    }))
 
 -- a hill that was created holds no sources
 pub created_holds : {D : Type 0} (facts : DeviceFacts D) (old : D) (s : RawSettings) (store : Seen D) → IsKept facts old store.device → IsCreated facts old s store → facts.lawful old → IsHolding facts s [] store
