@@ -1,6 +1,7 @@
-use Rattle.std.proofs.Common.{Some}
+use Rattle.std.proofs.Common.{◌∙◌, Some, refl, subst, sym}
+use Rattle.sector_disk.proofs.Kept.{kept_where_served}
 use Rattle.sector_disk.specs.Disk.{current}
-use Rattle.hill_bytes.specs.Layout.{IsSlotRead, layout_of, new_layout, slot_in}
+use Rattle.hill_bytes.specs.Layout.{FitRounds, IsSlotRead, layout_of, new_layout, slot_in}
 use Rattle.hill_images.proofs.Openings.{if_ok_map}
 use Rattle.hill_images.proofs.WarriorsRead.{decoded_some, not_decoded, same_read}
 use Rattle.hill_images.proofs.reading.read_warrior.Goals as goal
@@ -22,3 +23,42 @@ returns-in-Err-decoded-clause-unread g c =
     not_decoded layout g.D.Device.facts c.args.device.now c.read_slot.new.device s c.args.slot c.decode.result c.in-Err-decoded.unread c.in-Err-decoded.ensures
     (if_ok_map (IsSlotRead new_layout s sectors) (λ read. g.D.Device.facts.lawful c.args.device.now → IsSlotRead layout s others read) c.decode.result
     (λ read. λ is. λ lawful. same_read layout s sectors others read (c.in-Ok.ensures.read lawful) (c.requires.room lawful) is) c.decode.ensures)
+
+pub returns-in-Ok-decoded-clause-kept : goal.returns-in-Ok-decoded-clause-kept
+returns-in-Ok-decoded-clause-kept g c = kept_where_served g.D.Device.facts c.args.device.now c.read_slot.new.device _ c.in-Ok.ensures.served
+
+pub returns-in-Ok-decoded-clause-same : goal.returns-in-Ok-decoded-clause-same
+returns-in-Ok-decoded-clause-same g c = c.in-Ok.ensures.same
+
+pub returns-in-Ok-decoded-clause-faultless : goal.returns-in-Ok-decoded-clause-faultless
+returns-in-Ok-decoded-clause-faultless g c = c.in-Ok.ensures.served.ok refl
+
+pub returns-in-Ok-decoded-clause-fits : goal.returns-in-Ok-decoded-clause-fits
+returns-in-Ok-decoded-clause-fits g c =
+    (decoded_some c.decode.result c.in-Ok-decoded.warrior (IsSlotRead new_layout c.args.settings.now c.in-Ok.content.sectors) c.in-Ok-decoded.ensures c.decode.ensures).fits
+
+pub returns-in-Ok-decoded-clause-rounds : goal.returns-in-Ok-decoded-clause-rounds
+returns-in-Ok-decoded-clause-rounds g c =
+    subst (FitRounds c.args.settings.now.rounds) (sym c.results.ensures.value)
+    (decoded_some c.decode.result c.in-Ok-decoded.warrior (IsSlotRead new_layout c.args.settings.now c.in-Ok.content.sectors) c.in-Ok-decoded.ensures c.decode.ensures).rounds
+
+pub returns-in-Ok-decoded-clause-len : goal.returns-in-Ok-decoded-clause-len
+returns-in-Ok-decoded-clause-len g c = c.results.ensures.len
+
+pub returns-in-Ok-decoded-clause-results : goal.returns-in-Ok-decoded-clause-results
+returns-in-Ok-decoded-clause-results g c = λ lawful. c.results.ensures.value ∙ (c.in-Ok.ensures.read lawful).results
+
+pub returns-in-Err-decoded-clause-kept : goal.returns-in-Err-decoded-clause-kept
+returns-in-Err-decoded-clause-kept g c = kept_where_served g.D.Device.facts c.args.device.now c.read_slot.new.device _ c.in-Ok.ensures.served
+
+pub returns-in-Err-decoded-clause-same : goal.returns-in-Err-decoded-clause-same
+returns-in-Err-decoded-clause-same g c = c.in-Ok.ensures.same
+
+pub returns-in-Err-clause-kept : goal.returns-in-Err-clause-kept
+returns-in-Err-clause-kept g c = kept_where_served g.D.Device.facts c.args.device.now c.read_slot.new.device _ c.in-Err.ensures.served
+
+pub returns-in-Err-clause-same : goal.returns-in-Err-clause-same
+returns-in-Err-clause-same g c = c.in-Err.ensures.same
+
+pub returns-in-Err-clause-unread : goal.returns-in-Err-clause-unread
+returns-in-Err-clause-unread g c = c.in-Err.ensures.served.err refl
