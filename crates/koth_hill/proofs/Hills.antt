@@ -1,11 +1,12 @@
 -- What the functions of a hill ask of one another, and what they show.
-use Rattle.std.proofs.Common.{◌≡◌, ℕ, ◌+◌, ◌-◌, ◌<◌, ◌≤◌, Result, Ok, Err, true, false, All, List, [], ◌∷◌, ◌++◌, length, map, sym, ap, ap₂, subst, ◌∙◌, arith, Option}
+use Rattle.std.proofs.Common.{◌≡◌, ℕ, ◌+◌, ◌-◌, ◌<◌, ◌≤◌, Result, Ok, Err, true, false, All, List, [], ◌∷◌, ◌++◌, length, map, refl, sym, ap, ap₂, subst, ◌∙◌, arith, Option}
 use Rattle.std.specs.Prelude.{if◌then◌else◌}
 use Rattle.std.specs.Result.{is_ok}
 use Rattle.std.proofs.lemmas.Bool.{cond-false}
 use Rattle.std.proofs.lemmas.List.{length-map, length_push, map-append}
 use Rattle.std.proofs.lemmas.List.Elements.{All-weaker, All-cons, All-nil, All-push}
 use Rattle.war_types.specs.declared.settings.RawSettings.{RawSettings}
+use Rattle.war_types.specs.Settings.{AreSettings}
 use Rattle.war_types.specs.Warrior.{WarriorParts, Fits}
 use Rattle.koth_match.specs.declared.bout.Bout.{Bout}
 use Rattle.koth_match.specs.Match.{rounds_in}
@@ -109,6 +110,17 @@ pub rounds-members : (k : Kept) (es : List Entrant) → IsKept k → rows_of es 
 rounds-members k es is rows =
     let P : List (List Bout) → Type 0 = λ xs. All (λ row. All (λ b. rounds_in b ≤ 1000) row) xs in
     subst P (sym (rows-entrants es ∙ rows)) (rounds-kept k is)
+
+-- ---- none on the hill
+
+pub IsKept-none : (s : RawSettings) (counter : ℕ) (es : List Entrant) → AreSettings s → es ≡ [] → IsKept (kept_of s counter (members_of es) (rows_of es))
+IsKept-none s counter es are none =
+    let P : List Entrant → Type 0 = λ xs. IsKept (kept_of s counter (members_of xs) (rows_of xs)) in
+    subst P (sym none) (record {
+      hill = record { settings = are; room = omega arith; rising = tt; members = All-nil (MayStand s counter) };
+      each = refl;
+      rows = tt;
+    })
 
 -- ---- one more on the hill
 

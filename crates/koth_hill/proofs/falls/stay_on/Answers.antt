@@ -1,4 +1,4 @@
-use Rattle.std.proofs.Common.{◌^◌, refl}
+use Rattle.std.proofs.Common.{◌^◌, arith, refl}
 use Rattle.koth_hill.proofs.Staying.{age-left, all-stayed, stayed-more}
 use Rattle.koth_hill.proofs.falls.stay_on.Goals as goal
 
@@ -14,3 +14,6 @@ stay-requires g c = age-left c.args.place c.args.members.now c.loop-member.membe
 
 pub returns : goal.returns
 returns g c = all-stayed c.args.place c.args.members.now c.loop-member.members c.loop-member.member-index c.loop-member-test.false c.loop-member.invariant
+
+pub bounds-members-member-index : goal.bounds-members-member-index
+bounds-members-member-index g c = omega (arith, c.loop-member-test.true, c.loop-member.auto.members)
