@@ -1,13 +1,17 @@
-use Rattle.std.proofs.Common.{◌≡◌, ◌<◌, ◌⊎◌, ◌+◌, ◌-◌, ◌^◌, refl, sym, ap, ◌∙◌, subst}
+use Rattle.std.proofs.Common.{◌≡◌, ◌<◌, ◌⊎◌, ◌+◌, ◌-◌, ◌^◌, ◌≤◌, All, List, length, arith, refl, sym, ap, ◌∙◌, subst}
+use Rattle.war_types.specs.declared.settings.RawSettings.{RawSettings}
+use Rattle.war_types.specs.Warrior.{Fits}
 use Rattle.sector_disk.specs.Changes.{after, Begun}
 use Rattle.sector_disk.specs.Image.{Images}
 use Rattle.sector_disk.specs.Served.{IsKept}
 use Rattle.sector_disk.proofs.Kept.{kept_where_served}
 use Rattle.koth_hill.specs.Kept.{IsKept as IsKeptHill, step_kept, verdict_kept}
+use Rattle.hill_bytes.specs.declared.header.HeaderEntry.{HeaderEntry}
 use Rattle.hill_bytes.specs.Layout.{HeaderParts}
 use Rattle.hill_images.specs.Stands.{Reads}
 use Rattle.hill_images.specs.Named.{IsSound}
 use Rattle.hill_images.specs.Places.{header_placed}
+use Rattle.hill_images.proofs.Nexts.{slots_low}
 use Rattle.hill_images.proofs.Exits.{admit_header, admit_sound, admit_cut, admit_reads}
 use Rattle.hill_store.specs.Seen.{Seen, seen, Challenges}
 use Rattle.hill_store.proofs.Replies.{answers}
@@ -74,3 +78,23 @@ returns-in-Ok-clause-kept g c =
 pub returns-in-Err-clause-kept : goal.returns-in-Err-clause-kept
 returns-in-Err-clause-kept g c =
     subst (λ (s : Seen _). IsKept g.D.Device.facts s.device c.place.new.device) c.self.view_is (kept_where_served g.D.Device.facts c.self.inside.device c.place.new.device _ c.in-Err.ensures.served)
+
+pub free_slot-slot-requires : goal.free_slot-slot-requires
+free_slot-slot-requires g c = omega (arith, ap length c.entries.ensures.value, c.entries.ensures.header.few, c.entries.ensures.header.settings.capacity_most)
+
+pub results_by_slot-results-requires-clause-slots : goal.results_by_slot-results-requires-clause-slots
+results_by_slot-results-requires-clause-slots g c =
+    subst (λ (es : List HeaderEntry). All (λ e. e.slot ≤ 20) es) (sym c.entries-2.ensures.value) (slots_low c.self.inside.header c.entries-2.ensures.header)
+
+pub place-requires : goal.place-requires
+place-requires g c =
+    omega (arith, c.free_slot-slot.ensures.within, ap length c.entries.ensures.value, c.entries.ensures.header.few, c.self.invariant.room, ap (λ (s : RawSettings). s.capacity) c.self.invariant.named.settings)
+
+pub admit-requires-clause-fits : goal.admit-requires-clause-fits
+admit-requires-clause-fits g c = subst (λ (s : Seen _). Fits s.hill.settings c.args.warrior) (sym c.self.view_is) c.requires.fits
+
+pub admit-requires-clause-verdict : goal.admit-requires-clause-verdict
+admit-requires-clause-verdict g c = c.requires.verdict ∙ ap (λ (s : Seen _). verdict_kept s.hill c.args.warrior) (sym c.self.view_is)
+
+pub admit-requires-clause-stays : goal.admit-requires-clause-stays
+admit-requires-clause-stays g c = c.requires.stays

@@ -1,4 +1,4 @@
-use Rattle.std.proofs.Common.{◌<◌, ◌≤◌, refl, sym, subst, rules}
+use Rattle.std.proofs.Common.{◌<◌, ◌≤◌, ap, arith, refl, sym, subst}
 use Rattle.war_types.specs.declared.settings.RawSettings.{RawSettings}
 use Rattle.hill_bytes.specs.Layout.{sectors_for}
 use Rattle.hill_images.specs.declared.refusal.Refusal.TheVariants as refusals
@@ -18,7 +18,8 @@ returns-in-Err-clause-holds g c = λ s. λ sources. λ more. λ lawful_old. λ l
 
 pub returns-then-sectors-sectors_for-clause-refused : goal.returns-then-sectors-sectors_for-clause-refused
 returns-then-sectors-sectors_for-clause-refused g c =
-    let few : g.D.Device.facts.size c.args.new < sectors_for c.in-Ok.found.header.settings.capacity = search rules in
+    let few : g.D.Device.facts.size c.args.new < sectors_for c.in-Ok.found.header.settings.capacity =
+    omega (arith, c.if-sectors-sectors_for.true, c.sectors.ensures, c.sectors_for.ensures, c.capacity.ensures.value, ap (λ (s : RawSettings). s.capacity) c.settings.ensures.value) in
     let read : IsReadOf g.O.Device.facts c.args.old c.recover.new.device c.in-Ok.found.hill = record {
       faultless = c.in-Ok.ensures.faultless;
       synced_now = c.in-Ok.ensures.found.synced_now;
@@ -47,7 +48,8 @@ returns-in-Err-write_hill-clause-holds g c = λ s. λ sources. λ more. λ lawfu
 
 pub invariant_of-store : goal.invariant_of-store
 invariant_of-store g c =
-    let enough : sectors_for c.in-Ok.found.header.settings.capacity ≤ g.D.Device.facts.size c.args.new = search rules in record {
+    let enough : sectors_for c.in-Ok.found.header.settings.capacity ≤ g.D.Device.facts.size c.args.new =
+    omega (arith, c.if-sectors-sectors_for.false, c.sectors.ensures, c.sectors_for.ensures, c.capacity.ensures.value, ap (λ (s : RawSettings). s.capacity) c.settings.ensures.value) in record {
       room = subst (λ n. sectors_for c.in-Ok.found.hill.settings.capacity ≤ n) (sym c.in-Ok-write_hill.ensures.kept.same_size)
           (subst (λ (s : RawSettings). sectors_for s.capacity ≤ g.D.Device.facts.size c.args.new) c.in-Ok.ensures.found.sound.named.settings enough);
       arena_of = c.in-Ok.ensures.found.sound.arena_of;
@@ -75,3 +77,10 @@ returns-in-Ok-write_hill-clause-migrated g c = record {
 pub returns-in-Ok-write_hill-clause-holds : goal.returns-in-Ok-write_hill-clause-holds
 returns-in-Ok-write_hill-clause-holds g c = λ s. λ sources. λ more. λ lawful_old. λ lawful_new. λ holds.
     moved g.O.Device.facts g.D.Device.facts c.args.old c.recover.new.device s sources more lawful_old holds c.in-Ok.ensures.kept c.args.new _ c.in-Ok-write_hill.ensures.kept lawful_new (returns-in-Ok-write_hill-clause-migrated g c)
+
+pub write_hill-requires-clause-size : goal.write_hill-requires-clause-size
+write_hill-requires-clause-size g c =
+    omega (arith, c.if-sectors-sectors_for.false, c.sectors.ensures, c.sectors_for.ensures, c.capacity.ensures.value, ap (λ (s : RawSettings). s.capacity) c.settings.ensures.value)
+
+pub write_hill-requires-clause-named : goal.write_hill-requires-clause-named
+write_hill-requires-clause-named g c = c.in-Ok.ensures.found.sound.named

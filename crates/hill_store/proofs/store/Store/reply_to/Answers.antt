@@ -1,0 +1,23 @@
+use Rattle.std.proofs.Common.{refl, subst}
+use Rattle.sector_disk.proofs.Kept.{kept_same}
+use Rattle.koth_hill.specs.Kept.{IsKept as IsKeptHill}
+use Rattle.hill_store.specs.Seen.{Seen}
+use Rattle.hill_store.proofs.store.Store.reply_to.Goals as goal
+
+pub returns-in-Ok-clause-hill : goal.returns-in-Ok-clause-hill
+returns-in-Ok-clause-hill g c = subst (λ (s : Seen _). IsKeptHill s.hill) c.self.view_is c.self.invariant.kept
+
+pub returns-in-Ok-clause-kept : goal.returns-in-Ok-clause-kept
+returns-in-Ok-clause-kept g c = c.challenge.ensures.kept
+
+pub returns-in-Ok-clause-worn : goal.returns-in-Ok-clause-worn
+returns-in-Ok-clause-worn g c = c.challenge.ensures.worn
+
+pub returns-in-Err-clause-hill : goal.returns-in-Err-clause-hill
+returns-in-Err-clause-hill g c = subst (λ (s : Seen _). IsKeptHill s.hill) c.self.view_is c.self.invariant.kept
+
+pub returns-in-Err-clause-kept : goal.returns-in-Err-clause-kept
+returns-in-Err-clause-kept g c = kept_same g.D.Device.facts c.args.self.now.device
+
+pub returns-in-Err-clause-worn : goal.returns-in-Err-clause-worn
+returns-in-Err-clause-worn g c = λ full. refl
