@@ -1,4 +1,5 @@
 pub mod Rows
+pub mod Pairs
 pub mod Turns
 pub mod Marks
 pub mod Loads

@@ -10,12 +10,15 @@ use Rattle.mars_core.specs.Cells.{IsCore, blank}
 use Rattle.mars_core.specs.Round.{loaded}
 
 -- a core of blank cells is one
-pub IsCore-blank : (size : ℕ) (core new : List Instr) → IsCore size core → new ≡ replicate (length core) blank → IsCore size new
-IsCore-blank size core new h is = rw (is, h.length) (record {
-  some = h.some;
+pub IsCore-replicate : (size : ℕ) (core : List Instr) → 1 ≤ size → core ≡ replicate size blank → IsCore size core
+IsCore-replicate size core some is = rw is (record {
+  some = some;
   length = length-replicate size blank;
-  numbers = All-replicate (HasNumbersBelow size) size blank (record { a = h.some; b = h.some });
+  numbers = All-replicate (HasNumbersBelow size) size blank (record { a = some; b = some });
 })
+
+pub IsCore-blank : (size : ℕ) (core new : List Instr) → IsCore size core → new ≡ replicate (length core) blank → IsCore size new
+IsCore-blank size core new h is = IsCore-replicate size new h.some (is ∙ ap (λ (n : ℕ). replicate n blank) h.length)
 
 -- the next instruction of a code is put after those before it
 pub paste-put : (core code before new : List Instr) (size at from n : ℕ) (i d : Instr) → IsCore size core → at + length code ≤ size → n < length code →

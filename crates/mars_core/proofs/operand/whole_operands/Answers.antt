@@ -1,4 +1,8 @@
-use Rattle.std.proofs.Common.{◌≡◌, ap, ◌∙◌, sym, Bool, true, false, ◌&&◌}
+use Rattle.std.proofs.Common.{◌≡◌, ℕ, List, ap, ap₂, ◌∙◌, sym, Bool, true, false, ◌&&◌}
+use Rattle.war_types.specs.declared.instr.Instr.{Instr}
+use Rattle.mars_core.specs.Operand.{Operand, Evaluated, evaluated}
+use Rattle.mars_core.specs.Whole.{operand}
+use Rattle.mars_core.specs.Code.{Operands, evaluated_both, operand_of, whole_operands}
 use Rattle.mars_core.specs.Words.{is_plain}
 use Rattle.mars_core.proofs.operand.whole_operands.Goals as goal
 
@@ -9,3 +13,23 @@ second-holds false b both e t = cc
 
 pub plain-b-requires-clause-plain : goal.plain-b-requires-clause-plain
 plain-b-requires-clause-plain g c = ap is_plain c.b_mode.ensures ∙ second-holds _ _ _ c.is_plain.ensures c.if-is_plain.true
+
+-- both operands, by the one after the other
+both : (size pc : ℕ) (i : Instr) (core core1 core2 : List Instr) (a b : Operand) → operand size core pc i.a_mode i.a ≡ evaluated a core1 → operand size core1 pc i.b_mode i.b ≡ evaluated b core2 →
+    whole_operands size core pc i ≡ evaluated_both a b core2
+both size pc i core core1 core2 a b one two =
+    let rest : Evaluated → Operands = λ (e : Evaluated). let x = operand size e.core pc i.b_mode i.b in evaluated_both e.operand x.operand x.core in
+    ap rest one ∙ ap (λ (e : Evaluated). evaluated_both a e.operand e.core) two
+
+pub returns-then-is_plain-clause-value : goal.returns-then-is_plain-clause-value
+returns-then-is_plain-clause-value g c =
+    let at = operand c.args.size c.args.core.now c.args.pc in
+    both c.args.size c.args.pc c.args.i.instr c.args.core.now c.args.core.now c.args.core.now (operand_of c.plain-a.result) (operand_of c.plain-b.result)
+    (ap₂ at (sym c.a_mode.ensures) (sym c.number.ensures.value) ∙ c.plain-a.ensures.value)
+    (ap₂ at (sym c.b_mode.ensures) (sym c.number-then-is_plain.ensures.value) ∙ c.plain-b.ensures.value)
+
+pub returns-else-is_plain-clause-value : goal.returns-else-is_plain-clause-value
+returns-else-is_plain-clause-value g c =
+    both c.args.size c.args.pc c.args.i.instr c.args.core.now c.evaluate-a.new.core c.evaluate-b.new.core (operand_of c.evaluate-a.result) (operand_of c.evaluate-b.result)
+    (ap₂ (operand c.args.size c.args.core.now c.args.pc) (sym c.a_mode-else-is_plain.ensures) (sym c.number-else-is_plain.ensures.value) ∙ c.evaluate-a.ensures.value)
+    (ap₂ (operand c.args.size c.evaluate-a.new.core c.args.pc) (sym c.b_mode-else-is_plain.ensures) (sym c.number-else-is_plain-2.ensures.value) ∙ c.evaluate-b.ensures.value)

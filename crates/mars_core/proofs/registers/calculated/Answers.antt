@@ -2,8 +2,9 @@ use Rattle.std.proofs.Common.{◌≡◌, ap, ◌∙◌, sym, refl, Bool, true, f
 use Rattle.std.specs.Option.{is_some}
 use Rattle.std.specs.List.{list_all}
 use Rattle.mars_core.specs.Pairs.{Pair}
-use Rattle.mars_core.specs.Effect.{value}
+use Rattle.mars_core.specs.Effect.{value, calculated}
 use Rattle.mars_core.specs.Code.{arithmetic_of, pair_of}
+use Rattle.mars_core.proofs.Pairs.{all-one}
 use Rattle.mars_core.proofs.registers.calculated.Goals as goal
 use Rattle.mars_core.proofs.registers.calculated.Goals.{then-is_some, else-is_some}
 
@@ -33,3 +34,14 @@ returns-after-is_some-clause-all c =
       | then-is_some w ↦ all-second holds p q _ c.if-is_some.result c.in-Two.ensures (sym first ∙ w.if-is_some.true) (w.result-is ∙ (w.is_some-then-is_some.ensures ∙ ap is_some c.value-m.ensures.value))
       | else-is_some w ↦ all-none holds p q _ c.if-is_some.result c.in-Two.ensures (sym first ∙ w.if-is_some.false) (w.result-is ∙ w.if-is_some.false)
     ]
+
+pub returns-in-One-clause-all : goal.returns-in-One-clause-all
+returns-in-One-clause-all c = cc (all-one (λ (p : Pair). is_some (value c.args.size (arithmetic_of c.args.arithmetic) c.args.a.instr c.args.b.instr p)) (pair_of c.in-One.p) _ c.in-One.ensures)
+
+pub returns-in-One-clause-target : goal.returns-in-One-clause-target
+returns-in-One-clause-target c =
+    cc (ap (λ (ps : List Pair). calculated c.args.size (arithmetic_of c.args.arithmetic) c.args.a.instr c.args.b.instr ps c.args.target.instr) c.in-One.ensures)
+
+pub returns-after-is_some-clause-target : goal.returns-after-is_some-clause-target
+returns-after-is_some-clause-target c =
+    cc (ap (λ (ps : List Pair). calculated c.args.size (arithmetic_of c.args.arithmetic) c.args.a.instr c.args.b.instr ps c.args.target.instr) c.in-Two.ensures)

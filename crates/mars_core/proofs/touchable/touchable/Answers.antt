@@ -1,11 +1,17 @@
 -- The addresses are those that the instruction may write.
-use Rattle.std.proofs.Common.{◌≡◌, ℕ, ◌+◌, ◌%◌, [], ◌∷◌, List, sym, ap, ap₂, ◌∙◌, arith, mod-eq_of_lt}
+use Rattle.std.proofs.Common.{◌≡◌, ℕ, ◌+◌, ◌%◌, ◌<◌, [], ◌∷◌, List, All, sym, ap, ap₂, ◌∙◌, arith, mod-eq_of_lt}
+use Rattle.std.proofs.lemmas.List.Elements.{All-cons, All-nil}
 use Rattle.war_types.specs.declared.instr.Instr.{Instr}
 use Rattle.mars_core.specs.Cells.{cell, number, plus, minus}
 use Rattle.mars_core.specs.Operand.{folded}
 use Rattle.mars_core.specs.Code.{field_of, led_by}
 use Rattle.mars_core.proofs.Touched.{on_by, executed-same}
 use Rattle.mars_core.proofs.touchable.touchable.Goals as goal
+
+All-eight : (P : ℕ → Type 0) (a b c d e f g h : ℕ) → P a → P b → P c → P d → P e → P f → P g → P h → All P (a ∷ b ∷ c ∷ d ∷ e ∷ f ∷ g ∷ h ∷ [])
+All-eight P a b c d e f g h pa pb pc pd pe pf pg ph =
+    All-cons P a (b ∷ c ∷ d ∷ e ∷ f ∷ g ∷ h ∷ []) pa (All-cons P b (c ∷ d ∷ e ∷ f ∷ g ∷ h ∷ []) pb (All-cons P c (d ∷ e ∷ f ∷ g ∷ h ∷ []) pc (All-cons P d (e ∷ f ∷ g ∷ h ∷ []) pd (
+    All-cons P e (f ∷ g ∷ h ∷ []) pe (All-cons P f (g ∷ h ∷ []) pf (All-cons P g (h ∷ []) pg (All-cons P h [] ph (All-nil P))))))))
 
 pub returns-clause-same : goal.returns-clause-same
 returns-clause-same g c reach size_is write_is =
@@ -36,3 +42,8 @@ returns-clause-same g c reach size_is write_is =
     let on5 = c.led_on-5.ensures.value ∙ ap₂ on b twice in
     executed-same reach size write pc core _ size_is write_is
     (λ t. here t ∷ a_at t ∷ b_at t ∷ on1 t ∷ on2 t ∷ on3 t ∷ on4 t ∷ on5 t ∷ [])
+
+pub returns-clause-addresses : goal.returns-clause-addresses
+returns-clause-addresses g c =
+    All-eight (λ (a : ℕ). a < c.args.size) _ _ _ _ _ _ _ _ c.requires.pc c.plus-2.ensures.below c.plus-3.ensures.below c.led_on.ensures.below c.led_on-2.ensures.below c.led_on-3.ensures.below c.led_on-4.ensures.below
+    c.led_on-5.ensures.below

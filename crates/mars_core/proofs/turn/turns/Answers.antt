@@ -156,3 +156,23 @@ returns-clause-after g c = λ s used z l1 l2 bound.
     let none : c.loop-left.left ≡ 0 = omega arith in
     sym (c.loop-left.invariant.after s used z l1 l2 bound)
     ∙ after_turns-none c.loop-left.left (λ (left : ℕ). round_in s c.loop-left.core c.loop-left.first.addresses c.loop-left.second.addresses c.loop-left.to_move (used + (c.args.most - left))) none
+
+-- ---- what is queued are addresses of the core
+
+pub follow-requires-clause-small : goal.follow-requires-clause-small
+follow-requires-clause-small g c = omega (arith, c.in-One.ensures.addresses 0 0 (omega arith))
+
+pub follow-requires-in-Second-to_move-2-clause-small : goal.follow-requires-in-Second-to_move-2-clause-small
+follow-requires-in-Second-to_move-2-clause-small g c = omega (arith, c.in-One.ensures.addresses 0 0 (omega arith))
+
+pub split-requires-clause-small : goal.split-requires-clause-small
+split-requires-clause-small g c = omega (arith, c.in-Two.ensures.addresses 0 0 (omega arith))
+
+pub split-requires-clause-small_behind : goal.split-requires-clause-small_behind
+split-requires-clause-small_behind g c = omega (arith, c.in-Two.ensures.addresses 1 0 (omega arith))
+
+pub split-requires-in-Second-to_move-3-clause-small : goal.split-requires-in-Second-to_move-3-clause-small
+split-requires-in-Second-to_move-3-clause-small g c = omega (arith, c.in-Two.ensures.addresses 0 0 (omega arith))
+
+pub split-requires-in-Second-to_move-3-clause-small_behind : goal.split-requires-in-Second-to_move-3-clause-small_behind
+split-requires-in-Second-to_move-3-clause-small_behind g c = omega (arith, c.in-Two.ensures.addresses 1 0 (omega arith))

@@ -1,7 +1,12 @@
-use Rattle.std.proofs.Common.{ap, ◌∙◌}
+use Rattle.std.proofs.Common.{ap, ◌∙◌, arith}
 use Rattle.mars_core.specs.Words.{Word}
 use Rattle.mars_core.proofs.Marks.{inside-core_in, cell-core_in, HasNumbersBelow-cell}
 use Rattle.mars_core.proofs.cells.Core.cell.Goals as goal
+
+pub index-requires : goal.index-requires
+index-requires g c =
+    let inside = inside-core_in c.args.size c.args.at c.self.inside.cells.items c.args.self.now c.requires.core c.requires.address c.self.view_is in
+    omega (arith, c.self.inside.cells.ok.0, inside)
 
 pub returns-clause-numbers : goal.returns-clause-numbers
 returns-clause-numbers g c =

@@ -1,9 +1,21 @@
-use Rattle.std.proofs.Common.{◌≡◌, ◌<◌, ℕ, length, get_or, replicate, sym, ap, ◌∙◌, length-set, lt_of_lt_of_le}
+use Rattle.std.proofs.Common.{◌≡◌, ◌<◌, ℕ, length, get_or, replicate, sym, ap, ◌∙◌, length-set, lt_of_lt_of_le, arith}
 use Rattle.std.proofs.lemmas.List.{get_or_read}
 use Rattle.mars_core.specs.Cells.{blank}
 use Rattle.mars_core.specs.Words.{Word}
 use Rattle.mars_core.proofs.Marks.{AreLeft-next, AreLeft-none, AreCells-none, core_in-none}
 use Rattle.mars_core.proofs.cells.Core.clear.Goals as goal
+
+pub index-requires : goal.index-requires
+index-requires g c = omega (arith, c.loop-place.invariant.left.few, c.loop-place-test.true, c.loop-place.self-inside.written.ok.0)
+
+pub index_mut-requires : goal.index_mut-requires
+index_mut-requires g c =
+    let written = c.loop-place.self-inside.written.items in
+    let place = c.loop-place.place in
+    let within : place < length written = lt_of_lt_of_le c.loop-place-test.true c.loop-place.invariant.left.few in
+    let at : c.from.result ≡ get_or written place 0 = c.from.ensures ∙ get_or_read written place c.index.result.now within c.index.ensures 0 in
+    let inside = c.loop-place.invariant.left.inside place c.loop-place-test.true in
+    omega (arith, c.loop-place.self-inside.cells.ok.0, at, inside)
 
 pub loop-place-preserved : goal.loop-place-preserved
 loop-place-preserved g c =

@@ -1,8 +1,18 @@
-use Rattle.std.proofs.Common.{◌≡◌, ℕ, List, length, set, sym, ap, subst₂, ◌∙◌, length-set}
+use Rattle.std.proofs.Common.{◌≡◌, ℕ, List, length, set, sym, ap, subst₂, ◌∙◌, length-set, arith}
 use Rattle.std.proofs.lemmas.List.{with_items_is}
 use Rattle.mars_core.specs.Words.{Word, AreCells, is_marked}
 use Rattle.mars_core.proofs.Marks.{inside-core_in, is_marked-read, room-unmarked, AreCells-set, AreCells-push, core_in-set, IsCore-set}
 use Rattle.mars_core.proofs.cells.Core.put.Goals as goal
+
+pub index-requires : goal.index-requires
+index-requires g c =
+    let inside = inside-core_in c.args.size c.args.at c.self.inside.cells.items c.args.self.now c.requires.core c.requires.address c.self.view_is in
+    omega (arith, c.self.inside.cells.ok.0, inside)
+
+pub index_mut-requires : goal.index_mut-requires
+index_mut-requires g c =
+    let inside = inside-core_in c.args.size c.args.at c.self.inside.cells.items c.args.self.now c.requires.core c.requires.address c.self.view_is in
+    omega (arith, c.self.inside.cells.ok.0, inside)
 
 pub list-requires : goal.list-requires
 list-requires g c =

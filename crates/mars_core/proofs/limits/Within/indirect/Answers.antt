@@ -1,0 +1,22 @@
+use Rattle.std.proofs.Common.{◌≡◌, ℕ, ◌+◌, sym, ap, ap₂, ◌∙◌}
+use Rattle.mars_core.specs.Cells.{cell, number, plus}
+use Rattle.mars_core.specs.Operand.{Reach, folded, pointers, found_from}
+use Rattle.mars_core.specs.Code.{field_of}
+use Rattle.mars_core.proofs.limits.Within.indirect.Goals as goal
+
+pub returns-clause-value : goal.returns-clause-value
+returns-clause-value g c =
+    let core = c.args.core.now in
+    let pc : ℕ = c.args.pc in
+    let field = field_of c.args.field in
+    let size : c.args.size ≡ c.args.self.size = sym c.requires.size in
+    let read_limit : c.self.inside.read ≡ c.args.self.read = ap (λ (r : Reach). r.read) c.self.view_is in
+    let write_limit : c.self.inside.write ≡ c.args.self.write = ap (λ (r : Reach). r.write) c.self.view_is in
+    let read : c.number-read.result ≡ number field (cell core (plus c.args.self.size pc c.args.p.read)) =
+    c.number-read.ensures.value ∙ ap (number field) (c.cell.ensures.value ∙ ap (cell core) (c.plus.ensures.value ∙ ap (λ (n : ℕ). plus n pc c.args.p.read) size)) in
+    let write : c.number-write.result ≡ number field (cell core (plus c.args.self.size pc c.args.p.write)) =
+    c.number-write.ensures.value ∙ ap (number field) (c.cell-2.ensures.value ∙ ap (cell core) (c.plus-2.ensures.value ∙ ap (λ (n : ℕ). plus n pc c.args.p.write) size)) in
+    c.found.ensures.value
+    ∙ ap₂ (λ (r w : ℕ). found_from c.args.self core pc (pointers r w))
+    (c.folded.ensures.value ∙ (λ t. folded (size t) (read_limit t) (c.args.p.read + read t)))
+    (c.folded-2.ensures.value ∙ (λ t. folded (size t) (write_limit t) (c.args.p.write + write t)))

@@ -1,0 +1,4 @@
+use Rattle.mars_core.proofs.limits.Within.postincremented.Goals as goal
+
+pub returns-clause-value : goal.returns-clause-value
+returns-clause-value g c = cc

@@ -1,0 +1,12 @@
+use Rattle.std.proofs.Common.{ℕ, ap, ◌∙◌}
+use Rattle.mars_core.specs.Cells.{with_number, minus}
+use Rattle.mars_core.specs.Code.{field_of}
+use Rattle.mars_core.proofs.registers.lowered.Goals as goal
+
+pub returns-clause-value : goal.returns-clause-value
+returns-clause-value c =
+    c.with_number.ensures.value
+    ∙ ap (λ (n : ℕ). with_number (field_of c.args.field) n c.args.i.instr) (c.minus.ensures.value ∙ ap (λ (n : ℕ). minus c.args.size n 1) c.number.ensures.value)
+
+pub returns-clause-numbers : goal.returns-clause-numbers
+returns-clause-numbers c = c.with_number.ensures.below c.args.size c.requires.numbers c.minus.ensures.below

@@ -1,0 +1,7 @@
+use Rattle.std.proofs.Common.{ℕ, ap₂, ◌∙◌}
+use Rattle.mars_core.specs.Effect.{combined}
+use Rattle.mars_core.specs.Code.{arithmetic_of}
+use Rattle.mars_core.proofs.registers.value.Goals as goal
+
+pub returns-clause-value : goal.returns-clause-value
+returns-clause-value c = c.combined.ensures.value ∙ ap₂ (combined c.args.size (arithmetic_of c.args.arithmetic)) c.number.ensures.value c.number-2.ensures.value

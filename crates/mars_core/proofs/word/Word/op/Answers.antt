@@ -1,0 +1,7 @@
+use Rattle.std.proofs.Common.{◌/◌, ◌^◌, ap, ◌∙◌}
+use Rattle.std.proofs.lemmas.Nat.{and_mask}
+use Rattle.mars_core.specs.Words.{Word, op_at}
+use Rattle.mars_core.proofs.word.Word.op.Goals as goal
+
+pub returns : goal.returns
+returns c = c.op_at.ensures ∙ (ap op_at (and_mask (c.self.inside.bits / 2 ^ 41) 4) ∙ ap (λ (w : Word). w.instr.op) c.self.view_is)
