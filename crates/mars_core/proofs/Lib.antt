@@ -1,4 +1,5 @@
 pub mod Rows
+pub mod Divisors
 pub mod Pairs
 pub mod Turns
 pub mod Marks

@@ -31,7 +31,6 @@ pub(crate) enum Queued {
 
 /// Executes the instruction at `pc` in a core of `size` cells, under `limits`. A is evaluated wholly before B.
 #[inline(always)]
-#[tactic(auto, unfolding(crate::specs::Round::executed))]
 pub(crate) fn execute<L: Limits, A: Allocator>(
     core: &mut Core<A>,
     size: Size,
@@ -54,7 +53,6 @@ pub(crate) fn execute<L: Limits, A: Allocator>(
 /// Executes an instruction that stands at `pc`, once its operands are evaluated, in a core of `size` cells. The limits are for the
 /// compiler alone: each kind of them then has a copy of its own, which is called from one place and written out there.
 #[inline(always)]
-#[tactic(auto, unfolding(crate::specs::Effect::effect))]
 fn effect<L: Limits, A: Allocator>(
     core: &mut Core<A>,
     size: Size,

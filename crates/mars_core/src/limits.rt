@@ -126,7 +126,6 @@ impl Within {
     }
 
     /// The operand of this mode and number in the instruction at `pc`, in a core of `size` cells.
-    #[tactic(auto, unfolding(crate::specs::Operand::operand))]
     fn evaluate<A: Allocator>(
         self,
         core: &mut Core<A>,

@@ -29,7 +29,6 @@ pub(crate) struct Operand {
 /// The operand of this mode and number in the instruction at `pc`, in a core of `size` cells. An indirect mode
 /// may raise or lower a number of the cell that it goes through.
 #[inline(always)]
-#[tactic(auto, unfolding(crate::specs::Whole::operand))]
 pub(crate) fn evaluate<A: Allocator>(
     core: &mut Core<A>,
     size: Size,
@@ -61,7 +60,6 @@ pub(crate) fn evaluate<A: Allocator>(
 
 /// The operand of a mode that is immediate or direct.
 #[inline(always)]
-#[tactic(auto, unfolding(crate::specs::Whole::operand))]
 pub(crate) fn plain<A: Allocator>(
     core: &Core<A>,
     size: Size,

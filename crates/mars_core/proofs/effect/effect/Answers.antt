@@ -1,4 +1,5 @@
-use Rattle.std.proofs.Common.{◌≡◌, ◌∙◌, ℕ, Bool, not, List, [], ◌∷◌, slice_set, refl, sym, ap, ap₂}
+use Rattle.std.proofs.Common.{◌≡◌, ◌∙◌, ℕ, ◌<◌, Bool, not, List, [], ◌∷◌, slice_set, refl, sym, ap, ap₂}
+use Rattle.std.proofs.lemmas.List.Elements.{All-cons, All-nil}
 use Rattle.war_types.specs.declared.instr.Op.{Op}
 use Rattle.war_types.specs.declared.instr.Modifier.{Modifier}
 use Rattle.war_types.specs.declared.instr.Instr.{Instr}
@@ -94,3 +95,15 @@ pub returns-in-Nop-clause-value : goal.returns-in-Nop-clause-value
 returns-in-Nop-clause-value g c =
     by_arm _ _ _ _ _ _ _ _ _ _ c.op.ensures c.in-Nop.is
     (ap (λ (n : ℕ). queues c.args.core.now (n ∷ [])) (sym c.plus-next.ensures.value))
+
+pub returns-in-Mov-clause-addresses : goal.returns-in-Mov-clause-addresses
+returns-in-Mov-clause-addresses g c = All-cons (λ (a : ℕ). a < c.args.size) c.plus-next.result [] c.plus-next.ensures.below (All-nil (λ (a : ℕ). a < c.args.size))
+
+pub returns-in-Jmp-clause-addresses : goal.returns-in-Jmp-clause-addresses
+returns-in-Jmp-clause-addresses g c = All-cons (λ (a : ℕ). a < c.args.size) c.args.a.pointer [] c.requires.a (All-nil (λ (a : ℕ). a < c.args.size))
+
+pub returns-in-Nop-clause-addresses : goal.returns-in-Nop-clause-addresses
+returns-in-Nop-clause-addresses g c = All-cons (λ (a : ℕ). a < c.args.size) c.plus-next.result [] c.plus-next.ensures.below (All-nil (λ (a : ℕ). a < c.args.size))
+
+pub returns-in-Spl-clause-addresses : goal.returns-in-Spl-clause-addresses
+returns-in-Spl-clause-addresses g c = All-cons (λ (a : ℕ). a < c.args.size) c.plus-next.result (c.args.a.pointer ∷ []) c.plus-next.ensures.below (All-cons (λ (a : ℕ). a < c.args.size) c.args.a.pointer [] c.requires.a (All-nil (λ (a : ℕ). a < c.args.size)))

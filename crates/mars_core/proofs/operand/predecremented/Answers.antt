@@ -2,3 +2,6 @@ use Rattle.mars_core.proofs.operand.predecremented.Goals as goal
 
 pub returns-clause-value : goal.returns-clause-value
 returns-clause-value g c = cc
+
+pub minus-lowered-requires-clause-m : goal.minus-lowered-requires-clause-m
+minus-lowered-requires-clause-m g c = c.number.ensures.below c.args.size c.cell.ensures.numbers

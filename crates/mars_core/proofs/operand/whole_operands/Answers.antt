@@ -33,3 +33,15 @@ returns-else-is_plain-clause-value g c =
     both c.args.size c.args.pc c.args.i.instr c.args.core.now c.evaluate-a.new.core c.evaluate-b.new.core (operand_of c.evaluate-a.result) (operand_of c.evaluate-b.result)
     (ap₂ (operand c.args.size c.args.core.now c.args.pc) (sym c.a_mode-else-is_plain.ensures) (sym c.number-else-is_plain.ensures.value) ∙ c.evaluate-a.ensures.value)
     (ap₂ (operand c.args.size c.evaluate-a.new.core c.args.pc) (sym c.b_mode-else-is_plain.ensures) (sym c.number-else-is_plain-2.ensures.value) ∙ c.evaluate-b.ensures.value)
+
+pub plain-a-requires-clause-number : goal.plain-a-requires-clause-number
+plain-a-requires-clause-number g c = c.number.ensures.below c.args.size c.requires.numbers
+
+pub plain-b-requires-clause-number : goal.plain-b-requires-clause-number
+plain-b-requires-clause-number g c = c.number-then-is_plain.ensures.below c.args.size c.requires.numbers
+
+pub evaluate-a-requires-clause-number : goal.evaluate-a-requires-clause-number
+evaluate-a-requires-clause-number g c = c.number-else-is_plain.ensures.below c.args.size c.requires.numbers
+
+pub evaluate-b-requires-clause-number : goal.evaluate-b-requires-clause-number
+evaluate-b-requires-clause-number g c = c.number-else-is_plain-2.ensures.below c.args.size c.requires.numbers

@@ -10,3 +10,6 @@ returns-clause-value c =
 
 pub returns-clause-numbers : goal.returns-clause-numbers
 returns-clause-numbers c = c.with_number.ensures.below c.args.size c.requires.numbers c.minus.ensures.below
+
+pub minus-requires-clause-m : goal.minus-requires-clause-m
+minus-requires-clause-m c = c.number.ensures.below c.args.size c.requires.numbers

@@ -47,3 +47,9 @@ pub returns-clause-addresses : goal.returns-clause-addresses
 returns-clause-addresses g c =
     All-eight (λ (a : ℕ). a < c.args.size) _ _ _ _ _ _ _ _ c.requires.pc c.plus-2.ensures.below c.plus-3.ensures.below c.led_on.ensures.below c.led_on-2.ensures.below c.led_on-3.ensures.below c.led_on-4.ensures.below
     c.led_on-5.ensures.below
+
+pub plus-more-requires-clause-m : goal.plus-more-requires-clause-m
+plus-more-requires-clause-m g c = c.number-number.ensures.below c.args.size c.cell-through.ensures.numbers
+
+pub minus-less-requires-clause-m : goal.minus-less-requires-clause-m
+minus-less-requires-clause-m g c = c.number-number.ensures.below c.args.size c.cell-through.ensures.numbers

@@ -176,3 +176,23 @@ split-requires-in-Second-to_move-3-clause-small g c = omega (arith, c.in-Two.ens
 
 pub split-requires-in-Second-to_move-3-clause-small_behind : goal.split-requires-in-Second-to_move-3-clause-small_behind
 split-requires-in-Second-to_move-3-clause-small_behind g c = omega (arith, c.in-Two.ensures.addresses 1 0 (omega arith))
+
+pub returns-then-is_empty-clause-first : goal.returns-then-is_empty-clause-first
+returns-then-is_empty-clause-first g c =
+    let kept = c.loop-left.invariant in
+    (queues_kept c.args.size c.loop-left.to_move (addresses c.execute-queued.result) c.loop-left.first c.loop-left.second c.match-to_move-2.first c.match-to_move-2.second kept.first kept.second
+    c.execute-queued.ensures.addresses (moved-at-end g c).0).0
+
+pub returns-then-is_empty-clause-first_limit : goal.returns-then-is_empty-clause-first_limit
+returns-then-is_empty-clause-first_limit g c =
+    (limits_kept c.loop-left.to_move (addresses c.execute-queued.result) c.loop-left.first c.loop-left.second c.match-to_move-2.first c.match-to_move-2.second (moved-at-end g c).0).0 ∙ c.loop-left.invariant.first_limit
+
+pub returns-then-is_empty-clause-second : goal.returns-then-is_empty-clause-second
+returns-then-is_empty-clause-second g c =
+    let kept = c.loop-left.invariant in
+    (queues_kept c.args.size c.loop-left.to_move (addresses c.execute-queued.result) c.loop-left.first c.loop-left.second c.match-to_move-2.first c.match-to_move-2.second kept.first kept.second
+    c.execute-queued.ensures.addresses (moved-at-end g c).0).1
+
+pub returns-then-is_empty-clause-second_limit : goal.returns-then-is_empty-clause-second_limit
+returns-then-is_empty-clause-second_limit g c =
+    (limits_kept c.loop-left.to_move (addresses c.execute-queued.result) c.loop-left.first c.loop-left.second c.match-to_move-2.first c.match-to_move-2.second (moved-at-end g c).0).1 ∙ c.loop-left.invariant.second_limit

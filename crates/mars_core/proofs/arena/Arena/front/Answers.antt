@@ -1,10 +1,17 @@
-use Rattle.std.proofs.Common.{◌≡◌, false, Some, ap, sym, subst, ◌∙◌}
+use Rattle.std.proofs.Common.{◌≡◌, false, Some, ap, sym, subst, ◌∙◌, ℕ, ◌<◌, List, [], ◌∷◌, arith}
 use Rattle.mars_core.specs.declared.round.Side.{Side}
 use Rattle.mars_core.specs.Queue.{front}
-use Rattle.mars_core.specs.Round.{Round, is_over, queue_of}
+use Rattle.mars_core.specs.Round.{Round, IsQueue, is_over, queue_of}
 use Rattle.mars_core.specs.Arena.{round_in}
 use Rattle.mars_core.proofs.Turns.{both_sides_live}
 use Rattle.mars_core.proofs.arena.Arena.front.Goals as goal
+
+-- the front process is one of the core
+front_inside : (size limit at : ℕ) (queue : List ℕ) → IsQueue size limit queue → front queue ≡ Some at → at < size
+front_inside size limit at [] is found = cc
+front_inside size limit at (x ∷ rest) is found =
+    let same : x ≡ at = cc in
+    subst (λ (n : ℕ). n < size) same (is.addresses 0 0 (omega arith))
 
 pub front-requires : goal.front-requires
 front-requires g c =
@@ -27,3 +34,9 @@ returns-in-Second-clause-value g c =
     let a = c.self.inside in
     ap (λ (r : Round). front (queue_of r.to_move r)) (sym c.self.view_is)
     ∙ (ap (λ (m : Side). front (queue_of m (round_in a.settings a.core a.first.addresses a.second.addresses a.to_move a.used))) c.in-Second.is ∙ c.front-in-Second.ensures)
+
+pub returns-in-First-clause-below : goal.returns-in-First-clause-below
+returns-in-First-clause-below g c = subst (λ (r : Round). c.front.result < r.settings.core) c.self.view_is (front_inside _ _ _ _ c.self.invariant.round.first c.front.ensures)
+
+pub returns-in-Second-clause-below : goal.returns-in-Second-clause-below
+returns-in-Second-clause-below g c = subst (λ (r : Round). c.front-in-Second.result < r.settings.core) c.self.view_is (front_inside _ _ _ _ c.self.invariant.round.second c.front-in-Second.ensures)

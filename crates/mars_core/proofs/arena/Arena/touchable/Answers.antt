@@ -1,7 +1,9 @@
 -- The next turn executes the process at the front.
-use Rattle.std.proofs.Common.{◌≡◌, ◌∙◌, false, sym, subst}
+use Rattle.std.proofs.Common.{◌≡◌, ◌∙◌, false, sym, subst, ℕ, ◌<◌, ◌≤◌, subst₂, arith}
+use Rattle.mars_core.specs.Cells.{IsCore}
 use Rattle.mars_core.specs.Round.{Round, executed, is_over, reach_of}
 use Rattle.mars_core.specs.Touched.{AreSameBut}
+use Rattle.mars_core.proofs.Divisors.{divisor-most}
 use Rattle.mars_core.proofs.Touched.{turn-same}
 use Rattle.mars_core.proofs.arena.Arena.touchable.Goals as goal
 
@@ -14,3 +16,15 @@ returns-clause-same g c =
       turn-same r c.front.result c.touchable.result on c.front.ensures.value
           (subst (λ (x : Round). AreSameBut c.touchable.result x.core (executed (reach_of x.settings) x.core c.front.result).core) c.self.view_is inside),
     )
+
+pub touchable-requires-clause-core : goal.touchable-requires-clause-core
+touchable-requires-clause-core g c = subst (λ (n : ℕ). IsCore n c.self.inside.core) (sym (c.of-size.ensures ∙ c.core.ensures.value)) c.self.invariant.round.core
+
+pub touchable-requires-clause-write_least : goal.touchable-requires-clause-write_least
+touchable-requires-clause-write_least g c = subst (λ (n : ℕ). 1 ≤ n) (sym (c.from-write.ensures ∙ c.write_limit.ensures.value)) c.core.ensures.settings.write_least
+
+pub touchable-requires-clause-write_most : goal.touchable-requires-clause-write_most
+touchable-requires-clause-write_most g c =
+    let settings = c.self.inside.settings in
+    let most : settings.write_limit ≤ settings.core = divisor-most settings.core settings.write_limit (omega (arith, c.core.ensures.settings.core_least)) c.core.ensures.settings.write_divides in
+    subst₂ (λ (n m : ℕ). n ≤ m) (sym (c.from-write.ensures ∙ c.write_limit.ensures.value)) (sym (c.of-size.ensures ∙ c.core.ensures.value)) most

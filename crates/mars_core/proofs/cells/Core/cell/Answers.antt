@@ -1,5 +1,5 @@
-use Rattle.std.proofs.Common.{ap, ◌∙◌, arith}
-use Rattle.mars_core.specs.Words.{Word}
+use Rattle.std.proofs.Common.{ap, ◌∙◌, arith, sym, subst}
+use Rattle.mars_core.specs.Words.{Word, IsWord}
 use Rattle.mars_core.proofs.Marks.{inside-core_in, cell-core_in, HasNumbersBelow-cell}
 use Rattle.mars_core.proofs.cells.Core.cell.Goals as goal
 
@@ -13,3 +13,13 @@ returns-clause-numbers g c =
     let inside = inside-core_in c.args.size c.args.at c.self.inside.cells.items c.args.self.now c.requires.core c.requires.address c.self.view_is in
     HasNumbersBelow-cell c.args.size c.args.at c.args.self.now c.in_bits.result.instr c.requires.core c.requires.address
     (ap (λ (w : Word). w.instr) c.in_bits.ensures ∙ cell-core_in c.self.inside.cells.items c.args.at c.index.result.now c.args.self.now inside c.index.ensures c.self.view_is)
+
+pub in_bits-requires : goal.in_bits-requires
+in_bits-requires g c =
+    let inside = inside-core_in c.args.size c.args.at c.self.inside.cells.items c.args.self.now c.requires.core c.requires.address c.self.view_is in
+    subst IsWord (sym c.index.ensures) (c.self.invariant.words c.args.at c.index.result.now inside)
+
+pub returns-clause-value : goal.returns-clause-value
+returns-clause-value g c =
+    let inside = inside-core_in c.args.size c.args.at c.self.inside.cells.items c.args.self.now c.requires.core c.requires.address c.self.view_is in
+    ap (λ (w : Word). w.instr) c.in_bits.ensures ∙ cell-core_in c.self.inside.cells.items c.args.at c.index.result.now c.args.self.now inside c.index.ensures c.self.view_is

@@ -1,4 +1,4 @@
-use Rattle.std.proofs.Common.{◌≡◌, ◌∙◌, ℕ, List, sym, ap}
+use Rattle.std.proofs.Common.{◌≡◌, ◌∙◌, ℕ, List, sym, ap, ◌<◌, subst}
 use Rattle.war_types.specs.declared.instr.Instr.{Instr}
 use Rattle.war_types.specs.declared.instr.Mode.{Mode}
 use Rattle.mars_core.specs.Cells.{Field}
@@ -49,3 +49,45 @@ pub returns-in-BPost-clause-value : goal.returns-in-BPost-clause-value
 returns-in-BPost-clause-value g c =
     by_arm _ _ _ _ _ _ _ c.in-BPost.is
     (ap (λ (p : Pointers). postincremented c.args.self c.args.core.now c.args.pc Field.B p) (sym c.pointed-p.ensures.value) ∙ c.postincremented-in-BPost.ensures.value)
+
+pub found-requires-in-Direct-clause-read : goal.found-requires-in-Direct-clause-read
+found-requires-in-Direct-clause-read g c = subst (λ (n : ℕ). c.pointed-p.result.read < n) c.requires.size c.pointed-p.ensures.read
+
+pub found-requires-in-Direct-clause-write : goal.found-requires-in-Direct-clause-write
+found-requires-in-Direct-clause-write g c = subst (λ (n : ℕ). c.pointed-p.result.write < n) c.requires.size c.pointed-p.ensures.write
+
+pub indirect-requires-clause-read : goal.indirect-requires-clause-read
+indirect-requires-clause-read g c = subst (λ (n : ℕ). c.pointed-p.result.read < n) c.requires.size c.pointed-p.ensures.read
+
+pub indirect-requires-clause-write : goal.indirect-requires-clause-write
+indirect-requires-clause-write g c = subst (λ (n : ℕ). c.pointed-p.result.write < n) c.requires.size c.pointed-p.ensures.write
+
+pub indirect-requires-in-BIndirect-clause-read : goal.indirect-requires-in-BIndirect-clause-read
+indirect-requires-in-BIndirect-clause-read g c = subst (λ (n : ℕ). c.pointed-p.result.read < n) c.requires.size c.pointed-p.ensures.read
+
+pub indirect-requires-in-BIndirect-clause-write : goal.indirect-requires-in-BIndirect-clause-write
+indirect-requires-in-BIndirect-clause-write g c = subst (λ (n : ℕ). c.pointed-p.result.write < n) c.requires.size c.pointed-p.ensures.write
+
+pub predecremented-requires-clause-read : goal.predecremented-requires-clause-read
+predecremented-requires-clause-read g c = subst (λ (n : ℕ). c.pointed-p.result.read < n) c.requires.size c.pointed-p.ensures.read
+
+pub predecremented-requires-clause-write : goal.predecremented-requires-clause-write
+predecremented-requires-clause-write g c = subst (λ (n : ℕ). c.pointed-p.result.write < n) c.requires.size c.pointed-p.ensures.write
+
+pub predecremented-requires-in-BPre-clause-read : goal.predecremented-requires-in-BPre-clause-read
+predecremented-requires-in-BPre-clause-read g c = subst (λ (n : ℕ). c.pointed-p.result.read < n) c.requires.size c.pointed-p.ensures.read
+
+pub predecremented-requires-in-BPre-clause-write : goal.predecremented-requires-in-BPre-clause-write
+predecremented-requires-in-BPre-clause-write g c = subst (λ (n : ℕ). c.pointed-p.result.write < n) c.requires.size c.pointed-p.ensures.write
+
+pub postincremented-requires-clause-read : goal.postincremented-requires-clause-read
+postincremented-requires-clause-read g c = subst (λ (n : ℕ). c.pointed-p.result.read < n) c.requires.size c.pointed-p.ensures.read
+
+pub postincremented-requires-clause-write : goal.postincremented-requires-clause-write
+postincremented-requires-clause-write g c = subst (λ (n : ℕ). c.pointed-p.result.write < n) c.requires.size c.pointed-p.ensures.write
+
+pub postincremented-requires-in-BPost-clause-read : goal.postincremented-requires-in-BPost-clause-read
+postincremented-requires-in-BPost-clause-read g c = subst (λ (n : ℕ). c.pointed-p.result.read < n) c.requires.size c.pointed-p.ensures.read
+
+pub postincremented-requires-in-BPost-clause-write : goal.postincremented-requires-in-BPost-clause-write
+postincremented-requires-in-BPost-clause-write g c = subst (λ (n : ℕ). c.pointed-p.result.write < n) c.requires.size c.pointed-p.ensures.write

@@ -16,3 +16,9 @@ returns-clause-value g c =
     both c.args.self c.args.pc c.args.i.instr c.args.core.now c.evaluate-a.new.core c.evaluate-b.new.core (operand_of c.evaluate-a.result) (operand_of c.evaluate-b.result)
     (ap₂ (operand c.args.self c.args.core.now c.args.pc) (sym c.a_mode.ensures) (sym c.number.ensures.value) ∙ c.evaluate-a.ensures.value)
     (ap₂ (operand c.args.self c.evaluate-a.new.core c.args.pc) (sym c.b_mode.ensures) (sym c.number-2.ensures.value) ∙ c.evaluate-b.ensures.value)
+
+pub evaluate-a-requires-clause-number : goal.evaluate-a-requires-clause-number
+evaluate-a-requires-clause-number g c = c.number.ensures.below c.args.size c.requires.numbers
+
+pub evaluate-b-requires-clause-number : goal.evaluate-b-requires-clause-number
+evaluate-b-requires-clause-number g c = c.number-2.ensures.below c.args.size c.requires.numbers
