@@ -1,4 +1,4 @@
-use Rattle.std.proofs.Common.{◌≡◌, ◌∙◌, ℕ, ◌<◌, Bool, not, List, [], ◌∷◌, slice_set, refl, sym, ap, ap₂}
+use Rattle.std.proofs.Common.{◌≡◌, ◌∙◌, ℕ, ◌<◌, Bool, not, List, [], ◌∷◌, slice_set, refl, sym, ap, ap₂, arith}
 use Rattle.std.proofs.lemmas.List.Elements.{All-cons, All-nil}
 use Rattle.war_types.specs.declared.instr.Op.{Op}
 use Rattle.war_types.specs.declared.instr.Modifier.{Modifier}
@@ -15,95 +15,200 @@ by_arm : (size pc : ℕ) (op found arm : Op) (m : Modifier) (a b : Operand) (cor
 unfolding effect
 by_arm size pc op found arm m a b core after is at made = ap (λ (op : Op). by_op size pc op m a b core) (sym is ∙ at) ∙ made
 
-pub returns-in-Dat-clause-value : goal.returns-in-Dat-clause-value
-returns-in-Dat-clause-value g c =
-    by_arm _ _ _ _ _ _ _ _ _ _ c.op.ensures c.in-Dat.is
-    (refl)
+pub returns-in-Dat : goal.returns-in-Dat
+returns-in-Dat g c =
+    record {
+      value = by_arm _ _ _ _ _ _ _ _ _ _ c.op.ensures c.in-Dat.is
+          (refl);
+      core = c.requires.core;
+      addresses = All-nil (λ (a : ℕ). a < c.args.size);
+    }
 
-pub returns-in-Mov-clause-value : goal.returns-in-Mov-clause-value
-returns-in-Mov-clause-value g c =
+pub returns-in-Mov : goal.returns-in-Mov
+returns-in-Mov g c =
     let put_is = c.copy_to.ensures.value ∙ ap (λ (m : Modifier). slice_set c.args.core.now c.args.b.target (copied m c.args.a.register.instr (cell c.args.core.now c.args.b.target))) c.modifier.ensures in
-    by_arm _ _ _ _ _ _ _ _ _ _ c.op.ensures c.in-Mov.is
-    (ap₂ (λ (core : List Instr) (n : ℕ). queues core (n ∷ [])) (sym put_is) (sym c.plus-next.ensures.value))
+    record {
+      value = by_arm _ _ _ _ _ _ _ _ _ _ c.op.ensures c.in-Mov.is
+          (ap₂ (λ (core : List Instr) (n : ℕ). queues core (n ∷ [])) (sym put_is) (sym c.plus-next.ensures.value));
+      core = c.copy_to.ensures.core;
+      addresses = All-cons (λ (a : ℕ). a < c.args.size) c.plus-next.result [] c.plus-next.ensures.below (All-nil (λ (a : ℕ). a < c.args.size));
+    }
 
-pub returns-in-Add-clause-value : goal.returns-in-Add-clause-value
-returns-in-Add-clause-value g c =
-    by_arm _ _ _ _ _ _ _ _ _ _ c.op.ensures c.in-Add.is
-    (ap (λ (m : Modifier). calculates c.args.size c.args.pc Arithmetic.Sum m (operand_of c.args.a) (operand_of c.args.b) c.args.core.now) (sym c.modifier-in-Add.ensures) ∙ c.calculates.ensures.value)
+pub returns-in-Add : goal.returns-in-Add
+returns-in-Add g c =
+    record {
+      value = by_arm _ _ _ _ _ _ _ _ _ _ c.op.ensures c.in-Add.is
+          (ap (λ (m : Modifier). calculates c.args.size c.args.pc Arithmetic.Sum m (operand_of c.args.a) (operand_of c.args.b) c.args.core.now) (sym c.modifier-in-Add.ensures) ∙ c.calculates.ensures.value);
+      core = c.calculates.ensures.core;
+      addresses = c.calculates.ensures.addresses;
+    }
 
-pub returns-in-Sub-clause-value : goal.returns-in-Sub-clause-value
-returns-in-Sub-clause-value g c =
-    by_arm _ _ _ _ _ _ _ _ _ _ c.op.ensures c.in-Sub.is
-    (ap (λ (m : Modifier). calculates c.args.size c.args.pc Arithmetic.Difference m (operand_of c.args.a) (operand_of c.args.b) c.args.core.now) (sym c.modifier-in-Sub.ensures) ∙ c.calculates-in-Sub.ensures.value)
+pub returns-in-Sub : goal.returns-in-Sub
+returns-in-Sub g c =
+    record {
+      value = by_arm _ _ _ _ _ _ _ _ _ _ c.op.ensures c.in-Sub.is
+          (ap (λ (m : Modifier). calculates c.args.size c.args.pc Arithmetic.Difference m (operand_of c.args.a) (operand_of c.args.b) c.args.core.now) (sym c.modifier-in-Sub.ensures) ∙ c.calculates-in-Sub.ensures.value);
+      core = c.calculates-in-Sub.ensures.core;
+      addresses = c.calculates-in-Sub.ensures.addresses;
+    }
 
-pub returns-in-Mul-clause-value : goal.returns-in-Mul-clause-value
-returns-in-Mul-clause-value g c =
-    by_arm _ _ _ _ _ _ _ _ _ _ c.op.ensures c.in-Mul.is
-    (ap (λ (m : Modifier). calculates c.args.size c.args.pc Arithmetic.Product m (operand_of c.args.a) (operand_of c.args.b) c.args.core.now) (sym c.modifier-in-Mul.ensures) ∙ c.calculates-in-Mul.ensures.value)
+pub returns-in-Mul : goal.returns-in-Mul
+returns-in-Mul g c =
+    record {
+      value = by_arm _ _ _ _ _ _ _ _ _ _ c.op.ensures c.in-Mul.is
+          (ap (λ (m : Modifier). calculates c.args.size c.args.pc Arithmetic.Product m (operand_of c.args.a) (operand_of c.args.b) c.args.core.now) (sym c.modifier-in-Mul.ensures) ∙ c.calculates-in-Mul.ensures.value);
+      core = c.calculates-in-Mul.ensures.core;
+      addresses = c.calculates-in-Mul.ensures.addresses;
+    }
 
-pub returns-in-Div-clause-value : goal.returns-in-Div-clause-value
-returns-in-Div-clause-value g c =
-    by_arm _ _ _ _ _ _ _ _ _ _ c.op.ensures c.in-Div.is
-    (ap (λ (m : Modifier). calculates c.args.size c.args.pc Arithmetic.Quotient m (operand_of c.args.a) (operand_of c.args.b) c.args.core.now) (sym c.modifier-in-Div.ensures) ∙ c.calculates-in-Div.ensures.value)
+pub returns-in-Div : goal.returns-in-Div
+returns-in-Div g c =
+    record {
+      value = by_arm _ _ _ _ _ _ _ _ _ _ c.op.ensures c.in-Div.is
+          (ap (λ (m : Modifier). calculates c.args.size c.args.pc Arithmetic.Quotient m (operand_of c.args.a) (operand_of c.args.b) c.args.core.now) (sym c.modifier-in-Div.ensures) ∙ c.calculates-in-Div.ensures.value);
+      core = c.calculates-in-Div.ensures.core;
+      addresses = c.calculates-in-Div.ensures.addresses;
+    }
 
-pub returns-in-Mdl-clause-value : goal.returns-in-Mdl-clause-value
-returns-in-Mdl-clause-value g c =
-    by_arm _ _ _ _ _ _ _ _ _ _ c.op.ensures c.in-Mdl.is
-    (ap (λ (m : Modifier). calculates c.args.size c.args.pc Arithmetic.Remainder m (operand_of c.args.a) (operand_of c.args.b) c.args.core.now) (sym c.modifier-in-Mdl.ensures) ∙ c.calculates-in-Mdl.ensures.value)
+pub returns-in-Mdl : goal.returns-in-Mdl
+returns-in-Mdl g c =
+    record {
+      value = by_arm _ _ _ _ _ _ _ _ _ _ c.op.ensures c.in-Mdl.is
+          (ap (λ (m : Modifier). calculates c.args.size c.args.pc Arithmetic.Remainder m (operand_of c.args.a) (operand_of c.args.b) c.args.core.now) (sym c.modifier-in-Mdl.ensures) ∙ c.calculates-in-Mdl.ensures.value);
+      core = c.calculates-in-Mdl.ensures.core;
+      addresses = c.calculates-in-Mdl.ensures.addresses;
+    }
 
-pub returns-in-Jmp-clause-value : goal.returns-in-Jmp-clause-value
-returns-in-Jmp-clause-value g c =
-    by_arm _ _ _ _ _ _ _ _ _ _ c.op.ensures c.in-Jmp.is
-    (refl)
+pub returns-in-Jmp : goal.returns-in-Jmp
+returns-in-Jmp g c =
+    record {
+      value = by_arm _ _ _ _ _ _ _ _ _ _ c.op.ensures c.in-Jmp.is
+          (refl);
+      core = c.requires.core;
+      addresses = All-cons (λ (a : ℕ). a < c.args.size) c.args.a.pointer [] c.requires.a (All-nil (λ (a : ℕ). a < c.args.size));
+    }
 
-pub returns-in-Jmz-clause-value : goal.returns-in-Jmz-clause-value
-returns-in-Jmz-clause-value g c =
-    by_arm _ _ _ _ _ _ _ _ _ _ c.op.ensures c.in-Jmz.is
-    (ap (λ (t : Bool). queues c.args.core.now (jump_where c.args.size c.args.pc (operand_of c.args.a) t)) (ap (λ (m : Modifier). are_zero m c.args.b.register.instr) (sym c.modifier-in-Jmz.ensures) ∙ ap (λ (t : Bool). t) (sym c.are_zero.ensures)) ∙ ap (queues c.args.core.now) (sym c.jump_where.ensures.value))
+pub returns-in-Jmz : goal.returns-in-Jmz
+returns-in-Jmz g c =
+    record {
+      value = by_arm _ _ _ _ _ _ _ _ _ _ c.op.ensures c.in-Jmz.is
+          (ap (λ (t : Bool). queues c.args.core.now (jump_where c.args.size c.args.pc (operand_of c.args.a) t)) (ap (λ (m : Modifier). are_zero m c.args.b.register.instr) (sym c.modifier-in-Jmz.ensures) ∙ ap (λ (t : Bool). t) (sym c.are_zero.ensures)) ∙ ap (queues c.args.core.now) (sym c.jump_where.ensures.value));
+      core = c.requires.core;
+      addresses = c.jump_where.ensures.addresses;
+    }
 
-pub returns-in-Jmn-clause-value : goal.returns-in-Jmn-clause-value
-returns-in-Jmn-clause-value g c =
-    by_arm _ _ _ _ _ _ _ _ _ _ c.op.ensures c.in-Jmn.is
-    (ap (λ (t : Bool). queues c.args.core.now (jump_where c.args.size c.args.pc (operand_of c.args.a) t)) (ap (λ (m : Modifier). not (are_zero m c.args.b.register.instr)) (sym c.modifier-in-Jmn.ensures) ∙ ap (λ (t : Bool). not t) (sym c.are_zero-in-Jmn.ensures)) ∙ ap (queues c.args.core.now) (sym c.jump_where-in-Jmn.ensures.value))
+pub returns-in-Jmn : goal.returns-in-Jmn
+returns-in-Jmn g c =
+    record {
+      value = by_arm _ _ _ _ _ _ _ _ _ _ c.op.ensures c.in-Jmn.is
+          (ap (λ (t : Bool). queues c.args.core.now (jump_where c.args.size c.args.pc (operand_of c.args.a) t)) (ap (λ (m : Modifier). not (are_zero m c.args.b.register.instr)) (sym c.modifier-in-Jmn.ensures) ∙ ap (λ (t : Bool). not t) (sym c.are_zero-in-Jmn.ensures)) ∙ ap (queues c.args.core.now) (sym c.jump_where-in-Jmn.ensures.value));
+      core = c.requires.core;
+      addresses = c.jump_where-in-Jmn.ensures.addresses;
+    }
 
-pub returns-in-Djn-clause-value : goal.returns-in-Djn-clause-value
-returns-in-Djn-clause-value g c =
-    by_arm _ _ _ _ _ _ _ _ _ _ c.op.ensures c.in-Djn.is
-    (cc)
+pub returns-in-Djn : goal.returns-in-Djn
+returns-in-Djn g c =
+    record {
+      value = by_arm _ _ _ _ _ _ _ _ _ _ c.op.ensures c.in-Djn.is
+          (cc);
+      core = c.put.ensures.core;
+      addresses = c.jump_where-in-Djn.ensures.addresses;
+    }
 
-pub returns-in-Seq-clause-value : goal.returns-in-Seq-clause-value
-returns-in-Seq-clause-value g c =
-    by_arm _ _ _ _ _ _ _ _ _ _ c.op.ensures c.in-Seq.is
-    (ap (λ (t : Bool). queues c.args.core.now (skip_where c.args.size c.args.pc t)) (ap (λ (m : Modifier). are_equal m c.args.a.register.instr c.args.b.register.instr) (sym c.modifier-in-Seq.ensures) ∙ ap (λ (t : Bool). t) (sym c.are_equal.ensures)) ∙ ap (queues c.args.core.now) (sym c.skip_where.ensures.value))
+pub returns-in-Seq : goal.returns-in-Seq
+returns-in-Seq g c =
+    record {
+      value = by_arm _ _ _ _ _ _ _ _ _ _ c.op.ensures c.in-Seq.is
+          (ap (λ (t : Bool). queues c.args.core.now (skip_where c.args.size c.args.pc t)) (ap (λ (m : Modifier). are_equal m c.args.a.register.instr c.args.b.register.instr) (sym c.modifier-in-Seq.ensures) ∙ ap (λ (t : Bool). t) (sym c.are_equal.ensures)) ∙ ap (queues c.args.core.now) (sym c.skip_where.ensures.value));
+      core = c.requires.core;
+      addresses = c.skip_where.ensures.addresses;
+    }
 
-pub returns-in-Sne-clause-value : goal.returns-in-Sne-clause-value
-returns-in-Sne-clause-value g c =
-    by_arm _ _ _ _ _ _ _ _ _ _ c.op.ensures c.in-Sne.is
-    (ap (λ (t : Bool). queues c.args.core.now (skip_where c.args.size c.args.pc t)) (ap (λ (m : Modifier). not (are_equal m c.args.a.register.instr c.args.b.register.instr)) (sym c.modifier-in-Sne.ensures) ∙ ap (λ (t : Bool). not t) (sym c.are_equal-in-Sne.ensures)) ∙ ap (queues c.args.core.now) (sym c.skip_where-in-Sne.ensures.value))
+pub returns-in-Sne : goal.returns-in-Sne
+returns-in-Sne g c =
+    record {
+      value = by_arm _ _ _ _ _ _ _ _ _ _ c.op.ensures c.in-Sne.is
+          (ap (λ (t : Bool). queues c.args.core.now (skip_where c.args.size c.args.pc t)) (ap (λ (m : Modifier). not (are_equal m c.args.a.register.instr c.args.b.register.instr)) (sym c.modifier-in-Sne.ensures) ∙ ap (λ (t : Bool). not t) (sym c.are_equal-in-Sne.ensures)) ∙ ap (queues c.args.core.now) (sym c.skip_where-in-Sne.ensures.value));
+      core = c.requires.core;
+      addresses = c.skip_where-in-Sne.ensures.addresses;
+    }
 
-pub returns-in-Slt-clause-value : goal.returns-in-Slt-clause-value
-returns-in-Slt-clause-value g c =
-    by_arm _ _ _ _ _ _ _ _ _ _ c.op.ensures c.in-Slt.is
-    (ap (λ (t : Bool). queues c.args.core.now (skip_where c.args.size c.args.pc t)) (ap (λ (m : Modifier). are_less m c.args.a.register.instr c.args.b.register.instr) (sym c.modifier-in-Slt.ensures) ∙ ap (λ (t : Bool). t) (sym c.are_less.ensures)) ∙ ap (queues c.args.core.now) (sym c.skip_where-in-Slt.ensures.value))
+pub returns-in-Slt : goal.returns-in-Slt
+returns-in-Slt g c =
+    record {
+      value = by_arm _ _ _ _ _ _ _ _ _ _ c.op.ensures c.in-Slt.is
+          (ap (λ (t : Bool). queues c.args.core.now (skip_where c.args.size c.args.pc t)) (ap (λ (m : Modifier). are_less m c.args.a.register.instr c.args.b.register.instr) (sym c.modifier-in-Slt.ensures) ∙ ap (λ (t : Bool). t) (sym c.are_less.ensures)) ∙ ap (queues c.args.core.now) (sym c.skip_where-in-Slt.ensures.value));
+      core = c.requires.core;
+      addresses = c.skip_where-in-Slt.ensures.addresses;
+    }
 
-pub returns-in-Spl-clause-value : goal.returns-in-Spl-clause-value
-returns-in-Spl-clause-value g c =
-    by_arm _ _ _ _ _ _ _ _ _ _ c.op.ensures c.in-Spl.is
-    (ap (λ (n : ℕ). queues c.args.core.now (n ∷ c.args.a.pointer ∷ [])) (sym c.plus-next.ensures.value))
+pub returns-in-Spl : goal.returns-in-Spl
+returns-in-Spl g c =
+    record {
+      value = by_arm _ _ _ _ _ _ _ _ _ _ c.op.ensures c.in-Spl.is
+          (ap (λ (n : ℕ). queues c.args.core.now (n ∷ c.args.a.pointer ∷ [])) (sym c.plus-next.ensures.value));
+      core = c.requires.core;
+      addresses = All-cons (λ (a : ℕ). a < c.args.size) c.plus-next.result (c.args.a.pointer ∷ []) c.plus-next.ensures.below (All-cons (λ (a : ℕ). a < c.args.size) c.args.a.pointer [] c.requires.a (All-nil (λ (a : ℕ). a < c.args.size)));
+    }
 
-pub returns-in-Nop-clause-value : goal.returns-in-Nop-clause-value
-returns-in-Nop-clause-value g c =
-    by_arm _ _ _ _ _ _ _ _ _ _ c.op.ensures c.in-Nop.is
-    (ap (λ (n : ℕ). queues c.args.core.now (n ∷ [])) (sym c.plus-next.ensures.value))
+pub returns-in-Nop : goal.returns-in-Nop
+returns-in-Nop g c =
+    record {
+      value = by_arm _ _ _ _ _ _ _ _ _ _ c.op.ensures c.in-Nop.is
+          (ap (λ (n : ℕ). queues c.args.core.now (n ∷ [])) (sym c.plus-next.ensures.value));
+      core = c.requires.core;
+      addresses = All-cons (λ (a : ℕ). a < c.args.size) c.plus-next.result [] c.plus-next.ensures.below (All-nil (λ (a : ℕ). a < c.args.size));
+    }
 
-pub returns-in-Mov-clause-addresses : goal.returns-in-Mov-clause-addresses
-returns-in-Mov-clause-addresses g c = All-cons (λ (a : ℕ). a < c.args.size) c.plus-next.result [] c.plus-next.ensures.below (All-nil (λ (a : ℕ). a < c.args.size))
+-- ---- what the arms require
 
-pub returns-in-Jmp-clause-addresses : goal.returns-in-Jmp-clause-addresses
-returns-in-Jmp-clause-addresses g c = All-cons (λ (a : ℕ). a < c.args.size) c.args.a.pointer [] c.requires.a (All-nil (λ (a : ℕ). a < c.args.size))
+pub calculates-requires : goal.calculates-requires
+calculates-requires g c = record { core = c.requires.core; pc = c.requires.pc; a_numbers = c.requires.a_numbers; b = c.requires.b; b_numbers = c.requires.b_numbers }
 
-pub returns-in-Nop-clause-addresses : goal.returns-in-Nop-clause-addresses
-returns-in-Nop-clause-addresses g c = All-cons (λ (a : ℕ). a < c.args.size) c.plus-next.result [] c.plus-next.ensures.below (All-nil (λ (a : ℕ). a < c.args.size))
+pub calculates-requires-in-Sub : goal.calculates-requires-in-Sub
+calculates-requires-in-Sub g c = record { core = c.requires.core; pc = c.requires.pc; a_numbers = c.requires.a_numbers; b = c.requires.b; b_numbers = c.requires.b_numbers }
 
-pub returns-in-Spl-clause-addresses : goal.returns-in-Spl-clause-addresses
-returns-in-Spl-clause-addresses g c = All-cons (λ (a : ℕ). a < c.args.size) c.plus-next.result (c.args.a.pointer ∷ []) c.plus-next.ensures.below (All-cons (λ (a : ℕ). a < c.args.size) c.args.a.pointer [] c.requires.a (All-nil (λ (a : ℕ). a < c.args.size)))
+pub calculates-requires-in-Mul : goal.calculates-requires-in-Mul
+calculates-requires-in-Mul g c = record { core = c.requires.core; pc = c.requires.pc; a_numbers = c.requires.a_numbers; b = c.requires.b; b_numbers = c.requires.b_numbers }
+
+pub calculates-requires-in-Div : goal.calculates-requires-in-Div
+calculates-requires-in-Div g c = record { core = c.requires.core; pc = c.requires.pc; a_numbers = c.requires.a_numbers; b = c.requires.b; b_numbers = c.requires.b_numbers }
+
+pub calculates-requires-in-Mdl : goal.calculates-requires-in-Mdl
+calculates-requires-in-Mdl g c = record { core = c.requires.core; pc = c.requires.pc; a_numbers = c.requires.a_numbers; b = c.requires.b; b_numbers = c.requires.b_numbers }
+
+pub copy_to-requires : goal.copy_to-requires
+copy_to-requires g c = record { core = c.requires.core; a = c.requires.a_numbers; address = c.requires.b }
+
+pub cell-target-requires : goal.cell-target-requires
+cell-target-requires g c = record { core = c.requires.core; address = c.requires.b }
+
+pub all_lowered-requires : goal.all_lowered-requires
+all_lowered-requires g c = record { some = omega (arith, c.requires.wide); target = c.cell-target.ensures.numbers }
+
+pub put-requires : goal.put-requires
+put-requires g c = record { core = c.requires.core; address = c.requires.b; numbers = c.all_lowered.ensures.numbers }
+
+pub fall_to_zero-requires : goal.fall_to_zero-requires
+fall_to_zero-requires g c = record { some = omega (arith, c.requires.wide); b = c.requires.b_numbers }
+
+pub jump_where-requires : goal.jump_where-requires
+jump_where-requires g c = record { pc = c.requires.pc; a = c.requires.a }
+
+pub jump_where-requires-in-Jmn : goal.jump_where-requires-in-Jmn
+jump_where-requires-in-Jmn g c = record { pc = c.requires.pc; a = c.requires.a }
+
+pub jump_where-requires-in-Djn : goal.jump_where-requires-in-Djn
+jump_where-requires-in-Djn g c = record { pc = c.requires.pc; a = c.requires.a }
+
+pub skip_where-requires : goal.skip_where-requires
+skip_where-requires g c = record { wide = c.requires.wide; pc = c.requires.pc }
+
+pub skip_where-requires-in-Sne : goal.skip_where-requires-in-Sne
+skip_where-requires-in-Sne g c = record { wide = c.requires.wide; pc = c.requires.pc }
+
+pub skip_where-requires-in-Slt : goal.skip_where-requires-in-Slt
+skip_where-requires-in-Slt g c = record { wide = c.requires.wide; pc = c.requires.pc }
+
+pub plus-next-requires : goal.plus-next-requires
+plus-next-requires g c = record { m = c.requires.pc; n = omega (arith, c.requires.wide) }

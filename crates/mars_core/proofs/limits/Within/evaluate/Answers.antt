@@ -1,4 +1,4 @@
-use Rattle.std.proofs.Common.{◌≡◌, ◌∙◌, ℕ, List, sym, ap, ◌<◌, subst}
+use Rattle.std.proofs.Common.{◌≡◌, ◌∙◌, ℕ, List, sym, ap, ◌<◌, subst, arith}
 use Rattle.war_types.specs.declared.instr.Instr.{Instr}
 use Rattle.war_types.specs.declared.instr.Mode.{Mode}
 use Rattle.mars_core.specs.Cells.{Field}
@@ -10,84 +10,119 @@ by_arm : (reach : Reach) (core : List Instr) (pc number : ℕ) (mode arm : Mode)
 unfolding operand
 by_arm reach core pc number mode arm e is made = ap (λ (m : Mode). by_mode reach core pc m (pointed reach number)) is ∙ made
 
-pub returns-in-Immediate-clause-value : goal.returns-in-Immediate-clause-value
-returns-in-Immediate-clause-value g c =
-    by_arm _ _ _ _ _ _ _ c.in-Immediate.is
-    (ap (λ (o : Operand). evaluated o c.args.core.now) (sym c.found.ensures.value))
+pub returns-in-Immediate : goal.returns-in-Immediate
+returns-in-Immediate g c =
+    record {
+      value = by_arm _ _ _ _ _ _ _ c.in-Immediate.is
+          (ap (λ (o : Operand). evaluated o c.args.core.now) (sym c.found.ensures.value));
+      core = c.requires.core;
+      pointer = c.found.ensures.pointer;
+      target = c.found.ensures.target;
+      register = c.found.ensures.register;
+    }
 
-pub returns-in-Direct-clause-value : goal.returns-in-Direct-clause-value
-returns-in-Direct-clause-value g c =
-    by_arm _ _ _ _ _ _ _ c.in-Direct.is
-    (ap (λ (p : Pointers). evaluated (found_from c.args.self c.args.core.now c.args.pc p) c.args.core.now) (sym c.pointed-p.ensures.value) ∙ ap (λ (o : Operand). evaluated o c.args.core.now) (sym c.found-in-Direct.ensures.value))
+pub returns-in-Direct : goal.returns-in-Direct
+returns-in-Direct g c =
+    record {
+      value = by_arm _ _ _ _ _ _ _ c.in-Direct.is
+          (ap (λ (p : Pointers). evaluated (found_from c.args.self c.args.core.now c.args.pc p) c.args.core.now) (sym c.pointed-p.ensures.value) ∙ ap (λ (o : Operand). evaluated o c.args.core.now) (sym c.found-in-Direct.ensures.value));
+      core = c.requires.core;
+      pointer = c.found-in-Direct.ensures.pointer;
+      target = c.found-in-Direct.ensures.target;
+      register = c.found-in-Direct.ensures.register;
+    }
 
-pub returns-in-AIndirect-clause-value : goal.returns-in-AIndirect-clause-value
-returns-in-AIndirect-clause-value g c =
-    by_arm _ _ _ _ _ _ _ c.in-AIndirect.is
-    (ap (λ (p : Pointers). evaluated (indirect c.args.self c.args.core.now c.args.pc Field.A p) c.args.core.now) (sym c.pointed-p.ensures.value) ∙ ap (λ (o : Operand). evaluated o c.args.core.now) (sym c.indirect.ensures.value))
+pub returns-in-AIndirect : goal.returns-in-AIndirect
+returns-in-AIndirect g c =
+    record {
+      value = by_arm _ _ _ _ _ _ _ c.in-AIndirect.is
+          (ap (λ (p : Pointers). evaluated (indirect c.args.self c.args.core.now c.args.pc Field.A p) c.args.core.now) (sym c.pointed-p.ensures.value) ∙ ap (λ (o : Operand). evaluated o c.args.core.now) (sym c.indirect.ensures.value));
+      core = c.requires.core;
+      pointer = c.indirect.ensures.pointer;
+      target = c.indirect.ensures.target;
+      register = c.indirect.ensures.register;
+    }
 
-pub returns-in-BIndirect-clause-value : goal.returns-in-BIndirect-clause-value
-returns-in-BIndirect-clause-value g c =
-    by_arm _ _ _ _ _ _ _ c.in-BIndirect.is
-    (ap (λ (p : Pointers). evaluated (indirect c.args.self c.args.core.now c.args.pc Field.B p) c.args.core.now) (sym c.pointed-p.ensures.value) ∙ ap (λ (o : Operand). evaluated o c.args.core.now) (sym c.indirect-in-BIndirect.ensures.value))
+pub returns-in-BIndirect : goal.returns-in-BIndirect
+returns-in-BIndirect g c =
+    record {
+      value = by_arm _ _ _ _ _ _ _ c.in-BIndirect.is
+          (ap (λ (p : Pointers). evaluated (indirect c.args.self c.args.core.now c.args.pc Field.B p) c.args.core.now) (sym c.pointed-p.ensures.value) ∙ ap (λ (o : Operand). evaluated o c.args.core.now) (sym c.indirect-in-BIndirect.ensures.value));
+      core = c.requires.core;
+      pointer = c.indirect-in-BIndirect.ensures.pointer;
+      target = c.indirect-in-BIndirect.ensures.target;
+      register = c.indirect-in-BIndirect.ensures.register;
+    }
 
-pub returns-in-APre-clause-value : goal.returns-in-APre-clause-value
-returns-in-APre-clause-value g c =
-    by_arm _ _ _ _ _ _ _ c.in-APre.is
-    (ap (λ (p : Pointers). predecremented c.args.self c.args.core.now c.args.pc Field.A p) (sym c.pointed-p.ensures.value) ∙ c.predecremented.ensures.value)
+pub returns-in-APre : goal.returns-in-APre
+returns-in-APre g c =
+    record {
+      value = by_arm _ _ _ _ _ _ _ c.in-APre.is
+          (ap (λ (p : Pointers). predecremented c.args.self c.args.core.now c.args.pc Field.A p) (sym c.pointed-p.ensures.value) ∙ c.predecremented.ensures.value);
+      core = c.predecremented.ensures.core;
+      pointer = c.predecremented.ensures.pointer;
+      target = c.predecremented.ensures.target;
+      register = c.predecremented.ensures.register;
+    }
 
-pub returns-in-BPre-clause-value : goal.returns-in-BPre-clause-value
-returns-in-BPre-clause-value g c =
-    by_arm _ _ _ _ _ _ _ c.in-BPre.is
-    (ap (λ (p : Pointers). predecremented c.args.self c.args.core.now c.args.pc Field.B p) (sym c.pointed-p.ensures.value) ∙ c.predecremented-in-BPre.ensures.value)
+pub returns-in-BPre : goal.returns-in-BPre
+returns-in-BPre g c =
+    record {
+      value = by_arm _ _ _ _ _ _ _ c.in-BPre.is
+          (ap (λ (p : Pointers). predecremented c.args.self c.args.core.now c.args.pc Field.B p) (sym c.pointed-p.ensures.value) ∙ c.predecremented-in-BPre.ensures.value);
+      core = c.predecremented-in-BPre.ensures.core;
+      pointer = c.predecremented-in-BPre.ensures.pointer;
+      target = c.predecremented-in-BPre.ensures.target;
+      register = c.predecremented-in-BPre.ensures.register;
+    }
 
-pub returns-in-APost-clause-value : goal.returns-in-APost-clause-value
-returns-in-APost-clause-value g c =
-    by_arm _ _ _ _ _ _ _ c.in-APost.is
-    (ap (λ (p : Pointers). postincremented c.args.self c.args.core.now c.args.pc Field.A p) (sym c.pointed-p.ensures.value) ∙ c.postincremented.ensures.value)
+pub returns-in-APost : goal.returns-in-APost
+returns-in-APost g c =
+    record {
+      value = by_arm _ _ _ _ _ _ _ c.in-APost.is
+          (ap (λ (p : Pointers). postincremented c.args.self c.args.core.now c.args.pc Field.A p) (sym c.pointed-p.ensures.value) ∙ c.postincremented.ensures.value);
+      core = c.postincremented.ensures.core;
+      pointer = c.postincremented.ensures.pointer;
+      target = c.postincremented.ensures.target;
+      register = c.postincremented.ensures.register;
+    }
 
-pub returns-in-BPost-clause-value : goal.returns-in-BPost-clause-value
-returns-in-BPost-clause-value g c =
-    by_arm _ _ _ _ _ _ _ c.in-BPost.is
-    (ap (λ (p : Pointers). postincremented c.args.self c.args.core.now c.args.pc Field.B p) (sym c.pointed-p.ensures.value) ∙ c.postincremented-in-BPost.ensures.value)
+pub returns-in-BPost : goal.returns-in-BPost
+returns-in-BPost g c =
+    record {
+      value = by_arm _ _ _ _ _ _ _ c.in-BPost.is
+          (ap (λ (p : Pointers). postincremented c.args.self c.args.core.now c.args.pc Field.B p) (sym c.pointed-p.ensures.value) ∙ c.postincremented-in-BPost.ensures.value);
+      core = c.postincremented-in-BPost.ensures.core;
+      pointer = c.postincremented-in-BPost.ensures.pointer;
+      target = c.postincremented-in-BPost.ensures.target;
+      register = c.postincremented-in-BPost.ensures.register;
+    }
 
-pub found-requires-in-Direct-clause-read : goal.found-requires-in-Direct-clause-read
-found-requires-in-Direct-clause-read g c = subst (λ (n : ℕ). c.pointed-p.result.read < n) c.requires.size c.pointed-p.ensures.read
+-- ---- what the arms require
 
-pub found-requires-in-Direct-clause-write : goal.found-requires-in-Direct-clause-write
-found-requires-in-Direct-clause-write g c = subst (λ (n : ℕ). c.pointed-p.result.write < n) c.requires.size c.pointed-p.ensures.write
+below : (n size bound : ℕ) → size ≡ bound → n < size → n < bound
+below n size bound is less = subst (λ (m : ℕ). n < m) is less
 
-pub indirect-requires-clause-read : goal.indirect-requires-clause-read
-indirect-requires-clause-read g c = subst (λ (n : ℕ). c.pointed-p.result.read < n) c.requires.size c.pointed-p.ensures.read
+pub found-requires : goal.found-requires
+found-requires g c = record { size = c.requires.size; core = c.requires.core; pc = c.requires.pc; read = omega (arith, c.requires.pc); write = omega (arith, c.requires.pc) }
 
-pub indirect-requires-clause-write : goal.indirect-requires-clause-write
-indirect-requires-clause-write g c = subst (λ (n : ℕ). c.pointed-p.result.write < n) c.requires.size c.pointed-p.ensures.write
+pub found-requires-in-Direct : goal.found-requires-in-Direct
+found-requires-in-Direct g c = record { size = c.requires.size; core = c.requires.core; pc = c.requires.pc; read = below _ _ _ c.requires.size c.pointed-p.ensures.read; write = below _ _ _ c.requires.size c.pointed-p.ensures.write }
 
-pub indirect-requires-in-BIndirect-clause-read : goal.indirect-requires-in-BIndirect-clause-read
-indirect-requires-in-BIndirect-clause-read g c = subst (λ (n : ℕ). c.pointed-p.result.read < n) c.requires.size c.pointed-p.ensures.read
+pub indirect-requires : goal.indirect-requires
+indirect-requires g c = record { size = c.requires.size; core = c.requires.core; pc = c.requires.pc; read = below _ _ _ c.requires.size c.pointed-p.ensures.read; write = below _ _ _ c.requires.size c.pointed-p.ensures.write }
 
-pub indirect-requires-in-BIndirect-clause-write : goal.indirect-requires-in-BIndirect-clause-write
-indirect-requires-in-BIndirect-clause-write g c = subst (λ (n : ℕ). c.pointed-p.result.write < n) c.requires.size c.pointed-p.ensures.write
+pub indirect-requires-in-BIndirect : goal.indirect-requires-in-BIndirect
+indirect-requires-in-BIndirect g c = record { size = c.requires.size; core = c.requires.core; pc = c.requires.pc; read = below _ _ _ c.requires.size c.pointed-p.ensures.read; write = below _ _ _ c.requires.size c.pointed-p.ensures.write }
 
-pub predecremented-requires-clause-read : goal.predecremented-requires-clause-read
-predecremented-requires-clause-read g c = subst (λ (n : ℕ). c.pointed-p.result.read < n) c.requires.size c.pointed-p.ensures.read
+pub predecremented-requires : goal.predecremented-requires
+predecremented-requires g c = record { size = c.requires.size; core = c.requires.core; pc = c.requires.pc; read = below _ _ _ c.requires.size c.pointed-p.ensures.read; write = below _ _ _ c.requires.size c.pointed-p.ensures.write }
 
-pub predecremented-requires-clause-write : goal.predecremented-requires-clause-write
-predecremented-requires-clause-write g c = subst (λ (n : ℕ). c.pointed-p.result.write < n) c.requires.size c.pointed-p.ensures.write
+pub predecremented-requires-in-BPre : goal.predecremented-requires-in-BPre
+predecremented-requires-in-BPre g c = record { size = c.requires.size; core = c.requires.core; pc = c.requires.pc; read = below _ _ _ c.requires.size c.pointed-p.ensures.read; write = below _ _ _ c.requires.size c.pointed-p.ensures.write }
 
-pub predecremented-requires-in-BPre-clause-read : goal.predecremented-requires-in-BPre-clause-read
-predecremented-requires-in-BPre-clause-read g c = subst (λ (n : ℕ). c.pointed-p.result.read < n) c.requires.size c.pointed-p.ensures.read
+pub postincremented-requires : goal.postincremented-requires
+postincremented-requires g c = record { size = c.requires.size; core = c.requires.core; pc = c.requires.pc; read = below _ _ _ c.requires.size c.pointed-p.ensures.read; write = below _ _ _ c.requires.size c.pointed-p.ensures.write }
 
-pub predecremented-requires-in-BPre-clause-write : goal.predecremented-requires-in-BPre-clause-write
-predecremented-requires-in-BPre-clause-write g c = subst (λ (n : ℕ). c.pointed-p.result.write < n) c.requires.size c.pointed-p.ensures.write
-
-pub postincremented-requires-clause-read : goal.postincremented-requires-clause-read
-postincremented-requires-clause-read g c = subst (λ (n : ℕ). c.pointed-p.result.read < n) c.requires.size c.pointed-p.ensures.read
-
-pub postincremented-requires-clause-write : goal.postincremented-requires-clause-write
-postincremented-requires-clause-write g c = subst (λ (n : ℕ). c.pointed-p.result.write < n) c.requires.size c.pointed-p.ensures.write
-
-pub postincremented-requires-in-BPost-clause-read : goal.postincremented-requires-in-BPost-clause-read
-postincremented-requires-in-BPost-clause-read g c = subst (λ (n : ℕ). c.pointed-p.result.read < n) c.requires.size c.pointed-p.ensures.read
-
-pub postincremented-requires-in-BPost-clause-write : goal.postincremented-requires-in-BPost-clause-write
-postincremented-requires-in-BPost-clause-write g c = subst (λ (n : ℕ). c.pointed-p.result.write < n) c.requires.size c.pointed-p.ensures.write
+pub postincremented-requires-in-BPost : goal.postincremented-requires-in-BPost
+postincremented-requires-in-BPost g c = record { size = c.requires.size; core = c.requires.core; pc = c.requires.pc; read = below _ _ _ c.requires.size c.pointed-p.ensures.read; write = below _ _ _ c.requires.size c.pointed-p.ensures.write }
