@@ -1,4 +1,4 @@
-use Rattle.std.proofs.Common.{◌≡◌, ℕ, List, ap, ap₂, ◌∙◌, sym, Bool, true, false, ◌&&◌}
+use Rattle.std.proofs.Common.{◌≡◌, ℕ, List, ap, ap₂, ◌∙◌, sym, Bool, true, false, ◌&&◌, refl}
 use Rattle.war_types.specs.declared.instr.Instr.{Instr}
 use Rattle.mars_core.specs.Operand.{Operand, Evaluated, evaluated}
 use Rattle.mars_core.specs.Whole.{operand}
@@ -6,7 +6,11 @@ use Rattle.mars_core.specs.Code.{Operands, evaluated_both, operand_of, whole_ope
 use Rattle.mars_core.specs.Words.{is_plain}
 use Rattle.mars_core.proofs.operand.whole_operands.Goals as goal
 
--- of two tests that both hold the second one holds
+-- of two tests that both hold each one holds
+first-holds : (a b both : Bool) → both ≡ (a && b) → both ≡ true → a ≡ true
+first-holds true b both e t = refl
+first-holds false b both e t = sym e ∙ t
+
 second-holds : (a b both : Bool) → both ≡ (a && b) → both ≡ true → b ≡ true
 second-holds true b both e t = sym e ∙ t
 second-holds false b both e t = cc
@@ -45,3 +49,6 @@ evaluate-a-requires-clause-number g c = c.number-else-is_plain.ensures.below c.a
 
 pub evaluate-b-requires-clause-number : goal.evaluate-b-requires-clause-number
 evaluate-b-requires-clause-number g c = c.number-else-is_plain-2.ensures.below c.args.size c.requires.numbers
+
+pub plain-a-requires-clause-plain : goal.plain-a-requires-clause-plain
+plain-a-requires-clause-plain g c = ap is_plain c.a_mode.ensures ∙ first-holds _ _ _ c.is_plain.ensures c.if-is_plain.true

@@ -48,8 +48,52 @@ returns-clause-addresses g c =
     All-eight (λ (a : ℕ). a < c.args.size) _ _ _ _ _ _ _ _ c.requires.pc c.plus-2.ensures.below c.plus-3.ensures.below c.led_on.ensures.below c.led_on-2.ensures.below c.led_on-3.ensures.below c.led_on-4.ensures.below
     c.led_on-5.ensures.below
 
-pub plus-more-requires-clause-m : goal.plus-more-requires-clause-m
-plus-more-requires-clause-m g c = c.number-number.ensures.below c.args.size c.cell-through.ensures.numbers
+-- ---- what the calls require
 
-pub minus-less-requires-clause-m : goal.minus-less-requires-clause-m
-minus-less-requires-clause-m g c = c.number-number.ensures.below c.args.size c.cell-through.ensures.numbers
+pub cell-i-requires : goal.cell-i-requires
+cell-i-requires g c = record { core = c.requires.core; address = c.requires.pc }
+
+pub folded-a-requires : goal.folded-a-requires
+folded-a-requires g c = record { least = c.requires.write_least; most = c.requires.write_most }
+
+pub folded-b-requires : goal.folded-b-requires
+folded-b-requires g c = record { least = c.requires.write_least; most = c.requires.write_most }
+
+pub plus-requires : goal.plus-requires
+plus-requires g c = record { m = c.requires.pc; n = omega (arith, c.folded-b.ensures.below) }
+
+pub cell-through-requires : goal.cell-through-requires
+cell-through-requires g c = record { core = c.requires.core; address = c.plus.ensures.below }
+
+pub plus-more-requires : goal.plus-more-requires
+plus-more-requires g c = record { m = c.number-number.ensures.below c.args.size c.cell-through.ensures.numbers; n = c.requires.core.some }
+
+pub minus-less-requires : goal.minus-less-requires
+minus-less-requires g c = record { m = c.number-number.ensures.below c.args.size c.cell-through.ensures.numbers; n = c.requires.core.some }
+
+pub plus-requires-2 : goal.plus-requires-2
+plus-requires-2 g c = record { m = c.requires.pc; n = omega (arith, c.folded-a.ensures.below) }
+
+pub plus-requires-3 : goal.plus-requires-3
+plus-requires-3 g c = record { m = c.requires.pc; n = omega (arith, c.folded-b.ensures.below) }
+
+pub led_on-requires : goal.led_on-requires
+led_on-requires g c = record { pc = c.requires.pc; write_least = c.requires.write_least; write_most = c.requires.write_most }
+
+pub led_on-requires-2 : goal.led_on-requires-2
+led_on-requires-2 g c = record { pc = c.requires.pc; write_least = c.requires.write_least; write_most = c.requires.write_most }
+
+pub led_on-requires-3 : goal.led_on-requires-3
+led_on-requires-3 g c = record { pc = c.requires.pc; write_least = c.requires.write_least; write_most = c.requires.write_most }
+
+pub led_on-requires-4 : goal.led_on-requires-4
+led_on-requires-4 g c = record { pc = c.requires.pc; write_least = c.requires.write_least; write_most = c.requires.write_most }
+
+pub led_on-requires-5 : goal.led_on-requires-5
+led_on-requires-5 g c = record { pc = c.requires.pc; write_least = c.requires.write_least; write_most = c.requires.write_most }
+
+pub minus-requires : goal.minus-requires
+minus-requires g c = record { m = c.plus-more.ensures.below; n = c.requires.core.some }
+
+pub minus-requires-2 : goal.minus-requires-2
+minus-requires-2 g c = record { m = c.minus-less.ensures.below; n = c.requires.core.some }

@@ -1,15 +1,22 @@
-use Rattle.std.proofs.Common.{◌≡◌, false, sym, subst}
-use Rattle.mars_core.specs.Round.{Round, is_over}
+use Rattle.std.proofs.Common.{◌≡◌, false, sym, subst, ℕ, ◌≤◌, ap, subst₂, ◌∙◌, arith}
+use Rattle.mars_core.specs.Cells.{IsCore}
+use Rattle.mars_core.specs.Operand.{Reach}
+use Rattle.mars_core.specs.Round.{Round, is_over, IsQueue}
 use Rattle.mars_core.specs.Arena.{round_in}
 use Rattle.mars_core.proofs.Turns.{both_sides_live}
 use Rattle.mars_core.proofs.arena.Arena.turns_under.Goals as goal
 
-pub turns-played-requires-clause-first_lives : goal.turns-played-requires-clause-first_lives
-turns-played-requires-clause-first_lives g c =
+pub turns-played-requires : goal.turns-played-requires
+turns-played-requires g c =
     let a = c.self.inside in
-    (both_sides_live (round_in a.settings a.core a.first.addresses a.second.addresses a.to_move a.used) (subst (λ (r : Round). is_over r ≡ false) (sym c.self.view_is) c.requires.on)).0
-
-pub turns-played-requires-clause-second_lives : goal.turns-played-requires-clause-second_lives
-turns-played-requires-clause-second_lives g c =
-    let a = c.self.inside in
-    (both_sides_live (round_in a.settings a.core a.first.addresses a.second.addresses a.to_move a.used) (subst (λ (r : Round). is_over r ≡ false) (sym c.self.view_is) c.requires.on)).1
+    let size : a.settings.core ≡ c.of.result = sym (c.of.ensures ∙ c.core.ensures.value) in
+    let lives = both_sides_live (round_in a.settings a.core a.first.addresses a.second.addresses a.to_move a.used) (subst (λ (r : Round). is_over r ≡ false) (sym c.self.view_is) c.requires.on) in
+    record {
+      wide = subst (λ (n : ℕ). 2 ≤ n) size (omega (arith, c.core.ensures.settings.core_least));
+      size = ap (λ (r : Reach). r.size) (sym c.requires.limits) ∙ (ap (λ (r : Round). r.settings.core) (sym c.self.view_is) ∙ size);
+      core = subst (λ (n : ℕ). IsCore n a.core) size c.self.invariant.round.core;
+      first = subst₂ (λ (n limit : ℕ). IsQueue n limit a.first.addresses) size (sym c.self.invariant.first_limit) c.self.invariant.round.first;
+      second = subst₂ (λ (n limit : ℕ). IsQueue n limit a.second.addresses) size (sym c.self.invariant.second_limit) c.self.invariant.round.second;
+      first_lives = lives.0;
+      second_lives = lives.1;
+    }

@@ -1,4 +1,4 @@
-use Rattle.std.proofs.Common.{◌≡◌, ℕ, ◌+◌, sym, ap, ap₂, ◌∙◌}
+use Rattle.std.proofs.Common.{◌≡◌, ℕ, ◌+◌, sym, ap, ap₂, ◌∙◌, ◌≤◌, subst, arith}
 use Rattle.mars_core.specs.Cells.{cell, number, plus}
 use Rattle.mars_core.specs.Operand.{Reach, folded, pointers, found_from}
 use Rattle.mars_core.specs.Code.{field_of}
@@ -20,3 +20,24 @@ returns-clause-value g c =
     ∙ ap₂ (λ (r w : ℕ). found_from c.args.self core pc (pointers r w))
     (c.folded.ensures.value ∙ (λ t. folded (size t) (read_limit t) (c.args.p.read + read t)))
     (c.folded-2.ensures.value ∙ (λ t. folded (size t) (write_limit t) (c.args.p.write + write t)))
+
+pub cell-requires : goal.cell-requires
+cell-requires g c = record { core = c.requires.core; address = c.plus.ensures.below }
+
+pub cell-requires-2 : goal.cell-requires-2
+cell-requires-2 g c = record { core = c.requires.core; address = c.plus-2.ensures.below }
+
+pub plus-requires : goal.plus-requires
+plus-requires g c = record { m = c.requires.pc; n = omega (arith, c.requires.read) }
+
+pub plus-requires-2 : goal.plus-requires-2
+plus-requires-2 g c = record { m = c.requires.pc; n = omega (arith, c.requires.write) }
+
+pub folded-requires : goal.folded-requires
+folded-requires g c = record { least = c.self.invariant.read_least; most = subst (λ (n : ℕ). c.self.inside.read ≤ n) (ap (λ (r : Reach). r.size) c.self.view_is ∙ c.requires.size) c.self.invariant.read_most }
+
+pub folded-requires-2 : goal.folded-requires-2
+folded-requires-2 g c = record { least = c.self.invariant.write_least; most = subst (λ (n : ℕ). c.self.inside.write ≤ n) (ap (λ (r : Reach). r.size) c.self.view_is ∙ c.requires.size) c.self.invariant.write_most }
+
+pub found-requires : goal.found-requires
+found-requires g c = record { size = c.requires.size; core = c.requires.core; pc = c.requires.pc; read = c.folded.ensures.below; write = c.folded-2.ensures.below }
