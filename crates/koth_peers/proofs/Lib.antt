@@ -1,4 +1,5 @@
 mod Answering
+mod FirstDue
 mod Lengths
 mod Past
 mod PeerRows
