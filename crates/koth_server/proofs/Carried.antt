@@ -23,7 +23,7 @@ use Rattle.koth_server.specs.Audit.{EndsAudit}
 use Rattle.koth_server.specs.Migration.{SaysMigrated}
 use Rattle.koth_server.specs.Page.{SaysPage}
 use Rattle.koth_words.specs.Options.{number_or, settings_in}
-use Rattle.koth_server.specs.Run.{EndsRequest, EndsWithout, viewed}
+use Rattle.koth_server.specs.Run.{CommandEnds, EndsRequest, EndsWithout, viewed}
 use Rattle.koth_words.specs.Words.{AsksBy, IsRefusal, IsSource, given_in, is_input, matches_in, view_in}
 use Rattle.koth_commands.specs.declared.failure.Failure.TheVariants as failures
 use Rattle.koth_server.specs.declared.hill_fault.HillFault.TheVariants.{Failed}
@@ -120,6 +120,35 @@ pub asm_no_word : (source : Source) (r : Result RawSettings SettingsFault) (stat
     → status ≢ WordFault
 asm_no_word source r status before after ends is =
     asm_word (is_of_input source) r before after (subst (λ t. EndsAsmFrom source r t before after) is ends)
+
+given_word : (ends : RawSettings → Status → Streams → Streams → Type 0) (r : Result RawSettings SettingsFault) (before after : Streams)
+    → ((s : RawSettings) → ends s WordFault before after → ⊥) → EndsGiven ends r WordFault before after → ⊥
+given_word ends (Ok s) before after never ended = never s ended
+given_word ends (Err fault) before after never ended = ended
+
+-- nor do `check`, `fight` and `replay`
+pub check_no_word : (count : ℕ) (r : Result RawSettings SettingsFault) (status : Status) (before after : Streams) → EndsCheck count r status before after
+    → status ≢ WordFault
+check_no_word count r status before after ends is =
+    given_word (λ s end u v. EndsCheckUnder s count end u.output v.output u.errors v.errors) r before after (λ s ended. ended)
+    (subst (λ t. EndsCheck count r t before after) is ends)
+
+pub fight_no_word : (view : View) (r : Result RawSettings SettingsFault) (status : Status) (before after : Streams) → EndsFight view r status before after
+    → status ≢ WordFault
+fight_no_word view r status before after ends is =
+    given_word (λ s end u v. EndsFightUnder s view end u.output v.output u.errors v.errors) r before after (λ s ended. ended)
+    (subst (λ t. EndsFight view r t before after) is ends)
+
+pub replay_no_word : (round : ℕ) (r : Result RawSettings SettingsFault) (status : Status) (before after : Streams) → EndsReplay round r status before after
+    → status ≢ WordFault
+replay_no_word round r status before after ends is =
+    given_word (λ s end u v. EndsReplayUnder s round end u.output v.output u.errors v.errors) (with_round round r) before after (λ s ended. ended)
+    (subst (λ t. EndsReplay round r t before after) is ends)
+
+-- a request that is asked for ends as its command does
+pub request_ends : (view : View) (request asked : Request) (status : Status) (before after : Streams) → request ≡ asked
+    → CommandEnds view asked status before after → status ≢ WordFault → EndsRequest view request status before after
+request_ends view request asked status before after is ends words = subst (λ r. EndsRequest view r status before after) (sym is) (ends, words)
 
 -- ---- no request: lack of memory keeps a command whose arguments are taken from its beginning
 

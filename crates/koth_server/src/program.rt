@@ -62,7 +62,7 @@ where
         (streams (I.remaining input.new) (O.contents output.new) (E.contents errors.new)) }
 {
     match parse(heap, words) {
-        Ok(request) => fulfil(rt, alloc, request, view, input, output, errors),
+        Ok(request) => fulfil(rt, alloc, &request, view, input, output, errors),
         Err(none) => answer_without(alloc, none, output, errors),
     }
 }
@@ -71,7 +71,7 @@ where
 fn fulfil<R: Files + Net + Clock, A: Allocator + Copy, I: Read, O: Write, E: Write>(
     rt: &R,
     alloc: A,
-    request: Request<'_>,
+    request: &Request<'_>,
     view: View,
     input: &mut I,
     output: &mut O,
@@ -79,13 +79,13 @@ fn fulfil<R: Files + Net + Clock, A: Allocator + Copy, I: Read, O: Write, E: Wri
 ) -> Status
 where
     R::File: TryLock,
-    ensures { EndsRequest view request.entry result
+    ensures { EndsRequest view request.now result
         (streams (I.remaining input.old) (O.contents output.old) (E.contents errors.old))
         (streams (I.remaining input.new) (O.contents output.new) (E.contents errors.new)) }
 {
-    match request {
+    match *request {
         Request::Asm(given, source) => asm(rt, alloc, given, source, input, output, errors),
-        Request::Check(given, checked) => check(rt, alloc, given, &checked, output, errors),
+        Request::Check(given, ref checked) => check(rt, alloc, given, checked, output, errors),
         Request::Fight(given, files) => fight(
             rt,
             alloc,

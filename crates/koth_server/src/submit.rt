@@ -40,19 +40,38 @@ where
         (streams None (O.contents output.new) (E.contents errors.new)) }
     ensures words { result ≢ Status.WordFault }
 {
-    let mut store = match open_hill(rt, alloc, files.hill, Sharing::Alone) {
-        Ok(store) => store,
-        Err(trouble) => return trouble.tell(alloc, errors),
-    };
-    let text = match read_source(rt, alloc, files.source) {
-        Ok(text) => text,
-        Err(trouble) => return HillTrouble::from_source(trouble).tell(alloc, errors),
-    };
-    let source = Source {
-        path: files.source,
-        text: text.as_slice(),
-    };
-    submit_opened(alloc, &mut store, source, view, output, errors)
+    match open_hill(rt, alloc, files.hill, Sharing::Alone) {
+        Ok(mut store) => submit_file(rt, alloc, &mut store, files.source, view, output, errors),
+        Err(trouble) => trouble.tell(alloc, errors),
+    }
+}
+
+/// Submits the source in a file to a store that was just opened, and then writes the reply.
+fn submit_file<R: Files, D: Device, A: Allocator + Copy, O: Write, E: Write>(
+    rt: &R,
+    alloc: A,
+    store: &mut Store<D, A>,
+    path: &str,
+    view: View,
+    output: &mut O,
+    errors: &mut E,
+) -> Status
+    requires { store.old.reopen ≡ false }
+    ensures ends { EndsSubmit view result
+        (streams None (O.contents output.old) (E.contents errors.old))
+        (streams None (O.contents output.new) (E.contents errors.new)) }
+    ensures words { result ≢ Status.WordFault }
+{
+    match read_source(rt, alloc, path) {
+        Ok(text) => {
+            let source = Source {
+                path,
+                text: text.as_slice(),
+            };
+            submit_opened(alloc, store, source, view, output, errors)
+        }
+        Err(trouble) => HillTrouble::from_source(trouble).tell(alloc, errors),
+    }
 }
 
 /// A source, and the path of its file.

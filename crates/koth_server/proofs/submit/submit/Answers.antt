@@ -1,4 +1,4 @@
--- If the hill or the source can't be read, nothing is written.
+-- If the hill can't be opened, nothing is written.
 use Rattle.std.proofs.Common.{inr}
 use Rattle.koth_server.specs.Hills.{SaysReply}
 use Rattle.koth_server.proofs.Said.{nothing}
@@ -10,12 +10,4 @@ returns-in-Err-clause-ends g c = inr record {
   ends = c.tell.ensures.status;
   output = nothing (SaysReply c.args.view) c.in-Err.trouble.fault _;
   told = c.tell.ensures.told;
-}
-
-pub returns-in-Err-read_source-clause-ends : goal.returns-in-Err-read_source-clause-ends
-returns-in-Err-read_source-clause-ends g c = inr record {
-  fault = c.from_source.result.fault;
-  ends = c.tell-in-Err-read_source.ensures.status;
-  output = nothing (SaysReply c.args.view) c.from_source.result.fault _;
-  told = c.tell-in-Err-read_source.ensures.told;
 }

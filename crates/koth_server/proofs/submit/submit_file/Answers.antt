@@ -1,0 +1,13 @@
+-- If the source can't be read, nothing is written.
+use Rattle.std.proofs.Common.{inr}
+use Rattle.koth_server.specs.Hills.{SaysReply}
+use Rattle.koth_server.proofs.Said.{nothing}
+use Rattle.koth_server.proofs.submit.submit_file.Goals as goal
+
+pub returns-in-Err-clause-ends : goal.returns-in-Err-clause-ends
+returns-in-Err-clause-ends g c = inr record {
+  fault = c.from_source.result.fault;
+  ends = c.tell.ensures.status;
+  output = nothing (SaysReply c.args.view) c.from_source.result.fault _;
+  told = c.tell.ensures.told;
+}
