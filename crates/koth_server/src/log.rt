@@ -65,15 +65,12 @@ impl<'r, R: Clock> Log<'r, R> {
         peer: SocketAddr,
         event: Event<'_>,
     ) -> Result<String<A>, AllocError> {
-        let time = self.seconds();
-        match event {
-            Event::Connected => format!(in alloc; "{} {}: connected\n", time, peer),
-            Event::Answered(line) => {
-                let line = str::from_utf8(line).unwrap_or("answered");
-                format!(in alloc; "{} {}: {}\n", time, peer, line)
-            }
-            Event::Ended(how) => format!(in alloc; "{} {}: {}\n", time, peer, end_text(how)),
-        }
+        let what = match event {
+            Event::Connected => "connected",
+            Event::Answered(line) => str::from_utf8(line).unwrap_or("answered"),
+            Event::Ended(how) => end_text(how),
+        };
+        format!(in alloc; "{} {}: {}\n", self.seconds(), peer, what)
     }
 
     fn address_line<A: Allocator>(

@@ -133,7 +133,10 @@ where
 {
     match announced(host.rt, host.alloc, service, sockets, output) {
         Ok(()) => serve_announced(host, service, store, sockets, errors),
-        Err(trouble) => trouble.tell(host.alloc, errors),
+        Err(trouble) => {
+            drop(store);
+            trouble.tell(host.alloc, errors)
+        }
     }
 }
 
@@ -271,10 +274,9 @@ fn trouble_at<'f, R: Files + Clock, A: Allocator + Copy>(
 where
     R::File: TryLock,
 {
-    match open_hill(host.rt, host.alloc, host.path, Sharing::Alone) {
-        Ok(_store) => HillTrouble::of(host.path, fault),
-        Err(trouble) => trouble,
-    }
+    open_hill(host.rt, host.alloc, host.path, Sharing::Alone)
+        .err()
+        .unwrap_or(HillTrouble::of(host.path, fault))
 }
 
 fn listening_line(port: u16) -> Line
