@@ -1,9 +1,11 @@
 //! Growths that are refused: which calls take memory, how often, and which need none.
 
+use crate::expecting::expect_same;
+use crate::hill::challenge;
 use koth_hill::Hill;
 use koth_match::fight;
 use mars_core::{Arena, Outcome, Side};
-use std::alloc::Global;
+use std::alloc::{AllocError, Global};
 use std::fmt::Debug;
 use std::process::Abort;
 use tests_fixtures::{IMP, Refusing, SMALL, STAY, refuse_each, warrior};
@@ -18,17 +20,28 @@ fn check_growth<T: Debug + PartialEq>(
 ) {
     match found {
         Some(found) => {
-            assert_eq!(rt; memory.refused(), 0);
-            assert_eq!(rt; found, due);
+            expect_refused(rt, memory, 0);
+            expect_same(rt, found, due, "with memory");
         }
-        None => assert_eq!(rt; memory.refused(), 1),
+        None => expect_refused(rt, memory, 1),
     }
+}
+
+/// `count` growths were refused.
+fn expect_refused(rt: &impl Abort, memory: &Refusing<Global>, count: u64) {
+    expect_same(rt, &memory.refused(), &count, "growths refused");
 }
 
 /// How a round ends in a new arena, if there is memory for one.
 fn played(memory: &Refusing<Global>, settings: &Settings) -> Option<Outcome> {
-    let mut arena = Arena::new(memory, settings).ok()?;
-    Some(arena.play())
+    match Arena::new(memory, settings) {
+        Ok(mut arena) => {
+            let outcome = arena.play();
+            drop(arena);
+            Some(outcome)
+        }
+        Err(AllocError) => None,
+    }
 }
 
 /// Its cells, the list of those that were written, and two queues.
@@ -39,7 +52,8 @@ fn a_new_arena(rt: HostRuntime) {
     let runs = refuse_each(&memory, |_k| {
         check_growth(&rt, &memory, &played(&memory, &settings), &Outcome::Tie)
     });
-    assert_eq!(rt; runs, 5);
+    drop(memory);
+    expect_same(&rt, &runs, &5, "runs");
 }
 
 #[test]
@@ -54,15 +68,25 @@ fn matches_and_rounds_need_none(rt: HostRuntime) {
     let bout = fight(&mut arena, &older, &younger, &settings);
     arena.begin(&older, &younger, 20, Side::First);
     arena.turn();
-    assert_eq!(rt; arena.play(), Outcome::Tie);
-    assert_eq!(rt; bout.ties, 2);
-    assert_eq!(rt; memory.refused(), 0);
+    let outcome = arena.play();
+    drop(arena);
+    drop(younger);
+    drop(older);
+    let found = (outcome, bout.ties, memory.refused());
+    drop(memory);
+    expect_same(&rt, &found, &(Outcome::Tie, 2, 0), "without memory");
 }
 
 /// The counter of a new hill whose counter is this, if there is memory for one.
 fn counted(memory: &Refusing<Global>, settings: Settings, counter: u64) -> Option<u64> {
-    let hill = Hill::with_counter(memory, settings, counter).ok()?;
-    Some(hill.counter())
+    match Hill::with_counter(memory, settings, counter) {
+        Ok(hill) => {
+            let counter = hill.counter();
+            drop(hill);
+            Some(counter)
+        }
+        Err(AllocError) => None,
+    }
 }
 
 #[test]
@@ -72,7 +96,8 @@ fn a_new_hill(rt: HostRuntime) {
     let runs = refuse_each(&memory, |_k| {
         check_growth(&rt, &memory, &counted(&memory, settings, 7), &7)
     });
-    assert_eq!(rt; runs, 2);
+    drop(memory);
+    expect_same(&rt, &runs, &2, "runs");
 }
 
 /// A hill of one warrior, on which nobody has a point.
@@ -81,17 +106,21 @@ fn hill_of_one(rt: &(impl Abort + AllocGlobal)) -> Hill<Global> {
     let mut hill = Hill::new(rt.alloc(), settings).expect(rt, "there is memory");
     let mut arena = Arena::new(rt.alloc(), &settings).expect(rt, "there is memory");
     let only = warrior(rt.alloc(), &[IMP], &settings).expect(rt, "it fits");
-    let verdict = hill.judge(&mut arena, &only);
-    if verdict.stays {
-        hill.admit(only, &verdict);
-    }
+    drop(challenge(rt, &mut hill, &mut arena, only));
+    drop(arena);
     hill
 }
 
 /// How many rows its table has, if there is memory for it.
 fn rows_of(memory: &Refusing<Global>, hill: &Hill<Global>) -> Option<usize> {
-    let rows = hill.rows(memory).ok()?;
-    Some(rows.len())
+    match hill.rows(memory) {
+        Ok(rows) => {
+            let count = rows.len();
+            drop(rows);
+            Some(count)
+        }
+        Err(AllocError) => None,
+    }
 }
 
 #[test]
@@ -101,5 +130,7 @@ fn a_table(rt: HostRuntime) {
     let runs = refuse_each(&memory, |_k| {
         check_growth(&rt, &memory, &rows_of(&memory, &hill), &1)
     });
-    assert_eq!(rt; runs, 2);
+    drop(hill);
+    drop(memory);
+    expect_same(&rt, &runs, &2, "runs");
 }

@@ -1,8 +1,10 @@
-ghost use Rattle.std.specs.Prelude.{◌≡◌, ◌+◌};
+ghost use Rattle.std.specs.Prelude.{◌≡◌, ◌+◌, ◌<◌, All};
+ghost use Rattle.koth_hill.specs.Hill.{last_entry};
 ghost use Rattle.koth_match.specs.Match.{rounds_in};
 ghost use Rattle.war_types.specs.Warrior.{Fits};
 
-use koth_hill::{Hill, Verdict};
+use crate::expecting::expect_same;
+use koth_hill::{Hill, Row, Verdict};
 use koth_match::Bout;
 use mars_core::Arena;
 use std::alloc::Global;
@@ -20,7 +22,7 @@ fn small(rt: &impl Abort, capacity: u32) -> Settings {
 }
 
 /// Judges a warrior, and lets it in or counts it.
-fn challenge(
+pub(crate) fn challenge(
     rt: &impl Abort,
     hill: &mut Hill<Global>,
     arena: &mut Arena<Global>,
@@ -124,20 +126,21 @@ fn check_verdicts(
         let found = challenge(rt, hill, arena, challenger);
         let told = what_was_told(&found);
         drop(found);
-        assert_eq!(rt; told, *due);
+        expect_same(rt, &told, due, "what is told");
     }
 }
 
 /// The rows have this entry, score and age each.
 fn check_rows(rt: &(impl Abort + AllocGlobal), hill: &Hill<Global>, due: &[(u64, u32, u64)]) {
     let rows = table(rt, hill);
-    expect_table(rt, rows.as_slice(), due);
+    expect_same(rt, &rows.as_slice(), &due, "the table");
     drop(rows);
-    assert_eq!(rt; hill.len(), due.len());
+    expect_same(rt, &hill.len(), &due.len(), "warriors");
 }
 
-fn expect_table(rt: &impl Abort, found: &[(u64, u32, u64)], due: &[(u64, u32, u64)]) {
-    assert_eq!(rt; found, due);
+/// The hill has judged `count` warriors.
+fn expect_counter(rt: &impl Abort, hill: &Hill<Global>, count: u64) {
+    expect_same(rt, &hill.counter(), &count, "warriors that were judged");
 }
 
 /// A hill of these settings judges warriors of one instruction each as it is due, and then has these rows.
@@ -150,7 +153,7 @@ fn check_hill(
     let mut arena = Arena::new(rt.alloc(), &settings).expect(rt, "there is memory");
     let mut hill = Hill::new(rt.alloc(), settings).expect(rt, "there is memory");
     check_verdicts(rt, &mut hill, &mut arena, submitted);
-    assert_eq!(rt; hill.counter(), submitted.len() as u64);
+    expect_counter(rt, &hill, submitted.len() as u64);
     check_rows(rt, &hill, rows);
     drop(hill);
     drop(arena);
@@ -202,6 +205,30 @@ fn the_largest_hill(rt: HostRuntime) {
     check_hill(&rt, settings, &LARGEST_HILL, &rows);
 }
 
+/// Puts a warrior of one instruction back on a hill: its entry, its age, and its results against those before it.
+#[tactic(auto, using(crate::proofs::Put::last_entry_push))]
+pub(crate) fn put(
+    rt: &(impl Abort + AllocGlobal),
+    hill: &mut Hill<Global>,
+    entry: u64,
+    age: u64,
+    code: Instr,
+    bouts: &[Bout],
+)
+    requires entry { last_entry hill.old.members < entry }
+    requires rounds { All (λ b. rounds_in b ≡ hill.old.settings.rounds) bouts.now }
+    ensures last { last_entry hill.new.members ≡ entry }
+    ensures settings { hill.new.settings ≡ hill.old.settings }
+{
+    let settings = *hill.settings();
+    let (counter, count) = (hill.counter(), hill.len());
+    assert!(rt; count < usize::from(settings.capacity()), "it has a place");
+    assert!(rt; bouts.len() == count, "it has a result against each");
+    assert!(rt; entry <= counter && age <= counter - entry, "it is counted");
+    let warrior = warrior(rt.alloc(), &[code], &settings).expect(rt, "it fits");
+    hill.put_back(entry, age, warrior, bouts);
+}
+
 /// A hill of two with the entries 2, which waits, and 5, which dies at once, of five ever judged, and this result of the two.
 fn hill_put_back(rt: &(impl Abort + AllocGlobal), kept: Bout) -> Hill<Global>
     requires { rounds_in kept ≡ 2 }
@@ -212,28 +239,32 @@ fn hill_put_back(rt: &(impl Abort + AllocGlobal), kept: Bout) -> Hill<Global>
         settings.capacity() == 2 && settings.rounds() == 2 && settings.core() == 64,
         "a hill of two"
     );
-    let first = warrior(rt.alloc(), &[STAY], &settings).expect(rt, "it fits");
-    let second = warrior(rt.alloc(), &[DIE], &settings).expect(rt, "it fits");
     let mut hill = Hill::with_counter(rt.alloc(), settings, 5).expect(rt, "there is memory");
-    hill.put_back(2, 3, first, &[]);
-    hill.put_back(5, 0, second, &[kept]);
+    put(rt, &mut hill, 2, 3, STAY, &[]);
+    put(rt, &mut hill, 5, 0, DIE, &[kept]);
     hill
+}
+
+/// There are two rows, with the name of the first warrior and the author of the second.
+fn check_titles(rt: &impl Abort, rows: &[Row<'_>]) {
+    assert!(rt; rows.len() == 2);
+    let names = (rows[0].name.bytes(), rows[1].author.bytes());
+    let due = (b"Imp".as_slice(), b"A. K. Dewdney".as_slice());
+    expect_same(rt, &names, &due, "names");
 }
 
 fn check_names(rt: &(impl Abort + AllocGlobal), hill: &Hill<Global>) {
     let rows = hill.rows(rt.alloc()).expect(rt, "there is memory");
-    assert_eq!(rt; rows.len(), 2);
-    let names = (rows[0].name.bytes(), rows[1].author.bytes());
-    assert_eq!(rt; names, (b"Imp".as_slice(), b"A. K. Dewdney".as_slice()));
+    check_titles(rt, rows.as_slice());
     drop(rows);
 }
 
 fn check_members(rt: &impl Abort, hill: &Hill<Global>) {
     let member = hill.member(1).expect(rt, "it is there");
-    assert_eq!(rt; (member.entry, member.age), (5, 0));
-    assert_eq!(rt; member.warrior.code(), [DIE].as_slice());
+    let found = (member.entry, member.age, member.warrior.code());
+    expect_same(rt, &found, &(5, 0, [DIE].as_slice()), "the second");
     assert!(rt; hill.member(2).is_none());
-    assert_eq!(rt; hill.counter(), 5);
+    expect_counter(rt, hill, 5);
 }
 
 #[test]
@@ -256,7 +287,8 @@ fn results_of_pairs(rt: HostRuntime) {
         hill.bout(2, 4),
     ];
     drop(hill);
-    assert_eq!(rt; found, [Some(bout(2, 0, 0)), None, None, None]);
+    let due = [Some(bout(2, 0, 0)), None, None, None];
+    expect_same(&rt, &found, &due, "results");
 }
 
 /// A table goes by what is kept, and an audit says whether the fights agree.
@@ -269,7 +301,7 @@ fn check_audit(rt: &(impl Abort + AllocGlobal), kept: Bout, rows: &[(u64, u32, u
     let found = hill.audit(&mut arena);
     drop(arena);
     drop(hill);
-    assert_eq!(rt; found, is_true);
+    expect_same(rt, &found, &is_true, "an audit");
 }
 
 #[test]
@@ -287,14 +319,16 @@ fn check_results(
     of_five: Option<Bout>,
     of_two: Option<Bout>,
 ) {
-    assert_eq!(rt; hill.bout(5, 6), of_five);
-    assert_eq!(rt; hill.bout(2, 6), of_two);
+    let found = (hill.bout(5, 6), hill.bout(2, 6));
+    expect_same(rt, &found, &(of_five, of_two), "results");
 }
 
 /// What the challenger of such a hill is told, and its results against the two.
 fn check_challenge(rt: &impl Abort, found: &Verdict) {
-    assert_eq!(rt; what_was_told(found), stayed!(6, Some(2), 6, 1));
-    assert_eq!(rt; found.bouts(), [bout(0, 0, 2), bout(0, 2, 0)].as_slice());
+    let told = (what_was_told(found), found.bouts());
+    let bouts = [bout(0, 0, 2), bout(0, 2, 0)];
+    let due = (stayed!(6, Some(2), 6, 1), bouts.as_slice());
+    expect_same(rt, &told, &due, "what is told");
 }
 
 /// A challenger is judged by what is kept of the others: the one that waits is said to have lost, and falls.

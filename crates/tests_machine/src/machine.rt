@@ -1,3 +1,4 @@
+use crate::expecting::expect_same;
 use mars_core::{Arena, Outcome, Side, Turned};
 use std::alloc::Global;
 use std::process::Abort;
@@ -89,21 +90,26 @@ fn wrong_process(arena: &Arena<Global>, due: &[u16]) -> Option<u32> {
 }
 
 fn check_process(rt: &impl Abort, arena: &Arena<Global>, side: Side, i: u32, due: Option<u16>) {
-    assert_eq!(rt; arena.process(side, i), due, "process {i}");
+    expect_same(
+        rt,
+        &arena.process(side, i),
+        &due,
+        format_args!("process {i}"),
+    );
 }
 
 fn check_count(rt: &impl Abort, arena: &Arena<Global>, side: Side, due: usize) {
-    assert_eq!(rt; arena.processes(side) as usize, due);
+    expect_same(rt, &(arena.processes(side) as usize), &due, "processes");
 }
 
 /// The next turn is one like this.
 fn check_next(rt: &impl Abort, arena: &mut Arena<Global>, due: Turned) {
-    assert_eq!(rt; arena.turn(), due);
+    expect_same(rt, &arena.turn(), &due, "the next turn");
 }
 
 /// The round, played to its end, ends like this.
 fn check_outcome(rt: &impl Abort, arena: &mut Arena<Global>, due: Outcome) {
-    assert_eq!(rt; arena.play(), due);
+    expect_same(rt, &arena.play(), &due, "the end");
 }
 
 /// The core has these cells and none after them, the first side this queue, and the second its one process.
@@ -114,23 +120,28 @@ fn check_left(
     left: &[Instr],
     queue: &[u16],
 ) {
-    assert_eq!(rt; wrong_cell(arena, left), None, "{code:?}");
+    let wrong = (wrong_cell(arena, left), wrong_process(arena, queue));
+    expect_same(rt, &wrong, &(None, None), format_args!("{code:?}"));
     assert!(rt; arena.cell(64).is_none());
-    assert_eq!(rt; wrong_process(arena, queue), None, "{code:?}");
     check_count(rt, arena, Side::First, queue.len());
     check_count(rt, arena, Side::Second, 1);
     check_process(rt, arena, Side::Second, 0, Some(32));
 }
 
-/// One turn of this code leaves these cells, none after them, and this queue.
-fn check_turn(rt: &(impl Abort + AllocGlobal), code: &[Instr], left: &[Instr], queue: &[u16]) {
-    let mut arena = arena_of(rt, code);
-    let due = if queue.is_empty() {
+/// What a turn is that leaves this queue.
+fn turned_to(queue: &[u16]) -> Turned {
+    if queue.is_empty() {
         Turned::Died
     } else {
         Turned::Went
-    };
-    assert_eq!(rt; arena.turn(), due, "{code:?}");
+    }
+}
+
+/// One turn of this code leaves these cells, none after them, and this queue.
+fn check_turn(rt: &(impl Abort + AllocGlobal), code: &[Instr], left: &[Instr], queue: &[u16]) {
+    let mut arena = arena_of(rt, code);
+    let turned = arena.turn();
+    expect_same(rt, &turned, &turned_to(queue), format_args!("{code:?}"));
     check_left(rt, &arena, code, left, queue);
     drop(arena);
 }

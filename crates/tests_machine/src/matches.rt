@@ -1,35 +1,51 @@
+use crate::expecting::expect_same;
 use koth_match::{fight, next_seed, position};
 use mars_core::Arena;
 use std::process::Abort;
 use tests_fixtures::{
-    BACK, DIE, IMP, LARGEST, SMALL, STAY, USUAL, dat, instruction, small, warrior,
+    BACK, DIE, IMP, LARGEST, SMALL, STAY, USUAL, dat, instruction, rows, small, warrior,
 };
 use war_types::{Instr, RawSettings, Settings};
 
 #[test]
 fn seeds_follow_one_another(rt: HostRuntime) {
-    assert_eq!(rt; next_seed(1), 16_807);
-    assert_eq!(rt; next_seed(16_807), 282_475_249);
-    assert_eq!(rt; next_seed(2_147_483_646), 2_147_466_840);
+    let found = [next_seed(1), next_seed(16_807), next_seed(2_147_483_646)];
+    let due = [16_807, 282_475_249, 2_147_466_840];
+    expect_same(&rt, &found, &due, "the next seeds");
     let mut seed = 1;
     for _ in 0..10_000 {
         seed = next_seed(seed);
     }
-    assert_eq!(rt; seed, 1_043_618_065);
+    expect_same(&rt, &seed, &1_043_618_065, "the seed after 10,000");
+}
+
+/// Settings that leave one place to the younger.
+const ONLY: RawSettings = small!(distance: 32);
+
+/// Settings, a seed, and the place of the younger by it.
+const POSITIONS: [(RawSettings, u32, u16); 10] = rows! {
+    USUAL => 1, 101;
+    USUAL => 16_807, 1305;
+    USUAL => 282_475_249, 1139;
+    SMALL => 1, 11;
+    SMALL => 16_807, 32;
+    ONLY => 1, 32;
+    ONLY => 2, 32;
+    ONLY => 16_807, 32;
+    ONLY => 282_475_249, 32;
+    ONLY => 2_147_483_646, 32;
+};
+
+fn check_position(rt: &impl Abort, raw: RawSettings, seed: u32, due: u16) {
+    let settings = Settings::new(raw).expect(rt, "they are settings");
+    let found = position(seed, &settings);
+    expect_same(rt, &found, &due, format_args!("seed {seed}"));
 }
 
 #[test]
 fn positions(rt: HostRuntime) {
-    let usual = Settings::new(USUAL).expect(&rt, "they are settings");
-    assert_eq!(rt; position(1, &usual), 101);
-    assert_eq!(rt; position(16_807, &usual), 1305);
-    assert_eq!(rt; position(282_475_249, &usual), 1139);
-    let small = Settings::new(SMALL).expect(&rt, "they are settings");
-    assert_eq!(rt; position(1, &small), 11);
-    assert_eq!(rt; position(16_807, &small), 32);
-    let only = Settings::new(small!(distance: 32)).expect(&rt, "they are settings");
-    for seed in [1, 2, 16_807, 282_475_249, 2_147_483_646] {
-        assert_eq!(rt; position(seed, &only), 32, "seed {seed}");
+    for (raw, seed, due) in &POSITIONS {
+        check_position(&rt, *raw, *seed, *due);
     }
 }
 
@@ -52,14 +68,15 @@ fn bout_of(
     drop(arena);
     drop(younger);
     drop(older);
-    assert_eq!(rt; first, again, "a match is the same again");
+    expect_same(rt, &first, &again, "a match is the same again");
     (first.older_wins, first.younger_wins, first.ties)
 }
 
 /// Two warriors of one instruction each, the older first, have this result.
 fn check_bout(rt: &(impl Abort + AllocGlobal), codes: &[Instr; 2], raw: RawSettings, due: Counts) {
     let [older, younger] = *codes;
-    assert_eq!(rt; bout_of(rt, &[older], &[younger], raw), due, "{codes:?}");
+    let found = bout_of(rt, &[older], &[younger], raw);
+    expect_same(rt, &found, &due, format_args!("{codes:?}"));
 }
 
 /// The older and the younger, the rounds, and their result.
@@ -120,7 +137,7 @@ const UNDER_LIMITS: [(u32, u32, Counts); 7] = [
 fn check_dropping(rt: &(impl Abort + AllocGlobal), read_limit: u32, write_limit: u32, due: Counts) {
     let raw = small!(distance: 32, read_limit: read_limit, write_limit: write_limit);
     let found = bout_of(rt, &DROPPING, &[STAY], raw);
-    assert_eq!(rt; found, due, "{read_limit} {write_limit}");
+    expect_same(rt, &found, &due, format_args!("{read_limit} {write_limit}"));
 }
 
 /// A warrior that drops a bomb on each fourth cell, against one that stays where it is, 32 cells ahead of it. Without limits the seventh

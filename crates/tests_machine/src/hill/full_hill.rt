@@ -33,7 +33,26 @@ fn dwarf(step: u16) -> [Instr; 4] {
     code
 }
 
-/// What `entry` earns in a fight with `other`, the earlier one loaded at address 0.
+/// The fight of two of them, the earlier one loaded at address 0.
+fn fought(
+    rt: &(impl Abort + AllocGlobal),
+    arena: &mut Arena<Global>,
+    settings: &Settings,
+    earlier: u16,
+    later: u16,
+) -> Bout
+    requires { arena.old.settings ≡ settings.now }
+    ensures { arena.new.settings ≡ arena.old.settings }
+{
+    let older = one_of_many(rt, earlier, settings);
+    let younger = one_of_many(rt, later, settings);
+    let bout = fight(arena, &older, &younger, settings);
+    drop(younger);
+    drop(older);
+    bout
+}
+
+/// What `entry` earns in a fight with `other`.
 fn earned_from(
     rt: &(impl Abort + AllocGlobal),
     arena: &mut Arena<Global>,
@@ -44,15 +63,13 @@ fn earned_from(
     requires { arena.old.settings ≡ settings.now }
     ensures { arena.new.settings ≡ arena.old.settings }
 {
-    let own = one_of_many(rt, entry, settings);
-    let others = one_of_many(rt, other, settings);
-    if entry < other {
-        let bout = fight(arena, &own, &others, settings);
-        3 * u32::from(bout.older_wins) + u32::from(bout.ties)
+    let bout = fought(rt, arena, settings, entry.min(other), entry.max(other));
+    let wins = if entry < other {
+        bout.older_wins
     } else {
-        let bout = fight(arena, &others, &own, settings);
-        3 * u32::from(bout.younger_wins) + u32::from(bout.ties)
-    }
+        bout.younger_wins
+    };
+    3 * u32::from(wins) + u32::from(bout.ties)
 }
 
 /// What `entry` earns against all others of the 21 but the one that is left out.
@@ -108,7 +125,26 @@ fn as_earned(
         let points = earned(rt, arena, hill.settings(), entry, left_out);
         as_earned = as_earned && row.1 == points;
     }
+    drop(rows);
     as_earned
+}
+
+/// The warrior that falls to this one, if one does, and whether this one stays.
+fn falls_to(
+    rt: &(impl Abort + AllocGlobal),
+    hill: &mut Hill<Global>,
+    arena: &mut Arena<Global>,
+    entry: u16,
+) -> (Option<u64>, bool)
+    requires { arena.old.settings ≡ hill.old.settings }
+    ensures arena { arena.new.settings ≡ arena.old.settings }
+    ensures hill { hill.new.settings ≡ hill.old.settings }
+{
+    let challenger = one_of_many(rt, entry, hill.settings());
+    let found = challenge(rt, hill, arena, challenger);
+    let told = (found.falls, found.stays);
+    drop(found);
+    told
 }
 
 /// The first 20 stay on a hill of 20, and what the 21st makes of it is what single fights give.
@@ -120,14 +156,11 @@ fn check_full_hill(
     requires { arena.old.settings ≡ hill.old.settings }
 {
     for entry in 1..=20 {
-        let challenger = one_of_many(rt, entry, hill.settings());
-        let found = challenge(rt, hill, arena, challenger);
-        assert!(rt; found.stays);
+        assert!(rt; falls_to(rt, hill, arena, entry).1);
     }
-    let last = one_of_many(rt, 21, hill.settings());
-    let found = challenge(rt, hill, arena, last);
+    let found = falls_to(rt, hill, arena, 21).0;
     let falls = lowest(rt, arena, hill.settings());
-    assert_eq!(rt; found.falls, Some(u64::from(falls)));
+    expect_same(rt, &found, &Some(u64::from(falls)), "what falls");
     assert!(rt; as_earned(rt, arena, hill, falls));
 }
 
@@ -137,4 +170,6 @@ fn a_hill_of_20_and_one_more(rt: HostRuntime) {
     let mut arena = Arena::new(rt.alloc(), &settings).expect(&rt, "there is memory");
     let mut hill = Hill::new(rt.alloc(), settings).expect(&rt, "there is memory");
     check_full_hill(&rt, &mut hill, &mut arena);
+    drop(hill);
+    drop(arena);
 }

@@ -3,14 +3,15 @@
 ghost use Rattle.std.specs.Prelude.{◌≡◌};
 ghost use Rattle.koth_match.specs.Match.{rounds_in};
 
-use crate::hill::{bout, hill_put_back, small};
+use crate::expecting::expect_same;
+use crate::hill::{bout, hill_put_back, put, small};
 use Rounds::{Even, Lost, Tied, Won};
 use koth_hill::{Hill, Untrue};
 use koth_match::Bout;
 use mars_core::Arena;
 use std::alloc::Global;
 use std::process::Abort;
-use tests_fixtures::{DIE, STAY, rows, warrior};
+use tests_fixtures::{DIE, STAY, rows};
 
 /// The result of two rounds for the older: both won, one each, both lost, or one won and a tie.
 #[derive(Clone, Copy)]
@@ -42,16 +43,12 @@ fn hill_of_four(rt: &(impl Abort + AllocGlobal), kept: [Rounds; 6]) -> Hill<Glob
         settings.capacity() == 4 && settings.rounds() == 2 && settings.core() == 64,
         "a hill of four"
     );
-    let first = warrior(rt.alloc(), &[STAY], &settings).expect(rt, "it fits");
-    let second = warrior(rt.alloc(), &[DIE], &settings).expect(rt, "it fits");
-    let third = warrior(rt.alloc(), &[DIE], &settings).expect(rt, "it fits");
-    let fourth = warrior(rt.alloc(), &[DIE], &settings).expect(rt, "it fits");
     let mut hill = Hill::with_counter(rt.alloc(), settings, 9).expect(rt, "there is memory");
     let [a, b, c, d, e, f] = kept;
-    hill.put_back(2, 3, first, &[]);
-    hill.put_back(5, 2, second, &[counts(a)]);
-    hill.put_back(7, 1, third, &[counts(b), counts(c)]);
-    hill.put_back(9, 0, fourth, &[counts(d), counts(e), counts(f)]);
+    put(rt, &mut hill, 2, 3, STAY, &[]);
+    put(rt, &mut hill, 5, 2, DIE, &[counts(a)]);
+    put(rt, &mut hill, 7, 1, DIE, &[counts(b), counts(c)]);
+    put(rt, &mut hill, 9, 0, DIE, &[counts(d), counts(e), counts(f)]);
     hill
 }
 
@@ -71,7 +68,7 @@ fn check_four(rt: &(impl Abort + AllocGlobal), kept: [Rounds; 6], due: Option<Un
     let found = (hill.first_untrue(&mut arena), hill.audit(&mut arena));
     drop(arena);
     drop(hill);
-    assert_eq!(rt; found, (due, due.is_none()));
+    expect_same(rt, &found, &(due, due.is_none()), "the first and an audit");
 }
 
 /// Results, and the first that isn't true: its two entries, the older first, and what is kept of them, and what was fought.
@@ -122,5 +119,5 @@ fn tie_in_place_of_a_win(rt: HostRuntime) {
     let found = hill.first_untrue(&mut arena);
     drop(arena);
     drop(hill);
-    assert_eq!(rt; found, untrue(2, 5, Tied, Won));
+    expect_same(&rt, &found, &untrue(2, 5, Tied, Won), "the first");
 }

@@ -1,5 +1,7 @@
 //! What is left in a core of the rounds before, and rounds in the largest core.
 
+ghost use Rattle.std.specs.Prelude.{◌≡◌, ◌+◌, ◌≤◌};
+
 use super::*;
 use koth_match::fight;
 use tests_fixtures::{LARGEST, SMALL, small};
@@ -24,18 +26,38 @@ fn left_over(arena: &Arena<Global>, core: u16, cells: [(u16, Instr); 2]) -> Opti
     None
 }
 
-/// The first cell that is not as a round of `DAT 1, 1` at 0 and `DAT 2, 2` at 20 begins, after two matches in the same arena.
+/// Two matches in this arena.
+fn fight_twice(rt: &(impl Abort + AllocGlobal), arena: &mut Arena<Global>, settings: &Settings)
+    requires { arena.old.settings ≡ settings.now }
+    ensures { arena.new.settings ≡ arena.old.settings }
+{
+    let older = warrior(rt.alloc(), &[IMP], settings).expect(rt, "it fits");
+    let younger = warrior(rt.alloc(), &[STAY], settings).expect(rt, "it fits");
+    fight(arena, &older, &younger, settings);
+    fight(arena, &older, &younger, settings);
+    drop(younger);
+    drop(older);
+}
+
+/// A round of `DAT 1, 1` at 0 and `DAT 2, 2` at 20 begins in this arena.
+fn begin_after(rt: &(impl Abort + AllocGlobal), arena: &mut Arena<Global>, settings: &Settings)
+    requires settings { arena.old.settings ≡ settings.now }
+    requires room { 21 ≤ settings.now.core }
+{
+    let one = warrior(rt.alloc(), &[dat!(1, 1)], settings).expect(rt, "it fits");
+    let two = warrior(rt.alloc(), &[dat!(2, 2)], settings).expect(rt, "it fits");
+    arena.begin(&one, &two, 20, Side::First);
+    drop(two);
+    drop(one);
+}
+
+/// The first cell that is not as such a round begins, after two matches in the same arena.
 fn left_of_matches(rt: &(impl Abort + AllocGlobal), raw: RawSettings) -> Option<u16> {
     let settings = Settings::new(raw).expect(rt, "they are settings");
     assert!(rt; settings.core() >= 21, "they have no room");
-    let older = warrior(rt.alloc(), &[IMP], &settings).expect(rt, "it fits");
-    let younger = warrior(rt.alloc(), &[STAY], &settings).expect(rt, "it fits");
-    let one = warrior(rt.alloc(), &[dat!(1, 1)], &settings).expect(rt, "it fits");
-    let two = warrior(rt.alloc(), &[dat!(2, 2)], &settings).expect(rt, "it fits");
     let mut arena = Arena::new(rt.alloc(), &settings).expect(rt, "there is memory");
-    fight(&mut arena, &older, &younger, &settings);
-    fight(&mut arena, &older, &younger, &settings);
-    arena.begin(&one, &two, 20, Side::First);
+    fight_twice(rt, &mut arena, &settings);
+    begin_after(rt, &mut arena, &settings);
     let left = left_over(&arena, settings.core(), [(0, dat!(1, 1)), (20, dat!(2, 2))]);
     drop(arena);
     left
@@ -43,8 +65,10 @@ fn left_of_matches(rt: &(impl Abort + AllocGlobal), raw: RawSettings) -> Option<
 
 #[test]
 fn nothing_is_left_of_a_match(rt: HostRuntime) {
-    assert_eq!(rt; left_of_matches(&rt, SMALL), None);
-    assert_eq!(rt; left_of_matches(&rt, LARGE), None);
+    for raw in [SMALL, LARGE] {
+        let left = left_of_matches(&rt, raw);
+        expect_same(&rt, &left, &None, format_args!("core of {}", raw.core));
+    }
 }
 
 const ACROSS: [(u16, Instr); 4] = [(65534, IMP), (0, IMP), (1, IMP), (2, DIE)];

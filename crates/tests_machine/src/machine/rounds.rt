@@ -40,7 +40,7 @@ fn check_round(rt: &(impl Abort + AllocGlobal), settings: &Settings, round: &Rou
     let mut arena = begun(rt, settings, [&[older], &[younger]], 10, first);
     let outcome = arena.play();
     drop(arena);
-    assert_eq!(rt; outcome, due, "{older:?} {younger:?}");
+    expect_same(rt, &outcome, &due, format_args!("{older:?} {younger:?}"));
 }
 
 #[test]

@@ -1,20 +1,12 @@
 //! Pages of hills.
-//!
-//! `hills` has hills whose results were made up, and `growths` what becomes of a text whose growths are refused. `replays` tries the events of
-//! a round's turns, and `views` the columns that people are shown of a hill.
 
-use crate::pages::growths::check_growth;
-use crate::pages::hills::{hill_of_three, ten_rounds};
+use crate::growths::check_growth;
+use crate::hills::{hill_of_three, ten_rounds};
 use koth_hill::Hill;
 use koth_page::{Links, hill_page};
 use std::alloc::Global;
 use std::process::Abort;
 use tests_fixtures::{Refusing, refuse_each};
-
-mod growths;
-mod hills;
-mod replays;
-mod views;
 
 /// Each of these stands in the page, and what isn't due doesn't.
 fn check_page(rt: &impl Abort, page: &[u8], due: &[&str], not_due: &[&str]) {

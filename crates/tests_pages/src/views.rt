@@ -1,8 +1,7 @@
 //! Texts for people.
 
-use crate::hill::bout;
-use crate::pages::growths::check_growth;
-use crate::pages::hills::{entrant, hill_of_one, hill_of_three, hill_of_two, ten_rounds};
+use crate::growths::check_growth;
+use crate::hills::{bout, entrant, hill_of_one, hill_of_three, hill_of_two, ten_rounds};
 use hill_store::Reply;
 use koth_hill::Hill;
 use koth_views::{bout_view, hill_view, matches_view, placing_view, roster};
