@@ -1,5 +1,6 @@
 //! Texts whose growths are refused in turn.
 
+use crate::expecting::expect_same;
 use std::alloc::{AllocError, Global};
 use std::process::Abort;
 use tests_fixtures::Refusing;
@@ -18,13 +19,18 @@ fn is_empty(text: Text<'_>) -> Option<bool> {
     }
 }
 
+/// `count` growths were refused.
+fn expect_refused(rt: &impl Abort, memory: &Refusing<Global>, count: u64) {
+    expect_same(rt, &memory.refused(), &count, "growths refused");
+}
+
 /// The text is there if no growth was refused, and is the error if one was.
 pub(crate) fn check_growth(rt: &impl Abort, memory: &Refusing<Global>, text: Text<'_>) {
     match is_empty(text) {
         Some(is_empty) => {
-            assert_eq!(rt; memory.refused(), 0);
+            expect_refused(rt, memory, 0);
             assert!(rt; !is_empty);
         }
-        None => assert_eq!(rt; memory.refused(), 1),
+        None => expect_refused(rt, memory, 1),
     }
 }

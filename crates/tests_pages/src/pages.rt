@@ -1,5 +1,6 @@
 //! Pages of hills.
 
+use crate::expecting::expect_same;
 use crate::growths::check_growth;
 use crate::hills::{hill_of_three, ten_rounds};
 use koth_hill::Hill;
@@ -8,17 +9,20 @@ use std::alloc::Global;
 use std::process::Abort;
 use tests_fixtures::{Refusing, refuse_each};
 
+/// Each of these parts stands in the text, or none does.
+fn check_parts(rt: &impl Abort, text: &str, parts: &[&str], stand: bool) {
+    for part in parts {
+        assert!(rt; text.contains(*part) == stand, "{part}");
+    }
+}
+
 /// Each of these stands in the page, and what isn't due doesn't.
 fn check_page(rt: &impl Abort, page: &[u8], due: &[&str], not_due: &[&str]) {
     let text = str::from_utf8(page).expect(rt, "it is text");
     assert!(rt; text.starts_with("<!DOCTYPE html>\n<html lang=\"en\">\n"));
     assert!(rt; text.ends_with("</main>\n</body>\n</html>\n"));
-    for part in due {
-        assert!(rt; text.contains(*part), "{part}");
-    }
-    for part in not_due {
-        assert!(rt; !text.contains(*part), "{part}");
-    }
+    check_parts(rt, text, due, true);
+    check_parts(rt, text, not_due, false);
 }
 
 #[test]
@@ -81,7 +85,7 @@ fn page_with_links_to_rounds(rt: HostRuntime) {
 /// A page has `count` links.
 fn check_links(rt: &impl Abort, page: &[u8], count: usize) {
     let text = str::from_utf8(page).expect(rt, "it is text");
-    assert_eq!(rt; text.matches("<a ").count(), count);
+    expect_same(rt, &text.matches("<a ").count(), &count, "links");
 }
 
 /// A name is cut to printable ASCII before it comes to a hill, so its letter of two bytes is two question marks.

@@ -3,6 +3,7 @@
 ghost use Rattle.std.specs.Prelude.{◌≡◌, ◌<◌};
 ghost use Rattle.war_types.specs.Warrior.{Fits};
 
+use crate::expecting::expect_same;
 use koth_replay::{Event, Opening, Replay, replay};
 use mars_core::{Arena, Outcome, Side};
 use std::alloc::Global;
@@ -37,11 +38,15 @@ fn replayed(
     found.expect(rt, "there is memory")
 }
 
+fn check_turn(rt: &impl Abort, found: &[Event], due: &[Event], turn: usize) {
+    expect_same(rt, &found, &due, format_args!("turn {turn}"));
+}
+
 /// There are these turns, and no others.
 fn check_turns(rt: &impl Abort, replay: &Replay<Global>, due: &[&[Event]]) {
-    assert_eq!(rt; replay.turns(), due.len());
+    assert!(rt; replay.turns() == due.len());
     for turn in 0..due.len() {
-        assert_eq!(rt; replay.events_of(turn), due[turn], "turn {turn}");
+        check_turn(rt, replay.events_of(turn), due[turn], turn);
     }
 }
 
@@ -74,14 +79,14 @@ const IMP_TURNS: [&[Event]; 4] = [
 
 /// How it begins: its opening, and what is loaded.
 fn check_opening(rt: &impl Abort, replay: &Replay<Global>, opening: Opening, loaded: &[Event]) {
-    assert_eq!(rt; replay.opening(), opening);
-    assert_eq!(rt; replay.loaded(), loaded);
+    expect_same(rt, &replay.opening(), &opening, "how it begins");
+    expect_same(rt, &replay.loaded(), &loaded, "what is loaded");
 }
 
 /// How it ends: whether turns are left out, and who has won.
 fn check_end(rt: &impl Abort, replay: &Replay<Global>, is_cut: bool, outcome: Outcome) {
-    assert_eq!(rt; replay.is_cut(), is_cut);
-    assert_eq!(rt; replay.outcome(), outcome);
+    let found = (replay.is_cut(), replay.outcome());
+    expect_same(rt, &found, &(is_cut, outcome), "how it ends");
 }
 
 #[test]
@@ -121,7 +126,7 @@ fn a_process_that_ends(rt: HostRuntime) {
 /// The same round, of two turns, has `turns` if `most` are kept at most.
 fn check_kept(rt: &(impl Abort + AllocGlobal), most: u32, turns: usize, is_cut: bool) {
     let replay = replayed(rt, [&[DIE], &[STAY]], 1, most);
-    assert_eq!(rt; replay.turns(), turns, "{most}");
+    expect_same(rt, &replay.turns(), &turns, format_args!("{most}"));
     check_end(rt, &replay, is_cut, Outcome::Second);
     drop(replay);
 }
@@ -233,18 +238,28 @@ fn turns_of(
     }
 }
 
+/// A replay has these turns if growth `k` is refused, or it has none, and one growth was refused.
+fn check_within(
+    rt: &(impl Abort + AllocGlobal),
+    memory: &Refusing<Global>,
+    settings: &Settings,
+    k: u64,
+    due: Option<usize>,
+) {
+    memory.refuse(k, 1);
+    let found = (turns_within(rt, memory, settings), memory.refused());
+    let refused = if due.is_none() { 1 } else { 0 };
+    expect_same(rt, &found, &(due, refused), format_args!("at growth {k}"));
+}
+
 /// For a round of one turn: what is loaded, the turn's events, and the list of turns.
 #[test]
 fn a_replay_takes_memory(rt: HostRuntime) {
     let memory = Refusing::new(rt.alloc());
     let settings = Settings::new(SMALL).expect(&rt, "they are settings");
     for k in 0..3 {
-        memory.refuse(k, 1);
-        assert_eq!(rt; turns_within(&rt, &memory, &settings), None);
-        assert_eq!(rt; memory.refused(), 1);
+        check_within(&rt, &memory, &settings, k, None);
     }
-    memory.refuse(3, 1);
-    assert_eq!(rt; turns_within(&rt, &memory, &settings), Some(1));
-    assert_eq!(rt; memory.refused(), 0);
+    check_within(&rt, &memory, &settings, 3, Some(1));
     drop(memory);
 }

@@ -1,5 +1,6 @@
 //! Texts for people.
 
+use crate::expecting::expect_same;
 use crate::growths::check_growth;
 use crate::hills::{bout, entrant, hill_of_one, hill_of_three, hill_of_two, ten_rounds};
 use hill_store::Reply;
@@ -18,12 +19,8 @@ fn check_lines(rt: &(impl Abort + AllocGlobal), text: &[u8], due: &[&str]) {
             .expect(rt, "there is memory");
         whole.push(b'\n').expect(rt, "there is memory");
     }
-    expect_same(rt, text, whole.as_slice());
+    expect_same(rt, &text, &whole.as_slice(), "a text");
     drop(whole);
-}
-
-fn expect_same(rt: &impl Abort, found: &[u8], due: &[u8]) {
-    assert_eq!(rt; found, due);
 }
 
 fn check_table(rt: &(impl Abort + AllocGlobal), hill: &Hill<Global>, due: &[&str]) {
