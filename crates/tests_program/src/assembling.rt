@@ -1,7 +1,8 @@
+use crate::compare::{expect, expect_count, expect_number, expect_same_bytes, expect_status};
 use crate::program::{Host, Ran, check_on, run_on, status_on};
 use koth_server::View;
 use std::process::Abort;
-use tests_fixtures::{FULL, Full, one_by_one, reader, writer};
+use tests_fixtures::{FULL, Full, FullWriter, one_by_one, reader, writer};
 
 #[test]
 fn a_warrior_is_printed(rt: HostRuntime) {
@@ -11,15 +12,20 @@ fn a_warrior_is_printed(rt: HostRuntime) {
 
 /// A source is refused so, and so much of it is not read.
 fn check_refused(rt: &impl Host, source: &[u8], output: &str, left: usize) {
-    assert_eq!(rt; check_on(rt, "koth asm", source, output, "", 1), left);
+    let found = check_on(rt, "koth asm", source, output, "", 1);
+    expect_count(rt, found, left, output);
 }
 
 #[test]
 fn refusals(rt: HostRuntime) {
+    check_refusals(&rt);
+}
+
+fn check_refusals(rt: &impl Host) {
     let long = [b'\n'; 65_537];
-    check_refused(&rt, b"", "REFUSED 0 Empty\n", 0);
-    check_refused(&rt, &long[..65_536], "REFUSED 0 Empty\n", 0);
-    check_refused(&rt, &long, "REFUSED 0 SourceTooLong\n", 0);
+    check_refused(rt, b"", "REFUSED 0 Empty\n", 0);
+    check_refused(rt, &long[..65_536], "REFUSED 0 Empty\n", 0);
+    check_refused(rt, &long, "REFUSED 0 SourceTooLong\n", 0);
 }
 
 #[test]
@@ -48,19 +54,20 @@ fn check_read(
 
 /// A run whose read failed wrote this on its output, told what begins so on its errors, and left with this status.
 fn expect_begun(rt: &impl Abort, ran: &Ran, fails_at: u64, output: &str, errors: &str, status: u8) {
-    assert_eq!(rt; ran.output.as_slice(), output.as_bytes());
-    assert!(rt; ran.errors.as_slice().starts_with(errors.as_bytes()));
-    assert_eq!(rt; ran.status, status, "at read {fails_at}");
+    let has_begun = ran.errors.as_slice().starts_with(errors.as_bytes());
+    expect_same_bytes(rt, ran.output.as_slice(), output.as_bytes());
+    expect(rt, has_begun, errors);
+    assert!(rt; ran.status == status, "at read {fails_at}");
 }
 
 /// A source that is read `most` bytes at a time, by `reads` reads, each of which fails once. The last read finds the end.
 fn check_reads(rt: &impl Host, most: usize, reads: u64) {
     for fails_at in 1..=reads {
         let made = check_read(rt, most, fails_at, "", "DISK standard input: ", 3);
-        assert_eq!(rt; made, fails_at);
+        expect_number(rt, made, fails_at, "the read that fails");
     }
     let made = check_read(rt, most, 0, "REFUSED 0 Empty\n", "", 1);
-    assert_eq!(rt; made, reads);
+    expect_number(rt, made, reads, "all reads");
 }
 
 #[test]
@@ -72,6 +79,14 @@ fn a_read_that_fails(rt: HostRuntime) {
 /// A run whose output takes `room` bytes, `most` at a time, and then is full. What it took is the answer.
 fn check_write(rt: &impl Host, line: &str, most: usize, room: usize, full: Full) -> Vec<u8> {
     let mut output = writer(rt.alloc(), most, room, full);
+    check_output(rt, line, &mut output);
+    let taken = output.taken;
+    expect_count(rt, taken.len(), room, line);
+    taken
+}
+
+/// A run tells that its output is full, and leaves with the status of that.
+fn check_output(rt: &impl Host, line: &str, output: &mut FullWriter) {
     let mut errors = Vec::new(rt.alloc());
     let status = status_on(
         rt,
@@ -79,21 +94,20 @@ fn check_write(rt: &impl Host, line: &str, most: usize, room: usize, full: Full)
         line,
         View::Plain,
         &mut b"".as_slice(),
-        &mut output,
+        output,
         &mut errors,
     );
     let is_told = errors.as_slice().starts_with(b"DISK standard output: ");
     drop(errors);
-    let taken = output.taken;
-    assert_eq!(rt; (is_told, status, taken.len()), (true, 3, room));
-    taken
+    expect(rt, is_told, line);
+    expect_status(rt, status, 3, line);
 }
 
 /// What a run for an empty source writes if its output takes `room` bytes.
 fn check_room(rt: &impl Host, most: usize, room: usize, full: Full) {
     let line = b"REFUSED 0 Empty\n".as_slice();
     let taken = check_write(rt, "koth asm", most, room, full);
-    let is_begun = line.get(..room) == Some(taken.as_slice());
+    let is_begun = line.starts_with(taken.as_slice());
     drop(taken);
     assert!(rt; is_begun, "{room}");
 }
@@ -109,9 +123,13 @@ fn check_full(rt: &impl Host, room: usize) {
 /// At each byte of the line that is due, and in the first line of the help.
 #[test]
 fn a_write_that_fails(rt: HostRuntime) {
+    check_rooms(&rt);
+}
+
+fn check_rooms(rt: &impl Host) {
     for room in 0..b"REFUSED 0 Empty\n".len() {
-        check_full(&rt, room);
-        check_write(&rt, "koth --help", usize::MAX, room, FULL[0]);
+        check_full(rt, room);
+        drop(check_write(rt, "koth --help", usize::MAX, room, FULL[0]));
     }
 }
 
@@ -142,25 +160,38 @@ fn check_lines(rt: &impl Host, count: usize, output: &str, status: u8) {
 /// The load text of lines `DAT 0`, up to the longest warrior that settings allow.
 #[test]
 fn the_longest_warrior(rt: HostRuntime) {
-    let text = text_of(&rt, "ORG 0\n", "DAT.F  $     0, $     0\n", 200, "END\n");
-    check_lines(&rt, 200, text.as_str(), 0);
-    check_lines(&rt, 201, "REFUSED 0 TooLong\n", 1);
+    check_longest(&rt);
+}
+
+fn check_longest(rt: &impl Host) {
+    let text = text_of(rt, "ORG 0\n", "DAT.F  $     0, $     0\n", 200, "END\n");
+    check_lines(rt, 200, text.as_str(), 0);
+    check_lines(rt, 201, "REFUSED 0 TooLong\n", 1);
     drop(text);
 }
 
 #[test]
 fn signals_end_no_command(rt: HostRuntime) {
+    check_signals(&rt);
+}
+
+fn check_signals(rt: &impl Host) {
     let mut input = one_by_one(b"");
     let mut output = one_by_one(b"");
+    let mut errors = Vec::new(rt.alloc());
     let status = status_on(
-        &rt,
+        rt,
         rt.alloc(),
         "koth asm",
         View::Plain,
         &mut input,
         &mut output,
-        &mut Vec::new(rt.alloc()),
+        &mut errors,
     );
-    assert_eq!(rt; status, 1);
-    assert_eq!(rt; output.written, "REFUSED 0 Empty\n".len());
+    let written = output.written;
+    drop(errors);
+    drop(output);
+    drop(input);
+    expect_status(rt, status, 1, "koth asm");
+    expect_count(rt, written, "REFUSED 0 Empty\n".len(), "koth asm");
 }

@@ -1,5 +1,6 @@
 //! Each growth of memory of a command refused in turn: it is told or answered, and with memory the command is done then.
 
+use crate::compare::{expect, expect_number, expect_same, expect_status};
 use crate::files::{exists, expect_bytes, put_bytes, read, remove};
 use crate::program::{Host, Ran, check, run_viewed, text_in};
 use crate::steps::{Step, play, small, steps};
@@ -97,16 +98,26 @@ fn check_run(
 ) -> u64 {
     let (ran, refused) = run_without(rt, memory, k, command.line, command.input);
     expect_command(rt, &ran, k, command, errors);
+    drop(ran);
     refused
 }
 
 /// A run was that of this command, and told this.
 fn expect_command(rt: &impl Abort, ran: &Ran, k: u64, command: &Command, errors: &str) {
     let output = text_in(&ran.output);
-    assert_eq!(rt; output, command.output, "{} at growth {k}", command.line);
-    assert_eq!(rt; ran.errors.is_empty(), errors.is_empty());
-    assert!(rt; ran.errors.as_slice().starts_with(errors.as_bytes()));
-    assert_eq!(rt; ran.status, command.status);
+    assert!(rt;
+        output == command.output,
+        "{} at growth {k}: {output}",
+        command.line
+    );
+    expect_errors(rt, ran.errors.as_slice(), errors);
+    expect_status(rt, ran.status, command.status, command.line);
+}
+
+/// These errors begin so, or there are none.
+fn expect_errors(rt: &impl Abort, found: &[u8], errors: &str) {
+    expect(rt, found.is_empty() == errors.is_empty(), errors);
+    expect(rt, found.starts_with(errors.as_bytes()), errors);
 }
 
 /// A command, of which growth `k` is refused, writes the one line `MEMORY` and leaves everything as it was. With memory it is done then.
@@ -130,9 +141,11 @@ fn check_refused(
         status: 4,
     };
     put_files(rt, hill);
-    assert_eq!(rt; check_run(rt, memory, k, &refused, errors), 1);
+    let refusals = check_run(rt, memory, k, &refused, errors);
+    expect_number(rt, refusals, 1, command.line);
     expect_files(rt, hill);
-    assert_eq!(rt; check_run(rt, memory, u64::MAX, command, ""), 0);
+    let refusals = check_run(rt, memory, u64::MAX, command, "");
+    expect_number(rt, refusals, 0, command.line);
 }
 
 /// Each growth of a command is refused in turn: `faults` of them as faults, and then `replies` as replies.
@@ -149,11 +162,8 @@ fn check_command(
         check_refused(rt, memory, hill, k, command, k >= faults);
     }
     put_files(rt, hill);
-    assert_eq!(rt;
-        check_run(rt, memory, growths, command, ""),
-        0,
-        "it makes {growths}"
-    );
+    let refusals = check_run(rt, memory, growths, command, "");
+    assert!(rt; refusals == 0, "it makes {growths}");
 }
 
 /// The hill with its first warrior, the source of the second, and the hill of the old format.
@@ -171,18 +181,24 @@ fn check_commands(rt: &impl Host, hill: &[u8], rows: &[Row]) {
     for (faults, replies, command) in rows {
         check_command(rt, &memory, hill, *faults, *replies, command);
     }
+    drop(memory);
 }
 
 /// The words are parsed on the program's heap, which refuses nothing here.
 #[test]
 fn of_commands(rt: HostRuntime) {
-    play(&rt, &HILLS);
-    let hill = read(&rt, HILL);
-    check_commands(&rt, hill.as_slice(), &COMMANDS);
-    put_files(&rt, hill.as_slice());
-    remove(&rt, HILL);
-    remove(&rt, OLD_HILL);
-    remove(&rt, SOURCE);
+    check_on_hills(&rt);
+}
+
+fn check_on_hills(rt: &impl Host) {
+    play(rt, &HILLS);
+    let hill = read(rt, HILL);
+    check_commands(rt, hill.as_slice(), &COMMANDS);
+    put_files(rt, hill.as_slice());
+    drop(hill);
+    remove(rt, HILL);
+    remove(rt, OLD_HILL);
+    remove(rt, SOURCE);
 }
 
 /// An explanation, of which growth `k` is refused: the refusal is answered all the same. Whether it took no more growths is the answer.
@@ -193,23 +209,30 @@ fn is_explained(rt: &impl Host, memory: &Refusing<Global>, k: u64) -> bool {
     if has_memory {
         expect_explained(rt, &ran, refused);
     }
+    drop(ran);
     has_memory && refused == 0
 }
 
 /// A run answered the refusal, and explained it if no growth was refused.
 fn expect_explained(rt: &impl Abort, ran: &Ran, refused: u64) {
-    assert_eq!(rt; text_in(&ran.output), "REFUSED 2 BadOperation\n");
-    assert_eq!(rt; ran.status, 1);
-    assert!(rt; refused > 0 || ran.errors.len() > 0);
+    let has_explanation = refused > 0 || ran.errors.len() > 0;
+    expect_same(rt, text_in(&ran.output), "REFUSED 2 BadOperation\n");
+    expect_status(rt, ran.status, 1, "koth asm");
+    expect(rt, has_explanation, "it is explained");
 }
 
 /// Each growth of an explanation is refused in turn.
 #[test]
 fn of_an_explanation(rt: HostRuntime) {
+    check_explanation(&rt);
+}
+
+fn check_explanation(rt: &impl Host) {
     let memory = Refusing::new(rt.alloc());
     let mut explained = false;
     for k in 1..1000 {
-        explained = explained || is_explained(&rt, &memory, k);
+        explained = explained || is_explained(rt, &memory, k);
     }
-    assert!(rt; explained, "it makes a thousand growths");
+    drop(memory);
+    expect(rt, explained, "it makes a thousand growths");
 }

@@ -1,3 +1,4 @@
+use crate::compare::{expect, expect_count, expect_status};
 use crate::files::{put, remove};
 use crate::program::{Host, Ran, expect_done, run_line, text_in};
 use crate::steps::{Step, play, steps};
@@ -84,15 +85,20 @@ fn the_older_source_is_refused_first(rt: HostRuntime) {
 fn check_missing(rt: &impl Host) {
     let ran = run_line(rt, small!("koth fight first.red second.red"));
     expect_missing(rt, &ran);
+    drop(ran);
 }
 
 /// A run told that a source is missing, and wrote nothing.
 fn expect_missing(rt: &impl Abort, ran: &Ran) {
-    assert_eq!(rt; ran.output.len(), 0);
-    let errors = ran.errors.as_slice();
-    assert!(rt; errors.starts_with(b"DISK "));
-    assert!(rt; errors.ends_with(b".red: no such file or folder\n"));
-    assert_eq!(rt; ran.status, 3);
+    let errors = text_in(&ran.errors);
+    expect_count(rt, ran.output.len(), 0, errors);
+    expect(rt, errors.starts_with("DISK "), errors);
+    expect(
+        rt,
+        errors.ends_with(".red: no such file or folder\n"),
+        errors,
+    );
+    expect_status(rt, ran.status, 3, errors);
 }
 
 /// The older one is missing, the younger, and both.
@@ -116,12 +122,21 @@ const THIRD: [Step; 2] = steps! {
 
 #[test]
 fn a_round_is_shown(rt: HostRuntime) {
-    put(&rt, "watched.red", ";name Watched\nMOV 0, 1\n");
+    check_round(&rt);
+}
+
+fn check_round(rt: &impl Host) {
+    put(rt, "watched.red", ";name Watched\nMOV 0, 1\n");
     let second = small!("koth replay watched.red watched.red --round=2");
-    let ran = run_line(&rt, second);
-    let page = text_in(&ran.output);
-    assert!(rt; page.starts_with("<!DOCTYPE html>"));
-    assert!(rt; page.contains("Watched"));
-    expect_done(&rt, &ran);
-    play(&rt, &THIRD);
+    let ran = run_line(rt, second);
+    expect_watched(rt, text_in(&ran.output));
+    expect_done(rt, &ran);
+    drop(ran);
+    play(rt, &THIRD);
+}
+
+/// A page that shows the warrior.
+fn expect_watched(rt: &impl Abort, page: &str) {
+    expect(rt, page.starts_with("<!DOCTYPE html>"), page);
+    expect(rt, page.contains("Watched"), page);
 }

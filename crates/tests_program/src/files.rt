@@ -1,5 +1,6 @@
 //! The files of the tests. A call that is to be done and isn't ends the test at once.
 
+use crate::compare::{expect_number, expect_same_bytes};
 use std::fs;
 use std::process::Abort;
 use std::rt::Files;
@@ -31,7 +32,9 @@ pub(crate) fn read(rt: &(impl Abort + Files + AllocGlobal), file: &str) -> Vec<u
 
 /// A file has these bytes.
 pub(crate) fn expect_bytes(rt: &(impl Abort + Files + AllocGlobal), file: &str, bytes: &[u8]) {
-    assert_eq!(rt; read(rt, file).as_slice(), bytes);
+    let found = read(rt, file);
+    expect_same_bytes(rt, found.as_slice(), bytes);
+    drop(found);
 }
 
 /// A file has the bytes of the hill of the old format.
@@ -41,10 +44,8 @@ pub(crate) fn expect_old_hill(rt: &(impl Abort + Files + AllocGlobal), file: &st
 
 /// A file has `length` bytes.
 pub(crate) fn expect_length(rt: &(impl Abort + Files), file: &str, length: u64) {
-    assert_eq!(rt;
-        fs::metadata(rt, file).expect(rt, "it is there").len(),
-        length
-    );
+    let found = fs::metadata(rt, file).expect(rt, "it is there");
+    expect_number(rt, found.len(), length, file);
 }
 
 /// Whether a file is there.
@@ -64,6 +65,7 @@ pub(crate) fn put_result(
     put_byte(rt, bytes.as_mut_slice(), 9 * 512 + 389, older);
     put_byte(rt, bytes.as_mut_slice(), 9 * 512 + 391, younger);
     put_bytes(rt, file, bytes.as_slice());
+    drop(bytes);
 }
 
 /// Puts another byte in the place of this one.

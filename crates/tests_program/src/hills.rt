@@ -2,6 +2,7 @@ use crate::files::{put_bytes, remove};
 use crate::program::{Host, check, expect_done, run_line, text_in};
 use crate::steps::{Step, check_no_hill, play, small, steps};
 use std::net::{Ipv4Addr, SocketAddr, TcpListener};
+use std::process::Abort;
 
 /// What is done in `a_hill_is_created_once`.
 const A_HILL_IS_CREATED_ONCE: [Step; 5] = steps! {
@@ -77,12 +78,17 @@ const NO_FILES: [Step; 2] = steps! {
 #[test]
 fn files_that_are_no_hills(rt: HostRuntime) {
     play(&rt, &NO_FILES);
+    check_zeros(&rt);
+}
+
+/// A file of zeros, too short for a hill and long enough.
+fn check_zeros(rt: &impl Host) {
     let zeros = [0; 1024];
-    put_bytes(&rt, "no.hill", &zeros[..512]);
-    check_no_hill(&rt, "no.hill", "TooSmall\n", 1);
-    put_bytes(&rt, "no.hill", &zeros);
-    check_no_hill(&rt, "no.hill", "NotAHill\n", 1);
-    remove(&rt, "no.hill");
+    put_bytes(rt, "no.hill", &zeros[..512]);
+    check_no_hill(rt, "no.hill", "TooSmall\n", 1);
+    put_bytes(rt, "no.hill", &zeros);
+    check_no_hill(rt, "no.hill", "NotAHill\n", 1);
+    remove(rt, "no.hill");
 }
 
 /// The port that a line names, if it names one.
@@ -91,15 +97,24 @@ fn port_in(line: &str) -> Option<u16> {
     port.parse::<u16>().ok()
 }
 
+/// A line names a port.
+fn expect_port(rt: &impl Abort, line: &str) {
+    assert!(rt; port_in(line).unwrap_or(0) > 0, "{line}");
+}
+
 #[test]
 fn the_port_is_told(rt: HostRuntime) {
+    check_told_port(&rt);
+}
+
+fn check_told_port(rt: &impl Host) {
     let create = small!("koth create told.hill");
-    check(&rt, create, "CREATED\n", "", 0);
-    let ran = run_line(&rt, "koth serve told.hill --port=0 --connections=0");
-    let line = text_in(&ran.output);
-    assert!(rt; port_in(line).unwrap_or(0) > 0, "{line}");
-    expect_done(&rt, &ran);
-    remove(&rt, "told.hill");
+    check(rt, create, "CREATED\n", "", 0);
+    let ran = run_line(rt, "koth serve told.hill --port=0 --connections=0");
+    expect_port(rt, text_in(&ran.output));
+    expect_done(rt, &ran);
+    drop(ran);
+    remove(rt, "told.hill");
 }
 
 /// A service on this port, which is in use.
@@ -108,6 +123,7 @@ fn check_port(rt: &impl Host, port: u16) {
         "koth serve in_use.hill --connections=1 --port {port}"
     ).expect(rt, "there is memory");
     check(rt, line.as_str(), "", "DISK\n", 3);
+    drop(line);
 }
 
 #[test]
@@ -121,5 +137,6 @@ fn a_port_in_use(rt: HostRuntime) {
         .expect(&rt, "it has an address")
         .port();
     check_port(&rt, port);
+    drop(listener);
     remove(&rt, "in_use.hill");
 }

@@ -2,7 +2,8 @@
 //!
 //! No crate stands on this one, so a check of the crates above waits for none of these tests. The helpers come first. `program` runs the
 //! program on words and an input, and `files` has the files of the tests, by functions without clauses, so that the proof of a test carries
-//! none of a call's along. `steps` goes through a table of both, which is most of what a test here does. Then a module a subject:
+//! none of a call's along. `compare` has what is compared, each by a function too. `steps` goes through a table of these, which is most of
+//! what a test here does. Then a module a subject:
 //!
 //! - `words`: which words are faults, ask for help, or give settings;
 //! - `assembling`, `fights` and `hills`: what the commands write, how they end, and what they do to files;
@@ -21,6 +22,8 @@ mod assembling;
 mod audits;
 #[cfg(test)]
 mod command_growths;
+#[cfg(test)]
+mod compare;
 #[cfg(test)]
 mod fights;
 #[cfg(test)]

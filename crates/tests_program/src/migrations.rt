@@ -1,5 +1,6 @@
 //! Hills of the old format, and how they are moved to the new one.
 
+use crate::compare::expect;
 use crate::files::{expect_bytes, put_bytes, put_old_hill, read, remove};
 use crate::program::{Host, check, check_told};
 use crate::steps::{Step, play, steps};
@@ -40,10 +41,16 @@ const ARRIVED: [Step; 5] = steps! {
 #[test]
 fn a_hill_is_moved(rt: HostRuntime) {
     play(&rt, &MOVED);
-    let arrived = read(&rt, "arrived.hill");
-    check(&rt, MOVE, "", "Occupied\n", 1);
-    expect_bytes(&rt, "arrived.hill", arrived.as_slice());
+    check_arrived(&rt);
     play(&rt, &ARRIVED);
+}
+
+/// The hill that arrived stays as it is.
+fn check_arrived(rt: &impl Host) {
+    let arrived = read(rt, "arrived.hill");
+    check(rt, MOVE, "", "Occupied\n", 1);
+    expect_bytes(rt, "arrived.hill", arrived.as_slice());
+    drop(arrived);
 }
 
 /// What is done in `an_old_hill_is_no_hill_before_it_is_moved`.
@@ -69,6 +76,7 @@ fn check_known(rt: &impl Host, first: &[u8], second: &[u8], told: &str) {
         .extend_from_slice(second)
         .expect(rt, "there is memory");
     put_bytes(rt, KNOWN, bytes.as_slice());
+    drop(bytes);
     check_told(rt, "koth show known.hill", View::Plain, "", told, 1);
 }
 
@@ -117,16 +125,22 @@ fn check_newer(rt: &impl Host) {
     check(rt, "koth create newer.hill", "CREATED\n", "", 0);
     let newer = read(rt, "newer.hill");
     check_unmoved(rt, newer.as_slice(), "NotAHill\n");
+    drop(newer);
     remove(rt, "newer.hill");
 }
 
 #[test]
 fn files_from_which_no_hill_is_moved(rt: HostRuntime) {
-    let none = [0; 10 * SECTOR];
-    check_unmoved(&rt, &none[..SECTOR], "TooSmall\n");
-    check_unmoved(&rt, &none, "NotAHill\n");
+    check_zeros(&rt);
     check_harmed(&rt);
     check_newer(&rt);
+}
+
+/// Files of zeros, too short for a hill and long enough.
+fn check_zeros(rt: &impl Host) {
+    let none = [0; 10 * SECTOR];
+    check_unmoved(rt, &none[..SECTOR], "TooSmall\n");
+    check_unmoved(rt, &none, "NotAHill\n");
 }
 
 /// A file that holds a hill already, of either format: it stays as it is.
@@ -136,18 +150,24 @@ fn check_occupied(rt: &impl Host, bytes: &[u8]) {
     let line = "koth migrate leaving.hill occupied.hill";
     check(rt, line, "", "Occupied\n", 1);
     let after = read(rt, "occupied.hill");
-    assert_eq!(rt; after.as_slice().get(..bytes.len()), Some(bytes));
+    expect(rt, after.as_slice().starts_with(bytes), "it stays");
+    drop(after);
     remove(rt, "leaving.hill");
     remove(rt, "occupied.hill");
 }
 
 #[test]
 fn files_that_hold_a_hill_already(rt: HostRuntime) {
-    check(&rt, "koth create holding.hill", "CREATED\n", "", 0);
-    let holding = read(&rt, "holding.hill");
-    check_occupied(&rt, holding.as_slice());
-    check_occupied(&rt, &tests_fixtures::earlier_hill::bytes());
-    remove(&rt, "holding.hill");
+    check_holding(&rt);
+}
+
+fn check_holding(rt: &impl Host) {
+    check(rt, "koth create holding.hill", "CREATED\n", "", 0);
+    let holding = read(rt, "holding.hill");
+    check_occupied(rt, holding.as_slice());
+    drop(holding);
+    check_occupied(rt, &tests_fixtures::earlier_hill::bytes());
+    remove(rt, "holding.hill");
 }
 
 /// What is done in `a_file_onto_itself`.

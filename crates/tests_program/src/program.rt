@@ -1,3 +1,4 @@
+use crate::compare::{expect_count, expect_same, expect_status};
 use koth_server::{View, run};
 use std::alloc::{Allocator, Global};
 use std::fs::File;
@@ -23,10 +24,14 @@ pub(crate) struct Ran {
 fn words_of(rt: &(impl Abort + AllocGlobal), line: &str) -> Vec<String> {
     let mut words = Vec::new(rt.alloc());
     for word in line.split(' ') {
-        let word = String::from_str(rt.alloc(), word).expect(rt, "there is memory");
-        words.push(word).expect(rt, "there is memory");
+        add_word(rt, &mut words, word);
     }
     words
+}
+
+fn add_word(rt: &(impl Abort + AllocGlobal), words: &mut Vec<String>, word: &str) {
+    let word = String::from_str(rt.alloc(), word).expect(rt, "there is memory");
+    words.push(word).expect(rt, "there is memory");
 }
 
 /// What a run of the program with these words leaves with.
@@ -118,9 +123,13 @@ pub(crate) fn check_on(
 /// A run with these words wrote this to its output and this word to standard error, and had this status.
 fn expect_ran(rt: &impl Abort, ran: &Ran, line: &str, output: &str, word: &str, status: u8) {
     expect_text(rt, &ran.output, output);
-    let errors = text_in(&ran.errors);
+    expect_told(rt, text_in(&ran.errors), line, output, word);
+    expect_status(rt, ran.status, status, line);
+}
+
+/// These words told this word.
+fn expect_told(rt: &impl Abort, errors: &str, line: &str, output: &str, word: &str) {
     assert!(rt; is_told(errors, output, word), "{line}: {errors}");
-    assert_eq!(rt; ran.status, status, "{line}");
 }
 
 /// The text of these bytes, or nothing if they are not UTF-8.
@@ -130,8 +139,8 @@ pub(crate) fn text_in(bytes: &Vec<u8>) -> &str {
 
 /// These bytes are this text.
 fn expect_text(rt: &impl Abort, bytes: &Vec<u8>, text: &str) {
-    assert_eq!(rt; text_in(bytes), text);
-    assert_eq!(rt; bytes.len(), text.len());
+    expect_same(rt, text_in(bytes), text);
+    expect_count(rt, bytes.len(), text.len(), text);
 }
 
 /// Standard error begins with this word, and then has a text for people or nothing. If no word is due it is empty, but for the
@@ -164,14 +173,13 @@ pub(crate) fn check_told(
     let ran = run_viewed(rt, rt.alloc(), line, view, &mut b"".as_slice());
     expect_text(rt, &ran.output, output);
     expect_text(rt, &ran.errors, errors);
-    let found = ran.status;
+    expect_status(rt, ran.status, status, line);
     drop(ran);
-    assert_eq!(rt; found, status, "{line}");
 }
 
 /// A run wrote nothing to standard error, and had status 0.
 pub(crate) fn expect_done(rt: &impl Abort, ran: &Ran) {
     let text = text_in(&ran.output);
-    assert_eq!(rt; ran.errors.len(), 0, "{text}");
-    assert_eq!(rt; ran.status, 0, "{text}");
+    expect_count(rt, ran.errors.len(), 0, text);
+    expect_status(rt, ran.status, 0, text);
 }

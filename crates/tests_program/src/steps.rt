@@ -1,5 +1,6 @@
 //! What tests do, step by step. A test of which each step is known beforehand is a table of them.
 
+use crate::compare::expect;
 use crate::files::{
     exists, expect_bytes, expect_length, expect_old_hill, put, put_old_hill, put_result, remove,
 };
@@ -79,9 +80,7 @@ fn act(rt: &impl Host, step: Step) {
         Step::Text(file, text) => expect_bytes(rt, file, text.as_bytes()),
         Step::OldHill(file) => expect_old_hill(rt, file),
         Step::Length(file, length) => expect_length(rt, file, length),
-        Step::Missing(file) => {
-            assert!(rt; !exists(rt, file), "{file}");
-        }
+        Step::Missing(file) => expect_missing(rt, file),
         Step::Run(line, output, word, status) => check(rt, line, output, word, status),
         Step::Tell(line, view, output, errors, status) => {
             check_told(rt, line, view, output, errors, status);
@@ -94,6 +93,11 @@ fn act(rt: &impl Host, step: Step) {
     }
 }
 
+/// A file is not there.
+fn expect_missing(rt: &impl Host, file: &str) {
+    expect(rt, !exists(rt, file), file);
+}
+
 /// These words write a page that has this text, and nothing but the page.
 fn check_page(rt: &impl Host, line: &str, part: &str) {
     let ran = run_line(rt, line);
@@ -103,9 +107,9 @@ fn check_page(rt: &impl Host, line: &str, part: &str) {
 }
 
 fn expect_page(rt: &impl Abort, page: &str, part: &str) {
-    assert!(rt; page.starts_with("<!DOCTYPE html>\n"), "{page}");
-    assert!(rt; page.ends_with("</html>\n"), "{page}");
-    assert!(rt; page.contains(part), "{page}");
+    expect(rt, page.starts_with("<!DOCTYPE html>\n"), page);
+    expect(rt, page.ends_with("</html>\n"), page);
+    expect(rt, page.contains(part), page);
 }
 
 /// Each command on a file without a hill, which is tried before the source is read or the port is bound.
@@ -124,4 +128,5 @@ fn check_file(rt: &impl Host, command: &str, file: &str, behind: &str, word: &st
         "there is memory",
     );
     check(rt, line.as_str(), "", word, status);
+    drop(line);
 }

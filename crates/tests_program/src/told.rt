@@ -1,5 +1,6 @@
 //! What people are told of each likely mistake, word for word.
 
+use crate::compare::expect;
 use crate::program::check_told;
 use crate::steps::{Step, play, small, steps};
 use koth_server::View;
@@ -143,7 +144,7 @@ const FREE: [Step; 2] = steps! {
 fn a_hill_that_is_worked_on(rt: HostRuntime) {
     play(&rt, &MADE);
     let held = fs::open(&rt, "told_lock.hill").expect(&rt, "it is opened");
-    assert!(rt; held.try_lock().is_ok());
+    expect(&rt, held.try_lock().is_ok(), "it is locked");
     play(&rt, &USED);
     drop(held);
     play(&rt, &FREE);

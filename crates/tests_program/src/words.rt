@@ -1,3 +1,4 @@
+use crate::compare::{expect, expect_count, expect_status};
 use crate::program::{Host, Ran, check_on, expect_done, run_line, run_on, text_in};
 use crate::steps::{Step, play, steps};
 use std::process::Abort;
@@ -8,16 +9,16 @@ pub(crate) fn check_fault(rt: &impl Host, line: &str, part: &str) {
     let ran = run_on(rt, line, &mut input);
     expect_fault(rt, &ran, part);
     drop(ran);
-    assert_eq!(rt; input.len(), 9);
+    expect_count(rt, input.len(), 9, line);
 }
 
 /// A run reported a fault of its words by a message that has this part, and wrote nothing.
 fn expect_fault(rt: &impl Abort, ran: &Ran, part: &str) {
     let message = text_in(&ran.errors);
-    assert!(rt; message.contains(part), "{message}");
-    assert!(rt; message.ends_with('\n'), "{message}");
-    assert_eq!(rt; ran.output.len(), 0);
-    assert_eq!(rt; ran.status, 2, "{message}");
+    expect(rt, message.contains(part), message);
+    expect(rt, message.ends_with('\n'), message);
+    expect_count(rt, ran.output.len(), 0, message);
+    expect_status(rt, ran.status, 2, message);
 }
 
 /// Words with a fault, and a part of what is told of it.
@@ -71,13 +72,10 @@ fn faults_of_the_words(rt: HostRuntime) {
 /// Words that ask for help: it is written on the output.
 pub(crate) fn check_help(rt: &impl Host, line: &str, part: &str) {
     let ran = run_line(rt, line);
-    expect_part(rt, text_in(&ran.output), part);
+    let text = text_in(&ran.output);
+    expect(rt, text.contains(part), text);
     expect_done(rt, &ran);
     drop(ran);
-}
-
-fn expect_part(rt: &impl Abort, text: &str, part: &str) {
-    assert!(rt; text.contains(part), "{text}");
 }
 
 /// Words that ask for help, and a part of it.
@@ -154,7 +152,7 @@ fn check_refused(rt: &impl Host, command: &str, options: &str, told: &str) {
     let line = format!(in rt.alloc(); "koth {command} {options}").expect(rt, "there is memory");
     let left = check_on(rt, line.as_str(), b"MOV 0, 1\n", "", told, 1);
     drop(line);
-    assert_eq!(rt; left, 9);
+    expect_count(rt, left, 9, options);
 }
 
 /// Each command that takes settings is refused with these options, for this field.
