@@ -1,12 +1,13 @@
 //! Sessions and their hills, as the tests call them. What is to be done and isn't ends the test at once.
 
+use crate::compare::{expect_end, expect_length, expect_number, expect_same};
 use hill_store::Store;
 use koth_session::{Counted, SessionEnd, session};
 use sector_disk::{Device, MemoryDevice};
 use std::alloc::{Allocator, Global};
 use std::io::{Read, Write};
 use std::process::Abort;
-use tests_fixtures::{FULL, writer};
+use tests_fixtures::{FULL, FullWriter, writer};
 use tests_stores::{SMALL, blank, close, count_rows, created, opened, settings_from};
 
 /// A hill of two without warriors.
@@ -47,7 +48,8 @@ pub(crate) fn expect_count<D: Device, A: Allocator + Copy>(
     store: &Store<D, A>,
     count: usize,
 ) {
-    assert_eq!(rt; count_rows(store).ok(), Some(count));
+    let found = count_rows(store).expect(rt, "there is memory");
+    expect_length(rt, found, count);
 }
 
 /// How a session on a store ends.
@@ -94,20 +96,43 @@ pub(crate) fn expect_slow_session(
     end: SessionEnd,
     faults: u64,
 ) {
-    let mut store = empty_hill(rt);
-    let mut input = Counted::new(lines);
     let mut output = Counted::new(writer(rt.alloc(), most, usize::MAX, FULL[0]));
-    let ended = end_of(rt.alloc(), &mut input, &mut output, &mut store);
-    drop(store);
-    let found = (ended, input.faults(), output.faults());
-    drop(input);
+    let (ended, found) = end_on_empty(rt, lines, &mut output);
+    expect_end(rt, ended, end, answers);
+    expect_number(rt, found, faults, answers);
+    expect_number(rt, output.faults(), 0, answers);
     let taken = output.into_inner().taken;
     expect_text(rt, &taken, answers);
     drop(taken);
-    assert_eq!(rt; found, (end, faults, 0), "at {answers}");
+}
+
+/// How a session with these lines ends on an empty hill, and the faults of its input.
+fn end_on_empty(
+    rt: &(impl Abort + AllocGlobal),
+    lines: impl Read + Drop,
+    output: &mut Counted<FullWriter>,
+) -> (SessionEnd, u64) {
+    let mut input = Counted::new(lines);
+    let ended = end_on(rt, &mut input, output);
+    let faults = input.faults();
+    drop(input);
+    (ended, faults)
+}
+
+/// How a session ends on an empty hill.
+pub(crate) fn end_on<R: Read, W: Write>(
+    rt: &(impl Abort + AllocGlobal),
+    input: &mut Counted<R>,
+    output: &mut Counted<W>,
+) -> SessionEnd {
+    let mut store = empty_hill(rt);
+    let ended = end_of(rt.alloc(), input, output, &mut store);
+    drop(store);
+    ended
 }
 
 /// These bytes are this text.
 pub(crate) fn expect_text(rt: &impl Abort, bytes: &Vec<u8>, text: &str) {
-    assert_eq!(rt; str::from_utf8(bytes.as_slice()).ok(), Some(text));
+    let found = str::from_utf8(bytes.as_slice()).expect(rt, "it is text");
+    expect_same(rt, found, text);
 }

@@ -4,6 +4,7 @@
 //!
 //! - `calls`: sessions and hills, by functions without clauses, so that the proof of a test carries none of a call's along. The streams are
 //!   those of `tests_fixtures`, the hills those of `tests_stores`;
+//! - `compare`: what is compared, each by a function;
 //! - `sessions`: what a session answers, and how it ends if a stream, the device or memory fails;
 //! - `peers`: sessions of several peers at once;
 //! - `services`: services over sockets that do what a test wants, and over those of the system.
@@ -13,6 +14,8 @@
 
 #[cfg(test)]
 mod calls;
+#[cfg(test)]
+mod compare;
 #[cfg(test)]
 mod peers;
 #[cfg(test)]

@@ -1,6 +1,7 @@
 //! Peers on a hill of two, on a device in memory.
 
 use crate::calls::{blank_in, empty_hill, empty_hill_on, reopened};
+use crate::compare::{expect, expect_bytes, expect_length, expect_number};
 use hill_store::Store;
 use koth_peers::{NotConnected, PeerEnd, Peers, Step};
 use sector_disk::{Device, FuseDevice, FuseKind};
@@ -39,14 +40,14 @@ fn ended<A: Allocator>(rt: &impl Abort, peers: &Peers<A>, number: usize, end: Op
 
 /// `count` bytes of answers wait for a peer.
 fn waits<A: Allocator>(rt: &impl Abort, peers: &Peers<A>, number: usize, count: usize) {
-    assert_eq!(rt; peers.unsent(number).len(), count);
+    expect_length(rt, peers.unsent(number).len(), count);
 }
 
 /// A peer has sent all of its bytes, and nothing more of it may come.
 fn close<A: Allocator>(rt: &impl Abort, peers: &mut Peers<A>, number: usize) {
     peers.close(number);
-    assert!(rt; !peers.is_finished(number));
-    assert_eq!(rt; peers.room(number), 0);
+    expect(rt, !peers.is_finished(number), "it is not finished");
+    expect_length(rt, peers.room(number), 0);
 }
 
 /// These bytes of a peer come.
@@ -58,20 +59,46 @@ fn come<A: Allocator>(rt: &impl Abort, peers: &mut Peers<A>, number: usize, text
 
 /// A peer was given these answers, and they are sent.
 fn send<A: Allocator>(rt: &impl Abort, peers: &mut Peers<A>, number: usize, answers: &str) {
-    assert_eq!(rt; peers.unsent(number), answers.as_bytes());
+    expect_bytes(rt, peers.unsent(number), answers.as_bytes());
     let count = peers.unsent(number).len();
     peers.sent(number, count);
-    assert_eq!(rt; peers.unsent(number).len(), 0);
+    waits(rt, peers, number, 0);
+}
+
+/// What peers do on a hill.
+#[derive(Clone, Copy)]
+enum Script {
+    InTurn,
+    OneHill,
+    Unread,
+}
+
+/// Peers, for `most` of whom there is room, do this on an empty hill.
+fn follow(rt: &(impl Abort + AllocGlobal), most: usize, script: Script) {
+    let mut store = empty_hill(rt);
+    let mut peers = room_for(rt, rt.alloc(), most);
+    act(rt, &mut peers, &mut store, script);
+    drop(peers);
+    drop(store);
+}
+
+fn act<D: Device>(
+    rt: &impl Abort,
+    peers: &mut Peers<Global>,
+    store: &mut Store<D, Global>,
+    script: Script,
+) {
+    match script {
+        Script::InTurn => serve_in_turn(rt, peers, store),
+        Script::OneHill => serve_one_hill(rt, peers, store),
+        Script::Unread => leave_unread(rt, peers, store),
+    }
 }
 
 /// Of a peer with many commands one is served, and then the others' come.
 #[test]
 fn in_turn(rt: HostRuntime) {
-    let mut store = empty_hill(&rt);
-    let mut peers = room_for(&rt, rt.alloc(), 3);
-    serve_in_turn(&rt, &mut peers, &mut store);
-    drop(peers);
-    drop(store);
+    follow(&rt, 3, Script::InTurn);
 }
 
 fn serve_in_turn<D: Device>(
@@ -103,12 +130,16 @@ fn serve_in_turn<D: Device>(
 /// Three peers submit, the first one byte for byte, and a fourth asks for the table. It ends by `QUIT`, the others by the end of their input.
 #[test]
 fn one_hill(rt: HostRuntime) {
-    let mut store = empty_hill(&rt);
-    let mut peers = room_for(&rt, rt.alloc(), 4);
-    submit_and_show(&rt, &mut peers, &mut store);
-    end_each(&rt, &mut peers, &mut store);
-    drop(peers);
-    drop(store);
+    follow(&rt, 4, Script::OneHill);
+}
+
+fn serve_one_hill<D: Device>(
+    rt: &impl Abort,
+    peers: &mut Peers<Global>,
+    store: &mut Store<D, Global>,
+) {
+    submit_and_show(rt, peers, store);
+    end_each(rt, peers, store);
 }
 
 fn submit_and_show<D: Device>(
@@ -152,7 +183,7 @@ fn end_each<D: Device>(rt: &impl Abort, peers: &mut Peers<Global>, store: &mut S
     send(rt, peers, 3, table);
     for (number, end) in ENDS.iter().enumerate() {
         ended(rt, peers, number, Some(*end));
-        assert!(rt; peers.is_finished(number));
+        expect(rt, peers.is_finished(number), "it is finished");
     }
     peers.leave(1);
     connect(rt, peers, Ok(1));
@@ -162,12 +193,7 @@ fn end_each<D: Device>(rt: &impl Abort, peers: &mut Peers<Global>, store: &mut S
 /// still.
 #[test]
 fn unread(rt: HostRuntime) {
-    let mut store = empty_hill(&rt);
-    let mut peers = room_for(&rt, rt.alloc(), 2);
-    connect_two(&rt, &mut peers);
-    leave_unread(&rt, &mut peers, &mut store);
-    drop(peers);
-    drop(store);
+    follow(&rt, 2, Script::Unread);
 }
 
 fn connect_two(rt: &impl Abort, peers: &mut Peers<Global>) {
@@ -180,6 +206,7 @@ fn leave_unread<D: Device>(
     peers: &mut Peers<Global>,
     store: &mut Store<D, Global>,
 ) {
+    connect_two(rt, peers);
     for _ in 0..262_144 {
         come(rt, peers, 0, "\n");
         serve(rt, peers, store, Step::Served(0));
@@ -192,7 +219,7 @@ fn leave_unread<D: Device>(
     serve(rt, peers, store, Step::Served(0));
     ended(rt, peers, 0, Some(PeerEnd::Unread));
     waits(rt, peers, 0, 1_048_576);
-    assert!(rt; !peers.is_finished(0));
+    expect(rt, !peers.is_finished(0), "it is not finished");
     send(rt, peers, 1, "BAD\n");
 }
 
@@ -200,14 +227,27 @@ fn leave_unread<D: Device>(
 /// its peer, and another one is served on the hill that is opened again.
 #[test]
 fn a_device_that_fails(rt: HostRuntime) {
-    let device = FuseDevice::new(blank_in(&rt, rt.alloc()), 10, FuseKind::FailKept);
-    let mut store = empty_hill_on(&rt, rt.alloc(), device);
-    let mut peers = room_for(&rt, rt.alloc(), 2);
-    connect_two(&rt, &mut peers);
-    fail_the_first(&rt, &mut peers, &mut store);
-    let mut store = reopened(&rt, rt.alloc(), store);
-    serve_the_second(&rt, &mut peers, &mut store);
+    serve_over_a_fault(&rt);
+}
+
+fn serve_over_a_fault(rt: &(impl Abort + AllocGlobal)) {
+    let mut peers = room_for(rt, rt.alloc(), 2);
+    connect_two(rt, &mut peers);
+    let device = FuseDevice::new(blank_in(rt, rt.alloc()), 10, FuseKind::FailKept);
+    serve_over(rt, &mut peers, device);
     drop(peers);
+}
+
+/// Serves two peers on a hill on this device, which fails once.
+fn serve_over<D: Device + Drop>(
+    rt: &(impl Abort + AllocGlobal),
+    peers: &mut Peers<Global>,
+    device: D,
+) {
+    let mut store = empty_hill_on(rt, rt.alloc(), device);
+    fail_the_first(rt, peers, &mut store);
+    let mut store = reopened(rt, rt.alloc(), store);
+    serve_the_second(rt, peers, &mut store);
     drop(store);
 }
 
@@ -221,7 +261,7 @@ fn fail_the_first<D: Device>(
     serve(rt, peers, store, Step::StoreFailed(0));
     waits(rt, peers, 0, 0);
     ended(rt, peers, 0, Some(PeerEnd::StoreFailed));
-    assert!(rt; peers.is_finished(0));
+    expect(rt, peers.is_finished(0), "it is finished");
 }
 
 fn serve_the_second<D: Device>(
@@ -238,12 +278,21 @@ fn serve_the_second<D: Device>(
 #[test]
 fn growths(rt: HostRuntime) {
     let memory = Refusing::new(rt.alloc());
-    let mut store = empty_hill_on(&rt, &memory, blank_in(&rt, rt.alloc()));
-    let mut peers = room_for(&rt, &memory, 1);
-    refuse_growths(&rt, &memory, &mut peers, &mut store);
+    serve_without_growths(&rt, &memory);
+    drop(memory);
+}
+
+fn serve_without_growths(rt: &(impl Abort + AllocGlobal), memory: &Refusing<Global>) {
+    let mut store = empty_hill_on(rt, memory, blank_in(rt, rt.alloc()));
+    let mut peers = room_for(rt, memory, 1);
+    refuse_growths(rt, memory, &mut peers, &mut store);
     drop(peers);
     drop(store);
-    drop(memory);
+}
+
+/// `count` growths were refused.
+fn refused(rt: &impl Abort, memory: &Refusing<Global>, count: u64) {
+    expect_number(rt, memory.refused(), count, "growths that are refused");
 }
 
 fn refuse_growths<'m, D: Device>(
@@ -255,14 +304,14 @@ fn refuse_growths<'m, D: Device>(
     for passed in 0..3 {
         memory.refuse(passed, 1);
         connect(rt, peers, Err(NotConnected::Memory));
-        assert_eq!(rt; memory.refused(), 1);
+        refused(rt, memory, 1);
     }
     memory.refuse(3, 1);
     connect(rt, peers, Ok(0));
-    assert_eq!(rt; memory.refused(), 0);
+    refused(rt, memory, 0);
     come(rt, peers, 0, "\n");
     serve(rt, peers, store, Step::Served(0));
-    assert_eq!(rt; memory.refused(), 1);
+    refused(rt, memory, 1);
     ended(rt, peers, 0, Some(PeerEnd::Memory));
     waits(rt, peers, 0, 0);
 }

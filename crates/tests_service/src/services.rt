@@ -7,6 +7,7 @@ use callers::{Cue, Deed};
 use hosts::Shut;
 use koth_service::ServiceFault;
 use serving::{ALL, Due, act_out, check_served, serve};
+use std::process::Abort;
 
 mod browsers;
 mod callers;
@@ -214,11 +215,19 @@ const A_HILL_THAT_IS_GONE_DUE: [Due; 1] = [Due::Heard(2, "")];
 /// The device fails in the first submission, which isn't answered. The hill is opened again, and the other peer is served on it.
 #[test]
 fn a_device_that_fails(rt: HostRuntime) {
-    let served = serve(&rt, &A_DEVICE_THAT_FAILS, 2, 8, 1);
-    check_served(&rt, &served, None, &A_DEVICE_THAT_FAILS_DUE);
-    drop(served);
-    let gone = serve(&rt, &A_DEVICE_THAT_FAILS, 2, 8, 0);
+    act_on_a_fault(&rt, 1, None, &A_DEVICE_THAT_FAILS_DUE);
     let fault = ServiceFault::Reopening(Shut);
-    check_served(&rt, &gone, Some(fault), &A_HILL_THAT_IS_GONE_DUE);
-    drop(gone);
+    act_on_a_fault(&rt, 0, Some(fault), &A_HILL_THAT_IS_GONE_DUE);
+}
+
+/// The hill may be opened again `openings` times.
+fn act_on_a_fault(
+    rt: &(impl Abort + AllocGlobal),
+    openings: u32,
+    fault: Option<ServiceFault<Shut>>,
+    dues: &[Due],
+) {
+    let served = serve(rt, &A_DEVICE_THAT_FAILS, 2, 8, openings);
+    check_served(rt, &served, fault, dues);
+    drop(served);
 }

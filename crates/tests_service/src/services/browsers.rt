@@ -1,5 +1,6 @@
 //! Browsers beside the peers of a service.
 
+use crate::compare::expect;
 use crate::services::callers::{Cue, Deed};
 use crate::services::serving::{ALL, Due, act_out, serve};
 use std::process::Abort;
@@ -92,7 +93,7 @@ fn check_start(rt: &(impl Abort + AllocGlobal), request: &str, cues: &[Cue], sta
     let caller = served.sockets.caller(7).expect(rt, "it called");
     let begins = caller.heard.as_slice().starts_with(start.as_bytes());
     drop(served);
-    assert!(rt; begins, "{request}");
+    expect(rt, begins, request);
 }
 
 /// Each refusal, and a page without its body.

@@ -1,6 +1,7 @@
 //! A service over sockets of the system.
 
-use crate::services::serving::serve_on;
+use crate::compare::{expect, expect_same};
+use crate::services::serving::{check_fault, serve_on};
 use koth_service::Sockets;
 use koth_sockets::PolledSockets;
 use std::io;
@@ -34,7 +35,7 @@ fn say(
 fn serve(rt: &(impl Abort + AllocGlobal), sockets: &mut impl Sockets, peers: usize, sessions: u32) {
     let (fault, told) = serve_on(rt, sockets, (peers, 1), sessions, u64::MAX, 0);
     drop(told);
-    assert_eq!(rt; fault, None);
+    check_fault(rt, fault, None);
 }
 
 /// What comes on this connection up to its end.
@@ -43,14 +44,17 @@ fn heard(rt: &(impl Abort + AllocGlobal), stream: TcpStream) -> String {
 }
 
 /// What comes on this connection up to its end is this.
-fn expect(rt: &(impl Abort + AllocGlobal), stream: TcpStream, answers: &str) {
+fn expect_answers(rt: &(impl Abort + AllocGlobal), stream: TcpStream, answers: &str) {
     let heard = heard(rt, stream);
     expect_same(rt, heard.as_str(), answers);
     drop(heard);
 }
 
-fn expect_same(rt: &impl Abort, found: &str, due: &str) {
-    assert_eq!(rt; found, due);
+/// What comes on this connection up to its end is a page that ends so.
+fn expect_page(rt: &(impl Abort + AllocGlobal), stream: TcpStream, end: &str) {
+    let heard = heard(rt, stream);
+    expect(rt, heard.as_str().ends_with(end), end);
+    drop(heard);
 }
 
 /// The second peer sends 5,000 bytes after its `QUIT`, and has its answers all the same. The third one says nothing before it ends.
@@ -64,13 +68,13 @@ fn over_sockets(rt: HostRuntime) {
     second.write_all(&[b'x'; 5000]).expect(&rt, "it is sent");
     let third = say(&rt, address, b"");
     serve(&rt, &mut sockets, 3, 3);
-    expect(
+    expect_answers(
         &rt,
         first,
         "PLACED 1 1 0\n1 1 0 0 Unnamed by Anonymous\n.\n",
     );
-    expect(&rt, second, "BAD\n");
-    expect(&rt, third, "");
+    expect_answers(&rt, second, "BAD\n");
+    expect_answers(&rt, third, "");
     drop(sockets);
 }
 
@@ -87,10 +91,7 @@ fn a_browser_over_sockets(rt: HostRuntime) {
     let address = sockets.local_addr().expect(&rt, "peers have an address");
     let peer = say(&rt, address, b"BOGUS\n");
     serve(&rt, &mut sockets, 1, 1);
-    expect(&rt, peer, "BAD\n");
-    let text = heard(&rt, browser);
-    let is_page = text.as_str().ends_with("\r\n\r\n0 here\n");
-    drop(text);
+    expect_answers(&rt, peer, "BAD\n");
+    expect_page(&rt, browser, "\r\n\r\n0 here\n");
     drop(sockets);
-    assert!(rt; is_page);
 }

@@ -1,5 +1,6 @@
 //! Services over sockets of no system, and what has to come of them.
 
+use crate::compare::{expect, expect_bytes, expect_same};
 use crate::services::callers::Cue;
 use crate::services::fakes::Fakes;
 use crate::services::hosts::{Clerk, Shut, hill};
@@ -34,7 +35,9 @@ pub(crate) fn serve_on<S: Sockets>(
         &host,
         &mut told,
     );
-    (served.err(), told)
+    let fault = served.err();
+    drop(host);
+    (fault, told)
 }
 
 /// What came of a service.
@@ -78,7 +81,7 @@ pub(crate) enum Due {
 
 fn check_heard(rt: &impl Abort, sockets: &Fakes<'_>, port: u16, answers: &str) {
     let caller = sockets.caller(port).expect(rt, "it called");
-    assert_eq!(rt; caller.heard.as_slice(), answers.as_bytes());
+    expect_bytes(rt, caller.heard.as_slice(), answers.as_bytes());
 }
 
 fn check_closed(rt: &impl Abort, sockets: &Fakes<'_>, port: u16, time: Option<u64>) {
@@ -90,10 +93,26 @@ fn check_told(rt: &impl Abort, text: &str, peer: &str, events: &[&str]) {
     let mut rest = events.iter();
     for line in text.lines() {
         if let Some(event) = line.strip_prefix(peer) {
-            assert_eq!(rt; Some(&event), rest.next());
+            let due = rest.next().expect(rt, "no more is due");
+            expect_same(rt, event, due);
         }
     }
-    assert!(rt; rest.next().is_none());
+    expect(rt, rest.next().is_none(), peer);
+}
+
+/// This is the line at this place of what was told.
+fn check_line(rt: &impl Abort, text: &str, place: usize, line: &str) {
+    let found = text.lines().nth(place).expect(rt, "it is told");
+    expect_same(rt, found, line);
+}
+
+/// A service was ended so before its time, or by nothing.
+pub(crate) fn check_fault(
+    rt: &impl Abort,
+    found: Option<ServiceFault<Shut>>,
+    due: Option<ServiceFault<Shut>>,
+) {
+    assert_eq!(rt; found, due);
 }
 
 /// This came of a service.
@@ -103,7 +122,7 @@ fn check_due(rt: &impl Abort, served: &Served<'_>, due: Due) {
         Due::Heard(port, answers) => check_heard(rt, &served.sockets, port, answers),
         Due::Closed(port, time) => check_closed(rt, &served.sockets, port, time),
         Due::Told(peer, events) => check_told(rt, text, peer, events),
-        Due::Line(place, line) => assert_eq!(rt; text.lines().nth(place), Some(line)),
+        Due::Line(place, line) => check_line(rt, text, place, line),
     }
 }
 
@@ -114,7 +133,7 @@ pub(crate) fn check_served(
     fault: Option<ServiceFault<Shut>>,
     dues: &[Due],
 ) {
-    assert_eq!(rt; served.fault, fault);
+    check_fault(rt, served.fault, fault);
     for due in dues {
         check_due(rt, served, *due);
     }

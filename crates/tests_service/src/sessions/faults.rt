@@ -4,13 +4,14 @@ use crate::calls::{
     answers_to, blank_in, empty_hill, empty_hill_on, end_of, expect_count, expect_session,
     expect_text, reopened,
 };
+use crate::compare::{expect, expect_end, expect_length};
 use crate::sessions::ROWS;
 use hill_store::Store;
 use koth_session::{Counted, SessionEnd};
 use sector_disk::{Device, FuseDevice, FuseKind};
 use std::alloc::Global;
 use std::process::Abort;
-use tests_fixtures::{FULL, Full, Padded, reader, writer};
+use tests_fixtures::{FULL, Full, FullWriter, Padded, reader, writer};
 use tests_stores::count_rows;
 
 /// A session of which these tests take parts.
@@ -75,30 +76,53 @@ fn expect_full(
     full: Full,
 ) {
     let mut store = empty_hill(rt);
-    let mut output = Counted::new(writer(rt.alloc(), most, room, full));
-    let mut input = Counted::new(lines);
-    let ended = end_of(rt.alloc(), &mut input, &mut output, &mut store);
-    let (end, faults) = if room < answers.len() {
+    let output = writer(rt.alloc(), most, room, full);
+    let found = end_when_full(rt, lines, answers, room, output, &mut store);
+    expect_one(rt, store);
+    let due = if room < answers.len() {
         (SessionEnd::WriteFault, 1)
     } else {
         (SessionEnd::Quit, 0)
     };
+    expect_found(rt, found, due, most, room, full);
+}
+
+/// How a session ends whose output takes the first `room` bytes of the answers, and how many faults the output has.
+fn end_when_full<D: Device>(
+    rt: &(impl Abort + AllocGlobal),
+    lines: &[u8],
+    answers: &str,
+    room: usize,
+    output: FullWriter,
+    store: &mut Store<D, Global>,
+) -> (SessionEnd, u64) {
+    let mut output = Counted::new(output);
+    let mut input = Counted::new(lines);
+    let ended = end_of(rt.alloc(), &mut input, &mut output, store);
     drop(input);
-    let found = (ended, output.faults());
+    let faults = output.faults();
     let taken = output.into_inner().taken;
     expect_begun(rt, answers, room, taken.as_slice());
     drop(taken);
-    expect_one(rt, store);
-    assert_eq!(rt;
-        found,
-        (end, faults),
-        "{most} at a time, {room} in all, {full:?}"
-    );
+    (ended, faults)
 }
 
 /// The first `room` bytes of the answers were taken.
 fn expect_begun(rt: &impl Abort, answers: &str, room: usize, taken: &[u8]) {
-    assert_eq!(rt; answers.as_bytes().get(..room), Some(taken));
+    expect_length(rt, taken.len(), room);
+    expect(rt, answers.as_bytes().starts_with(taken), answers);
+}
+
+/// A session ended as is due, and its output has the faults that are due.
+fn expect_found(
+    rt: &impl Abort,
+    found: (SessionEnd, u64),
+    due: (SessionEnd, u64),
+    most: usize,
+    room: usize,
+    full: Full,
+) {
+    assert_eq!(rt; found, due, "{most} at a time, {room} in all, {full:?}");
 }
 
 /// One warrior is on the hill of a store, and on the one that is opened on its device.
@@ -144,7 +168,7 @@ fn expect_on_failed<D: Device>(
     let (ended, answered) = answers_to(rt, rt.alloc(), lines.as_bytes(), store);
     expect_text(rt, &answered, answers);
     drop(answered);
-    assert_eq!(rt; ended, end, "at {lines}");
+    expect_end(rt, ended, end, lines);
 }
 
 /// A session whose device fails once, after `calls` calls: nothing is answered, and the table stays empty. How many warriors are on
@@ -156,19 +180,23 @@ fn count_behind_a_fault(
 ) -> Option<usize> {
     let device = FuseDevice::new(blank_in(rt, rt.alloc()), calls, kind);
     let mut store = empty_hill_on(rt, rt.alloc(), device);
-    let (ended, answered) = answers_to(rt, rt.alloc(), LINES, &mut store);
-    let found = (ended, answered.is_empty());
-    drop(answered);
-    assert_eq!(rt; found, (SessionEnd::StoreFailed, true));
-    expect_count(rt, &store, 0);
-    // The store stays so: a table is answered on it, and no submission.
-    for (lines, answers, end) in &ON_A_FAILED_STORE {
-        expect_on_failed(rt, &mut store, lines, answers, *end);
-    }
+    expect_failed(rt, &mut store);
     let store = reopened(rt, rt.alloc(), store);
     let count = count_rows(&store).ok();
     drop(store);
     count
+}
+
+/// The device fails in a session on this store, which stays so: a table is answered on it, and no submission.
+fn expect_failed<D: Device>(rt: &(impl Abort + AllocGlobal), store: &mut Store<D, Global>) {
+    let (ended, answered) = answers_to(rt, rt.alloc(), LINES, store);
+    expect_length(rt, answered.len(), 0);
+    drop(answered);
+    expect_end(rt, ended, SessionEnd::StoreFailed, "the submission");
+    expect_count(rt, store, 0);
+    for (lines, answers, end) in &ON_A_FAILED_STORE {
+        expect_on_failed(rt, store, lines, answers, *end);
+    }
 }
 
 /// Five calls create the hill. Then come those of the warrior: four sectors of its slot, a sync, the header and a sync.

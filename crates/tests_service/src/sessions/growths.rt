@@ -6,7 +6,7 @@ use crate::sessions::ROWS;
 use crate::sessions::faults::LINES;
 use hill_store::Store;
 use koth_session::SessionEnd;
-use sector_disk::MemoryDevice;
+use sector_disk::{Device, MemoryDevice};
 use std::alloc::{Allocator, Global};
 use std::process::Abort;
 use tests_fixtures::{Refusing, rows};
@@ -113,17 +113,31 @@ fn expect_ending(
 ) {
     let memory = memories.session;
     let mut store = empty_hill_on(rt, memory, blank_in(rt, memories.device));
-    memory.refuse(k, 1);
-    let (end, answers) = answers_to(rt, memory, lines, &mut store);
-    assert_eq!(rt;
-        (memory.refused(), end),
-        (refused, ending.end),
-        "at growth {k}"
-    );
+    let end = end_without(rt, memory, k, lines, &mut store, ending.answers);
+    expect_refused(rt, k, (memory.refused(), end), (refused, ending.end));
     memory.refuse(0, 0);
-    expect_text(rt, &answers, ending.answers);
-    drop(answers);
     expect_table(rt, memory, store, ending.table);
+}
+
+/// A session, of which growth `k` is refused, answers so. How it ends is the answer.
+fn end_without<'m, D: Device>(
+    rt: &(impl Abort + AllocGlobal),
+    memory: &'m Refusing<Global>,
+    k: u64,
+    lines: &[u8],
+    store: &mut Store<D, &'m Refusing<Global>>,
+    due: &str,
+) -> SessionEnd {
+    memory.refuse(k, 1);
+    let (end, answers) = answers_to(rt, memory, lines, store);
+    expect_text(rt, &answers, due);
+    drop(answers);
+    end
+}
+
+/// This number of growths was refused, and the session ended so.
+fn expect_refused(rt: &impl Abort, k: u64, found: (u64, SessionEnd), due: (u64, SessionEnd)) {
+    assert_eq!(rt; found, due, "at growth {k}");
 }
 
 /// Growth `k` of a session on these lines is refused, and then they are given to a session with memory.
@@ -164,6 +178,10 @@ fn expect_growths(
 
 #[test]
 fn of_sessions(rt: HostRuntime) {
+    expect_all_growths(&rt);
+}
+
+fn expect_all_growths(rt: &(impl Abort + AllocGlobal)) {
     let memory = Refusing::new(rt.alloc());
     let ample = Refusing::new(rt.alloc());
     let alone = Memories {
@@ -175,9 +193,9 @@ fn of_sessions(rt: HostRuntime) {
         device: &memory,
     };
     let (three, _, _) = ROWS[7];
-    expect_growths(&rt, alone, LINES, &WITHOUT_ONE[..2], OF_ONE);
-    expect_growths(&rt, both, LINES, &WITHOUT_ONE, OF_ONE);
-    expect_growths(&rt, both, three.as_bytes(), &WITHOUT_THREE, OF_THREE);
+    expect_growths(rt, alone, LINES, &WITHOUT_ONE[..2], OF_ONE);
+    expect_growths(rt, both, LINES, &WITHOUT_ONE, OF_ONE);
+    expect_growths(rt, both, three.as_bytes(), &WITHOUT_THREE, OF_THREE);
     drop(ample);
     drop(memory);
 }

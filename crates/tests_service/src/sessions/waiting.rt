@@ -1,10 +1,12 @@
 //! Peers that wait for an answer, and streams that signals interrupt.
 
-use crate::calls::{empty_hill, end_of};
+use crate::calls::end_on;
+use crate::compare::{expect_end, expect_length, expect_number};
 use koth_session::{Counted, SessionEnd};
 use std::cell::Cell;
 use std::io;
 use std::io::{ErrorKind, Read, Write};
+use std::process::Abort;
 use tests_fixtures::one_by_one;
 
 /// A peer that sends a command only once the one before it was answered. Each answer is one line here.
@@ -52,6 +54,10 @@ impl Write for Hearing<'_> {
 
 #[test]
 fn no_answer_is_held_back(rt: HostRuntime) {
+    expect_each_answer(&rt);
+}
+
+fn expect_each_answer(rt: &(impl Abort + AllocGlobal)) {
     let commands: [&[u8]; 5] = [
         b"SHOW\n",
         b"SUBMIT\nMOV 0,1\n.\n",
@@ -68,27 +74,30 @@ fn no_answer_is_held_back(rt: HostRuntime) {
     let mut output = Counted::new(Hearing {
         answered: &answered,
     });
-    let mut store = empty_hill(&rt);
-    let ended = end_of(rt.alloc(), &mut input, &mut output, &mut store);
-    let found = (ended, answered.get(), input.faults());
-    drop(store);
+    let ended = end_on(rt, &mut input, &mut output);
+    let faults = input.faults();
     drop(output);
     drop(input);
-    assert_eq!(rt; found, (SessionEnd::Quit, 4, 0));
+    expect_end(rt, ended, SessionEnd::Quit, "five commands");
+    expect_length(rt, answered.get(), 4);
+    expect_number(rt, faults, 0, "faults of the input");
 }
 
 #[test]
 fn signals_end_no_session(rt: HostRuntime) {
+    expect_interrupted(&rt);
+}
+
+fn expect_interrupted(rt: &(impl Abort + AllocGlobal)) {
     let mut input = Counted::new(one_by_one(b"SUBMIT\nMOV 0,1\n.\nBOGUS\nQUIT\n"));
     let mut output = Counted::new(one_by_one(b""));
-    let mut store = empty_hill(&rt);
-    let ended = end_of(rt.alloc(), &mut input, &mut output, &mut store);
-    let faults = (input.faults(), output.faults());
+    let ended = end_on(rt, &mut input, &mut output);
+    expect_end(rt, ended, SessionEnd::Quit, "signals");
+    expect_number(rt, input.faults(), 0, "faults of the input");
+    expect_number(rt, output.faults(), 0, "faults of the output");
+    drop(input);
     let output = output.into_inner();
     let written = output.written;
-    drop(store);
     drop(output);
-    drop(input);
-    assert_eq!(rt; (ended, faults), (SessionEnd::Quit, (0, 0)));
-    assert_eq!(rt; written, "PLACED 1 1 0\nBAD\n".len());
+    expect_length(rt, written, "PLACED 1 1 0\nBAD\n".len());
 }
