@@ -6,6 +6,7 @@ use Rattle.redcode_text.specs.Value.{part_of, value_of, value_within, or_bad}
 use Rattle.redcode_expand.specs.Kept.{count_of, has_loose, Keeps, CountIsFixed, IsKept, AreKept, kept_at}
 use Rattle.redcode_expand.specs.declared.counts.Kept.{Kept}
 use Rattle.redcode_expand.specs.declared.counts.Kept.TheVariants as kept
+use Rattle.redcode_names.specs.Equ.{or_itself}
 use Rattle.redcode_names.proofs.Replacing.{left_over-all}
 use Rattle.redcode_names.proofs.Unchanged.{replaced-left}
 use Rattle.std.proofs.lemmas.Grind.{common_steps}
@@ -44,7 +45,10 @@ loose-stray s equs (x ∷ xs) is = grind (arith, or_parts, or-false, loose-stray
 
 stray-append : (s : RawSettings) (equs : EquList) (xs ys : List Piece) → has_stray s equs (xs ++ ys) ≡ false → (has_stray s equs xs ≡ false) × (has_stray s equs ys ≡ false)
 stray-append s equs [] ys is = (refl, is)
-stray-append s equs (x ∷ xs) ys is = grind (arith, stray-append s equs xs ys)
+stray-append s equs (x ∷ xs) ys is =
+    let parts = or_parts (is_stray s equs x) (has_stray s equs (xs ++ ys)) is in
+    let others = stray-append s equs xs ys parts.1 in
+    (or-false (is_stray s equs x) (has_stray s equs xs) parts.0 others.0, others.1)
 
 stray-round : (s : RawSettings) (equs : EquList) (xs : List Piece) → has_stray s equs (round equs xs) ≡ false → has_stray s equs xs ≡ false
 stray-round s equs [] is = refl
@@ -61,11 +65,17 @@ body-same s old new keeps x is = grind arith
 
 round-same : (s : RawSettings) (old new : EquList) → Keeps s old new → (xs : List Piece) → has_stray s old xs ≡ false → round new xs ≡ round old xs
 round-same s old new keeps [] is = refl
-round-same s old new keeps (x ∷ xs) is = grind (arith, body-same s old new keeps x, round-same s old new keeps xs)
+round-same s old new keeps (x ∷ xs) is =
+    let parts = or_parts (is_stray s old x) (has_stray s old xs) is in
+    ap (λ (body : List Piece). or_itself x body ++ round new xs) (body-same s old new keeps x parts.0)
+    ∙ ap (λ (behind : List Piece). or_itself x (body_at old x) ++ behind) (round-same s old new keeps xs parts.1)
 
 has_equ-same : (s : RawSettings) (old new : EquList) → Keeps s old new → (xs : List Piece) → has_stray s old xs ≡ false → has_equ new xs ≡ has_equ old xs
 has_equ-same s old new keeps [] is = refl
-has_equ-same s old new keeps (x ∷ xs) is = grind (arith, body-same s old new keeps x, has_equ-same s old new keeps xs)
+has_equ-same s old new keeps (x ∷ xs) is =
+    let parts = or_parts (is_stray s old x) (has_stray s old xs) is in
+    ap (λ (body : List Piece). has_tokens body || has_equ new xs) (body-same s old new keeps x parts.0)
+    ∙ ap (λ (behind : Bool). has_tokens (body_at old x) || behind) (has_equ-same s old new keeps xs parts.1)
 
 after-same : (n : ℕ) (s : RawSettings) (old new : EquList) → Keeps s old new → (xs : List Piece) → has_loose s (after_rounds n old xs) ≡ false
     → after_rounds n new xs ≡ after_rounds n old xs

@@ -1,5 +1,5 @@
 -- The expanded lines and the labels of a source, or the first fault in the order of the refusals.
-use Rattle.std.specs.Prelude.{ℕ, ◌-◌, nat_lt, if◌then◌else◌, List, [], ◌∷◌, ◌++◌, length, take, Result, Ok, Err}
+use Rattle.std.specs.Prelude.{ℕ, ◌-◌, false, nat_lt, if◌then◌else◌, List, [], ◌∷◌, ◌++◌, length, take, Result, Ok, Err}
 use Rattle.war_types.specs.declared.fault.AsmKind.TheVariants as kinds
 use Rattle.war_types.specs.declared.fault.AsmFault.{AsmFault}
 use Rattle.war_types.specs.declared.settings.RawSettings.{RawSettings}
@@ -10,9 +10,9 @@ use Rattle.redcode_names.specs.Gives.{◌>>=◌, fault_at}
 use Rattle.redcode_lines.specs.Operand.{operands_of}
 use Rattle.redcode_lines.specs.Source.{NumberedLine, live_lines}
 use Rattle.redcode_names.specs.Equ.{EquList, replaced}
-use Rattle.redcode_lines.specs.Block.{parsed, source_lines}
-use Rattle.redcode_names.specs.Name.{LabelList}
-use Rattle.redcode_expand.specs.Walk.{WalkState, walk_all, walk_begin}
+use Rattle.redcode_lines.specs.Block.{Parsed, parsed, source_lines}
+use Rattle.redcode_names.specs.Name.{LabelList, Names}
+use Rattle.redcode_expand.specs.Walk.{WalkState, walk_state, walk_all, walk_begin}
 pub use Rattle.redcode_names.specs.Name.{address_of, predefined}
 pub use Rattle.redcode_expand.specs.Walk.{ExpandedLine}
 
@@ -41,6 +41,14 @@ all_replaced equs (line ∷ others) = line_replaced equs line >>= λ first. all_
 -- what the walk has found, with the names of all EQUs replaced
 abbrev pub finished : WalkState → Result Expansion AsmFault
 finished st = all_replaced st.names.equs st.lines >>= λ lines. Ok (record { lines = lines; labels = st.names.labels })
+
+-- the same of these names and these lines
+abbrev pub with_names : Names → List ExpandedLine → Result Expansion AsmFault
+with_names names lines = finished (walk_state 0 0 names lines false)
+
+-- the blocks of a source written out
+abbrev pub expansion_of_blocks : RawSettings → Parsed → Result Expansion AsmFault
+expansion_of_blocks s source = walk_all s source walk_begin >>= finished
 
 abbrev pub expansion_of_lines : RawSettings → List NumberedLine → Result Expansion AsmFault
 expansion_of_lines s live = walk_all s (parsed (source_lines live)) walk_begin >>= finished

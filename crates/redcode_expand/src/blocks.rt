@@ -52,28 +52,48 @@ fn walk_marked<'s, A: Allocator + Copy>(
     ensures { Gives (λ walk. walk) result (walk_all settings.now (parsed lines.now) walk_begin) }
 {
     let mut walk = Walk::new(alloc, hash);
-    let blocks = OpenBlocks::new(alloc, region, hash);
-    walk_lines(settings, &mut walk, blocks, counts, lines)?;
-    Ok(walk)
+    match walk_begun(alloc, region, settings, hash, &mut walk, counts, lines) {
+        Ok(()) => Ok(walk),
+        Err(fault) => Err(fault),
+    }
+}
+
+/// Walks over all lines, with no count kept and none walked over.
+fn walk_begun<'s, A: Allocator + Copy>(
+    alloc: A,
+    region: &'s Bump<A>,
+    settings: &Settings,
+    hash: NameHash,
+    walk: &mut Walk<'s, A>,
+    counts: &mut Counts<A>,
+    lines: &MarkedLines<'_, 's, A>,
+) -> Result<(), AsmFault>
+    requires few { length lines.now ≤ 65536 }
+    requires begin { walk.old ≡ walk_begin }
+    requires kept { AreKept settings.now lines.now [] counts.old }
+    ensures { Gives (λ _. walk.new) result (walk_all settings.now (parsed lines.now) walk_begin) }
+{
+    let mut blocks = OpenBlocks::new(alloc, region, hash);
+    walk_lines(settings, walk, &mut blocks, counts, lines)
 }
 
 /// Walks over all lines, with no count kept and no block begun.
 fn walk_lines<'s, A: Allocator + Copy>(
     settings: &Settings,
     walk: &mut Walk<'s, A>,
-    mut blocks: OpenBlocks<'s, A>,
+    blocks: &mut OpenBlocks<'s, A>,
     counts: &mut Counts<A>,
     lines: &MarkedLines<'_, 's, A>,
 ) -> Result<(), AsmFault>
     requires few { length lines.now ≤ 65536 }
     requires begin { walk.old ≡ walk_begin }
-    requires none { blocks ≡ [] }
+    requires none { blocks.old ≡ [] }
     requires kept { AreKept settings.now lines.now [] counts.old }
     ensures { Gives (λ _. walk.new) result (walk_all settings.now (parsed lines.now) walk_begin) }
 {
     let mut at = 0;
     while at < lines.len() && !walk.ended {
-        at = step(settings, walk, &mut blocks, counts, lines, at)?;
+        at = step(settings, walk, blocks, counts, lines, at)?;
     }
     Ok(())
 }

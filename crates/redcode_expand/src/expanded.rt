@@ -1,15 +1,16 @@
 //! The lines of a source written out, with the names of `EQU`s in their operands replaced.
 
-ghost use Rattle.std.specs.Prelude.{◌≡◌, ◌<◌, ◌++◌, [], length, IfOk, Err};
+ghost use Rattle.std.specs.Prelude.{◌≡◌, ◌<◌, ◌≤◌, ◌++◌, [], length, IfOk, Err};
 ghost use Rattle.redcode_names.specs.Gives.{Gives, fault_at};
 ghost use Rattle.redcode_expand.specs.Laws.{AreCounted, BlocksAreWrittenOut};
 ghost use Rattle.war_types.specs.declared.fault.AsmKind.TheVariants.{SourceTooLong};
-ghost use Rattle.redcode_expand.specs.Expansion.{expansion, address_of, all_replaced, line_replaced};
+ghost use Rattle.redcode_expand.specs.Expansion.{expansion, address_of, all_replaced, line_replaced, with_names, expansion_of_blocks};
+ghost use Rattle.redcode_lines.specs.Block.{parsed};
 
 use crate::blocks::walk_all;
 use crate::entry::Entry;
 use bumpalo::Bump;
-use redcode_lines::{live_source, operands_of, source_lines};
+use redcode_lines::{SourceLine, live_source, operands_of, source_lines};
 use redcode_names::{Equs, Labels, LinkedEqus, NameHash, Names, TOKEN_LIMIT, too_many, written};
 use redcode_text::Token;
 use std::alloc::{AllocError, Allocator};
@@ -66,7 +67,24 @@ pub fn expand<'s, A: Allocator + Copy>(
     let (number, live) = live_source(source);
     let lines = source_lines(alloc, number, live)?;
     let hash = NameHash::of(source, settings);
-    walk_all(alloc, region, lines.as_slice(), settings, hash)?.finish()
+    expanded_lines(alloc, region, lines.as_slice(), settings, hash)
+}
+
+/// Writes out these lines.
+fn expanded_lines<'s, A: Allocator + Copy>(
+    alloc: A,
+    region: &'s Bump<A>,
+    lines: &[SourceLine<'s, A>],
+    settings: &Settings,
+    hash: NameHash,
+) -> Result<Expanded<'s, A>, AsmFault>
+    requires { length lines.now ≤ 65536 }
+    ensures { Gives (λ expanded. expanded) result (expansion_of_blocks settings.now (parsed lines.now)) }
+{
+    match walk_all(alloc, region, lines, settings, hash) {
+        Ok(walk) => walk.finish(),
+        Err(fault) => Err(fault),
+    }
 }
 
 impl<'s, A: Allocator + Copy> Expanded<'s, A> {
@@ -171,8 +189,25 @@ fn joined<'s, A: Allocator + Copy>(
     Ok(all)
 }
 
+/// The lines with the names of `EQU`s replaced in their operands, and the labels.
+pub(crate) fn expanded_of<'s, A: Allocator + Copy>(
+    alloc: A,
+    names: Names<'s, A>,
+    entries: Vec<Entry<'s, A>, A>,
+) -> Result<Expanded<'s, A>, AsmFault>
+    ensures { Gives (λ expanded. expanded) result (with_names names.entry entries.entry.items) }
+{
+    match names_replaced(alloc, &names, entries) {
+        Ok(entries) => Ok(Expanded {
+            entries,
+            labels: names.labels,
+        }),
+        Err(fault) => Err(fault),
+    }
+}
+
 /// The lines with the names of these `EQU`s replaced in their operands.
-pub(crate) fn names_replaced<'s, A: Allocator + Copy>(
+fn names_replaced<'s, A: Allocator + Copy>(
     alloc: A,
     names: &Names<'s, A>,
     entries: Vec<Entry<'s, A>, A>,

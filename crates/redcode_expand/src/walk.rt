@@ -1,9 +1,10 @@
 //! The walk over the lines of a source.
 
-ghost use Rattle.std.specs.Prelude.{◌≡◌, ◌+◌, ◌<◌, [], Ok, OnOk};
+ghost use Rattle.std.specs.Prelude.{◌≡◌, ◌+◌, ◌<◌, [], true, Ok, OnOk};
 ghost use Rattle.redcode_text.specs.Tokens.{pieces};
 ghost use Rattle.redcode_names.specs.Equ.{has_equ};
 ghost use Rattle.redcode_names.specs.Gives.{Gives};
+ghost use Rattle.redcode_lines.specs.declared.line.LineKind.TheVariants.{End, Operation};
 ghost use Rattle.redcode_lines.specs.Line.{labels_of};
 ghost use Rattle.redcode_lines.specs.Views.{line_read};
 ghost use Rattle.redcode_expand.specs.Expansion.{finished};
@@ -11,7 +12,7 @@ ghost use Rattle.redcode_expand.specs.Rest.{counters_of};
 ghost use Rattle.redcode_expand.specs.Walk.{walk_begin, closed, copied, counted, labelled, with_line, placed, statement, lined, step, step_as, IsCopied};
 
 use crate::entry::Entry;
-use crate::expanded::{Expanded, names_replaced};
+use crate::expanded::{Expanded, expanded_of};
 use crate::open_blocks::OpenBlocks;
 use redcode_lines::{Line, LineForm, LineKind, Reading, behind_first};
 use redcode_names::{NameHash, Names};
@@ -142,15 +143,7 @@ impl<'s, A: Allocator + Copy> Walk<'s, A> {
     pub(crate) fn finish(self) -> Result<Expanded<'s, A>, AsmFault>
         ensures { Gives (λ expanded. expanded) result (finished self.entry) }
     {
-        let entries = self.entries;
-        let names = self.names;
-        match names_replaced(self.alloc, &names, entries) {
-            Ok(entries) => Ok(Expanded {
-                entries,
-                labels: names.labels,
-            }),
-            Err(fault) => Err(fault),
-        }
+        expanded_of(self.alloc, self.names, self.entries)
     }
 
     /// A line that counts, without a word.
@@ -195,23 +188,44 @@ impl<'s, A: Allocator + Copy> Walk<'s, A> {
         let word = line.word;
         let tokens = line.behind_labels();
         match word {
-            Some(Word::Operation(_) | Word::Pspace) => {
-                self.push(number, LineKind::Operation, word, b"", tokens)?;
-                self.before += 1;
-            }
-            Some(Word::Org) => self.push(number, LineKind::Org, word, b"", tokens)?,
-            Some(Word::End) => {
-                self.push(number, LineKind::End, word, b"", tokens)?;
-                self.ended = true;
-            }
-            Some(Word::Pin) => self.push(number, LineKind::Other, word, b"", tokens)?,
-            Some(Word::Equ | Word::For | Word::Rof) => {}
-            None => {
-                if !tokens.is_empty() {
-                    self.push(number, LineKind::Other, None, b"", tokens)?;
-                }
-            }
+            Some(Word::Operation(_) | Word::Pspace) => self.push_instruction(number, word, tokens),
+            Some(Word::Org) => self.push(number, LineKind::Org, word, b"", tokens),
+            Some(Word::End) => self.push_end(number, word, tokens),
+            Some(Word::Pin) => self.push(number, LineKind::Other, word, b"", tokens),
+            Some(Word::Equ | Word::For | Word::Rof) => Ok(()),
+            None if tokens.is_empty() => Ok(()),
+            None => self.push(number, LineKind::Other, None, b"", tokens),
         }
+    }
+
+    /// An instruction.
+    fn push_instruction(
+        &mut self,
+        number: u32,
+        word: Option<Word>,
+        tokens: &[Token<'s>],
+    ) -> Result<(), AsmFault>
+        requires { self.old.before < self.old.counted }
+        ensures pushed { Gives (λ _. self.new) result (Ok (record (with_line number Operation word [] (pieces tokens.now) self.old) { before = self.old.before + 1 })) }
+        ensures counted { self.new.counted ≡ self.old.counted }
+    {
+        self.push(number, LineKind::Operation, word, b"", tokens)?;
+        self.before += 1;
+        Ok(())
+    }
+
+    /// An `END`.
+    fn push_end(
+        &mut self,
+        number: u32,
+        word: Option<Word>,
+        tokens: &[Token<'s>],
+    ) -> Result<(), AsmFault>
+        ensures pushed { Gives (λ _. self.new) result (Ok (record (with_line number End word [] (pieces tokens.now) self.old) { ended = true })) }
+        ensures counted { self.new.counted ≡ self.old.counted }
+    {
+        self.push(number, LineKind::End, word, b"", tokens)?;
+        self.ended = true;
         Ok(())
     }
 

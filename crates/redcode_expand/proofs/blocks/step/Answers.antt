@@ -1,4 +1,5 @@
-use Rattle.std.proofs.Common.{sym, ◌∙◌}
+use Rattle.std.proofs.lemmas.Grind.{common_steps}
+use Rattle.std.proofs.Common.{arith, sym, ◌∙◌}
 use Rattle.redcode_lines.specs.Views.{line_read}
 use Rattle.redcode_expand.specs.Rest.{counters_of}
 use Rattle.redcode_expand.proofs.AddedEqus.{step-keeps}
@@ -22,3 +23,9 @@ end_copy-requires-clause-line g c = line-drop c.args.lines.now c.args.at c.requi
 
 pub end_copy-requires-clause-word : goal.end_copy-requires-clause-word
 end_copy-requires-clause-word g c = word-rof _ (sym c.edge.ensures ∙ c.in-Rof.is)
+
+pub returns-in_err-step-in-Neither-clause-goes_on : goal.returns-in_err-step-in-Neither-clause-goes_on
+returns-in_err-step-in-Neither-clause-goes_on g c = grind (arith, common_steps)
+
+pub returns-in_ok-step-in-Neither-clause-goes_on : goal.returns-in_ok-step-in-Neither-clause-goes_on
+returns-in_ok-step-in-Neither-clause-goes_on g c = grind (arith, common_steps)

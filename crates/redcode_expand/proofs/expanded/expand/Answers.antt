@@ -1,13 +1,12 @@
-use Rattle.std.proofs.lemmas.Grind.{common_steps}
-use Rattle.std.proofs.Common.{◌≡◌, ℕ, ◌≤◌, List, length, map, le-ltb, sym, ap, ◌∙◌, arith}
+use Rattle.std.proofs.Common.{◌≡◌, ℕ, ◌≤◌, List, Result, length, map, le-ltb, sym, ap, subst, ◌∙◌}
 use Rattle.war_types.specs.declared.settings.RawSettings.{RawSettings}
 use Rattle.redcode_lines.specs.Source.{NumberedLine, lines_of, numbered_from, live_lines}
 use Rattle.redcode_lines.specs.Capped.{capped}
 use Rattle.redcode_lines.specs.Line.{SourceLine}
 use Rattle.redcode_lines.specs.Block.{parsed, source_lines}
-use Rattle.redcode_names.specs.Gives.{◌>>=◌}
-use Rattle.redcode_expand.specs.Walk.{walk_all, walk_begin}
-use Rattle.redcode_expand.specs.Expansion.{expansion, finished}
+use Rattle.war_types.specs.declared.fault.AsmFault.{AsmFault}
+use Rattle.redcode_names.specs.Gives.{Gives}
+use Rattle.redcode_expand.specs.Expansion.{Expansion, expansion, expansion_of_blocks}
 use Rattle.redcode_expand.proofs.Capped.{capped-same}
 use Rattle.redcode_expand.proofs.Counted.{if-counted}
 use Rattle.redcode_expand.proofs.WrittenOut.{blocks-written}
@@ -16,35 +15,25 @@ use Rattle.redcode_expand.proofs.expanded.expand.Goals as goal
 -- the result of the walk over all lines is due
 expansion-found : (s : RawSettings) (source text : List ℕ) (number : ℕ) (lines : List SourceLine) → length source ≤ 65536
     → numbered_from number (lines_of text) ≡ live_lines source → lines ≡ map capped (source_lines (numbered_from number (lines_of text)))
-    → expansion s source ≡ walk_all s (parsed lines) walk_begin >>= finished
+    → expansion s source ≡ expansion_of_blocks s (parsed lines)
 unfolding expansion
 expansion-found s source text number lines short live are =
     rw (le-ltb 65536 _ short)
     (sym (capped-same s (source_lines (live_lines source)))
-    ∙ ap (λ (ls : List SourceLine). walk_all s (parsed ls) walk_begin >>= finished) (sym (are ∙ ap (λ (ns : List NumberedLine). map capped (source_lines ns)) live)))
-
-pub returns-in_err-walk_all-clause-gives : goal.returns-in_err-walk_all-clause-gives
-returns-in_err-walk_all-clause-gives g c =
-    let due : expansion c.args.settings.now c.args.source.now ≡ walk_all c.args.settings.now (parsed c.as_slice.result.now) walk_begin >>= finished =
-    expansion-found c.args.settings.now c.args.source.now c.live_source-number.result.1.now c.live_source-number.result.0 c.as_slice.result.now
-    c.if-source-gt-SOURCE_LIMIT.false c.live_source-number.ensures.lines (c.as_slice.ensures.value ∙ c.in_ok-lines.ensures.lines) in
-    grind (arith, common_steps)
-
-pub returns-in_err-walk_all-clause-written : goal.returns-in_err-walk_all-clause-written
-returns-in_err-walk_all-clause-written g c = blocks-written c.args.settings.now
+    ∙ ap (λ (ls : List SourceLine). expansion_of_blocks s (parsed ls)) (sym (are ∙ ap (λ (ns : List NumberedLine). map capped (source_lines ns)) live)))
 
 pub returns-clause-gives : goal.returns-clause-gives
 returns-clause-gives g c =
-    let due : expansion c.args.settings.now c.args.source.now ≡ walk_all c.args.settings.now (parsed c.as_slice.result.now) walk_begin >>= finished =
-    expansion-found c.args.settings.now c.args.source.now c.live_source-number.result.1.now c.live_source-number.result.0 c.as_slice.result.now
+    let s = c.args.settings.now in
+    let due = expansion-found s c.args.source.now c.live_source-number.result.1.now c.live_source-number.result.0 c.as_slice.result.now
     c.if-source-gt-SOURCE_LIMIT.false c.live_source-number.ensures.lines (c.as_slice.ensures.value ∙ c.in_ok-lines.ensures.lines) in
-    grind (arith, common_steps)
+    subst (λ (r : Result Expansion AsmFault). Gives (λ (expanded : Expansion). expanded) c.expanded_lines.result r) (sym due) c.expanded_lines.ensures
 
 pub returns-clause-written : goal.returns-clause-written
 returns-clause-written g c = blocks-written c.args.settings.now
 
 pub returns-clause-counted : goal.returns-clause-counted
-returns-clause-counted g c = if-counted c.args.settings.now c.args.source.now c.finish.result (returns-clause-gives g c)
+returns-clause-counted g c = if-counted c.args.settings.now c.args.source.now c.expanded_lines.result (returns-clause-gives g c)
 
 pub returns-then-source-gt-SOURCE_LIMIT-clause-written : goal.returns-then-source-gt-SOURCE_LIMIT-clause-written
 returns-then-source-gt-SOURCE_LIMIT-clause-written g c = blocks-written c.args.settings.now

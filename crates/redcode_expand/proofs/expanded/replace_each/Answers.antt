@@ -1,3 +1,4 @@
+use Rattle.std.proofs.lemmas.Grind.{common_steps}
 use Rattle.std.proofs.Common.{length, ap, arith}
 use Rattle.redcode_expand.proofs.Unchanged.{line-kept}
 use Rattle.redcode_expand.proofs.expanded.replace_each.Goals as goal
@@ -12,3 +13,9 @@ loop-entry-preserved g c =
           steps.0 c.in_ok-line.ensures c.in_ok-push.ensures.items c.loop-entry.invariant.0,
       omega arith,
     )
+
+pub returns : goal.returns
+returns g c = grind (arith, common_steps)
+
+pub returns-in_err-line : goal.returns-in_err-line
+returns-in_err-line g c = grind (arith, common_steps)

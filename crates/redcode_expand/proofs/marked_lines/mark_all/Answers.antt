@@ -1,3 +1,4 @@
+use Rattle.std.proofs.lemmas.Grind.{common_steps}
 use Rattle.std.proofs.Common.{◌≡◌, ◌+◌, ◌-◌, ◌<◌, ℕ, length, sym, subst, arith}
 use Rattle.redcode_lines.specs.Views.{line_read}
 use Rattle.redcode_expand.specs.Marks.{AreMarked, IsNextRof}
@@ -22,3 +23,9 @@ loop-at-preserved g c = (
   c.rof_from-rof.ensures,
   omega (arith, c.loop-at.invariant.2),
 )
+
+pub loop-at-init : goal.loop-at-init
+loop-at-init g c = grind (arith, common_steps)
+
+pub returns : goal.returns
+returns g c = grind (arith, common_steps)

@@ -1,4 +1,5 @@
-use Rattle.std.proofs.Common.{sym, ap, ◌∙◌}
+use Rattle.std.proofs.lemmas.Grind.{common_steps}
+use Rattle.std.proofs.Common.{arith, sym, ap, ◌∙◌}
 use Rattle.redcode_lines.specs.Line.{SourceLine}
 use Rattle.redcode_lines.specs.Views.{line_read}
 use Rattle.redcode_copies.specs.Counter.{in_copy}
@@ -15,3 +16,6 @@ loop-block-preserved g c =
     let written = ap (λ (l : SourceLine). with_tokens l c.in_ok-copy-2.copy) (sym c.reading.ensures) ∙ c.in_ok-copy-2.ensures ∙ ap (in_copy counter) c.reading.ensures in
     copied-more c.args.blocks.now c.loop-block.block-index c.block-item.result counter line old (with_tokens line c.in_ok-copy-2.copy)
     c.loop-block-test.true c.block-item.is (ap (λ (b : OpenBlock). b.counter) c.block.view_is) c.loop-block.invariant written
+
+pub returns : goal.returns
+returns g c = grind (arith, common_steps)

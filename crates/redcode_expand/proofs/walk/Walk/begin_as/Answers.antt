@@ -1,4 +1,5 @@
-use Rattle.std.proofs.Common.{subst}
+use Rattle.std.proofs.lemmas.Grind.{common_steps}
+use Rattle.std.proofs.Common.{arith, subst}
 use Rattle.redcode_expand.specs.declared.walk.Walk.TheInside.{Inside}
 use Rattle.redcode_text.specs.Tokens.{pieces}
 use Rattle.redcode_lines.specs.Line.{names_among}
@@ -18,3 +19,6 @@ returns-in-Err-clause-begun g c =
     (names_among (pieces c.labels.result.now)) count c.in_ok-counter.counter.now c.self.view_is c.labels.ensures c.in_ok-counter.ensures c.behind_first-count.ensures.behind in
     let counts = subst (λ (w : Inside g.row.A.Denot). Fails c.in-Err.fault (copies_of c.args.settings.now line.number inside.before w.names.equs count)) c.self-inside.view_is c.in-Err.ensures.copies in
     begun-refused _ _ c.in_ok-counter.counter.now (copies_of c.args.settings.now line.number inside.before new.equs count) c.in-Err.fault due counts
+
+pub returns-in-Ok-clause-begun : goal.returns-in-Ok-clause-begun
+returns-in-Ok-clause-begun g c = grind (arith, common_steps)
