@@ -1,5 +1,5 @@
 -- Chunk by chunk, and the ends.
-use Rattle.std.proofs.Common.{◌<◌, ◌++◌, None, Some, [], arith, length, refl, rules, subst, sym, take}
+use Rattle.std.proofs.Common.{◌∙◌, ◌<◌, ◌++◌, None, Some, [], arith, length, refl, rules, subst, sym, take}
 use Rattle.std.proofs.lemmas.List.{length-take-le}
 use Rattle.std.proofs.KnownBytes.{Consumes-kept, Consumes-nil, Consumes-trans}
 use Rattle.koth_session.proofs.Endings.{answers_all, count_taken, end_taken, ends_by, kept_at, never_read}
@@ -74,8 +74,8 @@ loop-taken-preserved g c =
       most = omega (arith, c.in-Ok.ensures.within.0, so_far.most);
       all_taken = omega (arith, c.in-Ok.ensures.counted, so_far.all_taken);
       went = goes_on g.D.Device.facts [] None so_far.bytes more c.loop-taken.script c.serve_bytes.new.script None _ _ _ w (c.in_default.ensures.goes w.new_line w.new_source w.reading);
-      read_faults = search rules;
-      write_faults = search rules;
+      read_faults = c.in-Ok.ensures.ok ∙ so_far.read_faults;
+      write_faults = c.in_default.ensures.ok refl ∙ so_far.write_faults;
     }
 
 pub returns-clause-ends : goal.returns-clause-ends
