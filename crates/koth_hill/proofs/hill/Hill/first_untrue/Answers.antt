@@ -106,3 +106,8 @@ returns-in-Some-clause-arena g c = c.matches_with-bouts.ensures.settings ∙ c.l
 
 pub returns-clause-arena : goal.returns-clause-arena
 returns-clause-arena g c = c.loop-i.invariant.settings
+
+pub offset_bounds-members-place : goal.offset_bounds-members-place
+offset_bounds-members-place g c =
+    let many = many-matches c.self.inside.settings c.as_slice-members.result.now c.loop-i.i c.warrior.result.now c.as_slice-fought.result.now (omega (arith, c.loop-i-test.true)) (c.as_slice-fought.ensures.value ∙ c.matches_with-bouts.ensures.value) in
+    omega (arith, many, c.in-Some.ensures.beside, c.loop-i-test.true)
