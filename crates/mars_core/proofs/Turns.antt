@@ -47,6 +47,13 @@ first_front m first second pc n is f e = ap (λ (m : Side). front (queue_at m fi
 pub second_front : (m : Side) (first second : Processes) (pc n : ℕ) → m ≡ sides.Second → front second.addresses ≡ Some n → pc ≡ n → front (queue_at m first second).addresses ≡ Some pc
 second_front m first second pc n is f e = ap (λ (m : Side). front (queue_at m first second).addresses) is ∙ (f ∙ ap Some (sym e))
 
+-- the front process is one of the core
+pub front_inside : (size limit at : ℕ) (queue : List ℕ) → IsQueue size limit queue → front queue ≡ Some at → at < size
+front_inside size limit at [] is found = cc
+front_inside size limit at (x ∷ rest) is found =
+    let same : x ≡ at = cc in
+    subst (λ (n : ℕ). n < size) same (is.addresses 0 0 (omega arith))
+
 behind_front-short : (xs : List ℕ) (limit : ℕ) → length xs ≤ limit → length (behind_front xs) ≤ limit
 behind_front-short [] limit h = h
 behind_front-short (x ∷ xs) limit h = omega arith

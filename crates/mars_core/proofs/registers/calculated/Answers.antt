@@ -1,9 +1,10 @@
-use Rattle.std.proofs.Common.{◌≡◌, ap, ◌∙◌, sym, refl, Bool, true, false, ◌&&◌, List, [], ◌∷◌}
+use Rattle.std.proofs.Common.{◌≡◌, ap, ◌∙◌, sym, refl, Bool, true, false, ◌&&◌, List, [], ◌∷◌, ℕ, Option, ap₂}
 use Rattle.std.specs.Option.{is_some}
+use Rattle.war_types.specs.declared.instr.Instr.{Instr}
 use Rattle.std.specs.List.{list_all}
 use Rattle.mars_core.specs.Pairs.{Pair}
-use Rattle.mars_core.specs.Effect.{value, calculated}
-use Rattle.mars_core.specs.Code.{arithmetic_of, pair_of}
+use Rattle.mars_core.specs.Effect.{value, with_value, calculated}
+use Rattle.mars_core.specs.Code.{arithmetic_of, field_of, pair_of}
 use Rattle.mars_core.proofs.Pairs.{all-one}
 use Rattle.mars_core.proofs.registers.calculated.Goals as goal
 use Rattle.mars_core.proofs.registers.calculated.Goals.{then-is_some, else-is_some}
@@ -36,12 +37,15 @@ returns-after-is_some-clause-all c =
     ]
 
 pub returns-in-One-clause-all : goal.returns-in-One-clause-all
-returns-in-One-clause-all c = cc (all-one (λ (p : Pair). is_some (value c.args.size (arithmetic_of c.args.arithmetic) c.args.a.instr c.args.b.instr p)) (pair_of c.in-One.p) _ c.in-One.ensures)
+returns-in-One-clause-all c = c.is_some.ensures ∙ (ap is_some c.value-n.ensures.value ∙ all-one (λ (p : Pair). is_some (value c.args.size (arithmetic_of c.args.arithmetic) c.args.a.instr c.args.b.instr p)) (pair_of c.in-One.p) _ c.in-One.ensures)
 
 pub returns-in-One-clause-target : goal.returns-in-One-clause-target
 returns-in-One-clause-target c =
-    cc (ap (λ (ps : List Pair). calculated c.args.size (arithmetic_of c.args.arithmetic) c.args.a.instr c.args.b.instr ps c.args.target.instr) c.in-One.ensures)
+    c.with_value.ensures.value
+    ∙ (ap (λ (n : Option ℕ). with_value (field_of c.in-One.p.target) n c.args.target.instr) c.value-n.ensures.value ∙ ap (λ (ps : List Pair). calculated c.args.size (arithmetic_of c.args.arithmetic) c.args.a.instr c.args.b.instr ps c.args.target.instr) c.in-One.ensures)
 
 pub returns-after-is_some-clause-target : goal.returns-after-is_some-clause-target
 returns-after-is_some-clause-target c =
-    cc (ap (λ (ps : List Pair). calculated c.args.size (arithmetic_of c.args.arithmetic) c.args.a.instr c.args.b.instr ps c.args.target.instr) c.in-Two.ensures)
+    let half = c.with_value-half.ensures.value ∙ ap (λ (n : Option ℕ). with_value (field_of c.in-Two.p.target) n c.args.target.instr) c.value-n-in-Two.ensures.value in
+    c.with_value-in-Two.ensures.value
+    ∙ (ap₂ (λ (n : Option ℕ) (i : Instr). with_value (field_of c.in-Two.q.target) n i) c.value-m.ensures.value half ∙ ap (λ (ps : List Pair). calculated c.args.size (arithmetic_of c.args.arithmetic) c.args.a.instr c.args.b.instr ps c.args.target.instr) c.in-Two.ensures)

@@ -1,11 +1,11 @@
-use Rattle.std.proofs.Common.{◌≡◌, ℕ, ◌+◌, ◌-◌, true, false, Some, ap, sym, ◌∙◌, arith}
+use Rattle.std.proofs.Common.{◌≡◌, ℕ, ◌+◌, ◌-◌, true, false, Some, ap, sym, ◌∙◌, arith, ◌<◌, subst}
 use Rattle.mars_core.specs.declared.round.Side.{Side}
 use Rattle.mars_core.specs.declared.effect.Queued.{Queued}
 use Rattle.mars_core.specs.Queue.{front, queued}
 use Rattle.mars_core.specs.Round.{Round, after_turns, turned, turned_by}
 use Rattle.mars_core.specs.Arena.{round_in}
 use Rattle.mars_core.specs.Code.{addresses, other}
-use Rattle.mars_core.proofs.Turns.{Moved, queue_at, without_front, first_moves, second_moves, first_front, second_front, queued_nothing, queues_kept, limits_kept, both_live, over-empty, turned-made, after_turns-made, after_turns-none, after_turns-over, same_round}
+use Rattle.mars_core.proofs.Turns.{Moved, queue_at, without_front, first_moves, second_moves, first_front, second_front, front_inside, queued_nothing, queues_kept, limits_kept, both_live, over-empty, turned-made, after_turns-made, after_turns-none, after_turns-over, same_round}
 use Rattle.mars_core.proofs.turn.turns.Given.{Over}
 use Rattle.mars_core.proofs.turn.turns.Goals as goal
 use Rattle.mars_core.proofs.turn.turns.Goals.{in-First, in-Second, in-Nothing+else-is_empty, in-First-to_move, in-Second-to_move, in-One+in-First-to_move-2, in-One+in-Second-to_move-2, in-Two+in-First-to_move-3, in-Two+in-Second-to_move-3}
@@ -196,3 +196,15 @@ returns-then-is_empty-clause-second g c =
 pub returns-then-is_empty-clause-second_limit : goal.returns-then-is_empty-clause-second_limit
 returns-then-is_empty-clause-second_limit g c =
     (limits_kept c.loop-left.to_move (addresses c.execute-queued.result) c.loop-left.first c.loop-left.second c.match-to_move-2.first c.match-to_move-2.second (moved-at-end g c).0).1 ∙ c.loop-left.invariant.second_limit
+
+-- ---- what is executed is an address of the core
+
+pub execute-queued-requires-clause-pc : goal.execute-queued-requires-clause-pc
+execute-queued-requires-clause-pc g c =
+    elim c.match-to_move.branch [
+      | in-First w ↦ subst (λ (n : ℕ). n < c.args.size) (sym w.pc-is) (front_inside _ _ _ _ c.loop-left.invariant.first w.front-pc.ensures)
+      | in-Second w ↦ subst (λ (n : ℕ). n < c.args.size) (sym w.pc-is) (front_inside _ _ _ _ c.loop-left.invariant.second w.front-pc-in-Second.ensures)
+    ]
+
+pub returns-clause-last : goal.returns-clause-last
+returns-clause-last g c = λ s used z l1 l2 bound one. c.loop-left.invariant.last s used z l1 l2 bound one (omega (arith, c.loop-left-test.false))

@@ -1,17 +1,10 @@
-use Rattle.std.proofs.Common.{◌≡◌, false, Some, ap, sym, subst, ◌∙◌, ℕ, ◌<◌, List, [], ◌∷◌, arith}
+use Rattle.std.proofs.Common.{◌≡◌, ◌<◌, false, ap, sym, subst, ◌∙◌}
 use Rattle.mars_core.specs.declared.round.Side.{Side}
 use Rattle.mars_core.specs.Queue.{front}
-use Rattle.mars_core.specs.Round.{Round, IsQueue, is_over, queue_of}
+use Rattle.mars_core.specs.Round.{Round, is_over, queue_of}
 use Rattle.mars_core.specs.Arena.{round_in}
-use Rattle.mars_core.proofs.Turns.{both_sides_live}
+use Rattle.mars_core.proofs.Turns.{both_sides_live, front_inside}
 use Rattle.mars_core.proofs.arena.Arena.front.Goals as goal
-
--- the front process is one of the core
-front_inside : (size limit at : ℕ) (queue : List ℕ) → IsQueue size limit queue → front queue ≡ Some at → at < size
-front_inside size limit at [] is found = cc
-front_inside size limit at (x ∷ rest) is found =
-    let same : x ≡ at = cc in
-    subst (λ (n : ℕ). n < size) same (is.addresses 0 0 (omega arith))
 
 pub front-requires : goal.front-requires
 front-requires g c =

@@ -1,6 +1,6 @@
-use Rattle.std.proofs.Common.{◌≡◌, ℕ, List, length, set, sym, ap, subst₂, ◌∙◌, length-set, arith}
+use Rattle.std.proofs.Common.{◌≡◌, ℕ, List, length, set, sym, ap, subst₂, ◌∙◌, length-set, arith, subst}
 use Rattle.std.proofs.lemmas.List.{with_items_is}
-use Rattle.mars_core.specs.Words.{Word, AreCells, is_marked}
+use Rattle.mars_core.specs.Words.{Word, IsWord, AreCells, is_marked}
 use Rattle.mars_core.proofs.Marks.{inside-core_in, is_marked-read, room-unmarked, AreCells-set, AreCells-push, core_in-set, IsCore-set}
 use Rattle.mars_core.proofs.cells.Core.put.Goals as goal
 
@@ -59,3 +59,8 @@ pub returns-else-not-is_marked-clause-core : goal.returns-else-not-is_marked-cla
 returns-else-not-is_marked-clause-core g c =
     IsCore-set c.args.size c.args.self.now _ c.args.at c.args.word.instr c.requires.core c.requires.numbers
     (core_in-set c.self.inside.cells.items c.args.at c.bits.result c.args.self.now c.args.word.instr c.self.view_is (ap (λ (w : Word). w.instr) c.bits.ensures.value ∙ c.marked.ensures.instr))
+
+pub in_bits-before-requires : goal.in_bits-before-requires
+in_bits-before-requires g c =
+    let inside = inside-core_in c.args.size c.args.at c.self.inside.cells.items c.args.self.now c.requires.core c.requires.address c.self.view_is in
+    subst IsWord (sym c.index.ensures) (c.self.invariant.words c.args.at c.index.result.now inside)
