@@ -90,14 +90,37 @@ impl<D: Device, A: Allocator + Copy> Desk<D, A> {
         ensures nobody { IfOk result (λ desk. (p : ℕ) → peer_at desk.peers.slots.items p ≡ None) }
         ensures store { IfOk result (λ desk. desk.store ≡ store) }
     {
-        Ok(Desk {
-            peers: Peers::new(alloc, most)?,
-            store,
-            seats: Seats::new(alloc, most)?,
-            sessions: Sessions::new(sessions),
-            is_busy: false,
-            retries: false,
-        })
+        match Peers::new(alloc, most) {
+            Ok(peers) => Desk::seated(alloc, most, sessions, peers, store),
+            Err(error) => Err(error),
+        }
+    }
+
+    /// These peers, none of whom is there yet, with `most` seats.
+    fn seated(
+        alloc: A,
+        most: usize,
+        sessions: Option<u64>,
+        peers: Peers<A>,
+        store: Store<D, A>,
+    ) -> Result<Desk<D, A>, AllocError>
+    where
+        D: Drop,
+        requires { (p : ℕ) → peer_at peers.slots.items p ≡ None }
+        ensures nobody { IfOk result (λ desk. (p : ℕ) → peer_at desk.peers.slots.items p ≡ None) }
+        ensures store { IfOk result (λ desk. desk.store ≡ store) }
+    {
+        match Seats::new(alloc, most) {
+            Ok(seats) => Ok(Desk {
+                peers,
+                store,
+                seats,
+                sessions: Sessions::new(sessions),
+                is_busy: false,
+                retries: false,
+            }),
+            Err(error) => Err(error),
+        }
     }
 }
 

@@ -1,9 +1,10 @@
 //! Round after round.
 #![tactic(auto, using(crate::proofs::Told::stays))]
 
-ghost use Rattle.std.specs.Prelude.{◌≡◌, false, IfOk};
+ghost use Rattle.std.specs.Prelude.{◌≡◌, ℕ, None, false, IfOk};
+ghost use Rattle.koth_peers.specs.Peers.{peer_at};
 ghost use Rattle.koth_service.specs.Noted.{Stays};
-ghost use Rattle.koth_service.specs.Connections.{AllGoOn};
+ghost use Rattle.koth_service.specs.Connections.{stage_at, AllGoOn};
 ghost use Rattle.koth_service.specs.Standing.{IsSoundAfter, KeepsOnBy, ServesPeers};
 ghost use Rattle.koth_service.specs.Told.{Grows};
 
@@ -53,20 +54,51 @@ pub fn serve_peers<S: Sockets, D: Device + Drop, A: Allocator + Copy, H: Host<D,
     ensures served { ServesPeers S.happened D.facts (H.shows host.now) store sockets.old sockets.new }
     ensures told { Grows (E.contents errors.old) (E.contents errors.new) }
 {
-    let mut desk = match Desk::new(alloc, most, connections.map(u64::from), store) {
-        Ok(desk) => desk,
-        Err(AllocError) => return Err(ServiceFault::Memory),
-    };
-    let mut browsers = match Browsers::new(alloc, browsers) {
-        Ok(browsers) => browsers,
-        Err(AllocError) => return Err(ServiceFault::Memory),
-    };
+    match Desk::new(alloc, most, connections.map(u64::from), store) {
+        Ok(desk) => serve_at(alloc, sockets, desk, browsers, host, errors),
+        Err(AllocError) => Err(ServiceFault::Memory),
+    }
+}
+
+/// Serves the peers of a desk at which nobody is yet, and up to `most` browsers at once.
+fn serve_at<S: Sockets, D: Device + Drop, A: Allocator + Copy, H: Host<D, A>, E: Write>(
+    alloc: A,
+    sockets: &mut S,
+    desk: Desk<D, A>,
+    most: usize,
+    host: &H,
+    errors: &mut E,
+) -> Result<(), ServiceFault<H::Fault>>
+    requires { (p : ℕ) → peer_at desk.peers.slots.items p ≡ None }
+    ensures served { ServesPeers S.happened D.facts (H.shows host.now) desk.store sockets.old sockets.new }
+    ensures told { Grows (E.contents errors.old) (E.contents errors.new) }
+{
+    match Browsers::new(alloc, most) {
+        Ok(mut browsers) => serve_rounds(sockets, desk, &mut browsers, host, errors),
+        Err(AllocError) => Err(ServiceFault::Memory),
+    }
+}
+
+/// Serves the peers of a desk and these browsers, of which there are none yet.
+fn serve_rounds<S: Sockets, D: Device + Drop, A: Allocator + Copy, H: Host<D, A>, E: Write>(
+    sockets: &mut S,
+    desk: Desk<D, A>,
+    browsers: &mut Browsers<A>,
+    host: &H,
+    errors: &mut E,
+) -> Result<(), ServiceFault<H::Fault>>
+    requires peers { (p : ℕ) → peer_at desk.peers.slots.items p ≡ None }
+    requires browsers { (p : ℕ) → stage_at browsers.old.connections.items p ≡ None }
+    ensures served { ServesPeers S.happened D.facts (H.shows host.now) desk.store sockets.old sockets.new }
+    ensures told { Grows (E.contents errors.old) (E.contents errors.new) }
+{
+    let mut desk = desk;
     for _round in 0..u64::MAX {
-        give_out(&mut desk, &mut browsers, sockets, host, errors);
+        give_out(&mut desk, browsers, sockets, host, errors);
         if desk.sessions.are_done() {
             return Ok(());
         }
-        let step = take_in(&mut desk, &browsers, sockets, host, errors);
+        let step = take_in(&mut desk, browsers, sockets, host, errors);
         desk = match sound(desk, step, host) {
             Ok(desk) => desk,
             Err(fault) => return Err(ServiceFault::Reopening(fault)),
@@ -146,7 +178,8 @@ fn sound<D: Device + Drop, A: Allocator + Copy, H: Host<D, A>>(
     ensures { IfOk result (IsSoundAfter step desk) }
 {
     match step {
-        Step::Nobody | Step::Served(_) => Ok(desk),
+        Step::Nobody => Ok(desk),
+        Step::Served(_) => Ok(desk),
         Step::StoreFailed(_) => reopened(desk, host),
     }
 }
@@ -156,8 +189,7 @@ fn reopened<D: Device + Drop, A: Allocator + Copy, H: Host<D, A>>(
     desk: Desk<D, A>,
     host: &H,
 ) -> Result<Desk<D, A>, H::Fault>
-    ensures peers { IfOk result (λ new. new.peers ≡ desk.peers) }
-    ensures store { IfOk result (λ new. new.store.reopen ≡ false) }
+    ensures { IfOk result (λ new. (new.peers ≡ desk.peers) × (new.store.reopen ≡ false)) }
 {
     let mut desk = desk;
     drop(desk.store.close());

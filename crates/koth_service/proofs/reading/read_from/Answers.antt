@@ -1,5 +1,6 @@
 use Rattle.std.proofs.Common.{take}
 use Rattle.koth_service.proofs.Steps.{came, closed}
+use Rattle.koth_service.proofs.Told.{stays}
 use Rattle.koth_service.proofs.reading.read_from.Goals as goal
 
 pub returns-in-Bytes-clause-served : goal.returns-in-Bytes-clause-served
@@ -11,3 +12,15 @@ pub returns-in-End-clause-served : goal.returns-in-End-clause-served
 returns-in-End-clause-served g c = λ start browsers on.
     closed g.S.Sockets.happened g.D.Device.facts (g.H.Host.shows c.args.host.now) start browsers c.args.sockets.now c.read.new.self c.args.desk.now.peers.slots.items c.close.new.self.slots.items _ c.args.number
     c.close.ensures.closes c.in-End.ensures on
+
+pub returns-then-room-eq0-clause-told : goal.returns-then-room-eq0-clause-told
+returns-then-room-eq0-clause-told g c = stays _
+
+pub returns-in-Bytes-clause-told : goal.returns-in-Bytes-clause-told
+returns-in-Bytes-clause-told g c = stays _
+
+pub returns-in-End-clause-told : goal.returns-in-End-clause-told
+returns-in-End-clause-told g c = stays _
+
+pub returns-in-Nothing-clause-told : goal.returns-in-Nothing-clause-told
+returns-in-Nothing-clause-told g c = stays _

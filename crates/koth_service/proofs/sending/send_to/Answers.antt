@@ -1,6 +1,7 @@
 use Rattle.std.proofs.Common.{ℕ, List, ◌∷◌, subst, take}
 use Rattle.koth_service.specs.Noted.{Noted}
 use Rattle.koth_service.proofs.Steps.{some_unsent, went}
+use Rattle.koth_service.proofs.Told.{stays}
 use Rattle.koth_service.proofs.sending.send_to.Goals as goal
 
 pub returns-in-Bytes-clause-served : goal.returns-in-Bytes-clause-served
@@ -11,3 +12,12 @@ returns-in-Bytes-clause-served g c = λ start browsers on.
     count c.sent.ensures.sends (some_unsent _ _ _ is c.is_empty.ensures c.if-is_empty.false)
     (subst (λ (l : List ℕ). (log : List Noted) → g.S.Sockets.happened c.args.sockets.now log → g.S.Sockets.happened c.write.new.self (Noted.Told c.args.number (take count l) ∷ log)) is
     c.in-Bytes.ensures.1) on
+
+pub returns-then-is_empty-clause-told : goal.returns-then-is_empty-clause-told
+returns-then-is_empty-clause-told g c = stays _
+
+pub returns-in-Bytes-clause-told : goal.returns-in-Bytes-clause-told
+returns-in-Bytes-clause-told g c = stays _
+
+pub returns-in-Nothing-clause-told : goal.returns-in-Nothing-clause-told
+returns-in-Nothing-clause-told g c = stays _

@@ -1,33 +1,13 @@
--- Round after round.
-use Rattle.koth_service.specs.Connections.{stage_at}
-use Rattle.koth_service.proofs.Steps.{begun, so_far_after, so_far_on, sound_after}
-use Rattle.koth_service.proofs.Told.{grows_on, stays}
+-- The desk has the store that was given.
+use Rattle.std.proofs.Common.{subst}
+use Rattle.koth_service.specs.Standing.{ServesPeers}
+use Rattle.koth_service.proofs.Told.{stays}
 use Rattle.koth_service.proofs.service.serve_peers.Goals as goal
 
-pub loop-round-init : goal.loop-round-init
-loop-round-init g c = (
-  λ none. begun g.S.Sockets.happened g.D.Device.facts (g.H.Host.shows c.args.host.now) c.args.store (stage_at c.in-Ok-new.browsers.connections.items) c.args.sockets.now c.in-Ok.desk.peers.slots.items c.in-Ok.desk.store c.in-Ok.ensures.store c.in-Ok.ensures.nobody c.in-Ok-new.ensures none,
-  stays _,
-)
+pub returns-in-Ok-clause-served : goal.returns-in-Ok-clause-served
+returns-in-Ok-clause-served g c =
+    subst (λ store. ServesPeers g.S.Sockets.happened g.D.Device.facts (g.H.Host.shows c.args.host.now) store c.args.sockets.now c.serve_at.new.sockets) c.in-Ok.ensures.store
+    c.serve_at.ensures.served
 
-pub returns-then-are_done-clause-served : goal.returns-then-are_done-clause-served
-returns-then-are_done-clause-served g c = λ none. so_far_on g.S.Sockets.happened g.D.Device.facts (g.H.Host.shows c.args.host.now) _ _ _ _ _ (c.give_out.ensures.served _ (c.loop-round.invariant.0 none))
-
-pub returns-then-are_done-clause-told : goal.returns-then-are_done-clause-told
-returns-then-are_done-clause-told g c = grows_on _ _ _ c.loop-round.invariant.1 c.give_out.ensures.told
-
-pub returns-in-Err-sound-clause-served : goal.returns-in-Err-sound-clause-served
-returns-in-Err-sound-clause-served g c = λ none.
-    so_far_after g.S.Sockets.happened g.D.Device.facts (g.H.Host.shows c.args.host.now) _ _ _ _ _ _ (c.take_in-step.ensures.served _ _ (c.give_out.ensures.served _ (c.loop-round.invariant.0 none)))
-
-pub returns-in-Err-sound-clause-told : goal.returns-in-Err-sound-clause-told
-returns-in-Err-sound-clause-told g c = grows_on _ _ _ c.loop-round.invariant.1 (grows_on _ _ _ c.give_out.ensures.told c.take_in-step.ensures.told)
-
-pub loop-round-preserved : goal.loop-round-preserved
-loop-round-preserved g c = (
-  λ none. sound_after g.S.Sockets.happened g.D.Device.facts (g.H.Host.shows c.args.host.now) _ _ _ _ _ _ c.in-Ok-sound.ensures (c.take_in-step.ensures.served _ _ (c.give_out.ensures.served _ (c.loop-round.invariant.0 none))),
-  grows_on _ _ _ c.loop-round.invariant.1 (grows_on _ _ _ c.give_out.ensures.told c.take_in-step.ensures.told),
-)
-
-pub returns-clause-served : goal.returns-clause-served
-returns-clause-served g c = λ none. so_far_on g.S.Sockets.happened g.D.Device.facts (g.H.Host.shows c.args.host.now) _ _ _ _ _ (c.loop-round.invariant.0 none)
+pub returns-in-Err-clause-told : goal.returns-in-Err-clause-told
+returns-in-Err-clause-told g c = stays _

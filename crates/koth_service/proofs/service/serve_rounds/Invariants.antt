@@ -3,8 +3,8 @@ use Rattle.std.proofs.Common.{[]}
 use Rattle.koth_service.specs.Told.{Grows}
 use Rattle.koth_service.specs.Connections.{stage_at}
 use Rattle.koth_service.specs.Standing.{GoesOn}
-use Rattle.koth_service.proofs.service.serve_peers.Given as goal
+use Rattle.koth_service.proofs.service.serve_rounds.Given as goal
 
 abbrev pub invariant-loop-round : goal.invariant-loop-round
-invariant-loop-round g l = (g.S.Sockets.happened l.fn.sockets [] → GoesOn g.S.Sockets.happened g.D.Device.facts (g.H.Host.shows l.fn.host) l.fn.store l.sockets l.desk.peers.slots.items (stage_at l.browsers.connections.items) l.desk.store)
+invariant-loop-round g l = (g.S.Sockets.happened l.fn.sockets [] → GoesOn g.S.Sockets.happened g.D.Device.facts (g.H.Host.shows l.fn.host) l.fn.desk.store l.sockets l.desk.peers.slots.items (stage_at l.browsers.connections.items) l.desk.store)
     × Grows (g.E.Write.contents l.initial.errors) (g.E.Write.contents l.errors)

@@ -1,0 +1,34 @@
+-- Round after round.
+use Rattle.std.proofs.Common.{refl}
+use Rattle.koth_service.specs.Connections.{stage_at}
+use Rattle.koth_service.proofs.Steps.{begun, so_far_after, so_far_on, sound_after}
+use Rattle.koth_service.proofs.Told.{grows_on, stays}
+use Rattle.koth_service.proofs.service.serve_rounds.Goals as goal
+
+pub loop-round-init : goal.loop-round-init
+loop-round-init g c = (
+  λ none. begun g.S.Sockets.happened g.D.Device.facts (g.H.Host.shows c.args.host.now) c.args.desk.store (stage_at c.args.browsers.now.connections.items) c.args.sockets.now c.args.desk.peers.slots.items c.args.desk.store refl c.requires.peers c.requires.browsers none,
+  stays _,
+)
+
+pub returns-then-are_done-clause-served : goal.returns-then-are_done-clause-served
+returns-then-are_done-clause-served g c = λ none. so_far_on g.S.Sockets.happened g.D.Device.facts (g.H.Host.shows c.args.host.now) _ _ _ _ _ (c.give_out.ensures.served _ (c.loop-round.invariant.0 none))
+
+pub returns-then-are_done-clause-told : goal.returns-then-are_done-clause-told
+returns-then-are_done-clause-told g c = grows_on _ _ _ c.loop-round.invariant.1 c.give_out.ensures.told
+
+pub returns-in-Err-clause-served : goal.returns-in-Err-clause-served
+returns-in-Err-clause-served g c = λ none.
+    so_far_after g.S.Sockets.happened g.D.Device.facts (g.H.Host.shows c.args.host.now) _ _ _ _ _ _ (c.take_in-step.ensures.served _ _ (c.give_out.ensures.served _ (c.loop-round.invariant.0 none)))
+
+pub returns-in-Err-clause-told : goal.returns-in-Err-clause-told
+returns-in-Err-clause-told g c = grows_on _ _ _ c.loop-round.invariant.1 (grows_on _ _ _ c.give_out.ensures.told c.take_in-step.ensures.told)
+
+pub loop-round-preserved : goal.loop-round-preserved
+loop-round-preserved g c = (
+  λ none. sound_after g.S.Sockets.happened g.D.Device.facts (g.H.Host.shows c.args.host.now) _ _ _ _ _ _ c.in-Ok.ensures (c.take_in-step.ensures.served _ _ (c.give_out.ensures.served _ (c.loop-round.invariant.0 none))),
+  grows_on _ _ _ c.loop-round.invariant.1 (grows_on _ _ _ c.give_out.ensures.told c.take_in-step.ensures.told),
+)
+
+pub returns-clause-served : goal.returns-clause-served
+returns-clause-served g c = λ none. so_far_on g.S.Sockets.happened g.D.Device.facts (g.H.Host.shows c.args.host.now) _ _ _ _ _ (c.loop-round.invariant.0 none)
