@@ -27,8 +27,10 @@ pub fn roster<A: Allocator + Copy, B: Allocator>(
 ) -> Result<Vec<Entered, A>, AllocError>
     ensures { IfOk result (λ entered. entered.items ≡ roster hill.now) }
 {
-    let rows = hill.rows(alloc)?;
-    roster_of(alloc, rows.as_slice())
+    match hill.rows(alloc) {
+        Ok(rows) => roster_of(alloc, rows.as_slice()),
+        Err(error) => Err(error),
+    }
 }
 
 fn roster_of<A: Allocator>(alloc: A, rows: &[Row<'_>]) -> Result<Vec<Entered, A>, AllocError>

@@ -3,7 +3,7 @@
 ghost use Rattle.std.specs.Prelude.{◌≡◌, ◌+◌, ◌<◌, ◌^◌, ◌++◌, ◌∷◌, [], length, IfOk, OnOk};
 ghost use Rattle.koth_hill.specs.Rows.{row_parts, rows_parts};
 ghost use Rattle.koth_text.specs.Columns.{columns_text};
-ghost use Rattle.koth_views.specs.Standing.{hill_cells, hill_heading, hill_rows, hill_view, note_of_none};
+ghost use Rattle.koth_views.specs.Standing.{hill_cells, hill_heading, hill_rows, hill_view, note_of_none, standing_text};
 ghost use Rattle.koth_views.specs.Tally.{against_all};
 
 use crate::tally::against_all;
@@ -33,11 +33,25 @@ pub fn hill_view<A: Allocator + Copy, B: Allocator>(
 ) -> Result<Vec<u8, A>, AllocError>
     ensures { IfOk result (λ text. text.items ≡ hill_view hill.now) }
 {
-    let rows = hill.rows(alloc)?;
-    let lines = lines_of(alloc, hill, rows.as_slice())?;
-    let mut text = columns_text(alloc, &SIDES, lines.as_slice())?;
-    text.extend_from_slice(note_of_none(rows.as_slice()))?;
-    Ok(text)
+    match hill.rows(alloc) {
+        Ok(rows) => standing_text(alloc, hill, rows.as_slice()),
+        Err(error) => Err(error),
+    }
+}
+
+/// The table of these rows.
+fn standing_text<A: Allocator + Copy, B: Allocator>(
+    alloc: A,
+    hill: &Hill<B>,
+    rows: &[Row<'_>],
+) -> Result<Vec<u8, A>, AllocError>
+    ensures { IfOk result (λ text. text.items ≡ standing_text hill.now (rows_parts rows.now)) }
+{
+    let mut lines = Vec::new(alloc);
+    match push_lines(alloc, &mut lines, hill, rows) {
+        Ok(()) => noted_text(alloc, &SIDES, lines.as_slice(), rows),
+        Err(error) => Err(error),
+    }
 }
 
 /// Lines in columns, and what stands under a table of these rows.
@@ -49,9 +63,14 @@ pub(crate) fn noted_text<A: Allocator + Copy>(
 ) -> Result<Vec<u8, A>, AllocError>
     ensures { IfOk result (λ text. text.items ≡ columns_text sides.now lines.now ++ note_of_none (rows_parts rows.now)) }
 {
-    let mut text = columns_text(alloc, sides, lines)?;
-    text.extend_from_slice(note_of_none(rows))?;
-    Ok(text)
+    let mut text = match columns_text(alloc, sides, lines) {
+        Ok(text) => text,
+        Err(error) => return Err(error),
+    };
+    match text.extend_from_slice(note_of_none(rows)) {
+        Ok(()) => Ok(text),
+        Err(error) => Err(error),
+    }
 }
 
 /// What stands under the table of these rows.
@@ -64,18 +83,17 @@ fn note_of_none(rows: &[Row<'_>]) -> &'static [u8]
     }
 }
 
-/// The headings, and the cells of each of these rows.
-fn lines_of<A: Allocator + Copy, B: Allocator>(
+/// Pushes the headings, and the cells of each of these rows.
+fn push_lines<A: Allocator + Copy, B: Allocator>(
     alloc: A,
+    lines: &mut Vec<Cells<A>, A>,
     hill: &Hill<B>,
     rows: &[Row<'_>],
-) -> Result<Vec<Cells<A>, A>, AllocError>
-    ensures { IfOk result (λ lines. lines.items ≡ hill_heading ∷ hill_rows hill.now (rows_parts rows.now)) }
+) -> Result<(), AllocError>
+    ensures { OnOk result (lines.new.items ≡ lines.old.items ++ hill_heading ∷ hill_rows hill.now (rows_parts rows.now)) }
 {
-    let mut lines = Vec::new(alloc);
     lines.push(heading(alloc)?)?;
-    push_rows(alloc, &mut lines, hill, rows)?;
-    Ok(lines)
+    push_rows(alloc, lines, hill, rows)
 }
 
 /// Pushes the cells of each of these rows.
