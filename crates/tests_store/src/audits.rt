@@ -1,7 +1,7 @@
 //! Results that a device keeps, true and untrue.
 
 use crate::expecting::{
-    LOSERS, expect_answers, expect_reply, expect_rows, expect_table, expect_true,
+    LOSERS, expect_answers, expect_reply, expect_rows, expect_same, expect_table, expect_true,
 };
 use crate::hills::{blank_in, created_on, opened_on};
 use hill_store::{Refusal, Store, Untrue};
@@ -93,7 +93,7 @@ fn expect_told(rt: &impl Abort, untrue: Option<Untrue>, older: u8, younger: u8) 
         (fought.older_wins, fought.younger_wins, fought.ties),
     );
     let kept = (u16::from(older), u16::from(younger));
-    assert_eq!(rt; found, ((1, 2), kept, (1, 1, 0)));
+    expect_same(rt, &found, &((1, 2), kept, (1, 1, 0)), "what is told");
 }
 
 /// The points of the two entries.
@@ -106,7 +106,8 @@ fn expect_points<D: Device>(rt: &impl Abort, store: &Store<D, Global>, points: (
 /// The row of one of the two entries has its points.
 fn expect_score(rt: &impl Abort, row: Option<Numbers>, points: (u32, u32)) {
     let (entry, score, _) = row.expect(rt, "a row");
-    assert_eq!(rt; score, if entry == 1 { points.0 } else { points.1 });
+    let due = if entry == 1 { points.0 } else { points.1 };
+    expect_same(rt, &score, &due, "points");
 }
 
 /// The table of a hill on which the second of the two fell to a third warrior.
@@ -130,13 +131,13 @@ fn a_challenger_is_judged_by_what_is_kept(rt: HostRuntime) {
 #[test]
 fn more_rounds_than_a_match_has(rt: HostRuntime) {
     let refusal = refusal_to_open(rt.alloc(), device_with(&rt, 2, 1));
-    assert_eq!(rt; refusal, Some(Refusal::Damaged));
+    expect_same(&rt, &refusal, &Some(Refusal::Damaged), "a slot");
 }
 
 /// No hill is opened on this device, since it holds none. It comes back.
 fn expect_no_hill<D: Device + Drop>(rt: &(impl Abort + AllocGlobal), device: D) -> D {
     let (device, refusal) = unopened(rt.alloc(), device).expect(rt, "it holds no hill");
-    assert_eq!(rt; refusal, Refusal::NotAHill);
+    expect_same(rt, &refusal, &Refusal::NotAHill, "no hill");
     device
 }
 

@@ -4,6 +4,7 @@ use crate::hills::{blank_in, created_on, opened_on};
 use hill_store::{Reply, Store};
 use sector_disk::{Device, MemoryDevice};
 use std::alloc::{Allocator, Global};
+use std::fmt::{Debug, Display};
 use std::process::Abort;
 use tests_stores::{
     Counting, Numbers, audit, calls_of, close, count_rows, fell, other_row, placed, submit,
@@ -51,6 +52,16 @@ pub(crate) const SOURCES: [&[u8]; 4] = [b"MOV 0,1", b"JMP 0", b"", b"DAT 0,0"];
 /// The replies to them.
 pub(crate) const REPLIES: [Reply; 4] = [FIRST, SECOND, EMPTY, THIRD];
 
+/// What was found is what is due. If it isn't, the note says what was looked at.
+pub(crate) fn expect_same<T: PartialEq + Debug>(
+    rt: &impl Abort,
+    found: &T,
+    due: &T,
+    note: impl Display + Drop,
+) {
+    assert_eq!(rt; *found, *due, "{note}");
+}
+
 /// The store answers this to a source.
 pub(crate) fn expect_reply<D: Device, A: Allocator + Copy>(
     rt: &impl Abort,
@@ -58,7 +69,7 @@ pub(crate) fn expect_reply<D: Device, A: Allocator + Copy>(
     source: &[u8],
     reply: Reply,
 ) {
-    assert_eq!(rt; submit(store, source), reply);
+    expect_same(rt, &submit(store, source), &reply, "a reply");
 }
 
 /// The store answers this to sources, one after the other.
@@ -99,13 +110,8 @@ pub(crate) fn expect_replies<D: Device, A: Allocator + Copy>(
     replies: &[Reply],
 ) {
     let found = submit_all(store, sources).expect(rt, "there is memory");
-    expect_same(rt, found.as_slice(), replies);
+    expect_same(rt, &found.as_slice(), &replies, "replies");
     drop(found);
-}
-
-/// These replies are those.
-fn expect_same(rt: &impl Abort, found: &[Reply], replies: &[Reply]) {
-    assert_eq!(rt; found, replies);
 }
 
 /// The table has `count` rows.
@@ -114,7 +120,7 @@ pub(crate) fn expect_rows<D: Device, A: Allocator + Copy>(
     store: &Store<D, A>,
     count: usize,
 ) {
-    assert_eq!(rt; count_rows(store).ok(), Some(count));
+    expect_same(rt, &count_rows(store).ok(), &Some(count), "rows");
 }
 
 /// The rows of the table are these.
@@ -124,7 +130,7 @@ pub(crate) fn expect_table<D: Device, A: Allocator + Copy>(
     rows: &[Numbers],
 ) {
     expect_rows(rt, store, rows.len());
-    assert_eq!(rt; other_row(store, rows), None);
+    expect_same(rt, &other_row(store, rows), &None, "another row");
 }
 
 /// The hill that is opened on a device has `count` rows.
@@ -152,5 +158,5 @@ pub(crate) fn expect_calls<D: Device + Drop, A: Allocator + Copy>(
     store: Store<Counting<D>, A>,
     calls: u32,
 ) {
-    assert_eq!(rt; calls_of(store), calls);
+    expect_same(rt, &calls_of(store), &calls, "calls");
 }

@@ -2,7 +2,7 @@
 //! that takes its memory from the same allocator, and `lists` growths of a list of submissions. `stinting` shows that there are none after the
 //! first call of the device.
 
-use crate::expecting::{FIRST, THREE, answered, expect_calls, expect_reply};
+use crate::expecting::{FIRST, THREE, answered, expect_calls, expect_reply, expect_same};
 use crate::hills::{blank_in, created_on, image_of, small};
 use hill_store::{Refusal, Reply, Store};
 use sector_disk::{Device, MemoryDevice};
@@ -17,7 +17,7 @@ mod stinting;
 
 /// `count` growths were refused.
 fn expect_refusals(rt: &impl Abort, memory: &Refusing<Global>, count: u64) {
-    assert_eq!(rt; memory.refused(), count);
+    expect_same(rt, &memory.refused(), &count, "growths refused");
 }
 
 /// If growth `k` is refused, this is found, and one growth was refused, or none if there is no refusal.
@@ -29,7 +29,8 @@ fn expect_refusal(
     refused: u64,
 ) {
     let count = if refusal.is_some() { 1 } else { 0 };
-    assert_eq!(rt; (found, refused), (refusal, count), "at growth {k}");
+    let (found, due) = ((found, refused), (refusal, count));
+    expect_same(rt, &found, &due, format_args!("at growth {k}"));
 }
 
 /// A hill is created with growth `k` refused: that is answered `Memory`, or there is no such growth.
@@ -135,7 +136,7 @@ fn expect_first_row<D: Device>(
 ) {
     memory.refuse(k, 1);
     let found = (row_at(store, 0), memory.refused());
-    assert_eq!(rt; found, (row, refused));
+    expect_same(rt, &found, &(row, refused), "the first row");
 }
 
 /// A table takes one growth.

@@ -1,6 +1,8 @@
 //! The life of a device: a fault, a store that is opened again, and a stop.
 
-use crate::expecting::{Answered, LOSER, OTHER_LOSER, answered_on, expect_reply, expect_table};
+use crate::expecting::{
+    Answered, LOSER, OTHER_LOSER, answered_on, expect_reply, expect_same, expect_table,
+};
 use crate::hills::{blank_within, image_of, opened_on};
 use hill_store::Reply;
 use sector_disk::{Device, FuseDevice, FuseKind, MemoryDevice};
@@ -68,6 +70,7 @@ fn choice_of(kept: u32) -> [u32; 10] {
 /// In the first of these sectors stands `JMP.B $0, $0`, or `DAT.F $0, $0` of the warrior that fell.
 fn expect_image(rt: &(impl Abort + AllocGlobal), mut image: MemoryDevice<Global>, kept: u32) {
     let content = sector(&mut image, 6).expect(rt, "it has the sector");
-    assert_eq!(rt; content[0], if kept % 2 == 0 { 0 } else { 7 });
+    let due = if kept % 2 == 0 { 0 } else { 7 };
+    expect_same(rt, &content[0], &due, "an operation");
     drop(expect_two(rt, image));
 }

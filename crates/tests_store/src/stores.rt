@@ -2,7 +2,7 @@
 
 use crate::expecting::{
     Answered, FIRST, REPLIES, SOURCES, THREE, answered, answered_on, expect_answers, expect_calls,
-    expect_opened, expect_replies, expect_reply, expect_table,
+    expect_opened, expect_replies, expect_reply, expect_same, expect_table,
 };
 use crate::hills::{blank_in, blank_within, created_on, image_of, opened_on, small};
 use hill_store::{Refusal, Reply};
@@ -75,7 +75,8 @@ fn expect_blank(
     let to_open = refusal_to_open(rt.alloc(), blank_of(rt, sectors));
     let to_create = refusal_to_create(rt.alloc(), blank_of(rt, sectors), small(rt));
     let found = (to_open, to_create);
-    assert_eq!(rt; found, (Some(opening), creation), "{sectors} sectors");
+    let due = (Some(opening), creation);
+    expect_same(rt, &found, &due, format_args!("{sectors} sectors"));
 }
 
 /// Sectors of a blank device, and how it is refused.
@@ -92,7 +93,7 @@ fn devices_that_are_refused(rt: HostRuntime) {
         expect_blank(&rt, *sectors, *opening, *creation);
     }
     let found = refusal_to_create(rt.alloc(), answered(&rt, &[]), small(&rt));
-    assert_eq!(rt; found, Some(Refusal::Occupied));
+    expect_same(&rt, &found, &Some(Refusal::Occupied), "a hill");
 }
 
 /// Refusals, and their names.
@@ -107,7 +108,7 @@ const NAMES: [(Refusal, &str); 6] = [
 
 fn expect_name(rt: &(impl Abort + AllocGlobal), refusal: Refusal, name: &str) {
     let text = format!(in rt.alloc(); "{refusal}").expect(rt, "there is memory");
-    assert_eq!(rt; text.as_str(), name);
+    expect_same(rt, &text.as_str(), &name, "a name");
     drop(text);
 }
 

@@ -1,6 +1,6 @@
 //! A device that stops, or fails once, at each of its calls while a hill is created and four sources are submitted.
 
-use crate::expecting::{FIRST, SOURCES, expect_replies};
+use crate::expecting::{FIRST, SOURCES, expect_replies, expect_same};
 use crate::hills::{blank_within, created_on, image_of, opened_on, small};
 use hill_store::{Refusal, Reply, Store};
 use sector_disk::{Device, FuseKind, MemoryDevice};
@@ -139,7 +139,12 @@ fn expect_image(
     calls: u64,
 ) {
     let found = opens_to(rt, image_of(rt, device, choice));
-    assert_eq!(rt; found, expected, "{choice:?} kept behind {calls}");
+    expect_same(
+        rt,
+        &found,
+        &expected,
+        format_args!("{choice:?} kept after {calls}"),
+    );
 }
 
 /// A choice that keeps what was written to one sector alone.
@@ -195,7 +200,7 @@ fn answered_around_a_fault<D: Device + Drop>(
 #[test]
 fn a_header_write_that_fails(rt: HostRuntime) {
     let lost = answered_around_a_fault(&rt, blank_within(&rt, 17, FuseKind::FailLost));
-    assert_eq!(rt; lost, ([1, 0], placed!(2, 2, 2)));
+    expect_same(&rt, &lost, &([1, 0], placed!(2, 2, 2)), "lost");
     let kept = answered_around_a_fault(&rt, blank_within(&rt, 17, FuseKind::FailKept));
-    assert_eq!(rt; kept, ([1, 2], fell!(3, 4)));
+    expect_same(&rt, &kept, &([1, 2], fell!(3, 4)), "kept");
 }

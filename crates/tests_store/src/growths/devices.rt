@@ -1,7 +1,7 @@
 //! Growths of a device that takes its memory from an allocator that refuses them.
 
 use super::expect_refusals;
-use crate::expecting::{FIRST, THREE, answered_on, expect_reply, expect_rows};
+use crate::expecting::{FIRST, THREE, answered_on, expect_reply, expect_rows, expect_same};
 use crate::hills::{blank_in, created_on, opened_on, small};
 use hill_store::{Refusal, Reply, Store};
 use sector_disk::Device;
@@ -19,8 +19,7 @@ fn expect_none_created<D: Device + Drop>(
 ) {
     memory.refuse(0, 1);
     let (device, refusal) = not_created(rt, device);
-    assert_eq!(rt; refusal, Refusal::Disk);
-    expect_one_fault(rt, memory, &device);
+    expect_one_fault(rt, memory, &device, refusal);
     drop(answered_on(rt, device, &THREE[..1]));
 }
 
@@ -36,9 +35,15 @@ fn not_created<D: Device + Drop>(rt: &(impl Abort + AllocGlobal), device: D) -> 
     .expect(rt, "it is refused")
 }
 
-/// A growth was refused, and the device had one fault.
-fn expect_one_fault<D: Device>(rt: &impl Abort, memory: &Refusing<Global>, device: &D) {
-    assert_eq!(rt; (device.faults(), memory.refused()), (1, 1));
+/// A growth was refused, the device had one fault, and the hill was refused for it.
+fn expect_one_fault<D: Device>(
+    rt: &impl Abort,
+    memory: &Refusing<Global>,
+    device: &D,
+    refusal: Refusal,
+) {
+    let found = (device.faults(), memory.refused(), refusal);
+    expect_same(rt, &found, &(1, 1, Refusal::Disk), "one fault");
 }
 
 /// Growth `k` of the device's memory is refused while a warrior is submitted.
@@ -82,7 +87,7 @@ fn closed<D: Device + Drop>(
     calls: u32,
 ) -> Counting<D> {
     let device = close(store);
-    assert_eq!(rt; device.calls, calls);
+    expect_same(rt, &device.calls, &calls, "calls");
     device
 }
 

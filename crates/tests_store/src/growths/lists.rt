@@ -2,7 +2,7 @@
 
 use super::expect_refusals;
 use crate::expecting::{
-    EMPTY, FIRST, REPLIES, SECOND, SOURCES, expect_opened, expect_reply, expect_rows,
+    EMPTY, FIRST, REPLIES, SECOND, SOURCES, expect_opened, expect_reply, expect_rows, expect_same,
 };
 use crate::hills::{blank_in, created_on};
 use hill_store::{Reply, Store};
@@ -20,13 +20,13 @@ fn expect_list<D: Device>(
     expected: &[Reply],
 ) {
     let replies = submit_all(store, &SOURCES).expect(rt, "there is memory");
-    expect_replies(rt, replies.as_slice(), k, expected);
+    expect_same(
+        rt,
+        &replies.as_slice(),
+        &expected,
+        format_args!("at growth {k}"),
+    );
     drop(replies);
-}
-
-/// The replies with growth `k` refused are these.
-fn expect_replies(rt: &impl Abort, found: &[Reply], k: u64, expected: &[Reply]) {
-    assert_eq!(rt; found, expected, "at growth {k}");
 }
 
 /// The sources are submitted to an empty hill, and growth `k` is refused: these are the replies. Each warrior that
@@ -95,7 +95,7 @@ fn expect_each(
     let behind = from.saturating_add(count);
     for k in from..behind {
         let refused = check_replies(rt, memory, blank_in(rt, memory), k, replies);
-        assert_eq!(rt; refused, 1);
+        expect_same(rt, &refused, &1, "growths refused");
     }
     behind
 }
@@ -130,5 +130,5 @@ fn of_a_list(rt: HostRuntime) {
 /// The list makes `k` growths, and no more.
 fn expect_no_more(rt: &(impl Abort + AllocGlobal), memory: &Refusing<Global>, k: u64) {
     let refused = check_replies(rt, memory, blank_in(rt, memory), k, &REPLIES);
-    assert_eq!(rt; refused, 0, "it makes {k}");
+    expect_same(rt, &refused, &0, format_args!("it makes {k}"));
 }

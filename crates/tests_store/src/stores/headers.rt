@@ -1,6 +1,6 @@
 //! Devices with a header that no store wrote.
 
-use crate::expecting::{EMPTY, expect_calls, expect_reply};
+use crate::expecting::{EMPTY, expect_calls, expect_reply, expect_same};
 use crate::hills::{blank_in, opened_on};
 use hill_store::{Header, HeaderEntry, Refusal, Reply, encode_header};
 use sector_disk::{Device, FuseDevice, FuseKind, MemoryDevice};
@@ -46,7 +46,12 @@ fn device_with(
 fn expect_bad_slots(rt: &(impl Abort + AllocGlobal), calls: u64, refusal: Refusal) {
     let device = device_with(rt, 0, &header_of(rt, 2, 2, &ENTRIES));
     let found = refusal_to_open(rt.alloc(), FuseDevice::new(device, calls, FuseKind::Stop));
-    assert_eq!(rt; found, Some(refusal), "behind {calls} calls");
+    expect_same(
+        rt,
+        &found,
+        &Some(refusal),
+        format_args!("after {calls} calls"),
+    );
 }
 
 /// A sync, two headers and the four sectors of the first slot are seven calls: if the eighth fails, the first slot is reported all the same.
