@@ -1,6 +1,6 @@
 //! The hill that an earlier version of the program wrote, moved to the new format.
 
-use crate::expecting::{expect_reply, expect_sector, expect_table, expect_true};
+use crate::expecting::{expect_reply, expect_same, expect_sector, expect_table, expect_true};
 use crate::hills::{blank_of, moved, moved_from, opened_on, put_into};
 use crate::narrowed::narrowed;
 use hill_store::{Refusal, Store};
@@ -28,7 +28,7 @@ fn expect_earlier(rt: &impl Abort, device: &mut MemoryDevice<Global>) {
 /// No hill is opened on this device, since it holds none in the new format. It comes back.
 fn expect_no_hill<D: Device + Drop>(rt: &(impl Abort + AllocGlobal), device: D) -> D {
     let (device, refusal) = unopened(rt.alloc(), device).expect(rt, "it holds no hill");
-    assert_eq!(rt; refusal, Refusal::NotAHill);
+    expect_same(rt, &refusal, &Refusal::NotAHill, "no hill");
     device
 }
 
@@ -73,7 +73,7 @@ const ROWS: [Numbers; 3] = [(4, 92, 0), (2, 35, 2), (1, 21, 3)];
 /// The table is that of the hill, and its results are those of the matches.
 fn expect_the_hill<D: Device>(rt: &impl Abort, store: &mut Store<D, Global>) {
     expect_true(rt, store);
-    assert_eq!(rt; limits_of(store), (800, 800));
+    expect_same(rt, &limits_of(store), &(800, 800), "limits");
     expect_table(rt, store, &ROWS);
 }
 

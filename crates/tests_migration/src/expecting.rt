@@ -3,8 +3,19 @@
 use hill_store::{Reply, Store};
 use sector_disk::{Device, MemoryDevice};
 use std::alloc::{Allocator, Global};
+use std::fmt::{Debug, Display};
 use std::process::Abort;
 use tests_stores::{Counting, Numbers, audit, calls_of, count_rows, holds, other_row, submit};
+
+/// What was found is what is due. If it isn't, the note says what was looked at.
+pub(crate) fn expect_same<T: PartialEq + Debug>(
+    rt: &impl Abort,
+    found: &T,
+    due: &T,
+    note: impl Display + Drop,
+) {
+    assert_eq!(rt; *found, *due, "{note}");
+}
 
 /// The store answers this to a source.
 pub(crate) fn expect_reply<D: Device, A: Allocator + Copy>(
@@ -13,7 +24,7 @@ pub(crate) fn expect_reply<D: Device, A: Allocator + Copy>(
     source: &[u8],
     reply: Reply,
 ) {
-    assert_eq!(rt; submit(store, source), reply);
+    expect_same(rt, &submit(store, source), &reply, "a reply");
 }
 
 /// The table has `count` rows.
@@ -22,7 +33,7 @@ pub(crate) fn expect_rows<D: Device, A: Allocator + Copy>(
     store: &Store<D, A>,
     count: usize,
 ) {
-    assert_eq!(rt; count_rows(store).ok(), Some(count));
+    expect_same(rt, &count_rows(store).ok(), &Some(count), "rows");
 }
 
 /// The rows of the table are these.
@@ -32,7 +43,7 @@ pub(crate) fn expect_table<D: Device, A: Allocator + Copy>(
     rows: &[Numbers],
 ) {
     expect_rows(rt, store, rows.len());
-    assert_eq!(rt; other_row(store, rows), None);
+    expect_same(rt, &other_row(store, rows), &None, "another row");
 }
 
 /// Both have two points, and the one that came first is one older.
@@ -76,7 +87,7 @@ pub(crate) fn expect_calls<D: Device + Drop, A: Allocator + Copy>(
     store: Store<Counting<D>, A>,
     calls: u32,
 ) {
-    assert_eq!(rt; calls_of(store), calls);
+    expect_same(rt, &calls_of(store), &calls, "calls");
 }
 
 /// The device has this in one of its sectors.

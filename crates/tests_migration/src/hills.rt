@@ -1,5 +1,6 @@
 //! Devices in memory, and hills on them and moved between them, as the tests make them. What is to be done and isn't ends the test at once.
 
+use crate::expecting::expect_same;
 use hill_store::{MigrateFault, MigrateSide, Refusal, Store};
 use sector_disk::{Device, MemoryDevice};
 use std::alloc::{Allocator, Global};
@@ -129,7 +130,8 @@ pub(crate) fn tried<O: Device + Drop, D: Device + Drop>(
 
 /// The new device of a move failed, or nothing did.
 fn expect_fault(rt: &impl Abort, fault: Option<MigrateFault>, fails: bool) {
-    assert_eq!(rt; fault, if fails { Some(NEW_FAILS) } else { None });
+    let due = if fails { Some(NEW_FAILS) } else { None };
+    expect_same(rt, &fault, &due, "a fault");
 }
 
 /// The hill that a device holds, if it holds one. What it holds else is no hill.
@@ -141,7 +143,7 @@ pub(crate) fn hill_on<D: Device + Drop>(
         Ok(store) => Some(store),
         Err((device, refusal)) => {
             drop(device);
-            assert_eq!(rt; refusal, Refusal::NotAHill);
+            expect_same(rt, &refusal, &Refusal::NotAHill, "no hill");
             None
         }
     }

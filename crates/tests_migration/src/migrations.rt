@@ -2,7 +2,8 @@
 //! growths of memory that are refused.
 
 use crate::expecting::{
-    expect_calls, expect_reply, expect_sector, expect_the_rows, expect_true, expect_two_rows,
+    expect_calls, expect_reply, expect_same, expect_sector, expect_the_rows, expect_true,
+    expect_two_rows,
 };
 use crate::hills::{
     blank_in, blank_of, content_of, created_on, image_of, moved, moved_from, opened_on, put_into,
@@ -42,13 +43,13 @@ pub(crate) fn old_device(rt: &(impl Abort + AllocGlobal)) -> MemoryDevice<Global
 }
 
 /// These devices hold the same from one sector on.
-fn expect_same(
+fn expect_same_from(
     rt: &impl Abort,
     device: &mut MemoryDevice<Global>,
     other: &mut MemoryDevice<Global>,
     from: u32,
 ) {
-    assert_eq!(rt; device.sectors(), other.sectors());
+    expect_sectors(rt, other, device.sectors());
     for n in from..device.sectors() {
         expect_sector(rt, other, n, &content_of(rt, device, n));
     }
@@ -61,7 +62,7 @@ fn expect_equal(
     mut other: MemoryDevice<Global>,
     from: u32,
 ) {
-    expect_same(rt, &mut device, &mut other, from);
+    expect_same_from(rt, &mut device, &mut other, from);
     drop(device);
     drop(other);
 }
@@ -80,7 +81,7 @@ fn expect_moved(
     expect_sector(rt, new, 0, &[0; 512]);
     let header = content_of(rt, new, 1);
     assert!(rt; header.starts_with(&BEGINS));
-    expect_same(rt, new, written, 1);
+    expect_same_from(rt, new, written, 1);
 }
 
 /// The hill of two on this device, on which a fourth warrior falls.
@@ -135,7 +136,7 @@ fn expect_calls_of<O: Device + Drop, D: Device + Drop>(
 
 /// This device was asked for `calls` calls. It is dropped.
 fn expect_asked<D: Device + Drop>(rt: &impl Abort, device: Counting<D>, calls: u32) {
-    assert_eq!(rt; device.calls, calls);
+    expect_same(rt, &device.calls, &calls, "calls");
     drop(device);
 }
 
@@ -165,7 +166,7 @@ fn a_warrior_that_fills_its_slot(rt: HostRuntime) {
 
 /// This device has `sectors` sectors.
 fn expect_sectors(rt: &impl Abort, device: &MemoryDevice<Global>, sectors: u32) {
-    assert_eq!(rt; device.sectors(), sectors);
+    expect_same(rt, &device.sectors(), &sectors, "sectors");
 }
 
 /// Copies a sector of one device to the other, and does not sync it.

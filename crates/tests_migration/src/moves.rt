@@ -1,6 +1,6 @@
 //! What a stop, or one fault, leaves of a hill of two that is moved to another device.
 
-use crate::expecting::{expect_the_rows, expect_true_rows};
+use crate::expecting::{expect_same, expect_the_rows, expect_true_rows};
 use crate::hills::{blank_in, hill_on, image_of, moved, tried};
 use crate::migrations::old_device;
 use hill_store::Refusal;
@@ -67,7 +67,13 @@ fn choice_of(kept: u32) -> [u32; 10] {
 fn expect_images(rt: &(impl Abort + AllocGlobal), device: &MemoryDevice<Global>, calls: u64) {
     for image in 0..images_of(calls) {
         let found = holds_the_hill(rt, image_of(rt, device, &choice_of(image)));
-        assert_eq!(rt; found, due_in(image, calls), "image {image} behind {calls}");
+        let due = due_in(image, calls);
+        expect_same(
+            rt,
+            &found,
+            &due,
+            format_args!("image {image} after {calls}"),
+        );
     }
 }
 
@@ -100,7 +106,7 @@ fn expect_goes_on(
         }
         Err((old, new, fault)) => {
             drop(old);
-            assert_eq!(rt; fault.refusal, Refusal::Occupied);
+            expect_same(rt, &fault.refusal, &Refusal::Occupied, "a hill");
             assert!(rt; holds_the_hill(rt, new));
         }
     }

@@ -4,7 +4,7 @@
 //! the two that came last fall. So the hill has entries 1 to 18 in slots 0 to 17, entry 21 in slot 20 and entry 22 in slot 19. Slot 18 and
 //! some places of results hold what was written of those that fell.
 
-use crate::expecting::{expect_rows, expect_sector, expect_true};
+use crate::expecting::{expect_rows, expect_same, expect_sector, expect_true};
 use crate::hills::{blank_of, content_of, created_on, moved_from, opened_on};
 use crate::narrowed::narrowed;
 use hill_store::{Reply, Store};
@@ -35,7 +35,8 @@ fn written(rt: &(impl Abort + AllocGlobal)) -> MemoryDevice<Global> {
 /// The warrior that is submitted as this entry stands on the hill.
 fn expect_placed(rt: &impl Abort, store: &mut Store<MemoryDevice<Global>, Global>, expected: u64) {
     let source: &[u8] = if expected <= 20 { b"DAT 0,0" } else { b"JMP 0" };
-    assert_eq!(rt; placed_as(submit(store, source)), Some(expected));
+    let found = placed_as(submit(store, source));
+    expect_same(rt, &found, &Some(expected), "an entry");
 }
 
 /// The entry of a warrior that is placed.
@@ -73,7 +74,8 @@ fn expect_table(rt: &impl Abort, store: &Store<MemoryDevice<Global>, Global>) {
     expect_rows(rt, store, 20);
     for place in 0..20 {
         let found = row_at(store, place);
-        assert_eq!(rt; found, Some(row(place as u64)), "place {place}");
+        let due = Some(row(place as u64));
+        expect_same(rt, &found, &due, format_args!("place {place}"));
     }
 }
 

@@ -2,7 +2,7 @@
 
 use super::old_device;
 use super::refused::{new_side, old_side};
-use crate::expecting::expect_the_rows;
+use crate::expecting::{expect_same, expect_the_rows};
 use crate::hills::{blank_in, moved_from};
 use hill_store::{MigrateFault, Refusal};
 use sector_disk::Device;
@@ -24,7 +24,8 @@ fn fault_at(k: u64) -> Option<MigrateFault> {
 /// Growth `k` was refused with this fault, or there is no such growth. None is refused from now on.
 fn expect_fault(rt: &impl Abort, memory: &Refusing<Global>, k: u64, fault: Option<MigrateFault>) {
     let found = (fault, memory.refused() == 1);
-    assert_eq!(rt; found, (fault_at(k), fault.is_some()), "at growth {k}");
+    let due = (fault_at(k), fault.is_some());
+    expect_same(rt, &found, &due, format_args!("at growth {k}"));
     memory.refuse(0, 0);
 }
 

@@ -1,7 +1,7 @@
 //! Devices between which no hill is moved.
 
 use super::{expect_asked, expect_equal, old_device, written};
-use crate::expecting::expect_the_rows;
+use crate::expecting::{expect_same, expect_the_rows};
 use crate::hills::{
     blank_in, blank_of, content_of, created_on, image_of, moved_from, not_moved, put_into,
 };
@@ -42,7 +42,7 @@ fn expect_new_refused(
 
 /// This fault is that one.
 fn expect_fault(rt: &impl Abort, fault: MigrateFault, expected: MigrateFault) {
-    assert_eq!(rt; fault, expected);
+    expect_same(rt, &fault, &expected, "a fault");
 }
 
 #[test]
@@ -72,7 +72,12 @@ fn expect_occupied(rt: &(impl Abort + AllocGlobal), n: u32) {
     expect_new_refused(rt, with_old_header(rt, n), Refusal::Occupied);
     let settings = settings_from(SMALL).expect(rt, "they are settings");
     let refusal = refusal_to_create(rt.alloc(), with_old_header(rt, n), settings);
-    assert_eq!(rt; refusal, Some(Refusal::Occupied), "sector {n}");
+    expect_same(
+        rt,
+        &refusal,
+        &Some(Refusal::Occupied),
+        format_args!("sector {n}"),
+    );
 }
 
 /// Of a hill in the old format, one header in its sector is enough.

@@ -1,6 +1,7 @@
 //! What a stop leaves of a hill of twenty that is moved to another device.
 
 use super::{SECTORS, expect_in, old_device};
+use crate::expecting::expect_same;
 use crate::hills::{blank_of, hill_on, image_of, moved, tried};
 use sector_disk::{FuseDevice, FuseKind, MemoryDevice};
 use std::alloc::Global;
@@ -39,7 +40,7 @@ fn expect_image(
     holds: bool,
 ) {
     let found = holds_the_hill(rt, image_of(rt, device, choice));
-    assert_eq!(rt; found, holds);
+    expect_same(rt, &found, &holds, "the hill");
 }
 
 /// Whether the images hold the hill if the header is lost, and if it is kept.
