@@ -11,7 +11,7 @@ fn a_warrior_is_printed(rt: HostRuntime) {
 }
 
 /// A source is refused so, and so much of it is not read.
-fn check_refused(rt: &impl Host, source: &[u8], output: &str, left: usize) {
+fn check_refused(rt: &(impl Abort + Host), source: &[u8], output: &str, left: usize) {
     let found = check_on(rt, "koth asm", source, output, "", 1);
     expect_count(rt, found, left, output);
 }
@@ -21,7 +21,7 @@ fn refusals(rt: HostRuntime) {
     check_refusals(&rt);
 }
 
-fn check_refusals(rt: &impl Host) {
+fn check_refusals(rt: &(impl Abort + Host)) {
     let long = [b'\n'; 65_537];
     check_refused(rt, b"", "REFUSED 0 Empty\n", 0);
     check_refused(rt, &long[..65_536], "REFUSED 0 Empty\n", 0);
@@ -36,7 +36,7 @@ fn a_source_is_read_so_far_and_no_further(rt: HostRuntime) {
 
 /// A source of six bytes that is read `most` at a time, with one read that fails. How many reads there were is the answer.
 fn check_read(
-    rt: &impl Host,
+    rt: &(impl Abort + Host),
     most: usize,
     fails_at: u64,
     output: &str,
@@ -61,7 +61,7 @@ fn expect_begun(rt: &impl Abort, ran: &Ran, fails_at: u64, output: &str, errors:
 }
 
 /// A source that is read `most` bytes at a time, by `reads` reads, each of which fails once. The last read finds the end.
-fn check_reads(rt: &impl Host, most: usize, reads: u64) {
+fn check_reads(rt: &(impl Abort + Host), most: usize, reads: u64) {
     for fails_at in 1..=reads {
         let made = check_read(rt, most, fails_at, "", "DISK standard input: ", 3);
         expect_number(rt, made, fails_at, "the read that fails");
@@ -77,7 +77,13 @@ fn a_read_that_fails(rt: HostRuntime) {
 }
 
 /// A run whose output takes `room` bytes, `most` at a time, and then is full. What it took is the answer.
-fn check_write(rt: &impl Host, line: &str, most: usize, room: usize, full: Full) -> Vec<u8> {
+fn check_write(
+    rt: &(impl Abort + Host),
+    line: &str,
+    most: usize,
+    room: usize,
+    full: Full,
+) -> Vec<u8> {
     let mut output = writer(rt.alloc(), most, room, full);
     check_output(rt, line, &mut output);
     let taken = output.taken;
@@ -86,7 +92,7 @@ fn check_write(rt: &impl Host, line: &str, most: usize, room: usize, full: Full)
 }
 
 /// A run tells that its output is full, and leaves with the status of that.
-fn check_output(rt: &impl Host, line: &str, output: &mut FullWriter) {
+fn check_output(rt: &(impl Abort + Host), line: &str, output: &mut FullWriter) {
     let mut errors = Vec::new(rt.alloc());
     let status = status_on(
         rt,
@@ -104,7 +110,7 @@ fn check_output(rt: &impl Host, line: &str, output: &mut FullWriter) {
 }
 
 /// What a run for an empty source writes if its output takes `room` bytes.
-fn check_room(rt: &impl Host, most: usize, room: usize, full: Full) {
+fn check_room(rt: &(impl Abort + Host), most: usize, room: usize, full: Full) {
     let line = b"REFUSED 0 Empty\n".as_slice();
     let taken = check_write(rt, "koth asm", most, room, full);
     let is_begun = line.starts_with(taken.as_slice());
@@ -113,7 +119,7 @@ fn check_room(rt: &impl Host, most: usize, room: usize, full: Full) {
 }
 
 /// The same in each way in which an output is full.
-fn check_full(rt: &impl Host, room: usize) {
+fn check_full(rt: &(impl Abort + Host), room: usize) {
     for full in &FULL {
         check_room(rt, usize::MAX, room, *full);
         check_room(rt, 1, room, *full);
@@ -126,7 +132,7 @@ fn a_write_that_fails(rt: HostRuntime) {
     check_rooms(&rt);
 }
 
-fn check_rooms(rt: &impl Host) {
+fn check_rooms(rt: &(impl Abort + Host)) {
     for room in 0..b"REFUSED 0 Empty\n".len() {
         check_full(rt, room);
         drop(check_write(rt, "koth --help", usize::MAX, room, FULL[0]));
@@ -150,7 +156,7 @@ fn text_of(
 }
 
 /// A source of `count` lines `DAT 0`, under settings that allow the longest warrior.
-fn check_lines(rt: &impl Host, count: usize, output: &str, status: u8) {
+fn check_lines(rt: &(impl Abort + Host), count: usize, output: &str, status: u8) {
     let line = "koth asm --length 200 --distance 200";
     let source = text_of(rt, "", "DAT 0\n", count, "");
     check_on(rt, line, source.as_bytes(), output, "", status);
@@ -163,7 +169,7 @@ fn the_longest_warrior(rt: HostRuntime) {
     check_longest(&rt);
 }
 
-fn check_longest(rt: &impl Host) {
+fn check_longest(rt: &(impl Abort + Host)) {
     let text = text_of(rt, "ORG 0\n", "DAT.F  $     0, $     0\n", 200, "END\n");
     check_lines(rt, 200, text.as_str(), 0);
     check_lines(rt, 201, "REFUSED 0 TooLong\n", 1);
@@ -175,7 +181,7 @@ fn signals_end_no_command(rt: HostRuntime) {
     check_signals(&rt);
 }
 
-fn check_signals(rt: &impl Host) {
+fn check_signals(rt: &(impl Abort + Host)) {
     let mut input = one_by_one(b"");
     let mut output = one_by_one(b"");
     let mut errors = Vec::new(rt.alloc());

@@ -66,7 +66,7 @@ fn put_files(rt: &(impl Abort + Files), hill: &[u8]) {
 }
 
 /// Nothing became of a command that found no memory: the hill has these bytes, and none was created.
-fn expect_files(rt: &impl Host, hill: &[u8]) {
+fn expect_files(rt: &(impl Abort + Host), hill: &[u8]) {
     expect_bytes(rt, HILL, hill);
     if exists(rt, CREATED) {
         check(rt, "koth show growing.hill", "", "NotAHill\n", 1);
@@ -75,7 +75,7 @@ fn expect_files(rt: &impl Host, hill: &[u8]) {
 
 /// The run of a command of which growth `k` is refused, and how many were refused.
 fn run_without(
-    rt: &impl Host,
+    rt: &(impl Abort + Host),
     memory: &Refusing<Global>,
     k: u64,
     line: &str,
@@ -90,7 +90,7 @@ fn run_without(
 /// A command, of which growth `k` is refused, writes what is due on its output and this on its errors and leaves with its status. How many
 /// were refused is the answer.
 fn check_run(
-    rt: &impl Host,
+    rt: &(impl Abort + Host),
     memory: &Refusing<Global>,
     k: u64,
     command: &Command,
@@ -122,7 +122,7 @@ fn expect_errors(rt: &impl Abort, found: &[u8], errors: &str) {
 
 /// A command, of which growth `k` is refused, writes the one line `MEMORY` and leaves everything as it was. With memory it is done then.
 fn check_refused(
-    rt: &impl Host,
+    rt: &(impl Abort + Host),
     memory: &Refusing<Global>,
     hill: &[u8],
     k: u64,
@@ -150,7 +150,7 @@ fn check_refused(
 
 /// Each growth of a command is refused in turn: `faults` of them as faults, and then `replies` as replies.
 fn check_command(
-    rt: &impl Host,
+    rt: &(impl Abort + Host),
     memory: &Refusing<Global>,
     hill: &[u8],
     faults: u64,
@@ -175,8 +175,15 @@ const HILLS: [Step; 5] = steps! {
     PutOldHill(OLD_HILL);
 };
 
+/// What is removed at the end.
+const REMOVED: [Step; 3] = steps! {
+    Remove(HILL);
+    Remove(OLD_HILL);
+    Remove(SOURCE);
+};
+
 /// Each of these commands, on a hill of these bytes.
-fn check_commands(rt: &impl Host, hill: &[u8], rows: &[Row]) {
+fn check_commands(rt: &(impl Abort + Host), hill: &[u8], rows: &[Row]) {
     let memory = Refusing::new(rt.alloc());
     for (faults, replies, command) in rows {
         check_command(rt, &memory, hill, *faults, *replies, command);
@@ -187,22 +194,21 @@ fn check_commands(rt: &impl Host, hill: &[u8], rows: &[Row]) {
 /// The words are parsed on the program's heap, which refuses nothing here.
 #[test]
 fn of_commands(rt: HostRuntime) {
-    check_on_hills(&rt);
+    play(&rt, &HILLS);
+    check_on_hill(&rt, &COMMANDS);
+    play(&rt, &REMOVED);
 }
 
-fn check_on_hills(rt: &impl Host) {
-    play(rt, &HILLS);
+/// Each of these commands, on the hill as it is.
+fn check_on_hill(rt: &(impl Abort + Host), rows: &[Row]) {
     let hill = read(rt, HILL);
-    check_commands(rt, hill.as_slice(), &COMMANDS);
+    check_commands(rt, hill.as_slice(), rows);
     put_files(rt, hill.as_slice());
     drop(hill);
-    remove(rt, HILL);
-    remove(rt, OLD_HILL);
-    remove(rt, SOURCE);
 }
 
 /// An explanation, of which growth `k` is refused: the refusal is answered all the same. Whether it took no more growths is the answer.
-fn is_explained(rt: &impl Host, memory: &Refusing<Global>, k: u64) -> bool {
+fn is_explained(rt: &(impl Abort + Host), memory: &Refusing<Global>, k: u64) -> bool {
     let input = "MOV 0, 1\nMVO 0, 1\n";
     let (ran, refused) = run_without(rt, memory, k, "koth asm", input);
     let has_memory = ran.status != 4;
@@ -227,7 +233,7 @@ fn of_an_explanation(rt: HostRuntime) {
     check_explanation(&rt);
 }
 
-fn check_explanation(rt: &impl Host) {
+fn check_explanation(rt: &(impl Abort + Host)) {
     let memory = Refusing::new(rt.alloc());
     let mut explained = false;
     for k in 1..1000 {

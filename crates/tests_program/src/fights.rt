@@ -82,7 +82,7 @@ fn the_older_source_is_refused_first(rt: HostRuntime) {
 }
 
 /// A fight of which a file is missing.
-fn check_missing(rt: &impl Host) {
+fn check_missing(rt: &(impl Abort + Host)) {
     let ran = run_line(rt, small!("koth fight first.red second.red"));
     expect_missing(rt, &ran);
     drop(ran);
@@ -104,13 +104,17 @@ fn expect_missing(rt: &impl Abort, ran: &Ran) {
 /// The older one is missing, the younger, and both.
 #[test]
 fn files_that_are_not_there(rt: HostRuntime) {
-    put(&rt, "second.red", "JMP\n");
-    check_missing(&rt);
-    remove(&rt, "second.red");
-    put(&rt, "first.red", "DAT 0\n");
-    check_missing(&rt);
-    remove(&rt, "first.red");
-    check_missing(&rt);
+    check_each_missing(&rt);
+}
+
+fn check_each_missing(rt: &(impl Abort + Host)) {
+    put(rt, "second.red", "JMP\n");
+    check_missing(rt);
+    remove(rt, "second.red");
+    put(rt, "first.red", "DAT 0\n");
+    check_missing(rt);
+    remove(rt, "first.red");
+    check_missing(rt);
 }
 
 /// What is done last in `a_round_is_shown`.
@@ -125,7 +129,7 @@ fn a_round_is_shown(rt: HostRuntime) {
     check_round(&rt);
 }
 
-fn check_round(rt: &impl Host) {
+fn check_round(rt: &(impl Abort + Host)) {
     put(rt, "watched.red", ";name Watched\nMOV 0, 1\n");
     let second = small!("koth replay watched.red watched.red --round=2");
     let ran = run_line(rt, second);

@@ -1,6 +1,6 @@
 //! The files of the tests. A call that is to be done and isn't ends the test at once.
 
-use crate::compare::{expect_number, expect_same_bytes};
+use crate::compare::{expect, expect_number, expect_same_bytes};
 use std::fs;
 use std::process::Abort;
 use std::rt::Files;
@@ -34,6 +34,13 @@ pub(crate) fn read(rt: &(impl Abort + Files + AllocGlobal), file: &str) -> Vec<u
 pub(crate) fn expect_bytes(rt: &(impl Abort + Files + AllocGlobal), file: &str, bytes: &[u8]) {
     let found = read(rt, file);
     expect_same_bytes(rt, found.as_slice(), bytes);
+    drop(found);
+}
+
+/// A file begins with these bytes.
+pub(crate) fn expect_begun(rt: &(impl Abort + Files + AllocGlobal), file: &str, bytes: &[u8]) {
+    let found = read(rt, file);
+    expect(rt, found.as_slice().starts_with(bytes), file);
     drop(found);
 }
 

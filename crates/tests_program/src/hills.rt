@@ -77,12 +77,11 @@ const NO_FILES: [Step; 2] = steps! {
 
 #[test]
 fn files_that_are_no_hills(rt: HostRuntime) {
-    play(&rt, &NO_FILES);
-    check_zeros(&rt);
+    check_no_hills(&rt);
 }
 
-/// A file of zeros, too short for a hill and long enough.
-fn check_zeros(rt: &impl Host) {
+fn check_no_hills(rt: &(impl Abort + Host)) {
+    play(rt, &NO_FILES);
     let zeros = [0; 1024];
     put_bytes(rt, "no.hill", &zeros[..512]);
     check_no_hill(rt, "no.hill", "TooSmall\n", 1);
@@ -107,7 +106,7 @@ fn the_port_is_told(rt: HostRuntime) {
     check_told_port(&rt);
 }
 
-fn check_told_port(rt: &impl Host) {
+fn check_told_port(rt: &(impl Abort + Host)) {
     let create = small!("koth create told.hill");
     check(rt, create, "CREATED\n", "", 0);
     let ran = run_line(rt, "koth serve told.hill --port=0 --connections=0");
@@ -118,7 +117,7 @@ fn check_told_port(rt: &impl Host) {
 }
 
 /// A service on this port, which is in use.
-fn check_port(rt: &impl Host, port: u16) {
+fn check_port(rt: &(impl Abort + Host), port: u16) {
     let line = format!(in rt.alloc();
         "koth serve in_use.hill --connections=1 --port {port}"
     ).expect(rt, "there is memory");

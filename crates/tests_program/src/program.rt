@@ -8,9 +8,9 @@ use std::process::Abort;
 use std::rt::{Clock, Files};
 
 /// What the program takes of its host, and the tests too.
-pub(crate) trait Host: Abort + Files<File = File> + Net + Clock + AllocGlobal {}
+pub(crate) trait Host: Files<File = File> + Net + Clock + AllocGlobal {}
 
-impl<T: Abort + Files<File = File> + Net + Clock + AllocGlobal> Host for T {}
+impl Host for HostRuntime {}
 
 /// The outcome of a run.
 #[derive(Drop)]
@@ -50,7 +50,7 @@ fn status_of<A: Allocator + Copy>(
 
 /// The same with the words of this line, which are on the tests' own memory.
 pub(crate) fn status_on<A: Allocator + Copy>(
-    rt: &impl Host,
+    rt: &(impl Abort + Host),
     alloc: A,
     line: &str,
     view: View,
@@ -77,7 +77,7 @@ pub(crate) fn status_on<A: Allocator + Copy>(
 /// A run of the program with these words, with tables in this view unless the words ask for one. What the program takes besides its
 /// words is taken from this allocator.
 pub(crate) fn run_viewed<A: Allocator + Copy>(
-    rt: &impl Host,
+    rt: &(impl Abort + Host),
     alloc: A,
     line: &str,
     view: View,
@@ -94,19 +94,19 @@ pub(crate) fn run_viewed<A: Allocator + Copy>(
 }
 
 /// A run of the program with these words, on the tests' own memory.
-pub(crate) fn run_on(rt: &impl Host, line: &str, input: &mut impl Read) -> Ran {
+pub(crate) fn run_on(rt: &(impl Abort + Host), line: &str, input: &mut impl Read) -> Ran {
     run_viewed(rt, rt.alloc(), line, View::Plain, input)
 }
 
 /// The same without an input.
-pub(crate) fn run_line(rt: &impl Host, line: &str) -> Ran {
+pub(crate) fn run_line(rt: &(impl Abort + Host), line: &str) -> Ran {
     run_on(rt, line, &mut b"".as_slice())
 }
 
 /// A run with these words and this input writes this to its output and this word to standard error, and has this status. How much
 /// of the input is left then is the answer.
 pub(crate) fn check_on(
-    rt: &impl Host,
+    rt: &(impl Abort + Host),
     line: &str,
     input: &[u8],
     output: &str,
@@ -157,13 +157,13 @@ fn is_told(errors: &str, output: &str, word: &str) -> bool {
 }
 
 /// The same as `check_on` without an input.
-pub(crate) fn check(rt: &impl Host, line: &str, output: &str, word: &str, status: u8) {
+pub(crate) fn check(rt: &(impl Abort + Host), line: &str, output: &str, word: &str, status: u8) {
     check_on(rt, line, b"", output, word, status);
 }
 
 /// A run with these words writes this to its output and exactly this to standard error, and has this status.
 pub(crate) fn check_told(
-    rt: &impl Host,
+    rt: &(impl Abort + Host),
     line: &str,
     view: View,
     output: &str,

@@ -64,14 +64,14 @@ macro_rules! small {
 pub(crate) use small;
 
 /// Does these steps.
-pub(crate) fn play(rt: &impl Host, steps: &[Step]) {
+pub(crate) fn play(rt: &(impl Abort + Host), steps: &[Step]) {
     for step in steps {
         act(rt, *step);
     }
 }
 
 /// Does a step.
-fn act(rt: &impl Host, step: Step) {
+fn act(rt: &(impl Abort + Host), step: Step) {
     match step {
         Step::Put(file, text) => put(rt, file, text),
         Step::PutOldHill(file) => put_old_hill(rt, file),
@@ -94,12 +94,12 @@ fn act(rt: &impl Host, step: Step) {
 }
 
 /// A file is not there.
-fn expect_missing(rt: &impl Host, file: &str) {
+fn expect_missing(rt: &(impl Abort + Host), file: &str) {
     expect(rt, !exists(rt, file), file);
 }
 
 /// These words write a page that has this text, and nothing but the page.
-fn check_page(rt: &impl Host, line: &str, part: &str) {
+fn check_page(rt: &(impl Abort + Host), line: &str, part: &str) {
     let ran = run_line(rt, line);
     expect_page(rt, text_in(&ran.output), part);
     expect_done(rt, &ran);
@@ -113,7 +113,7 @@ fn expect_page(rt: &impl Abort, page: &str, part: &str) {
 }
 
 /// Each command on a file without a hill, which is tried before the source is read or the port is bound.
-pub(crate) fn check_no_hill(rt: &impl Host, file: &str, word: &str, status: u8) {
+pub(crate) fn check_no_hill(rt: &(impl Abort + Host), file: &str, word: &str, status: u8) {
     check_file(rt, "show", file, "", word, status);
     check_file(rt, "submit", file, " no_such_file", word, status);
     check_file(rt, "audit", file, "", word, status);
@@ -122,7 +122,14 @@ pub(crate) fn check_no_hill(rt: &impl Host, file: &str, word: &str, status: u8) 
 }
 
 /// A command on this file, with these further words, writes nothing, reports this word and has this status.
-fn check_file(rt: &impl Host, command: &str, file: &str, behind: &str, word: &str, status: u8) {
+fn check_file(
+    rt: &(impl Abort + Host),
+    command: &str,
+    file: &str,
+    behind: &str,
+    word: &str,
+    status: u8,
+) {
     let line = format!(in rt.alloc(); "koth {command} {file}{behind}").expect(
         rt,
         "there is memory",

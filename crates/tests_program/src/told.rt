@@ -1,10 +1,11 @@
 //! What people are told of each likely mistake, word for word.
 
 use crate::compare::expect;
-use crate::program::check_told;
+use crate::program::{Host, check_told};
 use crate::steps::{Step, play, small, steps};
 use koth_server::View;
 use std::fs;
+use std::process::Abort;
 
 /// What is told of a file that is missing.
 const MISSING: &str = "DISK told_missing: no such file or folder\n";
@@ -143,11 +144,16 @@ const FREE: [Step; 2] = steps! {
 #[test]
 fn a_hill_that_is_worked_on(rt: HostRuntime) {
     play(&rt, &MADE);
-    let held = fs::open(&rt, "told_lock.hill").expect(&rt, "it is opened");
-    expect(&rt, held.try_lock().is_ok(), "it is locked");
-    play(&rt, &USED);
-    drop(held);
+    check_held(&rt, &USED);
     play(&rt, &FREE);
+}
+
+/// These steps, while another program holds the lock of the hill.
+fn check_held(rt: &(impl Abort + Host), steps: &[Step]) {
+    let held = fs::open(rt, "told_lock.hill").expect(rt, "it is opened");
+    expect(rt, held.try_lock().is_ok(), "it is locked");
+    play(rt, steps);
+    drop(held);
 }
 
 #[test]

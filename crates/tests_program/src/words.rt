@@ -4,7 +4,7 @@ use crate::steps::{Step, play, steps};
 use std::process::Abort;
 
 /// Words that have a fault: its message is written to standard error, and nothing is read.
-pub(crate) fn check_fault(rt: &impl Host, line: &str, part: &str) {
+pub(crate) fn check_fault(rt: &(impl Abort + Host), line: &str, part: &str) {
     let mut input = b"MOV 0, 1\n".as_slice();
     let ran = run_on(rt, line, &mut input);
     expect_fault(rt, &ran, part);
@@ -70,7 +70,7 @@ fn faults_of_the_words(rt: HostRuntime) {
 }
 
 /// Words that ask for help: it is written on the output.
-pub(crate) fn check_help(rt: &impl Host, line: &str, part: &str) {
+pub(crate) fn check_help(rt: &(impl Abort + Host), line: &str, part: &str) {
     let ran = run_line(rt, line);
     let text = text_in(&ran.output);
     expect(rt, text.contains(part), text);
@@ -148,7 +148,7 @@ const COMMANDS: [&str; 4] = [
 ];
 
 /// A command with these options reports this, before anything is read.
-fn check_refused(rt: &impl Host, command: &str, options: &str, told: &str) {
+fn check_refused(rt: &(impl Abort + Host), command: &str, options: &str, told: &str) {
     let line = format!(in rt.alloc(); "koth {command} {options}").expect(rt, "there is memory");
     let left = check_on(rt, line.as_str(), b"MOV 0, 1\n", "", told, 1);
     drop(line);
@@ -156,7 +156,7 @@ fn check_refused(rt: &impl Host, command: &str, options: &str, told: &str) {
 }
 
 /// Each command that takes settings is refused with these options, for this field.
-pub(crate) fn check_options(rt: &impl Host, options: &str, field: &str) {
+pub(crate) fn check_options(rt: &(impl Abort + Host), options: &str, field: &str) {
     let told = format!(in rt.alloc(); "BadSettings {field}\n").expect(rt, "there is memory");
     for command in &COMMANDS {
         check_refused(rt, command, options, told.as_str());
