@@ -2,7 +2,7 @@
 use Rattle.std.proofs.Common.{◌≡◌, ℕ, zero, suc, ◌≤◌, ◌<◌, ◌-◌, ◌||◌, List, [], ◌∷◌, ◌++◌, length, Result, Ok, Err, refl, sym, ap, ◌∙◌, append_assoc, append-nil, length-append, arith}
 use Rattle.std.proofs.lemmas.Bool.Decides.{nat_tests}
 use Rattle.std.proofs.lemmas.Grind.{common_steps}
-use Rattle.std.proofs.lemmas.List.{length-map}
+use Rattle.std.proofs.lemmas.List.{length-map, map-append, drop_more, drop_all}
 use Rattle.war_types.specs.declared.fault.AsmKind.TheVariants as kinds
 use Rattle.war_types.specs.declared.fault.AsmFault.{AsmFault}
 use Rattle.redcode_text.specs.Tokens.{Piece}
@@ -85,3 +85,6 @@ rounds-left_over (suc n) line equs xs = grind (arith, nat_tests, after-longer (s
 
 -- what the steps of the code rest on
 pub ruleset steps = (written_more, other_for, length-map, common_steps)
+
+-- what a further token rests on
+pub ruleset further = (written_more, other_for, length-map, map-append, drop_more, drop_all)

@@ -1,6 +1,7 @@
 //! Names that are known before any source.
 
 ghost use Rattle.std.specs.Prelude.{◌≡◌};
+ghost use Rattle.std.specs.Str.{bytes_eq};
 ghost use Rattle.redcode_names.specs.Name.{is_loose, predefined};
 
 use war_types::Settings;
@@ -9,30 +10,37 @@ use war_types::Settings;
 pub fn predefined(settings: &Settings, before: u32, name: &[u8]) -> Option<i64>
     ensures { result ≡ predefined settings.now before name.now }
 {
-    if name == b"CORESIZE".as_slice() {
+    if is_called(name, b"CORESIZE") {
         Some(i64::from(settings.core()))
-    } else if name == b"MAXPROCESSES".as_slice() {
+    } else if is_called(name, b"MAXPROCESSES") {
         Some(i64::from(settings.processes()))
-    } else if name == b"MAXCYCLES".as_slice() {
+    } else if is_called(name, b"MAXCYCLES") {
         Some(i64::from(settings.cycles()))
-    } else if name == b"MAXLENGTH".as_slice() {
+    } else if is_called(name, b"MAXLENGTH") {
         Some(i64::from(settings.length()))
-    } else if name == b"MINDISTANCE".as_slice() {
+    } else if is_called(name, b"MINDISTANCE") {
         Some(i64::from(settings.distance()))
-    } else if name == b"ROUNDS".as_slice() {
+    } else if is_called(name, b"ROUNDS") {
         Some(i64::from(settings.rounds()))
-    } else if name == b"WARRIORS".as_slice() {
+    } else if is_called(name, b"WARRIORS") {
         Some(2)
-    } else if name == b"CURLINE".as_slice() {
+    } else if is_called(name, b"CURLINE") {
         Some(i64::from(before))
     } else {
         None
     }
 }
 
+/// Whether a name is this word. Letter case counts.
+fn is_called(name: &[u8], word: &[u8]) -> bool
+    ensures { result ≡ bytes_eq name.now word.now }
+{
+    name == word
+}
+
 /// Whether a name is not predefined, or its value changes from line to line.
 pub fn is_loose(settings: &Settings, name: &[u8]) -> bool
     ensures { result ≡ is_loose settings.now name.now }
 {
-    predefined(settings, 0, name).is_none() || name == b"CURLINE".as_slice()
+    predefined(settings, 0, name).is_none() || is_called(name, b"CURLINE")
 }

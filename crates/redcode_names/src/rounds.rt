@@ -1,6 +1,6 @@
 //! The replacement of the names of EQUs, in 16 rounds at most.
 
-ghost use Rattle.std.specs.Prelude.{◌≡◌, suc};
+ghost use Rattle.std.specs.Prelude.{◌≡◌, suc, []};
 ghost use Rattle.std.specs.Cow.{cow_slice_items};
 ghost use Rattle.redcode_text.specs.Tokens.{pieces};
 ghost use Rattle.redcode_names.specs.Gives.{Gives, fault_at};
@@ -43,7 +43,6 @@ pub fn replaced<'t, 's, A: Allocator + Copy>(
 }
 
 /// Tokens with the names of EQUs replaced, in a list that has room for `room` of them at first.
-#[tactic(auto, using(crate::proofs::Unchanged::all_replaced))]
 pub fn written<'s, A: Allocator + Copy>(
     alloc: A,
     equs: &LinkedEqus<'_, 's, A>,
@@ -53,10 +52,27 @@ pub fn written<'s, A: Allocator + Copy>(
 ) -> Result<Vec<Token<'s>, A>, AsmFault>
     ensures { Gives (λ tokens. pieces tokens.items) result (replaced line equs.now (pieces tokens.now)) }
 {
-    let links = linked(alloc, equs.equs(), tokens)?;
     let mut out = Vec::with_capacity(alloc, room)?;
-    write(alloc, equs, line, ROUNDS, links.as_slice(), &mut out)?;
-    Ok(out)
+    match write_all(alloc, equs, line, tokens, &mut out) {
+        Ok(()) => Ok(out),
+        Err(fault) => Err(fault),
+    }
+}
+
+/// Appends what tokens become in all rounds to an empty list.
+#[tactic(auto, using(crate::proofs::Unchanged::all_replaced))]
+fn write_all<'s, A: Allocator + Copy>(
+    alloc: A,
+    equs: &LinkedEqus<'_, 's, A>,
+    line: u32,
+    tokens: &[Token<'s>],
+    out: &mut Vec<Token<'s>, A>,
+) -> Result<(), AsmFault>
+    requires { out.old.items ≡ [] }
+    ensures { Gives (λ _. pieces out.new.items) result (replaced line equs.now (pieces tokens.now)) }
+{
+    let links = linked(alloc, equs.equs(), tokens)?;
+    write(alloc, equs, line, ROUNDS, links.as_slice(), out)
 }
 
 /// Appends what tokens become in `rounds` rounds: each token goes down through the bodies, one round deeper with each.

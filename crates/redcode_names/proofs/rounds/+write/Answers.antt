@@ -1,25 +1,25 @@
 -- What a token becomes is written, or refused; the others are left.
 use Rattle.std.proofs.Common.{arith}
-use Rattle.redcode_names.proofs.Replacing.{steps}
+use Rattle.redcode_names.proofs.Replacing.{further}
 use Rattle.redcode_names.proofs.rounds.+write.Goals as goal
 
 pub returns-then-rounds-eq0 : goal.returns-then-rounds-eq0
-returns-then-rounds-eq0 g t c = grind (arith, steps)
+returns-then-rounds-eq0 g t c = grind (arith, further)
 
 pub returns-in_err-write : goal.returns-in_err-write
-returns-in_err-write g t c = grind (arith, steps)
+returns-in_err-write g t c = grind (arith, further)
 
 pub loop-token-preserved-then-not-is_empty : goal.loop-token-preserved-then-not-is_empty
-loop-token-preserved-then-not-is_empty g t c = grind (arith, steps)
+loop-token-preserved-then-not-is_empty g t c = grind (arith, further)
 
 pub returns-then-len-eq-TOKEN_LIMIT : goal.returns-then-len-eq-TOKEN_LIMIT
-returns-then-len-eq-TOKEN_LIMIT g t c = grind (arith, steps)
+returns-then-len-eq-TOKEN_LIMIT g t c = grind (arith, further)
 
 pub returns-in_err-push : goal.returns-in_err-push
-returns-in_err-push g t c = grind (arith, steps)
+returns-in_err-push g t c = grind (arith, further)
 
 pub loop-token-preserved : goal.loop-token-preserved
-loop-token-preserved g t c = grind (arith, steps)
+loop-token-preserved g t c = grind (arith, further)
 
 pub returns : goal.returns
-returns g t c = grind (arith, steps)
+returns g t c = grind (arith, further)
