@@ -1,9 +1,10 @@
-use Rattle.std.proofs.Common.{◌-◌, ◌+◌, subst, ℕ, Bool, List, ◌∷◌, sym, ap, ◌∙◌, drop}
+use Rattle.std.proofs.Common.{arith, ◌-◌, ◌+◌, subst, ℕ, Bool, List, ◌∷◌, sym, ap, ◌∙◌, drop}
 use Rattle.redcode_lines.specs.Block.{parsed}
 use Rattle.redcode_expand.specs.Marks.{line_in}
 use Rattle.redcode_copies.specs.Counter.{counter_of}
 use Rattle.redcode_expand.specs.Rest.{OpenBlock, open_block, rest_of, steps_left, GoesOn, IsUnmatched}
 use Rattle.redcode_expand.proofs.GoingOn.{block-goes-on}
+use Rattle.redcode_expand.proofs.Keeping.{all-same}
 use Rattle.redcode_expand.proofs.blocks.begin.Goals as goal
 
 pub returns-clause-goes_on : goal.returns-clause-goes_on
@@ -21,3 +22,19 @@ returns-clause-goes_on g c =
     (block-goes-on s lines c.args.blocks.now c.args.at (line_in c.args.lines.now c.args.at) c.args.walk.now c.begun_at.new.walk name n
     c.requires.few c.requires.some c.requires.goes_on c.requires.line c.requires.word c.requires.opened matched c.in_ok-begun.ensures.begun c.if-begun-eq0.false
     c.in_ok-begun.ensures.goes_on c.in_ok-begun.ensures.counted)
+
+pub pass-requires-clause-goes_on : goal.pass-requires-clause-goes_on
+pass-requires-clause-goes_on g c = c.in_ok-begun.ensures.goes_on ∙ c.requires.goes_on
+
+pub returns-then-begun-eq0-clause-kept : goal.returns-then-begun-eq0-clause-kept
+returns-then-begun-eq0-clause-kept g c =
+    all-same c.args.settings.now c.args.lines.now c.begun_at.new.walk.names.equs c.pass.new.walk.names.equs c.begun_at.new.counts c.in_ok-next.ensures.equs c.in_ok-begun.ensures.kept
+
+pub overflow_sub-left : goal.overflow_sub-left
+overflow_sub-left g c = omega (arith, c.if-begun-eq0.false)
+
+pub overflow_add-body : goal.overflow_add-body
+overflow_add-body g c = omega (arith, c.requires.some, c.requires.few)
+
+pub new-requires : goal.new-requires
+new-requires g c = omega (arith, c.in_ok-begun.ensures.few, c.if-begun-eq0.false)
