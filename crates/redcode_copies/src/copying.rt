@@ -24,8 +24,10 @@ pub fn in_copy<'s, A: Allocator + Copy>(
     ensures { IfOk result (λ copy. with_tokens (line_read line.entry) copy ≡ in_copy counter.now (line_read line.entry)) }
 {
     let front = copied_front(alloc, region, counter, line.front)?;
-    let tokens = copied_tokens(alloc, region, counter, line)?;
-    Ok(LineCopy { front, tokens })
+    match copied_tokens(alloc, region, counter, line) {
+        Ok(tokens) => Ok(LineCopy { front, tokens }),
+        Err(error) => Err(error),
+    }
 }
 
 /// The tokens before a word: no number stands for the counter among them.
@@ -53,8 +55,10 @@ fn copied_tokens<'s, A: Allocator + Copy>(
     ensures { IfOk result (λ tokens. pieces tokens.items ≡ copied_tokens counter.now line.entry.form line.entry.word (pieces line.entry.tokens.now)) }
 {
     let mut out = Vec::with_capacity(alloc, line.tokens.len())?;
-    append_copied(alloc, region, counter, line, &mut out)?;
-    Ok(out)
+    match append_copied(alloc, region, counter, line, &mut out) {
+        Ok(()) => Ok(out),
+        Err(error) => Err(error),
+    }
 }
 
 /// Appends the tokens of a line from its word on, or all of them if it has no word.

@@ -44,9 +44,9 @@ impl<'s> Model for Joined<'s> {
 }
 
 impl<'s> Counter<'s> {
-    ghost use Rattle.std.specs.Prelude.{◌≡◌, IfOk};
+    ghost use Rattle.std.specs.Prelude.{◌≡◌, ◌++◌, decimal, IfOk, OnOk};
     ghost use Rattle.redcode_text.specs.Tokens.{piece_of, pieces};
-    ghost use Rattle.redcode_copies.specs.Counter.{counter_of, is_counter, joined_name, joins, number_or, number_token};
+    ghost use Rattle.redcode_copies.specs.Counter.{counter_of, is_counter, joined_name, joins, number_or, number_token, two_digits};
 
     /// A counter of this name in the copy of this number.
     pub fn new(name: &'s [u8], number: u64) -> Counter<'s>
@@ -84,16 +84,32 @@ impl<'s> Counter<'s> {
         let digits = buffer.format(self.number).as_bytes();
         let room = name.text.len().saturating_add(digits.len().max(2));
         let mut text = Vec::with_capacity(region, room)?;
-        text.extend_from_slice(name.text)?;
+        match self.append_joined(name.text, digits, &mut text) {
+            Ok(()) => Ok(Token {
+                kind: TokenKind::Name,
+                text: into_bump_slice(text),
+                at: name.at,
+            }),
+            Err(error) => Err(error),
+        }
+    }
+
+    /// Appends a name and this counter's number, whose decimal digits these are.
+    fn append_joined<A: Allocator>(
+        &self,
+        name: &[u8],
+        digits: &[u8],
+        text: &mut Vec<u8, A>,
+    ) -> Result<(), AllocError>
+        requires { digits.now ≡ decimal self.now.number }
+        ensures { OnOk result (text.new.items ≡ text.old.items ++ (name.now ++ two_digits self.now.number)) }
+    {
+        text.extend_from_slice(name)?;
         if self.number < 10 {
             text.push(b'0')?;
         }
         text.extend_from_slice(digits)?;
-        Ok(Token {
-            kind: TokenKind::Name,
-            text: into_bump_slice(text),
-            at: name.at,
-        })
+        Ok(())
     }
 
     /// The number if a token is this counter and was not joined, else the token.
