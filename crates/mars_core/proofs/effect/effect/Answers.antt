@@ -4,10 +4,9 @@ use Rattle.war_types.specs.declared.instr.Op.{Op}
 use Rattle.war_types.specs.declared.instr.Modifier.{Modifier}
 use Rattle.war_types.specs.declared.instr.Instr.{Instr}
 use Rattle.mars_core.specs.Cells.{cell}
-use Rattle.mars_core.specs.Pairs.{pairs}
 use Rattle.mars_core.specs.Operand.{Operand}
 use Rattle.mars_core.specs.Code.{operand_of}
-use Rattle.mars_core.specs.Effect.{Effect, Arithmetic, queues, next, skip_where, jump_where, calculates, copied, are_zero, are_equal, are_less, all_lowered, fall_to_zero, put, target, by_op, effect}
+use Rattle.mars_core.specs.Effect.{Effect, Arithmetic, queues, skip_where, jump_where, calculates, copied, are_zero, are_equal, are_less, all_lowered, put, target, by_op, effect}
 use Rattle.mars_core.proofs.effect.effect.Goals as goal
 
 -- the effect, by the arm that the operation takes

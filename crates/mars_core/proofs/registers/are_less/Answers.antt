@@ -1,4 +1,4 @@
-use Rattle.std.proofs.Common.{◌≡◌, ◌∙◌, ℕ, sym, nat_lt}
+use Rattle.std.proofs.Common.{◌∙◌, sym, nat_lt}
 use Rattle.mars_core.specs.Cells.{number}
 use Rattle.mars_core.specs.Pairs.{Pair}
 use Rattle.mars_core.specs.Code.{pair_of}

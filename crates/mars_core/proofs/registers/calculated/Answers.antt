@@ -1,29 +1,12 @@
-use Rattle.std.proofs.Common.{◌≡◌, ap, ◌∙◌, sym, refl, Bool, true, false, ◌&&◌, List, [], ◌∷◌, ℕ, Option, ap₂}
+use Rattle.std.proofs.Common.{◌≡◌, ℕ, Bool, List, Option, sym, ap, ap₂, ◌∙◌}
 use Rattle.std.specs.Option.{is_some}
 use Rattle.war_types.specs.declared.instr.Instr.{Instr}
-use Rattle.std.specs.List.{list_all}
 use Rattle.mars_core.specs.Pairs.{Pair}
 use Rattle.mars_core.specs.Effect.{value, with_value, calculated}
 use Rattle.mars_core.specs.Code.{arithmetic_of, field_of, pair_of}
-use Rattle.mars_core.proofs.Pairs.{all-one}
+use Rattle.mars_core.proofs.Pairs.{all-one, all-then, all-else}
 use Rattle.mars_core.proofs.registers.calculated.Goals as goal
 use Rattle.mars_core.proofs.registers.calculated.Goals.{then-is_some, else-is_some}
-
-last : (a b : Bool) → a ≡ true → b ≡ (a && (b && true))
-last true true e = refl
-last true false e = refl
-last false b e = cc
-
-none : (a b : Bool) → a ≡ false → false ≡ (a && (b && true))
-none true b e = cc
-none false b e = refl
-
--- a test of two pairs, by the first one's
-all-second : (f : Pair → Bool) (p q : Pair) (ps : List Pair) (all : Bool) → p ∷ q ∷ [] ≡ ps → f p ≡ true → all ≡ f q → all ≡ list_all f ps
-all-second f p q ps all names one two = two ∙ (last (f p) (f q) one ∙ ap (list_all f) names)
-
-all-none : (f : Pair → Bool) (p q : Pair) (ps : List Pair) (all : Bool) → p ∷ q ∷ [] ≡ ps → f p ≡ false → all ≡ false → all ≡ list_all f ps
-all-none f p q ps all names one two = two ∙ (none (f p) (f q) one ∙ ap (list_all f) names)
 
 pub returns-after-is_some-clause-all : goal.returns-after-is_some-clause-all
 returns-after-is_some-clause-all c =
@@ -32,8 +15,8 @@ returns-after-is_some-clause-all c =
     let q = pair_of c.in-Two.q in
     let first : c.is_some-in-Two.result ≡ holds p = c.is_some-in-Two.ensures ∙ ap is_some c.value-n-in-Two.ensures.value in
     elim c.if-is_some.branch [
-      | then-is_some w ↦ all-second holds p q _ c.if-is_some.result c.in-Two.ensures (sym first ∙ w.if-is_some.true) (w.result-is ∙ (w.is_some-then-is_some.ensures ∙ ap is_some c.value-m.ensures.value))
-      | else-is_some w ↦ all-none holds p q _ c.if-is_some.result c.in-Two.ensures (sym first ∙ w.if-is_some.false) (w.result-is ∙ w.if-is_some.false)
+      | then-is_some w ↦ w.result-is ∙ (w.is_some-then-is_some.ensures ∙ (ap is_some c.value-m.ensures.value ∙ all-then holds p q _ c.in-Two.ensures (sym first ∙ w.if-is_some.true)))
+      | else-is_some w ↦ w.result-is ∙ (w.if-is_some.false ∙ all-else holds p q _ c.in-Two.ensures (sym first ∙ w.if-is_some.false))
     ]
 
 pub returns-in-One-clause-all : goal.returns-in-One-clause-all

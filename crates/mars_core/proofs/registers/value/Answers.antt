@@ -1,4 +1,4 @@
-use Rattle.std.proofs.Common.{ℕ, ap₂, ◌∙◌}
+use Rattle.std.proofs.Common.{ap₂, ◌∙◌}
 use Rattle.mars_core.specs.Effect.{combined}
 use Rattle.mars_core.specs.Code.{arithmetic_of}
 use Rattle.mars_core.proofs.registers.value.Goals as goal

@@ -8,6 +8,7 @@ use Rattle.mars_core.specs.Code.{field_of, led_by}
 use Rattle.mars_core.proofs.Touched.{on_by, executed-same}
 use Rattle.mars_core.proofs.touchable.touchable.Goals as goal
 
+-- what holds of each of eight numbers holds of their list
 All-eight : (P : ℕ → Type 0) (a b c d e f g h : ℕ) → P a → P b → P c → P d → P e → P f → P g → P h → All P (a ∷ b ∷ c ∷ d ∷ e ∷ f ∷ g ∷ h ∷ [])
 All-eight P a b c d e f g h pa pb pc pd pe pf pg ph =
     All-cons P a (b ∷ c ∷ d ∷ e ∷ f ∷ g ∷ h ∷ []) pa (All-cons P b (c ∷ d ∷ e ∷ f ∷ g ∷ h ∷ []) pb (All-cons P c (d ∷ e ∷ f ∷ g ∷ h ∷ []) pc (All-cons P d (e ∷ f ∷ g ∷ h ∷ []) pd (

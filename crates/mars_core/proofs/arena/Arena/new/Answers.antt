@@ -1,6 +1,5 @@
 use Rattle.std.proofs.Common.{◌≡◌, ℕ, ◌<◌, List, [], replicate, sym, ap, subst, ◌∙◌, arith}
 use Rattle.std.proofs.lemmas.List.Elements.{All-nil}
-use Rattle.war_types.specs.declared.instr.Instr.{Instr}
 use Rattle.mars_core.specs.declared.round.Side.TheVariants as sides
 use Rattle.mars_core.specs.Cells.{blank}
 use Rattle.mars_core.specs.Queue.{Processes, processes}

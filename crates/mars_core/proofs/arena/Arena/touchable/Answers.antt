@@ -1,5 +1,5 @@
 -- The next turn executes the process at the front.
-use Rattle.std.proofs.Common.{◌≡◌, ◌∙◌, false, sym, subst, ℕ, ◌<◌, ◌≤◌, subst₂, arith}
+use Rattle.std.proofs.Common.{◌≡◌, ◌∙◌, false, sym, subst, ℕ, ◌≤◌, subst₂, arith}
 use Rattle.mars_core.specs.Cells.{IsCore}
 use Rattle.mars_core.specs.Round.{Round, executed, is_over, reach_of}
 use Rattle.mars_core.specs.Touched.{AreSameBut}

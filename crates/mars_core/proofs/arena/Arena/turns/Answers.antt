@@ -1,4 +1,4 @@
-use Rattle.std.proofs.Common.{◌≡◌, ℕ, ◌≤◌, sym, ap, subst, subst₂, ◌∙◌, arith, ◌<◌}
+use Rattle.std.proofs.Common.{◌≡◌, ℕ, ◌≤◌, sym, ap, subst, subst₂, ◌∙◌, arith}
 use Rattle.mars_core.specs.Round.{Round, reach_of}
 use Rattle.mars_core.proofs.Divisors.{divisor-most}
 use Rattle.mars_core.proofs.arena.Arena.turns.Goals as goal

@@ -1,4 +1,4 @@
-use Rattle.std.proofs.Common.{◌≡◌, ℕ, List, slice_set, sym, ap, ap₂, ◌∙◌, arith}
+use Rattle.std.proofs.Common.{◌≡◌, ℕ, slice_set, sym, ap, ap₂, ◌∙◌, arith}
 use Rattle.war_types.specs.declared.instr.Instr.{Instr}
 use Rattle.mars_core.specs.Cells.{cell, number, with_number, plus}
 use Rattle.mars_core.specs.Operand.{evaluated, raised_at}
