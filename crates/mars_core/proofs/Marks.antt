@@ -152,6 +152,14 @@ AreCells-none cells written small room words blanks unmarked = record {
 pub core_in-none : (cells : List ℕ) → All IsBlankUnlessMarked cells → All (λ bits. is_marked bits ≡ false) cells → core_in cells ≡ replicate (length cells) blank
 core_in-none cells blanks unmarked = map-same (λ bits. (word_in bits).instr) blank cells (λ k d inside. blanks k d inside (unmarked k d inside))
 
+-- cells that are all blank and not marked
+pub AreCells-new : (n bits : ℕ) (cells written : List ℕ) → n ≤ 65535 → cells ≡ replicate n bits → length written ≡ n → IsWord bits → is_marked bits ≡ false → (word_in bits).instr ≡ blank → AreCells cells written 0
+AreCells-new n bits cells written small is room word unmarked blanked =
+    let count : length (replicate n bits) ≡ n = length-replicate n bits in
+    subst (λ (xs : List ℕ). AreCells xs written 0) (sym is)
+    (AreCells-none (replicate n bits) written (subst (λ (k : ℕ). k ≤ 65535) (sym count) small) (room ∙ sym count) (All-replicate IsWord n bits word) (All-replicate IsBlankUnlessMarked n bits (λ e. blanked))
+    (All-replicate (λ b. is_marked b ≡ false) n bits unmarked))
+
 -- what holds while the cells that are listed are blanked, one after the other: those that are still marked are listed from a place on
 pub record AreLeft (cells written : List ℕ) (place count : ℕ) : Type 0 where
   pub few : count ≤ length written
