@@ -9,3 +9,7 @@ returns-then-number-len-clause-serving g c =
     let n = c.args.number in
     serving_closed slots (set slots n c.close_at.new.slot) n
     (moves_written Closes n slots c.index_mut.result.now c.close_at.new.slot (omega arith) c.index_mut.ensures.value c.close_at.ensures)
+
+pub returns-then-number-len-clause-closes : goal.returns-then-number-len-clause-closes
+returns-then-number-len-clause-closes g c =
+    moves_written Closes c.args.number c.args.self.now.slots.items c.index_mut.result.now c.close_at.new.slot (omega arith) c.index_mut.ensures.value c.close_at.ensures

@@ -1,6 +1,7 @@
 -- One slot more, which is free.
-use Rattle.std.proofs.Common.{◌+◌, None, ap, ◌∙◌}
+use Rattle.std.proofs.Common.{◌+◌, None, ap, refl, subst, sym, ◌∙◌}
 use Rattle.std.proofs.lemmas.List.{length_push}
+use Rattle.koth_peers.specs.Peers.{StandsAt, nothing_yet}
 use Rattle.koth_peers.proofs.Slots.{free_push}
 use Rattle.koth_peers.proofs.peers.Peers.new.Goals as goal
 
@@ -9,3 +10,12 @@ slots-preserved g c = record {
   size = rw c.in_ok-push.ensures.items (length_push c.slots.slots.items None ∙ ap (λ n. n + 1) c.slots.invariant.size);
   free = rw c.in_ok-push.ensures.items (free_push c.slots.slots.items c.slots.invariant.free);
 }
+
+pub returns-clause-nobody : goal.returns-clause-nobody
+returns-clause-nobody g c = c.slots.invariant.free
+
+pub returns-clause-next : goal.returns-clause-next
+returns-clause-next g c = refl
+
+pub returns-clause-serving : goal.returns-clause-serving
+returns-clause-serving g c = λ hill p. subst (λ slot. StandsAt hill nothing_yet p slot) (sym (c.slots.invariant.free p)) refl

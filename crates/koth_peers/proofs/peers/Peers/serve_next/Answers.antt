@@ -1,13 +1,21 @@
 -- One peer is served, or nobody is.
-use Rattle.std.proofs.Common.{◌+◌, refl, set, subst}
+use Rattle.std.proofs.Common.{◌≡◌, ◌+◌, None, refl, set, subst, sym, true}
+use Rattle.std.proofs.lemmas.List.{get_or_read}
 use Rattle.koth_peers.specs.Peer.{Serves}
-use Rattle.koth_peers.specs.Peers.{IsFirstDue}
+use Rattle.koth_peers.specs.Peers.{IsFirstDue, is_due_in}
 use Rattle.koth_peers.proofs.Serving.{goes_on, serves_next}
 use Rattle.koth_peers.proofs.Slots.{moves_written}
 use Rattle.koth_peers.proofs.peers.Peers.serve_next.Goals as goal
 
 pub returns-in_default-clause-goes_on : goal.returns-in_default-clause-goes_on
 returns-in_default-clause-goes_on g c = λ history on. on
+
+pub serve_at-outcome-requires : goal.serve_at-outcome-requires
+serve_at-outcome-requires g c =
+    let slots = c.args.self.now.slots.items in
+    let n = c.in-Some.number in
+    let first : IsFirstDue slots c.args.self.now.next n = subst (λ s. IsFirstDue s c.args.self.now.next n) c.as_slice.ensures.value c.in-Some.ensures in
+    subst (λ s. is_due_in s ≡ true) (sym (get_or_read slots n c.index_mut.result.now first.within c.index_mut.ensures.value None)) first.due
 
 pub returns-clause-serves : goal.returns-clause-serves
 returns-clause-serves g c =
