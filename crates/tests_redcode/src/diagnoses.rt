@@ -3,6 +3,7 @@
 //! `expressions` has those of expressions, names and warriors. `texts` has the text and the JSON of refusals, and sources with several
 //! faults.
 
+use crate::expecting::expect_same;
 use redcode_diagnosis::{Diagnosis, diagnose};
 use std::alloc::Global;
 use std::process::Abort;
@@ -32,16 +33,11 @@ fn line_of(rt: &(impl Abort + AllocGlobal), told: &Diagnosis<Global>) -> String 
 /// A source is refused once, and this is told of it.
 fn check_refusal(rt: &(impl Abort + AllocGlobal), source: &str, want: &str) {
     let all = refusals(rt, source.as_bytes());
-    assert_eq!(rt; all.len(), 1, "{source:?}");
+    assert!(rt; all.len() == 1, "{source:?}");
     let found = line_of(rt, &all[0]);
     drop(all);
-    expect_text(rt, found.as_str(), want, source);
+    expect_same(rt, &found.as_str(), &want, format_args!("{source:?}"));
     drop(found);
-}
-
-/// This text is what is due of a source.
-fn expect_text(rt: &impl Abort, found: &str, want: &str, source: &str) {
-    assert_eq!(rt; found, want, "{source:?}");
 }
 
 /// Sources that are refused once, each with what is told of it.

@@ -1,5 +1,6 @@
 //! Sources, and the lines and labels of what is written out of them.
 
+use crate::expecting::expect_same;
 use bumpalo::Bump;
 use redcode_expand::{Entry, Expanded, Line, LineKind, expand, predefined};
 use redcode_text::Token;
@@ -68,7 +69,7 @@ fn check_lines<A: Allocator>(
     entries: &[Entry<'_, A>],
     rows: &[Row],
 ) {
-    assert_eq!(rt; entries.len(), rows.len());
+    expect_same(rt, &entries.len(), &rows.len(), "lines");
     for (entry, row) in entries.iter().zip(rows) {
         check_line(rt, entry, row);
     }
@@ -84,7 +85,7 @@ fn check_labels<A: Allocator + Copy>(
     labels: &[Label],
 ) {
     for (name, address) in labels {
-        assert_eq!(rt; expanded.label(name), *address);
+        expect_same(rt, &expanded.label(name), address, "a label");
     }
 }
 
@@ -188,7 +189,7 @@ const PREDEFINED: [(&[u8], Option<i64>); 10] = [
 fn predefined_names(rt: HostRuntime) {
     let settings = defaults(&rt);
     for (name, value) in &PREDEFINED {
-        assert_eq!(rt; predefined(&settings, 7, name), *value);
+        expect_same(&rt, &predefined(&settings, 7, name), value, "a name");
     }
 }
 

@@ -5,6 +5,7 @@
 use crate::expansion::{
     COPIED, COPIED_LABELS, COPIED_WRITTEN_OUT, Label, Row, check_written, written_out,
 };
+use crate::expecting::expect_same;
 use crate::sources::defaults;
 use crate::tokens::{MOVED, Same, gives, tokens_of};
 use bumpalo::Bump;
@@ -54,7 +55,11 @@ fn is_expanded(
 ) -> Result<bool, AsmFault> {
     let region = Bump::new(memory);
     match expand(memory, &region, COPIED, &defaults(rt)) {
-        Ok(copies) => Ok(are_copies(rt, &copies)),
+        Ok(copies) => {
+            let is_due = are_copies(rt, &copies);
+            drop(copies);
+            Ok(is_due)
+        }
         Err(fault) => Err(fault),
     }
 }
@@ -86,7 +91,9 @@ fn is_printed(
 ) -> Result<bool, AsmFault> {
     let settings = defaults(rt);
     let warrior = assemble(rt.alloc(), b"MOV 0, 1", &settings).expect(rt, "there is memory");
-    match load_text(memory, &warrior, settings.core()) {
+    let text = load_text(memory, &warrior, settings.core());
+    drop(warrior);
+    match text {
         Ok(text) => Ok(is_imp(text)),
         Err(AllocError) => Err(AsmFault::MEMORY),
     }
@@ -109,12 +116,12 @@ fn answer(
 
 /// `count` growths were refused.
 fn check_refusals(rt: &impl Abort, memory: &Refusing<Global>, count: u64) {
-    assert_eq!(rt; memory.refused(), count);
+    expect_same(rt, &memory.refused(), &count, "growths refused");
 }
 
 /// A call gives its answer.
 fn check_again(rt: &(impl Abort + AllocGlobal), memory: &Refusing<Global>, call: Call, name: &str) {
-    assert_eq!(rt; answer(rt, memory, call), Ok(true), "{name}");
+    expect_same(rt, &answer(rt, memory, call), &Ok(true), name);
 }
 
 /// A run that met a refusal lacks memory, and the same call made again gives its answer; else the run gave it.
@@ -125,7 +132,7 @@ fn check_run(rt: &(impl Abort + AllocGlobal), memory: &Refusing<Global>, call: C
             check_refusals(rt, memory, 0);
         }
         Err(fault) => {
-            assert_eq!(rt; fault, AsmFault::MEMORY);
+            expect_same(rt, &fault, &AsmFault::MEMORY, name);
             check_refusals(rt, memory, 1);
             check_again(rt, memory, call, name);
         }
@@ -146,7 +153,7 @@ const CALLS: [(Call, &str, Option<u64>); 5] = [
 fn check_runs(rt: &impl Abort, runs: u64, growths: Option<u64>, name: &str) {
     assert!(rt; 1 < runs && runs < MOST_RUNS, "{name}");
     if let Some(growths) = growths {
-        assert_eq!(rt; runs - 1, growths, "{name}");
+        expect_same(rt, &(runs - 1), &growths, name);
     }
 }
 
@@ -173,6 +180,8 @@ fn check_found(
     let written = written_out(rt, memory, &region, source);
     memory.refuse(0, u64::MAX);
     check_written(rt, &written, rows, labels);
+    drop(written);
+    drop(region);
     check_refusals(rt, memory, 0);
 }
 
@@ -195,7 +204,7 @@ fn check_value(rt: &impl Abort, memory: &Refusing<Global>) {
     let found = value(tokens.as_slice(), &Same { value: None });
     check_refusals(rt, memory, 0);
     drop(tokens);
-    assert_eq!(rt; found, Ok(1));
+    expect_same(rt, &found, &Ok(1), "a value");
 }
 
 /// Whether a warrior can be made of this code, and fits.
@@ -203,7 +212,11 @@ fn is_made(code: Vec<Instr, &Refusing<Global>>, settings: &Settings) -> bool {
     let name = Title::new(b"Imp", "Unnamed");
     let author = Title::new(b"", "Anonymous");
     match Warrior::new(code, 0, name, author, settings) {
-        Some(warrior) => warrior.fits(settings) && warrior.name().bytes() == b"Imp".as_slice(),
+        Some(warrior) => {
+            let is_due = warrior.fits(settings) && warrior.name().bytes() == b"Imp".as_slice();
+            drop(warrior);
+            is_due
+        }
         None => false,
     }
 }

@@ -11,7 +11,8 @@
 //! - `limits`: the limits of a source, of its lines and of a warrior, on both sides;
 //! - `long_tests`: sources that are long once they are written out, on both sides of what an assembly may take;
 //! - `growths`: calls that are refused memory, and those that need none;
-//! - `diagnoses`: what people are told of sources that are refused.
+//! - `diagnoses`: what people are told of sources that are refused;
+//! - `expecting`: how the tests compare.
 //!
 //! What a contract says is proved there and not tried here.
 #![tactic(auto)]
@@ -20,6 +21,8 @@
 mod diagnoses;
 #[cfg(test)]
 mod expansion;
+#[cfg(test)]
+mod expecting;
 #[cfg(test)]
 mod growths;
 #[cfg(test)]

@@ -1,5 +1,6 @@
 //! The limits of a source, of its lines and of a warrior, on both sides.
 
+use crate::expecting::expect_same;
 use crate::sources::{assembled, check_answer, defaults, source_of, with_length};
 use std::process::Abort;
 use war_types::AsmKind;
@@ -24,7 +25,7 @@ fn check_counted(rt: &(impl Abort + AllocGlobal), counted: &Counted) {
     let source = source_of(rt, "", line, count, "");
     let found = assembled(rt, source.as_bytes(), &with_length(rt, length));
     drop(source);
-    assert_eq!(rt; found, answer, "{count} lines");
+    expect_same(rt, &found, &answer, format_args!("{count} lines"));
 }
 
 #[test]
@@ -66,7 +67,8 @@ fn lines_before_names(rt: HostRuntime) {
     let source = source_of(&rt, "x ", "DAT 0\n", 4096, "x DAT 0\n");
     let found = assembled(&rt, source.as_bytes(), &defaults(&rt));
     drop(source);
-    assert_eq!(rt; found, Err((4097, AsmKind::ForLimit)));
+    let due = Err((4097, AsmKind::ForLimit));
+    expect_same(&rt, &found, &due, "4097 lines");
 }
 
 /// A line, what follows it, and the answer if it is not too long.
@@ -95,7 +97,7 @@ fn check_sums(
     let found = assembled(rt, source.as_bytes(), &defaults(rt));
     drop(source);
     drop(summed);
-    assert_eq!(rt; found, answer, "{sums} sums");
+    expect_same(rt, &found, &answer, format_args!("{sums} sums"));
 }
 
 #[test]

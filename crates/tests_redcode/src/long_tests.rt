@@ -1,5 +1,6 @@
 //! Sources that are long, or met often, once they are written out.
 
+use crate::expecting::expect_same;
 use crate::refusals::DOUBLE;
 use crate::sources::{assembled, defaults, source_of};
 use std::process::Abort;
@@ -31,7 +32,7 @@ fn check_refusal(
     part: &str,
 ) {
     let found = assembled(rt, source.as_bytes(), &defaults(rt)).err();
-    assert_eq!(rt; found, refusal, "{part:?}");
+    expect_same(rt, &found, &refusal, format_args!("{part:?}"));
 }
 
 /// Such a source is refused so, or not.

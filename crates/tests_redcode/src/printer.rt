@@ -1,5 +1,6 @@
 //! The load text of codes made by hand.
 
+use crate::expecting::expect_same;
 use crate::sources::source_of;
 use redcode_asm::load_text;
 use std::process::Abort;
@@ -27,12 +28,8 @@ fn text_of(rt: &(impl Abort + AllocGlobal), core: u16, start: u16, code: &[Instr
 /// A warrior of this code has this load text, in a core of this size.
 fn check_text(rt: &(impl Abort + AllocGlobal), core: u16, start: u16, code: &[Instr], want: &str) {
     let found = text_of(rt, core, start, code);
-    expect_text(rt, found.as_slice(), want);
+    expect_same(rt, &found.as_slice(), &want.as_bytes(), "a load text");
     drop(found);
-}
-
-fn expect_text(rt: &impl Abort, found: &[u8], want: &str) {
-    assert_eq!(rt; found, want.as_bytes());
 }
 
 #[test]

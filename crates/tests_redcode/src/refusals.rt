@@ -1,5 +1,6 @@
 //! Sources that are refused, with the line and the kind.
 
+use crate::expecting::expect_same;
 use crate::sources::{check_rows, defaults, source_of};
 use redcode_asm::assemble;
 use std::process::Abort;
@@ -175,7 +176,7 @@ fn check_round(rt: &(impl Abort + AllocGlobal), round: &Round) {
     let source = source_of(rt, lines, others, 1, "");
     let found = first_number(rt, source.as_bytes());
     drop(source);
-    assert_eq!(rt; found, answer, "{others:?}");
+    expect_same(rt, &found, &answer, format_args!("{others:?}"));
 }
 
 /// Chains of names are followed 16 deep, and doublings up to 512 tokens. A name that nothing uses is not followed.

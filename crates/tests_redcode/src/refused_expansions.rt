@@ -1,6 +1,7 @@
 //! Sources that can't be written out, with the line and the kind, and the limits of what is written out, on both sides.
 
 use crate::expansion::defaults;
+use crate::expecting::expect_same;
 use crate::sources::source_of;
 use bumpalo::Bump;
 use redcode_expand::expand;
@@ -13,7 +14,7 @@ fn check_fault(rt: &(impl Abort + AllocGlobal), source: &[u8], fault: Option<Asm
     let region = Bump::new(rt.alloc());
     let found = expand(rt.alloc(), &region, source, &defaults(rt)).err();
     drop(region);
-    assert_eq!(rt; found, fault);
+    expect_same(rt, &found, &fault, "a refusal");
 }
 
 /// Sources that are refused, each with the line and the kind.

@@ -1,5 +1,6 @@
 //! Sources and the load text or the titles that they give.
 
+use crate::expecting::expect_same;
 use redcode_asm::{assemble, load_text};
 use std::process::Abort;
 use tests_fixtures::{USUAL, rows};
@@ -51,7 +52,9 @@ pub(crate) fn assembled(
 fn answer(rt: &(impl Abort + AllocGlobal), source: &[u8], settings: &Settings) -> Vec<u8> {
     match assemble(rt.alloc(), source, settings) {
         Ok(warrior) => {
-            load_text(rt.alloc(), &warrior, settings.core()).expect(rt, "there is memory")
+            let text = load_text(rt.alloc(), &warrior, settings.core());
+            drop(warrior);
+            text.expect(rt, "there is memory")
         }
         Err(fault) => format!(in rt.alloc(); "{fault}")
             .expect(rt, "there is memory")
@@ -67,13 +70,9 @@ pub(crate) fn check_answer(
     settings: &Settings,
 ) {
     let found = answer(rt, source.as_bytes(), settings);
-    expect_text(rt, found.as_slice(), due, source);
+    let text = str::from_utf8(found.as_slice()).ok();
+    expect_same(rt, &text, &Some(due), format_args!("{source:?}"));
     drop(found);
-}
-
-/// This text is what is due of a source.
-fn expect_text(rt: &impl Abort, found: &[u8], due: &str, source: &str) {
-    assert_eq!(rt; str::from_utf8(found).ok(), Some(due), "{source:?}");
 }
 
 /// Sources, each with its load text or how it is refused.

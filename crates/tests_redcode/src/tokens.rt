@@ -1,5 +1,6 @@
 //! Lines, their tokens, and the values of expressions.
 
+use crate::expecting::expect_same;
 use crate::sources::source_of;
 use redcode_text::{Names, Token, TokenKind, scan, value};
 use std::alloc::Allocator;
@@ -107,7 +108,7 @@ fn check_value(
     let tokens = tokens_of(rt, rt.alloc(), line);
     let found = value(tokens.as_slice(), &Same { value: known });
     drop(tokens);
-    assert_eq!(rt; found, wanted);
+    expect_same(rt, &found, &wanted, "a value");
 }
 
 /// Expressions without a name that is known, and the value of each.

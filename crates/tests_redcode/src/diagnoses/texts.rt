@@ -1,6 +1,7 @@
 //! The text and the JSON of refusals, and sources with several faults.
 
 use crate::diagnoses::refusals;
+use crate::expecting::expect_same;
 use redcode_diagnosis::{Diagnosis, json_of, text_of};
 use std::alloc::Global;
 use std::process::Abort;
@@ -27,26 +28,29 @@ fn written(
     .expect(rt, "there is memory")
 }
 
+/// Appends a text, which is dropped.
+fn append(rt: &impl Abort, all: &mut Vec<u8>, text: Vec<u8>) {
+    all.extend_from_slice(text.as_slice())
+        .expect(rt, "there is memory");
+    drop(text);
+}
+
 /// The refusals of a source in this form.
 fn all_written(rt: &(impl Abort + AllocGlobal), source: &[u8], form: Form) -> Vec<u8> {
     let mut all = Vec::new(rt.alloc());
-    for told in &refusals(rt, source) {
-        all.extend_from_slice(written(rt, source, told, form).as_slice())
-            .expect(rt, "there is memory");
+    let refusals = refusals(rt, source);
+    for told in &refusals {
+        append(rt, &mut all, written(rt, source, told, form));
     }
+    drop(refusals);
     all
 }
 
 /// The refusals of a source are written so.
 fn check_written(rt: &(impl Abort + AllocGlobal), source: &[u8], form: Form, want: &[u8]) {
     let found = all_written(rt, source, form);
-    expect_same(rt, found.as_slice(), want, source);
+    expect_same(rt, &found.as_slice(), &want, format_args!("{source:?}"));
     drop(found);
-}
-
-/// What was found of a source is what is due.
-fn expect_same(rt: &impl Abort, found: &[u8], want: &[u8], source: &[u8]) {
-    assert_eq!(rt; found, want, "{source:?}");
 }
 
 /// Sources, with the text of their refusals.
@@ -93,9 +97,11 @@ fn json_of_refusals(rt: HostRuntime) {
 /// The lines to blame for a source's faults.
 fn lines_of(rt: &(impl Abort + AllocGlobal), source: &[u8]) -> Vec<u32> {
     let mut lines = Vec::new(rt.alloc());
-    for told in &refusals(rt, source) {
+    let refusals = refusals(rt, source);
+    for told in &refusals {
         lines.push(told.fault.line).expect(rt, "there is memory");
     }
+    drop(refusals);
     lines
 }
 
@@ -107,12 +113,18 @@ const FAULTY_LINES: [(&str, &[u32]); 4] = rows! {
     "DAT foo\nx\nx" => &[3];
 };
 
+/// These lines are to blame for a source's faults.
+fn check_lines(rt: &(impl Abort + AllocGlobal), source: &str, want: &[u32]) {
+    let found = lines_of(rt, source.as_bytes());
+    expect_same(rt, &found.as_slice(), &want, format_args!("{source:?}"));
+    drop(found);
+}
+
 /// Each faulty line is reported once, the assembler's first, if the source can be written out.
 #[test]
 fn several_faults(rt: HostRuntime) {
     for (source, want) in &FAULTY_LINES {
-        let found = lines_of(&rt, source.as_bytes());
-        assert_eq!(rt; found.as_slice(), *want, "{source:?}");
+        check_lines(&rt, source, want);
     }
 }
 
@@ -128,11 +140,19 @@ fn check_repeated(rt: &(impl Abort + AllocGlobal), line: &str, count: usize, wan
     drop(source);
 }
 
+/// `count` times a line has `due` refusals.
+fn check_count(rt: &(impl Abort + AllocGlobal), line: &str, count: usize, due: usize) {
+    let source = repeated(rt, line, count);
+    let all = refusals(rt, source.as_bytes());
+    expect_same(rt, &all.len(), &due, "refusals");
+    drop(all);
+    drop(source);
+}
+
 /// No more than 100 refusals are told, and the numbers of a source or a warrior that is too long.
 #[test]
 fn long_sources(rt: HostRuntime) {
-    let source = repeated(&rt, "DAT x\n", 150);
-    assert_eq!(rt; refusals(&rt, source.as_bytes()).len(), 100);
+    check_count(&rt, "DAT x\n", 150, 100);
     let want = b"a.red:0:1: TooLong: the warrior has 101 instructions, and may have 100\n";
     check_repeated(&rt, "DAT 0\n", 101, want);
     let want = b"a.red:0:1: SourceTooLong: the source has 65537 bytes, and may have 65536\n";
