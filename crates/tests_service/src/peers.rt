@@ -77,22 +77,16 @@ enum Script {
 fn follow(rt: &(impl Abort + AllocGlobal), most: usize, script: Script) {
     let mut store = empty_hill(rt);
     let mut peers = room_for(rt, rt.alloc(), most);
-    act(rt, &mut peers, &mut store, script);
+    match script {
+        Script::InTurn => serve_in_turn(rt, &mut peers, &mut store),
+        Script::OneHill => {
+            submit_and_show(rt, &mut peers, &mut store);
+            end_each(rt, &mut peers, &mut store);
+        }
+        Script::Unread => leave_unread(rt, &mut peers, &mut store),
+    }
     drop(peers);
     drop(store);
-}
-
-fn act<D: Device>(
-    rt: &impl Abort,
-    peers: &mut Peers<Global>,
-    store: &mut Store<D, Global>,
-    script: Script,
-) {
-    match script {
-        Script::InTurn => serve_in_turn(rt, peers, store),
-        Script::OneHill => serve_one_hill(rt, peers, store),
-        Script::Unread => leave_unread(rt, peers, store),
-    }
 }
 
 /// Of a peer with many commands one is served, and then the others' come.
@@ -131,15 +125,6 @@ fn serve_in_turn<D: Device>(
 #[test]
 fn one_hill(rt: HostRuntime) {
     follow(&rt, 4, Script::OneHill);
-}
-
-fn serve_one_hill<D: Device>(
-    rt: &impl Abort,
-    peers: &mut Peers<Global>,
-    store: &mut Store<D, Global>,
-) {
-    submit_and_show(rt, peers, store);
-    end_each(rt, peers, store);
 }
 
 fn submit_and_show<D: Device>(
@@ -290,11 +275,6 @@ fn serve_without_growths(rt: &(impl Abort + AllocGlobal), memory: &Refusing<Glob
     drop(store);
 }
 
-/// `count` growths were refused.
-fn refused(rt: &impl Abort, memory: &Refusing<Global>, count: u64) {
-    expect_number(rt, memory.refused(), count, "growths that are refused");
-}
-
 fn refuse_growths<'m, D: Device>(
     rt: &impl Abort,
     memory: &'m Refusing<Global>,
@@ -304,14 +284,14 @@ fn refuse_growths<'m, D: Device>(
     for passed in 0..3 {
         memory.refuse(passed, 1);
         connect(rt, peers, Err(NotConnected::Memory));
-        refused(rt, memory, 1);
+        expect_number(rt, memory.refused(), 1, "refused");
     }
     memory.refuse(3, 1);
     connect(rt, peers, Ok(0));
-    refused(rt, memory, 0);
+    expect_number(rt, memory.refused(), 0, "refused");
     come(rt, peers, 0, "\n");
     serve(rt, peers, store, Step::Served(0));
-    refused(rt, memory, 1);
+    expect_number(rt, memory.refused(), 1, "refused");
     ended(rt, peers, 0, Some(PeerEnd::Memory));
     waits(rt, peers, 0, 0);
 }

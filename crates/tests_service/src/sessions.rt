@@ -12,17 +12,25 @@ mod faults;
 mod growths;
 mod waiting;
 
+/// Lines of a session on one warrior and its table, and its answers.
+pub(crate) const TABLE: &str =
+    "SUBMIT\n;name Imp\n;author A. K. Dewdney\nMOV 0,1\n.\nSHOW\nQUIT\nSHOW\n";
+
+pub(crate) const TABLE_ANSWERS: &str = "PLACED 1 1 0\n1 1 0 0 Imp by A. K. Dewdney\n.\n";
+
+/// Lines of a session on three warriors and their table.
+pub(crate) const THREE: &str = "SUBMIT\nMOV 0,1\n.\nSUBMIT\nJMP 0\n.\nSUBMIT\nDAT 0,0\n.\nSHOW\n";
+
 /// Lines of a session, its answers, and whether it ends with `QUIT` or with its input.
-pub(crate) const ROWS: [(&str, &str, SessionEnd); 8] = rows! {
+const ROWS: [(&str, &str, SessionEnd); 8] = rows! {
     "SUBMIT\nMOV 0,1\n.\nBOGUS\nQUIT\n" => "PLACED 1 1 0\nBAD\n", SessionEnd::Quit;
     "SUBMIT\nMOV 0,1\n" => "", SessionEnd::EndOfInput;
     "SHOW\r\n" => ".\n", SessionEnd::EndOfInput;
     "SHOW \nQUIT\n" => "BAD\n", SessionEnd::Quit;
     "SUBMIT\n.\nQUIT\n" => "REFUSED 0 Empty\n", SessionEnd::Quit;
     "SUBMIT\n..\n.\nQUIT\n" => "REFUSED 1 BadOperation\n", SessionEnd::Quit;
-    "SUBMIT\n;name Imp\n;author A. K. Dewdney\nMOV 0,1\n.\nSHOW\nQUIT\nSHOW\n"
-        => "PLACED 1 1 0\n1 1 0 0 Imp by A. K. Dewdney\n.\n", SessionEnd::Quit;
-    "SUBMIT\nMOV 0,1\n.\nSUBMIT\nJMP 0\n.\nSUBMIT\nDAT 0,0\n.\nSHOW\n"
+    TABLE => TABLE_ANSWERS, SessionEnd::Quit;
+    THREE
         => "PLACED 1 1 0\nPLACED 2 2 2\nFELL 3 0\n1 1 2 1 Unnamed by Anonymous\n2 2 2 0 Unnamed by Anonymous\n.\n",
             SessionEnd::EndOfInput;
 };

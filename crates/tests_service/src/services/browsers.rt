@@ -74,7 +74,10 @@ macro_rules! refused {
     };
 }
 
-const REFUSED: [(&str, [Cue; 6], &str); 4] = [
+/// A request, what is done if a browser asks so, and what it hears first.
+type Row = (&'static str, [Cue; 6], &'static str);
+
+const REFUSED: [Row; 4] = [
     refused!("GET /x HTTP/1.1\r\n\r\n", "HTTP/1.1 404 Not Found\r\n"),
     refused!(
         "GET /replay/1/2/1 HTTP/1.1\r\n\r\n",
@@ -96,12 +99,17 @@ fn check_start(rt: &(impl Abort + AllocGlobal), request: &str, cues: &[Cue], sta
     expect(rt, begins, request);
 }
 
+/// Each of these.
+fn check_starts(rt: &(impl Abort + AllocGlobal), rows: &[Row]) {
+    for (request, cues, start) in rows {
+        check_start(rt, request, cues, start);
+    }
+}
+
 /// Each refusal, and a page without its body.
 #[test]
 fn refusals(rt: HostRuntime) {
-    for (request, cues, start) in &REFUSED {
-        check_start(&rt, request, cues, start);
-    }
+    check_starts(&rt, &REFUSED);
 }
 
 /// What is done in `a_head`.

@@ -5,7 +5,7 @@ use crate::calls::{
     expect_text, reopened,
 };
 use crate::compare::{expect, expect_end, expect_length};
-use crate::sessions::ROWS;
+use crate::sessions::{TABLE, TABLE_ANSWERS};
 use hill_store::Store;
 use koth_session::{Counted, SessionEnd};
 use sector_disk::{Device, FuseDevice, FuseKind};
@@ -122,7 +122,7 @@ fn expect_found(
     room: usize,
     full: Full,
 ) {
-    assert_eq!(rt; found, due, "{most} at a time, {room} in all, {full:?}");
+    assert!(rt; found == due, "{most} at a time, {room} in all, {full:?}");
 }
 
 /// One warrior is on the hill of a store, and on the one that is opened on its device.
@@ -152,9 +152,8 @@ fn expect_rooms(rt: &(impl Abort + AllocGlobal), lines: &[u8], answers: &str) {
 /// Each number of bytes, up to all of the answers.
 #[test]
 fn a_writer_that_is_full(rt: HostRuntime) {
-    let (table, table_answers, _) = ROWS[6];
     expect_rooms(&rt, LINES, answers(28));
-    expect_rooms(&rt, table.as_bytes(), table_answers);
+    expect_rooms(&rt, TABLE.as_bytes(), TABLE_ANSWERS);
 }
 
 /// A session on a store whose device failed before answers so, and ends so.
@@ -173,16 +172,12 @@ fn expect_on_failed<D: Device>(
 
 /// A session whose device fails once, after `calls` calls: nothing is answered, and the table stays empty. How many warriors are on
 /// the hill that is opened on the device then is the answer.
-fn count_behind_a_fault(
-    rt: &(impl Abort + AllocGlobal),
-    calls: u64,
-    kind: FuseKind,
-) -> Option<usize> {
+fn count_behind_a_fault(rt: &(impl Abort + AllocGlobal), calls: u64, kind: FuseKind) -> usize {
     let device = FuseDevice::new(blank_in(rt, rt.alloc()), calls, kind);
     let mut store = empty_hill_on(rt, rt.alloc(), device);
     expect_failed(rt, &mut store);
     let store = reopened(rt, rt.alloc(), store);
-    let count = count_rows(&store).ok();
+    let count = count_rows(&store).expect(rt, "there is memory");
     drop(store);
     count
 }
@@ -205,10 +200,10 @@ fn a_device_that_fails(rt: HostRuntime) {
     for calls in 5..12 {
         let lost = count_behind_a_fault(&rt, calls, FuseKind::FailLost);
         let count = usize::from(calls == 11);
-        assert_eq!(rt; lost, Some(count), "the call behind {calls} is not made");
+        assert!(rt; lost == count, "the call behind {calls} is not made");
         let kept = count_behind_a_fault(&rt, calls, FuseKind::FailKept);
         let count = usize::from(calls >= 10);
-        assert_eq!(rt; kept, Some(count), "the call behind {calls} is made");
+        assert!(rt; kept == count, "the call behind {calls} is made");
     }
 }
 

@@ -2,7 +2,7 @@
 //! there is memory.
 
 use crate::calls::{answers_to, blank_in, empty_hill_on, expect_text, reopened};
-use crate::sessions::ROWS;
+use crate::sessions::THREE;
 use crate::sessions::faults::LINES;
 use hill_store::Store;
 use koth_session::SessionEnd;
@@ -36,10 +36,13 @@ const OF_ONE: Ending = Ending {
     table: ONE,
 };
 
+/// A number of growths, and how a session ends if one of them is refused: its answers, its end, and the table of the hill after it.
+type Refused = (u64, &'static str, SessionEnd, &'static str);
+
 /// Numbers of its growths, in their order, and how it ends if one of them is refused. First come the two buffers, without which nothing is
 /// read, and then those of the assembler. If the device has its memory there too, the first writes to the four sectors of a slot and to a
 /// header's follow.
-const WITHOUT_ONE: [(u64, &str, SessionEnd, &str); 3] = [
+const WITHOUT_ONE: [Refused; 3] = [
     (2, "", SessionEnd::Memory, NONE),
     (8, "MEMORY\nBAD\n", SessionEnd::Quit, NONE),
     (5, "", SessionEnd::StoreFailed, NONE),
@@ -54,7 +57,7 @@ const OF_THREE: Ending = Ending {
 
 /// The same of its growths. The second header is written to a sector that was written before, as is the third. The table is a list
 /// of rows and a text of 60 bytes, which grows from 8 to 64.
-const WITHOUT_THREE: [(u64, &str, SessionEnd, &str); 7] = rows! {
+const WITHOUT_THREE: [Refused; 7] = rows! {
     2 => "", SessionEnd::Memory, NONE;
     8
         => "MEMORY\nPLACED 1 1 0\nPLACED 2 2 0\n1 1 6 1 Unnamed by Anonymous\n2 2 0 0 Unnamed by Anonymous\n.\n",
@@ -158,7 +161,7 @@ fn expect_growths(
     rt: &(impl Abort + AllocGlobal),
     memories: Memories<'_>,
     lines: &[u8],
-    refusals: &[(u64, &'static str, SessionEnd, &'static str)],
+    refusals: &[Refused],
     done: Ending,
 ) {
     let mut k: u64 = 0;
@@ -178,24 +181,31 @@ fn expect_growths(
 
 #[test]
 fn of_sessions(rt: HostRuntime) {
-    expect_all_growths(&rt);
+    expect_alone(&rt, LINES, &WITHOUT_ONE[..2], OF_ONE);
+    expect_both(&rt, LINES, &WITHOUT_ONE, OF_ONE);
+    expect_both(&rt, THREE.as_bytes(), &WITHOUT_THREE, OF_THREE);
 }
 
-fn expect_all_growths(rt: &(impl Abort + AllocGlobal)) {
+/// The device has its own memory.
+fn expect_alone(rt: &(impl Abort + AllocGlobal), lines: &[u8], refusals: &[Refused], done: Ending) {
     let memory = Refusing::new(rt.alloc());
     let ample = Refusing::new(rt.alloc());
     let alone = Memories {
         session: &memory,
         device: &ample,
     };
+    expect_growths(rt, alone, lines, refusals, done);
+    drop(ample);
+    drop(memory);
+}
+
+/// The device has its memory where the session has it.
+fn expect_both(rt: &(impl Abort + AllocGlobal), lines: &[u8], refusals: &[Refused], done: Ending) {
+    let memory = Refusing::new(rt.alloc());
     let both = Memories {
         session: &memory,
         device: &memory,
     };
-    let (three, _, _) = ROWS[7];
-    expect_growths(rt, alone, LINES, &WITHOUT_ONE[..2], OF_ONE);
-    expect_growths(rt, both, LINES, &WITHOUT_ONE, OF_ONE);
-    expect_growths(rt, both, three.as_bytes(), &WITHOUT_THREE, OF_THREE);
-    drop(ample);
+    expect_growths(rt, both, lines, refusals, done);
     drop(memory);
 }
