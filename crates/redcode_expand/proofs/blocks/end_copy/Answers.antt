@@ -1,4 +1,4 @@
-use Rattle.std.proofs.Common.{◌∙◌}
+use Rattle.std.proofs.Common.{◌∙◌, arith}
 use Rattle.redcode_expand.specs.Marks.{line_in}
 use Rattle.redcode_expand.specs.Rest.{counters_of}
 use Rattle.redcode_expand.proofs.GoingOn.{next-copied}
@@ -17,3 +17,9 @@ pub returns-then-left-eq0-clause-equs : goal.returns-then-left-eq0-clause-equs
 returns-then-left-eq0-clause-equs g c =
     closed-equs c.args.settings.now (counters_of c.pop.new.self) (line_in c.args.lines.now c.args.at) c.end_copy.new.self c.close.new.walk c.in_ok-close.ensures.closed
     ∙ copied-equs c.number-2.result c.start.result c.args.walk.now c.end_copy.new.self c.in_ok-end_copy.ensures.copied
+
+pub overflow_add-result : goal.overflow_add-result
+overflow_add-result g c = omega (arith, c.requires.some, c.requires.few)
+
+pub next_copy-requires : goal.next_copy-requires
+next_copy-requires g c = omega (arith, c.left.ensures, c.if-left-eq0.false)

@@ -29,3 +29,6 @@ returns-in_err-step-in-Neither-clause-goes_on g c = grind (arith, common_steps)
 
 pub returns-in_ok-step-in-Neither-clause-goes_on : goal.returns-in_ok-step-in-Neither-clause-goes_on
 returns-in_ok-step-in-Neither-clause-goes_on g c = grind (arith, common_steps)
+
+pub overflow_add-result : goal.overflow_add-result
+overflow_add-result g c = omega (arith, c.requires.some, c.requires.few)

@@ -1,4 +1,4 @@
-use Rattle.std.proofs.Common.{[], ap, sym, ◌∙◌, List, length, replicate}
+use Rattle.std.proofs.Common.{[], ap, sym, ◌∙◌, List, length, replicate, subst, ◌≤◌}
 use Rattle.std.specs.Prelude.{None}
 use Rattle.redcode_lines.specs.Line.{SourceLine}
 use Rattle.redcode_expand.proofs.Keeping.{none-kept}
@@ -8,3 +8,6 @@ pub walk_marked-requires-clause-kept : goal.walk_marked-requires-clause-kept
 walk_marked-requires-clause-kept g c =
     none-kept c.args.settings.now c.in_ok-lines.lines [] c.in_ok-counts.counts
     (c.in_ok-counts.ensures ∙ ap (λ (ls : List SourceLine). replicate (length ls) None) (sym c.in_ok-lines.ensures))
+
+pub walk_marked-requires-clause-few : goal.walk_marked-requires-clause-few
+walk_marked-requires-clause-few g c = subst (λ (ls : List SourceLine). length ls ≤ 65536) (sym c.in_ok-lines.ensures) c.requires
