@@ -30,7 +30,7 @@ pub fn write_answer<A: Allocator, O: Write, E: Write>(
 }
 
 /// A source that is refused, and where it was read.
-#[derive(Clone, Copy, Debug)]
+#[derive(Clone, Copy)]
 pub struct RefusedSource<'s> {
     /// The path of its file, or the name of the stream that it comes from.
     pub path: &'s str,

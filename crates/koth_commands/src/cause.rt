@@ -1,13 +1,13 @@
 //! What failed, and why, as people are told it.
 
-ghost use Rattle.std.specs.Prelude.{◌≡◌, codes, string_bytes, IfOk};
+ghost use Rattle.std.specs.Prelude.{◌≡◌, ◌++◌, codes, decimal, string_bytes, IfOk};
 ghost use Rattle.koth_commands.specs.Cause.{cause_told, error_reason, reason_text, reason_told, source_name};
 
 use std::alloc::{AllocError, Allocator};
 use std::io::ErrorKind;
 
 /// Why something failed.
-#[derive(Clone, Copy, Debug, PartialEq, Eq)]
+#[derive(Clone, Copy, PartialEq, Eq)]
 pub enum Reason {
     /// There is no such file or folder.
     Missing,
@@ -121,7 +121,7 @@ pub fn reason_of(kind: ErrorKind) -> Reason
 }
 
 /// What a command worked on when it failed.
-#[derive(Clone, Copy, Debug)]
+#[derive(Clone, Copy)]
 pub enum Subject<'s> {
     /// The file at this path.
     File(&'s str),
@@ -152,7 +152,7 @@ impl<'s> Subject<'s> {
 }
 
 /// What failed, and why.
-#[derive(Clone, Copy, Debug)]
+#[derive(Clone, Copy)]
 pub struct Cause<'s> {
     pub subject: Subject<'s>,
     pub reason: Reason,
@@ -184,15 +184,42 @@ impl<'s> Cause<'s> {
 pub(crate) fn cause_text<A: Allocator>(alloc: A, cause: Cause<'_>) -> Result<String<A>, AllocError>
     ensures { IfOk result (λ text. string_bytes text ≡ cause_told cause.entry) }
 {
-    let why = cause.reason.text();
+    let reason = cause.reason;
     match cause.subject {
-        Subject::File(path) => format!(in alloc; "{}: {}\n", path, why),
-        Subject::Warrior(path, entry) => {
-            format!(in alloc; "{}, warrior {}: {}\n", path, entry, why)
-        }
-        Subject::Port(port) => format!(in alloc; "port {}: {}\n", port, why),
-        Subject::Connection => format!(in alloc; "a connection: {}\n", why),
-        Subject::Input => format!(in alloc; "standard input: {}\n", why),
-        Subject::Output => format!(in alloc; "standard output: {}\n", why),
+        Subject::File(path) => named_text(alloc, path, reason),
+        Subject::Warrior(path, entry) => warrior_text(alloc, path, entry, reason),
+        Subject::Port(port) => port_text(alloc, port, reason),
+        Subject::Connection => named_text(alloc, "a connection", reason),
+        Subject::Input => named_text(alloc, "standard input", reason),
+        Subject::Output => named_text(alloc, "standard output", reason),
     }
+}
+
+/// The line of a subject with this name.
+fn named_text<A: Allocator>(alloc: A, name: &str, reason: Reason) -> Result<String<A>, AllocError>
+    ensures { IfOk result (λ text. string_bytes text ≡ reason_told name.now reason) }
+{
+    let why = reason.text();
+    format!(in alloc; "{}: {}\n", name, why)
+}
+
+/// The line of a warrior of the hill in the file at this path.
+fn warrior_text<A: Allocator>(
+    alloc: A,
+    path: &str,
+    entry: u64,
+    reason: Reason,
+) -> Result<String<A>, AllocError>
+    ensures { IfOk result (λ text. string_bytes text ≡ path.now ++ (codes ", warrior " ++ reason_told (decimal entry) reason)) }
+{
+    let why = reason.text();
+    format!(in alloc; "{}, warrior {}: {}\n", path, entry, why)
+}
+
+/// The line of a port of this machine.
+fn port_text<A: Allocator>(alloc: A, port: u16, reason: Reason) -> Result<String<A>, AllocError>
+    ensures { IfOk result (λ text. string_bytes text ≡ reason_told (codes "port " ++ decimal port) reason) }
+{
+    let why = reason.text();
+    format!(in alloc; "port {}: {}\n", port, why)
 }

@@ -10,7 +10,7 @@ use std::alloc::Allocator;
 use std::io::Write;
 
 /// Why a command was not carried out.
-#[derive(Clone, Copy, Debug, PartialEq, Eq)]
+#[derive(Clone, Copy, PartialEq, Eq)]
 pub enum Failure {
     /// A stream or a file failed.
     Stream,
@@ -19,7 +19,7 @@ pub enum Failure {
 }
 
 /// A failure, with what failed and why if that is known.
-#[derive(Clone, Copy, Debug)]
+#[derive(Clone, Copy)]
 pub enum Trouble<'t> {
     /// A stream or a file failed.
     Failed(Cause<'t>),

@@ -55,11 +55,27 @@ fn fight_under<R: Files, A: Allocator + Copy, O: Write, E: Write>(
         (O.contents output.old) (O.contents output.new) (E.contents errors.old) (E.contents errors.new) }
 {
     match pair_in(rt, alloc, settings, files.older, files.younger) {
-        Ok(pair) => match counts_of(alloc, settings, &pair, view) {
-            Ok(text) => write_answer(alloc, text.as_slice(), output, errors),
-            Err(AllocError) => Failure::Memory.tell_alone(errors),
-        },
+        Ok(pair) => answer_bout(alloc, settings, &pair, view, output, errors),
         Err(none) => answer_no_match(alloc, settings, &none, output, errors),
+    }
+}
+
+/// Writes the counts of the match of two warriors.
+fn answer_bout<A: Allocator + Copy, O: Write, E: Write>(
+    alloc: A,
+    settings: &Settings,
+    pair: &Pair<A>,
+    view: View,
+    output: &mut O,
+    errors: &mut E,
+) -> Status
+    requires { ArePairOf settings.now pair.now }
+    ensures { EndsFightUnder settings.now view result
+        (O.contents output.old) (O.contents output.new) (E.contents errors.old) (E.contents errors.new) }
+{
+    match counts_of(alloc, settings, pair, view) {
+        Ok(text) => write_answer(alloc, text.as_slice(), output, errors),
+        Err(AllocError) => Failure::Memory.tell_alone(errors),
     }
 }
 

@@ -44,12 +44,29 @@ pub fn replay<R: Files, A: Allocator + Copy, O: Write, E: Write>(
             if !has_round(&settings, round) {
                 return refuse_round(alloc, given.rounds, round, errors);
             }
-            match pair_in(rt, alloc, &settings, older, younger) {
-                Ok(pair) => answer_round(alloc, &settings, &pair, round, output, errors),
-                Err(none) => answer_no_match(alloc, &settings, &none, output, errors),
-            }
+            replay_under(rt, alloc, &settings, older, younger, round, output, errors)
         }
         Err(fault) => refuse_settings(alloc, given, fault, errors),
+    }
+}
+
+fn replay_under<R: Files, A: Allocator + Copy, O: Write, E: Write>(
+    rt: &R,
+    alloc: A,
+    settings: &Settings,
+    older: &str,
+    younger: &str,
+    round: u32,
+    output: &mut O,
+    errors: &mut E,
+) -> Status
+    requires { has_round settings.now round ≡ true }
+    ensures { EndsReplayUnder settings.now round result
+        (O.contents output.old) (O.contents output.new) (E.contents errors.old) (E.contents errors.new) }
+{
+    match pair_in(rt, alloc, settings, older, younger) {
+        Ok(pair) => answer_round(alloc, settings, &pair, round, output, errors),
+        Err(none) => answer_no_match(alloc, settings, &none, output, errors),
     }
 }
 

@@ -10,7 +10,7 @@ use std::io;
 use std::io::{ErrorKind, Read, Write};
 
 /// A stream failed: a read or a write gave an error, or a write took no byte.
-#[derive(Clone, Copy, Debug, PartialEq, Eq)]
+#[derive(Clone, Copy, PartialEq, Eq)]
 pub struct StreamFault {
     pub reason: Reason,
 }

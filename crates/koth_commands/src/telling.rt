@@ -11,7 +11,7 @@ use std::alloc::{AllocError, Allocator};
 use std::io::Write;
 
 /// What stands between a word and the text after it.
-#[derive(Clone, Copy, Debug, PartialEq, Eq)]
+#[derive(Clone, Copy, PartialEq, Eq)]
 pub enum Apart {
     /// The word ends its line.
     Line,
