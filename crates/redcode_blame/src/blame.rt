@@ -50,10 +50,10 @@ pub(crate) fn blamed_before<A: Allocator>(
 
 /// The blame with a sentence of these parts.
 pub(crate) fn blamed<A: Allocator>(alloc: A, span: Span, parts: &[Part<'_>]) -> Answer<A> {
-    Ok(Blame {
-        span,
-        sentence: sentence(alloc, parts)?,
-    })
+    match sentence(alloc, parts) {
+        Ok(sentence) => Ok(Blame { span, sentence }),
+        Err(error) => Err(error),
+    }
 }
 
 /// What is to blame for a fault of a source.

@@ -121,24 +121,34 @@ fn defined_in<A: Allocator + Copy>(
 ) -> Answer<A> {
     let span = row.span(name);
     let line = Part::Number(i64::from(line));
-    match operation_meant(scene.alloc, row, name)? {
-        None => {
+    match operation_meant(scene.alloc, row, name) {
+        Ok(Some(word)) => meant_operation(scene.alloc, span, name.text, line, word),
+        Ok(None) => {
             let parts = [Part::Word(name.text), ALREADY, line];
             blamed(scene.alloc, span, &parts)
         }
-        Some(word) => {
-            let meant = Part::Text("; did you mean the operation ");
-            let parts = [
-                Part::Word(name.text),
-                ALREADY,
-                line,
-                meant,
-                Part::Word(word),
-                Part::Text("?"),
-            ];
-            blamed(scene.alloc, span, &parts)
-        }
+        Err(error) => Err(error),
     }
+}
+
+/// A name that a line has defined already, where an operation was probably meant.
+fn meant_operation<'p, A: Allocator>(
+    alloc: A,
+    span: Span,
+    name: &'p [u8],
+    line: Part<'p>,
+    word: &'p [u8],
+) -> Answer<A> {
+    let meant = Part::Text("; did you mean the operation ");
+    let parts = [
+        Part::Word(name),
+        ALREADY,
+        line,
+        meant,
+        Part::Word(word),
+        Part::Text("?"),
+    ];
+    blamed(alloc, span, &parts)
 }
 
 /// What is said of a name before the line that has defined it.

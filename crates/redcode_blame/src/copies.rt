@@ -77,8 +77,10 @@ pub(crate) fn blocks_around<A: Allocator>(lines: &[SourceLine<'_, A>], number: u
 /// A line as it reads.
 fn text_of<A: Allocator>(alloc: A, faulty: &Faulty<'_, '_>) -> Result<Vec<u8, A>, AllocError> {
     let mut text = Vec::new(alloc);
-    append_line(&mut text, faulty)?;
-    Ok(text)
+    match append_line(&mut text, faulty) {
+        Ok(()) => Ok(text),
+        Err(error) => Err(error),
+    }
 }
 
 /// Appends a line as it reads.

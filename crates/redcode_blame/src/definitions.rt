@@ -91,9 +91,7 @@ pub(crate) fn nearest_name<'n, A: Allocator + Copy>(
     for line in &scene.lines {
         offer_labels(scene, &mut nearest, line.reading())?;
     }
-    for predefined in &PREDEFINED {
-        nearest.offer(scene.alloc, predefined.as_bytes())?;
-    }
+    nearest.offer_each(scene.alloc, &PREDEFINED)?;
     Ok(nearest.found())
 }
 

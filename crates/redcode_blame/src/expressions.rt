@@ -43,10 +43,26 @@ fn expression_on<A: Allocator + Copy>(
         ExprFault::BadExpression => no_expression(scene, row, shaped),
         ExprFault::DivideByZero => division_by_zero(scene, row, shaped.tokens),
         ExprFault::Overflow => overflow(scene, row, shaped.tokens),
-        ExprFault::UnknownName => match unknown_on(expanded, scene.settings, faulty, is_second) {
-            Some(name) => unknown_name(scene, row, shaped.operand, name),
-            None => blamed_text(scene.alloc, row.spans(shaped.operand), kind.name()),
-        },
+        ExprFault::UnknownName => {
+            let name = unknown_on(expanded, scene.settings, faulty, is_second);
+            unknown_in_operand(scene, row, shaped.operand, name)
+        }
+    }
+}
+
+/// A name without a value in an operand, if one was found.
+fn unknown_in_operand<A: Allocator + Copy>(
+    scene: &Scene<'_, A>,
+    row: &Row<'_, '_>,
+    operand: &[Token<'_>],
+    name: Option<&[u8]>,
+) -> Answer<A> {
+    match name {
+        Some(name) => unknown_name(scene, row, operand, name),
+        None => {
+            let said = ExprFault::UnknownName.name();
+            blamed_text(scene.alloc, row.spans(operand), said)
+        }
     }
 }
 

@@ -26,18 +26,12 @@ pub(crate) fn unknown_name<A: Allocator + Copy>(
     tokens: &[Token<'_>],
     name: &[u8],
 ) -> Answer<A> {
-    let written = written_at(row, tokens, name);
-    match (written, joined_at(row, tokens, name)) {
-        (Some(span), _) => not_defined(scene, span, name, ""),
-        (None, Some(span)) => {
-            let parts = [
-                NOTHING,
-                Part::Word(name),
-                Part::Text(", which is joined here"),
-            ];
-            blamed(scene.alloc, span, &parts)
-        }
-        (None, None) => {
+    if let Some(span) = written_at(row, tokens, name) {
+        return not_defined(scene, span, name, "");
+    }
+    match joined_at(row, tokens, name) {
+        Some(span) => nothing_called(scene.alloc, span, name, ", which is joined here"),
+        None => {
             let said = " (the body of an `EQU` that is used here names it)";
             not_defined(scene, row.spans(tokens), name, said)
         }
@@ -77,23 +71,47 @@ fn not_defined<'p, A: Allocator + Copy>(
     end: &'p str,
 ) -> Answer<A> {
     if is_reserved(name) {
-        let parts = [
-            Part::Word(name),
-            Part::Text(" is a reserved word, and no name"),
-            Part::Text(end),
-        ];
-        return blamed(scene.alloc, span, &parts);
+        return reserved(scene.alloc, span, name, end);
     }
     match definition(scene, Role::Counter, name, u32::MAX) {
         Some(line) => counter_outside(scene.alloc, span, name, line, end),
-        None => match nearest_name(scene, name)? {
-            Some(nearest) => did_you_mean(scene.alloc, span, name, nearest, end),
-            None => {
-                let parts = [NOTHING, Part::Word(name), Part::Text(end)];
-                blamed(scene.alloc, span, &parts)
-            }
-        },
+        None => defined_nowhere(scene, span, name, end),
     }
+}
+
+/// A name that no line defines in any way.
+fn defined_nowhere<'p, A: Allocator + Copy>(
+    scene: &Scene<'_, A>,
+    span: Span,
+    name: &'p [u8],
+    end: &'p str,
+) -> Answer<A> {
+    match nearest_name(scene, name) {
+        Ok(Some(nearest)) => did_you_mean(scene.alloc, span, name, nearest, end),
+        Ok(None) => nothing_called(scene.alloc, span, name, end),
+        Err(error) => Err(error),
+    }
+}
+
+/// A reserved word in the place of a name.
+fn reserved<'p, A: Allocator>(alloc: A, span: Span, name: &'p [u8], end: &'p str) -> Answer<A> {
+    let parts = [
+        Part::Word(name),
+        Part::Text(" is a reserved word, and no name"),
+        Part::Text(end),
+    ];
+    blamed(alloc, span, &parts)
+}
+
+/// A name that nothing has.
+fn nothing_called<'p, A: Allocator>(
+    alloc: A,
+    span: Span,
+    name: &'p [u8],
+    end: &'p str,
+) -> Answer<A> {
+    let parts = [NOTHING, Part::Word(name), Part::Text(end)];
+    blamed(alloc, span, &parts)
 }
 
 /// What is said before a name that nothing defines.

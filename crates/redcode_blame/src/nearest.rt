@@ -40,6 +40,18 @@ impl<'w, 'n> Nearest<'w, 'n> {
         self.found
     }
 
+    /// Looks at each of these names.
+    pub(crate) fn offer_each<A: Allocator + Copy>(
+        &mut self,
+        alloc: A,
+        names: &[&'n str],
+    ) -> Result<(), AllocError> {
+        for name in names {
+            self.offer(alloc, name.as_bytes())?;
+        }
+        Ok(())
+    }
+
     /// Looks at a further name.
     pub(crate) fn offer<A: Allocator + Copy>(
         &mut self,
@@ -74,10 +86,7 @@ pub(crate) fn nearest_word<A: Allocator + Copy>(
     alloc: A,
     text: &[u8],
 ) -> Result<Option<&'static [u8]>, AllocError> {
-    let mut upper = Vec::from_slice(alloc, text)?;
-    for byte in upper.iter_mut() {
-        *byte = byte.to_ascii_uppercase();
-    }
+    let upper = text.to_ascii_uppercase(alloc)?;
     nearest_upper(alloc, upper.as_slice())
 }
 
@@ -87,9 +96,7 @@ fn nearest_upper<A: Allocator + Copy>(
     text: &[u8],
 ) -> Result<Option<&'static [u8]>, AllocError> {
     let mut nearest = Nearest::new(text);
-    for word in &WORDS {
-        nearest.offer(alloc, word.as_bytes())?;
-    }
+    nearest.offer_each(alloc, &WORDS)?;
     Ok(nearest.found())
 }
 

@@ -75,25 +75,32 @@ pub(crate) fn missing_operand<A: Allocator + Copy>(
     row: &Row<'_, '_>,
 ) -> Answer<A> {
     let operands = operands_in(&row.reading);
-    match (at_comma(operands), row.reading.tokens) {
-        (Some(found), _) if found.before.is_empty() => {
-            let said = "nothing stands before this comma";
+    match at_comma(operands) {
+        Some(found) => {
+            let said = if found.before.is_empty() {
+                "nothing stands before this comma"
+            } else {
+                "nothing stands behind this comma"
+            };
             blamed_text(scene.alloc, row.span(found.comma), said)
         }
-        (Some(found), _) => {
-            let said = "nothing stands behind this comma";
-            blamed_text(scene.alloc, row.span(found.comma), said)
-        }
-        (None, [word, ..]) if operands.is_empty() => {
+        None => no_operand(scene.alloc, row, operands.is_empty()),
+    }
+}
+
+/// No operand after the word of a line, or one that is missing only once names are replaced.
+fn no_operand<A: Allocator>(alloc: A, row: &Row<'_, '_>, is_bare: bool) -> Answer<A> {
+    match row.reading.tokens {
+        [word, ..] if is_bare => {
             let needs = match row.reading.word {
                 Some(Word::Org) => " needs the address of an instruction",
                 _ => " needs an operand",
             };
-            blamed_word(scene.alloc, row.span(word), word.text, needs)
+            blamed_word(alloc, row.span(word), word.text, needs)
         }
         _ => {
             let said = "an operand is missing once the names of `EQU` lines are replaced";
-            blamed_text(scene.alloc, row.whole(), said)
+            blamed_text(alloc, row.whole(), said)
         }
     }
 }

@@ -21,8 +21,10 @@ pub(crate) fn sentence<A: Allocator>(
     parts: &[Part<'_>],
 ) -> Result<Vec<u8, A>, AllocError> {
     let mut sentence = Vec::new(alloc);
-    say(&mut sentence, parts)?;
-    Ok(sentence)
+    match say(&mut sentence, parts) {
+        Ok(()) => Ok(sentence),
+        Err(error) => Err(error),
+    }
 }
 
 /// Appends these parts to a sentence.

@@ -92,18 +92,27 @@ pub(crate) fn bad_operation<A: Allocator + Copy>(
     row: &Row<'_, '_>,
 ) -> Answer<A> {
     let front = front_of(row.reading.tokens);
-    match misspelt(scene.alloc, front)? {
-        Some((token, word)) => {
-            let parts = [
-                Part::Word(token.text),
-                Part::Text(" is no operation; did you mean "),
-                Part::Word(word),
-                Part::Text("?"),
-            ];
-            blamed(scene.alloc, row.span(token), &parts)
-        }
-        None => no_operation(scene.alloc, row, front),
+    match misspelt(scene.alloc, front) {
+        Ok(Some((token, word))) => nearly_operation(scene.alloc, row.span(token), token.text, word),
+        Ok(None) => no_operation(scene.alloc, row, front),
+        Err(error) => Err(error),
     }
+}
+
+/// A name that is nearly a reserved word.
+fn nearly_operation<'p, A: Allocator>(
+    alloc: A,
+    span: Span,
+    name: &'p [u8],
+    word: &'p [u8],
+) -> Answer<A> {
+    let parts = [
+        Part::Word(name),
+        Part::Text(" is no operation; did you mean "),
+        Part::Word(word),
+        Part::Text("?"),
+    ];
+    blamed(alloc, span, &parts)
 }
 
 /// No operation after the names at the front of a line, nor a word that is nearly one.
