@@ -1,4 +1,5 @@
-use Rattle.std.proofs.Common.{sym, ◌∙◌}
+use Rattle.std.proofs.lemmas.Grind.{common_steps}
+use Rattle.std.proofs.Common.{arith, sym, ◌∙◌}
 use Rattle.redcode_text.specs.Tokens.{piece_of}
 use Rattle.redcode_copies.proofs.Joining.{join-kept, token-kept}
 use Rattle.redcode_copies.proofs.copying.joined_tokens.Goals as goal
@@ -12,3 +13,6 @@ pub loop-rest-preserved : goal.loop-rest-preserved
 loop-rest-preserved g c =
     token-kept c.args.counter.now c.loop-rest.all.items c.push.new.self.items _ c.loop-rest.is_joined (piece_of c.loop-rest.token) c.loop-rest.rest.now _
     c.in-len1-up-rest.len_at_least (sym c.joins.ensures ∙ c.if-joins.false) c.in_ok-push.ensures.items c.loop-rest.invariant
+
+pub returns : goal.returns
+returns g c = grind (arith, common_steps)
