@@ -1,6 +1,6 @@
 //! The command `serve`: sessions of many peers over sockets on the hill in a file.
 
-ghost use Rattle.std.specs.Prelude.{◌≡◌, ◌≢◌, ℕ, List, Option, None, false, MatchResult};
+ghost use Rattle.std.specs.Prelude.{◌≡◌, ◌≢◌, None, false, IfOk, MatchResult};
 ghost use Rattle.koth_server.specs.Hills.{listening_line, Announces, AnnouncesPart, EndsServe};
 ghost use Rattle.koth_commands.specs.Streams.{streams};
 ghost use Rattle.koth_server.specs.Pages.{IsShown};
@@ -86,140 +86,87 @@ where
         path: service.hill,
         log: Log::new(rt, service.quiet),
     };
-    match open_hill(rt, alloc, service.hill, Sharing::Alone) {
-        Ok(store) => serve_hill(&host, service, store, output, errors),
-        Err(trouble) => trouble.tell(alloc, errors),
-    }
-}
-
-/// Serves sessions on a hill that was just opened, over sockets at the address that is asked for.
-fn serve_hill<'f, R: Files + Net + Clock, A: Allocator + Copy, O: Write, E: Write>(
-    host: &Hosting<'f, R, A>,
-    service: Service<'f>,
-    store: HillStore<'f, R, A>,
-    output: &mut O,
-    errors: &mut E,
-) -> Status
-where
-    R::File: TryLock,
-    requires { store.reopen ≡ false }
-    ensures ends { EndsServe result
-        (streams None (O.contents output.old) (E.contents errors.old))
-        (streams None (O.contents output.new) (E.contents errors.new)) }
-    ensures words { result ≢ Status.WordFault }
-{
-    match bound(host.rt, host.alloc, service) {
-        Ok(mut sockets) => serve_bound(host, service, store, &mut sockets, output, errors),
-        Err(trouble) => trouble.tell(host.alloc, errors),
-    }
-}
-
-/// Serves sessions over these sockets, after their line is written.
-fn serve_bound<'f, R: Files + Net + Clock, A: Allocator + Copy, O: Write, E: Write>(
-    host: &Hosting<'f, R, A>,
-    service: Service<'f>,
-    store: HillStore<'f, R, A>,
-    sockets: &mut PolledSockets<'f, R, A>,
-    output: &mut O,
-    errors: &mut E,
-) -> Status
-where
-    R::File: TryLock,
-    requires { store.reopen ≡ false }
-    ensures ends { EndsServe result
-        (streams None (O.contents output.old) (E.contents errors.old))
-        (streams None (O.contents output.new) (E.contents errors.new)) }
-    ensures words { result ≢ Status.WordFault }
-{
-    match announced(host.rt, host.alloc, service, sockets, output) {
-        Ok(()) => serve_announced(host, service, store, sockets, errors),
-        Err(trouble) => {
-            drop(store);
-            trouble.tell(host.alloc, errors)
-        }
-    }
-}
-
-/// Serves sessions over sockets whose line is written.
-fn serve_announced<'f, R: Files + Net + Clock, A: Allocator + Copy, E: Write>(
-    host: &Hosting<'f, R, A>,
-    service: Service<'f>,
-    store: HillStore<'f, R, A>,
-    sockets: &mut PolledSockets<'f, R, A>,
-    errors: &mut E,
-) -> Status
-where
-    R::File: TryLock,
-    requires { store.reopen ≡ false }
-    ensures ends { (before after : Option (List ℕ)) → Announces before after → EndsServe result
-        (streams None before (E.contents errors.old))
-        (streams None after (E.contents errors.new)) }
-    ensures words { result ≢ Status.WordFault }
-{
-    host.log
-        .tell_pages(host.alloc, sockets.pages_addr(), errors);
+    let (store, mut sockets) = match begin(&host, service, output) {
+        Ok(begun) => begun,
+        Err(trouble) => return trouble.tell(alloc, errors),
+    };
+    host.log.tell_pages(alloc, sockets.pages_addr(), errors);
     let served = serve_peers(
-        host.alloc,
-        sockets,
+        alloc,
+        &mut sockets,
         service.peers as usize,
         BROWSERS,
         service.connections,
         store,
-        host,
+        &host,
         errors,
     );
     match served {
         Ok(()) => Status::Done,
-        Err(fault) => trouble_of(host, fault).tell(host.alloc, errors),
+        Err(fault) => trouble_of(&host, fault).tell(alloc, errors),
     }
 }
 
-/// Sockets at the address that is asked for.
+/// Opens the hill and then the port, and writes the line of the port.
+fn begin<'f, R: Files + Net + Clock, A: Allocator + Copy, O: Write>(
+    host: &Hosting<'f, R, A>,
+    service: Service<'f>,
+    output: &mut O,
+) -> Result<(HillStore<'f, R, A>, PolledSockets<'f, R, A>), HillTrouble<'f>>
+where
+    R::File: TryLock,
+    ensures open { IfOk result (λ begun. begun.0.reopen ≡ false) }
+    ensures announced { MatchResult result (λ _. Announces (O.contents output.old) (O.contents output.new))
+        (λ _. AnnouncesPart (O.contents output.old) (O.contents output.new)) }
+{
+    let store = match open_hill(host.rt, host.alloc, host.path, Sharing::Alone) {
+        Ok(store) => store,
+        Err(trouble) => return Err(trouble),
+    };
+    match announced(host.rt, host.alloc, service, output) {
+        Ok(sockets) => Ok((store, sockets)),
+        Err(trouble) => Err(trouble),
+    }
+}
+
+/// Sockets at the address that is asked for, whose line is written.
+fn announced<'r, 't, R: Net + Clock, A: Allocator + Copy, O: Write>(
+    rt: &'r R,
+    alloc: A,
+    service: Service<'_>,
+    output: &mut O,
+) -> Result<PolledSockets<'r, R, A>, HillTrouble<'t>>
+    ensures { MatchResult result (λ _. Announces (O.contents output.old) (O.contents output.new))
+        (λ _. AnnouncesPart (O.contents output.old) (O.contents output.new)) }
+{
+    match bound(rt, alloc, service) {
+        Ok(sockets) => match announce(sockets.local_addr(), service.port, output) {
+            Ok(()) => Ok(sockets),
+            Err(trouble) => Err(trouble),
+        },
+        Err(trouble) => Err(trouble),
+    }
+}
+
+/// Sockets at the address that is asked for, and of browsers at the same address, if they are asked for.
 fn bound<'r, 't, R: Net + Clock, A: Allocator + Copy>(
     rt: &'r R,
     alloc: A,
     service: Service<'_>,
 ) -> Result<PolledSockets<'r, R, A>, HillTrouble<'t>> {
     let address = SocketAddr::new(service.listen, service.port);
-    match PolledSockets::bind(rt, alloc, address, service.peers as usize) {
-        Ok(sockets) => Ok(sockets),
-        Err(error) => Err(port_failed(service.port, &error)),
-    }
-}
-
-/// Listens to browsers too, if that is asked for, and writes the line of these sockets.
-fn announced<'r, 't, R: Net + Clock, A: Allocator + Copy, O: Write>(
-    rt: &'r R,
-    alloc: A,
-    service: Service<'_>,
-    sockets: &mut PolledSockets<'r, R, A>,
-    output: &mut O,
-) -> Result<(), HillTrouble<'t>>
-    ensures { MatchResult result (λ _. Announces (O.contents output.old) (O.contents output.new))
-        (λ _. AnnouncesPart (O.contents output.old) (O.contents output.new)) }
-{
-    match open_to_browsers(rt, alloc, service, sockets) {
-        Ok(()) => announce(sockets.local_addr(), service.port, output),
-        Err(trouble) => Err(trouble),
-    }
-}
-
-/// Listens to browsers at the address of the peers, at another port, if that is asked for.
-fn open_to_browsers<'r, 't, R: Net + Clock, A: Allocator + Copy>(
-    rt: &'r R,
-    alloc: A,
-    service: Service<'_>,
-    sockets: &mut PolledSockets<'r, R, A>,
-) -> Result<(), HillTrouble<'t>> {
-    let Some(port) = service.http else {
-        return Ok(());
+    let mut sockets = match PolledSockets::bind(rt, alloc, address, service.peers as usize) {
+        Ok(sockets) => sockets,
+        Err(error) => return Err(port_failed(service.port, &error)),
     };
-    let port = u16::try_from(port).unwrap_or(0);
-    let address = SocketAddr::new(service.listen, port);
-    match sockets.listen_to_browsers(rt, alloc, address, BROWSERS) {
-        Ok(()) => Ok(()),
-        Err(error) => Err(port_failed(port, &error)),
+    if let Some(port) = service.http {
+        let port = u16::try_from(port).unwrap_or(0);
+        let address = SocketAddr::new(service.listen, port);
+        if let Err(error) = sockets.listen_to_browsers(rt, alloc, address, BROWSERS) {
+            return Err(port_failed(port, &error));
+        }
     }
+    Ok(sockets)
 }
 
 /// Writes the line of sockets at this address.
