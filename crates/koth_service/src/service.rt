@@ -79,7 +79,7 @@ fn serve_at<S: Sockets, D: Device + Drop, A: Allocator + Copy, H: Host<D, A>, E:
     }
 }
 
-/// Serves the peers of a desk and these browsers, of which there are none yet.
+/// Serves the peers of a desk and these browsers. There is no browser yet.
 fn serve_rounds<S: Sockets, D: Device + Drop, A: Allocator + Copy, H: Host<D, A>, E: Write>(
     sockets: &mut S,
     desk: Desk<D, A>,

@@ -91,7 +91,7 @@ fn check_write(
     taken
 }
 
-/// A run tells that its output is full, and leaves with the status of that.
+/// A run prints that its output is full, and leaves with that status.
 fn check_output(rt: &(impl Abort + Host), line: &str, output: &mut FullWriter) {
     let mut errors = Vec::new(rt.alloc());
     let status = status_on(

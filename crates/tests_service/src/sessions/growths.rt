@@ -122,7 +122,7 @@ fn expect_ending(
     expect_table(rt, memory, store, ending.table);
 }
 
-/// A session, of which growth `k` is refused, answers so. How it ends is the answer.
+/// A session whose growth `k` is refused answers so. How it ends is the answer.
 fn end_without<'m, D: Device>(
     rt: &(impl Abort + AllocGlobal),
     memory: &'m Refusing<Global>,
