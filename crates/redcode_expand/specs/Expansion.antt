@@ -1,5 +1,5 @@
 -- The expanded lines and the labels of a source, or the first fault in the order of the refusals.
-use Rattle.std.specs.Prelude.{ℕ, ◌-◌, false, nat_lt, if◌then◌else◌, List, [], ◌∷◌, ◌++◌, length, take, Result, Ok, Err}
+use Rattle.std.specs.Prelude.{ℕ, ◌-◌, nat_lt, if◌then◌else◌, List, [], ◌∷◌, ◌++◌, length, take, Result, Ok, Err}
 use Rattle.war_types.specs.declared.fault.AsmKind.TheVariants as kinds
 use Rattle.war_types.specs.declared.fault.AsmFault.{AsmFault}
 use Rattle.war_types.specs.declared.settings.RawSettings.{RawSettings}
@@ -12,7 +12,7 @@ use Rattle.redcode_lines.specs.Source.{NumberedLine, live_lines}
 use Rattle.redcode_names.specs.Equ.{EquList, replaced}
 use Rattle.redcode_lines.specs.Block.{Parsed, parsed, source_lines}
 use Rattle.redcode_names.specs.Name.{LabelList, Names}
-use Rattle.redcode_expand.specs.Walk.{WalkState, walk_state, walk_all, walk_begin}
+use Rattle.redcode_expand.specs.Walk.{WalkState, walk_all, walk_begin}
 pub use Rattle.redcode_names.specs.Name.{address_of, predefined}
 pub use Rattle.redcode_expand.specs.Walk.{ExpandedLine}
 
@@ -38,20 +38,20 @@ abbrev pub all_replaced : EquList → List ExpandedLine → Result (List Expande
 all_replaced equs [] = Ok []
 all_replaced equs (line ∷ others) = line_replaced equs line >>= λ first. all_replaced equs others >>= λ behind. Ok (first ∷ behind)
 
--- what the walk has found, with the names of all EQUs replaced
-abbrev pub finished : WalkState → Result Expansion AsmFault
-finished st = all_replaced st.names.equs st.lines >>= λ lines. Ok (record { lines = lines; labels = st.names.labels })
-
--- the same of these names and these lines
+-- these lines with the names of all EQUs replaced, and the labels
 abbrev pub with_names : Names → List ExpandedLine → Result Expansion AsmFault
-with_names names lines = finished (walk_state 0 0 names lines false)
+with_names names lines = all_replaced names.equs lines >>= λ made. Ok (record { lines = made; labels = names.labels })
+
+-- what the walk has found, so
+abbrev pub finished : WalkState → Result Expansion AsmFault
+finished st = with_names st.names st.lines
 
 -- the blocks of a source written out
 abbrev pub expansion_of_blocks : RawSettings → Parsed → Result Expansion AsmFault
 expansion_of_blocks s source = walk_all s source walk_begin >>= finished
 
 abbrev pub expansion_of_lines : RawSettings → List NumberedLine → Result Expansion AsmFault
-expansion_of_lines s live = walk_all s (parsed (source_lines live)) walk_begin >>= finished
+expansion_of_lines s live = expansion_of_blocks s (parsed (source_lines live))
 
 unfoldable pub expansion : RawSettings → List ℕ → Result Expansion AsmFault
 expansion s source = if nat_lt 65536 (length source) then Err (fault_at 0 kinds.SourceTooLong) else expansion_of_lines s (live_lines source)
