@@ -15,7 +15,7 @@ use std::io::Write;
 use std::net::SocketAddr;
 
 /// How a peer's session ended.
-#[derive(Clone, Copy, Debug, PartialEq, Eq)]
+#[derive(Clone, Copy, Debug)]
 pub enum HowEnded {
     /// By itself, and all its answers went out; or with `Unread`, and the peer was disconnected.
     By(PeerEnd),
@@ -26,7 +26,7 @@ pub enum HowEnded {
 }
 
 /// What happens with a peer.
-#[derive(Clone, Copy, PartialEq, Eq)]
+#[derive(Clone, Copy)]
 pub enum Event<'t> {
     /// It has connected.
     Connected,

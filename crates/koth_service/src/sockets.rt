@@ -6,7 +6,7 @@ ghost use Rattle.koth_service.specs.Noted.{Adds, Admits, Noted, Reads, Stays, Wr
 use std::net::SocketAddr;
 
 /// What came of an accept.
-#[derive(Clone, Copy, PartialEq, Eq)]
+#[derive(Clone, Copy)]
 pub enum Arrival {
     /// A peer, with its address: it is seated or refused next.
     Peer(SocketAddr),
@@ -17,7 +17,7 @@ pub enum Arrival {
 }
 
 /// What came of a read.
-#[derive(Clone, Copy, PartialEq, Eq)]
+#[derive(Clone, Copy)]
 pub enum Came {
     /// This many bytes came; none if a signal came first, and the read is tried again.
     Bytes(usize),
@@ -30,7 +30,7 @@ pub enum Came {
 }
 
 /// What came of a write.
-#[derive(Clone, Copy, PartialEq, Eq)]
+#[derive(Clone, Copy)]
 pub enum Went {
     /// This many of the bytes went out; none if a signal came first, and the write is tried again.
     Bytes(usize),
@@ -41,7 +41,7 @@ pub enum Went {
 }
 
 /// What came of throwing away.
-#[derive(Clone, Copy, PartialEq, Eq)]
+#[derive(Clone, Copy)]
 pub enum Drained {
     /// This many bytes were thrown away.
     Bytes(usize),

@@ -5,10 +5,10 @@ use crate::counts::count;
 use crate::equs::{bad_equ, equ_limit};
 use crate::expressions::expression;
 use crate::operands::{extra_text, missing_operand};
-use crate::said::{Part, sentence};
+use crate::said::{Part, say};
 use crate::scene::{Row, Scene};
 use crate::statements::{bad_modifier, bad_operation, bad_token, pspace};
-use crate::warriors::{assert_false, bad_start, empty, source_too_long, too_long};
+use crate::warriors::{bad_start, empty, say_assertion, source_too_long, too_long};
 use redcode_lines::Span;
 use std::alloc::{AllocError, Allocator};
 use war_types::{AsmFault, AsmKind};
@@ -20,40 +20,43 @@ pub struct Blame<A: Allocator> {
     pub sentence: Vec<u8, A>,
 }
 
-/// A blame, unless memory runs out.
-pub(crate) type Answer<A> = Result<Blame<A>, AllocError>;
-
-/// The blame with this sentence.
-pub(crate) fn blamed_text<A: Allocator>(alloc: A, span: Span, text: &str) -> Answer<A> {
-    blamed(alloc, span, &[Part::Text(text)])
+/// What is to blame, and the parts of the sentence about it.
+#[derive(Clone, Copy)]
+pub(crate) struct Told<'p> {
+    pub span: Span,
+    pub parts: [Part<'p>; 6],
 }
 
-/// The blame with a sentence that begins with a word of the source.
-pub(crate) fn blamed_word<A: Allocator>(
-    alloc: A,
+/// What is told, unless memory runs out.
+pub(crate) type Answer<'p> = Result<Told<'p>, AllocError>;
+
+/// No further part.
+pub(crate) const END: Part<'static> = Part::Text("");
+
+/// What is told in this sentence.
+pub(crate) fn told_text<'p>(span: Span, text: &'p str) -> Told<'p> {
+    told_parts(span, Part::Text(text), END, END)
+}
+
+/// What is told in a sentence that begins with a word of the source.
+pub(crate) fn told_word<'p>(span: Span, word: &'p [u8], text: &'p str) -> Told<'p> {
+    told_parts(span, Part::Word(word), Part::Text(text), END)
+}
+
+/// What is told in a sentence that ends with a word of the source.
+pub(crate) fn told_before<'p>(span: Span, text: &'p str, word: &'p [u8]) -> Told<'p> {
+    told_parts(span, Part::Text(text), Part::Word(word), END)
+}
+
+/// What is told in three parts.
+pub(crate) fn told_parts<'p>(
     span: Span,
-    word: &[u8],
-    text: &str,
-) -> Answer<A> {
-    blamed(alloc, span, &[Part::Word(word), Part::Text(text)])
-}
-
-/// The blame with a sentence that ends with a word of the source.
-pub(crate) fn blamed_before<A: Allocator>(
-    alloc: A,
-    span: Span,
-    text: &str,
-    word: &[u8],
-) -> Answer<A> {
-    blamed(alloc, span, &[Part::Text(text), Part::Word(word)])
-}
-
-/// The blame with a sentence of these parts.
-pub(crate) fn blamed<A: Allocator>(alloc: A, span: Span, parts: &[Part<'_>]) -> Answer<A> {
-    match sentence(alloc, parts) {
-        Ok(sentence) => Ok(Blame { span, sentence }),
-        Err(error) => Err(error),
-    }
+    first: Part<'p>,
+    second: Part<'p>,
+    third: Part<'p>,
+) -> Told<'p> {
+    let parts = [first, second, third, END, END, END];
+    Told { span, parts }
 }
 
 /// What is to blame for a fault of a source.
@@ -61,41 +64,71 @@ pub fn blame_of<A: Allocator + Copy>(
     scene: &Scene<'_, A>,
     fault: AsmFault,
 ) -> Result<Blame<A>, AllocError> {
+    let told = told_of(scene, fault)?;
+    let mut sentence = Vec::new(scene.alloc);
+    match say_all(&mut sentence, scene, fault, &told.parts) {
+        Ok(()) => Ok(Blame {
+            span: told.span,
+            sentence,
+        }),
+        Err(error) => Err(error),
+    }
+}
+
+/// Says what is told of a fault, and what stands in an assertion that doesn't hold.
+fn say_all<A: Allocator + Copy>(
+    sentence: &mut Vec<u8, A>,
+    scene: &Scene<'_, A>,
+    fault: AsmFault,
+    parts: &[Part<'_>],
+) -> Result<(), AllocError> {
+    say(sentence, parts)?;
     match fault.kind {
-        AsmKind::SourceTooLong => source_too_long(scene),
-        AsmKind::Empty => empty(scene),
-        AsmKind::TooLong => too_long(scene),
+        AsmKind::AssertFalse => say_assertion(sentence, scene, fault),
+        _ => Ok(()),
+    }
+}
+
+/// What is told of a fault of a source.
+fn told_of<'s, A: Allocator + Copy>(scene: &Scene<'s, A>, fault: AsmFault) -> Answer<'s> {
+    match fault.kind {
+        AsmKind::SourceTooLong => Ok(source_too_long(scene)),
+        AsmKind::Empty => Ok(empty(scene)),
+        AsmKind::TooLong => Ok(too_long(scene)),
         kind => match scene.row(fault.line) {
-            Some(row) => blame_on(scene, &row, fault),
-            None => blamed_text(scene.alloc, scene.whole(fault.line), kind.name()),
+            Some(row) => told_on(scene, &row, fault),
+            None => Ok(told_text(scene.whole(fault.line), kind.name())),
         },
     }
 }
 
-/// What is to blame for a fault of a line.
-fn blame_on<'s, A: Allocator + Copy>(
+/// What is told of a fault of a line.
+fn told_on<'s, A: Allocator + Copy>(
     scene: &Scene<'s, A>,
     row: &Row<'_, 's>,
     fault: AsmFault,
-) -> Answer<A> {
+) -> Answer<'s> {
     match fault.kind {
-        AsmKind::UnmatchedFor | AsmKind::UnmatchedRof => unmatched(scene, row),
-        AsmKind::ForLimit => for_limit(scene, row),
+        AsmKind::UnmatchedFor | AsmKind::UnmatchedRof => Ok(unmatched(row)),
+        AsmKind::ForLimit => Ok(for_limit(row)),
         AsmKind::DuplicateName => duplicate_name(scene, row),
-        AsmKind::BadEqu => bad_equ(scene, row),
-        AsmKind::EquLimit => equ_limit(scene, row),
+        AsmKind::BadEqu => Ok(bad_equ(row)),
+        AsmKind::EquLimit => Ok(equ_limit(scene, row)),
         AsmKind::ForCount(kind) => count(scene, row, kind),
-        AsmKind::BadToken => bad_token(scene, row),
-        AsmKind::BadOperation => bad_operation(scene, row),
-        AsmKind::Pspace => pspace(scene, row),
-        AsmKind::BadModifier => bad_modifier(scene, row),
-        AsmKind::MissingOperand => missing_operand(scene, row),
+        AsmKind::BadToken => Ok(bad_token(scene, row)),
+        AsmKind::BadOperation => bad_operation(scene.alloc, row),
+        AsmKind::Pspace => Ok(pspace(row)),
+        AsmKind::BadModifier => Ok(bad_modifier(row)),
+        AsmKind::MissingOperand => Ok(missing_operand(row)),
         AsmKind::Expression(kind) => expression(scene, row, fault, kind),
-        AsmKind::ExtraText => extra_text(scene, row),
-        AsmKind::BadStart => bad_start(scene, row),
-        AsmKind::AssertFalse => assert_false(scene, row, fault),
+        AsmKind::ExtraText => Ok(extra_text(row)),
+        AsmKind::BadStart => Ok(bad_start(scene, row)),
+        AsmKind::AssertFalse => {
+            let span = row.spans(row.reading.tokens);
+            Ok(told_text(span, "the assertion doesn't hold"))
+        }
         AsmKind::SourceTooLong | AsmKind::Empty | AsmKind::TooLong | AsmKind::Memory => {
-            blamed_text(scene.alloc, row.whole(), fault.kind.name())
+            Ok(told_text(row.whole(), fault.kind.name()))
         }
     }
 }

@@ -1,6 +1,6 @@
 //! Faults of the walk over a source's lines: blocks, their limit, and names that are defined twice.
 
-use crate::blame::{Answer, blamed, blamed_text, blamed_word};
+use crate::blame::{Answer, Told, told_parts, told_text, told_word};
 use crate::copies::blocks_around;
 use crate::definitions::{Role, definition, is_among, last_name};
 use crate::nearest::nearest_word;
@@ -20,23 +20,23 @@ pub(crate) fn word_of_row(row: &Row<'_, '_>) -> Span {
 }
 
 /// A `FOR` without its `ROF`, or a `ROF` without its `FOR`.
-pub(crate) fn unmatched<A: Allocator + Copy>(scene: &Scene<'_, A>, row: &Row<'_, '_>) -> Answer<A> {
+pub(crate) fn unmatched(row: &Row<'_, '_>) -> Told<'static> {
     let said = match row.reading.word {
         Some(Word::For) => "no `ROF` below ends the block of this `FOR`",
         _ => "no block is open that this `ROF` could end",
     };
-    blamed_text(scene.alloc, word_of_row(row), said)
+    told_text(word_of_row(row), said)
 }
 
 /// A line past the limit.
-pub(crate) fn for_limit<A: Allocator + Copy>(scene: &Scene<'_, A>, row: &Row<'_, '_>) -> Answer<A> {
+pub(crate) fn for_limit(row: &Row<'_, '_>) -> Told<'static> {
     let said = match row.reading.word {
         Some(Word::For) => {
             "more than 4096 lines are written out: a copy of this block without a line counts as one"
         }
         _ => "more than 4096 lines are written out, counted in every copy of a block",
     };
-    blamed_text(scene.alloc, row.whole(), said)
+    told_text(row.whole(), said)
 }
 
 /// What has defined a name before.
@@ -49,16 +49,16 @@ enum Definer {
 }
 
 /// A name that is defined a second time.
-pub(crate) fn duplicate_name<A: Allocator + Copy>(
-    scene: &Scene<'_, A>,
-    row: &Row<'_, '_>,
-) -> Answer<A> {
+pub(crate) fn duplicate_name<'s, A: Allocator + Copy>(
+    scene: &Scene<'s, A>,
+    row: &Row<'_, 's>,
+) -> Answer<'s> {
     match defined_label(scene, row) {
-        None => defined_by_copies(scene, row),
-        Some((label, Definer::Line(line))) => defined_in(scene, row, label, line),
+        None => Ok(defined_by_copies(scene, row)),
+        Some((label, Definer::Line(line))) => defined_in(scene.alloc, row, label, line),
         Some((label, Definer::Language)) => {
             let said = " is a predefined name, and can't be defined";
-            blamed_word(scene.alloc, row.span(label), label.text, said)
+            Ok(told_word(row.span(label), label.text, said))
         }
     }
 }
@@ -113,42 +113,30 @@ fn line_before<A: Allocator + Copy>(scene: &Scene<'_, A>, name: &[u8], number: u
 }
 
 /// A name that is defined in an earlier line, or before on the same line.
-fn defined_in<A: Allocator + Copy>(
-    scene: &Scene<'_, A>,
-    row: &Row<'_, '_>,
-    name: &Token<'_>,
+fn defined_in<'s, A: Allocator + Copy>(
+    alloc: A,
+    row: &Row<'_, 's>,
+    name: &Token<'s>,
     line: u32,
-) -> Answer<A> {
-    let span = row.span(name);
+) -> Answer<'s> {
     let line = Part::Number(i64::from(line));
-    match operation_meant(scene.alloc, row, name) {
-        Ok(Some(word)) => meant_operation(scene.alloc, span, name.text, line, word),
-        Ok(None) => {
-            let parts = [Part::Word(name.text), ALREADY, line];
-            blamed(scene.alloc, span, &parts)
-        }
-        Err(error) => Err(error),
+    match operation_meant(alloc, row, name)? {
+        Some(word) => Ok(meant_operation(row.span(name), name.text, line, word)),
+        None => Ok(told_parts(row.span(name), Part::Word(name.text), ALREADY, line)),
     }
 }
 
 /// A name that a line has defined already, where an operation was probably meant.
-fn meant_operation<'p, A: Allocator>(
-    alloc: A,
-    span: Span,
-    name: &'p [u8],
-    line: Part<'p>,
-    word: &'p [u8],
-) -> Answer<A> {
-    let meant = Part::Text("; did you mean the operation ");
+fn meant_operation<'s>(span: Span, name: &'s [u8], line: Part<'s>, word: &'s [u8]) -> Told<'s> {
     let parts = [
         Part::Word(name),
         ALREADY,
         line,
-        meant,
+        Part::Text("; did you mean the operation "),
         Part::Word(word),
         Part::Text("?"),
     ];
-    blamed(alloc, span, &parts)
+    Told { span, parts }
 }
 
 /// What is said of a name before the line that has defined it.
@@ -167,7 +155,10 @@ fn operation_meant<A: Allocator + Copy>(
 }
 
 /// Labels that copies of blocks define again.
-fn defined_by_copies<A: Allocator + Copy>(scene: &Scene<'_, A>, row: &Row<'_, '_>) -> Answer<A> {
+fn defined_by_copies<A: Allocator + Copy>(
+    scene: &Scene<'_, A>,
+    row: &Row<'_, '_>,
+) -> Told<'static> {
     let labels = row.reading.labels();
     let said = if has_and(labels) {
         "a copy of the block joins these to a name that is defined already"
@@ -176,5 +167,5 @@ fn defined_by_copies<A: Allocator + Copy>(scene: &Scene<'_, A>, row: &Row<'_, '_
     } else {
         "each copy of the block defines this anew; a name of its own ends with `&` and the counter"
     };
-    blamed_text(scene.alloc, row.spans(labels), said)
+    told_text(row.spans(labels), said)
 }

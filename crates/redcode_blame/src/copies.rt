@@ -36,12 +36,15 @@ pub fn copy_of<A: Allocator + Copy>(
     let Some(block) = around.innermost else {
         return Ok(None);
     };
-    Ok(Some(Copied {
-        times: faulty.times,
-        block,
-        is_nested: around.count > 1,
-        text: text_of(scene.alloc, &faulty)?,
-    }))
+    match text_of(scene.alloc, &faulty) {
+        Ok(text) => Ok(Some(Copied {
+            times: faulty.times,
+            block,
+            is_nested: around.count > 1,
+            text,
+        })),
+        Err(error) => Err(error),
+    }
 }
 
 /// The blocks around a line.
@@ -50,28 +53,45 @@ pub(crate) struct Around {
     /// The line of the innermost block's `FOR`.
     pub innermost: Option<u32>,
     pub count: u32,
+    /// Blocks whose `ROF` was met, and whose `FOR` is still to come.
+    closed: u32,
 }
 
 /// The blocks that are open before the line of this number.
 pub(crate) fn blocks_around<A: Allocator>(lines: &[SourceLine<'_, A>], number: u32) -> Around {
-    let mut closed: u32 = 0;
     let mut around = Around {
         innermost: None,
         count: 0,
+        closed: 0,
     };
     for line in lines.iter().rev() {
-        match line.word() {
-            _ if line.number() >= number => {}
-            Some(Word::Rof) => closed = closed.saturating_add(1),
-            Some(Word::For) if closed > 0 => closed = closed.saturating_sub(1),
-            Some(Word::For) => {
-                around.innermost = around.innermost.or(Some(line.number()));
-                around.count = around.count.saturating_add(1);
-            }
-            _ => {}
+        if line.number() < number {
+            around = around.with(line.word(), line.number());
         }
     }
     around
+}
+
+impl Around {
+    /// The same with the line of this number, which stands before those that were met.
+    fn with(self, word: Option<Word>, number: u32) -> Around {
+        match word {
+            Some(Word::Rof) => Around {
+                closed: self.closed.saturating_add(1),
+                ..self
+            },
+            Some(Word::For) if self.closed > 0 => Around {
+                closed: self.closed.saturating_sub(1),
+                ..self
+            },
+            Some(Word::For) => Around {
+                innermost: self.innermost.or(Some(number)),
+                count: self.count.saturating_add(1),
+                ..self
+            },
+            _ => self,
+        }
+    }
 }
 
 /// A line as it reads.

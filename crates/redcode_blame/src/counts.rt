@@ -1,6 +1,6 @@
 //! Counts of blocks.
 
-use crate::blame::{Answer, blamed_text, blamed_word};
+use crate::blame::{Answer, told_text, told_word};
 use crate::blocks::word_of_row;
 use crate::definitions::{Role, definition};
 use crate::expressions::{division_by_zero, overflow};
@@ -14,38 +14,38 @@ use std::alloc::Allocator;
 use war_types::ExprFault;
 
 /// The count of a block that has no value.
-pub(crate) fn count<A: Allocator + Copy>(
-    scene: &Scene<'_, A>,
-    row: &Row<'_, '_>,
+pub(crate) fn count<'s, A: Allocator + Copy>(
+    scene: &Scene<'s, A>,
+    row: &Row<'_, 's>,
     kind: ExprFault,
-) -> Answer<A> {
+) -> Answer<'s> {
     let tokens = behind_first(row.reading.tokens);
     if tokens.is_empty() {
         let said = "a count is due behind `FOR`";
-        return blamed_text(scene.alloc, word_of_row(row), said);
+        return Ok(told_text(word_of_row(row), said));
     }
     match kind {
-        ExprFault::BadExpression => no_expression(scene, row, Shaped::of(tokens)),
+        ExprFault::BadExpression => Ok(no_expression(scene, row, Shaped::of(tokens))),
         ExprFault::UnknownName => unknown_in_count(scene, row, tokens),
-        ExprFault::DivideByZero => division_by_zero(scene, row, tokens),
-        ExprFault::Overflow => overflow(scene, row, tokens),
+        ExprFault::DivideByZero => Ok(division_by_zero(row, tokens)),
+        ExprFault::Overflow => Ok(overflow(row, tokens)),
     }
 }
 
 /// A name in a count that no line before it has defined by an `EQU`.
-fn unknown_in_count<A: Allocator + Copy>(
-    scene: &Scene<'_, A>,
-    row: &Row<'_, '_>,
-    tokens: &[Token<'_>],
-) -> Answer<A> {
+fn unknown_in_count<'s, A: Allocator + Copy>(
+    scene: &Scene<'s, A>,
+    row: &Row<'_, 's>,
+    tokens: &[Token<'s>],
+) -> Answer<'s> {
     let number = row.reading.number;
     let Some(name) = first_unknown(scene, tokens, number) else {
         let said =
             "a count knows numbers, predefined names and the names of `EQU` lines above it, and a name here is none of these";
-        return blamed_text(scene.alloc, row.spans(tokens), said);
+        return Ok(told_text(row.spans(tokens), said));
     };
     match unknown_why(scene, name.text) {
-        Some(why) => blamed_word(scene.alloc, row.span(name), name.text, why),
+        Some(why) => Ok(told_word(row.span(name), name.text, why)),
         None => unknown_name(scene, row, tokens, name.text),
     }
 }

@@ -83,10 +83,10 @@ pub(crate) fn is_among(tokens: &[Token<'_>], name: &[u8]) -> bool {
 }
 
 /// The name nearest to one that nothing defines: a label, the name of an `EQU` or a predefined name.
-pub(crate) fn nearest_name<'n, A: Allocator + Copy>(
-    scene: &'n Scene<'_, A>,
-    name: &'n [u8],
-) -> Result<Option<&'n [u8]>, AllocError> {
+pub(crate) fn nearest_name<'s, A: Allocator + Copy>(
+    scene: &Scene<'s, A>,
+    name: &[u8],
+) -> Result<Option<&'s [u8]>, AllocError> {
     let mut nearest = Nearest::new(name);
     for line in &scene.lines {
         offer_labels(scene, &mut nearest, line.reading())?;
@@ -96,10 +96,10 @@ pub(crate) fn nearest_name<'n, A: Allocator + Copy>(
 }
 
 /// Offers the names that a line defines.
-fn offer_labels<'n, A: Allocator + Copy>(
-    scene: &'n Scene<'_, A>,
-    nearest: &mut Nearest<'n, 'n>,
-    line: Reading<'n, '_>,
+fn offer_labels<'s, A: Allocator + Copy>(
+    scene: &Scene<'s, A>,
+    nearest: &mut Nearest<'_, 's>,
+    line: Reading<'_, 's>,
 ) -> Result<(), AllocError> {
     if !matches!(line.form, LineForm::Statement) {
         return Ok(());
@@ -114,11 +114,11 @@ fn offer_labels<'n, A: Allocator + Copy>(
 }
 
 /// Offers those of these names that are labels.
-fn offer_defined<'n, A: Allocator + Copy>(
+fn offer_defined<'s, A: Allocator + Copy>(
     alloc: A,
     expanded: &Expanded<'_, A>,
-    nearest: &mut Nearest<'n, 'n>,
-    labels: &'n [Token<'_>],
+    nearest: &mut Nearest<'_, 's>,
+    labels: &[Token<'s>],
 ) -> Result<(), AllocError> {
     for label in labels {
         if is_name(label) && expanded.label(label.text).is_some() {

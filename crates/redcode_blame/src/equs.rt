@@ -1,6 +1,6 @@
 //! Faults of `EQU` lines, and of what their names stand for.
 
-use crate::blame::{Answer, blamed_before, blamed_text, blamed_word};
+use crate::blame::{Told, told_before, told_text, told_word};
 use crate::blocks::word_of_row;
 use crate::definitions::{Role, definition, last_name};
 use crate::operands::operands_in;
@@ -13,7 +13,7 @@ use std::alloc::Allocator;
 const TOKEN_LIMIT: usize = 512;
 
 /// An `EQU` without a name or a body, or with a reserved word in its body.
-pub(crate) fn bad_equ<A: Allocator + Copy>(scene: &Scene<'_, A>, row: &Row<'_, '_>) -> Answer<A> {
+pub(crate) fn bad_equ<'s>(row: &Row<'_, 's>) -> Told<'s> {
     let word = word_of_row(row);
     match (
         last_name(row.reading.labels()),
@@ -21,18 +21,13 @@ pub(crate) fn bad_equ<A: Allocator + Copy>(scene: &Scene<'_, A>, row: &Row<'_, '
     ) {
         (None, _) => {
             let said = "a name is due before `EQU`, as in `step EQU 4`";
-            blamed_text(scene.alloc, word, said)
+            told_text(word, said)
         }
         (Some(_), Some(reserved)) => {
             let said = " is a reserved word, and can't stand in the body of an `EQU`";
-            blamed_word(scene.alloc, row.span(reserved), reserved.text, said)
+            told_word(row.span(reserved), reserved.text, said)
         }
-        (Some(name), None) => blamed_before(
-            scene.alloc,
-            word,
-            "nothing stands behind the `EQU` of ",
-            name,
-        ),
+        (Some(name), None) => told_before(word, "nothing stands behind the `EQU` of ", name),
     }
 }
 
@@ -68,21 +63,24 @@ pub(crate) fn first_equ<'t, 's, A: Allocator + Copy>(
 }
 
 /// Operands of too many tokens, or a name that is left after the last round.
-pub(crate) fn equ_limit<A: Allocator + Copy>(scene: &Scene<'_, A>, row: &Row<'_, '_>) -> Answer<A> {
+pub(crate) fn equ_limit<'s, A: Allocator + Copy>(
+    scene: &Scene<'_, A>,
+    row: &Row<'_, 's>,
+) -> Told<'s> {
     let tokens = replaced_in(row);
     if tokens.len() > TOKEN_LIMIT {
         let said = "there are more than 512 tokens here";
-        return blamed_text(scene.alloc, row.spans(tokens), said);
+        return told_text(row.spans(tokens), said);
     }
     match first_equ(scene, tokens) {
         Some(name) => {
             let said = " leads to itself again, or more than 16 deep, or to more than 512 tokens";
-            blamed_word(scene.alloc, row.span(name), name.text, said)
+            told_word(row.span(name), name.text, said)
         }
         None => {
             let said =
                 "there are more than 512 tokens here, or names of `EQU` lines more than 16 deep";
-            blamed_text(scene.alloc, row.spans(tokens), said)
+            told_text(row.spans(tokens), said)
         }
     }
 }

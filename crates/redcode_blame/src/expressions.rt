@@ -1,6 +1,6 @@
 //! Expressions without a value.
 
-use crate::blame::{Answer, blamed, blamed_text};
+use crate::blame::{Answer, Told, told_parts, told_text};
 use crate::judge::{Faulty, faulty_line, labels_on};
 use crate::names::{first_unknown, unknown_name};
 use crate::operands::{at_comma, operand_at, operands_in, without_mode};
@@ -14,55 +14,39 @@ use std::alloc::Allocator;
 use war_types::{AsmFault, ExprFault, Settings};
 
 /// The expression of an operand, of `ORG`, of `END` or of an assertion.
-pub(crate) fn expression<A: Allocator + Copy>(
-    scene: &Scene<'_, A>,
-    row: &Row<'_, '_>,
+pub(crate) fn expression<'s, A: Allocator + Copy>(
+    scene: &Scene<'s, A>,
+    row: &Row<'_, 's>,
     fault: AsmFault,
     kind: ExprFault,
-) -> Answer<A> {
+) -> Answer<'s> {
     if let Some(expanded) = &scene.expanded
         && let Some(faulty) = faulty_line(expanded, scene.settings, fault)
     {
         return expression_on(scene, expanded, row, faulty, kind);
     }
     let span = row.spans(operands_in(&row.reading));
-    blamed_text(scene.alloc, span, kind.name())
+    Ok(told_text(span, kind.name()))
 }
 
 /// The expression of a line that reads so.
-fn expression_on<A: Allocator + Copy>(
-    scene: &Scene<'_, A>,
-    expanded: &Expanded<'_, A>,
-    row: &Row<'_, '_>,
-    faulty: Faulty<'_, '_>,
+fn expression_on<'s, A: Allocator + Copy>(
+    scene: &Scene<'s, A>,
+    expanded: &Expanded<'s, A>,
+    row: &Row<'_, 's>,
+    faulty: Faulty<'_, 's>,
     kind: ExprFault,
-) -> Answer<A> {
+) -> Answer<'s> {
     let is_second = is_second(expanded, scene.settings, faulty);
     let shaped = shaped_in(operands_in(&row.reading), faulty.line.kind, is_second);
     match kind {
-        ExprFault::BadExpression => no_expression(scene, row, shaped),
-        ExprFault::DivideByZero => division_by_zero(scene, row, shaped.tokens),
-        ExprFault::Overflow => overflow(scene, row, shaped.tokens),
-        ExprFault::UnknownName => {
-            let name = unknown_on(expanded, scene.settings, faulty, is_second);
-            unknown_in_operand(scene, row, shaped.operand, name)
-        }
-    }
-}
-
-/// A name without a value in an operand, if one was found.
-fn unknown_in_operand<A: Allocator + Copy>(
-    scene: &Scene<'_, A>,
-    row: &Row<'_, '_>,
-    operand: &[Token<'_>],
-    name: Option<&[u8]>,
-) -> Answer<A> {
-    match name {
-        Some(name) => unknown_name(scene, row, operand, name),
-        None => {
-            let said = ExprFault::UnknownName.name();
-            blamed_text(scene.alloc, row.spans(operand), said)
-        }
+        ExprFault::BadExpression => Ok(no_expression(scene, row, shaped)),
+        ExprFault::DivideByZero => Ok(division_by_zero(row, shaped.tokens)),
+        ExprFault::Overflow => Ok(overflow(row, shaped.tokens)),
+        ExprFault::UnknownName => match unknown_on(expanded, scene.settings, faulty, is_second) {
+            Some(name) => unknown_name(scene, row, shaped.operand, name),
+            None => Ok(told_text(row.spans(shaped.operand), kind.name())),
+        },
     }
 }
 
@@ -108,17 +92,13 @@ fn is_second<A: Allocator + Copy>(
 }
 
 /// A division by 0 in these tokens.
-pub(crate) fn division_by_zero<A: Allocator + Copy>(
-    scene: &Scene<'_, A>,
-    row: &Row<'_, '_>,
-    tokens: &[Token<'_>],
-) -> Answer<A> {
+pub(crate) fn division_by_zero(row: &Row<'_, '_>, tokens: &[Token<'_>]) -> Told<'static> {
     let said = match (is_among(tokens, b"/"), is_among(tokens, b"%")) {
         (true, false) => "a division by zero",
         (false, true) => "a remainder of a division by zero",
         _ => "a division by zero, or a remainder of one",
     };
-    blamed_text(scene.alloc, row.spans(tokens), said)
+    told_text(row.spans(tokens), said)
 }
 
 /// Whether a symbol is among these tokens.
@@ -127,23 +107,20 @@ fn is_among(tokens: &[Token<'_>], symbol: &[u8]) -> bool {
 }
 
 /// A number or a result that is too large in these tokens.
-pub(crate) fn overflow<A: Allocator + Copy>(
-    scene: &Scene<'_, A>,
-    row: &Row<'_, '_>,
-    tokens: &[Token<'_>],
-) -> Answer<A> {
+pub(crate) fn overflow<'s>(row: &Row<'_, '_>, tokens: &[Token<'s>]) -> Told<'s> {
     match first_too_large(tokens) {
         Some(token) => {
-            let parts = [
+            let past = Part::Text(" is past the largest number, ");
+            told_parts(
+                row.span(token),
                 Part::Word(token.text),
-                Part::Text(" is past the largest number, "),
+                past,
                 Part::Number(i64::MAX),
-            ];
-            blamed(scene.alloc, row.span(token), &parts)
+            )
         }
         None => {
             let said = "a result here is no 64-bit signed number";
-            blamed_text(scene.alloc, row.spans(tokens), said)
+            told_text(row.spans(tokens), said)
         }
     }
 }

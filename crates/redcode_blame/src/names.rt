@@ -1,6 +1,6 @@
 //! Names that nothing defines.
 
-use crate::blame::{Answer, blamed};
+use crate::blame::{Answer, END, Told, told_parts};
 use crate::definitions::{Role, definition, nearest_name};
 use crate::nearest::is_reserved;
 use crate::said::Part;
@@ -20,17 +20,17 @@ pub(crate) fn first_unknown<'s, N: Names>(tokens: &[Token<'s>], names: &N) -> Op
 }
 
 /// A name that nothing defines, in these tokens of the line.
-pub(crate) fn unknown_name<A: Allocator + Copy>(
-    scene: &Scene<'_, A>,
+pub(crate) fn unknown_name<'s, A: Allocator + Copy>(
+    scene: &Scene<'s, A>,
     row: &Row<'_, '_>,
     tokens: &[Token<'_>],
-    name: &[u8],
-) -> Answer<A> {
+    name: &'s [u8],
+) -> Answer<'s> {
     if let Some(span) = written_at(row, tokens, name) {
         return not_defined(scene, span, name, "");
     }
     match joined_at(row, tokens, name) {
-        Some(span) => nothing_called(scene.alloc, span, name, ", which is joined here"),
+        Some(span) => Ok(nothing_called(span, name, ", which is joined here")),
         None => {
             let said = " (the body of an `EQU` that is used here names it)";
             not_defined(scene, row.spans(tokens), name, said)
@@ -64,85 +64,48 @@ fn joined_at(row: &Row<'_, '_>, tokens: &[Token<'_>], name: &[u8]) -> Option<Spa
 }
 
 /// A name that nothing defines, with a text at the end of the sentence.
-fn not_defined<'p, A: Allocator + Copy>(
-    scene: &Scene<'_, A>,
+fn not_defined<'s, A: Allocator + Copy>(
+    scene: &Scene<'s, A>,
     span: Span,
-    name: &'p [u8],
-    end: &'p str,
-) -> Answer<A> {
+    name: &'s [u8],
+    end: &'s str,
+) -> Answer<'s> {
     if is_reserved(name) {
-        return reserved(scene.alloc, span, name, end);
+        let reserved = Part::Text(" is a reserved word, and no name");
+        return Ok(told_parts(span, Part::Word(name), reserved, Part::Text(end)));
     }
     match definition(scene, Role::Counter, name, u32::MAX) {
-        Some(line) => counter_outside(scene.alloc, span, name, line, end),
-        None => defined_nowhere(scene, span, name, end),
+        Some(line) => Ok(counter_outside(span, name, line, end)),
+        None => match nearest_name(scene, name)? {
+            Some(nearest) => Ok(did_you_mean(span, name, nearest, end)),
+            None => Ok(nothing_called(span, name, end)),
+        },
     }
-}
-
-/// A name that no line defines in any way.
-fn defined_nowhere<'p, A: Allocator + Copy>(
-    scene: &Scene<'_, A>,
-    span: Span,
-    name: &'p [u8],
-    end: &'p str,
-) -> Answer<A> {
-    match nearest_name(scene, name) {
-        Ok(Some(nearest)) => did_you_mean(scene.alloc, span, name, nearest, end),
-        Ok(None) => nothing_called(scene.alloc, span, name, end),
-        Err(error) => Err(error),
-    }
-}
-
-/// A reserved word in the place of a name.
-fn reserved<'p, A: Allocator>(alloc: A, span: Span, name: &'p [u8], end: &'p str) -> Answer<A> {
-    let parts = [
-        Part::Word(name),
-        Part::Text(" is a reserved word, and no name"),
-        Part::Text(end),
-    ];
-    blamed(alloc, span, &parts)
 }
 
 /// A name that nothing has.
-fn nothing_called<'p, A: Allocator>(
-    alloc: A,
-    span: Span,
-    name: &'p [u8],
-    end: &'p str,
-) -> Answer<A> {
-    let parts = [NOTHING, Part::Word(name), Part::Text(end)];
-    blamed(alloc, span, &parts)
+fn nothing_called<'s>(span: Span, name: &'s [u8], end: &'s str) -> Told<'s> {
+    told_parts(span, NOTHING, Part::Word(name), Part::Text(end))
 }
 
 /// What is said before a name that nothing defines.
 const NOTHING: Part<'static> = Part::Text("nothing is called ");
 
 /// A counter that is named outside its block.
-fn counter_outside<'p, A: Allocator>(
-    alloc: A,
-    span: Span,
-    name: &'p [u8],
-    line: u32,
-    end: &'p str,
-) -> Answer<A> {
+fn counter_outside<'s>(span: Span, name: &'s [u8], line: u32, end: &'s str) -> Told<'s> {
     let parts = [
         Part::Word(name),
         Part::Text(" is the counter of the block of line "),
         Part::Number(i64::from(line)),
         Part::Text(", and is replaced in the lines of that block alone"),
         Part::Text(end),
+        END,
     ];
-    blamed(alloc, span, &parts)
+    Told { span, parts }
 }
 
 /// A name that nothing defines, and the name that was probably meant.
-fn did_you_mean<'p, A: Allocator>(
-    alloc: A,
-    span: Span,
-    name: &'p [u8],
-    nearest: &'p [u8],
-    end: &'p str,
-) -> Answer<A> {
+fn did_you_mean<'s>(span: Span, name: &'s [u8], nearest: &'s [u8], end: &'s str) -> Told<'s> {
     let question = if name.eq_ignore_ascii_case(nearest) {
         "? Upper and lower case differ in names."
     } else {
@@ -156,5 +119,5 @@ fn did_you_mean<'p, A: Allocator>(
         Part::Text(question),
         Part::Text(end),
     ];
-    blamed(alloc, span, &parts)
+    Told { span, parts }
 }

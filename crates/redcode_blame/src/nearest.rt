@@ -44,7 +44,7 @@ impl<'w, 'n> Nearest<'w, 'n> {
     pub(crate) fn offer_each<A: Allocator + Copy>(
         &mut self,
         alloc: A,
-        names: &[&'n str],
+        names: &[&'static str],
     ) -> Result<(), AllocError> {
         for name in names {
             self.offer(alloc, name.as_bytes())?;

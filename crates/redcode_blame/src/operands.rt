@@ -1,11 +1,10 @@
 //! Operands that are missing, or too many.
 
-use crate::blame::{Answer, blamed_text, blamed_word};
-use crate::scene::{Row, Scene};
+use crate::blame::{Told, told_text, told_word};
+use crate::scene::Row;
 use redcode_expand::LineKind;
 use redcode_lines::{LineForm, Reading, has_text, operands_of};
 use redcode_text::{Token, Word, mode_named};
-use std::alloc::Allocator;
 
 /// What kind of line this is.
 pub(crate) fn kind_of(line: &Reading<'_, '_>) -> LineKind {
@@ -70,10 +69,7 @@ pub(crate) fn without_mode<'l, 's>(operand: &'l [Token<'s>]) -> &'l [Token<'s>] 
 }
 
 /// An operand that is missing.
-pub(crate) fn missing_operand<A: Allocator + Copy>(
-    scene: &Scene<'_, A>,
-    row: &Row<'_, '_>,
-) -> Answer<A> {
+pub(crate) fn missing_operand<'s>(row: &Row<'_, 's>) -> Told<'s> {
     let operands = operands_in(&row.reading);
     match at_comma(operands) {
         Some(found) => {
@@ -82,34 +78,31 @@ pub(crate) fn missing_operand<A: Allocator + Copy>(
             } else {
                 "nothing stands behind this comma"
             };
-            blamed_text(scene.alloc, row.span(found.comma), said)
+            told_text(row.span(found.comma), said)
         }
-        None => no_operand(scene.alloc, row, operands.is_empty()),
+        None => no_operand(row, operands.is_empty()),
     }
 }
 
 /// No operand after the word of a line, or one that is missing only once names are replaced.
-fn no_operand<A: Allocator>(alloc: A, row: &Row<'_, '_>, is_bare: bool) -> Answer<A> {
+fn no_operand<'s>(row: &Row<'_, 's>, is_bare: bool) -> Told<'s> {
     match row.reading.tokens {
         [word, ..] if is_bare => {
             let needs = match row.reading.word {
                 Some(Word::Org) => " needs the address of an instruction",
                 _ => " needs an operand",
             };
-            blamed_word(alloc, row.span(word), word.text, needs)
+            told_word(row.span(word), word.text, needs)
         }
         _ => {
             let said = "an operand is missing once the names of `EQU` lines are replaced";
-            blamed_text(alloc, row.whole(), said)
+            told_text(row.whole(), said)
         }
     }
 }
 
 /// A comma too many.
-pub(crate) fn extra_text<A: Allocator + Copy>(
-    scene: &Scene<'_, A>,
-    row: &Row<'_, '_>,
-) -> Answer<A> {
+pub(crate) fn extra_text(row: &Row<'_, '_>) -> Told<'static> {
     let operands = operands_in(&row.reading);
     let (most, extra) = match (kind_of(&row.reading), at_comma(operands)) {
         (LineKind::Operation, Some(first)) => (
@@ -119,10 +112,10 @@ pub(crate) fn extra_text<A: Allocator + Copy>(
         (_, first) => ("a comma: one expression stands here, and no more", first),
     };
     match extra {
-        Some(found) => blamed_text(scene.alloc, row.span(found.comma), most),
+        Some(found) => told_text(row.span(found.comma), most),
         None => {
             let said = "there is a comma too many once the names of `EQU` lines are replaced";
-            blamed_text(scene.alloc, row.spans(operands), said)
+            told_text(row.spans(operands), said)
         }
     }
 }

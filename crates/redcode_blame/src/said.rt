@@ -15,18 +15,6 @@ pub enum Part<'p> {
     Number(i64),
 }
 
-/// The sentence of these parts.
-pub(crate) fn sentence<A: Allocator>(
-    alloc: A,
-    parts: &[Part<'_>],
-) -> Result<Vec<u8, A>, AllocError> {
-    let mut sentence = Vec::new(alloc);
-    match say(&mut sentence, parts) {
-        Ok(()) => Ok(sentence),
-        Err(error) => Err(error),
-    }
-}
-
 /// Appends these parts to a sentence.
 pub fn say<A: Allocator>(sentence: &mut Vec<u8, A>, parts: &[Part<'_>]) -> Result<(), AllocError> {
     for part in parts {

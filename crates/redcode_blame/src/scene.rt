@@ -8,7 +8,7 @@ use redcode_lines::{
 };
 use redcode_text::Token;
 use std::alloc::{AllocError, Allocator};
-use war_types::{AsmFault, AsmKind, Settings};
+use war_types::{AsmKind, Settings};
 
 /// Bytes of the word `;assert`.
 const ASSERT_BYTES: u32 = 7;
@@ -33,13 +33,17 @@ impl<'s, A: Allocator + Copy> Scene<'s, A> {
         source: &'s [u8],
         settings: &'s Settings,
     ) -> Result<Scene<'s, A>, AllocError> {
-        Ok(Scene {
-            alloc,
-            source,
-            settings,
-            lines: lines_of(alloc, source)?,
-            expanded: expanded_of(alloc, region, source, settings)?,
-        })
+        let lines = lines_of(alloc, source)?;
+        match expanded_of(alloc, region, source, settings) {
+            Ok(expanded) => Ok(Scene {
+                alloc,
+                source,
+                settings,
+                lines,
+                expanded,
+            }),
+            Err(error) => Err(error),
+        }
     }
 
     /// How the line of this number stands in the source, if it says something.
@@ -121,13 +125,10 @@ fn expanded_of<'s, A: Allocator + Copy>(
 ) -> Result<Option<Expanded<'s, A>>, AllocError> {
     match expand(alloc, region, source, settings) {
         Ok(expanded) => Ok(Some(expanded)),
-        Err(
-            AsmFault {
-                kind: AsmKind::Memory,
-                ..
-            },
-        ) => Err(AllocError),
-        Err(_) => Ok(None),
+        Err(fault) => match fault.kind {
+            AsmKind::Memory => Err(AllocError),
+            _ => Ok(None),
+        },
     }
 }
 

@@ -1,6 +1,6 @@
 //! Tokens that make no expression.
 
-use crate::blame::{Answer, blamed_before, blamed_text, blamed_word};
+use crate::blame::{Told, told_before, told_text, told_word};
 use crate::equs::first_equ;
 use crate::scene::{Row, Scene};
 use redcode_lines::{Span, has_text, line_text, part_of};
@@ -148,68 +148,63 @@ fn unclosed<'l, 's>(tokens: &'l [Token<'s>]) -> Option<Flaw<'l, 's>> {
 }
 
 /// Tokens that make no expression.
-pub(crate) fn no_expression<A: Allocator + Copy>(
-    scene: &Scene<'_, A>,
-    row: &Row<'_, '_>,
-    shaped: Shaped<'_, '_>,
-) -> Answer<A> {
+pub(crate) fn no_expression<'s, A: Allocator + Copy>(
+    scene: &Scene<'s, A>,
+    row: &Row<'_, 's>,
+    shaped: Shaped<'_, 's>,
+) -> Told<'s> {
     match (shaped.operand, flaw_of(shaped.tokens)) {
         ([mode, ..], _) if shaped.tokens.is_empty() => {
             let said = "an expression is due behind ";
-            blamed_before(scene.alloc, row.spans(shaped.operand), said, mode.text)
+            told_before(row.spans(shaped.operand), said, mode.text)
         }
-        (_, Some(flaw)) => flawed(scene, row, flaw, shaped.may_part),
+        (_, Some(flaw)) => {
+            let text = line_text(scene.source, row.reading.number);
+            flawed(text, row, flaw, shaped.may_part)
+        }
         (_, None) => {
             let said = if first_equ(scene, shaped.tokens).is_some() {
                 "this is no expression once the names of `EQU` lines are replaced"
             } else {
                 "more than 64 parentheses, signs and `!` stand around a value"
             };
-            blamed_text(scene.alloc, row.spans(shaped.operand), said)
+            told_text(row.spans(shaped.operand), said)
         }
     }
 }
 
-/// A flaw of an expression.
-fn flawed<A: Allocator + Copy>(
-    scene: &Scene<'_, A>,
-    row: &Row<'_, '_>,
-    flaw: Flaw<'_, '_>,
-    may_part: bool,
-) -> Answer<A> {
-    let alloc = scene.alloc;
+/// A flaw of an expression in a line of this text.
+fn flawed<'s>(text: &'s [u8], row: &Row<'_, '_>, flaw: Flaw<'_, 's>, may_part: bool) -> Told<'s> {
     match flaw {
-        Flaw::SideBySide(first, second) => side_by_side(scene, row, first, second, may_part),
-        Flaw::Stranger(token) => stranger(alloc, row.span(token), token, may_part),
+        Flaw::SideBySide(first, second) => side_by_side(text, row, first, second, may_part),
+        Flaw::Stranger(token) => stranger(row.span(token), token, may_part),
         Flaw::Behind(token) => {
             let said = "`!` stands behind a value, and belongs before one";
-            blamed_text(alloc, row.span(token), said)
+            told_text(row.span(token), said)
         }
-        Flaw::Unopened(token) => blamed_text(alloc, row.span(token), "no `(` is open here"),
+        Flaw::Unopened(token) => told_text(row.span(token), "no `(` is open here"),
         Flaw::Unclosed(token) => {
             let said = "no `)` closes this within the expression";
-            blamed_text(alloc, row.span(token), said)
+            told_text(row.span(token), said)
         }
         Flaw::NoValue(token) => {
             let said = " stands where a value is due";
-            blamed_word(alloc, row.span(token), token.text, said)
+            told_word(row.span(token), token.text, said)
         }
-        Flaw::NoEnd(token) => {
-            blamed_before(alloc, row.span(token), "a value is due behind ", token.text)
-        }
+        Flaw::NoEnd(token) => told_before(row.span(token), "a value is due behind ", token.text),
     }
 }
 
 /// Two values without an operator between them.
-fn side_by_side<A: Allocator + Copy>(
-    scene: &Scene<'_, A>,
+fn side_by_side<'s>(
+    text: &'s [u8],
     row: &Row<'_, '_>,
     first: &Token<'_>,
     second: &Token<'_>,
     may_part: bool,
-) -> Answer<A> {
+) -> Told<'s> {
     let span = row.span(first).to(row.span(second));
-    let both = part_of(line_text(scene.source, row.reading.number), span);
+    let both = part_of(text, span);
     let said = match (first.kind, second.kind) {
         (TokenKind::Number, TokenKind::Name)
             if both.len() == first.text.len().saturating_add(second.text.len()) => {
@@ -218,16 +213,11 @@ fn side_by_side<A: Allocator + Copy>(
         _ if may_part => ": two values side by side; a comma between operands?",
         _ => ": two values side by side; an operator between them?",
     };
-    blamed_word(scene.alloc, span, both, said)
+    told_word(span, both, said)
 }
 
 /// A token that is no part of any expression.
-fn stranger<A: Allocator + Copy>(
-    alloc: A,
-    span: Span,
-    token: &Token<'_>,
-    may_part: bool,
-) -> Answer<A> {
+fn stranger<'s>(span: Span, token: &Token<'s>, may_part: bool) -> Told<'s> {
     let said = if has_text(token, b"&") {
         " joins a name to the counter of a block, and there is none here; `and` is `&&`"
     } else if mode_named(token.text).is_some() && may_part {
@@ -237,5 +227,5 @@ fn stranger<A: Allocator + Copy>(
     } else {
         " is no part of an expression"
     };
-    blamed_word(alloc, span, token.text, said)
+    told_word(span, token.text, said)
 }

@@ -1,6 +1,6 @@
 //! Statements that are none: tokens, operations and modifiers.
 
-use crate::blame::{Answer, blamed, blamed_text, blamed_word};
+use crate::blame::{Answer, END, Told, told_parts, told_text, told_word};
 use crate::nearest::{is_operation, nearest_word};
 use crate::said::Part;
 use crate::scene::{Row, Scene};
@@ -12,7 +12,7 @@ use std::alloc::{AllocError, Allocator};
 pub(crate) fn bad_token<'s, A: Allocator + Copy>(
     scene: &Scene<'s, A>,
     row: &Row<'_, 's>,
-) -> Answer<A> {
+) -> Told<'s> {
     if let ([name, sign, body @ ..], LineForm::Statement) = (row.reading.tokens, row.reading.form)
         && is_name(name)
         && has_text(sign, b"=")
@@ -20,10 +20,10 @@ pub(crate) fn bad_token<'s, A: Allocator + Copy>(
         return assigned(scene, row, name, sign, body);
     }
     match first_bad(row.reading.tokens) {
-        Some(token) => unknown_byte(scene.alloc, row.span(token), token.text),
+        Some(token) => unknown_byte(row.span(token), token.text),
         None => {
             let said = "the body of an `EQU` that is used here has a byte that is no symbol";
-            blamed_text(scene.alloc, row.whole(), said)
+            told_text(row.whole(), said)
         }
     }
 }
@@ -45,7 +45,7 @@ fn assigned<'s, A: Allocator + Copy>(
     name: &Token<'s>,
     sign: &Token<'_>,
     body: &[Token<'_>],
-) -> Answer<A> {
+) -> Told<'s> {
     let text = line_text(scene.source, row.reading.number);
     let value = match body {
         [] => b"0",
@@ -57,77 +57,53 @@ fn assigned<'s, A: Allocator + Copy>(
         Part::Text(" EQU "),
         Part::Bytes(value),
         Part::Text("`"),
+        END,
     ];
-    blamed(scene.alloc, row.span(sign), &parts)
+    let span = row.span(sign);
+    Told { span, parts }
 }
 
 /// A byte that is no symbol.
-fn unknown_byte<A: Allocator>(alloc: A, span: Span, text: &[u8]) -> Answer<A> {
+fn unknown_byte<'s>(span: Span, text: &'s [u8]) -> Told<'s> {
+    let said = " is no symbol; it may stand in a comment";
     match text {
-        [b'='] => blamed_text(
-            alloc,
-            span,
-            "`=` is no symbol; two values are compared by `==`",
-        ),
+        [b'='] => told_text(span, "`=` is no symbol; two values are compared by `==`"),
         [byte] if !byte.is_ascii_graphic() => {
-            let parts = [
-                Part::Text("the byte "),
-                Part::Number(i64::from(*byte)),
-                Part::Text(" is no symbol; it may stand in a comment"),
-            ];
-            blamed(alloc, span, &parts)
+            let number = Part::Number(i64::from(*byte));
+            told_parts(span, Part::Text("the byte "), number, Part::Text(said))
         }
-        _ => blamed_word(
-            alloc,
-            span,
-            text,
-            " is no symbol; it may stand in a comment",
-        ),
+        _ => told_word(span, text, said),
     }
 }
 
 /// Something else than an operation after the labels.
-pub(crate) fn bad_operation<A: Allocator + Copy>(
-    scene: &Scene<'_, A>,
-    row: &Row<'_, '_>,
-) -> Answer<A> {
+pub(crate) fn bad_operation<'s, A: Allocator + Copy>(alloc: A, row: &Row<'_, 's>) -> Answer<'s> {
     let front = front_of(row.reading.tokens);
-    match misspelt(scene.alloc, front) {
-        Ok(Some((token, word))) => nearly_operation(scene.alloc, row.span(token), token.text, word),
-        Ok(None) => no_operation(scene.alloc, row, front),
-        Err(error) => Err(error),
+    match misspelt(alloc, front)? {
+        Some((token, word)) => {
+            let is_none = Part::Text(" is no operation; did you mean ");
+            let (name, word) = (Part::Word(token.text), Part::Word(word));
+            let parts = [name, is_none, word, Part::Text("?"), END, END];
+            let span = row.span(token);
+            Ok(Told { span, parts })
+        }
+        None => Ok(no_operation(row, front)),
     }
 }
 
-/// A name that is nearly a reserved word.
-fn nearly_operation<'p, A: Allocator>(
-    alloc: A,
-    span: Span,
-    name: &'p [u8],
-    word: &'p [u8],
-) -> Answer<A> {
-    let parts = [
-        Part::Word(name),
-        Part::Text(" is no operation; did you mean "),
-        Part::Word(word),
-        Part::Text("?"),
-    ];
-    blamed(alloc, span, &parts)
-}
-
 /// No operation after the names at the front of a line, nor a word that is nearly one.
-fn no_operation<A: Allocator>(alloc: A, row: &Row<'_, '_>, front: &[Token<'_>]) -> Answer<A> {
+fn no_operation<'s>(row: &Row<'_, 's>, front: &[Token<'s>]) -> Told<'s> {
     match (front, row.reading.tokens) {
         ([], [first, ..]) => {
             let said = " stands where an operation is due";
-            blamed_word(alloc, row.span(first), first.text, said)
+            told_word(row.span(first), first.text, said)
         }
         ([.., last], _) if is_name(last) => {
-            blamed_word(alloc, row.span(last), last.text, " is no operation")
+            told_word(row.span(last), last.text, " is no operation")
         }
         _ => {
             let said = "no operation stands behind the labels; labels alone have no `:`";
-            blamed_text(alloc, row.whole(), said)
+            told_text(row.whole(), said)
         }
     }
 }
@@ -171,32 +147,29 @@ fn front_of<'t, 's>(tokens: &'t [Token<'s>]) -> &'t [Token<'s>] {
 }
 
 /// An instruction of P-space.
-pub(crate) fn pspace<A: Allocator + Copy>(scene: &Scene<'_, A>, row: &Row<'_, '_>) -> Answer<A> {
+pub(crate) fn pspace(row: &Row<'_, '_>) -> Told<'static> {
     let span = match row.reading.tokens {
         [word, ..] => row.span(word),
         [] => row.whole(),
     };
     let said = "there is no P-space here: `LDP`, `STP` and `PIN` are refused";
-    blamed_text(scene.alloc, span, said)
+    told_text(span, said)
 }
 
 /// A dot without a modifier's name.
-pub(crate) fn bad_modifier<A: Allocator + Copy>(
-    scene: &Scene<'_, A>,
-    row: &Row<'_, '_>,
-) -> Answer<A> {
+pub(crate) fn bad_modifier<'s>(row: &Row<'_, 's>) -> Told<'s> {
     match row.reading.tokens {
         [_, dot, name, ..] if has_text(dot, b".") => {
             let said = " is no modifier; they are A, B, AB, BA, F, X and I";
-            blamed_word(scene.alloc, row.span(name), name.text, said)
+            told_word(row.span(name), name.text, said)
         }
         [_, dot] if has_text(dot, b".") => {
             let said = "a modifier is due behind the dot: A, B, AB, BA, F, X or I";
-            blamed_text(scene.alloc, row.span(dot), said)
+            told_text(row.span(dot), said)
         }
         _ => {
             let said = "a dot in the body of an `EQU` that is used here has no modifier behind it";
-            blamed_text(scene.alloc, row.whole(), said)
+            told_text(row.whole(), said)
         }
     }
 }

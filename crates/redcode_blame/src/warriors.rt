@@ -1,9 +1,9 @@
 //! What is wrong with a warrior, or with a source as a whole.
 
-use crate::blame::{Answer, Blame, blamed, blamed_text};
+use crate::blame::{END, Told, told_text};
 use crate::judge::faulty_line;
 use crate::operands::operands_in;
-use crate::said::{Part, say, sentence};
+use crate::said::{Part, say};
 use crate::scene::{Row, Scene};
 use redcode_asm::said_by;
 use redcode_expand::{LineKind, SOURCE_LIMIT, predefined};
@@ -17,57 +17,57 @@ use war_types::{AsmFault, Settings};
 const NOWHERE: Span = Span { from: 0, width: 0 };
 
 /// A source of too many bytes.
-pub(crate) fn source_too_long<A: Allocator + Copy>(scene: &Scene<'_, A>) -> Answer<A> {
+pub(crate) fn source_too_long<A: Allocator + Copy>(scene: &Scene<'_, A>) -> Told<'static> {
     let parts = [
         Part::Text("the source has "),
         Part::Number(count_of(scene.source.len())),
         Part::Text(" bytes, and may have "),
         Part::Number(count_of(SOURCE_LIMIT)),
+        END,
+        END,
     ];
-    blamed(scene.alloc, NOWHERE, &parts)
+    let span = NOWHERE;
+    Told { span, parts }
 }
 
 /// A source without an instruction.
-pub(crate) fn empty<A: Allocator + Copy>(scene: &Scene<'_, A>) -> Answer<A> {
+pub(crate) fn empty<A: Allocator + Copy>(scene: &Scene<'_, A>) -> Told<'static> {
     let said = if scene.source.is_empty() {
         "the source is empty"
     } else {
         "no line of the source gives an instruction"
     };
-    blamed_text(scene.alloc, NOWHERE, said)
+    told_text(NOWHERE, said)
 }
 
 /// A warrior of too many instructions.
-pub(crate) fn too_long<A: Allocator + Copy>(scene: &Scene<'_, A>) -> Answer<A> {
+pub(crate) fn too_long<A: Allocator + Copy>(scene: &Scene<'_, A>) -> Told<'static> {
     let parts = [
         Part::Text("the warrior has "),
         Part::Number(instructions(scene)),
         Part::Text(" instructions, and may have "),
         Part::Number(i64::from(scene.settings.length())),
+        END,
+        END,
     ];
-    blamed(scene.alloc, NOWHERE, &parts)
+    let span = NOWHERE;
+    Told { span, parts }
 }
 
 /// A start that is no instruction.
-pub(crate) fn bad_start<A: Allocator + Copy>(scene: &Scene<'_, A>, row: &Row<'_, '_>) -> Answer<A> {
+pub(crate) fn bad_start<A: Allocator + Copy>(
+    scene: &Scene<'_, A>,
+    row: &Row<'_, '_>,
+) -> Told<'static> {
     let span = row.spans(operands_in(&row.reading));
     match start_on(scene, row.reading.number) {
-        Some(start) => start_outside(
-            scene.alloc,
-            span,
-            start,
-            instructions(scene).saturating_sub(1),
-        ),
-        None => blamed_text(
-            scene.alloc,
-            span,
-            "the start is no instruction of the warrior",
-        ),
+        Some(start) => start_outside(span, start, instructions(scene).saturating_sub(1)),
+        None => told_text(span, "the start is no instruction of the warrior"),
     }
 }
 
 /// A start that is none of the instructions up to the last one.
-fn start_outside<A: Allocator>(alloc: A, span: Span, start: i64, last: i64) -> Answer<A> {
+fn start_outside(span: Span, start: i64, last: i64) -> Told<'static> {
     let others = if last == 0 {
         ", and the only instruction is "
     } else {
@@ -78,26 +78,14 @@ fn start_outside<A: Allocator>(alloc: A, span: Span, start: i64, last: i64) -> A
         Part::Number(start),
         Part::Text(others),
         Part::Number(last),
+        END,
+        END,
     ];
-    blamed(alloc, span, &parts)
-}
-
-/// An assertion that doesn't hold.
-pub(crate) fn assert_false<A: Allocator + Copy>(
-    scene: &Scene<'_, A>,
-    row: &Row<'_, '_>,
-    fault: AsmFault,
-) -> Answer<A> {
-    let mut said = sentence(scene.alloc, &[Part::Text("the assertion doesn't hold")])?;
-    say_assertion(&mut said, scene, fault)?;
-    Ok(Blame {
-        span: row.spans(row.reading.tokens),
-        sentence: said,
-    })
+    Told { span, parts }
 }
 
 /// Says what stands in an assertion that doesn't hold.
-fn say_assertion<A: Allocator + Copy>(
+pub(crate) fn say_assertion<A: Allocator + Copy>(
     said: &mut Vec<u8, A>,
     scene: &Scene<'_, A>,
     fault: AsmFault,
