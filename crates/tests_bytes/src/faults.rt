@@ -1,5 +1,6 @@
 //! How faults are named and written.
 
+use crate::expecting::expect_same;
 use std::alloc::{AllocError, AllocFailed};
 use std::fmt::Display;
 use std::process::Abort;
@@ -8,7 +9,8 @@ use war_types::{AsmFault, AsmKind, ExprFault, SettingsFault};
 /// A fault is written so.
 fn expect_text(rt: &(impl Abort + AllocGlobal), fault: &impl Display, text: &str) {
     let written = fault.to_string(rt.alloc()).expect(rt, "there is memory");
-    assert_eq!(rt; written.as_str(), text);
+    expect_same(rt, written.as_str(), text);
+    drop(written);
 }
 
 /// Why a source is refused, by name.
@@ -36,7 +38,7 @@ const KINDS: [(AsmKind, &str); 20] = [
 ];
 
 fn expect_kind(rt: &(impl Abort + AllocGlobal), kind: AsmKind, name: &str) {
-    assert_eq!(rt; kind.name(), name);
+    expect_same(rt, kind.name(), name);
     expect_text(rt, &kind, name);
 }
 
@@ -56,7 +58,7 @@ const EXPRESSIONS: [(ExprFault, &str); 4] = [
 ];
 
 fn expect_expression(rt: &(impl Abort + AllocGlobal), fault: ExprFault, name: &str) {
-    assert_eq!(rt; fault.name(), name);
+    expect_same(rt, fault.name(), name);
     expect_text(rt, &fault, name);
 }
 
@@ -98,13 +100,18 @@ fn a_refusal_is_its_line_and_its_kind(rt: HostRuntime) {
     expect_text(&rt, &AsmFault::MEMORY, "0 Memory");
 }
 
-#[test]
-fn want_of_memory_is_a_refusal_of_no_line(rt: HostRuntime) {
+/// The refusal for want of memory.
+fn expect_memory(rt: &impl Abort, found: AsmFault) {
     let memory = AsmFault {
         line: 0,
         kind: AsmKind::Memory,
     };
-    assert_eq!(rt; AsmFault::from(AllocError), memory);
-    assert_eq!(rt; AsmFault::from(AllocFailed { value: 7u8 }), memory);
-    assert_eq!(rt; AsmFault::MEMORY, memory);
+    assert_eq!(rt; found, memory);
+}
+
+#[test]
+fn want_of_memory_is_a_refusal_of_no_line(rt: HostRuntime) {
+    expect_memory(&rt, AsmFault::from(AllocError));
+    expect_memory(&rt, AsmFault::from(AllocFailed { value: 7u8 }));
+    expect_memory(&rt, AsmFault::MEMORY);
 }

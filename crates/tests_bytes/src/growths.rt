@@ -1,5 +1,6 @@
 //! Headers and slots need no memory.
 
+use crate::expecting::{expect, expect_number};
 use crate::settings::settings_from;
 use hill_bytes::{
     Header, OldSlot, Slot, Wins, decode_header, decode_old_header, encode_header, encode_old_header,
@@ -30,27 +31,32 @@ fn capacity_in(rt: &impl Abort, bytes: &[u8; 512]) -> u16 {
 /// Slots of both formats hold the warrior, which has no results.
 fn expect_slot(rt: &impl Abort, warrior: &Warrior<&Refusing<Global>>) {
     let slot = Slot::encode(warrior, &[Wins::NONE; 21]);
-    assert!(rt; slot.results() == [Wins::NONE; 21]);
+    expect(rt, slot.results() == [Wins::NONE; 21], "results");
     let old = OldSlot {
         sectors: [slot.sectors[0], slot.sectors[3]],
     };
-    assert!(rt; old.widened().sectors == slot.sectors);
-    assert!(rt; Slot::blank().sectors != slot.sectors);
+    expect(
+        rt,
+        old.widened().sectors == slot.sectors,
+        "a slot of the old format",
+    );
+    expect(rt, Slot::blank().sectors != slot.sectors, "no blank slot");
 }
 
 /// A warrior of one instruction, which has its memory from here.
 fn warrior_in<'m>(rt: &impl Abort, memory: &'m Refusing<Global>) -> Warrior<&'m Refusing<Global>> {
     let code = Vec::from_slice(memory, &[IMP]).expect(rt, "there is memory");
-    let (name, author) = (Title::new(b"", "Unnamed"), Title::new(b"", "Anonymous"));
+    let name = Title::new(b"", "Unnamed");
+    let author = Title::new(b"", "Anonymous");
     Warrior::new(code, 0, name, author, &settings_from(rt, SMALL)).expect(rt, "it fits")
 }
 
 /// With every growth refused, headers and the slots of a warrior are made and read.
 fn expect_bytes(rt: &impl Abort, memory: &Refusing<Global>, warrior: &Warrior<&Refusing<Global>>) {
     memory.refuse(0, u64::MAX);
-    assert_eq!(rt; header_in_both(rt), (0, 2));
+    expect(rt, header_in_both(rt) == (0, 2), "headers");
     expect_slot(rt, warrior);
-    assert_eq!(rt; memory.refused(), 0);
+    expect_number(rt, memory.refused(), 0, "growths refused");
     memory.refuse(0, 0);
 }
 

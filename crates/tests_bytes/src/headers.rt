@@ -1,5 +1,6 @@
 //! The bytes of a header, and what is no header.
 
+use crate::expecting::expect;
 use crate::settings::{of_length, settings_from};
 use hill_bytes::{
     Header, HeaderEntry, decode_header, decode_old_header, encode_header, encode_old_header,
@@ -82,8 +83,8 @@ fn set(bytes: &mut [u8; 512], at: usize, byte: u8) {
 /// What is read of the header of two warriors: its generation, its counter, and the capacity.
 fn expect_both(rt: &impl Abort, read: &Header) {
     let numbers = (read.generation(), read.counter(), capacity_of(read));
-    assert_eq!(rt; numbers, (2, 2, 2));
-    assert_eq!(rt; read.entries(), BOTH.as_slice());
+    expect(rt, numbers == (2, 2, 2), "numbers");
+    expect(rt, read.entries() == BOTH.as_slice(), "entries");
 }
 
 fn capacity_of(header: &Header) -> u16 {
@@ -93,13 +94,17 @@ fn capacity_of(header: &Header) -> u16 {
 #[test]
 fn a_header_is_written_and_read(rt: HostRuntime) {
     let bytes = bytes_of(&rt, SMALL);
-    assert!(rt; bytes == sector_of_two());
-    expect_both(&rt, &decode_header(&bytes).expect(&rt, "its header"));
-    // After the entries.
-    assert!(rt; !is_header_with(&bytes, 511, 1));
+    expect(&rt, bytes == sector_of_two(), "its sector");
+    expect_read(&rt, &bytes);
+}
+
+/// These are the header of two warriors, and no header once they have another byte.
+fn expect_read(rt: &impl Abort, bytes: &[u8; 512]) {
+    expect_both(rt, &decode_header(bytes).expect(rt, "its header"));
+    expect(rt, !is_header_with(bytes, 511, 1), "after the entries");
     // Earlier hills, which kept no results, began otherwise.
-    assert!(rt; !is_header_with(&bytes, 7, b'0'));
-    assert!(rt; !is_header(&[0; 512]));
+    expect(rt, !is_header_with(bytes, 7, b'0'), "of an earlier hill");
+    expect(rt, !is_header(&[0; 512]), "of no hill");
 }
 
 fn limited(read_limit: u32, write_limit: u32) -> RawSettings {
@@ -122,27 +127,44 @@ fn limits_of(bytes: &[u8; 512]) -> Option<(u16, u16)> {
 #[test]
 fn limits_in_a_header(rt: HostRuntime) {
     let bytes = bytes_of(&rt, limited(64, 64));
-    assert!(rt; bytes == sector_of_two());
-    let bytes = bytes_of(&rt, limited(16, 8));
-    assert_eq!(rt; limits_in(&bytes), [0, 16, 0, 8]);
-    assert_eq!(rt; limits_of(&bytes), Some((16, 8)));
-    expect_no_limits(&rt, &bytes);
+    expect(&rt, bytes == sector_of_two(), "limits of the core size");
+    expect_limits(&rt, &bytes_of(&rt, limited(16, 8)));
+}
+
+/// The limits in this header are 16 and 8.
+fn expect_limits(rt: &impl Abort, bytes: &[u8; 512]) {
+    expect(rt, limits_in(bytes) == [0, 16, 0, 8], "the bytes of limits");
+    expect(rt, limits_of(bytes) == Some((16, 8)), "limits");
+    expect_no_limits(rt, bytes);
 }
 
 /// The core size is no limit in a header, nor is what doesn't divide it.
 fn expect_no_limits(rt: &impl Abort, bytes: &[u8; 512]) {
     let mut other = *bytes;
     set(&mut other, 37, 64);
-    assert!(rt; !is_header(&other));
+    expect(rt, !is_header(&other), "a limit of the core size");
     set(&mut other, 37, 0);
-    assert!(rt; is_header(&other));
+    expect(rt, is_header(&other), "no limit");
     set(&mut other, 39, 10);
-    assert!(rt; !is_header(&other));
+    expect(rt, !is_header(&other), "a limit that divides nothing");
 }
 
-/// Whether there is a header of this generation, this counter and these warriors.
-fn is_made(settings: Settings, generation: u64, counter: u64, entries: &[HeaderEntry]) -> bool {
-    Header::new(generation, settings, counter, entries).is_some()
+/// Whether there is a header of this generation, this counter and these warriors is as is due.
+fn expect_made(
+    rt: &impl Abort,
+    settings: Settings,
+    generation: u64,
+    counter: u64,
+    entries: &[HeaderEntry],
+    due: bool,
+) {
+    let is_made = Header::new(generation, settings, counter, entries).is_some();
+    expect(rt, is_made == due, "a header");
+}
+
+/// There is no header of the generation 2, the counter 2 and these warriors.
+fn expect_none(rt: &impl Abort, settings: Settings, entries: &[HeaderEntry]) {
+    expect_made(rt, settings, 2, 2, entries, false);
 }
 
 const THIRD: HeaderEntry = HeaderEntry {
@@ -162,28 +184,34 @@ const SAME: HeaderEntry = HeaderEntry { slot: 0, ..SECOND };
 
 #[test]
 fn headers_that_are_none(rt: HostRuntime) {
-    let settings = settings_from(&rt, SMALL);
-    assert!(rt; !is_made(settings, 1, 2, &[]));
-    assert!(rt; !is_made(settings, 2, 2, &[ZERO]));
-    assert!(rt; !is_made(settings, 2, 2, &[OLD]));
-    assert!(rt; !is_made(settings, 2, 2, &[FAR]));
-    assert!(rt; !is_made(settings, 2, 2, &[THIRD]));
-    assert!(rt; !is_made(settings, 2, 2, &[FIRST, SAME]));
-    assert!(rt; !is_made(settings, 2, 2, &[SECOND, FIRST]));
-    assert!(rt; !is_made(settings, 3, 3, &[FIRST, SECOND, THIRD]));
-    assert!(rt; is_made(settings, 3, 3, &[FIRST, THIRD]));
+    expect_headers(&rt, settings_from(&rt, SMALL));
+}
+
+fn expect_headers(rt: &impl Abort, settings: Settings) {
+    expect_made(rt, settings, 1, 2, &[], false);
+    expect_none(rt, settings, &[ZERO]);
+    expect_none(rt, settings, &[OLD]);
+    expect_none(rt, settings, &[FAR]);
+    expect_none(rt, settings, &[THIRD]);
+    expect_none(rt, settings, &[FIRST, SAME]);
+    expect_none(rt, settings, &[SECOND, FIRST]);
+    expect_made(rt, settings, 3, 3, &[FIRST, SECOND, THIRD], false);
+    expect_made(rt, settings, 3, 3, &[FIRST, THIRD], true);
 }
 
 /// In the old format one byte is another. Each format reads its own headers alone.
 #[test]
 fn a_header_in_the_old_format(rt: HostRuntime) {
-    let bytes = old_bytes_of(&rt, SMALL);
-    let mut expected = bytes_of(&rt, SMALL);
-    assert!(rt; !is_old_header(&expected));
+    expect_old(&rt, &old_bytes_of(&rt, SMALL), bytes_of(&rt, SMALL));
+}
+
+/// These are the header of two warriors in the old format, and those in the new one.
+fn expect_old(rt: &impl Abort, bytes: &[u8; 512], mut expected: [u8; 512]) {
+    expect(rt, !is_old_header(&expected), "a header in the new format");
     set(&mut expected, 7, b'1');
-    assert!(rt; bytes == expected);
-    assert!(rt; !is_header(&bytes));
-    expect_both(&rt, &decode_old_header(&bytes).expect(&rt, "its header"));
+    expect(rt, *bytes == expected, "one byte is another");
+    expect(rt, !is_header(bytes), "a header in the old format");
+    expect_both(rt, &decode_old_header(bytes).expect(rt, "its header"));
 }
 
 /// The length of the warriors of a hill that a header is of.
@@ -204,14 +232,19 @@ fn expect_length(rt: &impl Abort, length: u16, room: bool) {
     let bytes = encode_header(&header);
     drop(header);
     expect_length_in(rt, &bytes, length);
-    let rooms = (has_room, is_old_header_with(&bytes, 7, b'1'));
-    assert_eq!(rt; rooms, (room, room), "{length}");
+    expect_room(rt, has_room, room, length);
+    expect_room(rt, is_old_header_with(&bytes, 7, b'1'), room, length);
+}
+
+/// The old format has room for this length, or it has none.
+fn expect_room(rt: &impl Abort, found: bool, room: bool, length: u16) {
+    assert!(rt; found == room, "{length}");
 }
 
 /// The bytes of a header have this length.
 fn expect_length_in(rt: &impl Abort, bytes: &[u8; 512], length: u16) {
-    let found = (u16::from(bytes[25]), length_of(bytes));
-    assert_eq!(rt; found, (length, Some(length)));
+    expect(rt, u16::from(bytes[25]) == length, "the byte of a length");
+    expect(rt, length_of(bytes) == Some(length), "a length");
 }
 
 /// A slot of the old format has no room for more than 100 instructions.
@@ -226,11 +259,19 @@ fn lengths_in_a_header(rt: HostRuntime) {
 /// One byte makes it none: after the entries, of what it begins with, and of a limit.
 #[test]
 fn bytes_that_are_no_old_header(rt: HostRuntime) {
-    let bytes = old_bytes_of(&rt, of_length(100));
-    assert!(rt; !is_old_header_with(&bytes, 511, 1));
-    assert!(rt; !is_old_header_with(&bytes, 7, b'0'));
-    assert!(rt; !is_old_header_with(&bytes, 7, b'3'));
-    assert!(rt; !is_old_header_with(&bytes, 36, 1));
-    assert!(rt; is_old_header(&bytes));
-    assert!(rt; !is_old_header(&[0; 512]));
+    expect_no_other(&rt, &old_bytes_of(&rt, of_length(100)));
+}
+
+/// These are a header in the old format, and none once one byte is another.
+fn expect_no_other(rt: &impl Abort, bytes: &[u8; 512]) {
+    expect(rt, !is_old_header_with(bytes, 511, 1), "after the entries");
+    expect(
+        rt,
+        !is_old_header_with(bytes, 7, b'0'),
+        "of an earlier hill",
+    );
+    expect(rt, !is_old_header_with(bytes, 7, b'3'), "of a later hill");
+    expect(rt, !is_old_header_with(bytes, 36, 1), "a limit");
+    expect(rt, is_old_header(bytes), "a header");
+    expect(rt, !is_old_header(&[0; 512]), "of no hill");
 }

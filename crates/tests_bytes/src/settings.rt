@@ -1,5 +1,6 @@
 //! Which settings are accepted, and which fields they give.
 
+use crate::expecting::expect;
 use std::process::Abort;
 use tests_fixtures::{SMALL, small};
 use war_types::{RawSettings, Settings, SettingsFault};
@@ -18,7 +19,7 @@ pub(crate) fn of_length(length: u32) -> RawSettings {
 
 /// What is said of settings, or nothing if they are accepted.
 pub(crate) fn expect_fault(rt: &impl Abort, raw: &RawSettings, fault: Option<SettingsFault>) {
-    assert_eq!(rt; Settings::new(*raw).err(), fault, "{raw:?}");
+    assert!(rt; Settings::new(*raw).err() == fault, "{raw:?}");
 }
 
 /// The fields that settings give.
@@ -39,7 +40,7 @@ fn fields_of(settings: &Settings) -> RawSettings {
 
 /// Settings of these fields give those.
 fn expect_fields(rt: &impl Abort, raw: RawSettings, fields: RawSettings) {
-    assert_eq!(rt; fields_of(&settings_from(rt, raw)), fields);
+    expect(rt, fields_of(&settings_from(rt, raw)) == fields, "fields");
 }
 
 #[test]

@@ -1,5 +1,6 @@
 //! The sectors of a slot, and what is no slot's.
 
+use crate::expecting::{expect, expect_bytes};
 use crate::settings::{of_length, settings_from};
 use crate::warriors::expect_parts;
 use hill_bytes::{OldSlot, Slot, Wins};
@@ -82,13 +83,16 @@ fn expect_imp(rt: &impl Abort, warrior: &Warrior<Global>) {
 
 #[test]
 fn a_slot_is_read_and_written(rt: HostRuntime) {
-    let slot = stored();
-    let warrior = read(&rt, &settings_from(&rt, SMALL), &slot);
-    expect_imp(&rt, &warrior);
-    let results = results();
-    assert!(rt; has_results(&slot, &results));
-    assert!(rt; is_stored_as(&warrior, &results, &slot));
+    let warrior = read(&rt, &settings_from(&rt, SMALL), &stored());
+    expect_slot(&rt, &warrior, &stored(), &results());
     drop(warrior);
+}
+
+/// The warrior and the results are those of the slot.
+fn expect_slot(rt: &impl Abort, warrior: &Warrior<Global>, slot: &Slot, results: &[Wins; 21]) {
+    expect_imp(rt, warrior);
+    expect(rt, has_results(slot, results), "results");
+    expect(rt, is_stored_as(warrior, results, slot), "a slot");
 }
 
 /// Whether a slot holds a warrior.
@@ -109,17 +113,28 @@ fn expect_spoilt(
 ) {
     let mut slot = stored();
     put(slot.sectors.get_mut(n).expect(rt, "a sector"), at, &[byte]);
-    let holds = is_warrior(rt, settings, &slot);
+    expect_no_warrior(rt, is_warrior(rt, settings, &slot), n, at, byte);
+}
+
+/// A slot with this byte holds no warrior.
+fn expect_no_warrior(rt: &impl Abort, holds: bool, n: usize, at: usize, byte: u8) {
     assert!(rt; !holds, "{byte} at {at} of sector {n}");
 }
 
 #[test]
 fn sectors_that_hold_no_warrior(rt: HostRuntime) {
-    let settings = settings_from(&rt, SMALL);
-    assert!(rt; !is_warrior(&rt, &settings, &Slot::blank()));
-    assert!(rt; is_warrior(&rt, &settings, &stored()));
+    expect_no_warriors(&rt, &settings_from(&rt, SMALL));
+}
+
+fn expect_no_warriors(rt: &(impl Abort + AllocGlobal), settings: &Settings) {
+    expect(
+        rt,
+        !is_warrior(rt, settings, &Slot::blank()),
+        "a blank slot",
+    );
+    expect(rt, is_warrior(rt, settings, &stored()), "the slot");
     for (n, at, byte) in &SPOILT {
-        expect_spoilt(&rt, &settings, *n, *at, *byte);
+        expect_spoilt(rt, settings, *n, *at, *byte);
     }
 }
 
@@ -162,13 +177,14 @@ fn counted(rt: &(impl Abort + AllocGlobal), length: u16) -> Warrior<Global> {
     Warrior::new(code, start, name, author, &settings).expect(rt, "it fits")
 }
 
-/// Four bytes of a sector from one on.
+/// Four bytes of a sector from one on, if it has them.
 fn four_at(sector: &[u8; 512], at: usize) -> Option<&[u8]> {
     sector.get(at..)?.get(..4)
 }
 
 fn expect_four(rt: &impl Abort, sector: &[u8; 512], at: usize, due: [u8; 4]) {
-    assert_eq!(rt; four_at(sector, at), Some(due.as_slice()));
+    let found = four_at(sector, at).expect(rt, "four bytes");
+    expect_bytes(rt, found, due.as_slice());
 }
 
 /// Where both numbers of an instruction are in a slot: the sector, the place, and the B-number. The A-number is zero.
@@ -194,7 +210,7 @@ fn expect_longest(rt: &impl Abort, slot: &Slot) {
         let sector = slot.sectors.get(*n).expect(rt, "a sector");
         expect_four(rt, sector, *at, [0, 0, 0, *number]);
     }
-    assert!(rt; is_zero_between(&slot.sectors[3]));
+    expect(rt, is_zero_between(&slot.sectors[3]), "between");
     expect_four(rt, &slot.sectors[3], 288, [0, 200, 0, 199]);
 }
 
@@ -211,7 +227,7 @@ fn the_longest_warrior(rt: HostRuntime) {
 
 /// Both warriors have one code.
 fn expect_same_code(rt: &impl Abort, found: &Warrior<Global>, due: &Warrior<Global>) {
-    assert_eq!(rt; found.code(), due.code());
+    expect(rt, found.code() == due.code(), "one code");
 }
 
 /// A slot in the old format: the second sector has its code, and then the fields of the last one.
@@ -239,10 +255,14 @@ fn is_widened_to(old: &OldSlot, slot: &Slot) -> bool {
 /// In the old format instructions 64 to 99 stand in front of the fields.
 #[test]
 fn a_slot_of_the_old_format(rt: HostRuntime) {
-    let slot = slot_of_hundred(&rt);
-    let old = narrowed(&slot);
-    expect_four(&rt, &old.sectors[1], 4, [0, 0, 0, 64]);
-    expect_four(&rt, &old.sectors[1], 284, [0, 0, 0, 99]);
-    expect_four(&rt, &old.sectors[1], 288, [0, 100, 0, 99]);
-    assert!(rt; is_widened_to(&old, &slot));
+    expect_old_slot(&rt, &slot_of_hundred(&rt));
+}
+
+/// The slot in the old format that holds the same as this one.
+fn expect_old_slot(rt: &impl Abort, slot: &Slot) {
+    let old = narrowed(slot);
+    expect_four(rt, &old.sectors[1], 4, [0, 0, 0, 64]);
+    expect_four(rt, &old.sectors[1], 284, [0, 0, 0, 99]);
+    expect_four(rt, &old.sectors[1], 288, [0, 100, 0, 99]);
+    expect(rt, is_widened_to(&old, slot), "the same slot");
 }

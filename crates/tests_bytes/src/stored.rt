@@ -1,5 +1,6 @@
 //! Instructions and titles as they are stored.
 
+use crate::expecting::{expect, expect_bytes};
 use std::process::Abort;
 use tests_fixtures::{IMP, STAY, instruction};
 use war_types::{Instr, Title};
@@ -15,8 +16,9 @@ const STORED: [(Instr, [u8; 8]); 3] = [
 ];
 
 fn expect_stored(rt: &impl Abort, instr: Instr, bytes: [u8; 8]) {
-    let found = (instr.to_bytes(), Instr::from_bytes(&bytes, 8000));
-    assert_eq!(rt; found, (bytes, Some(instr)));
+    let is_read = Instr::from_bytes(&bytes, 8000) == Some(instr);
+    expect(rt, instr.to_bytes() == bytes, "bytes");
+    expect(rt, is_read, "an instruction");
     expect_codes(rt, instr, &bytes[..4]);
 }
 
@@ -28,7 +30,7 @@ fn expect_codes(rt: &impl Abort, instr: Instr, due: &[u8]) {
         instr.a_mode.code(),
         instr.b_mode.code(),
     ];
-    assert_eq!(rt; codes.as_slice(), due);
+    expect_bytes(rt, codes.as_slice(), due);
 }
 
 #[test]
@@ -44,7 +46,7 @@ fn expect_none(rt: &impl Abort, at: usize, byte: u8) {
     if let Some(place) = bytes.get_mut(at) {
         *place = byte;
     }
-    assert_eq!(rt; Instr::from_bytes(&bytes, 8000), None, "{byte} at {at}");
+    assert!(rt; is_none(&bytes, 8000), "{byte} at {at}");
 }
 
 #[test]
@@ -60,10 +62,15 @@ fn bytes_that_are_no_instruction(rt: HostRuntime) {
 #[test]
 fn numbers_that_are_not_below_the_core_size(rt: HostRuntime) {
     let mut bytes = NOP.to_bytes();
-    assert_eq!(rt; Instr::from_bytes(&bytes, 7999), None);
+    expect(&rt, is_none(&bytes, 7999), "7999");
     bytes[6] = 0x1F;
     bytes[7] = 0x40;
-    assert_eq!(rt; Instr::from_bytes(&bytes, 8000), None);
+    expect(&rt, is_none(&bytes, 8000), "8000");
+}
+
+/// Whether these bytes are no instruction in a core of this size.
+fn is_none(bytes: &[u8; 8], core: u16) -> bool {
+    Instr::from_bytes(bytes, core).is_none()
 }
 
 /// A title of these bytes and then zeros, if there is one.
@@ -80,20 +87,30 @@ fn read(front: &[u8], at: usize, byte: u8) -> Option<Title> {
 
 #[test]
 fn titles_are_read(rt: HostRuntime) {
-    let title = read(b"I ", 2, b'~').expect(&rt, "a title");
-    assert_eq!(rt; title.bytes(), b"I ~".as_slice());
+    expect_title(&rt, read(b"I ", 2, b'~'), b"I ~");
     let whole = [b'a'; 48];
-    let title = Title::read(&whole).expect(&rt, "a title");
-    assert_eq!(rt; title.bytes(), whole.as_slice());
+    expect_title(&rt, Title::read(&whole), &whole);
+}
+
+/// A title is read, and these are its bytes.
+fn expect_title(rt: &impl Abort, title: Option<Title>, bytes: &[u8]) {
+    let title = title.expect(rt, "a title");
+    expect_bytes(rt, title.bytes(), bytes);
 }
 
 /// Places and bytes with which `I ~` and zeros are no title.
 const NO_TITLES: [(usize, u8); 5] = [(4, b'x'), (47, b'x'), (3, 1), (3, 0x7F), (0, 0)];
 
+/// The text with this byte is no title.
+fn expect_no_title(rt: &impl Abort, at: usize, byte: u8) {
+    let is_title = read(b"I ~", at, byte).is_some();
+    assert!(rt; !is_title, "{byte} at {at}");
+}
+
 #[test]
 fn bytes_that_are_no_title(rt: HostRuntime) {
-    assert!(rt; read(b"", 0, 0).is_none());
+    expect(&rt, read(b"", 0, 0).is_none(), "zeros");
     for (at, byte) in &NO_TITLES {
-        assert!(rt; read(b"I ~", *at, *byte).is_none(), "{byte} at {at}");
+        expect_no_title(&rt, *at, *byte);
     }
 }

@@ -1,5 +1,6 @@
 //! What a text becomes as a title.
 
+use crate::expecting::expect_bytes;
 use std::process::Abort;
 use war_types::Title;
 
@@ -26,7 +27,7 @@ const SHOWN: [(&[u8], &[u8]); 13] = [
 
 /// A text becomes this title.
 fn expect_title(rt: &impl Abort, text: &[u8], title: &[u8]) {
-    assert_eq!(rt; unnamed_or(text).bytes(), title, "{text:?}");
+    assert!(rt; unnamed_or(text).bytes() == title, "{text:?}");
 }
 
 #[test]
@@ -58,7 +59,8 @@ fn letters_with(at: usize, byte: u8) -> [u8; 60] {
 
 /// A text becomes the first 48 of these letters.
 fn expect_cut(rt: &impl Abort, text: &[u8], letters: &[u8]) {
-    assert_eq!(rt; Some(unnamed_or(text).bytes()), letters.get(..48));
+    let due = letters.get(..48).expect(rt, "48 letters");
+    expect_bytes(rt, unnamed_or(text).bytes(), due);
 }
 
 /// A blank in front is cut off before the text is cut, and one at the end of a title stays.

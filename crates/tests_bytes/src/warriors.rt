@@ -1,5 +1,6 @@
 //! Which warriors fit settings.
 
+use crate::expecting::{expect, expect_bytes};
 use crate::titles::unnamed_or;
 use std::alloc::{AllocError, Global};
 use std::process::Abort;
@@ -32,15 +33,14 @@ pub(crate) fn expect_parts(
     name: &[u8],
     author: &[u8],
 ) {
-    assert_eq!(rt; (warrior.code(), warrior.start()), (code, start));
+    expect(rt, warrior.code() == code, "its code");
+    expect(rt, warrior.start() == start, "its start");
     expect_titles(rt, warrior, name, author);
 }
 
 fn expect_titles(rt: &impl Abort, warrior: &Warrior<Global>, name: &[u8], author: &[u8]) {
-    assert_eq!(rt;
-        (warrior.name().bytes(), warrior.author().bytes()),
-        (name, author)
-    );
+    expect_bytes(rt, warrior.name().bytes(), name);
+    expect_bytes(rt, warrior.author().bytes(), author);
 }
 
 #[test]
@@ -92,9 +92,13 @@ fn fits(rt: &(impl Abort + AllocGlobal), count: usize, start: u16, last: Instr) 
 fn expect_fitting(rt: &(impl Abort + AllocGlobal), fitting: &Fitting) {
     let (count, start, last, is_due) = *fitting;
     let fits = fits(rt, count, start, last);
-    assert_eq!(rt;
-        fits,
-        is_due,
+    expect_fits(rt, fits == is_due, count, start, last);
+}
+
+/// Whether `count` instructions fit that start at `start` and end with `last` is as is due.
+fn expect_fits(rt: &impl Abort, is_right: bool, count: usize, start: u16, last: Instr) {
+    assert!(rt;
+        is_right,
         "{count} instructions, start {start}, last {last:?}"
     );
 }

@@ -11,8 +11,8 @@
 //! - `tables`: macros by which tests write their tables.
 //!
 //! What one growth does to a `Plan` is proved. No contract says what a cell holds, so that `Refusing` follows its plan,
-//! and that it gives memory back, are shown by tests alone: each test that refuses growths pins their count. Nor does one say what the
-//! streams do beyond the contracts of the traits: the tests that use them pin it.
+//! and that it gives memory back, are shown by tests alone: `refusing` of `tests_bytes`, and each test that refuses growths pins their
+//! count. Nor does one say what the streams do beyond the contracts of the traits: the tests that use them pin it.
 #![tactic(auto)]
 
 ghost use Rattle.std.specs.Prelude.{◌≤◌};
@@ -121,6 +121,3 @@ pub fn refuse_each<B: Allocator, F: FnMut(u64)>(memory: &Refusing<B>, mut call: 
     memory.refuse(0, 0);
     MOST_RUNS
 }
-
-#[cfg(test)]
-mod tests;

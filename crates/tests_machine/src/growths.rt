@@ -1,5 +1,7 @@
 //! Growths that are refused: which calls take memory, how often, and which need none.
 
+ghost use Rattle.std.specs.Prelude.{◌≡◌, ◌≤◌};
+
 use crate::expecting::expect_same;
 use crate::hill::challenge;
 use koth_hill::Hill;
@@ -56,23 +58,43 @@ fn a_new_arena(rt: HostRuntime) {
     expect_same(&rt, &runs, &5, "runs");
 }
 
-#[test]
-fn matches_and_rounds_need_none(rt: HostRuntime) {
-    let memory = Refusing::new(rt.alloc());
-    let settings = Settings::new(SMALL).expect(&rt, "they are settings");
-    assert!(rt; settings.core() >= 21, "they have no room");
-    let older = warrior(rt.alloc(), &[IMP], &settings).expect(&rt, "it fits");
-    let younger = warrior(rt.alloc(), &[STAY], &settings).expect(&rt, "it fits");
-    let mut arena = Arena::new(&memory, &settings).expect(&rt, "there is memory");
+/// How a round ends in this arena, and the ties of a match there, with every growth refused.
+fn end_without<'m>(
+    rt: &(impl Abort + AllocGlobal),
+    memory: &'m Refusing<Global>,
+    arena: &mut Arena<&'m Refusing<Global>>,
+    settings: &Settings,
+) -> (Outcome, u16)
+    requires settings { arena.old.settings ≡ settings.now }
+    requires room { 21 ≤ settings.now.core }
+{
+    let older = warrior(rt.alloc(), &[IMP], settings).expect(rt, "it fits");
+    let younger = warrior(rt.alloc(), &[STAY], settings).expect(rt, "it fits");
     memory.refuse(0, u64::MAX);
-    let bout = fight(&mut arena, &older, &younger, &settings);
+    let bout = fight(arena, &older, &younger, settings);
     arena.begin(&older, &younger, 20, Side::First);
     arena.turn();
     let outcome = arena.play();
-    drop(arena);
     drop(younger);
     drop(older);
-    let found = (outcome, bout.ties, memory.refused());
+    (outcome, bout.ties)
+}
+
+/// The same in a new arena.
+fn end_in(rt: &(impl Abort + AllocGlobal), memory: &Refusing<Global>) -> (Outcome, u16) {
+    let settings = Settings::new(SMALL).expect(rt, "they are settings");
+    assert!(rt; settings.core() >= 21, "they have no room");
+    let mut arena = Arena::new(memory, &settings).expect(rt, "there is memory");
+    let found = end_without(rt, memory, &mut arena, &settings);
+    drop(arena);
+    found
+}
+
+#[test]
+fn matches_and_rounds_need_none(rt: HostRuntime) {
+    let memory = Refusing::new(rt.alloc());
+    let (outcome, ties) = end_in(&rt, &memory);
+    let found = (outcome, ties, memory.refused());
     drop(memory);
     expect_same(&rt, &found, &(Outcome::Tie, 2, 0), "without memory");
 }

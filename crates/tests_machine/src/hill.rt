@@ -3,7 +3,7 @@ ghost use Rattle.koth_hill.specs.Hill.{last_entry};
 ghost use Rattle.koth_match.specs.Match.{rounds_in};
 ghost use Rattle.war_types.specs.Warrior.{Fits};
 
-use crate::expecting::expect_same;
+use crate::expecting::{expect, expect_same};
 use koth_hill::{Hill, Row, Verdict};
 use koth_match::Bout;
 use mars_core::Arena;
@@ -336,13 +336,20 @@ fn check_challenge(rt: &impl Abort, found: &Verdict) {
 fn judged_by_what_is_kept(rt: HostRuntime) {
     let mut hill = hill_put_back(&rt, bout(0, 2, 0));
     let mut arena = Arena::new(rt.alloc(), hill.settings()).expect(&rt, "there is memory");
-    let challenger = warrior(rt.alloc(), &[STAY], hill.settings()).expect(&rt, "it fits");
-    let found = challenge(&rt, &mut hill, &mut arena, challenger);
-    check_challenge(&rt, &found);
-    check_results(&rt, &hill, Some(bout(0, 2, 0)), None);
-    check_rows(&rt, &hill, &[(6, 6, 0), (5, 0, 1)]);
-    assert!(rt; hill.audit(&mut arena));
-    drop(found);
+    check_judged(&rt, &mut hill, &mut arena);
     drop(arena);
     drop(hill);
+}
+
+/// One that stays comes to such a hill.
+fn check_judged(rt: &(impl Abort + AllocGlobal), hill: &mut Hill<Global>, arena: &mut Arena<Global>)
+    requires { arena.old.settings ≡ hill.old.settings }
+{
+    let challenger = warrior(rt.alloc(), &[STAY], hill.settings()).expect(rt, "it fits");
+    let found = challenge(rt, hill, arena, challenger);
+    check_challenge(rt, &found);
+    drop(found);
+    check_results(rt, hill, Some(bout(0, 2, 0)), None);
+    check_rows(rt, hill, &[(6, 6, 0), (5, 0, 1)]);
+    expect(rt, hill.audit(arena), "an audit");
 }

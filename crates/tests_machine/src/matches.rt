@@ -1,6 +1,9 @@
+ghost use Rattle.std.specs.Prelude.{◌≡◌};
+
 use crate::expecting::expect_same;
-use koth_match::{fight, next_seed, position};
+use koth_match::{Bout, fight, next_seed, position};
 use mars_core::Arena;
+use std::alloc::Global;
 use std::process::Abort;
 use tests_fixtures::{
     BACK, DIE, IMP, LARGEST, SMALL, STAY, USUAL, dat, instruction, rows, small, warrior,
@@ -52,6 +55,26 @@ fn positions(rt: HostRuntime) {
 /// Won by the older, won by the younger, and ties.
 type Counts = (u16, u16, u16);
 
+/// Two matches in this arena, of warriors that start at their first instructions.
+pub(crate) fn fight_twice(
+    rt: &(impl Abort + AllocGlobal),
+    arena: &mut Arena<Global>,
+    older: &[Instr],
+    younger: &[Instr],
+    settings: &Settings,
+) -> (Bout, Bout)
+    requires { arena.old.settings ≡ settings.now }
+    ensures { arena.new.settings ≡ arena.old.settings }
+{
+    let older = warrior(rt.alloc(), older, settings).expect(rt, "it fits");
+    let younger = warrior(rt.alloc(), younger, settings).expect(rt, "it fits");
+    let first = fight(arena, &older, &younger, settings);
+    let again = fight(arena, &older, &younger, settings);
+    drop(younger);
+    drop(older);
+    (first, again)
+}
+
 /// The result of a match of two warriors that start at their first instructions.
 fn bout_of(
     rt: &(impl Abort + AllocGlobal),
@@ -60,14 +83,9 @@ fn bout_of(
     raw: RawSettings,
 ) -> Counts {
     let settings = Settings::new(raw).expect(rt, "they are settings");
-    let older = warrior(rt.alloc(), older, &settings).expect(rt, "it fits");
-    let younger = warrior(rt.alloc(), younger, &settings).expect(rt, "it fits");
     let mut arena = Arena::new(rt.alloc(), &settings).expect(rt, "there is memory");
-    let first = fight(&mut arena, &older, &younger, &settings);
-    let again = fight(&mut arena, &older, &younger, &settings);
+    let (first, again) = fight_twice(rt, &mut arena, older, younger, &settings);
     drop(arena);
-    drop(younger);
-    drop(older);
     expect_same(rt, &first, &again, "a match is the same again");
     (first.older_wins, first.younger_wins, first.ties)
 }

@@ -3,7 +3,7 @@
 ghost use Rattle.std.specs.Prelude.{◌≡◌, ◌+◌, ◌≤◌};
 
 use super::*;
-use koth_match::fight;
+use crate::matches::fight_twice;
 use tests_fixtures::{LARGEST, SMALL, small};
 
 /// The largest core, and as many processes as it has cells.
@@ -26,19 +26,6 @@ fn left_over(arena: &Arena<Global>, core: u16, cells: [(u16, Instr); 2]) -> Opti
     None
 }
 
-/// Two matches in this arena.
-fn fight_twice(rt: &(impl Abort + AllocGlobal), arena: &mut Arena<Global>, settings: &Settings)
-    requires { arena.old.settings ≡ settings.now }
-    ensures { arena.new.settings ≡ arena.old.settings }
-{
-    let older = warrior(rt.alloc(), &[IMP], settings).expect(rt, "it fits");
-    let younger = warrior(rt.alloc(), &[STAY], settings).expect(rt, "it fits");
-    fight(arena, &older, &younger, settings);
-    fight(arena, &older, &younger, settings);
-    drop(younger);
-    drop(older);
-}
-
 /// A round of `DAT 1, 1` at 0 and `DAT 2, 2` at 20 begins in this arena.
 fn begin_after(rt: &(impl Abort + AllocGlobal), arena: &mut Arena<Global>, settings: &Settings)
     requires settings { arena.old.settings ≡ settings.now }
@@ -56,7 +43,7 @@ fn left_of_matches(rt: &(impl Abort + AllocGlobal), raw: RawSettings) -> Option<
     let settings = Settings::new(raw).expect(rt, "they are settings");
     assert!(rt; settings.core() >= 21, "they have no room");
     let mut arena = Arena::new(rt.alloc(), &settings).expect(rt, "there is memory");
-    fight_twice(rt, &mut arena, &settings);
+    fight_twice(rt, &mut arena, &[IMP], &[STAY], &settings);
     begin_after(rt, &mut arena, &settings);
     let left = left_over(&arena, settings.core(), [(0, dat!(1, 1)), (20, dat!(2, 2))]);
     drop(arena);

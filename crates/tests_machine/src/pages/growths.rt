@@ -1,6 +1,6 @@
 //! Texts whose growths are refused in turn.
 
-use crate::expecting::expect_same;
+use crate::expecting::{expect, expect_same};
 use std::alloc::{AllocError, Global};
 use std::process::Abort;
 use tests_fixtures::Refusing;
@@ -29,7 +29,7 @@ pub(crate) fn check_growth(rt: &impl Abort, memory: &Refusing<Global>, text: Tex
     match is_empty(text) {
         Some(is_empty) => {
             expect_refused(rt, memory, 0);
-            assert!(rt; !is_empty);
+            expect(rt, !is_empty, "a text");
         }
         None => expect_refused(rt, memory, 1),
     }

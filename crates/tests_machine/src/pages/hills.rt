@@ -53,12 +53,12 @@ pub(crate) fn hill_of_three(
         settings.capacity() == 3 && settings.rounds() == 10,
         "a hill of three"
     );
-    let first = entrant(rt, b"Imp", b"koth", &settings);
-    let second = entrant(rt, b"Dwarf", b"koth", &settings);
-    let third = entrant(rt, third_name, third_author, &settings);
     let mut hill = Hill::with_counter(rt.alloc(), settings, 3).expect(rt, "there is memory");
+    let first = entrant(rt, b"Imp", b"koth", &settings);
     hill.put_back(1, 2, first, &[]);
+    let second = entrant(rt, b"Dwarf", b"koth", &settings);
     hill.put_back(2, 1, second, &[bout(6, 3, 1)]);
+    let third = entrant(rt, third_name, third_author, &settings);
     hill.put_back(3, 0, third, &[bout(1, 9, 0), bout(2, 7, 1)]);
     hill
 }
@@ -70,10 +70,10 @@ pub(crate) fn hill_of_two(rt: &(impl Abort + AllocGlobal)) -> Hill<Global> {
         settings.capacity() == 3 && settings.rounds() == 10,
         "a hill of two"
     );
-    let second = entrant(rt, b"Dwarf", b"koth", &settings);
-    let third = entrant(rt, b"Scanner", b"koth", &settings);
     let mut hill = Hill::with_counter(rt.alloc(), settings, 3).expect(rt, "there is memory");
+    let second = entrant(rt, b"Dwarf", b"koth", &settings);
     hill.put_back(2, 1, second, &[]);
+    let third = entrant(rt, b"Scanner", b"koth", &settings);
     hill.put_back(3, 0, third, &[bout(2, 7, 1)]);
     hill
 }

@@ -1,8 +1,8 @@
 //! Texts for people.
 
-use crate::expecting::expect_same;
-use crate::growths::check_growth;
-use crate::hills::{bout, entrant, hill_of_one, hill_of_three, hill_of_two, ten_rounds};
+use crate::expecting::{expect, expect_same};
+use crate::pages::growths::check_growth;
+use crate::pages::hills::{bout, entrant, hill_of_one, hill_of_three, hill_of_two, ten_rounds};
 use hill_store::Reply;
 use koth_hill::Hill;
 use koth_views::{bout_view, hill_view, matches_view, placing_view, roster};
@@ -158,5 +158,5 @@ fn growths_of_a_table(rt: HostRuntime) {
     });
     drop(hill);
     drop(memory);
-    assert!(rt; runs > 1);
+    expect(&rt, runs > 1, "runs");
 }

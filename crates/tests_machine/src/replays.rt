@@ -1,52 +1,60 @@
 //! Replays: the events of a round's turns, worked by hand.
 
-ghost use Rattle.std.specs.Prelude.{◌≡◌, ◌<◌};
-ghost use Rattle.war_types.specs.Warrior.{Fits};
-
-use crate::expecting::expect_same;
+use crate::expecting::{expect, expect_same};
 use koth_replay::{Event, Opening, Replay, replay};
 use mars_core::{Arena, Outcome, Side};
-use std::alloc::Global;
+use std::alloc::{AllocError, Allocator, Global};
 use std::process::Abort;
 use tests_fixtures::{DIE, IMP, Refusing, SMALL, STAY, instruction, warrior};
-use war_types::{Instr, Settings, Warrior};
+use war_types::{Instr, Settings};
 
-/// A round of these two codes in a core of 64 cells, with `most` turns kept at most. The younger is loaded at 11 in round 0 and at 32 in round 1.
+/// A round of these two codes in a core of 64 cells, with `most` turns kept at most, if there is memory for it here. The younger is loaded at 11
+/// in round 0 and at 32 in round 1.
+fn replayed_in<A: Allocator + Copy>(
+    rt: &(impl Abort + AllocGlobal),
+    alloc: A,
+    codes: [&[Instr]; 2],
+    round: u16,
+    most: u32,
+) -> Result<Replay<A>, AllocError> {
+    let settings = Settings::new(SMALL).expect(rt, "they are settings");
+    assert!(rt; round < settings.rounds(), "there is no such round");
+    let older = warrior(rt.alloc(), codes[0], &settings).expect(rt, "it fits");
+    let younger = warrior(rt.alloc(), codes[1], &settings).expect(rt, "it fits");
+    let mut arena = Arena::new(rt.alloc(), &settings).expect(rt, "there is memory");
+    let found = replay(alloc, &mut arena, &older, &younger, &settings, round, most);
+    drop(arena);
+    drop(younger);
+    drop(older);
+    found
+}
+
+/// The same on the tests' own memory.
 fn replayed(
     rt: &(impl Abort + AllocGlobal),
     codes: [&[Instr]; 2],
     round: u16,
     most: u32,
 ) -> Replay<Global> {
-    let settings = Settings::new(SMALL).expect(rt, "they are settings");
-    assert!(rt; round < settings.rounds(), "there is no such round");
-    let older = warrior(rt.alloc(), codes[0], &settings).expect(rt, "it fits");
-    let younger = warrior(rt.alloc(), codes[1], &settings).expect(rt, "it fits");
-    let mut arena = Arena::new(rt.alloc(), &settings).expect(rt, "there is memory");
-    let found = replay(
-        rt.alloc(),
-        &mut arena,
-        &older,
-        &younger,
-        &settings,
-        round,
-        most,
-    );
-    drop(arena);
-    drop(younger);
-    drop(older);
-    found.expect(rt, "there is memory")
+    replayed_in(rt, rt.alloc(), codes, round, most).expect(rt, "there is memory")
 }
 
-fn check_turn(rt: &impl Abort, found: &[Event], due: &[Event], turn: usize) {
-    expect_same(rt, &found, &due, format_args!("turn {turn}"));
+/// A turn has these events.
+fn check_turn(rt: &impl Abort, replay: &Replay<Global>, turn: usize, due: &[Event]) {
+    assert!(rt; turn < replay.turns());
+    expect_same(
+        rt,
+        &replay.events_of(turn),
+        &due,
+        format_args!("turn {turn}"),
+    );
 }
 
 /// There are these turns, and no others.
 fn check_turns(rt: &impl Abort, replay: &Replay<Global>, due: &[&[Event]]) {
-    assert!(rt; replay.turns() == due.len());
-    for turn in 0..due.len() {
-        check_turn(rt, replay.events_of(turn), due[turn], turn);
+    expect(rt, replay.turns() == due.len(), "turns");
+    for (turn, events) in due.iter().enumerate() {
+        check_turn(rt, replay, turn, *events);
     }
 }
 
@@ -201,40 +209,14 @@ fn a_dwarf(rt: HostRuntime) {
 }
 
 /// How many turns a replay has that finds its memory here, if it finds enough.
-fn turns_within(
-    rt: &(impl Abort + AllocGlobal),
-    memory: &Refusing<Global>,
-    settings: &Settings,
-) -> Option<usize> {
-    let older = warrior(rt.alloc(), &[DIE], settings).expect(rt, "it fits");
-    let younger = warrior(rt.alloc(), &[STAY], settings).expect(rt, "it fits");
-    let mut arena = Arena::new(rt.alloc(), settings).expect(rt, "there is memory");
-    let turns = turns_of(memory, &mut arena, &older, &younger, settings);
-    drop(arena);
-    drop(younger);
-    drop(older);
-    turns
-}
-
-fn turns_of(
-    memory: &Refusing<Global>,
-    arena: &mut Arena<Global>,
-    older: &Warrior<Global>,
-    younger: &Warrior<Global>,
-    settings: &Settings,
-) -> Option<usize>
-    requires settings { arena.old.settings ≡ settings.now }
-    requires older { Fits settings.now older.now }
-    requires younger { Fits settings.now younger.now }
-    requires round { 0 < settings.now.rounds }
-{
-    match replay(memory, arena, older, younger, settings, 0, 9) {
+fn turns_within(rt: &(impl Abort + AllocGlobal), memory: &Refusing<Global>) -> Option<usize> {
+    match replayed_in(rt, memory, [&[DIE], &[STAY]], 0, 9) {
         Ok(replay) => {
             let turns = replay.turns();
             drop(replay);
             Some(turns)
         }
-        Err(_) => None,
+        Err(AllocError) => None,
     }
 }
 
@@ -242,12 +224,11 @@ fn turns_of(
 fn check_within(
     rt: &(impl Abort + AllocGlobal),
     memory: &Refusing<Global>,
-    settings: &Settings,
     k: u64,
     due: Option<usize>,
 ) {
     memory.refuse(k, 1);
-    let found = (turns_within(rt, memory, settings), memory.refused());
+    let found = (turns_within(rt, memory), memory.refused());
     let refused = if due.is_none() { 1 } else { 0 };
     expect_same(rt, &found, &(due, refused), format_args!("at growth {k}"));
 }
@@ -256,10 +237,9 @@ fn check_within(
 #[test]
 fn a_replay_takes_memory(rt: HostRuntime) {
     let memory = Refusing::new(rt.alloc());
-    let settings = Settings::new(SMALL).expect(&rt, "they are settings");
     for k in 0..3 {
-        check_within(&rt, &memory, &settings, k, None);
+        check_within(&rt, &memory, k, None);
     }
-    check_within(&rt, &memory, &settings, 3, Some(1));
+    check_within(&rt, &memory, 3, Some(1));
     drop(memory);
 }
