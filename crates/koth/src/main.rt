@@ -1,7 +1,7 @@
 //! The program `koth`.
 #![tactic(auto)]
 
-use koth_server::{Failure, View, run};
+use koth_server::{Failure, Typed, View, refuse_arguments, run};
 use std::env::Env;
 use std::io::{ErrorKind, IsTerminal};
 use std::process::ExitCode;
@@ -25,7 +25,7 @@ fn held_places<R: Files>(rt: &R) -> [io::Result<R::File>; 3] {
 fn status_of(rt: &HostRuntime) -> ExitCode {
     let words = match words_given(rt) {
         Ok(words) => words,
-        Err(failure) => return ExitCode::from(failure.tell_alone(&mut rt.stderr()).code()),
+        Err(kind) => return ExitCode::from(code_without(rt, kind)),
     };
     ExitCode::from(run(
         rt,
@@ -33,7 +33,7 @@ fn status_of(rt: &HostRuntime) -> ExitCode {
         rt.alloc(),
         words.as_slice(),
         usual_view(rt),
-        &mut rt.reader(),
+        &mut Typed::new(rt.reader(), rt.stderr(), rt.stdin().is_terminal()),
         &mut io::writer(rt),
         &mut rt.stderr(),
     ))
@@ -48,18 +48,27 @@ fn usual_view(rt: &HostRuntime) -> View {
     }
 }
 
-/// The arguments of the command line, with the program's name first.
-fn words_given(rt: &(impl Env + AllocGlobal)) -> Result<Vec<String>, Failure> {
+/// The arguments of the command line, with the program's name first. `OutOfMemory` if there is no memory for them, and else one of them is
+/// not UTF-8.
+fn words_given(rt: &(impl Env + AllocGlobal)) -> Result<Vec<String>, ErrorKind> {
     let given = match env::args(rt) {
         Ok(given) => given,
-        Err(error) if error.kind() == ErrorKind::OutOfMemory => return Err(Failure::Memory),
-        Err(_) => return Err(Failure::Stream),
+        Err(error) => return Err(error.kind()),
     };
     let mut words = Vec::new(rt.alloc());
     for word in given {
         if words.push(word).is_err() {
-            return Err(Failure::Memory);
+            return Err(ErrorKind::OutOfMemory);
         }
     }
     Ok(words)
+}
+
+/// Reports that there are no arguments, for this reason, and returns the status.
+fn code_without(rt: &HostRuntime, kind: ErrorKind) -> u8 {
+    let status = match kind {
+        ErrorKind::OutOfMemory => Failure::Memory.tell_alone(&mut rt.stderr()),
+        _ => refuse_arguments(rt, rt.alloc(), &mut rt.stderr()),
+    };
+    status.code()
 }

@@ -18,7 +18,7 @@ use Rattle.koth_commands.specs.Fight.{EndsFight, EndsFightUnder}
 use Rattle.koth_commands.specs.Replay.{EndsReplay, EndsReplayUnder, with_round}
 use Rattle.koth_commands.specs.Streams.{Streams, streams, unread}
 use Rattle.koth_commands.specs.Told.{TellsWord}
-use Rattle.koth_server.specs.Hills.{EndsCreate, EndsHill, EndsServe, EndsSubmit, Said, SaysCreated, SaysShown, listening_line}
+use Rattle.koth_server.specs.Hills.{EndsCreate, EndsHill, EndsServe, EndsService, EndsSubmit, Said, SaysCreated, SaysShown, listening_line}
 use Rattle.koth_server.specs.Audit.{EndsAudit}
 use Rattle.koth_server.specs.Migration.{SaysMigrated}
 use Rattle.koth_server.specs.Page.{SaysPage}
@@ -63,7 +63,7 @@ EndsNamed name view given status before after =
     (Either (bytes_eq name (codes "audit")) (EndsAudit status u v)
     (Either (bytes_eq name (codes "migrate")) (EndsHill SaysMigrated status u v)
     (Either (bytes_eq name (codes "page")) (EndsHill SaysPage status u v)
-    (Either (bytes_eq name (codes "serve")) (EndsServe status u v)
+    (Either (bytes_eq name (codes "serve")) (EndsServe settings status u v)
     (Either (bytes_eq name (codes "replay")) (EndsReplay (number_or 1 (one_of (codes "round") given)) settings status u v) ⊤))))))))))
 
 -- ---- a request: the command that the arguments name ended so, under the settings that they give
@@ -94,7 +94,8 @@ module _ (view : View) (e : Text × List Row) (status : Status) (before after : 
   named (Show shown) asks ends = subst Ends (sym asks.0)
       (subst (λ v. EndsHill (SaysShown (viewed v view) (matches_in e.1)) status (unread before) (unread after)) asks.3
       (subst (λ m. EndsHill (SaysShown (viewed shown.view view) m) status (unread before) (unread after)) asks.2 ends.0))
-  named (Serve service) asks ends = subst Ends (sym asks.0) ends.0
+  named (Serve given service) asks ends =
+      subst Ends (sym asks.0) (subst (λ s. EndsServe (settings_of s) status (unread before) (unread after)) asks.1 ends.0)
   named (Audit file) asks ends = subst Ends (sym asks.0) ends.0
   named (Migrate files) asks ends = subst Ends (sym asks.0) ends.0
   named (Page file) asks ends = subst Ends (sym asks.0) ends.0
@@ -170,8 +171,8 @@ module _ (i o p e f : Option (List ℕ)) (kept : Keeps o p) (told : TellsWord (f
   submit_no_memory : (view : View) → EndsSubmit view NoMemory (streams i o e) (streams i p f)
   submit_no_memory view = inr (record { fault = Failed failures.Memory; ends = refl; output = kept; told = told })
 
-  serve_no_memory : EndsServe NoMemory (streams i o e) (streams i p f)
-  serve_no_memory = inr (record {
+  service_no_memory : EndsService NoMemory (streams i o e) (streams i p f)
+  service_no_memory = inr (record {
     fault = Failed failures.Memory;
     ends = refl;
     port = 0;
@@ -201,6 +202,9 @@ module _ (i o p e f : Option (List ℕ)) (kept : Keeps o p) (told : TellsWord (f
   create_no_memory : (r : Result RawSettings SettingsFault) → EndsCreate r NoMemory (streams None o e) (streams None p f)
   create_no_memory r = given_no_memory None o p e f kept told (λ s. EndsHill SaysCreated) r (λ s. hill_no_memory None o p e f kept told SaysCreated)
 
+  serve_no_memory : (r : Result RawSettings SettingsFault) → EndsServe r NoMemory (streams None o e) (streams None p f)
+  serve_no_memory r = given_no_memory None o p e f kept told (λ s. EndsService) r (λ s. service_no_memory None o p e f kept told)
+
   named_no_memory : (name : Text) (view : View) (given : List Row) → EndsNamed name view given NoMemory (streams i o e) (streams i p f)
   named_no_memory name view given =
       let settings = settings_of (settings_in given) in
@@ -214,7 +218,7 @@ module _ (i o p e f : Option (List ℕ)) (kept : Keeps o p) (told : TellsWord (f
       (either (bytes_eq name (codes "audit")) _ _ (audit_no_memory None o p e f kept told)
       (either (bytes_eq name (codes "migrate")) _ _ (hill_no_memory None o p e f kept told SaysMigrated)
       (either (bytes_eq name (codes "page")) _ _ (hill_no_memory None o p e f kept told SaysPage)
-      (either (bytes_eq name (codes "serve")) _ _ (serve_no_memory None o p e f kept told)
+      (either (bytes_eq name (codes "serve")) _ _ (serve_no_memory settings)
       (either (bytes_eq name (codes "replay")) _ ⊤ (replay_no_memory (number_or 1 (one_of (codes "round") given)) settings) tt))))))))))
 
 module _ (i o p e f : Option (List ℕ)) (status : Status) where

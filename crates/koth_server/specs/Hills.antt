@@ -5,7 +5,6 @@ use Rattle.war_types.specs.declared.settings.RawSettings.{RawSettings}
 use Rattle.war_types.specs.declared.settings.SettingsFault.{SettingsFault}
 use Rattle.sector_disk.specs.Facts.{DeviceFacts}
 use Rattle.koth_hill.specs.Kept.{Kept, table_kept}
-use Rattle.hill_store.specs.Opened.{IsCreated}
 use Rattle.hill_store.specs.Seen.{Seen, Submits}
 use Rattle.hill_store.specs.declared.reply.Reply.{Reply}
 use Rattle.hill_store.specs.declared.reply.Reply.TheVariants as replies
@@ -164,7 +163,7 @@ EndsSubmission facts old source new view status before after = (reply : Reply) �
     ⊎ ((status ≡ statuses.StreamFault) × ((text : List ℕ) × IsReplyText view old.hill new.hill reply text × WritesPart before.output after.output text)
     × Tells kinds.Stream before after))
 
--- how `serve` ends: after its line, or with a fault, and then a part of that line may stand on the output; the log stands on standard error
+-- how a service ends: after its line, or with a fault, and then a part of that line may stand on the output; the log stands on standard error
 pub record TellsServeFault (status : Status) (before after : Streams) : Type 0 where
   pub fault : HillFault
   pub ends : status ≡ fault_status fault
@@ -174,9 +173,13 @@ pub record TellsServeFault (status : Status) (before after : Streams) : Type 0 w
   pub log : WritesSome before.errors logged
   pub told : TellsWord (fault_word fault) logged after.errors
 
-abbrev pub EndsServe : Status → Streams → Streams → Type 0
-EndsServe status before after =
+abbrev pub EndsService : Status → Streams → Streams → Type 0
+EndsService status before after =
     (SaysWhole SaysPort status before.output after.output × WritesSome before.errors after.errors) ⊎ TellsServeFault status before after
+
+-- how `serve` ends: as a service under the settings that are given for a hill that it creates, with their refusal, or out of memory
+abbrev pub EndsServe : Result RawSettings SettingsFault → Status → Streams → Streams → Type 0
+EndsServe settings status before after = EndsGiven (λ s. EndsService) settings status before after
 
 -- the line of a port was written, or a part of one
 abbrev pub Announces : Option (List ℕ) → Option (List ℕ) → Type 0
@@ -184,7 +187,3 @@ Announces old new = (port : ℕ) × Appends old new (listening_line port)
 
 abbrev pub AnnouncesPart : Option (List ℕ) → Option (List ℕ) → Type 0
 AnnouncesPart old new = (port : ℕ) × WritesPart old new (listening_line port)
-
--- a hill was created on a device
-abbrev pub CreatesOn : {D : Type 0} → DeviceFacts D → D → RawSettings → Type 0
-CreatesOn {D} facts device s = (store : Seen D) × IsCreated facts device s store

@@ -47,7 +47,7 @@ CommandEnds view (Show shown) status before after =
 CommandEnds view (Audit file) status before after = EndsAudit status (unread before) (unread after)
 CommandEnds view (Migrate files) status before after = EndsHill SaysMigrated status (unread before) (unread after)
 CommandEnds view (Page file) status before after = EndsHill SaysPage status (unread before) (unread after)
-CommandEnds view (Serve service) status before after = EndsServe status (unread before) (unread after)
+CommandEnds view (Serve given service) status before after = EndsServe (settings_of given) status (unread before) (unread after)
 CommandEnds view (Replay given watched) status before after = EndsReplay watched.round (settings_of given) status (unread before) (unread after)
 
 -- how a run ends that carried a request out: as its command does, and never as at a fault of the arguments
@@ -85,7 +85,7 @@ pub record EndsRun (view : View) (given : List (List ℕ)) (status : Status) (be
   pub audit : AsksFor (codes "audit") given → EndsAudit status (unread before) (unread after)
   pub migrate : AsksFor (codes "migrate") given → EndsHill SaysMigrated status (unread before) (unread after)
   pub page : AsksFor (codes "page") given → EndsHill SaysPage status (unread before) (unread after)
-  pub serve : AsksFor (codes "serve") given → EndsServe status (unread before) (unread after)
+  pub serve : AsksFor (codes "serve") given → EndsServe (settings_of (settings_named given)) status (unread before) (unread after)
   pub replay : AsksFor (codes "replay") given
       → EndsReplay (round_named given) (settings_of (settings_named given)) status (unread before) (unread after)
   pub words : AreTaken given → status ≢ statuses.WordFault

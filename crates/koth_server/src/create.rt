@@ -1,10 +1,12 @@
 //! The command `create`: a hill without warriors in a file.
 
-ghost use Rattle.std.specs.Prelude.{◌≡◌, ◌≢◌, None, OnOk};
+ghost use Rattle.std.specs.Prelude.{◌≡◌, ◌≢◌, None, false, IfOk};
 ghost use Rattle.war_types.specs.Settings.{settings_of};
-ghost use Rattle.koth_server.specs.Hills.{CreatesOn, EndsCreate, EndsHill, SaysCreated, Tries};
+ghost use Rattle.hill_store.specs.Opened.{IsCreated};
+ghost use Rattle.koth_server.specs.Hills.{EndsCreate, EndsHill, SaysCreated, Tries};
 ghost use Rattle.koth_commands.specs.Streams.{streams};
 
+use crate::files::HillStore;
 use crate::hill_fault::HillFault;
 use crate::trouble::{HillTrouble, fault_of_refusal};
 use hill_file::{Existing, HillFile, TryLock};
@@ -78,14 +80,35 @@ where
     } else {
         Existing::Kept
     };
+    match create_hill(rt, alloc, settings, creation.hill, existing) {
+        Ok(store) => {
+            drop(store);
+            say_created(output)
+        }
+        Err(trouble) => Err(trouble),
+    }
+}
+
+/// Makes the file at this path if it is missing, just large enough for the hill, and creates the hill in it, which is open then.
+pub(crate) fn create_hill<'f, R: Files, A: Allocator + Copy>(
+    rt: &'f R,
+    alloc: A,
+    settings: Settings,
+    path: &'f str,
+    existing: Existing,
+) -> Result<HillStore<'f, R, A>, HillTrouble<'f>>
+where
+    R::File: TryLock,
+    ensures { IfOk result (λ store. store.reopen ≡ false) }
+{
     let sectors = sectors_for(settings.capacity());
-    let device = match HillFile::make(rt, alloc, creation.hill, sectors, existing) {
+    let device = match HillFile::make(rt, alloc, path, sectors, existing) {
         Ok(device) => device,
-        Err(fault) => return Err(HillTrouble::unopened(creation.hill, fault)),
+        Err(fault) => return Err(HillTrouble::unopened(path, fault)),
     };
     match create_on(alloc, settings, device) {
-        Ok(()) => say_created(output),
-        Err(fault) => Err(HillTrouble::of(creation.hill, fault)),
+        Ok(store) => Ok(store),
+        Err(fault) => Err(HillTrouble::of(path, fault)),
     }
 }
 
@@ -94,11 +117,11 @@ fn create_on<D: Device + Drop, A: Allocator + Copy>(
     alloc: A,
     settings: Settings,
     device: D,
-) -> Result<(), HillFault>
-    ensures { OnOk result (CreatesOn D.facts device settings) }
+) -> Result<Store<D, A>, HillFault>
+    ensures { IfOk result (IsCreated D.facts device settings) }
 {
     match Store::create(alloc, device, settings) {
-        Ok(_) => Ok(()),
+        Ok(store) => Ok(store),
         Err((_device, refusal)) => Err(fault_of_refusal(refusal)),
     }
 }

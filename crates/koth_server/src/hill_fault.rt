@@ -3,7 +3,7 @@
 use koth_commands::{Failure, Reason, Status};
 
 /// Why a command on a hill was not carried out.
-#[derive(Clone, Copy, PartialEq, Eq)]
+#[derive(Clone, Copy)]
 pub enum HillFault {
     /// The file has too few sectors for its hill.
     TooSmall,

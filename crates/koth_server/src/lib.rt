@@ -3,6 +3,7 @@
 //! It stands on all other layers and carries out what the command line asks of them. The modules, in the order in which the
 //! data pass:
 //!
+//! - `arguments` and `typed`: an argument that is no text, and standard input at a terminal, both before anything is read;
 //! - `program`: `run`, which carries out what the arguments of the command line ask for, by `koth_words`, and ends with a status;
 //! - `create`, `submit`, `show`, `page`, `audit`, `migrate`, `serve`: a command on a hill each, and `log`: what a service reports;
 //! - `pages`: the pages that browsers of a service ask for;
@@ -18,6 +19,7 @@
 //! `koth_commands`, a session and its lines in `koth_session`, and this crate passes on what is public of them.
 #![tactic(auto)]
 
+mod arguments;
 mod audit;
 mod create;
 mod damage;
@@ -34,7 +36,9 @@ mod serve;
 mod show;
 mod submit;
 mod trouble;
+mod typed;
 
+pub use arguments::refuse_arguments;
 pub use hill_fault::HillFault;
 pub use koth_commands::{Failure, Status};
 pub use koth_protocol::{Counted, ReadFault, WriteFault};
@@ -42,3 +46,4 @@ pub use koth_session::{SessionEnd, session, write_reply};
 pub use koth_words::View;
 pub use program::run;
 pub use trouble::HillTrouble;
+pub use typed::Typed;

@@ -5,6 +5,7 @@ ghost use Rattle.koth_commands.specs.Told.{WritesSome};
 use jiff::Timestamp;
 use koth_commands::write_whole;
 use koth_service::{Event, HowEnded, PeerEnd};
+use koth_words::Service;
 use std::alloc::{AllocError, Allocator};
 use std::io::Write;
 use std::net::SocketAddr;
@@ -41,6 +42,23 @@ impl<'r, R: Clock> Log<'r, R> {
         }
     }
 
+    /// Reports that the hill of a service was created, unless the log is quiet.
+    pub(crate) fn tell_created<A: Allocator, E: Write>(
+        &self,
+        alloc: A,
+        service: Service<'_>,
+        errors: &mut E,
+    )
+        ensures { WritesSome (E.contents errors.old) (E.contents errors.new) }
+    {
+        if self.quiet {
+            return;
+        }
+        if let Ok(line) = self.created_line(alloc, service) {
+            let _ = write_whole(errors, line.as_bytes());
+        }
+    }
+
     /// Reports where browsers see the hill, if they do.
     pub(crate) fn tell_pages<A: Allocator, E: Write>(
         &self,
@@ -71,6 +89,19 @@ impl<'r, R: Clock> Log<'r, R> {
             Event::Ended(how) => end_text(how),
         };
         format!(in alloc; "{} {}: {}\n", self.seconds(), peer, what)
+    }
+
+    /// The line of a hill that was created: its file, and what shows it to browsers if nothing does.
+    fn created_line<A: Allocator>(
+        &self,
+        alloc: A,
+        service: Service<'_>,
+    ) -> Result<String<A>, AllocError> {
+        let hint = match service.http {
+            Some(_) => "",
+            None => "; --http PORT shows it to browsers",
+        };
+        format!(in alloc; "{} created {}{}\n", self.seconds(), service.hill, hint)
     }
 
     fn address_line<A: Allocator>(

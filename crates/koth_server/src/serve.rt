@@ -1,17 +1,20 @@
 //! The command `serve`: sessions of many peers over sockets on the hill in a file.
 
 ghost use Rattle.std.specs.Prelude.{◌≡◌, ◌≢◌, None, false, IfOk, MatchResult};
-ghost use Rattle.koth_server.specs.Hills.{listening_line, Announces, AnnouncesPart, EndsServe};
+ghost use Rattle.war_types.specs.Settings.{settings_of};
+ghost use Rattle.koth_server.specs.Hills.{listening_line, Announces, AnnouncesPart, EndsServe, EndsService};
 ghost use Rattle.koth_commands.specs.Streams.{streams};
+ghost use Rattle.koth_commands.specs.Told.{WritesSome};
 ghost use Rattle.koth_server.specs.Pages.{IsShown};
 
+use crate::create::create_hill;
 use crate::files::{HillStore, open_hill};
 use crate::hill_fault::HillFault;
 use crate::log::Log;
 use crate::pages::page_shown;
 use crate::trouble::HillTrouble;
-use hill_file::{HillFile, Sharing, TryLock};
-use koth_commands::{Cause, Status, Subject, reason_of, write_whole};
+use hill_file::{Existing, HillFile, Sharing, TryLock};
+use koth_commands::{Cause, Status, Subject, reason_of, refuse_settings, write_whole};
 use koth_http::Page;
 use koth_protocol::Line;
 use koth_service::{Event, Host, ServiceFault, serve_peers};
@@ -22,6 +25,7 @@ use std::io;
 use std::io::{ErrorKind, Write};
 use std::net::{Net, SocketAddr};
 use std::rt::{Clock, Files};
+use war_types::{RawSettings, Settings};
 
 /// The most browsers that are served at once.
 const BROWSERS: usize = 16;
@@ -66,16 +70,41 @@ where
 /// Serves sessions on the hill in a file over connections to an address and a port, `peers` at once at most, and ends after `connections`
 /// sessions if that is given. The line `LISTENING port` says that peers may connect, and to which port if the system chooses it. What happens
 /// is written on standard error, unless the service is quiet, and so is where browsers see the hill, if they may.
+///
+/// If that is asked for and there is no file, the hill is created first, with these settings. Settings that are out of their ranges are
+/// refused before the file is touched.
 pub(crate) fn serve<'f, R: Files + Net + Clock, A: Allocator + Copy, O: Write, E: Write>(
     rt: &'f R,
     alloc: A,
+    given: RawSettings,
     service: Service<'f>,
     output: &mut O,
     errors: &mut E,
 ) -> Status
 where
     R::File: TryLock,
-    ensures ends { EndsServe result
+    ensures ends { EndsServe (settings_of given) result
+        (streams None (O.contents output.old) (E.contents errors.old))
+        (streams None (O.contents output.new) (E.contents errors.new)) }
+    ensures words { result ≢ Status.WordFault }
+{
+    match Settings::new(given) {
+        Ok(settings) => serve_under(rt, alloc, settings, service, output, errors),
+        Err(fault) => refuse_settings(alloc, given, fault, errors),
+    }
+}
+
+fn serve_under<'f, R: Files + Net + Clock, A: Allocator + Copy, O: Write, E: Write>(
+    rt: &'f R,
+    alloc: A,
+    settings: Settings,
+    service: Service<'f>,
+    output: &mut O,
+    errors: &mut E,
+) -> Status
+where
+    R::File: TryLock,
+    ensures ends { EndsService result
         (streams None (O.contents output.old) (E.contents errors.old))
         (streams None (O.contents output.new) (E.contents errors.new)) }
     ensures words { result ≢ Status.WordFault }
@@ -86,7 +115,7 @@ where
         path: service.hill,
         log: Log::new(rt, service.quiet),
     };
-    let (store, mut sockets) = match begin(&host, service, output) {
+    let (store, mut sockets) = match begin(&host, settings, service, output, errors) {
         Ok(begun) => begun,
         Err(trouble) => return trouble.tell(alloc, errors),
     };
@@ -107,24 +136,54 @@ where
     }
 }
 
-/// Opens the hill and then the port, and writes the line of the port.
-fn begin<'f, R: Files + Net + Clock, A: Allocator + Copy, O: Write>(
+/// Opens the hill, or creates it, and then opens the port, and writes the line of the port.
+fn begin<'f, R: Files + Net + Clock, A: Allocator + Copy, O: Write, E: Write>(
     host: &Hosting<'f, R, A>,
+    settings: Settings,
     service: Service<'f>,
     output: &mut O,
+    errors: &mut E,
 ) -> Result<(HillStore<'f, R, A>, PolledSockets<'f, R, A>), HillTrouble<'f>>
 where
     R::File: TryLock,
     ensures open { IfOk result (λ begun. begun.0.reopen ≡ false) }
     ensures announced { MatchResult result (λ _. Announces (O.contents output.old) (O.contents output.new))
         (λ _. AnnouncesPart (O.contents output.old) (O.contents output.new)) }
+    ensures told { WritesSome (E.contents errors.old) (E.contents errors.new) }
 {
-    let store = match open_hill(host.rt, host.alloc, host.path, Sharing::Alone) {
+    let store = match hill_served(host, settings, service, errors) {
         Ok(store) => store,
         Err(trouble) => return Err(trouble),
     };
     match announced(host.rt, host.alloc, service, output) {
         Ok(sockets) => Ok((store, sockets)),
+        Err(trouble) => Err(trouble),
+    }
+}
+
+/// The hill in the file. If that is asked for and the file holds nothing, the hill is created there, and that is reported.
+fn hill_served<'f, R: Files + Clock, A: Allocator + Copy, E: Write>(
+    host: &Hosting<'f, R, A>,
+    settings: Settings,
+    service: Service<'f>,
+    errors: &mut E,
+) -> Result<HillStore<'f, R, A>, HillTrouble<'f>>
+where
+    R::File: TryLock,
+    ensures open { IfOk result (λ store. store.reopen ≡ false) }
+    ensures told { WritesSome (E.contents errors.old) (E.contents errors.new) }
+{
+    if !service.create {
+        return open_hill(host.rt, host.alloc, host.path, Sharing::Alone);
+    }
+    match create_hill(host.rt, host.alloc, settings, host.path, Existing::Kept) {
+        Ok(store) => {
+            host.log.tell_created(host.alloc, service, errors);
+            Ok(store)
+        }
+        Err(trouble) if matches!(trouble.fault, HillFault::Occupied) => {
+            open_hill(host.rt, host.alloc, host.path, Sharing::Alone)
+        }
         Err(trouble) => Err(trouble),
     }
 }

@@ -68,7 +68,7 @@ fn submit_file<R: Files, D: Device, A: Allocator + Copy, O: Write, E: Write>(
                 path,
                 text: text.as_slice(),
             };
-            submit_opened(alloc, store, source, view, output, errors)
+            submit_source(alloc, store, source, view, output, errors)
         }
         Err(trouble) => HillTrouble::from_source(trouble).tell(alloc, errors),
     }
@@ -79,24 +79,6 @@ fn submit_file<R: Files, D: Device, A: Allocator + Copy, O: Write, E: Write>(
 struct Source<'s> {
     path: &'s str,
     text: &'s [u8],
-}
-
-/// Submits a source to a store that was just opened, and then writes the reply.
-fn submit_opened<D: Device, A: Allocator + Copy, O: Write, E: Write>(
-    alloc: A,
-    store: &mut Store<D, A>,
-    source: Source<'_>,
-    view: View,
-    output: &mut O,
-    errors: &mut E,
-) -> Status
-    requires { store.old.reopen ≡ false }
-    ensures ends { EndsSubmit view result
-        (streams None (O.contents output.old) (E.contents errors.old))
-        (streams None (O.contents output.new) (E.contents errors.new)) }
-    ensures words { result ≢ Status.WordFault }
-{
-    submit_source(alloc, store, source, view, output, errors)
 }
 
 /// Submits a source to a store, and then writes the reply: its line, and in the view for people after it where the warrior stands.

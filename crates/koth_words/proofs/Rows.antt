@@ -5,7 +5,7 @@ use Rattle.clap.specs.Words.{Row, all_of, fault_of, first_of, one_of, subcommand
 use Rattle.clap.specs.declared.error.kind.ErrorKind.TheVariants as errors
 use Rattle.clap.proofs.OnLiterals.{clap_on_literals}
 use Rattle.koth_words.specs.Options.{default_settings, number_given, number_or}
-use Rattle.koth_words.specs.Words.{AreTaken, AreWrong, AsksFor, IsAddress, form_named, given_by, given_in, koth_app, matches_named, overwrite_named, reads_input, settings_named, view_named}
+use Rattle.koth_words.specs.Words.{AreTaken, AreWrong, AsksFor, IsAddress, create_named, form_named, given_by, given_in, koth_app, matches_named, overwrite_named, reads_input, settings_named, view_named}
 use Rattle.koth_words.proofs.Addresses.{any_address, every_address, every_long_address, four, not_here, not_with_port, this_machine}
 use Rattle.koth_words.specs.declared.words.Form.TheVariants as forms
 use Rattle.koth_words.specs.declared.words.View.TheVariants as views
@@ -13,11 +13,11 @@ use Rattle.koth_words.specs.declared.words.View.TheVariants as views
 -- the premise of `asm` is met by these words
 asm_asks : AsksFor (codes "asm") (codes "koth" ∷ codes "asm" ∷ [])
 unfolding clap_on_literals koth_app
-asm_asks = ((refl, (refl, refl, tt)), refl)
+asm_asks = ((refl, (refl, refl, refl, tt)), refl)
 
 fight_asks : AsksFor (codes "fight") (codes "koth" ∷ codes "fight" ∷ codes "a.red" ∷ codes "b.red" ∷ codes "--rounds=3" ∷ [])
 unfolding clap_on_literals koth_app
-fight_asks = ((refl, (refl, refl, tt)), refl)
+fight_asks = ((refl, (refl, refl, refl, tt)), refl)
 
 hills_ask : AsksFor (codes "create") (codes "koth" ∷ codes "create" ∷ codes "a.hill" ∷ codes "--seed=7" ∷ [])
     × AsksFor (codes "submit") (codes "koth" ∷ codes "submit" ∷ codes "a.hill" ∷ codes "a.red" ∷ [])
@@ -29,7 +29,7 @@ hills_ask : AsksFor (codes "create") (codes "koth" ∷ codes "create" ∷ codes 
     × AsksFor (codes "page") (codes "koth" ∷ codes "page" ∷ codes "a.hill" ∷ [])
     × AsksFor (codes "replay") (codes "koth" ∷ codes "replay" ∷ codes "a.red" ∷ codes "b.red" ∷ codes "--round=1000" ∷ codes "-r5" ∷ [])
 unfolding clap_on_literals koth_app
-hills_ask = (((refl, (refl, refl, tt)), refl), ((refl, (refl, refl, tt)), refl), ((refl, (refl, refl, tt)), refl), ((refl, (refl, refl, tt)), refl), ((refl, (refl, refl, tt)), refl), ((refl, (refl, refl, tt)), refl), ((refl, (refl, refl, tt)), refl), ((refl, (refl, refl, tt)), refl), ((refl, (refl, refl, tt)), refl))
+hills_ask = (((refl, (refl, refl, refl, tt)), refl), ((refl, (refl, refl, refl, tt)), refl), ((refl, (refl, refl, refl, tt)), refl), ((refl, (refl, refl, refl, tt)), refl), ((refl, (refl, refl, refl, tt)), refl), ((refl, (refl, refl, refl, tt)), refl), ((refl, (refl, refl, refl, tt)), refl), ((refl, (refl, refl, refl, tt)), refl), ((refl, (refl, refl, refl, tt)), refl))
 
 -- the flag is given if the words have it, after the file or before it, and else not
 matches_given : (matches_named (codes "koth" ∷ codes "show" ∷ codes "h.hill" ∷ codes "--matches" ∷ []) ≡ true)
@@ -105,7 +105,7 @@ checks_ask : AsksFor (codes "check") (codes "koth" ∷ codes "check" ∷ codes "
     × AsksFor (codes "create") (codes "koth" ∷ codes "create" ∷ codes "a.hill" ∷ codes "--overwrite" ∷ [])
     × AsksFor (codes "serve") (codes "koth" ∷ codes "serve" ∷ codes "a.hill" ∷ codes "--port=0" ∷ codes "--quiet" ∷ [])
 unfolding clap_on_literals koth_app
-checks_ask = (((refl, (refl, refl, tt)), refl), ((refl, (refl, refl, tt)), refl), ((refl, (refl, refl, tt)), refl), ((refl, (refl, refl, tt)), refl))
+checks_ask = (((refl, (refl, refl, refl, tt)), refl), ((refl, (refl, refl, refl, tt)), refl), ((refl, (refl, refl, refl, tt)), refl), ((refl, (refl, refl, refl, tt)), refl))
 
 -- the files in their order, and the form and the setting among them
 checked_files : (all_of (codes "FILE") (given_by (codes "koth" ∷ codes "check" ∷ codes "a.red" ∷ codes "-s64" ∷ codes "b.red" ∷ codes "--format=json" ∷ [])) ≡ Some (codes "a.red" ∷ codes "b.red" ∷ []))
@@ -181,13 +181,13 @@ addresses_ask : AsksFor (codes "serve") (codes "koth" ∷ codes "serve" ∷ code
     × AsksFor (codes "serve") (codes "koth" ∷ codes "serve" ∷ codes "a.hill" ∷ codes "--port=0" ∷ codes "--listen" ∷ codes "::" ∷ [])
     × IsAddress None (four (127 ∷ 0 ∷ 0 ∷ 1 ∷ []))
 unfolding clap_on_literals koth_app
-addresses_ask = (((refl, (refl, refl, (four (0 ∷ 0 ∷ 0 ∷ 0 ∷ []), every_address))), refl), ((refl, (refl, refl, (any_address, every_long_address))), refl), this_machine)
+addresses_ask = (((refl, (refl, refl, refl, (four (0 ∷ 0 ∷ 0 ∷ 0 ∷ []), every_address))), refl), ((refl, (refl, refl, refl, (any_address, every_long_address))), refl), this_machine)
 
 -- no name of a machine, and no address with a port
 names_wrong : AreWrong (codes "koth" ∷ codes "serve" ∷ codes "a.hill" ∷ codes "--port=0" ∷ codes "--listen=here" ∷ [])
     × AreWrong (codes "koth" ∷ codes "serve" ∷ codes "a.hill" ∷ codes "--port=0" ∷ codes "--listen=0.0.0.0:80" ∷ [])
 unfolding clap_on_literals koth_app
-names_wrong = (inr (refl, λ clear. not_here _ clear.2.1), inr (refl, λ clear. not_with_port _ clear.2.1))
+names_wrong = (inr (refl, λ clear. not_here _ clear.3.1), inr (refl, λ clear. not_with_port _ clear.3.1))
 
 -- the round that is shown, and the rounds of its match
 rounds : (number_or 1 (one_of (codes "round") (given_by (codes "koth" ∷ codes "replay" ∷ codes "a" ∷ codes "b" ∷ codes "--round" ∷ codes "7" ∷ []))) ≡ 7)
@@ -205,3 +205,17 @@ ranges : (takes koth_app (codes "koth" ∷ codes "serve" ∷ codes "a.hill" ∷ 
     × (takes koth_app (codes "koth" ∷ codes "fight" ∷ codes "a" ∷ codes "b" ∷ codes "--round=1" ∷ []) ≡ false)
 unfolding clap_on_literals koth_app
 ranges = (refl, refl, refl, refl, refl, refl)
+
+-- a service whose hill is created with the settings that are given, and one without settings
+creations : AsksFor (codes "serve") (codes "koth" ∷ codes "serve" ∷ codes "a.hill" ∷ codes "--port=0" ∷ codes "--core=64" ∷ codes "--create" ∷ codes "-r5" ∷ [])
+    × (settings_named (codes "koth" ∷ codes "serve" ∷ codes "a.hill" ∷ codes "--port=0" ∷ codes "--core=64" ∷ codes "--create" ∷ codes "-r5" ∷ []) ≡ record default_settings { core = 64; rounds = 5 })
+    × (create_named (codes "koth" ∷ codes "serve" ∷ codes "a.hill" ∷ codes "--port=0" ∷ codes "--core=64" ∷ codes "--create" ∷ codes "-r5" ∷ []) ≡ true)
+    × (create_named (codes "koth" ∷ codes "serve" ∷ codes "a.hill" ∷ codes "--port=0" ∷ []) ≡ false)
+unfolding clap_on_literals koth_app
+creations = (((refl, (refl, refl, refl, tt)), refl), refl, refl, refl)
+
+-- settings for a hill that is there are wrong, the default ones too
+unused_settings : AreWrong (codes "koth" ∷ codes "serve" ∷ codes "a.hill" ∷ codes "--port=0" ∷ codes "--core=64" ∷ [])
+    × AreWrong (codes "koth" ∷ codes "serve" ∷ codes "a.hill" ∷ codes "--port=0" ∷ codes "--seed=1" ∷ [])
+unfolding clap_on_literals koth_app
+unused_settings = (inr (refl, λ clear. true≢false (sym clear.2)), inr (refl, λ clear. true≢false (sym clear.2)))

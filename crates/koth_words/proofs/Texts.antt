@@ -1,5 +1,5 @@
 -- The names of files, as texts.
-use Rattle.std.proofs.Common.{◌≡◌, List, [], map, Option, None, Some, Bor, ◌∙◌, ap, option_map}
+use Rattle.std.proofs.Common.{◌≡◌, List, [], map, is_some, Option, None, Some, Bor, ◌∙◌, ap, option_map}
 use Rattle.std.specs.Prelude.{unwrap_or}
 use Rattle.clap.specs.Walk.{Text}
 
@@ -16,3 +16,8 @@ file_texts None empty x texts is none named =
     ap (λ (b : Bor (List (Bor Text))). map (λ v. v.now) b.now) is ∙ ap (map (λ (v : Bor Text). v.now)) none ∙ ap (λ (t : Option (List Text)). unwrap_or t []) named
 file_texts (Some s) empty x texts is none named =
     ap (λ (b : Bor (List (Bor Text))). map (λ v. v.now) b.now) is ∙ ap (λ (t : Option (List Text)). unwrap_or t []) named
+
+-- a text is given if there is one
+pub same_given : (r : Option (Bor Text)) (text : Option Text) → option_map (λ s. s.now) r ≡ text → is_some r ≡ is_some text
+same_given None text named = ap (λ (t : Option Text). is_some t) named
+same_given (Some s) text named = ap (λ (t : Option Text). is_some t) named

@@ -1,5 +1,5 @@
 -- What a command line asks for. `words` are its arguments, of which the first is the program's name.
-use Rattle.std.specs.Prelude.{◌≡◌, ◌≢◌, ◌⊎◌, ◌&&◌, ◌||◌, ⊤, ℕ, Bool, true, false, not, List, [], codes, map, Option, None, Some, IfSome, option_map, unwrap_or, if◌then◌else◌}
+use Rattle.std.specs.Prelude.{◌≡◌, ◌≢◌, ◌⊎◌, ◌&&◌, ◌||◌, ⊤, ℕ, Bool, true, false, not, List, [], codes, map, Option, None, Some, IfSome, is_some, option_map, unwrap_or, if◌then◌else◌}
 use Rattle.std.specs.Option.{option_map_or}
 use Rattle.std.specs.Net.Grammar.{IsIpText}
 use Rattle.std.specs.Str.{bytes_eq}
@@ -55,6 +55,10 @@ matches_named words = matches_in (given_by words)
 -- whether `--overwrite` is given, of `create`
 abbrev pub overwrite_named : List (List ℕ) → Bool
 overwrite_named words = has_flag (codes "overwrite") (given_by words)
+
+-- whether `--create` is given, of `serve`
+abbrev pub create_named : List (List ℕ) → Bool
+create_named words = has_flag (codes "create") (given_by words)
 
 -- ---- layouts
 
@@ -119,11 +123,27 @@ WritesAddress text = IfSome text (λ text. (address : IpAddr) × IsIpText text a
 abbrev pub HasAddress : List Row → Type 0
 HasAddress given = WritesAddress (first_of (codes "listen") given)
 
+-- ---- settings
+
+abbrev pub has_option : Text → List Row → Bool
+has_option name given = is_some (first_of name given)
+
+-- an option that gives a setting is given
+abbrev pub has_setting : List Row → Bool
+has_setting given = has_option (codes "core") given || has_option (codes "cycles") given || has_option (codes "processes") given
+    || has_option (codes "length") given || has_option (codes "distance") given || has_option (codes "rounds") given
+    || has_option (codes "seed") given || has_option (codes "capacity") given || has_option (codes "read-limit") given
+    || has_option (codes "write-limit") given
+
+-- each setting that is given is used: `serve`, which alone takes a port, uses them with `--create` alone
+abbrev pub uses_settings : List Row → Bool
+uses_settings given = has_flag (codes "create") given || not (has_option (codes "port") given) || not (has_setting given)
+
 -- ---- words that are taken, and words that are wrong
 
--- nothing that the program refuses beside `clap`: two layouts, an unknown form, or a text in place of an address
+-- nothing that the program refuses beside `clap`: two layouts, an unknown form, settings without a use, or a text in place of an address
 abbrev pub AreClear : List Row → Type 0
-AreClear given = (has_one_view given ≡ true) × (has_known_form given ≡ true) × HasAddress given
+AreClear given = (has_one_view given ≡ true) × (has_known_form given ≡ true) × (uses_settings given ≡ true) × HasAddress given
 
 -- the words are taken, by `clap`'s own definition and by `AreClear`
 abbrev pub AreTaken : List (List ℕ) → Type 0
@@ -172,7 +192,7 @@ Asks entered (Show shown) = (entered.0 ≡ codes "show")
     × (shown.hill.now ≡ text_or_none (first_of (codes "FILE") entered.1))
     × (shown.matches ≡ matches_in entered.1)
     × (shown.view ≡ view_in entered.1)
-Asks entered (Serve service) = (entered.0 ≡ codes "serve")
+Asks entered (Serve settings service) = (entered.0 ≡ codes "serve") × (settings ≡ settings_in entered.1)
     × (service.hill.now ≡ text_or_none (first_of (codes "FILE") entered.1))
     × (service.port ≡ number_below 65536 0 (one_of (codes "port") entered.1))
     × (service.peers ≡ number_or 64 (one_of (codes "peers") entered.1))
@@ -180,6 +200,7 @@ Asks entered (Serve service) = (entered.0 ≡ codes "serve")
     × (service.connections ≡ number_given 4294967296 (one_of (codes "connections") entered.1))
     × (service.http ≡ number_given 4294967296 (one_of (codes "http") entered.1))
     × (service.quiet ≡ has_flag (codes "quiet") entered.1)
+    × (service.create ≡ has_flag (codes "create") entered.1)
 Asks entered (Audit file) = (entered.0 ≡ codes "audit")
     × (file.now ≡ text_or_none (first_of (codes "FILE") entered.1))
 Asks entered (Migrate files) = (entered.0 ≡ codes "migrate")

@@ -111,7 +111,11 @@ fn serve_command<'a>(heap: Global) -> Result<Command<'a>, AllocError>
     let help = "Port at which browsers see the hill, 0 to 65535; at 0 the system chooses one";
     let command = with_arg(command, ranged(heap, "http", 0, 65535, help));
     let quiet = flag(heap, "quiet", "Write no line for each connection");
-    with_arg(command, quiet)
+    let command = with_arg(command, quiet);
+    let help =
+        "Create the hill first if FILE is missing, under the settings below; a hill that is there keeps its own";
+    let create = flag(heap, "create", help);
+    with_settings(heap, with_arg(command, create))
 }
 
 fn audit_command<'a>(heap: Global) -> Result<Command<'a>, AllocError>

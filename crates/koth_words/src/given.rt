@@ -3,7 +3,7 @@
 ghost use Rattle.std.specs.Prelude.{◌≡◌, ◌↔◌, [], codes, map, option_map, unwrap_or, IfOk, IsTrue};
 ghost use Rattle.clap.specs.Words.{all_of, first_of, found_of, one_of, rows_of};
 ghost use Rattle.koth_words.specs.Options.{number_below, number_given, number_or};
-ghost use Rattle.koth_words.specs.Words.{form_in, has_flag, has_known_form, has_one_view, matches_in, text_or_none, view_in, HasAddress, IsAddress, IsSource};
+ghost use Rattle.koth_words.specs.Words.{form_in, has_flag, has_known_form, has_one_view, has_option, has_setting, matches_in, text_or_none, uses_settings, view_in, HasAddress, IsAddress, IsSource};
 
 use crate::options::{number_given, number_if_given};
 use crate::words::{
@@ -141,6 +141,7 @@ pub(crate) fn service_named<'w>(matches: &ArgMatches<'w>) -> Service<'w>
         ≡ number_given 4294967296 (one_of (codes "connections") (rows_of (found_of matches.now))) }
     ensures http { result.http ≡ number_given 4294967296 (one_of (codes "http") (rows_of (found_of matches.now))) }
     ensures quiet { result.quiet ≡ has_flag (codes "quiet") (rows_of (found_of matches.now)) }
+    ensures create { result.create ≡ has_flag (codes "create") (rows_of (found_of matches.now)) }
 {
     Service {
         hill: file_named(matches, "FILE"),
@@ -150,7 +151,31 @@ pub(crate) fn service_named<'w>(matches: &ArgMatches<'w>) -> Service<'w>
         connections: number_if_given(matches, "connections"),
         http: number_if_given(matches, "http"),
         quiet: flag_given(matches, "quiet"),
+        create: flag_given(matches, "create"),
     }
+}
+
+/// Whether each setting that is given is used. `serve`, which alone takes a port, uses them with `--create` alone.
+pub(crate) fn uses_settings(matches: &ArgMatches<'_>) -> bool
+    ensures { result ≡ uses_settings (rows_of (found_of matches.now)) }
+{
+    flag_given(matches, "create") | !option_given(matches, "port") | !setting_given(matches)
+}
+
+/// Whether an option that gives a setting is given.
+fn setting_given(matches: &ArgMatches<'_>) -> bool
+    ensures { result ≡ has_setting (rows_of (found_of matches.now)) }
+{
+    option_given(matches, "core")
+        | option_given(matches, "cycles")
+        | option_given(matches, "processes")
+        | option_given(matches, "length")
+        | option_given(matches, "distance")
+        | option_given(matches, "rounds")
+        | option_given(matches, "seed")
+        | option_given(matches, "capacity")
+        | option_given(matches, "read-limit")
+        | option_given(matches, "write-limit")
 }
 
 /// The address to listen at.
@@ -206,6 +231,12 @@ fn text_given<'w>(matches: &ArgMatches<'w>, name: &str) -> Option<&'w str>
     ensures { option_map (λ text. text.now) result ≡ first_of name.now (rows_of (found_of matches.now)) }
 {
     matches.get_str(name)
+}
+
+fn option_given(matches: &ArgMatches<'_>, name: &str) -> bool
+    ensures { result ≡ has_option name.now (rows_of (found_of matches.now)) }
+{
+    text_given(matches, name).is_some()
 }
 
 /// The port. `clap` refuses a command line without it.

@@ -8,7 +8,7 @@ use crate::commands::koth_command;
 use crate::given::{
     checked_named, creation_named, fighters_named, file_named, has_address, has_known_form,
     has_one_view, migration_named, service_named, shown_named, source_named, submission_named,
-    watched_named,
+    uses_settings, watched_named,
 };
 use crate::options::settings_given;
 use clap::error::ErrorKind;
@@ -32,8 +32,8 @@ pub enum Request<'w> {
     Submit(Submission<'w>),
     /// `show`: write the table of a hill.
     Show(Shown<'w>),
-    /// `serve`: serve sessions on a hill.
-    Serve(Service<'w>),
+    /// `serve`: serve sessions on a hill, which is created with these settings if that is asked for and there is none.
+    Serve(RawSettings, Service<'w>),
     /// `audit`: play the match of every pair on the hill in this file again, and write whether each kept result is right.
     Audit(&'w str),
     /// `migrate`: move a hill of the old format to a new file.
@@ -133,6 +133,8 @@ pub struct Service<'w> {
     pub http: Option<u32>,
     /// Whether no line is written for a connection.
     pub quiet: bool,
+    /// Whether the hill is created first if there is no file.
+    pub create: bool,
 }
 
 /// The file of a hill of the old format, and the file that it moves to.
@@ -174,6 +176,12 @@ const UNKNOWN_FORM: &str = "error: the argument '--format <FORM>' takes 'text' o
 For more information, try '--help'.
 ";
 
+const UNUSED_SETTINGS: &str =
+    "error: options that give settings need '--create': a hill that is there keeps its own
+
+For more information, try '--help'.
+";
+
 const NO_ADDRESS: &str =
     "error: the argument '--listen <ADDRESS>' takes an IPv4 or IPv6 address without a port
 
@@ -183,8 +191,9 @@ For more information, try '--help'.
 /// What a command line asks for. The first of `words` is the program's name.
 ///
 /// Words that are taken (`AreTaken`) give the request of their command: words that `koth_app` takes by `clap`'s own definition, with at most one
-/// of `--plain` and `--table`, with no format but `text` and `json`, and with an address if one to listen at is given. All others give a text,
-/// as do those that ask for help or for the version. Without memory for any of these the answer is `NoRequest::Memory`.
+/// of `--plain` and `--table`, with no format but `text` and `json`, with an address if one to listen at is given, and with settings for `serve` only
+/// if it may create the hill. All others give a text, as do those that ask for help or for the version. Without memory for any of these the
+/// answer is `NoRequest::Memory`.
 pub fn parse(heap: Global, words: &[String]) -> Result<Request<'_>, NoRequest>
     ensures request { IfOk result (λ request.
         AsksBy (subcommand_of koth_app (map (λ w. string_bytes w) words.entry.now)) request) }
@@ -218,6 +227,9 @@ fn request_of<'w>(heap: Global, matches: &ArgMatches<'w>) -> Result<Request<'w>,
     if !has_known_form(given) {
         return Err(word_fault(heap, UNKNOWN_FORM));
     }
+    if !uses_settings(given) {
+        return Err(word_fault(heap, UNUSED_SETTINGS));
+    }
     if !has_address(given) {
         return Err(word_fault(heap, NO_ADDRESS));
     }
@@ -244,7 +256,7 @@ fn asked<'w>(heap: Global, name: &str, given: &ArgMatches<'w>) -> Result<Request
         "create" => Ok(Request::Create(settings, creation_named(given))),
         "submit" => Ok(Request::Submit(submission_named(given))),
         "show" => Ok(Request::Show(shown_named(given))),
-        "serve" => Ok(Request::Serve(service_named(given))),
+        "serve" => Ok(Request::Serve(settings, service_named(given))),
         "audit" => Ok(Request::Audit(file_named(given, "FILE"))),
         "migrate" => Ok(Request::Migrate(migration_named(given))),
         "page" => Ok(Request::Page(file_named(given, "FILE"))),

@@ -1,3 +1,4 @@
+use crate::compare::expect_status;
 use crate::files::{put_bytes, remove};
 use crate::program::{Host, check, expect_done, run_line, text_in};
 use crate::steps::{Step, check_no_hill, play, small, steps};
@@ -114,6 +115,81 @@ fn check_told_port(rt: &(impl Abort + Host)) {
     expect_done(rt, &ran);
     drop(ran);
     remove(rt, "told.hill");
+}
+
+/// A service that nobody connects to tells its port, and exactly what ends so on standard error.
+fn check_created(rt: &(impl Abort + Host), line: &str, told: &str) {
+    let ran = run_line(rt, line);
+    expect_port(rt, text_in(&ran.output));
+    expect_status(rt, ran.status, 0, line);
+    expect_line(rt, text_in(&ran.errors), told);
+    drop(ran);
+}
+
+/// This is one line with the time before what is due, or nothing if nothing is.
+fn expect_line(rt: &impl Abort, errors: &str, told: &str) {
+    let is_due = match errors.split_once(' ') {
+        Some((_time, text)) => text == told,
+        None => errors == told,
+    };
+    assert!(rt; is_due, "{errors}");
+}
+
+/// What is done after a hill was created for a service, whose settings stay.
+const CREATED_FOR_A_SERVICE: [Step; 3] = steps! {
+    Length("served_new.hill", 14 * 512);
+    Run("koth show served_new.hill", ".\n", "", 0);
+    Put("served_new.red", "MOV 0, 1\n");
+};
+
+/// What is done at the end.
+const SERVED_REMOVED: [Step; 4] = steps! {
+    Run("koth show served_new.hill", "1 1 0 0 Unnamed by Anonymous\n.\n", "", 0);
+    Length("served_new.hill", 14 * 512);
+    Remove("served_new.hill");
+    Remove("served_new.red");
+};
+
+#[test]
+fn a_hill_is_created_for_a_service(rt: HostRuntime) {
+    let create = small!("koth serve served_new.hill --port=0 --connections=0 --create");
+    check_created(
+        &rt,
+        create,
+        "created served_new.hill; --http PORT shows it to browsers\n",
+    );
+    play(&rt, &CREATED_FOR_A_SERVICE);
+    check(
+        &rt,
+        "koth submit served_new.hill served_new.red",
+        "PLACED 1 1 0\n",
+        "",
+        0,
+    );
+    let again = "koth serve served_new.hill --port=0 --connections=0 --create --capacity=1";
+    check_created(&rt, again, "");
+    play(&rt, &SERVED_REMOVED);
+    let quiet = small!("koth serve served_new.hill --port=0 --connections=0 --create --quiet");
+    check_created(&rt, quiet, "");
+    remove(&rt, "served_new.hill");
+}
+
+/// A text that is no hill.
+const NO_HILL: &str = "MOV 0, 1 ; a warrior, and no hill at all\n";
+
+/// Files in which no hill is created for a service.
+const NOT_CREATED: [Step; 6] = steps! {
+    Put("served_new.txt", NO_HILL);
+    Run("koth serve served_new.txt --port=0 --connections=0 --create", "", "TooSmall\n", 1);
+    Text("served_new.txt", NO_HILL);
+    Remove("served_new.txt");
+    Run("koth serve . --port=0 --connections=0 --create", "", "DISK\n", 3);
+    Run("koth serve no_such_folder/new.hill --port=0 --connections=0 --create", "", "DISK\n", 3);
+};
+
+#[test]
+fn no_hill_is_created_for_a_service(rt: HostRuntime) {
+    play(&rt, &NOT_CREATED);
 }
 
 /// A service on this port, which is in use.

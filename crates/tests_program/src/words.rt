@@ -22,7 +22,7 @@ fn expect_fault(rt: &impl Abort, ran: &Ran, part: &str) {
 }
 
 /// Words with a fault, and a part of what is told of it.
-const FAULTS: [Step; 39] = steps! {
+const FAULTS: [Step; 43] = steps! {
     Fault("koth", "requires a subcommand");
     Fault("koth fly", "unrecognized subcommand 'fly'");
     Fault("koth ASM", "unrecognized subcommand 'ASM'");
@@ -57,6 +57,10 @@ const FAULTS: [Step; 39] = steps! {
     Fault("koth serve f --port 0 --listen here", "'--listen <ADDRESS>' takes an IPv4 or IPv6 address");
     Fault("koth serve f --port 0 --listen 0.0.0.0:80", "without a port");
     Fault("koth serve f --port 0 --listen", "a value is required for '--listen <ADDRESS>'");
+    Fault("koth serve f --create", "--port <NUMBER>");
+    Fault("koth serve f --port 0 --core 64", "error: options that give settings need '--create': a hill that is there keeps its own\n");
+    Fault("koth serve f --port 0 --seed 1 --quiet", "need '--create'");
+    Fault("koth create f --create", "unexpected argument '--create'");
     Fault("koth replay a", "<B>");
     Fault("koth replay a b --round 0", "0 is not in 1..=1000");
     Fault("koth replay a b --round 1001", "1001 is not in 1..=1000");
@@ -79,7 +83,7 @@ pub(crate) fn check_help(rt: &(impl Abort + Host), line: &str, part: &str) {
 }
 
 /// Words that ask for help, and a part of it.
-const HELPS: [Step; 23] = steps! {
+const HELPS: [Step; 25] = steps! {
     Help("koth --help", "Usage: koth <COMMAND>");
     Help("koth -h", "Usage: koth <COMMAND>");
     Help("koth help", "Usage: koth <COMMAND>");
@@ -100,6 +104,8 @@ const HELPS: [Step; 23] = steps! {
     Help("koth serve -h", "--listen <ADDRESS>");
     Help("koth help serve", "--peers <NUMBER>");
     Help("koth help serve", "--http <NUMBER>");
+    Help("koth serve --help", "a hill that is there keeps its own");
+    Help("koth serve --help", "1 to 20 [default: 20]");
     Help("koth replay --help", "Usage: koth replay [OPTIONS] <A> <B>");
     Help("koth replay -h", "--round <NUMBER>");
     Help("koth replay --help", "1 to 1000000 [default: 80000]");
@@ -140,11 +146,12 @@ const OUT_OF_RANGE: [Step; 15] = steps! {
 };
 
 /// The commands that take settings.
-const COMMANDS: [&str; 4] = [
+const COMMANDS: [&str; 5] = [
     "asm",
     "fight no_such_file no_such_file",
     "replay no_such_file no_such_file",
     "create no_such_file",
+    "serve no_such_file --port=0 --create",
 ];
 
 /// A command with these options reports this, before anything is read.

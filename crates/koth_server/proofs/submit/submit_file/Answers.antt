@@ -1,8 +1,13 @@
--- If the source can't be read, nothing is written.
+-- The hill was just opened, so its reply isn't `REOPEN`. If the source can't be read, nothing is written.
 use Rattle.std.proofs.Common.{inr}
 use Rattle.koth_server.specs.Hills.{SaysReply}
-use Rattle.koth_server.proofs.Said.{nothing}
+use Rattle.koth_server.proofs.Said.{nothing, says_submission}
 use Rattle.koth_server.proofs.submit.submit_file.Goals as goal
+
+pub returns-in-Ok-clause-ends : goal.returns-in-Ok-clause-ends
+returns-in-Ok-clause-ends g c =
+    says_submission g.D.Device.facts c.args.store.now c.submit_source.new.store c.as_slice.result.now c.args.view c.submit_source.result _ _ c.requires
+    c.submit_source.ensures.ends
 
 pub returns-in-Err-clause-ends : goal.returns-in-Err-clause-ends
 returns-in-Err-clause-ends g c = inr record {

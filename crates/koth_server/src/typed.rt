@@ -1,0 +1,52 @@
+//! Standard input that somebody types.
+
+ghost use Rattle.std.specs.Prelude.{◌≡◌};
+
+use koth_commands::write_whole;
+use std::io;
+use std::io::{Read, Write};
+
+/// What is written before a source is read from a terminal.
+const HINT: &[u8] = b"reading the source from standard input; Ctrl-D ends it\n";
+
+/// An input that may be a terminal. If it is one, the first read is reported before it begins, since it waits for somebody who types.
+#[derive(Drop)]
+pub struct Typed<I, E> {
+    input: I,
+    errors: E,
+    is_due: bool,
+}
+
+impl<I, E> Typed<I, E> {
+    /// This input, which reports on `errors`.
+    pub fn new(input: I, errors: E, is_terminal: bool) -> Typed<I, E>
+        ensures { result.input ≡ input }
+    {
+        Typed {
+            input,
+            errors,
+            is_due: is_terminal,
+        }
+    }
+}
+
+impl<I, E: Write> Typed<I, E> {
+    /// Reports that the input is read, if that is due.
+    fn tell(&mut self)
+        ensures { self.new.input ≡ self.old.input }
+    {
+        if self.is_due {
+            self.is_due = false;
+            let _ = write_whole(&mut self.errors, HINT);
+        }
+    }
+}
+
+impl<I: Read, E: Write> Read for Typed<I, E> {
+    ghost remaining = { λ typed. I.remaining typed.input };
+
+    fn read(&mut self, buf: &mut [u8]) -> io::Result<usize> {
+        self.tell();
+        self.input.read(buf)
+    }
+}
