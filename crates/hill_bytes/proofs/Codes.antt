@@ -1,25 +1,14 @@
 -- Bytes say which header they are of, and sectors which warrior they hold.
-use Rattle.std.proofs.Common.{◌≡◌, ℕ, ◌^◌, ◌<◌, ◌≤◌, List, [], ◌++◌, length, take, sym, ap, ◌∙◌}
-use Rattle.std.proofs.Math.Seq.{take-append_seam}
-use Rattle.std.proofs.lemmas.List.{append_cancel_left}
-use Rattle.std.specs.Int.{bytes_high_first}
-use Rattle.byteorder.specs.Endian.{big_from}
-use Rattle.byteorder.specs.Numbers.{big_number-reads_back}
-use Rattle.war_types.specs.declared.settings.RawSettings.{RawSettings}
-use Rattle.war_types.specs.Settings.{AreSettings}
-use Rattle.war_types.specs.Warrior.{WarriorParts}
-use Rattle.hill_bytes.specs.Layout.{Layout, HeaderParts, IsHeader, IsSlot, code_room}
-use Rattle.hill_bytes.proofs.OneHeader.{same_header}
-use Rattle.hill_bytes.proofs.OneSlot.{same_warrior}
+use Rattle.{std.proofs.{Common.{◌≡◌, ℕ, ◌^◌, ◌<◌, ◌≤◌, List, [], ◌++◌, length, take, sym, ap, ◌∙◌}, Math.Seq.take-append_seam, lemmas.List.append_cancel_left}, std.specs.Int.bytes_high_first}
+use Rattle.{byteorder.specs.{Endian.big_from, Numbers.big_number-reads_back}, war_types.specs.{declared.settings.RawSettings.RawSettings, Settings.AreSettings, Warrior.WarriorParts}}
+use Rattle.{hill_bytes.specs.Layout.{Layout, HeaderParts, IsHeader, IsSlot, code_room}, hill_bytes.proofs.{OneHeader.same_header, OneSlot.same_warrior}}
 
 -- if two lists of one length are equal with something after them, they are equal, and so is what stands after
 pub front_same : {X : Type 0} (xs ys us vs : List X) → length xs ≡ length ys → xs ++ us ≡ ys ++ vs → xs ≡ ys
-front_same xs ys us vs same e =
-    sym (take-append_seam xs us) ∙ ap (λ n. take n (xs ++ us)) same ∙ ap (take (length ys)) e ∙ take-append_seam ys vs
+front_same xs ys us vs same e = sym (take-append_seam xs us) ∙ ap (λ n. take n (xs ++ us)) same ∙ ap (take (length ys)) e ∙ take-append_seam ys vs
 
 pub back_same : {X : Type 0} (xs ys us vs : List X) → length xs ≡ length ys → xs ++ us ≡ ys ++ vs → us ≡ vs
-back_same xs ys us vs same e =
-    append_cancel_left ys us vs (ap (λ zs. zs ++ us) (sym (front_same xs ys us vs same e)) ∙ e)
+back_same xs ys us vs same e = append_cancel_left ys us vs (ap (λ zs. zs ++ us) (sym (front_same xs ys us vs same e)) ∙ e)
 
 -- a number is what its bytes are read as
 pub bytes_same : (k a b : ℕ) → a < 256 ^ k → b < 256 ^ k → bytes_high_first k a ≡ bytes_high_first k b → a ≡ b

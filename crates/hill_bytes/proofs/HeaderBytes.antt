@@ -1,14 +1,8 @@
 -- What stands at each place of a header's bytes.
-use Rattle.std.proofs.Common.{◌≡◌, Option, None, Some, true, false, nat_lt, All, subst, ℕ, zero, suc, ◌+◌, ◌-◌, ◌*◌, ◌^◌, ◌<◌, ◌≤◌, List, [], ◌∷◌, ◌++◌, length, get_or, set, take, drop, replicate, arith, refl, sym, ap, ◌∙◌}
-use Rattle.std.proofs.lemmas.List.{append_assoc, drop-drop, drop_at, drop_more, drop_all, take_more, take-set-le, get_or-set_same, length-set}
-use Rattle.std.proofs.lemmas.List.Elements.{All-weaker}
-use Rattle.std.proofs.lemmas.Bool.Decides.{nat_tests}
-use Rattle.std.specs.Option.{SomeIff}
-use Rattle.std.specs.Int.{bytes_high_first}
-use Rattle.war_types.specs.declared.settings.RawSettings.{RawSettings}
-use Rattle.byteorder.specs.Endian.{big_from}
-use Rattle.byteorder.specs.Numbers.{big_number-reads_back}
-use Rattle.hill_bytes.specs.declared.header.HeaderEntry.{HeaderEntry}
+use Rattle.std.proofs.Common.{◌≡◌, Option, None, Some, true, false, nat_lt, All, subst, ℕ, zero, suc, ◌+◌, ◌-◌, ◌*◌, ◌^◌, ◌<◌, ◌≤◌, List, [], ◌∷◌, ◌++◌, length, get_or, set, take, drop, replicate}
+use Rattle.std.proofs.{Common.{arith, refl, sym, ap, ◌∙◌}, lemmas.List.{append_assoc, drop-drop, drop_at, drop_more, drop_all, take_more, take-set-le, get_or-set_same, length-set}}
+use Rattle.{std.proofs.{lemmas.List.Elements.All-weaker, lemmas.Bool.Decides.nat_tests}, std.specs.{Option.SomeIff, Int.bytes_high_first}}
+use Rattle.{byteorder.specs.{Endian.big_from, Numbers.big_number-reads_back}, war_types.specs.declared.settings.RawSettings.RawSettings, hill_bytes.specs.declared.header.HeaderEntry.HeaderEntry}
 use Rattle.hill_bytes.specs.Layout.{HeaderParts, IsHeaderParts, IsEntry, Layout, header_parts, header_bytes, settings_bytes, limit_bytes, entry_bytes, entry_places}
 
 -- the number at a place is the one that was written there

@@ -1,13 +1,8 @@
 -- Bytes are one header's at most.
 use Rattle.std.proofs.Common.{◌≡◌, ℕ, zero, suc, ◌^◌, ◌%◌, ◌<◌, ◌≤◌, List, [], ◌∷◌, ◌++◌, length, get_or, drop, replicate, All, arith, refl, sym, ap, ap₂, ◌∙◌}
-use Rattle.std.proofs.lemmas.List.Elements.{All-head, All-tail}
-use Rattle.std.specs.Int.{bytes_high_first}
-use Rattle.war_types.specs.declared.settings.RawSettings.{RawSettings}
-use Rattle.war_types.specs.Settings.{AreSettings, limit_of}
-use Rattle.hill_bytes.specs.declared.header.HeaderEntry.{HeaderEntry}
-use Rattle.hill_bytes.specs.Layout.{Layout, HeaderParts, IsHeader, IsHeaderParts, settings_bytes, limit_bytes, stored_limit, entry_bytes, entry_places}
-use Rattle.hill_bytes.proofs.Writes.{stored-most, limits-most, limit-back}
-use Rattle.hill_bytes.proofs.HeaderBytes.{header_fields, number-at, generation-at, settings-at, counter-at, count-at, entries-at, entries-fit}
+use Rattle.{std.proofs.lemmas.List.Elements.{All-head, All-tail}, std.specs.Int.bytes_high_first, war_types.specs.{declared.settings.RawSettings.RawSettings, Settings.{AreSettings, limit_of}}}
+use Rattle.hill_bytes.specs.{declared.header.HeaderEntry.HeaderEntry, Layout.{Layout, HeaderParts, IsHeader, IsHeaderParts, settings_bytes, limit_bytes, stored_limit, entry_bytes, entry_places}}
+use Rattle.hill_bytes.proofs.{Writes.{stored-most, limits-most, limit-back}, HeaderBytes.{header_fields, number-at, generation-at, settings-at, counter-at, count-at, entries-at, entries-fit}}
 
 -- two numbers that stand at one place are one
 pub same-at : (k m n : ℕ) (bytes r s : List ℕ) → m < 256 ^ k → n < 256 ^ k → bytes ≡ bytes_high_first k m ++ r → bytes ≡ bytes_high_first k n ++ s → m ≡ n

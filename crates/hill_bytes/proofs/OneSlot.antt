@@ -1,71 +1,58 @@
 -- Sectors hold one warrior at most.
 use Rattle.std.proofs.Common.{◌≡◌, ℕ, zero, suc, ◌+◌, ◌-◌, ◌*◌, ◌≤◌, List, [], ◌∷◌, ◌++◌, length, get_or, take, drop, replicate, All, arith, refl, sym, ap, ap₂, ◌∙◌}
-use Rattle.std.proofs.lemmas.List.Elements.{All-drop, All-head, All-tail}
-use Rattle.std.proofs.lemmas.List.{length-drop, take_all, take-append-drop}
-use Rattle.war_types.specs.Bytes.{op_code, modifier_code, mode_code, instr_bytes}
-use Rattle.war_types.specs.declared.instr.Op.{Op}
-use Rattle.war_types.specs.declared.instr.Op.TheVariants as ops
-use Rattle.war_types.specs.declared.instr.Modifier.{Modifier}
-use Rattle.war_types.specs.declared.instr.Modifier.TheVariants as modifiers
-use Rattle.war_types.specs.declared.instr.Mode.{Mode}
-use Rattle.war_types.specs.declared.instr.Mode.TheVariants as modes
-use Rattle.war_types.specs.declared.instr.Instr.{Instr}
-use Rattle.war_types.specs.declared.settings.RawSettings.{RawSettings}
-use Rattle.war_types.specs.Settings.{AreSettings}
-use Rattle.war_types.specs.Title.{IsPrintable}
-use Rattle.war_types.specs.Warrior.{WarriorParts, HasNumbersBelow}
-use Rattle.hill_bytes.specs.declared.wins.Wins.{Wins}
-use Rattle.hill_bytes.specs.Layout.{Layout, code_places, code_room, code_sectors, fields_bytes, filled, last_sector, result_places, results_in, IsSlot}
-use Rattle.hill_bytes.proofs.OneHeader.{same-at}
-use Rattle.hill_bytes.proofs.SlotBytes.{fields_rest, code-stands, drop-sectors, len-at, start-at, name-at, author-at}
+use Rattle.std.proofs.{lemmas.List.Elements.{All-drop, All-head, All-tail}, lemmas.List.{length-drop, take_all, take-append-drop}}
+use Rattle.war_types.specs.{Bytes.{op_code, modifier_code, mode_code, instr_bytes}, declared.instr.Op.Op, declared.instr.Modifier.Modifier, declared.instr.Mode.Mode}
+use Rattle.war_types.specs.{declared.instr.Instr.Instr, declared.settings.RawSettings.RawSettings, Settings.AreSettings, Title.IsPrintable, Warrior.{WarriorParts, HasNumbersBelow}}
+use Rattle.hill_bytes.specs.{declared.wins.Wins.Wins, Layout.{Layout, code_places, code_room, code_sectors, fields_bytes, filled, last_sector, result_places, results_in, IsSlot}}
+use Rattle.hill_bytes.proofs.{OneHeader.same-at, SlotBytes.{fields_rest, code-stands, drop-sectors, len-at, start-at, name-at, author-at}}
 
 abbrev op_of : ℕ → Op
 op_of n =
-    get_or (ops.Dat ∷ ops.Mov ∷ ops.Add ∷ ops.Sub ∷ ops.Mul ∷ ops.Div ∷ ops.Mdl ∷ ops.Jmp ∷ ops.Jmz ∷ ops.Jmn ∷ ops.Djn ∷ ops.Seq ∷ ops.Sne ∷ ops.Slt ∷ ops.Spl ∷ ops.Nop ∷ []) n ops.Dat
+    get_or (Op.Dat ∷ Op.Mov ∷ Op.Add ∷ Op.Sub ∷ Op.Mul ∷ Op.Div ∷ Op.Mdl ∷ Op.Jmp ∷ Op.Jmz ∷ Op.Jmn ∷ Op.Djn ∷ Op.Seq ∷ Op.Sne ∷ Op.Slt ∷ Op.Spl ∷ Op.Nop ∷ []) n Op.Dat
 
 op-back : (o : Op) → op_of (op_code o) ≡ o
-op-back ops.Dat = refl
-op-back ops.Mov = refl
-op-back ops.Add = refl
-op-back ops.Sub = refl
-op-back ops.Mul = refl
-op-back ops.Div = refl
-op-back ops.Mdl = refl
-op-back ops.Jmp = refl
-op-back ops.Jmz = refl
-op-back ops.Jmn = refl
-op-back ops.Djn = refl
-op-back ops.Seq = refl
-op-back ops.Sne = refl
-op-back ops.Slt = refl
-op-back ops.Spl = refl
-op-back ops.Nop = refl
+op-back Op.Dat = refl
+op-back Op.Mov = refl
+op-back Op.Add = refl
+op-back Op.Sub = refl
+op-back Op.Mul = refl
+op-back Op.Div = refl
+op-back Op.Mdl = refl
+op-back Op.Jmp = refl
+op-back Op.Jmz = refl
+op-back Op.Jmn = refl
+op-back Op.Djn = refl
+op-back Op.Seq = refl
+op-back Op.Sne = refl
+op-back Op.Slt = refl
+op-back Op.Spl = refl
+op-back Op.Nop = refl
 
 abbrev modifier_of : ℕ → Modifier
-modifier_of n = get_or (modifiers.A ∷ modifiers.B ∷ modifiers.AB ∷ modifiers.BA ∷ modifiers.F ∷ modifiers.X ∷ modifiers.I ∷ []) n modifiers.A
+modifier_of n = get_or (Modifier.A ∷ Modifier.B ∷ Modifier.AB ∷ Modifier.BA ∷ Modifier.F ∷ Modifier.X ∷ Modifier.I ∷ []) n Modifier.A
 
 modifier-back : (m : Modifier) → modifier_of (modifier_code m) ≡ m
-modifier-back modifiers.A = refl
-modifier-back modifiers.B = refl
-modifier-back modifiers.AB = refl
-modifier-back modifiers.BA = refl
-modifier-back modifiers.F = refl
-modifier-back modifiers.X = refl
-modifier-back modifiers.I = refl
+modifier-back Modifier.A = refl
+modifier-back Modifier.B = refl
+modifier-back Modifier.AB = refl
+modifier-back Modifier.BA = refl
+modifier-back Modifier.F = refl
+modifier-back Modifier.X = refl
+modifier-back Modifier.I = refl
 
 abbrev mode_of : ℕ → Mode
 mode_of n =
-    get_or (modes.Immediate ∷ modes.Direct ∷ modes.AIndirect ∷ modes.BIndirect ∷ modes.APre ∷ modes.BPre ∷ modes.APost ∷ modes.BPost ∷ []) n modes.Immediate
+    get_or (Mode.Immediate ∷ Mode.Direct ∷ Mode.AIndirect ∷ Mode.BIndirect ∷ Mode.APre ∷ Mode.BPre ∷ Mode.APost ∷ Mode.BPost ∷ []) n Mode.Immediate
 
 mode-back : (m : Mode) → mode_of (mode_code m) ≡ m
-mode-back modes.Immediate = refl
-mode-back modes.Direct = refl
-mode-back modes.AIndirect = refl
-mode-back modes.BIndirect = refl
-mode-back modes.APre = refl
-mode-back modes.BPre = refl
-mode-back modes.APost = refl
-mode-back modes.BPost = refl
+mode-back Mode.Immediate = refl
+mode-back Mode.Direct = refl
+mode-back Mode.AIndirect = refl
+mode-back Mode.BIndirect = refl
+mode-back Mode.APre = refl
+mode-back Mode.BPre = refl
+mode-back Mode.APost = refl
+mode-back Mode.BPost = refl
 
 mode-same : (m n : Mode) → mode_code m ≡ mode_code n → m ≡ n
 mode-same m n e = sym (mode-back m) ∙ ap mode_of e ∙ mode-back n

@@ -1,15 +1,8 @@
 -- The results in a slot, as they are written and read.
 use Rattle.std.proofs.Common.{◌≡◌, ℕ, zero, suc, ◌+◌, ◌*◌, ◌^◌, ◌<◌, ◌≤◌, List, [], ◌∷◌, ◌++◌, length, drop, get_or, replicate, refl, sym, ap, ap₂, ◌∙◌, subst, arith}
-use Rattle.std.proofs.lemmas.List.{append_assoc, drop-drop}
-use Rattle.std.proofs.lemmas.List.Elements.{All-head, All-tail}
-use Rattle.std.specs.Int.{bytes_high_first}
-use Rattle.byteorder.specs.Endian.{big_number}
-use Rattle.byteorder.specs.Numbers.{big_number-reads_back}
-use Rattle.war_types.specs.declared.settings.RawSettings.{RawSettings}
-use Rattle.war_types.specs.Settings.{AreSettings}
-use Rattle.war_types.specs.Warrior.{WarriorParts, Fits}
-use Rattle.hill_bytes.specs.declared.wins.Wins.{Wins}
-use Rattle.hill_bytes.specs.Layout.{Layout, FitRounds, IsSlot, IsTitled, last_sector, result_places, results_from, results_in, slot_bytes, wins_bytes, wins_in}
+use Rattle.{std.proofs.{lemmas.List.{append_assoc, drop-drop}, lemmas.List.Elements.{All-head, All-tail}}, std.specs.Int.bytes_high_first, byteorder.specs.Endian.big_number}
+use Rattle.{byteorder.specs.Numbers.big_number-reads_back, war_types.specs.{declared.settings.RawSettings.RawSettings, Settings.AreSettings, Warrior.{WarriorParts, Fits}}}
+use Rattle.hill_bytes.specs.{declared.wins.Wins.Wins, Layout.{Layout, FitRounds, IsSlot, IsTitled, last_sector, result_places, results_from, results_in, slot_bytes, wins_bytes, wins_in}}
 use Rattle.hill_bytes.proofs.SlotBytes.{results-at}
 
 -- a result is read back

@@ -1,13 +1,8 @@
 -- The layout of a small hill, computed by the definitions.
-use Rattle.std.proofs.Common.{◌≡◌, ℕ, List, [], ◌∷◌, ◌++◌, take, drop, replicate, refl}
-use Rattle.war_types.specs.declared.instr.Op.TheVariants as ops
-use Rattle.war_types.specs.declared.instr.Modifier.TheVariants as modifiers
-use Rattle.war_types.specs.declared.instr.Mode.TheVariants as modes
-use Rattle.war_types.specs.declared.settings.RawSettings.{RawSettings}
-use Rattle.war_types.specs.Warrior.{WarriorParts, warrior_parts}
-use Rattle.hill_bytes.specs.declared.header.HeaderEntry.{HeaderEntry}
-use Rattle.hill_bytes.specs.declared.wins.Wins.{Wins}
-use Rattle.hill_bytes.specs.Layout.{HeaderParts, new_layout, old_layout, new_magic, old_magic, header_bytes, fields_bytes, last_sector, slot_bytes, slot_at, slot_in, results_in, sectors_for, sectors_in}
+use Rattle.{std.proofs.Common.{◌≡◌, ℕ, List, [], ◌∷◌, ◌++◌, take, drop, replicate, refl}, war_types.specs.{declared.settings.RawSettings.RawSettings, Warrior.{WarriorParts, warrior_parts}}}
+use Rattle.{war_types.specs.{declared.instr.Op.Op, declared.instr.Modifier.Modifier, declared.instr.Mode.Mode}, hill_bytes.specs.{declared.header.HeaderEntry.HeaderEntry, declared.wins.Wins.Wins}}
+use Rattle.hill_bytes.specs.Layout.{HeaderParts, new_layout, old_layout, new_magic, old_magic, header_bytes, fields_bytes, last_sector, slot_bytes, slot_at, slot_in, results_in, sectors_for}
+use Rattle.hill_bytes.specs.Layout.{sectors_in}
 
 abbrev small : RawSettings
 small = record { core = 64; cycles = 100; processes = 8; length = 10; distance = 10; rounds = 2; seed = 1; capacity = 2; read_limit = 64; write_limit = 64 }
@@ -43,7 +38,7 @@ old_behind = refl
 
 -- a warrior of one instruction, MOV.I $0,$1
 abbrev imp : WarriorParts
-imp = warrior_parts (record { op = ops.Mov; modifier = modifiers.I; a_mode = modes.Direct; a = 0; b_mode = modes.Direct; b = 1 } ∷ []) 0 (65 ∷ []) (66 ∷ 67 ∷ [])
+imp = warrior_parts (record { op = Op.Mov; modifier = Modifier.I; a_mode = Mode.Direct; a = 0; b_mode = Mode.Direct; b = 1 } ∷ []) 0 (65 ∷ []) (66 ∷ 67 ∷ [])
 
 -- the first bytes of a slot's last sector from its fields on, for a warrior of one instruction
 abbrev imp_fields : List ℕ
@@ -90,7 +85,7 @@ old_read = refl
 
 -- a warrior of 193 instructions has the last of them in the fourth sector
 abbrev long : WarriorParts
-long = warrior_parts (replicate 193 (record { op = ops.Mov; modifier = modifiers.I; a_mode = modes.Direct; a = 0; b_mode = modes.Direct; b = 1 })) 0 (65 ∷ []) (66 ∷ 67 ∷ [])
+long = warrior_parts (replicate 193 (record { op = Op.Mov; modifier = Modifier.I; a_mode = Mode.Direct; a = 0; b_mode = Mode.Direct; b = 1 })) 0 (65 ∷ []) (66 ∷ 67 ∷ [])
 
 long_last : take 290 (last_sector new_layout (slot_bytes new_layout long unmatched)) ≡ (1 ∷ 6 ∷ 1 ∷ 1 ∷ 0 ∷ 0 ∷ 0 ∷ 1 ∷ []) ++ replicate 281 0 ++ 193 ∷ []
 unfolding slot_bytes fields_bytes

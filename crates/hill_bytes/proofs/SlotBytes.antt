@@ -1,14 +1,8 @@
 -- The bytes of a slot: places of instructions, and titles with zeros after them.
 use Rattle.std.proofs.Common.{◌≡◌, ℕ, zero, suc, ◌+◌, ◌-◌, ◌*◌, ◌<◌, ◌≤◌, List, [], ◌∷◌, ◌++◌, length, get_or, min, drop, replicate, arith, refl, sym, ap, ap₂, ◌∙◌, subst, Option, None, Some}
-use Rattle.std.proofs.lemmas.List.{append_assoc, append-nil, drop_more, drop_all, drop_at, drop-drop, get_or-drop, length-append, length-drop, length-replicate}
-use Rattle.std.specs.Int.{bytes_high_first}
-use Rattle.std.specs.Option.{SomeIff}
-use Rattle.war_types.specs.declared.instr.Instr.{Instr}
-use Rattle.war_types.specs.declared.settings.RawSettings.{RawSettings}
-use Rattle.war_types.specs.Bytes.{instr_bytes}
-use Rattle.war_types.specs.Warrior.{WarriorParts, warrior_parts, Fits}
-use Rattle.hill_bytes.specs.declared.wins.Wins.{Wins}
-use Rattle.hill_bytes.specs.Layout.{Layout, code_places, code_sectors, fields_bytes, filled, last_sector, result_places, slot_bytes, with_code}
+use Rattle.{std.proofs.lemmas.List.{append_assoc, append-nil, drop_more, drop_all, drop_at, drop-drop, get_or-drop, length-append, length-drop, length-replicate}, std.specs.Int.bytes_high_first}
+use Rattle.{std.specs.Option.SomeIff, war_types.specs.{declared.instr.Instr.Instr, declared.settings.RawSettings.RawSettings, Bytes.instr_bytes, Warrior.{WarriorParts, warrior_parts, Fits}}}
+use Rattle.hill_bytes.specs.{declared.wins.Wins.Wins, Layout.{Layout, code_places, code_sectors, fields_bytes, filled, last_sector, result_places, slot_bytes, with_code}}
 
 pub code-some : (n : ℕ) (is : List Instr) (i : ℕ) (d : Instr) → i < length is → i < n → code_places (n - i) (drop i is) ≡ instr_bytes (get_or is i d) ++ code_places (n - (i + 1)) (drop (i + 1) is)
 code-some n is i d inside few =
@@ -29,8 +23,7 @@ filled-zeros (suc n) [] few = ap (λ zs. 0 ∷ zs) (filled-zeros n [] (omega ari
   where
     next : (n : ℕ) → suc n - 0 ≡ suc (n - 0)
     next n = omega arith
-filled-zeros (suc n) (b ∷ bs) few =
-    ap (λ zs. b ∷ zs) (filled-zeros n bs (omega (arith, few)) ∙ ap (λ k. bs ++ replicate k 0) (omega arith))
+filled-zeros (suc n) (b ∷ bs) few = ap (λ zs. b ∷ zs) (filled-zeros n bs (omega (arith, few)) ∙ ap (λ k. bs ++ replicate k 0) (omega arith))
 
 -- the instructions after the first n; none if there are no more
 pub drop-min : (is : List Instr) (n at : ℕ) → at ≡ min (length is) n → drop at is ≡ drop n is

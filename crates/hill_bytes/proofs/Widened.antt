@@ -1,11 +1,8 @@
 -- A slot of the old format, and the one of the new that holds the same: for `OldSlot::widened`.
 use Rattle.std.proofs.Common.{◌≡◌, slice_index_or, slice_set, ℕ, zero, suc, ◌+◌, ◌-◌, ◌≤◌, List, [], ◌∷◌, ◌++◌, length, take, drop, get_or, replicate, refl, sym, ap, ap₂, subst, ◌∙◌, arith}
 use Rattle.std.proofs.lemmas.List.{append_assoc, append_cancel_left, drop_all, drop_at, drop-drop, length-drop, length-replicate, length-take, take_at, take-append-drop}
-use Rattle.war_types.specs.declared.instr.Instr.{Instr}
-use Rattle.war_types.specs.declared.settings.RawSettings.{RawSettings}
-use Rattle.war_types.specs.Warrior.{WarriorParts}
-use Rattle.hill_bytes.specs.declared.wins.Wins.{Wins}
-use Rattle.hill_bytes.specs.Layout.{FitRounds, HoldsSame, IsSlot, code_places, fields_bytes, new_layout, old_layout, results_from, results_in, slot_bytes}
+use Rattle.war_types.specs.{declared.instr.Instr.Instr, declared.settings.RawSettings.RawSettings, Warrior.WarriorParts}
+use Rattle.hill_bytes.specs.{declared.wins.Wins.Wins, Layout.{FitRounds, HoldsSame, IsSlot, code_places, fields_bytes, new_layout, old_layout, results_from, results_in, slot_bytes}}
 use Rattle.hill_bytes.proofs.SlotBytes.{length-code_places}
 
 -- the sectors of the new format

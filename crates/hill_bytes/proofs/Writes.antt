@@ -1,11 +1,6 @@
 -- Writes one after the other, and the settings that stand in a header.
-use Rattle.std.proofs.Common.{◌≡◌, ℕ, ◌%◌, ◌≤◌, ◌==◌, Bool, true, false, if◌then◌else◌, List, [], ◌++◌, Ok, arith, ap, ◌∙◌, mod-eq_of_lt}
-use Rattle.std.proofs.lemmas.List.{append_assoc}
-use Rattle.std.proofs.lemmas.Bool.Decides.{nat_tests}
-use Rattle.std.specs.Int.{bytes_high_first}
-use Rattle.war_types.specs.declared.settings.RawSettings.{RawSettings}
-use Rattle.war_types.specs.Settings.{AreSettings, is_limit, limit_of, settings_of}
-use Rattle.hill_bytes.specs.Layout.{stored_limit}
+use Rattle.std.proofs.{Common.{◌≡◌, ℕ, ◌%◌, ◌≤◌, ◌==◌, Bool, true, false, if◌then◌else◌, List, [], ◌++◌, Ok, arith, ap, ◌∙◌, mod-eq_of_lt}, lemmas.List.append_assoc, lemmas.Bool.Decides.nat_tests}
+use Rattle.{std.specs.Int.bytes_high_first, war_types.specs.{declared.settings.RawSettings.RawSettings, Settings.{AreSettings, is_limit, limit_of, settings_of}}, hill_bytes.specs.Layout.stored_limit}
 
 -- the number that is written is known by another name
 pub renamed : (k : ℕ) (before now : List ℕ) (n m : ℕ) → n ≡ m → now ≡ before ++ bytes_high_first k n → now ≡ before ++ bytes_high_first k m
@@ -58,8 +53,7 @@ rewritten before now x y same e = e ∙ ap (λ z. before ++ z) same
 
 -- eight writes to an empty sector
 pub writes-all : (w0 w1 w2 w3 w4 w5 w6 w7 w8 a b c d e f g h : List ℕ) → w0 ≡ [] → w1 ≡ w0 ++ a → w2 ≡ w1 ++ b → w3 ≡ w2 ++ c → w4 ≡ w3 ++ d → w5 ≡ w4 ++ e → w6 ≡ w5 ++ f → w7 ≡ w6 ++ g → w8 ≡ w7 ++ h → w8 ≡ ((((((a ++ b) ++ c) ++ d) ++ e) ++ f) ++ g) ++ h
-writes-all w0 w1 w2 w3 w4 w5 w6 w7 w8 a b c d e f g h e0 e1 e2 e3 e4 e5 e6 e7 e8 =
-    let first : w1 ≡ a = e1 ∙ ap (λ w. w ++ a) e0 in cc
+writes-all w0 w1 w2 w3 w4 w5 w6 w7 w8 a b c d e f g h e0 e1 e2 e3 e4 e5 e6 e7 e8 = let first : w1 ≡ a = e1 ∙ ap (λ w. w ++ a) e0 in cc
 
 -- eight writes to an empty sector, the first two of them apart
 pub writes-behind : (w0 w1 w2 w3 w4 w5 w6 w7 w8 a z b c d e f g : List ℕ) → w0 ≡ [] → w1 ≡ w0 ++ a → w2 ≡ w1 ++ z → w3 ≡ w2 ++ b → w4 ≡ w3 ++ c → w5 ≡ w4 ++ d → w6 ≡ w5 ++ e → w7 ≡ w6 ++ f → w8 ≡ w7 ++ g → w8 ≡ a ++ (z ++ (((((b ++ c) ++ d) ++ e) ++ f) ++ g))

@@ -1,17 +1,8 @@
 -- What the sectors hold: two headers in turn, and as many sectors for each slot as the layout says. Numbers are big endian.
-use Rattle.std.specs.Prelude.{◌≡◌, ◌↔◌, ℕ, zero, suc, ◌+◌, ◌-◌, ◌*◌, ◌^◌, ◌<◌, ◌≤◌, ◌≢◌, ◌==◌, if◌then◌else◌, List, [], ◌∷◌, ◌++◌, length, get_or, drop, replicate, All, Option, Some, None, codes, refl}
-use Rattle.std.specs.Int.{bytes_high_first}
-use Rattle.byteorder.specs.Endian.{big_number}
-use Rattle.war_types.specs.declared.instr.Instr.{Instr}
-use Rattle.war_types.specs.declared.settings.RawSettings.{RawSettings}
-use Rattle.war_types.specs.Settings.{AreSettings}
-use Rattle.war_types.specs.Bytes.{instr_bytes}
-use Rattle.war_types.specs.Title.{IsTitle}
-use Rattle.war_types.specs.Warrior.{WarriorParts, Fits}
-use Rattle.hill_bytes.specs.declared.format.Format.{Format}
-use Rattle.hill_bytes.specs.declared.format.Format.TheVariants as formats
-use Rattle.hill_bytes.specs.declared.header.HeaderEntry.{HeaderEntry}
-use Rattle.hill_bytes.specs.declared.wins.Wins.{Wins}
+use Rattle.std.specs.Prelude.{◌≡◌, ◌↔◌, ℕ, zero, suc, ◌+◌, ◌-◌, ◌*◌, ◌^◌, ◌<◌, ◌≤◌, ◌≢◌, ◌==◌, if◌then◌else◌, List, [], ◌∷◌, ◌++◌, length, get_or, drop, replicate, All, Option, Some, None}
+use Rattle.std.specs.{Prelude.{codes, refl}, Int.bytes_high_first}
+use Rattle.{byteorder.specs.Endian.big_number, war_types.specs.{declared.instr.Instr.Instr, declared.settings.RawSettings.RawSettings, Settings.AreSettings, Bytes.instr_bytes}}
+use Rattle.{war_types.specs.{Title.IsTitle, Warrior.{WarriorParts, Fits}}, hill_bytes.specs.{declared.format.Format.Format, declared.header.HeaderEntry.HeaderEntry, declared.wins.Wins.Wins}}
 
 -- How a device is laid out. A slot has some sectors full of code, 64 instructions each, and a last one: in it the rest of the code, zeros up
 -- to byte 288, and from there on the fields of the warrior and its results.
@@ -230,8 +221,8 @@ abbrev pub new_layout : Layout
 new_layout = record { magic = new_magic; magic_long = new_magic_long; full = 3; last = 8; zeros = 224; fields_at = refl }
 
 abbrev pub layout_of : Format → Layout
-layout_of formats.Old = old_layout
-layout_of formats.New = new_layout
+layout_of Format.Old = old_layout
+layout_of Format.New = new_layout
 
 -- these sectors of the new format hold what those of a slot of this layout hold: the same results, and the same warriors, if it has room
 -- for the longest

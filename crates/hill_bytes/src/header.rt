@@ -1,11 +1,9 @@
 //! The header: all of a hill but its warriors, and the slots that hold them.
 
-ghost use Rattle.std.specs.Prelude.{◌≡◌, ◌↔◌, ◌+◌, ◌^◌, ◌≤◌, ◌<◌, ◌++◌, ℕ, List, All, IsTrue, length, take, drop};
-ghost use Rattle.std.specs.Option.{SomeIff};
-ghost use Rattle.war_types.specs.declared.settings.RawSettings.{RawSettings};
-ghost use Rattle.war_types.specs.Settings.{AreSettings};
-ghost use Rattle.hill_bytes.specs.declared.header.HeaderEntry.{HeaderEntry};
-ghost use Rattle.hill_bytes.specs.Layout.{HeaderParts, IsHeader, IsHeaderParts, IsEntry, EntriesRise, SlotIsFree, SlotsDiffer, Layout, header_parts, header_bytes, layout_of, new_layout, old_layout, settings_bytes, limit_bytes, stored_limit, entry_bytes, entry_places, IsDecoded};
+ghost use Rattle.std.specs.{Prelude.{◌≡◌, ◌↔◌, ◌+◌, ◌^◌, ◌≤◌, ◌<◌, ◌++◌, ℕ, List, All, IsTrue, length, take, drop}, Option.SomeIff};
+ghost use Rattle.{war_types.specs.{declared.settings.RawSettings.RawSettings, Settings.AreSettings}, hill_bytes.specs.declared.header.HeaderEntry.HeaderEntry};
+ghost use Rattle.hill_bytes.specs.Layout.{HeaderParts, IsHeader, IsHeaderParts, IsEntry, EntriesRise, SlotIsFree, SlotsDiffer, Layout, header_parts, header_bytes, layout_of, new_layout};
+ghost use Rattle.hill_bytes.specs.Layout.{old_layout, settings_bytes, limit_bytes, stored_limit, entry_bytes, entry_places, IsDecoded};
 
 pub(crate) mod reader;
 pub(crate) mod writer;

@@ -1,10 +1,7 @@
 //! The slot: the sectors that hold a warrior.
 
 ghost use Rattle.std.specs.Prelude.{◌≡◌, ◌↔◌, ◌+◌, ◌*◌, ◌<◌, ◌≤◌, ◌++◌, ℕ, List, [], All, IsTrue, length, drop, get_or, replicate, Some, IfOk, IfSome};
-ghost use Rattle.war_types.specs.declared.instr.Instr.{Instr};
-ghost use Rattle.war_types.specs.Bytes.{instr_bytes};
-ghost use Rattle.war_types.specs.Title.{IsTitle};
-ghost use Rattle.war_types.specs.Warrior.{WarriorParts, HasNumbersBelow, Fits};
+ghost use Rattle.war_types.specs.{declared.instr.Instr.Instr, Bytes.instr_bytes, Title.IsTitle, Warrior.{WarriorParts, HasNumbersBelow, Fits}};
 ghost use Rattle.hill_bytes.specs.Layout.{new_layout, code_places, code_room, fields_bytes, filled, slot_bytes, result_places, results_in, wins_in, with_code, FitRounds, IsTitled, IsSlot, IsSlotRead};
 
 use crate::header::reader::u16_at;

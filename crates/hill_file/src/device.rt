@@ -2,8 +2,7 @@
 #![tactic(auto, using(crate::proofs::OfSystem::fault_of_system, crate::proofs::OfSystem::whatever_held))]
 
 ghost use Rattle.std.specs.Prelude.{◌≡◌, ◌≤◌, IfErr, IfOk};
-ghost use Rattle.sector_disk.specs.File.{IsFileServed};
-ghost use Rattle.hill_file.specs.OpenFault.{IsOfSystem, IsWhateverHeld};
+ghost use Rattle.{sector_disk.specs.File.IsFileServed, hill_file.specs.OpenFault.{IsOfSystem, IsWhateverHeld}};
 
 use crate::lock::TryLock;
 use crate::open_fault::OpenFault;

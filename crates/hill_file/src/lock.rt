@@ -1,8 +1,7 @@
 //! The lock of a file.
 #![tactic(auto, using(crate::proofs::OfSystem::fault_of_system, crate::proofs::OfSystem::whatever_held))]
 
-ghost use Rattle.std.specs.Prelude.{IfErr};
-ghost use Rattle.hill_file.specs.OpenFault.{IsWhateverHeld};
+ghost use Rattle.{std.specs.Prelude.IfErr, hill_file.specs.OpenFault.IsWhateverHeld};
 
 use crate::open_fault::OpenFault;
 use std::fs::{File, TryLockError};

@@ -22,8 +22,7 @@ pub enum OpenFault {
 }
 
 impl From<io::Error> for OpenFault {
-    ghost use Rattle.std.specs.Prelude.{◌≡◌};
-    ghost use Rattle.std.specs.IoError.{error_kind};
+    ghost use Rattle.std.specs.{Prelude.◌≡◌, IoError.error_kind};
     ghost use Rattle.hill_file.specs.OpenFault.{open_fault_of};
 
     ghost from_gives = { λ error fault. fault ≡ open_fault_of (error_kind error) };

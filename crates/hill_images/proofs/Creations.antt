@@ -1,19 +1,8 @@
 -- The exits of writing a hill to a device that holds none.
-use Rattle.std.proofs.Common.{◌≡◌, inl, inr, ◌≤◌, [], ◌∷◌, Result, Ok, Err, IfErr, OnOk, sym, ap, subst, ◌∙◌}
-use Rattle.sector_disk.specs.Facts.{DeviceFacts}
-use Rattle.sector_disk.specs.Disk.{current, synced, IsSettled}
-use Rattle.sector_disk.specs.Image.{Images}
-use Rattle.sector_disk.specs.Changes.{Begun}
-use Rattle.sector_disk.specs.Served.{IsKept, Failed}
-use Rattle.sector_disk.proofs.Images.{settled-synced}
-use Rattle.koth_hill.specs.Kept.{Kept}
-use Rattle.hill_bytes.specs.Layout.{HeaderParts, sectors_for}
-use Rattle.hill_images.specs.declared.refusal.Refusal.{Refusal}
-use Rattle.hill_images.specs.declared.refusal.Refusal.TheVariants as refusals
-use Rattle.hill_images.specs.Opening.{HoldsNone, IsNotWritten, IsWriteCut, IsWritten}
-use Rattle.hill_images.specs.Writing.{IsPut, NoneOrHill}
-use Rattle.hill_images.proofs.Firsts.{images_begun_sync}
-use Rattle.hill_images.proofs.WarriorsRead.{rose_more}
+use Rattle.{std.proofs.Common.{◌≡◌, inl, inr, ◌≤◌, [], ◌∷◌, Result, Ok, Err, IfErr, OnOk, sym, ap, subst, ◌∙◌}, koth_hill.specs.Kept.Kept}
+use Rattle.{sector_disk.specs.{Facts.DeviceFacts, Disk.{current, synced, IsSettled}, Image.Images, Changes.Begun, Served.{IsKept, Failed}}, sector_disk.proofs.Images.settled-synced}
+use Rattle.{hill_bytes.specs.Layout.{HeaderParts, sectors_for}, hill_images.specs.{declared.refusal.Refusal.Refusal, Opening.{HoldsNone, IsNotWritten, IsWriteCut, IsWritten}}}
+use Rattle.{hill_images.specs.Writing.{IsPut, NoneOrHill}, hill_images.proofs.{Firsts.images_begun_sync, WarriorsRead.rose_more}}
 
 -- the device failed before anything was written
 pub cut_early : {D : Type 0} (facts : DeviceFacts D) (old new : D) (hill : Kept) → Failed facts old new → (facts.lawful old → Begun (synced ∷ []) (facts.disk old) (facts.disk new)) → IsWriteCut facts old hill new
@@ -42,7 +31,7 @@ module _ {D : Type 0} (facts : DeviceFacts D) (old mid new : D) (h : HeaderParts
   }
 
   -- what writing it answered
-  pub written_or_not : {T : Type 0} (result : Result T Refusal) → sectors_for hill.settings.capacity ≤ facts.size old → IfErr result (λ why. (why ≡ refusals.Disk) × Failed facts mid new)
+  pub written_or_not : {T : Type 0} (result : Result T Refusal) → sectors_for hill.settings.capacity ≤ facts.size old → IfErr result (λ why. (why ≡ Refusal.Disk) × Failed facts mid new)
       → (facts.lawful mid → IsSettled (facts.disk mid) → HoldsNone (current (facts.disk mid)) → IsPut facts h hill new result)
       → OnOk result (IsWritten facts old h hill new) × IfErr result (IsNotWritten facts old hill new)
   written_or_not (Ok done) room cause put =

@@ -1,21 +1,11 @@
 -- What a device, its header and its hill are at each exit of a submission.
-use Rattle.std.proofs.Common.{◌≡◌, ◌⊎◌, ℕ, ◌-◌, ◌^◌, ◌<◌, ◌≤◌, ◌↔◌, Bool, true, false, length, sym, ap, ◌∙◌, subst, arith}
-use Rattle.war_types.specs.declared.settings.RawSettings.{RawSettings}
-use Rattle.war_types.specs.Warrior.{WarriorParts, Fits}
-use Rattle.sector_disk.specs.Facts.{DeviceFacts}
-use Rattle.sector_disk.specs.Image.{Images}
-use Rattle.sector_disk.specs.Changes.{after, Begun}
-use Rattle.koth_hill.specs.declared.verdict.Verdict.{Verdict}
-use Rattle.koth_hill.specs.Hill.{IsHill}
-use Rattle.koth_hill.specs.Step.{falling_by, stays_by, after_stay}
-use Rattle.koth_hill.specs.Kept.{Kept, hill_in, known, verdict_kept, kept_stay, kept_fall, step_kept, IsKept}
-use Rattle.koth_hill.proofs.Admitted.{IsHill-after_stay}
-use Rattle.koth_hill.proofs.RowsKept.{IsKept-stay, IsKept-fall}
-use Rattle.hill_bytes.specs.Layout.{HeaderParts, IsHeaderParts, SlotIsFree, IsTitled, Layout, sectors_in}
-use Rattle.hill_images.specs.Stands.{ReadsIn}
-use Rattle.hill_images.specs.Named.{IsSoundIn}
-use Rattle.hill_images.specs.Places.{header_placed, header_passed, commits, places}
-use Rattle.hill_images.proofs.Submitted.{verdict_is, step_stays, step_falls, named_placed, named_passed, placed_fits, passed_fits, hill_passed, results_of, ready_reads, MayPlace, ready_placed, cut_placed, ready_passed, cut_passed}
+use Rattle.{std.proofs.Common.{◌≡◌, ◌⊎◌, ℕ, ◌-◌, ◌^◌, ◌<◌, ◌≤◌, ◌↔◌, Bool, true, false, length, sym, ap, ◌∙◌, subst, arith}, war_types.specs.declared.settings.RawSettings.RawSettings}
+use Rattle.{war_types.specs.Warrior.{WarriorParts, Fits}, koth_hill.specs.{declared.verdict.Verdict.Verdict, Hill.IsHill, Step.{falling_by, stays_by, after_stay}}}
+use Rattle.{koth_hill.specs.Kept.{Kept, hill_in, known, verdict_kept, kept_stay, kept_fall, step_kept, IsKept}, koth_hill.proofs.{Admitted.IsHill-after_stay, RowsKept.{IsKept-stay, IsKept-fall}}}
+use Rattle.{sector_disk.specs.{Facts.DeviceFacts, Image.Images, Changes.{after, Begun}}, hill_bytes.specs.Layout.{HeaderParts, IsHeaderParts, SlotIsFree, IsTitled, Layout, sectors_in}}
+use Rattle.hill_images.specs.{Stands.ReadsIn, Named.IsSoundIn, Places.{header_placed, header_passed, commits, places}}
+use Rattle.hill_images.proofs.Submitted.{verdict_is, step_stays, step_falls, named_placed, named_passed, placed_fits, passed_fits, hill_passed, results_of, ready_reads, MayPlace, ready_placed}
+use Rattle.hill_images.proofs.Submitted.{cut_placed, ready_passed, cut_passed}
 
 -- a sound store that may take submissions reads as its hill
 pub sound_reads : {D : Type 0} {layout : Layout} (facts : DeviceFacts D) (device : D) (h : HeaderParts) (hill : Kept) (arena : RawSettings) (reopen : Bool) → IsSoundIn layout facts device h hill arena reopen → reopen ≡ false → facts.lawful device → Images (facts.disk device) (λ image. ReadsIn layout (facts.size device) image hill)
@@ -40,8 +30,7 @@ falls_so : (hill : Kept) (w : WarriorParts) (judged : Verdict) → judged ≡ ve
 falls_so hill w judged is = sym (verdict_is hill w).1 ∙ ap (λ (v : Verdict). v.falls) (sym is)
 
 pub admit_step : (hill : Kept) (w : WarriorParts) (judged : Verdict) → judged ≡ verdict_kept hill w → judged.stays ≡ true → step_kept hill w ≡ kept_stay hill w judged.falls
-admit_step hill w judged is stays_is =
-    step_stays hill w (stays_so hill w judged true is stays_is) ∙ ap (kept_stay hill w) (falls_so hill w judged is)
+admit_step hill w judged is stays_is = step_stays hill w (stays_so hill w judged true is stays_is) ∙ ap (kept_stay hill w) (falls_so hill w judged is)
 
 pub pass_step : (hill : Kept) (w : WarriorParts) (judged : Verdict) → judged ≡ verdict_kept hill w → judged.stays ≡ false → step_kept hill w ≡ kept_fall hill
 pass_step hill w judged is falls_is = step_falls hill w (stays_so hill w judged false is falls_is)

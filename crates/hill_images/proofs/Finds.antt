@@ -1,14 +1,7 @@
 -- The headers that are found: the newest of a format, and whether there is one of either.
-use Rattle.std.proofs.Common.{◌≡◌, ◌≢◌, ℕ, inl, inr, ◌%◌, ◌<◌, ◌≤◌, Bool, true, false, ◌||◌, is_some, List, Option, Some, None, sym, ap, subst, ◌∙◌, arith}
-use Rattle.std.proofs.lemmas.Bool.{cases_eq}
-use Rattle.hill_bytes.specs.declared.format.Format.{Format}
-use Rattle.hill_bytes.specs.declared.format.Format.TheVariants as formats
-use Rattle.hill_bytes.specs.Layout.{Layout, HeaderParts, IsHeader, layout_of, new_layout, old_layout}
-use Rattle.hill_images.specs.Stands.{IsNewestIn}
-use Rattle.hill_images.specs.Found.{HoldsIf, IsFoundIn, IsHeaderAt, IsNewestFound}
-use Rattle.hill_images.specs.Opening.{HoldsHeader, HoldsOneIf}
-use Rattle.hill_bytes.proofs.Codes.{one_header}
-use Rattle.hill_images.proofs.Newest.{parity_low}
+use Rattle.std.proofs.{Common.{◌≡◌, ◌≢◌, ℕ, inl, inr, ◌%◌, ◌<◌, ◌≤◌, Bool, true, false, ◌||◌, is_some, List, Option, Some, None, sym, ap, subst, ◌∙◌, arith}, lemmas.Bool.cases_eq}
+use Rattle.{hill_bytes.specs.{declared.format.Format.Format, Layout.{Layout, HeaderParts, IsHeader, layout_of, new_layout, old_layout}}, hill_bytes.proofs.Codes.one_header}
+use Rattle.{hill_images.specs.{Stands.IsNewestIn, Found.{HoldsIf, IsFoundIn, IsHeaderAt, IsNewestFound}, Opening.{HoldsHeader, HoldsOneIf}}, hill_images.proofs.Newest.parity_low}
 
 -- a header of the other parity is not the sector's, and no other is there
 pub other_parity : (layout : Layout) (n : ℕ) (bytes : List ℕ) (h : HeaderParts) → h.generation % 2 ≢ n → IsHeader layout bytes h → IsFoundIn layout n bytes None
@@ -67,13 +60,13 @@ newest_odd_found layout image (Some odd) no_even is_odd = record {
 
 -- whether a sector holds one, by what was found in each format
 pub holds_if : (n : ℕ) (bytes : List ℕ) (old new : Option HeaderParts) → IsFoundIn old_layout n bytes old → IsFoundIn new_layout n bytes new → HoldsIf n bytes (is_some old || is_some new)
-holds_if n bytes (Some h) new is_old is_new = record { format = formats.Old; header = h; found = is_old }
-holds_if n bytes None (Some h) is_old is_new = record { format = formats.New; header = h; found = is_new }
+holds_if n bytes (Some h) new is_old is_new = record { format = Format.Old; header = h; found = is_old }
+holds_if n bytes None (Some h) is_old is_new = record { format = Format.New; header = h; found = is_new }
 holds_if n bytes None None is_old is_new = λ format. none format
   where
     none : (format : Format) → IsFoundIn (layout_of format) n bytes None
-    none formats.Old = is_old
-    none formats.New = is_new
+    none Format.Old = is_old
+    none Format.New = is_new
 
 found_held : (image : ℕ → List ℕ) (n : ℕ) → IsHeaderAt n (image n) → HoldsHeader image
 found_held image n at = record { format = at.format; header = at.header; here = found_at (layout_of at.format) image n at.header at.found }

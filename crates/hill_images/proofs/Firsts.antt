@@ -1,27 +1,11 @@
 -- The first header of a hill, on a device that holds none.
-use Rattle.std.proofs.Common.{◌≡◌, inl, inr, ℕ, ◌%◌, ◌≤◌, List, [], ◌∷◌, refl, sym, ap, subst, ◌∙◌, arith}
-use Rattle.std.proofs.lemmas.Bool.{cases_eq}
-use Rattle.std.proofs.lemmas.List.Elements.{All-nil}
-use Rattle.war_types.specs.declared.settings.RawSettings.{RawSettings}
-use Rattle.war_types.specs.Settings.{AreSettings}
-use Rattle.sector_disk.specs.Disk.{Disk, current, wrote, synced, IsSettled}
-use Rattle.sector_disk.specs.Image.{IsImage, Images, put}
-use Rattle.sector_disk.specs.Changes.{after, Begun}
+use Rattle.std.proofs.{Common.{◌≡◌, inl, inr, ℕ, ◌%◌, ◌≤◌, List, [], ◌∷◌, refl, sym, ap, subst, ◌∙◌, arith}, lemmas.Bool.cases_eq, lemmas.List.Elements.All-nil}
+use Rattle.{war_types.specs.{declared.settings.RawSettings.RawSettings, Settings.AreSettings}, koth_hill.specs.{Hill.{IsHill, MayStand}, Step.new_hill, Kept.{Kept, new_kept}}}
+use Rattle.sector_disk.specs.{Disk.{Disk, current, wrote, synced, IsSettled}, Image.{IsImage, Images, put}, Changes.{after, Begun}}
 use Rattle.sector_disk.proofs.Images.{put-same, put-other, image-current, images_read, images_write, images_settled, images_sync}
-use Rattle.koth_hill.specs.Hill.{IsHill, MayStand}
-use Rattle.koth_hill.specs.Step.{new_hill}
-use Rattle.koth_hill.specs.Kept.{Kept, new_kept}
-use Rattle.hill_bytes.specs.declared.format.Format.TheVariants as formats
-use Rattle.hill_bytes.specs.Layout.{Layout, HeaderParts, IsHeaderParts, IsHeader, IsEntry, code_room, header_bytes, new_layout}
-use Rattle.hill_bytes.proofs.Codes.{one_header}
-use Rattle.hill_images.specs.Stands.{AllHeld, IsNewestIn, ShowsIn, IsReady, results_read}
-use Rattle.hill_images.specs.Places.{commits}
-use Rattle.hill_images.specs.Opening.{HoldsNone, HoldsNoneIn, first_header}
-use Rattle.hill_images.specs.Writing.{NoneOrHill}
-use Rattle.hill_images.proofs.Held.{apart_headers, held_elsewhere}
-use Rattle.hill_images.proofs.Newest.{parity_low}
-use Rattle.hill_images.proofs.Results.{results-elsewhere}
-use Rattle.hill_images.proofs.Stops.{committed_of, with_header}
+use Rattle.{hill_bytes.specs.{Layout.{Layout, HeaderParts, IsHeaderParts, IsHeader, IsEntry, code_room, header_bytes, new_layout}, declared.format.Format.Format}, hill_bytes.proofs.Codes.one_header}
+use Rattle.hill_images.specs.{Stands.{AllHeld, IsNewestIn, ShowsIn, IsReady, results_read}, Places.commits, Opening.{HoldsNone, HoldsNoneIn, first_header}, Writing.NoneOrHill}
+use Rattle.hill_images.proofs.{Held.{apart_headers, held_elsewhere}, Newest.parity_low, Results.results-elsewhere, Stops.{committed_of, with_header}}
 
 pub first_fits : (s : RawSettings) → AreSettings s → IsHeaderParts (first_header s)
 first_fits s are = record {
@@ -97,7 +81,7 @@ first_stopped disk new h hill may settled none begun = elim begun [
 
     between : Images (wrote n bytes disk) (NoneOrHill h hill)
     between = images_write disk n bytes (NoneOrHill h hill) start (images_settled disk (λ image. NoneOrHill h hill (put n bytes image)) settled
-        (inr (first_shows new_layout (current disk) h hill may (none formats.New))))
+        (inr (first_shows new_layout (current disk) h hill may (none Format.New))))
 
 -- a sync leaves an image that was there before
 pub images_begun_sync : (disk new : Disk) → Begun (synced ∷ []) disk new → Images new (IsImage disk)

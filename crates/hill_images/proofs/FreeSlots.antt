@@ -1,11 +1,7 @@
 -- Slots that are free, and entries that stay.
-use Rattle.std.proofs.Common.{◌≡◌, ◌≢◌, ◌⊎◌, true≢false, take, get_or, inl, inr, ℕ, zero, suc, ◌+◌, ◌<◌, ◌≤◌, ◌==◌, Bool, true, false, if◌then◌else◌, List, [], ◌∷◌, ◌++◌, length, Option, refl, sym, ap, ◌∙◌, arith, eq-eqb, length-take}
-use Rattle.std.proofs.lemmas.List.{take_more}
-use Rattle.std.proofs.lemmas.Bool.{cases_eq, ne_eqb}
-use Rattle.koth_hill.specs.Step.{is_entry}
-use Rattle.hill_bytes.specs.declared.header.HeaderEntry.{HeaderEntry}
-use Rattle.hill_bytes.specs.Layout.{SlotIsFree}
-use Rattle.hill_images.specs.Places.{has_slot, kept_entries}
+use Rattle.std.proofs.Common.{◌≡◌, ◌≢◌, ◌⊎◌, true≢false, take, get_or, inl, inr, ℕ, zero, suc, ◌+◌, ◌<◌, ◌≤◌, ◌==◌, Bool, true, false, if◌then◌else◌, List, [], ◌∷◌, ◌++◌, length, Option}
+use Rattle.{std.proofs.{Common.{refl, sym, ap, ◌∙◌, arith, eq-eqb, length-take}, lemmas.List.take_more, lemmas.Bool.{cases_eq, ne_eqb}}, koth_hill.specs.Step.is_entry}
+use Rattle.{hill_bytes.specs.{declared.header.HeaderEntry.HeaderEntry, Layout.SlotIsFree}, hill_images.specs.Places.{has_slot, kept_entries}}
 
 -- an if at two slots' numbers
 slot_same : {X : Type 0} (a b : ℕ) (x y : X) → a ≡ b → (if a == b then x else y) ≡ x

@@ -1,14 +1,8 @@
 -- The warriors of the header's entries, while sectors are written.
 use Rattle.std.proofs.Common.{◌≡◌, ℕ, ◌+◌, ◌<◌, ◌≤◌, List, [], ◌∷◌, ◌++◌, Option, Bool, true, false, if◌then◌else◌, sym, ap, subst}
-use Rattle.war_types.specs.declared.settings.RawSettings.{RawSettings}
-use Rattle.sector_disk.specs.Image.{put}
-use Rattle.koth_hill.specs.Hill.{Member}
-use Rattle.koth_hill.specs.Step.{is_entry, without, one_older}
-use Rattle.hill_bytes.specs.declared.header.HeaderEntry.{HeaderEntry}
-use Rattle.hill_bytes.specs.Layout.{Layout, IsSlot, SlotIsFree, slot_at, slot_in}
-use Rattle.hill_images.specs.Stands.{IsHeld, AllHeld}
-use Rattle.hill_images.specs.Places.{kept_entries}
-use Rattle.hill_images.proofs.Sectors.{IsOutside, outside_headers, outside_slot, slot-elsewhere}
+use Rattle.{war_types.specs.declared.settings.RawSettings.RawSettings, koth_hill.specs.{Hill.Member, Step.{is_entry, without, one_older}}, sector_disk.specs.Image.put}
+use Rattle.hill_bytes.specs.{declared.header.HeaderEntry.HeaderEntry, Layout.{Layout, IsSlot, SlotIsFree, slot_at, slot_in}}
+use Rattle.{hill_images.specs.{Stands.{IsHeld, AllHeld}, Places.kept_entries}, hill_images.proofs.Sectors.{IsOutside, outside_headers, outside_slot, slot-elsewhere}}
 
 abbrev older : Member → Member
 older m = record { entry = m.entry; age = m.age + 1; warrior = m.warrior }

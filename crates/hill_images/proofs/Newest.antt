@@ -1,17 +1,9 @@
 -- The newest header, while sectors are written, and that there is one.
-use Rattle.std.proofs.Common.{◌≡◌, ℕ, inl, inr, ◌+◌, ◌%◌, ◌<◌, ◌≤◌, List, [], ◌∷◌, refl, sym, ap, subst, ◌∙◌, arith}
-use Rattle.std.proofs.lemmas.Bool.{cases_eq}
-use Rattle.std.proofs.Math.Nat.{mod-lt}
-use Rattle.sector_disk.specs.Image.{put}
-use Rattle.sector_disk.proofs.Images.{put-same, put-other}
-use Rattle.koth_hill.specs.Hill.{Member, Hill}
-use Rattle.koth_hill.specs.Kept.{Kept, hill_in, fought}
-use Rattle.war_types.specs.declared.settings.RawSettings.{RawSettings}
-use Rattle.war_types.specs.Settings.{AreSettings}
-use Rattle.hill_bytes.specs.declared.header.HeaderEntry.{HeaderEntry}
-use Rattle.hill_bytes.specs.Layout.{Layout, HeaderParts, IsHeaderParts, IsHeader, code_room, header_bytes, slot_in}
-use Rattle.hill_images.specs.Stands.{IsNewestIn, IsHeld, AllHeld, ShowsIn, ReadsIn, StandsIn, results_read}
-use Rattle.hill_bytes.proofs.Codes.{one_header, one_slot}
+use Rattle.std.proofs.{Common.{◌≡◌, ℕ, inl, inr, ◌+◌, ◌%◌, ◌<◌, ◌≤◌, List, [], ◌∷◌, refl, sym, ap, subst, ◌∙◌, arith}, lemmas.Bool.cases_eq, Math.Nat.mod-lt}
+use Rattle.{war_types.specs.{declared.settings.RawSettings.RawSettings, Settings.AreSettings}, koth_hill.specs.{Hill.{Member, Hill}, Kept.{Kept, hill_in, fought}}}
+use Rattle.{sector_disk.specs.Image.put, sector_disk.proofs.Images.{put-same, put-other}}
+use Rattle.hill_bytes.specs.{declared.header.HeaderEntry.HeaderEntry, Layout.{Layout, HeaderParts, IsHeaderParts, IsHeader, code_room, header_bytes, slot_in}}
+use Rattle.{hill_bytes.proofs.Codes.{one_header, one_slot}, hill_images.specs.Stands.{IsNewestIn, IsHeld, AllHeld, ShowsIn, ReadsIn, StandsIn, results_read}}
 
 -- the sector of a generation is one of the first two
 pub parity_low : (generation : ℕ) → generation % 2 < 2

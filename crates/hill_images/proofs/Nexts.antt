@@ -1,27 +1,13 @@
 -- The header after a submission, and the hill that it shows.
-use Rattle.std.proofs.Common.{◌≡◌, ℕ, suc, ◌+◌, ◌≤◌, List, [], ◌∷◌, ◌++◌, length, map, get_or, All, Option, refl, sym, ap, ap₂, subst, ◌∙◌, arith}
-use Rattle.std.specs.Prelude.{position}
-use Rattle.std.proofs.lemmas.List.{length-map}
-use Rattle.std.proofs.lemmas.List.Elements.{All-nil, All-cons, All-head, All-tail}
-use Rattle.war_types.specs.declared.settings.RawSettings.{RawSettings}
-use Rattle.war_types.specs.Warrior.{WarriorParts}
-use Rattle.koth_match.specs.declared.bout.Bout.{Bout}
-use Rattle.koth_match.specs.Match.{match_of}
-use Rattle.koth_hill.specs.Hill.{Member}
-use Rattle.koth_hill.specs.Step.{is_entry, without, one_older, challenger}
-use Rattle.koth_hill.specs.Kept.{Kept, hill_in, fresh, fallen_place, without_place, rows_left, kept_stay, kept_fall, IsKept}
-use Rattle.koth_hill.proofs.RowsKept.{matches-rounds}
-use Rattle.hill_bytes.specs.declared.header.HeaderEntry.{HeaderEntry}
-use Rattle.hill_bytes.specs.declared.wins.Wins.{Wins}
-use Rattle.hill_bytes.specs.Layout.{HeaderParts, IsHeaderParts, IsEntry, SlotIsFree, SlotsDiffer, IsSlot, Layout, results_in, slot_bytes, slot_in}
-use Rattle.hill_bytes.proofs.Results.{results-written}
-use Rattle.hill_images.specs.Stands.{AllHeld, ShowsIn, no_wins, bout_of, result_read, slots_of, results_read}
-use Rattle.hill_images.specs.Named.{Agree}
-use Rattle.hill_images.specs.Places.{kept_entries, new_entry, header_placed, header_passed, results_by_slot}
-use Rattle.hill_images.proofs.Sectors.{slot-put, with_slot}
-use Rattle.hill_images.proofs.Held.{held_kept, held_more}
-use Rattle.hill_images.proofs.Results.{HaveRounds, results-placed, place-agrees, length-by_slot, fits-by_slot, by_slot-back}
-use Rattle.hill_images.proofs.Stops.{with_header, slot_written, shows_next}
+use Rattle.{std.proofs.Common.{◌≡◌, ℕ, suc, ◌+◌, ◌≤◌, List, [], ◌∷◌, ◌++◌, length, map, get_or, All, Option, refl, sym, ap, ap₂, subst, ◌∙◌, arith}, std.specs.Prelude.position}
+use Rattle.{std.proofs.{lemmas.List.length-map, lemmas.List.Elements.{All-nil, All-cons, All-head, All-tail}}, war_types.specs.{declared.settings.RawSettings.RawSettings, Warrior.WarriorParts}}
+use Rattle.koth_match.specs.{declared.bout.Bout.Bout, Match.match_of}
+use Rattle.koth_hill.specs.{Hill.Member, Step.{is_entry, without, one_older, challenger}, Kept.{Kept, hill_in, fresh, fallen_place, without_place, rows_left, kept_stay, kept_fall, IsKept}}
+use Rattle.{koth_hill.proofs.RowsKept.matches-rounds, hill_bytes.specs.{declared.header.HeaderEntry.HeaderEntry, declared.wins.Wins.Wins}}
+use Rattle.{hill_bytes.specs.Layout.{HeaderParts, IsHeaderParts, IsEntry, SlotIsFree, SlotsDiffer, IsSlot, Layout, results_in, slot_bytes, slot_in}, hill_bytes.proofs.Results.results-written}
+use Rattle.hill_images.specs.{Stands.{AllHeld, ShowsIn, no_wins, bout_of, result_read, slots_of, results_read}, Named.Agree}
+use Rattle.{hill_images.specs.Places.{kept_entries, new_entry, header_placed, header_passed, results_by_slot}, hill_images.proofs.{Sectors.{slot-put, with_slot}, Held.{held_kept, held_more}}}
+use Rattle.hill_images.proofs.{Results.{HaveRounds, results-placed, place-agrees, length-by_slot, fits-by_slot, by_slot-back}, Stops.{with_header, slot_written, shows_next}}
 
 pub agree_held : (layout : Layout) (s : RawSettings) (image : ℕ → List ℕ) (es : List HeaderEntry) (ms : List Member) → AllHeld layout s image es ms → Agree es ms
 agree_held layout s image [] [] held = tt

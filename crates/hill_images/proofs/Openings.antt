@@ -1,19 +1,8 @@
 -- The exits of an opening.
-use Rattle.std.proofs.Common.{◌≡◌, inr, ℕ, ◌<◌, ◌≤◌, List, Result, Ok, Err, IfOk, IfErr, sym, ap, subst, ◌∙◌}
-use Rattle.war_types.specs.declared.settings.RawSettings.{RawSettings}
-use Rattle.sector_disk.specs.Facts.{DeviceFacts}
-use Rattle.sector_disk.specs.Disk.{current, synced, IsSettled}
-use Rattle.sector_disk.proofs.Images.{settled-synced}
-use Rattle.koth_hill.specs.Kept.{Kept}
-use Rattle.hill_images.specs.declared.refusal.Refusal.{Refusal}
-use Rattle.hill_images.specs.declared.refusal.Refusal.TheVariants as refusals
-use Rattle.hill_bytes.specs.Layout.{Layout, HeaderParts, sectors_in}
-use Rattle.hill_images.specs.Stands.{IsNewestIn, AllHeld, ShowsIn, results_read}
-use Rattle.sector_disk.specs.Served.{IsKept}
-use Rattle.hill_images.specs.Opening.{IsRecovered, IsNotOpenedIn, RefusesIn}
-use Rattle.hill_images.specs.Reading.{refusal_of, HillNotRead, HillRead, HillRefused, IsHillFound}
-use Rattle.hill_images.specs.declared.reading.Unread.{Unread}
-use Rattle.hill_images.specs.declared.reading.Unread.TheVariants as unread
+use Rattle.{std.proofs.Common.{◌≡◌, inr, ℕ, ◌<◌, ◌≤◌, List, Result, Ok, Err, IfOk, IfErr, sym, ap, subst, ◌∙◌}, war_types.specs.declared.settings.RawSettings.RawSettings}
+use Rattle.{koth_hill.specs.Kept.Kept, sector_disk.specs.{Facts.DeviceFacts, Disk.{current, synced, IsSettled}, Served.IsKept}, sector_disk.proofs.Images.settled-synced}
+use Rattle.{hill_bytes.specs.Layout.{Layout, HeaderParts, sectors_in}, hill_images.specs.{declared.refusal.Refusal.Refusal, Stands.{IsNewestIn, AllHeld, ShowsIn, results_read}}}
+use Rattle.hill_images.specs.{Opening.{IsRecovered, IsNotOpenedIn, RefusesIn}, Reading.{refusal_of, HillNotRead, HillRead, HillRefused, IsHillFound}, declared.reading.Unread.Unread}
 use Rattle.hill_images.proofs.WarriorsRead.{rose_more}
 
 pub if_ok_map : {T E : Type 0} (P Q : T → Type 0) (result : Result T E) → ((x : T) → P x → Q x) → IfOk result P → IfOk result Q
@@ -35,9 +24,9 @@ shown {layout = layout} facts mid image h hill same lawful newest read = record 
 
 -- its warriors were not read
 pub not_read : {D : Type 0} (layout : Layout) (facts : DeviceFacts D) (old new : D) (h : HeaderParts) (why : Unread) → sectors_in layout h.settings.capacity ≤ facts.size old → HillNotRead layout facts old new h why → HillRefused layout facts old new h (refusal_of why)
-not_read layout facts old new h unread.Disk room failed = failed
-not_read layout facts old new h unread.Memory room failed = tt
-not_read layout facts old new h unread.Damaged room failed = (room, failed)
+not_read layout facts old new h Unread.Disk room failed = failed
+not_read layout facts old new h Unread.Memory room failed = tt
+not_read layout facts old new h Unread.Damaged room failed = (room, failed)
 
 -- the hill of the newest header was recovered
 pub recovered : {D : Type 0} {layout : Layout} (facts : DeviceFacts D) (old mid new : D) (given h : HeaderParts) (hill : Kept) (arena : RawSettings) → IsKept facts old mid → IsKept facts mid new → (facts.lawful old → facts.disk mid ≡ synced (facts.disk old)) → (facts.lawful mid → facts.disk new ≡ facts.disk mid) → (facts.lawful old → IsNewestIn layout (current (facts.disk old)) given) → IsHillFound layout facts mid given h hill arena → IsRecovered layout facts old new h hill arena
@@ -80,12 +69,12 @@ not_recovered {layout = layout} facts old mid new h why front back settled same 
 }
   where
     reason_of : (x : Refusal) → HillRefused layout facts mid new h x → facts.lawful old → RefusesIn layout (facts.size old) (current (facts.disk old)) x
-    reason_of refusals.TooSmall few lawful = inr (h, newest lawful, subst (λ n. n < sectors_in layout h.settings.capacity) front.same_size few)
-    reason_of refusals.Disk rose lawful = tt
-    reason_of refusals.Memory any lawful = tt
-    reason_of refusals.Occupied never lawful = never
-    reason_of refusals.NotAHill never lawful = absurd never
-    reason_of refusals.Damaged damaged lawful = (
+    reason_of Refusal.TooSmall few lawful = inr (h, newest lawful, subst (λ n. n < sectors_in layout h.settings.capacity) front.same_size few)
+    reason_of Refusal.Disk rose lawful = tt
+    reason_of Refusal.Memory any lawful = tt
+    reason_of Refusal.Occupied never lawful = never
+    reason_of Refusal.NotAHill never lawful = absurd never
+    reason_of Refusal.Damaged damaged lawful = (
       h,
       newest lawful,
       subst (λ n. sectors_in layout h.settings.capacity ≤ n) front.same_size damaged.0,

@@ -1,19 +1,8 @@
 -- The exits of writing a hill, slots first and then its header: for `put_hill`.
-use Rattle.std.proofs.Common.{◌≡◌, inl, [], ◌∷◌, Result, Ok, Err, IsErr, true≢false, sym, ap, subst}
-use Rattle.sector_disk.specs.Facts.{DeviceFacts}
-use Rattle.sector_disk.specs.Disk.{Disk, current, synced, IsSettled}
-use Rattle.sector_disk.specs.Image.{Images}
-use Rattle.sector_disk.specs.Changes.{after, Begun}
-use Rattle.sector_disk.proofs.Images.{images_read, settled-synced}
-use Rattle.koth_hill.specs.Kept.{Kept, hill_in}
-use Rattle.hill_bytes.specs.declared.format.Format.TheVariants as formats
-use Rattle.hill_bytes.specs.Layout.{HeaderParts, IsHeaderParts, new_layout}
-use Rattle.hill_images.specs.Stands.{IsReady}
-use Rattle.hill_images.specs.Named.{IsNamed}
-use Rattle.hill_images.specs.Places.{commits}
-use Rattle.hill_images.specs.Opening.{HoldsNone}
-use Rattle.hill_images.specs.Writing.{AreStored, IsPut, NoneOrHill}
-use Rattle.hill_images.proofs.Firsts.{MayShow, first_committed, first_stopped, images_begun_sync}
+use Rattle.{std.proofs.Common.{◌≡◌, inl, [], ◌∷◌, Result, Ok, Err, IsErr, true≢false, sym, ap, subst}, koth_hill.specs.Kept.{Kept, hill_in}}
+use Rattle.{sector_disk.specs.{Facts.DeviceFacts, Disk.{Disk, current, synced, IsSettled}, Image.Images, Changes.{after, Begun}}, sector_disk.proofs.Images.{images_read, settled-synced}}
+use Rattle.{hill_bytes.specs.{Layout.{HeaderParts, IsHeaderParts, new_layout}, declared.format.Format.Format}, hill_images.specs.{Stands.IsReady, Named.IsNamed, Places.commits}}
+use Rattle.{hill_images.specs.{Opening.HoldsNone, Writing.{AreStored, IsPut, NoneOrHill}}, hill_images.proofs.Firsts.{MayShow, first_committed, first_stopped, images_begun_sync}}
 
 -- a sync that was made or not brings no header into being
 pub none_synced : (disk new : Disk) → Images disk HoldsNone → Begun (synced ∷ []) disk new → Images new HoldsNone
@@ -45,7 +34,7 @@ module _ {D : Type 0} (facts : DeviceFacts D) (h : HeaderParts) (hill : Kept) wh
 
     -- the header was written
     pub put_made : facts.disk new ≡ after (commits new_layout h) (facts.disk mid) → IsReady new_layout (facts.disk new) h hill
-    put_made made = first_committed new_layout (facts.disk mid) (facts.disk new) h hill may (none_mid formats.New) made
+    put_made made = first_committed new_layout (facts.disk mid) (facts.disk new) h hill may (none_mid Format.New) made
 
     -- it was stopped in that
     pub put_late : {T E : Type 0} (result : Result T E) → IsErr result → Begun (commits new_layout h) (facts.disk mid) (facts.disk new) → IsPut facts h hill new result

@@ -1,28 +1,13 @@
 -- The results that are read of the warriors on a hill, while sectors are written: for `place` and what it leaves.
-use Rattle.std.proofs.Common.{◌≡◌, ℕ, zero, suc, ◌+◌, ◌-◌, ◌<◌, ◌≤◌, Bool, true, false, cond, List, [], ◌∷◌, ◌++◌, length, map, remove, replicate, set, get_or, All, Option, None, Some, refl, sym, ap, ap₂, subst, ◌∙◌, arith}
-use Rattle.std.specs.Prelude.{position, nat_lt}
-use Rattle.std.specs.List.{position_or_len}
-use Rattle.std.proofs.lemmas.Bool.{cond-true, cond-false, ne_eqb, eqb-true, ltb-false}
-use Rattle.std.proofs.lemmas.List.{map-append, map-id, length-map, get_or-set_same, get_or-set_other, length-set}
-use Rattle.std.proofs.lemmas.List.Elements.{All-nil, All-cons, All-head, All-tail, All-set, All-replicate}
-use Rattle.std.proofs.lemmas.List.Quantifiers.{position-Some}
-use Rattle.std.proofs.lemmas.List.Sums.{fails_before_first}
-use Rattle.sector_disk.specs.Image.{put}
-use Rattle.koth_match.specs.declared.bout.Bout.{Bout}
-use Rattle.koth_match.specs.Match.{rounds_in}
-use Rattle.koth_hill.specs.Hill.{Member}
-use Rattle.koth_hill.specs.Step.{is_entry}
-use Rattle.koth_hill.specs.Kept.{fallen_place, without_place, rows_left, rows_with}
-use Rattle.koth_hill.proofs.Places.{position-map}
-use Rattle.koth_hill.proofs.Truths.{map-remove, rows_with-push, rows_with-left, rows_with-same}
-use Rattle.hill_bytes.specs.declared.header.HeaderEntry.{HeaderEntry}
-use Rattle.hill_bytes.specs.declared.wins.Wins.{Wins}
-use Rattle.hill_bytes.specs.Layout.{EntriesRise, SlotIsFree, SlotsDiffer, FitRounds, Layout, results_in, slot_in}
-use Rattle.hill_images.specs.Stands.{no_wins, bout_of, result_read, slots_of, results_read}
-use Rattle.hill_images.specs.Named.{Agree}
-use Rattle.hill_images.specs.Places.{wins_of, results_onto, results_by_slot, kept_entries}
-use Rattle.hill_images.proofs.Sectors.{slot-elsewhere}
-use Rattle.hill_images.proofs.Held.{Apart}
+use Rattle.std.proofs.Common.{◌≡◌, ℕ, zero, suc, ◌+◌, ◌-◌, ◌<◌, ◌≤◌, Bool, true, false, cond, List, [], ◌∷◌, ◌++◌, length, map, remove, replicate, set, get_or, All, Option, None, Some, refl}
+use Rattle.{std.proofs.Common.{sym, ap, ap₂, subst, ◌∙◌, arith}, std.specs.{Prelude.{position, nat_lt}, List.position_or_len}}
+use Rattle.std.proofs.{lemmas.Bool.{cond-true, cond-false, ne_eqb, eqb-true, ltb-false}, lemmas.List.{map-append, map-id, length-map, get_or-set_same, get_or-set_other, length-set}}
+use Rattle.std.proofs.{lemmas.List.Elements.{All-nil, All-cons, All-head, All-tail, All-set, All-replicate}, lemmas.List.Quantifiers.position-Some, lemmas.List.Sums.fails_before_first}
+use Rattle.{koth_match.specs.{declared.bout.Bout.Bout, Match.rounds_in}, koth_hill.specs.{Hill.Member, Step.is_entry, Kept.{fallen_place, without_place, rows_left, rows_with}}}
+use Rattle.{koth_hill.proofs.{Places.position-map, Truths.{map-remove, rows_with-push, rows_with-left, rows_with-same}}, sector_disk.specs.Image.put}
+use Rattle.hill_bytes.specs.{declared.header.HeaderEntry.HeaderEntry, declared.wins.Wins.Wins, Layout.{EntriesRise, SlotIsFree, SlotsDiffer, FitRounds, Layout, results_in, slot_in}}
+use Rattle.hill_images.specs.{Stands.{no_wins, bout_of, result_read, slots_of, results_read}, Named.Agree, Places.{wins_of, results_onto, results_by_slot, kept_entries}}
+use Rattle.hill_images.proofs.{Sectors.slot-elsewhere, Held.Apart}
 
 -- ---- sectors
 

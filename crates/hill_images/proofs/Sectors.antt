@@ -1,17 +1,8 @@
 -- The sectors of slots: where they lie, what is in them while sectors are written, and what a stop leaves of a run of writes.
-use Rattle.std.proofs.Common.{◌≡◌, ◌≢◌, ◌⊎◌, inl, inr, ℕ, zero, suc, ◌+◌, ◌<◌, ◌≤◌, List, [], ◌∷◌, ◌++◌, length, take, get_or, Result, Ok, Err, IsErr, true≢false, refl, sym, ap, ap₂, subst, ◌∙◌, arith}
-use Rattle.std.proofs.lemmas.Bool.{cases_lt}
-use Rattle.std.proofs.Math.Nat.{mul-le-mul_left}
-use Rattle.sector_disk.specs.Disk.{Disk, current, wrote}
-use Rattle.sector_disk.specs.Image.{Images, put}
-use Rattle.sector_disk.specs.Changes.{after, Begun, Changes}
-use Rattle.sector_disk.proofs.Images.{put-same, put-other, current-wrote, images_write}
-use Rattle.sector_disk.proofs.Runs.{begun_none}
-use Rattle.war_types.specs.Warrior.{WarriorParts}
-use Rattle.hill_bytes.specs.declared.wins.Wins.{Wins}
-use Rattle.hill_bytes.specs.Layout.{Layout, sectors_from, slot_at, slot_bytes, slot_in}
-use Rattle.hill_bytes.proofs.SlotBytes.{length-slot}
-use Rattle.hill_images.specs.Places.{writes_from}
+use Rattle.std.proofs.Common.{◌≡◌, ◌≢◌, ◌⊎◌, inl, inr, ℕ, zero, suc, ◌+◌, ◌<◌, ◌≤◌, List, [], ◌∷◌, ◌++◌, length, take, get_or, Result, Ok, Err, IsErr, true≢false, refl, sym, ap, ap₂, subst, ◌∙◌}
+use Rattle.{std.proofs.{Common.arith, lemmas.Bool.cases_lt, Math.Nat.mul-le-mul_left}, war_types.specs.Warrior.WarriorParts, sector_disk.specs.{Disk.{Disk, current, wrote}, Image.{Images, put}}}
+use Rattle.{sector_disk.specs.Changes.{after, Begun, Changes}, sector_disk.proofs.{Images.{put-same, put-other, current-wrote, images_write}, Runs.begun_none}}
+use Rattle.{hill_bytes.specs.{declared.wins.Wins.Wins, Layout.{Layout, sectors_from, slot_at, slot_bytes, slot_in}}, hill_bytes.proofs.SlotBytes.length-slot, hill_images.specs.Places.writes_from}
 
 -- ---- where they lie
 

@@ -1,14 +1,8 @@
 -- What an image reads as is a hill.
-use Rattle.std.proofs.Common.{◌≡◌, ℕ, ◌-◌, ◌<◌, ◌≤◌, List, [], ◌∷◌, length, All, sym, subst, arith}
-use Rattle.std.proofs.lemmas.List.Elements.{All-nil, All-cons, All-head, All-tail}
-use Rattle.war_types.specs.declared.settings.RawSettings.{RawSettings}
-use Rattle.war_types.specs.Settings.{AreSettings}
-use Rattle.koth_hill.specs.Hill.{Member, IsHill, MayStand, RiseFrom}
-use Rattle.koth_hill.specs.Kept.{Kept, hill_in}
-use Rattle.hill_bytes.specs.declared.header.HeaderEntry.{HeaderEntry}
-use Rattle.hill_bytes.specs.Layout.{Layout, HeaderParts, IsHeaderParts, IsEntry, EntriesRise}
-use Rattle.hill_images.specs.Stands.{AllHeld, ShowsIn, ReadsIn}
-use Rattle.hill_images.proofs.Nexts.{agree_length, agree_held}
+use Rattle.std.proofs.{Common.{◌≡◌, ℕ, ◌-◌, ◌<◌, ◌≤◌, List, [], ◌∷◌, length, All, sym, subst, arith}, lemmas.List.Elements.{All-nil, All-cons, All-head, All-tail}}
+use Rattle.{war_types.specs.{declared.settings.RawSettings.RawSettings, Settings.AreSettings}, koth_hill.specs.{Hill.{Member, IsHill, MayStand, RiseFrom}, Kept.{Kept, hill_in}}}
+use Rattle.hill_bytes.specs.{declared.header.HeaderEntry.HeaderEntry, Layout.{Layout, HeaderParts, IsHeaderParts, IsEntry, EntriesRise}}
+use Rattle.{hill_images.specs.Stands.{AllHeld, ShowsIn, ReadsIn}, hill_images.proofs.Nexts.{agree_length, agree_held}}
 
 held_rising : (layout : Layout) (s : RawSettings) (image : ℕ → List ℕ) (before : ℕ) (es : List HeaderEntry) (ms : List Member) → AllHeld layout s image es ms → EntriesRise before es → RiseFrom before ms
 held_rising layout s image before [] [] held rise = tt

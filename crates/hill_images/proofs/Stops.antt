@@ -1,21 +1,11 @@
 -- What a stop leaves in the midst of a commit, and of the calls that place a warrior.
-use Rattle.std.proofs.Common.{◌≡◌, ◌⊎◌, inl, inr, ℕ, ◌+◌, ◌%◌, ◌≤◌, List, ◌∷◌, length, sym, subst, ◌∙◌, arith}
-use Rattle.war_types.specs.Warrior.{WarriorParts}
-use Rattle.sector_disk.specs.Disk.{Disk, current, wrote, synced, IsSettled}
-use Rattle.sector_disk.specs.Image.{Images, put}
-use Rattle.sector_disk.specs.Changes.{after, Begun}
-use Rattle.sector_disk.proofs.Images.{current-wrote, images_read, images_write, images_settled, images_sync, settled-synced}
-use Rattle.sector_disk.proofs.Runs.{after-append}
-use Rattle.koth_hill.specs.Kept.{Kept}
-use Rattle.hill_bytes.specs.declared.wins.Wins.{Wins}
-use Rattle.hill_bytes.specs.Layout.{Layout, HeaderParts, IsHeaderParts, SlotIsFree, header_bytes, slot_at, slot_bytes}
-use Rattle.hill_bytes.proofs.SlotBytes.{length-slot}
-use Rattle.hill_images.specs.Stands.{IsNewestIn, AllHeld, ShowsIn, IsReady, results_read}
-use Rattle.hill_images.specs.Places.{slot_writes, commits, places}
-use Rattle.hill_images.proofs.Sectors.{IsKeptBy, current-writes, images_writes, puts_keep, with_slot, writes_stopped}
-use Rattle.hill_images.proofs.Held.{Apart, apart_headers, apart_slot, held_elsewhere}
-use Rattle.hill_images.proofs.Results.{results-elsewhere}
-use Rattle.hill_images.proofs.Newest.{parity_low, newest_elsewhere, newest_next}
+use Rattle.{std.proofs.Common.{◌≡◌, ◌⊎◌, inl, inr, ℕ, ◌+◌, ◌%◌, ◌≤◌, List, ◌∷◌, length, sym, subst, ◌∙◌, arith}, war_types.specs.Warrior.WarriorParts, koth_hill.specs.Kept.Kept}
+use Rattle.sector_disk.specs.{Disk.{Disk, current, wrote, synced, IsSettled}, Image.{Images, put}, Changes.{after, Begun}}
+use Rattle.sector_disk.proofs.{Images.{current-wrote, images_read, images_write, images_settled, images_sync, settled-synced}, Runs.after-append}
+use Rattle.{hill_bytes.specs.{declared.wins.Wins.Wins, Layout.{Layout, HeaderParts, IsHeaderParts, SlotIsFree, header_bytes, slot_at, slot_bytes}}, hill_bytes.proofs.SlotBytes.length-slot}
+use Rattle.hill_images.specs.{Stands.{IsNewestIn, AllHeld, ShowsIn, IsReady, results_read}, Places.{slot_writes, commits, places}}
+use Rattle.hill_images.proofs.{Sectors.{IsKeptBy, current-writes, images_writes, puts_keep, with_slot, writes_stopped}, Held.{Apart, apart_headers, apart_slot, held_elsewhere}}
+use Rattle.hill_images.proofs.{Results.results-elsewhere, Newest.{parity_low, newest_elsewhere, newest_next}}
 
 -- the image with a header
 abbrev pub with_header : Layout → HeaderParts → (ℕ → List ℕ) → ℕ → List ℕ

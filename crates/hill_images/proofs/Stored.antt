@@ -1,37 +1,14 @@
 -- The slots of a hill, written one after another to a device that holds none: for `write_members`.
-use Rattle.std.proofs.Common.{◌≡◌, ◌≢◌, inl, inr, ℕ, zero, suc, ◌+◌, ◌%◌, ◌<◌, ◌≤◌, List, [], ◌∷◌, ◌++◌, length, take, get_or, slice_get, Some, All, refl, sym, ap, ap₂, subst, ◌∙◌, arith, min, length-take}
-use Rattle.std.proofs.lemmas.List.{take_all, take_more}
-use Rattle.std.proofs.lemmas.List.Elements.{All-get_or}
-use Rattle.std.proofs.lemmas.Option.{get_or_from_slice_get}
-use Rattle.war_types.specs.declared.settings.RawSettings.{RawSettings}
-use Rattle.war_types.specs.Warrior.{WarriorParts}
-use Rattle.sector_disk.specs.Facts.{DeviceFacts}
-use Rattle.sector_disk.specs.Disk.{Disk, current}
-use Rattle.sector_disk.specs.Image.{Images, put}
-use Rattle.sector_disk.specs.Changes.{after, Begun}
-use Rattle.sector_disk.specs.Served.{IsKept}
-use Rattle.sector_disk.proofs.Images.{put-other}
-use Rattle.sector_disk.proofs.Kept.{kept_on, kept_same}
-use Rattle.sector_disk.proofs.Runs.{begun_front}
-use Rattle.koth_match.specs.declared.bout.Bout.{Bout}
-use Rattle.koth_hill.specs.Hill.{Member, MayStand}
-use Rattle.koth_hill.specs.Kept.{Kept, AreRows, IsKept as IsKeptHill, hill_in}
-use Rattle.hill_bytes.specs.declared.header.HeaderEntry.{HeaderEntry}
-use Rattle.hill_bytes.specs.declared.wins.Wins.{Wins}
-use Rattle.hill_bytes.specs.Layout.{HeaderParts, IsHeader, IsHeaderParts, IsTitled, SlotIsFree, SlotsDiffer, layout_of, new_layout, slot_at, slot_bytes}
-use Rattle.hill_bytes.proofs.Results.{slot-written}
-use Rattle.hill_images.specs.Stands.{AllHeld, IsHeld, results_read}
-use Rattle.hill_images.specs.Named.{Agree, IsNamed}
-use Rattle.hill_images.specs.Places.{results_by_slot, writes_from}
-use Rattle.hill_images.specs.Opening.{HoldsNone}
-use Rattle.hill_images.specs.Writing.{AreStored}
-use Rattle.hill_images.proofs.Sectors.{IsKeptBy, images_writes, puts_keep, with_slot, writes_stopped}
-use Rattle.hill_images.proofs.Held.{apart_slot, held_elsewhere, held_more}
-use Rattle.hill_images.proofs.Results.{HaveRounds, fits-by_slot, length-by_slot, results-elsewhere, results-push}
-use Rattle.hill_images.proofs.Newest.{parity_low}
-use Rattle.hill_images.proofs.Stops.{current-slot, slot_room}
-use Rattle.hill_images.proofs.Nexts.{agree_length, row_back, slot_holds}
-use Rattle.hill_images.proofs.WarriorsRead.{low_before}
+use Rattle.std.proofs.Common.{◌≡◌, ◌≢◌, inl, inr, ℕ, zero, suc, ◌+◌, ◌%◌, ◌<◌, ◌≤◌, List, [], ◌∷◌, ◌++◌, length, take, get_or, slice_get, Some, All, refl, sym, ap, ap₂, subst, ◌∙◌, arith}
+use Rattle.std.proofs.{Common.{min, length-take}, lemmas.List.{take_all, take_more}, lemmas.List.Elements.All-get_or, lemmas.Option.get_or_from_slice_get}
+use Rattle.{war_types.specs.{declared.settings.RawSettings.RawSettings, Warrior.WarriorParts}, koth_match.specs.declared.bout.Bout.Bout, koth_hill.specs.Hill.{Member, MayStand}}
+use Rattle.{koth_hill.specs.Kept.{Kept, AreRows, IsKept as IsKeptHill, hill_in}, sector_disk.specs.{Facts.DeviceFacts, Disk.{Disk, current}, Image.{Images, put}, Changes.{after, Begun}}}
+use Rattle.{sector_disk.specs.Served.IsKept, sector_disk.proofs.{Images.put-other, Kept.{kept_on, kept_same}, Runs.begun_front}, hill_bytes.specs.declared.header.HeaderEntry.HeaderEntry}
+use Rattle.hill_bytes.specs.{declared.wins.Wins.Wins, Layout.{HeaderParts, IsHeader, IsHeaderParts, IsTitled, SlotIsFree, SlotsDiffer, layout_of, new_layout, slot_at, slot_bytes}}
+use Rattle.{hill_bytes.proofs.Results.slot-written, hill_images.specs.{Stands.{AllHeld, IsHeld, results_read}, Named.{Agree, IsNamed}, Places.{results_by_slot, writes_from}}}
+use Rattle.{hill_images.specs.{Opening.HoldsNone, Writing.AreStored}, hill_images.proofs.Sectors.{IsKeptBy, images_writes, puts_keep, with_slot, writes_stopped}}
+use Rattle.hill_images.proofs.{Held.{apart_slot, held_elsewhere, held_more}, Results.{HaveRounds, fits-by_slot, length-by_slot, results-elsewhere, results-push}, Newest.parity_low}
+use Rattle.hill_images.proofs.{Stops.{current-slot, slot_room}, Nexts.{agree_length, row_back, slot_holds}, WarriorsRead.low_before}
 
 -- `n` of them were written
 pub record IsStoredTo {D : Type 0} (facts : DeviceFacts D) (old now : D) (h : HeaderParts) (hill : Kept) (i : ℕ) : Type 0 where

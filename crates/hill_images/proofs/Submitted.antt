@@ -1,28 +1,15 @@
 -- A submission that is placed or falls: its header, its hill, and what every image then stands for.
 use Rattle.std.proofs.Common.{◌≡◌, ◌≢◌, ◌⊎◌, inl, inr, ℕ, ◌+◌, ◌-◌, ◌^◌, ◌<◌, ◌≤◌, Bool, true, false, if◌then◌else◌, List, [], ◌∷◌, ◌++◌, length, All, Option, refl, sym, ap, subst, arith}
-use Rattle.std.proofs.lemmas.Bool.{cond-true, cond-false}
-use Rattle.std.proofs.lemmas.List.Elements.{All-nil, All-cons, All-head, All-tail}
-use Rattle.war_types.specs.declared.settings.RawSettings.{RawSettings}
-use Rattle.war_types.specs.Settings.{AreSettings}
-use Rattle.war_types.specs.Warrior.{WarriorParts, Fits}
-use Rattle.sector_disk.specs.Disk.{Disk, current}
-use Rattle.sector_disk.specs.Image.{Images}
-use Rattle.sector_disk.specs.Changes.{after, Begun}
-use Rattle.sector_disk.proofs.Images.{images_settled}
-use Rattle.koth_hill.specs.Hill.{Member, Hill, IsHill, MayStand, RiseFrom}
-use Rattle.koth_hill.specs.Step.{is_entry, without, one_older, challenger, falling_by, stays_by, after_stay, after_fall}
-use Rattle.koth_hill.specs.Kept.{Kept, hill_in, fresh, known, verdict_kept, kept_stay, kept_fall, step_kept, IsKept}
-use Rattle.koth_hill.proofs.RowsKept.{matches-rounds}
-use Rattle.koth_hill.proofs.Verdicts.{verdict-stays, verdict-falls, verdict-entry, verdict-bouts}
-use Rattle.hill_bytes.specs.declared.header.HeaderEntry.{HeaderEntry}
-use Rattle.hill_bytes.specs.declared.wins.Wins.{Wins}
+use Rattle.std.proofs.{lemmas.Bool.{cond-true, cond-false}, lemmas.List.Elements.{All-nil, All-cons, All-head, All-tail}}
+use Rattle.war_types.specs.{declared.settings.RawSettings.RawSettings, Settings.AreSettings, Warrior.{WarriorParts, Fits}}
+use Rattle.koth_hill.specs.{Hill.{Member, Hill, IsHill, MayStand, RiseFrom}, Step.{is_entry, without, one_older, challenger, falling_by, stays_by, after_stay, after_fall}}
+use Rattle.{koth_hill.specs.Kept.{Kept, hill_in, fresh, known, verdict_kept, kept_stay, kept_fall, step_kept, IsKept}, koth_hill.proofs.RowsKept.matches-rounds}
+use Rattle.{koth_hill.proofs.Verdicts.{verdict-stays, verdict-falls, verdict-entry, verdict-bouts}, sector_disk.specs.{Disk.{Disk, current}, Image.Images, Changes.{after, Begun}}}
+use Rattle.{sector_disk.proofs.Images.images_settled, hill_bytes.specs.{declared.header.HeaderEntry.HeaderEntry, declared.wins.Wins.Wins}}
 use Rattle.hill_bytes.specs.Layout.{HeaderParts, IsHeaderParts, IsEntry, IsSlot, EntriesRise, SlotsDiffer, SlotIsFree, IsTitled, Layout, sectors_in, slot_bytes}
 use Rattle.hill_bytes.proofs.Results.{slot-written}
-use Rattle.hill_images.specs.Stands.{ReadsIn, IsReady}
-use Rattle.hill_images.specs.Named.{Agree, IsNamed}
-use Rattle.hill_images.specs.Places.{kept_entries, new_entry, header_placed, header_passed, results_by_slot, commits, places}
-use Rattle.hill_images.proofs.Stops.{Either, IsStep, IsPlacing, committed, commit_stopped, placed, place_stopped}
-use Rattle.hill_images.proofs.Results.{length-by_slot, fits-by_slot}
+use Rattle.hill_images.specs.{Stands.{ReadsIn, IsReady}, Named.{Agree, IsNamed}, Places.{kept_entries, new_entry, header_placed, header_passed, results_by_slot, commits, places}}
+use Rattle.hill_images.proofs.{Stops.{Either, IsStep, IsPlacing, committed, commit_stopped, placed, place_stopped}, Results.{length-by_slot, fits-by_slot}}
 use Rattle.hill_images.proofs.Nexts.{agree_length, shows_placed, shows_passed}
 
 -- the verdict and the step are of one mind

@@ -1,31 +1,14 @@
 -- The warriors of a header, read one after another.
-use Rattle.std.proofs.Common.{◌≡◌, ℕ, zero, suc, ◌+◌, ◌-◌, ◌<◌, ◌≤◌, List, [], ◌∷◌, ◌++◌, length, map, All, take, get_or, Option, None, Some, Result, Ok, Err, IfOk, refl, sym, ap, ap₂, subst, ◌∙◌, inl, inr, min, arith, length-take}
-use Rattle.std.proofs.Math.Nat.{mul-le-mul_left}
-use Rattle.std.proofs.lemmas.Bool.{cases_eq}
-use Rattle.std.proofs.lemmas.List.{take_more, take_all}
-use Rattle.std.proofs.lemmas.List.Elements.{All-nil, All-cons, All-head, All-tail, All-take, All-get_or}
-use Rattle.war_types.specs.declared.settings.RawSettings.{RawSettings}
-use Rattle.war_types.specs.Warrior.{WarriorParts}
-use Rattle.sector_disk.specs.Facts.{DeviceFacts}
-use Rattle.sector_disk.specs.Disk.{current}
-use Rattle.koth_match.specs.declared.bout.Bout.{Bout}
-use Rattle.koth_match.specs.Match.{rounds_in}
-use Rattle.koth_hill.specs.Hill.{Member, member_of, last_entry, last_entry_from}
-use Rattle.koth_hill.specs.Kept.{Kept, IsKept as IsKeptHill, kept_of, new_kept}
-use Rattle.hill_bytes.specs.declared.header.HeaderEntry.{HeaderEntry}
-use Rattle.hill_bytes.specs.declared.wins.Wins.{Wins}
+use Rattle.std.proofs.Common.{◌≡◌, ℕ, zero, suc, ◌+◌, ◌-◌, ◌<◌, ◌≤◌, List, [], ◌∷◌, ◌++◌, length, map, All, take, get_or, Option, None, Some, Result, Ok, Err, IfOk, refl, sym, ap, ap₂}
+use Rattle.std.proofs.{Common.{subst, ◌∙◌, inl, inr, min, arith, length-take}, Math.Nat.mul-le-mul_left, lemmas.Bool.cases_eq, lemmas.List.{take_more, take_all}}
+use Rattle.{std.proofs.lemmas.List.Elements.{All-nil, All-cons, All-head, All-tail, All-take, All-get_or}, war_types.specs.{declared.settings.RawSettings.RawSettings, Warrior.WarriorParts}}
+use Rattle.{koth_match.specs.{declared.bout.Bout.Bout, Match.rounds_in}, koth_hill.specs.Hill.{Member, member_of, last_entry, last_entry_from}}
+use Rattle.{koth_hill.specs.Kept.{Kept, IsKept as IsKeptHill, kept_of, new_kept}, sector_disk.specs.{Facts.DeviceFacts, Disk.current, Served.{IsKept, Failed}}}
+use Rattle.{sector_disk.proofs.Kept.{kept_on, kept_same}, hill_bytes.specs.{declared.header.HeaderEntry.HeaderEntry, declared.wins.Wins.Wins}}
 use Rattle.hill_bytes.specs.Layout.{HeaderParts, IsHeaderParts, IsEntry, EntriesRise, FitRounds, HoldsSame, IsSlotRead, Layout, code_room, new_layout, results_in, sectors_in, slot_in}
-use Rattle.hill_images.specs.Stands.{IsHeld, AllHeld, no_wins, bout_of, slots_of, results_read}
-use Rattle.hill_images.specs.Named.{Agree}
-use Rattle.sector_disk.specs.Served.{IsKept, Failed}
-use Rattle.sector_disk.proofs.Kept.{kept_on, kept_same}
-use Rattle.hill_images.specs.Reading.{IsDecodedAs, ResultsRead, SlotHolds, WarriorRead, WarriorNotRead, HillRead, HillNotRead}
-use Rattle.hill_images.specs.declared.reading.Unread.{Unread}
-use Rattle.hill_images.specs.declared.reading.Unread.TheVariants as unread
-use Rattle.hill_images.proofs.Held.{held_more}
-use Rattle.hill_images.proofs.Results.{results-push, row-slots}
-use Rattle.hill_images.proofs.Nexts.{agree_length, slots_low}
-use Rattle.hill_images.proofs.Submitted.{agree_more}
+use Rattle.hill_images.specs.{Stands.{IsHeld, AllHeld, no_wins, bout_of, slots_of, results_read}, Named.Agree}
+use Rattle.hill_images.specs.{Reading.{IsDecodedAs, ResultsRead, SlotHolds, WarriorRead, WarriorNotRead, HillRead, HillNotRead}, declared.reading.Unread.Unread}
+use Rattle.hill_images.proofs.{Held.held_more, Results.{results-push, row-slots}, Nexts.{agree_length, slots_low}, Submitted.agree_more}
 
 -- `n` entries were read
 pub record IsReadTo {D : Type 0} (layout : Layout) (facts : DeviceFacts D) (old now : D) (h : HeaderParts) (i : ℕ) (hill : Kept) : Type 0 where
@@ -208,9 +191,9 @@ members_read {layout = layout} facts old now h i hill es same below read =
 
 -- one was not read
 pub read_failed : {D : Type 0} {layout : Layout} (facts : DeviceFacts D) (old mid new : D) (h : HeaderParts) (i : ℕ) (hill : Kept) (es : List HeaderEntry) (d : HeaderEntry) (s : RawSettings) (why : Unread) → es ≡ h.entries → s ≡ h.settings → i < length es → IsReadTo layout facts old mid h i hill → IsKept facts mid new → WarriorNotRead layout facts mid new s (get_or es i d).slot why → HillNotRead layout facts old new h why
-read_failed {layout = layout} facts old mid new h i hill es d s unread.Disk same same_s below read kept failed = rose_more facts old mid new read.kept.later kept.later failed
-read_failed {layout = layout} facts old mid new h i hill es d s unread.Memory same same_s below read kept failed = tt
-read_failed {layout = layout} facts old mid new h i hill es d s unread.Damaged same same_s below read kept failed = λ lawful. λ ms. λ held.
+read_failed {layout = layout} facts old mid new h i hill es d s Unread.Disk same same_s below read kept failed = rose_more facts old mid new read.kept.later kept.later failed
+read_failed {layout = layout} facts old mid new h i hill es d s Unread.Memory same same_s below read kept failed = tt
+read_failed {layout = layout} facts old mid new h i hill es d s Unread.Damaged same same_s below read kept failed = λ lawful. λ ms. λ held.
     let there = held_at layout h.settings (current (facts.disk old)) h.entries ms i d (subst (λ xs. i < length xs) same below) held in
     failed (read.kept.same_laws.1 lawful) there.0
     (subst (λ x. SlotHolds layout s (current x) (get_or es i d).slot there.0) (sym (read.same lawful))
@@ -245,9 +228,9 @@ decoded_some (Err error) w P is has = cc
 pub not_decoded : {D E : Type 0} (layout : Layout) (facts : DeviceFacts D) (old new : D) (s : RawSettings) (slot : ℕ) (found : Result (Option WarriorParts) E) (why : Unread) → IsDecodedAs found (Err why)
     → IfOk found (λ read. facts.lawful old → IsSlotRead layout s (slot_in layout (current (facts.disk old)) slot) read) → WarriorNotRead layout facts old new s slot why
 not_decoded layout facts old new s slot (Ok (Some w)) why is has = cc
-not_decoded layout facts old new s slot (Ok None) unread.Damaged is has = has
-not_decoded layout facts old new s slot (Ok None) unread.Disk is has = cc
-not_decoded layout facts old new s slot (Ok None) unread.Memory is has = tt
-not_decoded layout facts old new s slot (Err error) unread.Memory is has = tt
-not_decoded layout facts old new s slot (Err error) unread.Disk is has = cc
-not_decoded layout facts old new s slot (Err error) unread.Damaged is has = cc
+not_decoded layout facts old new s slot (Ok None) Unread.Damaged is has = has
+not_decoded layout facts old new s slot (Ok None) Unread.Disk is has = cc
+not_decoded layout facts old new s slot (Ok None) Unread.Memory is has = tt
+not_decoded layout facts old new s slot (Err error) Unread.Memory is has = tt
+not_decoded layout facts old new s slot (Err error) Unread.Disk is has = cc
+not_decoded layout facts old new s slot (Err error) Unread.Damaged is has = cc

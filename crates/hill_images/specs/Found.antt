@@ -1,8 +1,6 @@
 -- What is found in the sectors of the headers.
 use Rattle.std.specs.Prelude.{◌≡◌, ℕ, ◌%◌, Bool, true, false, List, Option, Some, None}
-use Rattle.hill_bytes.specs.declared.format.Format.{Format}
-use Rattle.hill_bytes.specs.Layout.{Layout, HeaderParts, IsHeader, layout_of}
-use Rattle.hill_images.specs.Stands.{IsNewestIn}
+use Rattle.{hill_bytes.specs.{declared.format.Format.Format, Layout.{Layout, HeaderParts, IsHeader, layout_of}}, hill_images.specs.Stands.IsNewestIn}
 
 -- what these bytes are as sector n: the valid header, or nothing only if there is none
 abbrev pub IsFoundIn : Layout → ℕ → List ℕ → Option HeaderParts → Type 0

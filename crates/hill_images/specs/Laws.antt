@@ -1,12 +1,7 @@
 -- Laws of what is stored, for all bytes and every image, in every layout.
 use Rattle.std.specs.Prelude.{◌≡◌, ℕ, ◌≤◌, List}
-use Rattle.war_types.specs.declared.settings.RawSettings.{RawSettings}
-use Rattle.war_types.specs.Settings.{AreSettings}
-use Rattle.war_types.specs.Warrior.{WarriorParts}
-use Rattle.koth_hill.specs.Hill.{Hill}
-use Rattle.koth_hill.specs.Kept.{Kept}
-use Rattle.hill_bytes.specs.Layout.{Layout, HeaderParts, IsHeader, IsSlot, code_room}
-use Rattle.hill_images.specs.Stands.{ReadsIn, StandsIn}
+use Rattle.{war_types.specs.{declared.settings.RawSettings.RawSettings, Settings.AreSettings, Warrior.WarriorParts}, koth_hill.specs.{Hill.Hill, Kept.Kept}}
+use Rattle.{hill_bytes.specs.Layout.{Layout, HeaderParts, IsHeader, IsSlot, code_room}, hill_images.specs.Stands.{ReadsIn, StandsIn}}
 
 pub record LawsOfStorage : Type 0 where
   -- bytes are one header's at most

@@ -1,12 +1,7 @@
 -- A header and the hill that it names.
 use Rattle.std.specs.Prelude.{◌≡◌, ◌≤◌, Bool, false, List, [], ◌∷◌}
-use Rattle.war_types.specs.declared.settings.RawSettings.{RawSettings}
-use Rattle.sector_disk.specs.Facts.{DeviceFacts}
-use Rattle.koth_hill.specs.Hill.{Member, Hill}
-use Rattle.koth_hill.specs.Kept.{Kept, hill_in, IsKept}
-use Rattle.hill_bytes.specs.declared.header.HeaderEntry.{HeaderEntry}
-use Rattle.hill_bytes.specs.Layout.{Layout, HeaderParts, IsHeaderParts, new_layout, sectors_in}
-use Rattle.hill_images.specs.Stands.{IsReady}
+use Rattle.{war_types.specs.declared.settings.RawSettings.RawSettings, koth_hill.specs.{Hill.{Member, Hill}, Kept.{Kept, hill_in, IsKept}}, sector_disk.specs.Facts.DeviceFacts}
+use Rattle.{hill_bytes.specs.{declared.header.HeaderEntry.HeaderEntry, Layout.{Layout, HeaderParts, IsHeaderParts, new_layout, sectors_in}}, hill_images.specs.Stands.IsReady}
 
 -- entries and members agree one by one
 abbrev pub Agree : List HeaderEntry → List Member → Type 0

@@ -1,19 +1,9 @@
 -- What opening a hill finds on a device of either format, and what writing one to a device that holds none makes of it.
 use Rattle.std.specs.Prelude.{◌≡◌, ◌⊎◌, ℕ, ◌%◌, ◌<◌, ◌≤◌, Bool, true, false, List, [], ◌∷◌}
-use Rattle.war_types.specs.declared.settings.RawSettings.{RawSettings}
-use Rattle.war_types.specs.Settings.{AreSettings}
-use Rattle.sector_disk.specs.Facts.{DeviceFacts}
-use Rattle.sector_disk.specs.Disk.{Disk, current, synced}
-use Rattle.sector_disk.specs.Image.{IsImage, Images}
-use Rattle.sector_disk.specs.Changes.{Begun}
-use Rattle.sector_disk.specs.Served.{Failed}
-use Rattle.koth_hill.specs.Kept.{Kept, new_kept}
-use Rattle.hill_images.specs.declared.refusal.Refusal.{Refusal}
-use Rattle.hill_images.specs.declared.refusal.Refusal.TheVariants as refusals
-use Rattle.hill_bytes.specs.declared.format.Format.{Format}
-use Rattle.hill_bytes.specs.Layout.{Layout, HeaderParts, header_parts, IsHeader, layout_of, new_layout, sectors_in}
-use Rattle.hill_images.specs.Stands.{IsNewestIn, ShowsIn, Reads, IsReady}
-use Rattle.hill_images.specs.Named.{IsSoundIn}
+use Rattle.{war_types.specs.{declared.settings.RawSettings.RawSettings, Settings.AreSettings}, koth_hill.specs.Kept.{Kept, new_kept}}
+use Rattle.sector_disk.specs.{Facts.DeviceFacts, Disk.{Disk, current, synced}, Image.{IsImage, Images}, Changes.Begun, Served.Failed}
+use Rattle.hill_bytes.specs.{declared.format.Format.Format, Layout.{Layout, HeaderParts, header_parts, IsHeader, layout_of, new_layout, sectors_in}}
+use Rattle.hill_images.specs.{declared.refusal.Refusal.Refusal, Stands.{IsNewestIn, ShowsIn, Reads, IsReady}, Named.IsSoundIn}
 
 -- no sector holds a valid header of this layout
 abbrev pub HoldsNoneIn : Layout → (ℕ → List ℕ) → Type 0
@@ -40,17 +30,17 @@ first_header s = header_parts 0 s 0 []
 
 -- why a device that reads as this image is not opened
 abbrev pub RefusesIn : Layout → ℕ → (ℕ → List ℕ) → Refusal → Type 0
-RefusesIn layout size image refusals.TooSmall = (size < 2) ⊎ ((h : HeaderParts) × IsNewestIn layout image h × (size < sectors_in layout h.settings.capacity))
-RefusesIn layout size image refusals.NotAHill = HoldsNoneIn layout image
-RefusesIn layout size image refusals.Damaged =
+RefusesIn layout size image Refusal.TooSmall = (size < 2) ⊎ ((h : HeaderParts) × IsNewestIn layout image h × (size < sectors_in layout h.settings.capacity))
+RefusesIn layout size image Refusal.NotAHill = HoldsNoneIn layout image
+RefusesIn layout size image Refusal.Damaged =
     (h : HeaderParts) × IsNewestIn layout image h × (sectors_in layout h.settings.capacity ≤ size) × ((hill : Kept) → ShowsIn layout image h hill → ⊥)
-RefusesIn layout size image refusals.Disk = Unit {0}
-RefusesIn layout size image refusals.Memory = Unit {0}
-RefusesIn layout size image refusals.Occupied = ⊥
+RefusesIn layout size image Refusal.Disk = Unit {0}
+RefusesIn layout size image Refusal.Memory = Unit {0}
+RefusesIn layout size image Refusal.Occupied = ⊥
 
 -- no hill was opened, and nothing was written
 pub record IsNotOpenedIn {D : Type 0} (layout : Layout) (facts : DeviceFacts D) (old new : D) (why : Refusal) : Type 0 where
-  pub cause : why ≡ refusals.Disk → Failed facts old new
+  pub cause : why ≡ Refusal.Disk → Failed facts old new
   pub reason : facts.lawful old → RefusesIn layout (facts.size old) (current (facts.disk old)) why
   pub kept : facts.lawful old → Begun (synced ∷ []) (facts.disk old) (facts.disk new)
 
@@ -73,13 +63,13 @@ pub record IsWritten {D : Type 0} (facts : DeviceFacts D) (old : D) (h : HeaderP
 
 -- why it was not
 abbrev pub IsNotWritten : {D : Type 0} → DeviceFacts D → D → Kept → D → Refusal → Type 0
-IsNotWritten facts old hill new refusals.Disk = IsWriteCut facts old hill new
-IsNotWritten facts old hill new refusals.Occupied =
+IsNotWritten facts old hill new Refusal.Disk = IsWriteCut facts old hill new
+IsNotWritten facts old hill new Refusal.Occupied =
     facts.lawful old → HoldsHeader (current (facts.disk old)) × (facts.disk new ≡ synced (facts.disk old))
-IsNotWritten facts old hill new refusals.TooSmall = ⊥
-IsNotWritten facts old hill new refusals.Memory = ⊥
-IsNotWritten facts old hill new refusals.NotAHill = ⊥
-IsNotWritten facts old hill new refusals.Damaged = ⊥
+IsNotWritten facts old hill new Refusal.TooSmall = ⊥
+IsNotWritten facts old hill new Refusal.Memory = ⊥
+IsNotWritten facts old hill new Refusal.NotAHill = ⊥
+IsNotWritten facts old hill new Refusal.Damaged = ⊥
 
 -- the first header of a hill was written
 pub record IsFirst {D : Type 0} (facts : DeviceFacts D) (old : D) (s : RawSettings) (new : D) (h : HeaderParts) : Type 0 where

@@ -1,12 +1,7 @@
 -- What a submission writes, and the header that it writes.
 use Rattle.std.specs.Prelude.{ℕ, ◌+◌, ◌-◌, ◌^◌, ◌%◌, ◌<◌, ◌==◌, Bool, true, false, if◌then◌else◌, List, [], ◌∷◌, ◌++◌, All, Option, replicate, set}
-use Rattle.war_types.specs.Warrior.{WarriorParts}
-use Rattle.sector_disk.specs.Disk.{Disk, wrote, synced}
-use Rattle.koth_match.specs.declared.bout.Bout.{Bout}
-use Rattle.koth_hill.specs.Step.{is_entry}
-use Rattle.hill_bytes.specs.declared.header.HeaderEntry.{HeaderEntry}
-use Rattle.hill_bytes.specs.declared.wins.Wins.{Wins}
-use Rattle.hill_bytes.specs.Layout.{Layout, HeaderParts, header_parts, header_bytes, slot_at, slot_bytes}
+use Rattle.{war_types.specs.Warrior.WarriorParts, koth_match.specs.declared.bout.Bout.Bout, koth_hill.specs.Step.is_entry, sector_disk.specs.Disk.{Disk, wrote, synced}}
+use Rattle.hill_bytes.specs.{declared.header.HeaderEntry.HeaderEntry, declared.wins.Wins.Wins, Layout.{Layout, HeaderParts, header_parts, header_bytes, slot_at, slot_bytes}}
 use Rattle.hill_images.specs.Stands.{no_wins}
 
 -- a result as it is stored

@@ -1,26 +1,14 @@
 -- How the warriors of a hill are read from their slots, after its header.
 use Rattle.std.specs.Prelude.{◌≡◌, ℕ, ◌<◌, ◌≤◌, List, Option, Some, None, Result, Ok, Err}
-use Rattle.war_types.specs.declared.settings.RawSettings.{RawSettings}
-use Rattle.war_types.specs.Warrior.{WarriorParts}
-use Rattle.sector_disk.specs.Facts.{DeviceFacts}
-use Rattle.sector_disk.specs.Disk.{current}
-use Rattle.sector_disk.specs.Served.{Failed}
-use Rattle.koth_hill.specs.Hill.{Member}
-use Rattle.koth_hill.specs.Kept.{Kept, hill_in, IsKept}
-use Rattle.hill_bytes.specs.declared.wins.Wins.{Wins}
-use Rattle.hill_bytes.specs.Layout.{Layout, HeaderParts, IsHeaderParts, IsSlot, results_in, sectors_in, slot_in}
-use Rattle.hill_images.specs.Stands.{AllHeld, results_read}
-use Rattle.hill_images.specs.Named.{IsNamed}
-use Rattle.hill_images.specs.declared.reading.Unread.{Unread}
-use Rattle.hill_images.specs.declared.reading.Unread.TheVariants as unread
-use Rattle.hill_images.specs.declared.refusal.Refusal.{Refusal}
-use Rattle.hill_images.specs.declared.refusal.Refusal.TheVariants as refusals
+use Rattle.{war_types.specs.{declared.settings.RawSettings.RawSettings, Warrior.WarriorParts}, koth_hill.specs.{Hill.Member, Kept.{Kept, hill_in, IsKept}}, sector_disk.specs.Facts.DeviceFacts}
+use Rattle.{sector_disk.specs.{Disk.current, Served.Failed}, hill_bytes.specs.{declared.wins.Wins.Wins, Layout.{Layout, HeaderParts, IsHeaderParts, IsSlot, results_in, sectors_in, slot_in}}}
+use Rattle.hill_images.specs.{Stands.{AllHeld, results_read}, Named.IsNamed, declared.reading.Unread.Unread, declared.refusal.Refusal.Refusal}
 
 -- what is answered if it was not read
 abbrev pub refusal_of : Unread → Refusal
-refusal_of unread.Disk = refusals.Disk
-refusal_of unread.Memory = refusals.Memory
-refusal_of unread.Damaged = refusals.Damaged
+refusal_of Unread.Disk = Refusal.Disk
+refusal_of Unread.Memory = Refusal.Memory
+refusal_of Unread.Damaged = Refusal.Damaged
 
 -- the slot holds this warrior
 abbrev pub SlotHolds : Layout → RawSettings → (ℕ → List ℕ) → ℕ → WarriorParts → Type 0
@@ -34,9 +22,9 @@ abbrev pub ResultsRead : {D : Type 0} → Layout → DeviceFacts D → D → ℕ
 ResultsRead layout facts old slot results = facts.lawful old → results ≡ results_in layout (slot_in layout (current (facts.disk old)) slot)
 
 abbrev pub WarriorNotRead : {D : Type 0} → Layout → DeviceFacts D → D → D → RawSettings → ℕ → Unread → Type 0
-WarriorNotRead layout facts old new s slot unread.Disk = Failed facts old new
-WarriorNotRead layout facts old new s slot unread.Memory = Unit {0}
-WarriorNotRead layout facts old new s slot unread.Damaged =
+WarriorNotRead layout facts old new s slot Unread.Disk = Failed facts old new
+WarriorNotRead layout facts old new s slot Unread.Memory = Unit {0}
+WarriorNotRead layout facts old new s slot Unread.Damaged =
     facts.lawful old → (w : WarriorParts) → SlotHolds layout s (current (facts.disk old)) slot w → ⊥
 
 -- the hill that a header gives was read
@@ -47,25 +35,25 @@ pub record HillRead {D : Type 0} (layout : Layout) (facts : DeviceFacts D) (old 
   pub results : facts.lawful old → hill.results ≡ results_read layout hill.settings.rounds (current (facts.disk old)) h.entries
 
 abbrev pub HillNotRead : {D : Type 0} → Layout → DeviceFacts D → D → D → HeaderParts → Unread → Type 0
-HillNotRead layout facts old new h unread.Disk = Failed facts old new
-HillNotRead layout facts old new h unread.Memory = Unit {0}
-HillNotRead layout facts old new h unread.Damaged = facts.lawful old → (ms : List Member) → AllHeld layout h.settings (current (facts.disk old)) h.entries ms → ⊥
+HillNotRead layout facts old new h Unread.Disk = Failed facts old new
+HillNotRead layout facts old new h Unread.Memory = Unit {0}
+HillNotRead layout facts old new h Unread.Damaged = facts.lawful old → (ms : List Member) → AllHeld layout h.settings (current (facts.disk old)) h.entries ms → ⊥
 
 -- what was decoded, as an answer
 abbrev pub IsDecodedAs : {W E : Type 0} → Result (Option W) E → Result W Unread → Type 0
 IsDecodedAs (Ok (Some w)) result = result ≡ Ok w
-IsDecodedAs (Ok None) result = result ≡ Err unread.Damaged
-IsDecodedAs (Err error) result = result ≡ Err unread.Memory
+IsDecodedAs (Ok None) result = result ≡ Err Unread.Damaged
+IsDecodedAs (Err error) result = result ≡ Err Unread.Memory
 
 -- why the hill of a header was not recovered
 abbrev pub HillRefused : {D : Type 0} → Layout → DeviceFacts D → D → D → HeaderParts → Refusal → Type 0
-HillRefused layout facts old new h refusals.TooSmall = facts.size old < sectors_in layout h.settings.capacity
-HillRefused layout facts old new h refusals.Disk = Failed facts old new
-HillRefused layout facts old new h refusals.Memory = Unit {0}
-HillRefused layout facts old new h refusals.Damaged =
+HillRefused layout facts old new h Refusal.TooSmall = facts.size old < sectors_in layout h.settings.capacity
+HillRefused layout facts old new h Refusal.Disk = Failed facts old new
+HillRefused layout facts old new h Refusal.Memory = Unit {0}
+HillRefused layout facts old new h Refusal.Damaged =
     (sectors_in layout h.settings.capacity ≤ facts.size old) × (facts.lawful old → (ms : List Member) → AllHeld layout h.settings (current (facts.disk old)) h.entries ms → ⊥)
-HillRefused layout facts old new h refusals.Occupied = ⊥
-HillRefused layout facts old new h refusals.NotAHill = ⊥
+HillRefused layout facts old new h Refusal.Occupied = ⊥
+HillRefused layout facts old new h Refusal.NotAHill = ⊥
 
 -- the hill of a header was recovered
 pub record IsHillFound {D : Type 0} (layout : Layout) (facts : DeviceFacts D) (old : D) (given : HeaderParts) (h : HeaderParts) (hill : Kept) (arena : RawSettings) : Type 0 where

@@ -1,13 +1,8 @@
 -- Which hill an image stands for. Each of these is said of every layout; the words without `In` are said of the new one, in which hills are written.
 use Rattle.std.specs.Prelude.{◌≡◌, ℕ, ◌+◌, ◌-◌, ◌%◌, ◌≤◌, List, [], ◌∷◌, map, get_or}
-use Rattle.war_types.specs.declared.settings.RawSettings.{RawSettings}
+use Rattle.{war_types.specs.declared.settings.RawSettings.RawSettings, koth_match.specs.declared.bout.Bout.Bout, koth_hill.specs.{Hill.{Member, Hill}, Kept.{Kept, rows_with, fought}}}
 use Rattle.sector_disk.specs.Disk.{Disk, current, IsSettled}
-use Rattle.koth_match.specs.declared.bout.Bout.{Bout}
-use Rattle.koth_hill.specs.Hill.{Member, Hill}
-use Rattle.koth_hill.specs.Kept.{Kept, rows_with, fought}
-use Rattle.hill_bytes.specs.declared.header.HeaderEntry.{HeaderEntry}
-use Rattle.hill_bytes.specs.declared.wins.Wins.{Wins}
-use Rattle.hill_bytes.specs.Layout.{Layout, HeaderParts, IsHeader, IsSlot, new_layout, results_in, slot_in, sectors_in}
+use Rattle.hill_bytes.specs.{declared.header.HeaderEntry.HeaderEntry, declared.wins.Wins.Wins, Layout.{Layout, HeaderParts, IsHeader, IsSlot, new_layout, results_in, slot_in, sectors_in}}
 
 -- the valid header of greatest generation; one is valid in the sector of its generation's parity
 pub record IsNewestIn (layout : Layout) (image : ℕ → List ℕ) (h : HeaderParts) : Type 0 where

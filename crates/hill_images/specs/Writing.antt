@@ -1,11 +1,7 @@
 -- What is written of a hill to a device that holds none.
 use Rattle.std.specs.Prelude.{◌≡◌, ◌⊎◌, ℕ, List, Result, Ok, Err}
-use Rattle.sector_disk.specs.Facts.{DeviceFacts}
-use Rattle.sector_disk.specs.Image.{Images}
-use Rattle.koth_hill.specs.Kept.{Kept}
-use Rattle.hill_bytes.specs.Layout.{HeaderParts, new_layout}
-use Rattle.hill_images.specs.Stands.{AllHeld, IsReady, Shows, results_read}
-use Rattle.hill_images.specs.Opening.{HoldsNone}
+use Rattle.{koth_hill.specs.Kept.Kept, sector_disk.specs.{Facts.DeviceFacts, Image.Images}, hill_bytes.specs.Layout.{HeaderParts, new_layout}}
+use Rattle.hill_images.specs.{Stands.{AllHeld, IsReady, Shows, results_read}, Opening.HoldsNone}
 
 -- the slots that a header names hold the hill's warriors and its results
 pub record AreStored (image : ℕ → List ℕ) (h : HeaderParts) (hill : Kept) : Type 0 where

@@ -1,10 +1,7 @@
 //! The durable order: what is written of a submission, and when it has reached the disk.
 
 ghost use Rattle.std.specs.Prelude.{◌≡◌, ◌<◌, ◌≤◌};
-ghost use Rattle.sector_disk.specs.Changes.{Changes};
-ghost use Rattle.sector_disk.specs.Served.{IsServed};
-ghost use Rattle.hill_bytes.specs.Layout.{new_layout, sectors_for, IsTitled};
-ghost use Rattle.hill_images.specs.Places.{commits, places};
+ghost use Rattle.{sector_disk.specs.{Changes.Changes, Served.IsServed}, hill_bytes.specs.Layout.{new_layout, sectors_for, IsTitled}, hill_images.specs.Places.{commits, places}};
 
 use crate::slots::write_slot;
 use hill_bytes::{Header, RESULTS, Slot, Wins, encode_header};

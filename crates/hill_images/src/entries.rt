@@ -1,8 +1,7 @@
 //! The entries of the next header, and the results of the warrior that it names last.
 
 ghost use Rattle.std.specs.Prelude.{◌≡◌, ℕ, ◌+◌, ◌-◌, ◌^◌, ◌≤◌, ◌<◌, ◌++◌, [], ◌∷◌, All, length, true};
-ghost use Rattle.koth_hill.specs.Step.{is_entry};
-ghost use Rattle.hill_bytes.specs.Layout.{IsHeaderParts, SlotIsFree};
+ghost use Rattle.{koth_hill.specs.Step.is_entry, hill_bytes.specs.Layout.{IsHeaderParts, SlotIsFree}};
 ghost use Rattle.hill_images.specs.Places.{wins_of, results_by_slot, kept_entries, header_placed, header_passed, has_slot, CanGrow};
 
 use hill_bytes::{Header, HeaderEntry, RESULTS, Wins};

@@ -1,12 +1,8 @@
 //! The headers that a device holds.
 
 ghost use Rattle.std.specs.Prelude.{◌≡◌, ℕ, ◌%◌, ◌<◌, ◌≤◌, List, IfOk};
-ghost use Rattle.sector_disk.specs.Disk.{current};
-ghost use Rattle.sector_disk.specs.Served.{IsServed};
-ghost use Rattle.hill_images.specs.Found.{HoldsIf, IsFoundIn, IsNewestFound};
-ghost use Rattle.hill_images.specs.Opening.{HoldsOneIf};
-ghost use Rattle.hill_bytes.specs.Layout.{IsHeader, Layout, layout_of};
-ghost use Rattle.hill_images.specs.Stands.{IsNewestIn};
+ghost use Rattle.{sector_disk.specs.{Disk.current, Served.IsServed}, hill_bytes.specs.Layout.{IsHeader, Layout, layout_of}};
+ghost use Rattle.hill_images.specs.{Found.{HoldsIf, IsFoundIn, IsNewestFound}, Opening.HoldsOneIf, Stands.IsNewestIn};
 
 use hill_bytes::{Format, Header, decode_in};
 use sector_disk::{Device, Fault};

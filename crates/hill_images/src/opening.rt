@@ -1,15 +1,9 @@
 //! How the hill of a device is opened.
 
 ghost use Rattle.std.specs.Prelude.{◌≡◌, ℕ, ◌<◌, ◌≤◌, [], ◌∷◌, Err, IfOk, IfErr, OnOk};
-ghost use Rattle.sector_disk.specs.Disk.{current, synced};
-ghost use Rattle.sector_disk.specs.Image.{Images};
-ghost use Rattle.sector_disk.specs.Changes.{Changes, Begun};
-ghost use Rattle.sector_disk.specs.Served.{Failed, IsKept, IsServed};
+ghost use Rattle.sector_disk.specs.{Disk.{current, synced}, Image.Images, Changes.{Changes, Begun}, Served.{Failed, IsKept, IsServed}};
 ghost use Rattle.hill_bytes.specs.Layout.{IsHeaderParts, code_room, layout_of, sectors_in};
-ghost use Rattle.hill_images.specs.Found.{IsNewestFound};
-ghost use Rattle.hill_images.specs.Named.{IsNamed};
-ghost use Rattle.hill_images.specs.Opening.{IsRecovered, IsNotOpenedIn};
-ghost use Rattle.hill_images.specs.Reading.{HillRefused, IsHillFound};
+ghost use Rattle.hill_images.specs.{Found.IsNewestFound, Named.IsNamed, Opening.{IsRecovered, IsNotOpenedIn}, Reading.{HillRefused, IsHillFound}};
 
 use crate::found::newest_header;
 use crate::reading::{read_hill, refusal_of};

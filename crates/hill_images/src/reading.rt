@@ -1,11 +1,8 @@
 //! How the warriors of a hill are read from their slots, with the results of their matches.
 
 ghost use Rattle.std.specs.Prelude.{◌≡◌, ◌+◌, ◌<◌, ◌≤◌, All, IfErr, IfOk, OnOk, get_or, length, map, take};
-ghost use Rattle.war_types.specs.Warrior.{Fits};
-ghost use Rattle.sector_disk.specs.Served.{IsKept};
-ghost use Rattle.hill_bytes.specs.Layout.{FitRounds, code_room, layout_of, sectors_in};
-ghost use Rattle.hill_images.specs.Stands.{bout_of, no_wins};
-ghost use Rattle.hill_images.specs.Reading.{refusal_of, HillNotRead, HillRead, IsDecodedAs, ResultsRead, WarriorNotRead, WarriorRead};
+ghost use Rattle.{war_types.specs.Warrior.Fits, sector_disk.specs.Served.IsKept, hill_bytes.specs.Layout.{FitRounds, code_room, layout_of, sectors_in}};
+ghost use Rattle.hill_images.specs.{Stands.{bout_of, no_wins}, Reading.{refusal_of, HillNotRead, HillRead, IsDecodedAs, ResultsRead, WarriorNotRead, WarriorRead}};
 
 use crate::refusal::Refusal;
 use crate::slots::read_slot;

@@ -1,11 +1,8 @@
 //! The slots of a device: where they lie, and how their sectors are written and read.
 
 ghost use Rattle.std.specs.Prelude.{◌≡◌, ◌+◌, ◌*◌, ◌<◌, ◌≤◌, IfOk};
-ghost use Rattle.sector_disk.specs.Disk.{current};
-ghost use Rattle.sector_disk.specs.Changes.{Changes};
-ghost use Rattle.sector_disk.specs.Served.{IsServed};
-ghost use Rattle.hill_bytes.specs.Layout.{HoldsSame, layout_of, new_layout, old_layout, sectors_for, sectors_in, slot_at, slot_in};
-ghost use Rattle.hill_images.specs.Places.{writes_from};
+ghost use Rattle.sector_disk.specs.{Disk.current, Changes.Changes, Served.IsServed};
+ghost use Rattle.{hill_bytes.specs.Layout.{HoldsSame, layout_of, new_layout, old_layout, sectors_for, sectors_in, slot_at, slot_in}, hill_images.specs.Places.writes_from};
 
 use hill_bytes::{Format, OldSlot, SECTORS, Slot};
 use sector_disk::{Device, Fault};

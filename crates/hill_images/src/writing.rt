@@ -1,16 +1,9 @@
 //! How a hill is written to a device that holds none: a new one, or one from another device.
 
 ghost use Rattle.std.specs.Prelude.{◌≡◌, ◌≤◌, [], ◌∷◌, IfOk, IfErr, OnOk};
-ghost use Rattle.war_types.specs.Settings.{AreSettings};
-ghost use Rattle.sector_disk.specs.Disk.{current, synced, IsSettled};
-ghost use Rattle.sector_disk.specs.Image.{Images};
-ghost use Rattle.sector_disk.specs.Changes.{Changes};
-ghost use Rattle.sector_disk.specs.Served.{Failed, IsKept, IsServed};
-ghost use Rattle.koth_hill.specs.Kept.{hill_in, new_kept};
-ghost use Rattle.hill_bytes.specs.Layout.{IsHeaderParts, sectors_for};
-ghost use Rattle.hill_images.specs.Named.{IsNamed};
-ghost use Rattle.hill_images.specs.Opening.{HoldsNone, HoldsOneIf, IsFirst, IsNotWritten, IsWritten, first_header};
-ghost use Rattle.hill_images.specs.Writing.{AreStored, IsPut, NoneOrHill};
+ghost use Rattle.{war_types.specs.Settings.AreSettings, koth_hill.specs.Kept.{hill_in, new_kept}, sector_disk.specs.{Disk.{current, synced, IsSettled}, Image.Images, Changes.Changes}};
+ghost use Rattle.{sector_disk.specs.Served.{Failed, IsKept, IsServed}, hill_bytes.specs.Layout.{IsHeaderParts, sectors_for}};
+ghost use Rattle.hill_images.specs.{Named.IsNamed, Opening.{HoldsNone, HoldsOneIf, IsFirst, IsNotWritten, IsWritten, first_header}, Writing.{AreStored, IsPut, NoneOrHill}};
 
 use crate::durable::commit;
 use crate::entries::results_by_slot;

@@ -1,25 +1,10 @@
 -- What opening decides of a device that may stand for either of two hills.
 use Rattle.std.proofs.Common.{◌≡◌, false, ◌⊎◌, inl, inr, ℕ, ◌<◌, ◌≤◌, List, [], ◌∷◌, ◌++◌, Option, Some, None, refl, sym, ap, subst, ◌∙◌, arith}
-use Rattle.war_types.specs.declared.settings.RawSettings.{RawSettings}
-use Rattle.sector_disk.specs.Facts.{DeviceFacts}
-use Rattle.sector_disk.specs.Disk.{current}
-use Rattle.sector_disk.specs.Image.{Images}
-use Rattle.sector_disk.proofs.Images.{images_read}
-use Rattle.koth_hill.specs.Kept.{Kept, fought, new_kept}
-use Rattle.hill_images.specs.declared.refusal.Refusal.{Refusal}
-use Rattle.hill_images.specs.declared.refusal.Refusal.TheVariants as refusals
-use Rattle.hill_bytes.specs.Layout.{HeaderParts, Layout, new_layout, sectors_for, sectors_in}
-use Rattle.hill_store.specs.Earned.{earned}
-use Rattle.hill_images.specs.Stands.{IsReady, ReadsIn, Reads, ShowsIn, Stands}
-use Rattle.hill_store.specs.Seen.{Seen}
-use Rattle.sector_disk.specs.Served.{IsKept}
-use Rattle.hill_images.specs.Opening.{IsFirst, IsNotOpened, RefusesIn}
-use Rattle.hill_store.specs.Opened.{IsCreated, IsOpened}
-use Rattle.hill_store.specs.Holding.{StandsFor, StandsForIn, Holds, IsHolding, IsDecided, IsUndecided}
-use Rattle.hill_images.specs.Named.{IsSound}
-use Rattle.hill_images.proofs.Firsts.{first_fits, first_hill}
-use Rattle.hill_images.proofs.Newest.{one_newest, reads_once}
-use Rattle.hill_store.proofs.Living.{begun_holds}
+use Rattle.{war_types.specs.declared.settings.RawSettings.RawSettings, koth_hill.specs.Kept.{Kept, fought, new_kept}, sector_disk.specs.{Facts.DeviceFacts, Disk.current, Image.Images}}
+use Rattle.{sector_disk.specs.Served.IsKept, sector_disk.proofs.Images.images_read, hill_bytes.specs.Layout.{HeaderParts, Layout, new_layout, sectors_for, sectors_in}}
+use Rattle.hill_images.specs.{declared.refusal.Refusal.Refusal, Stands.{IsReady, ReadsIn, Reads, ShowsIn, Stands}, Opening.{IsFirst, IsNotOpened, RefusesIn}, Named.IsSound}
+use Rattle.{hill_images.proofs.{Firsts.{first_fits, first_hill}, Newest.{one_newest, reads_once}}, hill_store.specs.{Earned.earned, Seen.Seen, Opened.{IsCreated, IsOpened}}}
+use Rattle.{hill_store.specs.Holding.{StandsFor, StandsForIn, Holds, IsHolding, IsDecided, IsUndecided}, hill_store.proofs.Living.begun_holds}
 
 -- a store on the first header of a hill is sound
 pub first_sound : {D : Type 0} (facts : DeviceFacts D) (old new : D) (s : RawSettings) (h : HeaderParts) (hill : Kept) (arena : RawSettings) → IsFirst facts old s new h → hill ≡ new_kept s 0 → arena ≡ s → sectors_for s.capacity ≤ facts.size old → IsKept facts old new → IsSound facts new h hill arena false
@@ -68,21 +53,21 @@ decided facts old s before (Some source) store kept opened lawful holds = elim (
 ]
 
 -- a device that reads as a hill is refused for lack of memory or for a failure alone
-reason_of : (layout : Layout) (size : ℕ) (image : ℕ → List ℕ) (hill : Kept) (why : Refusal) → ReadsIn layout size image hill → RefusesIn layout size image why → (why ≡ refusals.Disk) ⊎ (why ≡ refusals.Memory)
-reason_of layout size image hill refusals.Disk stands reason = inl refl
-reason_of layout size image hill refusals.Memory stands reason = inr refl
-reason_of layout size image hill refusals.Occupied stands reason = absurd reason
-reason_of layout size image hill refusals.NotAHill stands reason = absurd (reason stands.header stands.shows.newest.here)
-reason_of layout size image hill refusals.Damaged stands reason =
+reason_of : (layout : Layout) (size : ℕ) (image : ℕ → List ℕ) (hill : Kept) (why : Refusal) → ReadsIn layout size image hill → RefusesIn layout size image why → (why ≡ Refusal.Disk) ⊎ (why ≡ Refusal.Memory)
+reason_of layout size image hill Refusal.Disk stands reason = inl refl
+reason_of layout size image hill Refusal.Memory stands reason = inr refl
+reason_of layout size image hill Refusal.Occupied stands reason = absurd reason
+reason_of layout size image hill Refusal.NotAHill stands reason = absurd (reason stands.header stands.shows.newest.here)
+reason_of layout size image hill Refusal.Damaged stands reason =
     absurd (reason.3 hill (subst (λ h. ShowsIn layout image h hill) (one_newest image stands.header reason.0 stands.shows.newest reason.1) stands.shows))
-reason_of layout size image hill refusals.TooSmall stands (inl few) = let room : sectors_in layout hill.settings.capacity ≤ size = stands.room in absurd (omega (arith, few, room))
-reason_of layout size image hill refusals.TooSmall stands (inr few) =
+reason_of layout size image hill Refusal.TooSmall stands (inl few) = let room : sectors_in layout hill.settings.capacity ≤ size = stands.room in absurd (omega (arith, few, room))
+reason_of layout size image hill Refusal.TooSmall stands (inr few) =
     let room : sectors_in layout hill.settings.capacity ≤ size = stands.room in
     let short : size < sectors_in layout hill.settings.capacity =
     subst (λ (t : RawSettings). size < sectors_in layout t.capacity) (ap (λ (h : HeaderParts). h.settings) (sym (one_newest image stands.header few.0 stands.shows.newest few.1)) ∙ stands.shows.settings) few.2 in
     absurd (omega (arith, short, room))
 
-pub any_reason : (layout : Layout) (size : ℕ) (image : ℕ → List ℕ) (s : RawSettings) (before : List (List ℕ)) (more : Option (List ℕ)) (why : Refusal) → StandsForIn layout size s before more image → RefusesIn layout size image why → (why ≡ refusals.Disk) ⊎ (why ≡ refusals.Memory)
+pub any_reason : (layout : Layout) (size : ℕ) (image : ℕ → List ℕ) (s : RawSettings) (before : List (List ℕ)) (more : Option (List ℕ)) (why : Refusal) → StandsForIn layout size s before more image → RefusesIn layout size image why → (why ≡ Refusal.Disk) ⊎ (why ≡ Refusal.Memory)
 any_reason layout size image s before None why stands reason = reason_of layout size image (fought (earned s before)) why stands reason
 any_reason layout size image s before (Some source) why (inl stands) reason = reason_of layout size image (fought (earned s before)) why stands reason
 any_reason layout size image s before (Some source) why (inr stands) reason = reason_of layout size image (fought (earned s (before ++ source ∷ []))) why stands reason

@@ -1,23 +1,9 @@
 -- What the calls of a store are in the life of its device: for `calls_in_lives`.
-use Rattle.std.proofs.Common.{◌≡◌, ◌⊎◌, ℕ, true, false, List, [], ◌∷◌, refl, sym, ap, subst, ◌∙◌}
-use Rattle.sector_disk.specs.Facts.{DeviceFacts}
-use Rattle.sector_disk.specs.Disk.{Disk, current}
-use Rattle.sector_disk.specs.Image.{Images}
-use Rattle.sector_disk.specs.Served.{IsKept}
-use Rattle.sector_disk.proofs.Images.{images_read}
-use Rattle.koth_hill.specs.Hill.{Hill, IsHill}
-use Rattle.koth_hill.specs.Kept.{Kept, fought}
-use Rattle.hill_images.specs.Stands.{Reads, Stands}
-use Rattle.hill_images.proofs.Newest.{reads_once}
-use Rattle.hill_images.proofs.Shown.{reads_hill}
-use Rattle.hill_store.specs.declared.reply.Reply.{Reply}
-use Rattle.hill_store.specs.declared.reply.Reply.TheVariants as replies
-use Rattle.hill_store.specs.Earned.{step_source, steps, kept_next}
-use Rattle.hill_store.proofs.Fought.{fought_next}
-use Rattle.hill_store.specs.Seen.{Seen, IsAnswered, IsCut, IsLeft, IsStanding}
-use Rattle.hill_store.specs.Runs.{IsSubmitted, RunsOn}
-use Rattle.hill_store.specs.Lives.{Event, Lives, MovesOn, MayMoveOn}
-use Rattle.hill_store.specs.Calls.{events_of, events_in, CallsAreEvents}
+use Rattle.{std.proofs.Common.{◌≡◌, ◌⊎◌, ℕ, true, false, List, [], ◌∷◌, refl, sym, ap, subst, ◌∙◌}, koth_hill.specs.{Hill.{Hill, IsHill}, Kept.{Kept, fought}}}
+use Rattle.{sector_disk.specs.{Facts.DeviceFacts, Disk.{Disk, current}, Image.Images, Served.IsKept}, sector_disk.proofs.Images.images_read, hill_images.specs.Stands.{Reads, Stands}}
+use Rattle.hill_images.proofs.{Newest.reads_once, Shown.reads_hill}
+use Rattle.hill_store.specs.{declared.reply.Reply.Reply, Earned.{step_source, steps, kept_next}, Seen.{Seen, IsAnswered, IsCut, IsLeft, IsStanding}, Runs.{IsSubmitted, RunsOn}}
+use Rattle.{hill_store.specs.{Lives.{Event, Lives, MovesOn, MayMoveOn}, Calls.{events_of, events_in, CallsAreEvents}}, hill_store.proofs.Fought.fought_next}
 
 true_false : true ≡ false → ⊥
 true_false same = cc
@@ -84,29 +70,28 @@ pub ran : {D : Type 0} (facts : DeviceFacts D) (old new : Seen D) (sources : Lis
 ran facts old new [] [] lawful is runs = ap (λ (s : Seen _). facts.disk s.device) runs
 ran facts old new [] (r ∷ rs) lawful is runs = absurd runs
 ran facts old new (x ∷ xs) [] lawful is runs = absurd runs
-ran facts old new (x ∷ xs) (replies.Placed entry rank score ∷ rs) lawful is runs =
+ran facts old new (x ∷ xs) (Reply.Placed entry rank score ∷ rs) lawful is runs =
     let kept : IsKept facts old.device runs.0.device = runs.1.kept in
     answered_on facts old runs.0 x (events_in xs rs) (facts.disk new.device) is kept.same_size (runs.1.submits.1.reads lawful)
     (resized facts old runs.0 (events_in xs rs) (facts.disk new.device) kept.same_size (ran facts runs.0 new xs rs (kept.same_laws.1 lawful) (standing_next facts old runs.0 x lawful runs.1.submits.1) runs.2))
-ran facts old new (x ∷ xs) (replies.Fell entry score ∷ rs) lawful is runs =
+ran facts old new (x ∷ xs) (Reply.Fell entry score ∷ rs) lawful is runs =
     let kept : IsKept facts old.device runs.0.device = runs.1.kept in
     answered_on facts old runs.0 x (events_in xs rs) (facts.disk new.device) is kept.same_size (runs.1.submits.1.reads lawful)
     (resized facts old runs.0 (events_in xs rs) (facts.disk new.device) kept.same_size (ran facts runs.0 new xs rs (kept.same_laws.1 lawful) (standing_next facts old runs.0 x lawful runs.1.submits.1) runs.2))
-ran facts old new (x ∷ xs) (replies.Refused fault ∷ rs) lawful is runs =
+ran facts old new (x ∷ xs) (Reply.Refused fault ∷ rs) lawful is runs =
     let kept : IsKept facts old.device runs.0.device = runs.1.kept in
     let left : IsLeft old runs.0 = runs.1.submits.2 in
     answered_on facts old runs.0 x (events_in xs rs) (facts.disk new.device) is kept.same_size (refused_next facts old runs.0 x is runs.1.submits.1 left.same)
     (resized facts old runs.0 (events_in xs rs) (facts.disk new.device) kept.same_size
     (ran facts runs.0 new xs rs (kept.same_laws.1 lawful) (subst (λ s. IsStanding facts s) (sym left.same) is) runs.2))
-ran facts old new (x ∷ xs) (replies.Memory ∷ rs) lawful is runs =
+ran facts old new (x ∷ xs) (Reply.Memory ∷ rs) lawful is runs =
     let left : IsLeft old runs.0 = runs.1.submits in
     ran facts old new xs rs lawful is (subst (λ s. RunsOn facts false s xs rs new) left.same runs.2)
-ran facts old new (x ∷ xs) (replies.Worn ∷ rs) lawful is runs =
+ran facts old new (x ∷ xs) (Reply.Worn ∷ rs) lawful is runs =
     let left : IsLeft old runs.0 = runs.1.submits.2 in
     ran facts old new xs rs lawful is (subst (λ s. RunsOn facts false s xs rs new) left.same runs.2)
-ran facts old new (x ∷ xs) (replies.Reopen ∷ rs) lawful is runs =
-    absurd (true_false (sym runs.1.submits.0 ∙ is.is_open))
-ran {D} facts old new (x ∷ xs) (replies.Disk ∷ rs) lawful is runs =
+ran facts old new (x ∷ xs) (Reply.Reopen ∷ rs) lawful is runs = absurd (true_false (sym runs.1.submits.0 ∙ is.is_open))
+ran {D} facts old new (x ∷ xs) (Reply.Disk ∷ rs) lawful is runs =
     let kept : IsKept facts old.device runs.0.device = runs.1.kept in
     let cut : IsCut facts old (kept_next old.hill x) runs.0 = runs.1.submits.1 in (
       facts.disk runs.0.device,
@@ -118,22 +103,22 @@ ran {D} facts old new (x ∷ xs) (replies.Disk ∷ rs) lawful is runs =
 
 -- one submission is a list of one
 run_of_one : {D : Type 0} (facts : DeviceFacts D) (old new : Seen D) (source : List ℕ) (reply : Reply) → IsSubmitted facts old source reply new → RunsOn facts false old (source ∷ []) (reply ∷ []) new
-run_of_one facts old new source (replies.Placed entry rank score) is = (new, is, refl)
-run_of_one facts old new source (replies.Fell entry score) is = (new, is, refl)
-run_of_one facts old new source (replies.Refused fault) is = (new, is, refl)
-run_of_one facts old new source replies.Memory is = (new, is, refl)
-run_of_one facts old new source replies.Worn is = (new, is, refl)
-run_of_one facts old new source replies.Reopen is = (new, is, refl)
-run_of_one facts old new source replies.Disk is = (new, is, refl)
+run_of_one facts old new source (Reply.Placed entry rank score) is = (new, is, refl)
+run_of_one facts old new source (Reply.Fell entry score) is = (new, is, refl)
+run_of_one facts old new source (Reply.Refused fault) is = (new, is, refl)
+run_of_one facts old new source Reply.Memory is = (new, is, refl)
+run_of_one facts old new source Reply.Worn is = (new, is, refl)
+run_of_one facts old new source Reply.Reopen is = (new, is, refl)
+run_of_one facts old new source Reply.Disk is = (new, is, refl)
 
 append_none : (source : List ℕ) (reply : Reply) → events_in (source ∷ []) (reply ∷ []) ≡ events_of source reply
-append_none source (replies.Placed entry rank score) = refl
-append_none source (replies.Fell entry score) = refl
-append_none source (replies.Refused fault) = refl
-append_none source replies.Memory = refl
-append_none source replies.Worn = refl
-append_none source replies.Reopen = refl
-append_none source replies.Disk = refl
+append_none source (Reply.Placed entry rank score) = refl
+append_none source (Reply.Fell entry score) = refl
+append_none source (Reply.Refused fault) = refl
+append_none source Reply.Memory = refl
+append_none source Reply.Worn = refl
+append_none source Reply.Reopen = refl
+append_none source Reply.Disk = refl
 
 pub calls : {D : Type 0} (facts : DeviceFacts D) → CallsAreEvents facts
 calls facts = record {

@@ -1,20 +1,9 @@
 -- If the results that a hill keeps are true, what is due by them is due with every pair fought again: for `laws_of_kept` and for what a store holds.
-use Rattle.std.proofs.Common.{◌≡◌, ℕ, true, false, List, Result, Ok, Err, refl, sym, ap, subst, ◌∙◌, true≢false}
-use Rattle.war_types.specs.Warrior.{WarriorParts}
-use Rattle.war_types.specs.declared.fault.AsmFault.{AsmFault}
-use Rattle.redcode_asm.specs.Assembly.{assembly}
-use Rattle.koth_hill.specs.Hill.{Hill, IsHill}
-use Rattle.koth_hill.specs.Table.{table}
-use Rattle.koth_hill.specs.Kept.{Kept, IsKept, AreTrue, fought, hill_in, step_kept, table_kept}
-use Rattle.koth_hill.proofs.RowsKept.{IsKept-fought}
-use Rattle.koth_hill.proofs.Truths.{still-true, true-step, true-table, true-verdict}
-use Rattle.hill_store.specs.Earned.{reply_judged, reply_found, reply_of, step_found, step_source, kept_found, kept_next, kept_reply, kept_reply_found}
-use Rattle.sector_disk.specs.Facts.{DeviceFacts}
-use Rattle.hill_store.specs.declared.reply.Reply.{Reply}
-use Rattle.hill_store.specs.declared.reply.Reply.TheVariants as replies
-use Rattle.hill_store.specs.Seen.{Seen, IsCut, IsLeft, Submits}
-use Rattle.hill_store.specs.Holding.{is_answer}
-use Rattle.hill_store.specs.Kept.{IsAnew, LawsOfKept}
+use Rattle.{std.proofs.Common.{◌≡◌, ℕ, true, false, List, Result, Ok, Err, refl, sym, ap, subst, ◌∙◌, true≢false}, war_types.specs.{Warrior.WarriorParts, declared.fault.AsmFault.AsmFault}}
+use Rattle.{redcode_asm.specs.Assembly.assembly, koth_hill.specs.{Hill.{Hill, IsHill}, Table.table, Kept.{Kept, IsKept, AreTrue, fought, hill_in, step_kept, table_kept}}}
+use Rattle.{koth_hill.proofs.{RowsKept.IsKept-fought, Truths.{still-true, true-step, true-table, true-verdict}}, sector_disk.specs.Facts.DeviceFacts}
+use Rattle.hill_store.specs.{Earned.{reply_judged, reply_found, reply_of, step_found, step_source, kept_found, kept_next, kept_reply, kept_reply_found}, declared.reply.Reply.Reply}
+use Rattle.hill_store.specs.{Seen.{Seen, IsCut, IsLeft, Submits}, Holding.is_answer, Kept.{IsAnew, LawsOfKept}}
 
 -- true results are those of the hill
 pub fought_is : (k : Kept) → AreTrue k → k ≡ fought (hill_in k)
@@ -63,24 +52,20 @@ anew_left old source reply new is_none holds same = record {
 }
 
 pub anew : {D : Type 0} (facts : DeviceFacts D) (old new : Seen D) (source : List ℕ) (reply : Reply) → IsKept old.hill → Submits facts old source reply new → AreTrue old.hill → IsAnew old.hill source reply new.hill
-anew facts old new source (replies.Placed entry rank score) kept is holds =
-    anew_answered old.hill source (replies.Placed entry rank score) new.hill refl kept.hill holds is.0 is.1.hill
-anew facts old new source (replies.Fell entry score) kept is holds =
-    anew_answered old.hill source (replies.Fell entry score) new.hill refl kept.hill holds is.0 is.1.hill
-anew facts old new source (replies.Refused fault) kept is holds =
+anew facts old new source (Reply.Placed entry rank score) kept is holds =
+    anew_answered old.hill source (Reply.Placed entry rank score) new.hill refl kept.hill holds is.0 is.1.hill
+anew facts old new source (Reply.Fell entry score) kept is holds =
+    anew_answered old.hill source (Reply.Fell entry score) new.hill refl kept.hill holds is.0 is.1.hill
+anew facts old new source (Reply.Refused fault) kept is holds =
     let left : IsLeft old new = is.2 in
-    anew_answered old.hill source (replies.Refused fault) new.hill refl kept.hill holds is.0 (ap (λ (s : Seen _). s.hill) left.same ∙ sym is.1)
-anew facts old new source replies.Memory kept is holds =
-    let left : IsLeft old new = is in anew_left old.hill source replies.Memory new.hill refl holds (ap (λ (s : Seen _). s.hill) left.same)
-anew facts old new source replies.Worn kept is holds =
-    let left : IsLeft old new = is.2 in anew_left old.hill source replies.Worn new.hill refl holds (ap (λ (s : Seen _). s.hill) left.same)
-anew facts old new source replies.Disk kept is holds =
-    let cut : IsCut facts old (kept_next old.hill source) new = is.1 in anew_left old.hill source replies.Disk new.hill refl holds cut.hill
-anew facts old new source replies.Reopen kept is holds = anew_left old.hill source replies.Reopen new.hill refl holds (ap (λ (s : Seen _). s.hill) is.1)
+    anew_answered old.hill source (Reply.Refused fault) new.hill refl kept.hill holds is.0 (ap (λ (s : Seen _). s.hill) left.same ∙ sym is.1)
+anew facts old new source Reply.Memory kept is holds =
+    let left : IsLeft old new = is in anew_left old.hill source Reply.Memory new.hill refl holds (ap (λ (s : Seen _). s.hill) left.same)
+anew facts old new source Reply.Worn kept is holds =
+    let left : IsLeft old new = is.2 in anew_left old.hill source Reply.Worn new.hill refl holds (ap (λ (s : Seen _). s.hill) left.same)
+anew facts old new source Reply.Disk kept is holds =
+    let cut : IsCut facts old (kept_next old.hill source) new = is.1 in anew_left old.hill source Reply.Disk new.hill refl holds cut.hill
+anew facts old new source Reply.Reopen kept is holds = anew_left old.hill source Reply.Reopen new.hill refl holds (ap (λ (s : Seen _). s.hill) is.1)
 
 pub laws_of_kept : LawsOfKept
-laws_of_kept = record {
-  reply = fought_reply;
-  next = fought_next;
-  rows = fought_rows;
-}
+laws_of_kept = record { reply = fought_reply; next = fought_next; rows = fought_rows }

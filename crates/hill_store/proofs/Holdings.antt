@@ -1,22 +1,9 @@
 -- What a store holds after each submission, and after a list of them.
 use Rattle.std.proofs.Common.{◌≡◌, ◌⊎◌, ℕ, true, false, List, [], ◌∷◌, ◌++◌, Option, refl, sym, ap, subst, ◌∙◌, append-nil, append_assoc}
-use Rattle.war_types.specs.declared.settings.RawSettings.{RawSettings}
-use Rattle.sector_disk.specs.Facts.{DeviceFacts}
-use Rattle.sector_disk.specs.Image.{Images}
-use Rattle.koth_hill.specs.Hill.{Hill, IsHill}
-use Rattle.koth_hill.specs.Kept.{fought, hill_in}
-use Rattle.koth_hill.specs.Step.{new_hill}
-use Rattle.hill_store.specs.declared.reply.Reply.{Reply}
-use Rattle.hill_store.specs.declared.reply.Reply.TheVariants as replies
-use Rattle.hill_store.specs.Earned.{step_source, steps, earned, kept_next}
-use Rattle.sector_disk.specs.Disk.{current}
-use Rattle.sector_disk.proofs.Images.{images_read}
-use Rattle.hill_images.specs.Stands.{Reads, Stands}
-use Rattle.hill_images.proofs.Shown.{reads_hill}
-use Rattle.hill_store.specs.Seen.{Seen, IsAnswered, IsCut, IsLeft, Submits}
-use Rattle.hill_store.specs.Runs.{RunsOn}
-use Rattle.hill_store.proofs.Fought.{fought_next}
-use Rattle.hill_store.specs.Holding.{answered, under_way, IsHolding, IsCutOff, IsHeldWith, HoldsMore}
+use Rattle.{war_types.specs.declared.settings.RawSettings.RawSettings, koth_hill.specs.{Hill.{Hill, IsHill}, Kept.{fought, hill_in}, Step.new_hill}, sector_disk.specs.Facts.DeviceFacts}
+use Rattle.{sector_disk.specs.{Image.Images, Disk.current}, sector_disk.proofs.Images.images_read, hill_images.specs.Stands.{Reads, Stands}, hill_images.proofs.Shown.reads_hill}
+use Rattle.hill_store.specs.{declared.reply.Reply.Reply, Earned.{step_source, steps, earned, kept_next}, Seen.{Seen, IsAnswered, IsCut, IsLeft, Submits}, Runs.RunsOn}
+use Rattle.{hill_store.specs.Holding.{answered, under_way, IsHolding, IsCutOff, IsHeldWith, HoldsMore}, hill_store.proofs.Fought.fought_next}
 
 steps_more : (h : Hill) (xs : List (List ℕ)) (x : List ℕ) → steps h (xs ++ x ∷ []) ≡ step_source (steps h xs) x
 steps_more h [] x = refl
@@ -84,35 +71,30 @@ cut_holds facts s before source old new holding lawful is =
 
 -- after one submission
 pub holds_one : {D : Type 0} (facts : DeviceFacts D) (s : RawSettings) (before : List (List ℕ)) (old new : Seen D) (source : List ℕ) (reply : Reply) → IsHolding facts s before old → facts.lawful new.device → Submits facts old source reply new → HoldsMore facts s before (source ∷ []) (reply ∷ []) new
-holds_one facts s before old new source (replies.Placed entry rank score) holding lawful submits =
+holds_one facts s before old new source (Reply.Placed entry rank score) holding lawful submits =
     answered_holds facts s before source old new holding lawful submits.1
-holds_one facts s before old new source (replies.Fell entry score) holding lawful submits =
+holds_one facts s before old new source (Reply.Fell entry score) holding lawful submits =
     answered_holds facts s before source old new holding lawful submits.1
-holds_one facts s before old new source (replies.Refused fault) holding lawful submits =
+holds_one facts s before old new source (Reply.Refused fault) holding lawful submits =
     let left : IsLeft old new = submits.2 in refused_holds facts s before source old new holding submits.1 left.same
-holds_one facts s before old new source replies.Memory holding lawful submits =
+holds_one facts s before old new source Reply.Memory holding lawful submits =
     let left : IsLeft old new = submits in left_holds facts s before old new holding left.same
-holds_one facts s before old new source replies.Worn holding lawful submits =
+holds_one facts s before old new source Reply.Worn holding lawful submits =
     let left : IsLeft old new = submits.2 in left_holds facts s before old new holding left.same
-holds_one facts s before old new source replies.Disk holding lawful submits =
-    cut_holds facts s before source old new holding lawful submits.1
-holds_one facts s before old new source replies.Reopen holding lawful submits =
-    absurd (true_false (sym submits.0 ∙ holding.open_now))
+holds_one facts s before old new source Reply.Disk holding lawful submits = cut_holds facts s before source old new holding lawful submits.1
+holds_one facts s before old new source Reply.Reopen holding lawful submits = absurd (true_false (sym submits.0 ∙ holding.open_now))
 
 -- the sources before a list, and those of it that were answered
 more_holds : {D : Type 0} (facts : DeviceFacts D) (s : RawSettings) (before xs : List (List ℕ)) (x : List ℕ) (cut : Option (List ℕ)) (new : Seen D) → IsHeldWith facts s ((before ++ x ∷ []) ++ xs) cut new → IsHeldWith facts s (before ++ x ∷ xs) cut new
-more_holds facts s before xs x cut new holds =
-    subst (λ ys. IsHeldWith facts s ys cut new) (append_assoc before (x ∷ []) xs) holds
+more_holds facts s before xs x cut new holds = subst (λ ys. IsHeldWith facts s ys cut new) (append_assoc before (x ∷ []) xs) holds
 
 none_holds : {D : Type 0} (facts : DeviceFacts D) (s : RawSettings) (before : List (List ℕ)) (store : Seen D) → IsHolding facts s (before ++ []) store → IsHolding facts s before store
 none_holds facts s before store holds = subst (λ xs. IsHolding facts s xs store) (append-nil before) holds
 
 -- nothing was submitted after a `Disk`
-stopped_holds : {D : Type 0} (facts : DeviceFacts D) (s : RawSettings) (before xs : List (List ℕ)) (x : List ℕ) (rs : List Reply) (mid new : Seen D) → RunsOn facts true mid xs rs new → IsCutOff facts s (before ++ []) x mid → HoldsMore facts s before (x ∷ xs) (replies.Disk ∷ rs) new
-stopped_holds facts s before [] x [] mid new runs cut =
-    subst (λ store. IsCutOff facts s (before ++ []) x store) (sym runs) cut
-stopped_holds facts s before (y ∷ xs) x [] mid new runs cut =
-    subst (λ store. IsCutOff facts s (before ++ []) x store) (sym runs) cut
+stopped_holds : {D : Type 0} (facts : DeviceFacts D) (s : RawSettings) (before xs : List (List ℕ)) (x : List ℕ) (rs : List Reply) (mid new : Seen D) → RunsOn facts true mid xs rs new → IsCutOff facts s (before ++ []) x mid → HoldsMore facts s before (x ∷ xs) (Reply.Disk ∷ rs) new
+stopped_holds facts s before [] x [] mid new runs cut = subst (λ store. IsCutOff facts s (before ++ []) x store) (sym runs) cut
+stopped_holds facts s before (y ∷ xs) x [] mid new runs cut = subst (λ store. IsCutOff facts s (before ++ []) x store) (sym runs) cut
 stopped_holds facts s before [] x (r ∷ rs) mid new runs cut = absurd runs
 stopped_holds facts s before (y ∷ xs) x (r ∷ rs) mid new runs cut = absurd runs
 
@@ -121,30 +103,30 @@ pub holds_runs : {D : Type 0} (facts : DeviceFacts D) (s : RawSettings) (before 
 holds_runs facts s before old new [] [] runs holding = left_holds facts s before old new holding runs
 holds_runs facts s before old new [] (r ∷ rs) runs holding = absurd runs
 holds_runs facts s before old new (x ∷ xs) [] runs holding = absurd runs
-holds_runs facts s before old new (x ∷ xs) (replies.Placed entry rank score ∷ rs) runs holding =
+holds_runs facts s before old new (x ∷ xs) (Reply.Placed entry rank score ∷ rs) runs holding =
     more_holds facts s before (answered xs rs) x (under_way xs rs) new
     (holds_runs facts s (before ++ x ∷ []) runs.0 new xs rs runs.2
-    (holds_one facts s before old runs.0 x (replies.Placed entry rank score) holding (runs.1.kept.same_laws.1 holding.lawful) runs.1.submits))
-holds_runs facts s before old new (x ∷ xs) (replies.Fell entry score ∷ rs) runs holding =
+    (holds_one facts s before old runs.0 x (Reply.Placed entry rank score) holding (runs.1.kept.same_laws.1 holding.lawful) runs.1.submits))
+holds_runs facts s before old new (x ∷ xs) (Reply.Fell entry score ∷ rs) runs holding =
     more_holds facts s before (answered xs rs) x (under_way xs rs) new
     (holds_runs facts s (before ++ x ∷ []) runs.0 new xs rs runs.2
-    (holds_one facts s before old runs.0 x (replies.Fell entry score) holding (runs.1.kept.same_laws.1 holding.lawful) runs.1.submits))
-holds_runs facts s before old new (x ∷ xs) (replies.Refused fault ∷ rs) runs holding =
+    (holds_one facts s before old runs.0 x (Reply.Fell entry score) holding (runs.1.kept.same_laws.1 holding.lawful) runs.1.submits))
+holds_runs facts s before old new (x ∷ xs) (Reply.Refused fault ∷ rs) runs holding =
     more_holds facts s before (answered xs rs) x (under_way xs rs) new
     (holds_runs facts s (before ++ x ∷ []) runs.0 new xs rs runs.2
-    (holds_one facts s before old runs.0 x (replies.Refused fault) holding (runs.1.kept.same_laws.1 holding.lawful) runs.1.submits))
-holds_runs facts s before old new (x ∷ xs) (replies.Memory ∷ rs) runs holding =
+    (holds_one facts s before old runs.0 x (Reply.Refused fault) holding (runs.1.kept.same_laws.1 holding.lawful) runs.1.submits))
+holds_runs facts s before old new (x ∷ xs) (Reply.Memory ∷ rs) runs holding =
     holds_runs facts s before runs.0 new xs rs runs.2
     (none_holds facts s before runs.0
-    (holds_one facts s before old runs.0 x replies.Memory holding (runs.1.kept.same_laws.1 holding.lawful) runs.1.submits))
-holds_runs facts s before old new (x ∷ xs) (replies.Worn ∷ rs) runs holding =
+    (holds_one facts s before old runs.0 x Reply.Memory holding (runs.1.kept.same_laws.1 holding.lawful) runs.1.submits))
+holds_runs facts s before old new (x ∷ xs) (Reply.Worn ∷ rs) runs holding =
     holds_runs facts s before runs.0 new xs rs runs.2
     (none_holds facts s before runs.0
-    (holds_one facts s before old runs.0 x replies.Worn holding (runs.1.kept.same_laws.1 holding.lawful) runs.1.submits))
-holds_runs facts s before old new (x ∷ xs) (replies.Reopen ∷ rs) runs holding =
+    (holds_one facts s before old runs.0 x Reply.Worn holding (runs.1.kept.same_laws.1 holding.lawful) runs.1.submits))
+holds_runs facts s before old new (x ∷ xs) (Reply.Reopen ∷ rs) runs holding =
     holds_runs facts s before runs.0 new xs rs runs.2
     (none_holds facts s before runs.0
-    (holds_one facts s before old runs.0 x replies.Reopen holding (runs.1.kept.same_laws.1 holding.lawful) runs.1.submits))
-holds_runs facts s before old new (x ∷ xs) (replies.Disk ∷ rs) runs holding =
+    (holds_one facts s before old runs.0 x Reply.Reopen holding (runs.1.kept.same_laws.1 holding.lawful) runs.1.submits))
+holds_runs facts s before old new (x ∷ xs) (Reply.Disk ∷ rs) runs holding =
     stopped_holds facts s before xs x rs runs.0 new runs.2
-    (holds_one facts s before old runs.0 x replies.Disk holding (runs.1.kept.same_laws.1 holding.lawful) runs.1.submits)
+    (holds_one facts s before old runs.0 x Reply.Disk holding (runs.1.kept.same_laws.1 holding.lawful) runs.1.submits)

@@ -1,10 +1,7 @@
 -- Submissions one after another, one more at a time.
-use Rattle.std.proofs.Common.{zero, suc, Bor, Result, is_ok, if◌then◌else◌, ◌≡◌, ℕ, ◌+◌, ◌<◌, ◌≤◌, true, false, List, [], ◌∷◌, ◌++◌, length, take, drop, get_or, refl, sym, ap, subst, ◌∙◌, arith, append_assoc}
-use Rattle.std.proofs.lemmas.List.{take_more, take_all, take-append-drop}
-use Rattle.sector_disk.specs.Facts.{DeviceFacts}
-use Rattle.hill_store.specs.declared.reply.Reply.{Reply}
-use Rattle.hill_store.specs.Seen.{Seen}
-use Rattle.hill_store.specs.Runs.{is_disk, texts, IsSubmitted, RunsOn, Runs}
+use Rattle.std.proofs.Common.{zero, suc, Bor, Result, is_ok, if◌then◌else◌, ◌≡◌, ℕ, ◌+◌, ◌<◌, ◌≤◌, true, false, List, [], ◌∷◌, ◌++◌, length, take, drop, get_or, refl, sym, ap, subst, ◌∙◌}
+use Rattle.{std.proofs.{Common.{arith, append_assoc}, lemmas.List.{take_more, take_all, take-append-drop}}, sector_disk.specs.Facts.DeviceFacts}
+use Rattle.hill_store.specs.{declared.reply.Reply.Reply, Seen.Seen, Runs.{is_disk, texts, IsSubmitted, RunsOn, Runs}}
 
 -- so far no reply was `Disk`
 abbrev pub RunsOpen : {D : Type 0} → DeviceFacts D → Seen D → List (List ℕ) → List Reply → Seen D → Type 0
@@ -51,8 +48,7 @@ cut_next facts old mid new xs i rs more x r below at is runs submits cut =
     (subst (λ qs. Runs facts old (take i xs ++ x ∷ drop (i + 1) xs) qs new) (sym is) (open_cut facts old mid new (take i xs) (drop (i + 1) xs) rs x r runs submits cut))
 
 pub all_next : {D : Type 0} (facts : DeviceFacts D) (old new : Seen D) (xs : List (List ℕ)) (i : ℕ) (rs : List Reply) → length xs ≤ i → RunsOpen facts old (take i xs) rs new → Runs facts old xs rs new
-all_next facts old new xs i rs past runs =
-    open_end facts old new xs rs (subst (λ ys. RunsOpen facts old ys rs new) (take_all i xs past) runs)
+all_next facts old new xs i rs past runs = open_end facts old new xs rs (subst (λ ys. RunsOpen facts old ys rs new) (take_all i xs past) runs)
 
 pub texts_length : (xs : List (Bor (List ℕ))) → length (texts xs) ≡ length xs
 texts_length [] = refl

@@ -1,21 +1,9 @@
 -- Of each life there is a record: for `laws_of_lives`.
-use Rattle.std.proofs.Common.{◌≡◌, ◌⊎◌, inl, inr, ℕ, Bool, true, false, List, [], ◌∷◌, ◌++◌, Option, Some, None, refl, sym, subst}
-use Rattle.war_types.specs.declared.settings.RawSettings.{RawSettings}
-use Rattle.sector_disk.specs.Disk.{Disk, current, synced}
-use Rattle.sector_disk.specs.Image.{IsImage, Images, started}
-use Rattle.sector_disk.specs.Changes.{Begun}
-use Rattle.sector_disk.proofs.Images.{images_read, images_settled, images_sync}
-use Rattle.koth_hill.specs.Hill.{Hill}
-use Rattle.koth_hill.specs.Step.{new_hill}
-use Rattle.hill_bytes.specs.declared.format.Format.{Format}
-use Rattle.hill_bytes.specs.declared.format.Format.TheVariants as formats
-use Rattle.hill_bytes.specs.Layout.{Layout, layout_of}
-use Rattle.hill_images.specs.Stands.{Stands, StandsIn}
-use Rattle.hill_images.proofs.Newest.{stands_once}
-use Rattle.hill_store.specs.Earned.{earned, step_source, steps}
-use Rattle.hill_store.specs.Holding.{StandsFor, StandsForIn, HoldsIn, AreDecided}
-use Rattle.hill_store.specs.Lives.{Event, LivesIn, HasRecord, LawsOfLives}
-use Rattle.hill_store.proofs.Holdings.{earned_more}
+use Rattle.{std.proofs.Common.{◌≡◌, ◌⊎◌, inl, inr, ℕ, Bool, true, false, List, [], ◌∷◌, ◌++◌, Option, Some, None, refl, sym, subst}, war_types.specs.declared.settings.RawSettings.RawSettings}
+use Rattle.{koth_hill.specs.{Hill.Hill, Step.new_hill}, sector_disk.specs.{Disk.{Disk, current, synced}, Image.{IsImage, Images, started}, Changes.Begun}}
+use Rattle.{sector_disk.proofs.Images.{images_read, images_settled, images_sync}, hill_bytes.specs.{declared.format.Format.Format, Layout.{Layout, layout_of}}}
+use Rattle.{hill_images.specs.Stands.{Stands, StandsIn}, hill_images.proofs.Newest.stands_once, hill_store.specs.Earned.{earned, step_source, steps}}
+use Rattle.{hill_store.specs.{Holding.{StandsFor, StandsForIn, HoldsIn, AreDecided}, Lives.{Event, LivesIn, HasRecord, LawsOfLives}}, hill_store.proofs.Holdings.earned_more}
 
 false_true : false ≡ true → ⊥
 false_true same = cc
@@ -90,12 +78,12 @@ lives_on format size s sources more is_open old new (Event.Stopped image ∷ eve
 lives_on format size s sources more is_open old new (Event.Moved moved_size moved hill ∷ events) none holds lives =
     let by : IsEarnedBy s sources more hill = read_by format size s sources more old hill holds lives.1 in
     let held = subst (λ h. Images moved (λ image. Stands moved_size image h)) by.earns lives.2 in
-    let on = lives_on formats.New moved_size s by.decided None true moved new events (λ is. refl) held lives.3 in
+    let on = lives_on Format.New moved_size s by.decided None true moved new events (λ is. refl) held lives.3 in
     record { found = on.found; last = on.last; tells = (by.decided, by.are, by.earns, on.tells); holds = on.holds }
 lives_on format size s sources more is_open old new (Event.MovedAtStop moved_size image hill ∷ events) none holds lives =
     let by : IsEarnedBy s sources more hill = read_by format size s sources more old hill holds lives.1 in
     let held = images_settled (started image) (StandsFor moved_size s by.decided None) (λ n. refl) (subst (λ h. Stands moved_size image h) by.earns lives.2) in
-    let on = lives_on formats.New moved_size s by.decided None false (started image) new events (λ is. refl) held lives.3 in
+    let on = lives_on Format.New moved_size s by.decided None false (started image) new events (λ is. refl) held lives.3 in
     record { found = on.found; last = on.last; tells = (by.decided, by.are, by.earns, on.tells); holds = on.holds }
 
 pub laws : LawsOfLives

@@ -1,29 +1,11 @@
 -- A hill that moves from a device of the old format to another one: for `Store::migrate` and `migrations_in_lives`.
-use Rattle.std.proofs.Common.{◌≡◌, ◌⊎◌, inl, inr, ℕ, ◌<◌, List, [], ◌∷◌, ◌++◌, Option, Some, None, refl, sym, subst}
-use Rattle.war_types.specs.declared.settings.RawSettings.{RawSettings}
-use Rattle.sector_disk.specs.Facts.{DeviceFacts}
-use Rattle.sector_disk.specs.Disk.{current, synced}
-use Rattle.sector_disk.specs.Image.{IsImage, Images}
-use Rattle.sector_disk.specs.Changes.{Begun}
-use Rattle.sector_disk.specs.Served.{IsKept}
-use Rattle.sector_disk.proofs.Images.{image-current, images_read, images_sync}
-use Rattle.koth_hill.specs.Kept.{Kept, fought}
-use Rattle.hill_bytes.specs.Layout.{HeaderParts, Layout, old_layout, sectors_for}
-use Rattle.hill_images.specs.declared.refusal.Refusal.{Refusal}
-use Rattle.hill_images.specs.declared.refusal.Refusal.TheVariants as refusals
-use Rattle.hill_images.specs.Stands.{Reads, ReadsIn, Stands, StandsIn}
-use Rattle.hill_images.specs.Opening.{HoldsNone, IsNotWritten}
-use Rattle.hill_images.proofs.Newest.{reads_once}
-use Rattle.hill_store.specs.declared.migration.MigrateFault.{MigrateFault}
-use Rattle.hill_store.specs.declared.migration.MigrateSide.{MigrateSide}
-use Rattle.hill_store.specs.declared.migration.MigrateSide.TheVariants as sides
-use Rattle.hill_store.specs.Earned.{earned}
-use Rattle.hill_store.specs.Seen.{Seen}
-use Rattle.hill_store.specs.Opened.{IsMigrated, IsNotMigrated, IsNotMigratedBy, IsNotTaken, IsReadOf}
-use Rattle.hill_store.specs.Holding.{AreDecided, HoldsIn, IsMoved, IsUnmoved, StandsFor, StandsForIn}
-use Rattle.hill_store.specs.Calls.{MigrationsAreEvents}
-use Rattle.hill_store.proofs.Living.{begun_holds}
-use Rattle.hill_store.proofs.Decided.{any_reason}
+use Rattle.{std.proofs.Common.{◌≡◌, ◌⊎◌, inl, inr, ℕ, ◌<◌, List, [], ◌∷◌, ◌++◌, Option, Some, None, refl, sym, subst}, war_types.specs.declared.settings.RawSettings.RawSettings}
+use Rattle.{koth_hill.specs.Kept.{Kept, fought}, sector_disk.specs.{Facts.DeviceFacts, Disk.{current, synced}, Image.{IsImage, Images}, Changes.Begun, Served.IsKept}}
+use Rattle.{sector_disk.proofs.Images.{image-current, images_read, images_sync}, hill_bytes.specs.Layout.{HeaderParts, Layout, old_layout, sectors_for}}
+use Rattle.{hill_images.specs.{declared.refusal.Refusal.Refusal, Stands.{Reads, ReadsIn, Stands, StandsIn}, Opening.{HoldsNone, IsNotWritten}}, hill_images.proofs.Newest.reads_once}
+use Rattle.hill_store.specs.{declared.migration.MigrateFault.MigrateFault, declared.migration.MigrateSide.MigrateSide, Earned.earned, Seen.Seen}
+use Rattle.hill_store.specs.{Opened.{IsMigrated, IsNotMigrated, IsNotMigratedBy, IsNotTaken, IsReadOf}, Holding.{AreDecided, HoldsIn, IsMoved, IsUnmoved, StandsFor, StandsForIn}}
+use Rattle.{hill_store.specs.Calls.MigrationsAreEvents, hill_store.proofs.{Living.begun_holds, Decided.any_reason}}
 
 -- which sources earned the hill that an image reads as
 record IsReadBy (layout : Layout) (size : ℕ) (image : ℕ → List ℕ) (s : RawSettings) (sources : List (List ℕ)) (more : Option (List ℕ)) (k : Kept) : Type 0 where
@@ -83,8 +65,8 @@ module _ {O D : Type 0} (old_facts : DeviceFacts O) (facts : DeviceFacts D) (old
 
   -- the new one did not take it
   not_taken : (new new_after : D) (hill : Kept) (why : Refusal) → facts.lawful new → IsReadOf old_facts old after hill → IsNotTaken facts new hill new_after why → Images (facts.disk new_after) (MayBe new new_after)
-  not_taken new new_after hill refusals.TooSmall lawful_new read is = same_images new new_after is.1
-  not_taken new new_after hill refusals.Disk lawful_new read is = λ image. λ at. elim (is.images lawful_new image at) [
+  not_taken new new_after hill Refusal.TooSmall lawful_new read is = same_images new new_after is.1
+  not_taken new new_after hill Refusal.Disk lawful_new read is = λ image. λ at. elim (is.images lawful_new image at) [
     | inl before ↦ inl before
     | inr written ↦ elim written [
       | inl none ↦ inr (inl none)
@@ -94,19 +76,19 @@ module _ {O D : Type 0} (old_facts : DeviceFacts O) (facts : DeviceFacts D) (old
           inr (inr (stands_for (facts.size new_after) image s sources by.found more by.are (subst (λ k. Reads (facts.size new_after) image k) by.hill reads)))
     ]
   ]
-  not_taken new new_after hill refusals.Occupied lawful_new read is =
+  not_taken new new_after hill Refusal.Occupied lawful_new read is =
       subst (λ d. Images d (MayBe new new_after)) (sym (is lawful_new).1) (images_sync (facts.disk new) (MayBe new new_after) (inl (image-current (facts.disk new))))
-  not_taken new new_after hill refusals.Memory lawful_new read is = absurd is
-  not_taken new new_after hill refusals.NotAHill lawful_new read is = absurd is
-  not_taken new new_after hill refusals.Damaged lawful_new read is = absurd is
+  not_taken new new_after hill Refusal.Memory lawful_new read is = absurd is
+  not_taken new new_after hill Refusal.NotAHill lawful_new read is = absurd is
+  not_taken new new_after hill Refusal.Damaged lawful_new read is = absurd is
 
   unmoved_by : (new new_after : D) (why : Refusal) (side : MigrateSide) → facts.lawful new → IsNotMigratedBy old_facts facts old after new new_after why side → IsUnmoved old_facts facts s sources more after new new_after (record { side = side; refusal = why })
-  unmoved_by new new_after why sides.Old lawful_new is = record {
+  unmoved_by new new_after why MigrateSide.Old lawful_new is = record {
     cause = inr (any_reason old_layout (old_facts.size old) (current (old_facts.disk old)) s sources more why stands_now (is.0.reason lawful_old));
     holds = still_holds (is.0.kept lawful_old);
     images = same_images new new_after is.1;
   }
-  unmoved_by new new_after why sides.New lawful_new is = record {
+  unmoved_by new new_after why MigrateSide.New lawful_new is = record {
     cause = inl refl;
     holds = still_holds (inr (is.1.synced_now lawful_old));
     images = not_taken new new_after is.0 why lawful_new is.1 is.2;
@@ -123,23 +105,23 @@ not_migrated_by old_facts facts old after new new_after why side fault side_is w
     subst (λ x. IsNotMigratedBy old_facts facts old after new new_after fault.refusal x) (sym side_is) (subst (λ x. IsNotMigratedBy old_facts facts old after new new_after x side) (sym why_is) is)
 
 -- the new device has too few sectors
-pub too_small : {D : Type 0} (facts : DeviceFacts D) (new : D) (h : HeaderParts) (hill : Kept) → h.settings ≡ hill.settings → facts.size new < sectors_for h.settings.capacity → IsNotTaken facts new hill new refusals.TooSmall
+pub too_small : {D : Type 0} (facts : DeviceFacts D) (new : D) (h : HeaderParts) (hill : Kept) → h.settings ≡ hill.settings → facts.size new < sectors_for h.settings.capacity → IsNotTaken facts new hill new Refusal.TooSmall
 too_small facts new h hill settings few = (subst (λ (s : RawSettings). facts.size new < sectors_for s.capacity) settings few, refl)
 
 -- why it did not take the hill that was to be written
 pub taken_or_not : {D : Type 0} (facts : DeviceFacts D) (new after : D) (hill : Kept) (why : Refusal) → IsNotWritten facts new hill after why → IsNotTaken facts new hill after why
-taken_or_not facts new after hill refusals.Disk is = is
-taken_or_not facts new after hill refusals.Occupied is = is
-taken_or_not facts new after hill refusals.TooSmall is = absurd is
-taken_or_not facts new after hill refusals.Memory is = is
-taken_or_not facts new after hill refusals.NotAHill is = is
-taken_or_not facts new after hill refusals.Damaged is = is
+taken_or_not facts new after hill Refusal.Disk is = is
+taken_or_not facts new after hill Refusal.Occupied is = is
+taken_or_not facts new after hill Refusal.TooSmall is = absurd is
+taken_or_not facts new after hill Refusal.Memory is = is
+taken_or_not facts new after hill Refusal.NotAHill is = is
+taken_or_not facts new after hill Refusal.Damaged is = is
 
 -- nothing but a sync was done to the old device
 begun_by : {O D : Type 0} (old_facts : DeviceFacts O) (facts : DeviceFacts D) (old after : O) (new new_after : D) (why : Refusal) (side : MigrateSide) → old_facts.lawful old → IsNotMigratedBy old_facts facts old after new new_after why side
     → Begun (synced ∷ []) (old_facts.disk old) (old_facts.disk after)
-begun_by old_facts facts old after new new_after why sides.Old lawful is = is.0.kept lawful
-begun_by old_facts facts old after new new_after why sides.New lawful is = inr (is.1.synced_now lawful)
+begun_by old_facts facts old after new new_after why MigrateSide.Old lawful is = is.0.kept lawful
+begun_by old_facts facts old after new new_after why MigrateSide.New lawful is = inr (is.1.synced_now lawful)
 
 pub migrations : {O D : Type 0} (old_facts : DeviceFacts O) (facts : DeviceFacts D) → MigrationsAreEvents old_facts facts
 migrations old_facts facts = record {

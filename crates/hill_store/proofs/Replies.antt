@@ -1,15 +1,9 @@
 -- The reply of a verdict.
-use Rattle.std.proofs.Common.{◌≡◌, Bool, true, false, if◌then◌else◌, sym, ap, subst}
-use Rattle.war_types.specs.Warrior.{WarriorParts}
-use Rattle.sector_disk.specs.Facts.{DeviceFacts}
-use Rattle.koth_hill.specs.declared.verdict.Verdict.{Verdict}
-use Rattle.koth_hill.specs.Kept.{verdict_kept, step_kept}
-use Rattle.hill_store.specs.declared.reply.Reply.{Reply}
-use Rattle.hill_store.specs.declared.reply.Reply.TheVariants as replies
-use Rattle.hill_store.specs.Earned.{reply_judged}
-use Rattle.hill_store.specs.Seen.{Seen, IsAnswered, Challenges}
+use Rattle.{std.proofs.Common.{◌≡◌, Bool, true, false, if◌then◌else◌, sym, ap, subst}, war_types.specs.Warrior.WarriorParts}
+use Rattle.{koth_hill.specs.{declared.verdict.Verdict.Verdict, Kept.{verdict_kept, step_kept}}, sector_disk.specs.Facts.DeviceFacts}
+use Rattle.hill_store.specs.{declared.reply.Reply.Reply, Earned.reply_judged, Seen.{Seen, IsAnswered, Challenges}}
 
-answer_by : {D : Type 0} (facts : DeviceFacts D) (old new : Seen D) (w : WarriorParts) (judged : Verdict) (b : Bool) → (if b then replies.Placed judged.entry judged.rank judged.score else replies.Fell judged.entry judged.score) ≡ reply_judged (verdict_kept old.hill w) → IsAnswered facts old (step_kept old.hill w) new → Challenges facts old w (if b then replies.Placed judged.entry judged.rank judged.score else replies.Fell judged.entry judged.score) new
+answer_by : {D : Type 0} (facts : DeviceFacts D) (old new : Seen D) (w : WarriorParts) (judged : Verdict) (b : Bool) → (if b then Reply.Placed judged.entry judged.rank judged.score else Reply.Fell judged.entry judged.score) ≡ reply_judged (verdict_kept old.hill w) → IsAnswered facts old (step_kept old.hill w) new → Challenges facts old w (if b then Reply.Placed judged.entry judged.rank judged.score else Reply.Fell judged.entry judged.score) new
 answer_by facts old new w judged true is answered = (is, answered)
 answer_by facts old new w judged false is answered = (is, answered)
 

@@ -1,23 +1,9 @@
 -- What is written of a warrior that stays: for `Store::admit`.
-use Rattle.std.proofs.Common.{◌≡◌, ℕ, ◌-◌, ◌^◌, ◌<◌, ◌≤◌, Bool, true, false, List, length, sym, ap, ap₂, subst, ◌∙◌}
-use Rattle.std.proofs.lemmas.List.{length-map}
-use Rattle.war_types.specs.declared.settings.RawSettings.{RawSettings}
-use Rattle.war_types.specs.Warrior.{WarriorParts, Fits}
-use Rattle.sector_disk.specs.Facts.{DeviceFacts}
-use Rattle.koth_match.specs.Match.{match_of}
-use Rattle.koth_hill.specs.Hill.{Member}
-use Rattle.koth_match.specs.declared.bout.Bout.{Bout}
-use Rattle.koth_hill.specs.declared.verdict.Verdict.{Verdict}
-use Rattle.koth_hill.specs.Kept.{Kept, verdict_kept}
-use Rattle.hill_bytes.specs.declared.header.HeaderEntry.{HeaderEntry}
-use Rattle.hill_bytes.specs.declared.wins.Wins.{Wins}
-use Rattle.hill_bytes.specs.Layout.{HeaderParts, SlotIsFree, new_layout}
-use Rattle.hill_images.specs.Named.{Agree, IsSound}
-use Rattle.hill_images.specs.Places.{header_placed, places, results_by_slot}
-use Rattle.hill_images.proofs.Exits.{MayAdmit}
-use Rattle.hill_images.proofs.Nexts.{agree_length}
-use Rattle.hill_images.proofs.Submitted.{results_of, verdict_bouts}
-use Rattle.hill_store.specs.Seen.{Seen, seen}
+use Rattle.std.proofs.{Common.{◌≡◌, ℕ, ◌-◌, ◌^◌, ◌<◌, ◌≤◌, Bool, true, false, List, length, sym, ap, ap₂, subst, ◌∙◌}, lemmas.List.length-map}
+use Rattle.{war_types.specs.{declared.settings.RawSettings.RawSettings, Warrior.{WarriorParts, Fits}}, koth_match.specs.{Match.match_of, declared.bout.Bout.Bout}}
+use Rattle.{koth_hill.specs.{Hill.Member, declared.verdict.Verdict.Verdict, Kept.{Kept, verdict_kept}}, sector_disk.specs.Facts.DeviceFacts, hill_bytes.specs.declared.header.HeaderEntry.HeaderEntry}
+use Rattle.{hill_bytes.specs.{declared.wins.Wins.Wins, Layout.{HeaderParts, SlotIsFree, new_layout}}, hill_images.specs.{Named.{Agree, IsSound}, Places.{header_placed, places, results_by_slot}}}
+use Rattle.{hill_images.proofs.{Exits.MayAdmit, Nexts.agree_length, Submitted.{results_of, verdict_bouts}}, hill_store.specs.Seen.{Seen, seen}}
 
 -- the results of a challenger that was judged, by the slots of those on the hill
 pub results_are : (h : HeaderParts) (hill : Kept) (w : WarriorParts) (judged : Verdict) (results : List Wins) (es : List HeaderEntry) (bouts : List Bout)

@@ -1,34 +1,19 @@
 -- What the calls of a store are in the life of its device.
 use Rattle.std.specs.Prelude.{◌≡◌, ℕ, true, false, List, [], ◌∷◌, ◌++◌, None}
-use Rattle.war_types.specs.declared.settings.RawSettings.{RawSettings}
-use Rattle.sector_disk.specs.Facts.{DeviceFacts}
-use Rattle.sector_disk.specs.Disk.{current}
-use Rattle.sector_disk.specs.Image.{IsImage, started}
-use Rattle.koth_hill.specs.Hill.{Hill}
-use Rattle.koth_hill.specs.Kept.{fought}
-use Rattle.hill_images.specs.declared.refusal.Refusal.{Refusal}
-use Rattle.hill_bytes.specs.declared.format.Format.TheVariants as formats
-use Rattle.hill_bytes.specs.Layout.{old_layout}
-use Rattle.hill_images.specs.Opening.{IsNotOpened}
-use Rattle.hill_images.specs.Stands.{Stands, StandsIn}
-use Rattle.hill_store.specs.declared.reply.Reply.{Reply}
-use Rattle.hill_store.specs.declared.reply.Reply.TheVariants as replies
-use Rattle.hill_store.specs.Seen.{Seen, IsStanding}
-use Rattle.hill_store.specs.declared.migration.MigrateFault.{MigrateFault}
-use Rattle.hill_store.specs.Opened.{IsCreated, IsMigrated, IsNotMigrated, IsOpened}
-use Rattle.hill_store.specs.Runs.{IsSubmitted, Runs}
-use Rattle.hill_store.specs.Holding.{Holds}
-use Rattle.hill_store.specs.Lives.{Event, Lives, LivesIn}
+use Rattle.{war_types.specs.declared.settings.RawSettings.RawSettings, koth_hill.specs.{Hill.Hill, Kept.fought}, sector_disk.specs.{Facts.DeviceFacts, Disk.current, Image.{IsImage, started}}}
+use Rattle.{hill_bytes.specs.{Layout.old_layout, declared.format.Format.Format}, hill_images.specs.{declared.refusal.Refusal.Refusal, Opening.IsNotOpened, Stands.{Stands, StandsIn}}}
+use Rattle.hill_store.specs.{declared.reply.Reply.Reply, Seen.{Seen, IsStanding}, declared.migration.MigrateFault.MigrateFault, Opened.{IsCreated, IsMigrated, IsNotMigrated, IsOpened}}
+use Rattle.hill_store.specs.{Runs.{IsSubmitted, Runs}, Holding.Holds, Lives.{Event, Lives, LivesIn}}
 
 -- a submission by its reply: one that changed nothing is no event
 abbrev pub events_of : List ℕ → Reply → List Event
-events_of source (replies.Placed entry rank score) = Event.Answered (source ∷ []) ∷ []
-events_of source (replies.Fell entry score) = Event.Answered (source ∷ []) ∷ []
-events_of source (replies.Refused fault) = Event.Answered (source ∷ []) ∷ []
-events_of source replies.Memory = []
-events_of source replies.Worn = []
-events_of source replies.Disk = Event.Unanswered source ∷ []
-events_of source replies.Reopen = []
+events_of source (Reply.Placed entry rank score) = Event.Answered (source ∷ []) ∷ []
+events_of source (Reply.Fell entry score) = Event.Answered (source ∷ []) ∷ []
+events_of source (Reply.Refused fault) = Event.Answered (source ∷ []) ∷ []
+events_of source Reply.Memory = []
+events_of source Reply.Worn = []
+events_of source Reply.Disk = Event.Unanswered source ∷ []
+events_of source Reply.Reopen = []
 
 -- submissions by their replies
 abbrev pub events_in : List (List ℕ) → List Reply → List Event
@@ -56,11 +41,11 @@ pub record CallsAreEvents {D : Type 0} (facts : DeviceFacts D) : Type 0 where
 pub record MigrationsAreEvents {O D : Type 0} (old_facts : DeviceFacts O) (facts : DeviceFacts D) : Type 0 where
   -- one that was answered is the move to the other device; what is moved of a life's device keeps true results
   pub migrated : (old after : O) (new : D) (store : Seen D) (hill : Hill) → old_facts.lawful old → facts.lawful new → IsMigrated old_facts facts old after new store → store.hill ≡ fought hill
-      → LivesIn formats.Old (old_facts.size old) false (old_facts.disk old) (Event.Moved (facts.size store.device) (facts.disk store.device) hill ∷ []) (facts.disk store.device)
+      → LivesIn Format.Old (old_facts.size old) false (old_facts.disk old) (Event.Moved (facts.size store.device) (facts.disk store.device) hill ∷ []) (facts.disk store.device)
   -- one that was refused is an opening that was refused
   pub not_migrated : (old old_after : O) (new new_after : D) (fault : MigrateFault) → old_facts.lawful old → IsNotMigrated old_facts facts old old_after new new_after fault
-      → LivesIn formats.Old (old_facts.size old) false (old_facts.disk old) (Event.NotOpened ∷ []) (old_facts.disk old_after)
+      → LivesIn Format.Old (old_facts.size old) false (old_facts.disk old) (Event.NotOpened ∷ []) (old_facts.disk old_after)
   -- if it was stopped, and an image of the other device stands for the hill, the life goes on with that
   pub stopped : (old old_after : O) (new new_after : D) (fault : MigrateFault) (image : ℕ → List ℕ) (hill : Hill) → old_facts.lawful old → IsNotMigrated old_facts facts old old_after new new_after fault
       → StandsIn old_layout (old_facts.size old) (current (old_facts.disk old)) hill → IsImage (facts.disk new_after) image → Stands (facts.size new_after) image hill
-      → LivesIn formats.Old (old_facts.size old) false (old_facts.disk old) (Event.MovedAtStop (facts.size new_after) image hill ∷ []) (started image)
+      → LivesIn Format.Old (old_facts.size old) false (old_facts.disk old) (Event.MovedAtStop (facts.size new_after) image hill ∷ []) (started image)

@@ -1,15 +1,7 @@
 -- What a list of sources earns.
 use Rattle.std.specs.Prelude.{ℕ, if◌then◌else◌, List, [], ◌∷◌, Result, Ok, Err}
-use Rattle.war_types.specs.declared.settings.RawSettings.{RawSettings}
-use Rattle.war_types.specs.declared.fault.AsmFault.{AsmFault}
-use Rattle.war_types.specs.Warrior.{WarriorParts}
-use Rattle.redcode_asm.specs.Assembly.{assembly}
-use Rattle.koth_hill.specs.declared.verdict.Verdict.{Verdict}
-use Rattle.koth_hill.specs.Hill.{Hill}
-use Rattle.koth_hill.specs.Step.{step, verdict, new_hill}
-use Rattle.koth_hill.specs.Kept.{Kept, step_kept, verdict_kept}
-use Rattle.hill_store.specs.declared.reply.Reply.{Reply}
-use Rattle.hill_store.specs.declared.reply.Reply.TheVariants as replies
+use Rattle.{war_types.specs.{declared.settings.RawSettings.RawSettings, declared.fault.AsmFault.AsmFault, Warrior.WarriorParts}, redcode_asm.specs.Assembly.assembly}
+use Rattle.{koth_hill.specs.{declared.verdict.Verdict.Verdict, Hill.Hill, Step.{step, verdict, new_hill}, Kept.{Kept, step_kept, verdict_kept}}, hill_store.specs.declared.reply.Reply.Reply}
 
 abbrev pub step_found : Hill → Result WarriorParts AsmFault → Hill
 step_found h (Ok w) = step h w
@@ -20,11 +12,11 @@ abbrev pub step_source : Hill → List ℕ → Hill
 step_source h source = step_found h (assembly h.settings source)
 
 abbrev pub reply_judged : Verdict → Reply
-reply_judged v = if v.stays then replies.Placed v.entry v.rank v.score else replies.Fell v.entry v.score
+reply_judged v = if v.stays then Reply.Placed v.entry v.rank v.score else Reply.Fell v.entry v.score
 
 abbrev pub reply_found : Hill → Result WarriorParts AsmFault → Reply
 reply_found h (Ok w) = reply_judged (verdict h w)
-reply_found h (Err fault) = replies.Refused fault
+reply_found h (Err fault) = Reply.Refused fault
 
 -- the reply that is due to a source
 abbrev pub reply_of : Hill → List ℕ → Reply
@@ -51,7 +43,7 @@ kept_next k source = kept_found k (assembly k.settings source)
 
 abbrev pub kept_reply_found : Kept → Result WarriorParts AsmFault → Reply
 kept_reply_found k (Ok w) = reply_judged (verdict_kept k w)
-kept_reply_found k (Err fault) = replies.Refused fault
+kept_reply_found k (Err fault) = Reply.Refused fault
 
 -- the reply that is due to a source, by the results that the hill keeps
 abbrev pub kept_reply : Kept → List ℕ → Reply

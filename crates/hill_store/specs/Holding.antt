@@ -1,22 +1,8 @@
 -- What a device holds, in words of the sources that earn its hill.
 use Rattle.std.specs.Prelude.{◌≡◌, ◌⊎◌, ℕ, Bool, true, false, if◌then◌else◌, List, [], ◌∷◌, ◌++◌, Option, Some, None}
-use Rattle.war_types.specs.declared.settings.RawSettings.{RawSettings}
-use Rattle.sector_disk.specs.Facts.{DeviceFacts}
-use Rattle.sector_disk.specs.Disk.{Disk}
-use Rattle.sector_disk.specs.Image.{IsImage, Images}
-use Rattle.hill_store.specs.declared.reply.Reply.{Reply}
-use Rattle.hill_store.specs.declared.reply.Reply.TheVariants as replies
-use Rattle.hill_images.specs.declared.refusal.Refusal.{Refusal}
-use Rattle.hill_images.specs.declared.refusal.Refusal.TheVariants as refusals
-use Rattle.koth_hill.specs.Kept.{fought}
-use Rattle.hill_store.specs.Earned.{earned}
-use Rattle.hill_bytes.specs.Layout.{Layout, new_layout, old_layout}
-use Rattle.hill_images.specs.Opening.{HoldsNone}
-use Rattle.hill_images.specs.Stands.{StandsIn}
-use Rattle.hill_store.specs.declared.migration.MigrateFault.{MigrateFault}
-use Rattle.hill_store.specs.declared.migration.MigrateSide.TheVariants as sides
-use Rattle.hill_store.specs.Seen.{Seen}
-use Rattle.hill_store.specs.Runs.{is_disk}
+use Rattle.{war_types.specs.declared.settings.RawSettings.RawSettings, koth_hill.specs.Kept.fought, sector_disk.specs.{Facts.DeviceFacts, Disk.Disk, Image.{IsImage, Images}}}
+use Rattle.{hill_bytes.specs.Layout.{Layout, new_layout, old_layout}, hill_images.specs.{declared.refusal.Refusal.Refusal, Opening.HoldsNone, Stands.StandsIn}}
+use Rattle.hill_store.specs.{declared.reply.Reply.Reply, Earned.earned, declared.migration.MigrateFault.MigrateFault, Seen.Seen, Runs.is_disk, declared.migration.MigrateSide.MigrateSide}
 
 -- The hill that these sources earn, or these and one more, is what every image stands for.
 abbrev pub StandsForIn : Layout → ℕ → RawSettings → List (List ℕ) → Option (List ℕ) → (ℕ → List ℕ) → Type 0
@@ -38,13 +24,13 @@ Holds size disk s sources more = HoldsIn new_layout size disk s sources more
 
 -- the submission was answered: it was placed, or fell, or was refused
 abbrev pub is_answer : Reply → Bool
-is_answer (replies.Placed entry rank score) = true
-is_answer (replies.Fell entry score) = true
-is_answer (replies.Refused fault) = true
-is_answer replies.Memory = false
-is_answer replies.Worn = false
-is_answer replies.Disk = false
-is_answer replies.Reopen = false
+is_answer (Reply.Placed entry rank score) = true
+is_answer (Reply.Fell entry score) = true
+is_answer (Reply.Refused fault) = true
+is_answer Reply.Memory = false
+is_answer Reply.Worn = false
+is_answer Reply.Disk = false
+is_answer Reply.Reopen = false
 
 -- those of these sources that were answered, by their replies
 abbrev pub answered : List (List ℕ) → List Reply → List (List ℕ)
@@ -79,8 +65,7 @@ IsHeldWith facts s sources (Some source) store = IsCutOff facts s sources source
 
 -- what submitting these sources, so answered, makes of a store that holds those before them
 abbrev pub HoldsMore : {D : Type 0} → DeviceFacts D → RawSettings → List (List ℕ) → List (List ℕ) → List Reply → Seen D → Type 0
-HoldsMore facts s before sources replied store =
-    IsHeldWith facts s (before ++ answered sources replied) (under_way sources replied) store
+HoldsMore facts s before sources replied store = IsHeldWith facts s (before ++ answered sources replied) (under_way sources replied) store
 
 -- these sources, with or without the one that was under way
 abbrev pub AreDecided : List (List ℕ) → Option (List ℕ) → List (List ℕ) → Type 0
@@ -95,7 +80,7 @@ pub record IsDecided {D : Type 0} (facts : DeviceFacts D) (s : RawSettings) (sou
 
 -- it did not, and the device holds what it held
 pub record IsUndecided {D : Type 0} (facts : DeviceFacts D) (s : RawSettings) (sources : List (List ℕ)) (more : Option (List ℕ)) (device : D) (why : Refusal) : Type 0 where
-  pub cause : (why ≡ refusals.Disk) ⊎ (why ≡ refusals.Memory)
+  pub cause : (why ≡ Refusal.Disk) ⊎ (why ≡ Refusal.Memory)
   pub holds : Holds (facts.size device) (facts.disk device) s sources more
 
 -- moving a hill decided it: both devices stand for what the sources found earn, and the store on the new one holds that
@@ -108,6 +93,6 @@ pub record IsMoved {O D : Type 0} (old_facts : DeviceFacts O) (facts : DeviceFac
 -- it did not: the old device holds what it held, and whatever a stop leaves of the new one was there before, or is without a hill, or stands for what
 -- these sources earn
 pub record IsUnmoved {O D : Type 0} (old_facts : DeviceFacts O) (facts : DeviceFacts D) (s : RawSettings) (sources : List (List ℕ)) (more : Option (List ℕ)) (old : O) (new after : D) (fault : MigrateFault) : Type 0 where
-  pub cause : (fault.side ≡ sides.New) ⊎ ((fault.refusal ≡ refusals.Disk) ⊎ (fault.refusal ≡ refusals.Memory))
+  pub cause : (fault.side ≡ MigrateSide.New) ⊎ ((fault.refusal ≡ Refusal.Disk) ⊎ (fault.refusal ≡ Refusal.Memory))
   pub holds : HoldsIn old_layout (old_facts.size old) (old_facts.disk old) s sources more
   pub images : Images (facts.disk after) (λ image. IsImage (facts.disk new) image ⊎ (HoldsNone image ⊎ StandsFor (facts.size after) s sources more image))

@@ -1,11 +1,7 @@
 -- What a store whose results are true answers, and what its hill is then: every pair fought again.
 use Rattle.std.specs.Prelude.{◌≡◌, ℕ, true, false, List}
-use Rattle.koth_hill.specs.Hill.{Hill, IsHill}
-use Rattle.koth_hill.specs.Table.{table}
-use Rattle.koth_hill.specs.Kept.{Kept, AreTrue, fought, hill_in, table_kept}
-use Rattle.hill_store.specs.declared.reply.Reply.{Reply}
-use Rattle.hill_store.specs.Earned.{reply_of, step_source, kept_reply, kept_next}
-use Rattle.hill_store.specs.Holding.{is_answer}
+use Rattle.koth_hill.specs.{Hill.{Hill, IsHill}, Table.table, Kept.{Kept, AreTrue, fought, hill_in, table_kept}}
+use Rattle.hill_store.specs.{declared.reply.Reply.Reply, Earned.{reply_of, step_source, kept_reply, kept_next}, Holding.is_answer}
 
 -- a submission to a hill whose results are true
 pub record IsAnew (old : Kept) (source : List ℕ) (reply : Reply) (new : Kept) : Type 0 where

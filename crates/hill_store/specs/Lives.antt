@@ -1,16 +1,8 @@
 -- The life of a device that holds a hill: what happens to it, one thing after another, and what is to be told of that.
 use Rattle.std.specs.Prelude.{◌≡◌, ◌⊎◌, ℕ, Bool, true, false, List, [], ◌∷◌, ◌++◌, Option, Some, None}
-use Rattle.war_types.specs.declared.settings.RawSettings.{RawSettings}
-use Rattle.sector_disk.specs.Disk.{Disk, current, synced}
-use Rattle.sector_disk.specs.Image.{IsImage, Images, started}
-use Rattle.sector_disk.specs.Changes.{Begun}
-use Rattle.koth_hill.specs.Hill.{Hill}
-use Rattle.hill_bytes.specs.declared.format.Format.{Format}
-use Rattle.hill_bytes.specs.declared.format.Format.TheVariants as formats
-use Rattle.hill_bytes.specs.Layout.{Layout, layout_of, new_layout}
-use Rattle.hill_images.specs.Stands.{Stands, StandsIn}
-use Rattle.hill_store.specs.Earned.{earned, step_source, steps}
-use Rattle.hill_store.specs.Holding.{HoldsIn, AreDecided}
+use Rattle.{war_types.specs.declared.settings.RawSettings.RawSettings, koth_hill.specs.Hill.Hill, sector_disk.specs.{Disk.{Disk, current, synced}, Image.{IsImage, Images, started}}}
+use Rattle.{sector_disk.specs.Changes.Begun, hill_bytes.specs.{declared.format.Format.Format, Layout.{Layout, layout_of, new_layout}}, hill_images.specs.Stands.{Stands, StandsIn}}
+use Rattle.hill_store.specs.{Earned.{earned, step_source, steps}, Holding.{HoldsIn, AreDecided}}
 
 -- What happens to a device: an opening is refused, or gives a hill; submissions are answered; the device fails in one; the store on it is
 -- closed; a stop leaves an image, and the device starts from that. A source is its bytes, an image what each sector holds.
@@ -49,11 +41,11 @@ LivesIn format size is_open old (Event.Unanswered source ∷ events) new =
 LivesIn format size is_open old (Event.Closed ∷ events) new = LivesIn format size false old events new
 LivesIn format size is_open old (Event.Stopped image ∷ events) new = IsImage old image × LivesIn format size false (started image) events new
 LivesIn format size is_open old (Event.Moved moved_size moved hill ∷ events) new =
-    (format ≡ formats.Old) × StandsIn (layout_of format) size (current old) hill × Images moved (λ image. Stands moved_size image hill)
-    × LivesIn formats.New moved_size true moved events new
+    (format ≡ Format.Old) × StandsIn (layout_of format) size (current old) hill × Images moved (λ image. Stands moved_size image hill)
+    × LivesIn Format.New moved_size true moved events new
 LivesIn format size is_open old (Event.MovedAtStop moved_size image hill ∷ events) new =
-    (format ≡ formats.Old) × StandsIn (layout_of format) size (current old) hill × Stands moved_size image hill
-    × LivesIn formats.New moved_size false (started image) events new
+    (format ≡ Format.Old) × StandsIn (layout_of format) size (current old) hill × Stands moved_size image hill
+    × LivesIn Format.New moved_size false (started image) events new
 
 -- all of these in the new format
 abbrev pub MovesOn : ℕ → List (List ℕ) → Disk → Disk → Type 0
@@ -63,7 +55,7 @@ abbrev pub MayMoveOn : ℕ → List ℕ → Disk → Disk → Type 0
 MayMoveOn size source old new = MayMoveOnIn new_layout size source old new
 
 abbrev pub Lives : ℕ → Bool → Disk → List Event → Disk → Type 0
-Lives size is_open old events new = LivesIn formats.New size is_open old events new
+Lives size is_open old events new = LivesIn Format.New size is_open old events new
 
 -- the format and the number of sectors of the device after these events
 abbrev pub format_after : Format → List Event → Format
@@ -74,8 +66,8 @@ format_after format (Event.Answered sources ∷ events) = format_after format ev
 format_after format (Event.Unanswered source ∷ events) = format_after format events
 format_after format (Event.Closed ∷ events) = format_after format events
 format_after format (Event.Stopped image ∷ events) = format_after format events
-format_after format (Event.Moved size disk hill ∷ events) = format_after formats.New events
-format_after format (Event.MovedAtStop size image hill ∷ events) = format_after formats.New events
+format_after format (Event.Moved size disk hill ∷ events) = format_after Format.New events
+format_after format (Event.MovedAtStop size image hill ∷ events) = format_after Format.New events
 
 abbrev pub size_after : ℕ → List Event → ℕ
 size_after size [] = size

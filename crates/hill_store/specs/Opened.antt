@@ -1,20 +1,9 @@
 -- What creating and opening a store makes of a device, and what moving a hill from one of the old format makes of both.
 use Rattle.std.specs.Prelude.{◌≡◌, ◌<◌, false}
-use Rattle.war_types.specs.declared.settings.RawSettings.{RawSettings}
-use Rattle.sector_disk.specs.Facts.{DeviceFacts}
-use Rattle.sector_disk.specs.Disk.{current, synced}
-use Rattle.sector_disk.specs.Image.{Images}
-use Rattle.koth_hill.specs.Step.{new_hill}
-use Rattle.koth_hill.specs.Kept.{Kept, new_kept}
-use Rattle.hill_bytes.specs.Layout.{HeaderParts, old_layout, sectors_for}
-use Rattle.hill_images.specs.declared.refusal.Refusal.{Refusal}
-use Rattle.hill_images.specs.declared.refusal.Refusal.TheVariants as refusals
-use Rattle.hill_images.specs.Stands.{IsNewest, IsNewestIn, Reads, ReadsIn, Stands}
-use Rattle.hill_images.specs.Opening.{HoldsNone, IsNotOpenedIn, IsNotWritten}
-use Rattle.hill_store.specs.declared.migration.MigrateFault.{MigrateFault}
-use Rattle.hill_store.specs.declared.migration.MigrateSide.{MigrateSide}
-use Rattle.hill_store.specs.declared.migration.MigrateSide.TheVariants as sides
-use Rattle.hill_store.specs.Seen.{Seen}
+use Rattle.{war_types.specs.declared.settings.RawSettings.RawSettings, koth_hill.specs.{Step.new_hill, Kept.{Kept, new_kept}}}
+use Rattle.{sector_disk.specs.{Facts.DeviceFacts, Disk.{current, synced}, Image.Images}, hill_bytes.specs.Layout.{HeaderParts, old_layout, sectors_for}}
+use Rattle.hill_images.specs.{declared.refusal.Refusal.Refusal, Stands.{IsNewest, IsNewestIn, Reads, ReadsIn, Stands}, Opening.{HoldsNone, IsNotOpenedIn, IsNotWritten}}
+use Rattle.hill_store.specs.{declared.migration.MigrateFault.MigrateFault, declared.migration.MigrateSide.MigrateSide, Seen.Seen}
 
 -- a hill was created: its first header was written, and no call of the device failed
 pub record IsCreated {D : Type 0} (facts : DeviceFacts D) (old : D) (s : RawSettings) (store : Seen D) : Type 0 where
@@ -27,12 +16,12 @@ pub record IsCreated {D : Type 0} (facts : DeviceFacts D) (old : D) (s : RawSett
 
 -- why no hill was created, and what became of the device
 abbrev pub IsNotCreated : {D : Type 0} → DeviceFacts D → D → RawSettings → D → Refusal → Type 0
-IsNotCreated facts old s new refusals.TooSmall = (facts.size old < sectors_for s.capacity) × (new ≡ old)
-IsNotCreated facts old s new refusals.Memory = new ≡ old
-IsNotCreated facts old s new refusals.Disk = IsNotWritten facts old (new_kept s 0) new refusals.Disk
-IsNotCreated facts old s new refusals.Occupied = IsNotWritten facts old (new_kept s 0) new refusals.Occupied
-IsNotCreated facts old s new refusals.NotAHill = ⊥
-IsNotCreated facts old s new refusals.Damaged = ⊥
+IsNotCreated facts old s new Refusal.TooSmall = (facts.size old < sectors_for s.capacity) × (new ≡ old)
+IsNotCreated facts old s new Refusal.Memory = new ≡ old
+IsNotCreated facts old s new Refusal.Disk = IsNotWritten facts old (new_kept s 0) new Refusal.Disk
+IsNotCreated facts old s new Refusal.Occupied = IsNotWritten facts old (new_kept s 0) new Refusal.Occupied
+IsNotCreated facts old s new Refusal.NotAHill = ⊥
+IsNotCreated facts old s new Refusal.Damaged = ⊥
 
 -- the hill was opened that the device reads as, with the results that stand there, true or not; nothing that was read can be lost, and no call of the device failed
 pub record IsOpened {D : Type 0} (facts : DeviceFacts D) (old : D) (store : Seen D) : Type 0 where
@@ -62,17 +51,17 @@ pub record IsMigrated {O D : Type 0} (old_facts : DeviceFacts O) (facts : Device
 
 -- why the new device did not take it, and what became of that
 abbrev pub IsNotTaken : {D : Type 0} → DeviceFacts D → D → Kept → D → Refusal → Type 0
-IsNotTaken facts new hill after refusals.TooSmall = (facts.size new < sectors_for hill.settings.capacity) × (after ≡ new)
-IsNotTaken facts new hill after refusals.Disk = IsNotWritten facts new hill after refusals.Disk
-IsNotTaken facts new hill after refusals.Occupied = IsNotWritten facts new hill after refusals.Occupied
-IsNotTaken facts new hill after refusals.Memory = ⊥
-IsNotTaken facts new hill after refusals.NotAHill = ⊥
-IsNotTaken facts new hill after refusals.Damaged = ⊥
+IsNotTaken facts new hill after Refusal.TooSmall = (facts.size new < sectors_for hill.settings.capacity) × (after ≡ new)
+IsNotTaken facts new hill after Refusal.Disk = IsNotWritten facts new hill after Refusal.Disk
+IsNotTaken facts new hill after Refusal.Occupied = IsNotWritten facts new hill after Refusal.Occupied
+IsNotTaken facts new hill after Refusal.Memory = ⊥
+IsNotTaken facts new hill after Refusal.NotAHill = ⊥
+IsNotTaken facts new hill after Refusal.Damaged = ⊥
 
 -- one of the devices was refused, and for this reason
 abbrev pub IsNotMigratedBy : {O D : Type 0} → DeviceFacts O → DeviceFacts D → O → O → D → D → Refusal → MigrateSide → Type 0
-IsNotMigratedBy old_facts facts old old_after new new_after why sides.Old = IsNotOpenedIn old_layout old_facts old old_after why × (new_after ≡ new)
-IsNotMigratedBy old_facts facts old old_after new new_after why sides.New = (hill : Kept) × IsReadOf old_facts old old_after hill × IsNotTaken facts new hill new_after why
+IsNotMigratedBy old_facts facts old old_after new new_after why MigrateSide.Old = IsNotOpenedIn old_layout old_facts old old_after why × (new_after ≡ new)
+IsNotMigratedBy old_facts facts old old_after new new_after why MigrateSide.New = (hill : Kept) × IsReadOf old_facts old old_after hill × IsNotTaken facts new hill new_after why
 
 abbrev pub IsNotMigrated : {O D : Type 0} → DeviceFacts O → DeviceFacts D → O → O → D → D → MigrateFault → Type 0
 IsNotMigrated old_facts facts old old_after new new_after fault = IsNotMigratedBy old_facts facts old old_after new new_after fault.refusal fault.side

@@ -1,20 +1,15 @@
 -- Submissions one after another.
-use Rattle.std.specs.Prelude.{◌≡◌, ℕ, Bool, true, false, List, [], ◌∷◌, map}
-use Rattle.std.specs.Borrow.{Bor}
-use Rattle.sector_disk.specs.Facts.{DeviceFacts}
-use Rattle.hill_store.specs.declared.reply.Reply.{Reply}
-use Rattle.hill_store.specs.declared.reply.Reply.TheVariants as replies
-use Rattle.hill_store.specs.Seen.{Seen, Submits}
-use Rattle.sector_disk.specs.Served.{IsKept}
+use Rattle.std.specs.{Prelude.{◌≡◌, ℕ, Bool, true, false, List, [], ◌∷◌, map}, Borrow.Bor}
+use Rattle.{sector_disk.specs.{Facts.DeviceFacts, Served.IsKept}, hill_store.specs.{declared.reply.Reply.Reply, Seen.{Seen, Submits}}}
 
 abbrev pub is_disk : Reply → Bool
-is_disk replies.Disk = true
-is_disk replies.Reopen = false
-is_disk replies.Worn = false
-is_disk replies.Memory = false
-is_disk (replies.Refused fault) = false
-is_disk (replies.Fell entry score) = false
-is_disk (replies.Placed entry rank score) = false
+is_disk Reply.Disk = true
+is_disk Reply.Reopen = false
+is_disk Reply.Worn = false
+is_disk Reply.Memory = false
+is_disk (Reply.Refused fault) = false
+is_disk (Reply.Fell entry score) = false
+is_disk (Reply.Placed entry rank score) = false
 
 -- a list of sources, by their bytes
 abbrev pub texts : List (Bor (List ℕ)) → List (List ℕ)

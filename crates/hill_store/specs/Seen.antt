@@ -1,17 +1,8 @@
 -- A store as its caller sees it, and what a submission makes of it.
 use Rattle.std.specs.Prelude.{◌≡◌, ◌≢◌, ◌⊎◌, ℕ, ◌+◌, ◌-◌, ◌^◌, Bool, true, false, List, Ok}
-use Rattle.war_types.specs.Warrior.{WarriorParts}
-use Rattle.sector_disk.specs.Facts.{DeviceFacts}
-use Rattle.sector_disk.specs.Image.{Images}
-use Rattle.sector_disk.specs.Served.{Failed}
-use Rattle.redcode_asm.specs.Assembly.{assembly}
-use Rattle.hill_store.specs.declared.reply.Reply.{Reply}
-use Rattle.hill_store.specs.declared.reply.Reply.TheVariants as replies
-use Rattle.hill_images.specs.Stands.{Reads}
-use Rattle.hill_store.specs.Earned.{kept_reply, kept_next, reply_judged}
-use Rattle.koth_hill.specs.Kept.{Kept, IsKept, step_kept, verdict_kept}
-use Rattle.war_types.specs.declared.fault.AsmFault.{AsmFault}
-use Rattle.war_types.specs.declared.fault.AsmKind.TheVariants as kinds
+use Rattle.{war_types.specs.{Warrior.WarriorParts, declared.fault.AsmFault.AsmFault, declared.fault.AsmKind.AsmKind}, redcode_asm.specs.Assembly.assembly}
+use Rattle.{koth_hill.specs.Kept.{Kept, IsKept, step_kept, verdict_kept}, sector_disk.specs.{Facts.DeviceFacts, Image.Images, Served.Failed}, hill_images.specs.Stands.Reads}
+use Rattle.hill_store.specs.{declared.reply.Reply.Reply, Earned.{kept_reply, kept_next, reply_judged}}
 
 -- the device, the hill with the results that it keeps, how many headers were written before the last, and whether a submission was answered `Disk`
 pub record Seen (D : Type 0) : Type 0 where
@@ -58,35 +49,35 @@ Assembled old source = (w : WarriorParts) × (assembly old.hill.settings source 
 
 -- what a submission made of a store, by its reply and by the results that its hill keeps; if these are true, `IsAnew` says more
 abbrev pub Submits : {D : Type 0} → DeviceFacts D → Seen D → List ℕ → Reply → Seen D → Type 0
-Submits facts old source (replies.Placed entry rank score) new =
-    (replies.Placed entry rank score ≡ kept_reply old.hill source) × IsAnswered facts old (kept_next old.hill source) new
-Submits facts old source (replies.Fell entry score) new =
-    (replies.Fell entry score ≡ kept_reply old.hill source) × IsAnswered facts old (kept_next old.hill source) new
-Submits facts old source (replies.Refused fault) new =
-    (replies.Refused fault ≡ kept_reply old.hill source) × (kept_next old.hill source ≡ old.hill) × IsLeft old new
-Submits facts old source replies.Memory new = IsLeft old new
-Submits facts old source replies.Worn new = (old.generation ≡ 2 ^ 64 - 1) × Assembled old source × IsLeft old new
-Submits facts old source replies.Disk new = Assembled old source × IsCut facts old (kept_next old.hill source) new
-Submits facts old source replies.Reopen new = (old.reopen ≡ true) × (new ≡ old)
+Submits facts old source (Reply.Placed entry rank score) new =
+    (Reply.Placed entry rank score ≡ kept_reply old.hill source) × IsAnswered facts old (kept_next old.hill source) new
+Submits facts old source (Reply.Fell entry score) new =
+    (Reply.Fell entry score ≡ kept_reply old.hill source) × IsAnswered facts old (kept_next old.hill source) new
+Submits facts old source (Reply.Refused fault) new =
+    (Reply.Refused fault ≡ kept_reply old.hill source) × (kept_next old.hill source ≡ old.hill) × IsLeft old new
+Submits facts old source Reply.Memory new = IsLeft old new
+Submits facts old source Reply.Worn new = (old.generation ≡ 2 ^ 64 - 1) × Assembled old source × IsLeft old new
+Submits facts old source Reply.Disk new = Assembled old source × IsCut facts old (kept_next old.hill source) new
+Submits facts old source Reply.Reopen new = (old.reopen ≡ true) × (new ≡ old)
 
 -- what a warrior that was assembled made of a store, by its reply
 abbrev pub Challenges : {D : Type 0} → DeviceFacts D → Seen D → WarriorParts → Reply → Seen D → Type 0
-Challenges facts old w (replies.Placed entry rank score) new =
-    (replies.Placed entry rank score ≡ reply_judged (verdict_kept old.hill w)) × IsAnswered facts old (step_kept old.hill w) new
-Challenges facts old w (replies.Fell entry score) new =
-    (replies.Fell entry score ≡ reply_judged (verdict_kept old.hill w)) × IsAnswered facts old (step_kept old.hill w) new
-Challenges facts old w (replies.Refused fault) new = ⊥
-Challenges facts old w replies.Memory new = ⊥
-Challenges facts old w replies.Worn new = (old.generation ≡ 2 ^ 64 - 1) × IsLeft old new
-Challenges facts old w replies.Disk new = IsCut facts old (step_kept old.hill w) new
-Challenges facts old w replies.Reopen new = ⊥
+Challenges facts old w (Reply.Placed entry rank score) new =
+    (Reply.Placed entry rank score ≡ reply_judged (verdict_kept old.hill w)) × IsAnswered facts old (step_kept old.hill w) new
+Challenges facts old w (Reply.Fell entry score) new =
+    (Reply.Fell entry score ≡ reply_judged (verdict_kept old.hill w)) × IsAnswered facts old (step_kept old.hill w) new
+Challenges facts old w (Reply.Refused fault) new = ⊥
+Challenges facts old w Reply.Memory new = ⊥
+Challenges facts old w Reply.Worn new = (old.generation ≡ 2 ^ 64 - 1) × IsLeft old new
+Challenges facts old w Reply.Disk new = IsCut facts old (step_kept old.hill w) new
+Challenges facts old w Reply.Reopen new = ⊥
 
 -- a fault of the assembler as a reply: a refusal, but for lack of memory
 abbrev pub IsRefusal : AsmFault → Reply → Type 0
-IsRefusal fault (replies.Refused other) = (other ≡ fault) × (fault.kind ≢ kinds.Memory)
-IsRefusal fault replies.Memory = fault.kind ≡ kinds.Memory
-IsRefusal fault (replies.Placed entry rank score) = ⊥
-IsRefusal fault (replies.Fell entry score) = ⊥
-IsRefusal fault replies.Worn = ⊥
-IsRefusal fault replies.Disk = ⊥
-IsRefusal fault replies.Reopen = ⊥
+IsRefusal fault (Reply.Refused other) = (other ≡ fault) × (fault.kind ≢ AsmKind.Memory)
+IsRefusal fault Reply.Memory = fault.kind ≡ AsmKind.Memory
+IsRefusal fault (Reply.Placed entry rank score) = ⊥
+IsRefusal fault (Reply.Fell entry score) = ⊥
+IsRefusal fault Reply.Worn = ⊥
+IsRefusal fault Reply.Disk = ⊥
+IsRefusal fault Reply.Reopen = ⊥

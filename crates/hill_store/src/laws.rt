@@ -1,8 +1,6 @@
 //! Laws of the definitions, each the contract of a function that does nothing.
 
-ghost use Rattle.hill_store.specs.Calls.{CallsAreEvents, MigrationsAreEvents};
-ghost use Rattle.hill_store.specs.Kept.{LawsOfKept};
-ghost use Rattle.hill_store.specs.Lives.{LawsOfLives};
+ghost use Rattle.hill_store.specs.{Calls.{CallsAreEvents, MigrationsAreEvents}, Kept.LawsOfKept, Lives.LawsOfLives};
 
 use sector_disk::Device;
 

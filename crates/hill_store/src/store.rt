@@ -1,20 +1,11 @@
 //! The store.
 
 ghost use Rattle.std.specs.Prelude.{◌≡◌, ◌⊎◌, ◌↔◌, ℕ, ◌+◌, ◌-◌, ◌^◌, ◌<◌, ◌≤◌, true, false, List, [], ◌∷◌, Option, Err, None, IfOk, IfErr, IfSome, OnErr, MatchResult};
-ghost use Rattle.war_types.specs.Warrior.{WarriorParts, Fits};
-ghost use Rattle.koth_hill.specs.Table.{table};
-ghost use Rattle.koth_hill.specs.Kept.{AreTrue, AreTrueBefore, IsKept as IsKeptHill, IsUntrue, hill_in, table_kept, verdict_kept};
-ghost use Rattle.hill_store.specs.Kept.{IsAnew};
-ghost use Rattle.koth_hill.specs.Rows.{rows_parts};
-ghost use Rattle.hill_store.specs.Runs.{Runs, texts};
-ghost use Rattle.sector_disk.specs.Served.{IsKept};
-ghost use Rattle.hill_images.specs.Opening.{IsNotOpened};
-ghost use Rattle.hill_store.specs.Opened.{IsCreated, IsMigrated, IsNotCreated, IsNotMigrated, IsOpened};
-ghost use Rattle.war_types.specs.declared.settings.RawSettings.{RawSettings};
-ghost use Rattle.hill_store.specs.Earned.{reply_judged};
-ghost use Rattle.hill_store.specs.Holding.{Holds, HoldsIn, HoldsMore, IsDecided, IsHolding, IsMoved, IsUndecided, IsUnmoved};
-ghost use Rattle.hill_bytes.specs.Layout.{old_layout, sectors_for};
-ghost use Rattle.hill_store.specs.Seen.{Seen, IsAnswered, IsCut, IsLeft, Submits, Challenges, IsRefusal};
+ghost use Rattle.war_types.specs.{Warrior.{WarriorParts, Fits}, declared.settings.RawSettings.RawSettings};
+ghost use Rattle.{koth_hill.specs.{Table.table, Kept.{AreTrue, AreTrueBefore, IsKept as IsKeptHill, IsUntrue, hill_in, table_kept, verdict_kept}, Rows.rows_parts}, sector_disk.specs.Served.IsKept};
+ghost use Rattle.{hill_bytes.specs.Layout.{old_layout, sectors_for}, hill_images.specs.Opening.IsNotOpened};
+ghost use Rattle.hill_store.specs.{Kept.IsAnew, Runs.{Runs, texts}, Opened.{IsCreated, IsMigrated, IsNotCreated, IsNotMigrated, IsOpened}, Earned.reply_judged};
+ghost use Rattle.hill_store.specs.{Holding.{Holds, HoldsIn, HoldsMore, IsDecided, IsHolding, IsMoved, IsUndecided, IsUnmoved}, Seen.{Seen, IsAnswered, IsCut, IsLeft, Submits, Challenges, IsRefusal}};
 
 use crate::migration::{MigrateFault, MigrateSide};
 use crate::reply::Reply;
@@ -43,8 +34,7 @@ pub struct Store<D: Device, A: Allocator> {
 }
 
 impl<D: Device, A: Allocator> Model for Store<D, A> {
-    ghost use Rattle.hill_store.specs.Seen.{Seen, seen};
-    ghost use Rattle.hill_images.specs.Named.{IsSound};
+    ghost use Rattle.{hill_images.specs.Named.IsSound, hill_store.specs.Seen.{Seen, seen}};
 
     ghost Value = { Seen D };
 

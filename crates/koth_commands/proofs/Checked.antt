@@ -1,29 +1,18 @@
 -- What is found in files, one after another.
-use Rattle.std.proofs.Common.{◌≡◌, ◌⊎◌, ℕ, ◌+◌, Bool, true, false, List, [], ◌∷◌, Option, arith, inl, inr, refl, sym, subst}
-use Rattle.std.proofs.lemmas.List.Elements.{All-cons, All-nil}
-use Rattle.std.specs.Io.KnownBytes.{Keeps}
-use Rattle.std.proofs.KnownBytes.{Keeps-refl, Keeps-trans}
-use Rattle.war_types.specs.declared.fault.AsmFault.{AsmFault}
-use Rattle.war_types.specs.declared.settings.RawSettings.{RawSettings}
-use Rattle.koth_commands.specs.Check.{AreTaken, Checks, EndsCheckUnder, IsTaken, status_behind}
-use Rattle.koth_commands.specs.Failure.{failure_of, failure_status, failure_word}
-use Rattle.koth_commands.specs.Pair.{IsFaultOf}
-use Rattle.koth_commands.specs.Told.{TellsWord, WritesSome}
-use Rattle.koth_commands.specs.declared.failure.Trouble.{Trouble}
-use Rattle.koth_commands.specs.declared.failure.Trouble.TheVariants as troubles
-use Rattle.koth_commands.specs.declared.status.Status.{Status}
-use Rattle.koth_commands.specs.declared.status.Status.TheVariants as statuses
-use Rattle.koth_commands.proofs.Told.{keeps_some, writes_more}
+use Rattle.std.proofs.{Common.{◌≡◌, ◌⊎◌, ℕ, ◌+◌, Bool, true, false, List, [], ◌∷◌, Option, arith, inl, inr, refl, sym, subst}, lemmas.List.Elements.{All-cons, All-nil}}
+use Rattle.{std.specs.Io.KnownBytes.Keeps, std.proofs.KnownBytes.{Keeps-refl, Keeps-trans}, war_types.specs.{declared.fault.AsmFault.AsmFault, declared.settings.RawSettings.RawSettings}}
+use Rattle.koth_commands.specs.{Check.{AreTaken, Checks, EndsCheckUnder, IsTaken, status_behind}, Failure.{failure_of, failure_status, failure_word}, Pair.IsFaultOf}
+use Rattle.{koth_commands.specs.{Told.{TellsWord, WritesSome}, declared.failure.Trouble.Trouble, declared.status.Status.Status}, koth_commands.proofs.Told.{keeps_some, writes_more}}
 
 -- `count` files were read: each source assembles and nothing is written, or one is refused and something is
 abbrev pub SoFar : RawSettings → ℕ → Status → Option (List ℕ) → Option (List ℕ) → Type 0
-SoFar s count status o p = ((status ≡ statuses.Done) × AreTaken s count × Keeps o p)
-    ⊎ ((status ≡ statuses.Refused) × ((fault : AsmFault) × IsFaultOf s fault) × WritesSome o p)
+SoFar s count status o p = ((status ≡ Status.Done) × AreTaken s count × Keeps o p)
+    ⊎ ((status ≡ Status.Refused) × ((fault : AsmFault) × IsFaultOf s fault) × WritesSome o p)
 
 failed : (s : RawSettings) (o q : Option (List ℕ)) (total : ℕ) (trouble : Trouble) (e f : Option (List ℕ)) → WritesSome o q
     → TellsWord (failure_word (failure_of trouble)) e f → EndsCheckUnder s total (failure_status (failure_of trouble)) o q e f
-failed s o q total (troubles.Failed cause) e f more told = (more, told)
-failed s o q total troubles.Memory e f more told = (more, told)
+failed s o q total (Trouble.Failed cause) e f more told = (more, told)
+failed s o q total Trouble.Memory e f more told = (more, told)
 
 module _ (s : RawSettings) (count : ℕ) (status : Status) (o p q : Option (List ℕ)) where
   some_so_far : SoFar s count status o p → WritesSome o p
@@ -43,7 +32,7 @@ module _ (s : RawSettings) (count : ℕ) (status : Status) (o p q : Option (List
     | inr refused ↦ inr (refused.0, refused.1, writes_more o p q refused.2 (keeps_some p q found.1))
   ]
 
-  one_refused : SoFar s count status o p → Checks s true p q → SoFar s (count + 1) statuses.Refused o q
+  one_refused : SoFar s count status o p → Checks s true p q → SoFar s (count + 1) Status.Refused o q
   one_refused so_far (source, found) =
       inr (refl, (found.0.0, record { source = source; comes = found.0.1 }), writes_more o p q (some_so_far so_far) found.1)
 

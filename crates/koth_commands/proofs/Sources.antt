@@ -1,11 +1,7 @@
 -- A source that is taken has the outcome of the whole input.
-use Rattle.std.proofs.Common.{◌≡◌, ◌∙◌, ◌≤◌, ℕ, List, ◌++◌, Option, None, Some, IfSome, Err, inl, inr, arith, length, length-append, append-nil, sym, ap}
-use Rattle.std.proofs.lemmas.Bool.{cases_lt}
-use Rattle.redcode_asm.specs.Assembly.{assembly}
-use Rattle.redcode_asm.proofs.Limits.{too_long}
-use Rattle.war_types.specs.declared.fault.AsmKind.TheVariants.{SourceTooLong}
-use Rattle.war_types.specs.declared.settings.RawSettings.{RawSettings}
-use Rattle.koth_commands.specs.Streams.{Takes, read_limit}
+use Rattle.std.proofs.{Common.{◌≡◌, ◌∙◌, ◌≤◌, ℕ, List, ◌++◌, Option, None, Some, IfSome, Err, inl, inr, arith, length, length-append, append-nil, sym, ap}, lemmas.Bool.cases_lt}
+use Rattle.{war_types.specs.{declared.fault.AsmKind.TheVariants.SourceTooLong, declared.settings.RawSettings.RawSettings}, redcode_asm.specs.Assembly.assembly}
+use Rattle.{redcode_asm.proofs.Limits.too_long, koth_commands.specs.Streams.{Takes, read_limit}}
 
 -- a source that is too long is refused for that
 long_is_refused : (s : RawSettings) (source : List ℕ) → read_limit ≤ length source → assembly s source ≡ Err (record { line = 0; kind = SourceTooLong })

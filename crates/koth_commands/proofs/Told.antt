@@ -1,12 +1,7 @@
 -- A text of which a part was written.
 use Rattle.std.proofs.Common.{◌≡◌, inl, inr, ℕ, List, [], ◌++◌, Option, None, Some, Result, Ok, Err, OnOk, OnErr, refl, sym, ap, subst, ◌∙◌, append-nil, append_assoc}
-use Rattle.std.specs.Io.KnownBytes.{Appends, Keeps}
-use Rattle.std.proofs.KnownBytes.{Appends-nil, Appends-trans}
-use Rattle.koth_text.specs.Written.{WritesPart}
-use Rattle.koth_commands.specs.Cause.{cause_told}
-use Rattle.koth_commands.specs.Told.{TellsAlone, TellsCause, TellsWord, WritesSome}
-use Rattle.koth_commands.specs.declared.cause.Cause.{Cause}
-use Rattle.koth_commands.specs.declared.telling.Apart.TheVariants.{Line, Blank}
+use Rattle.{std.specs.Io.KnownBytes.{Appends, Keeps}, std.proofs.KnownBytes.{Appends-nil, Appends-trans}, koth_text.specs.Written.WritesPart}
+use Rattle.koth_commands.specs.{Cause.cause_told, Told.{TellsAlone, TellsCause, TellsWord, WritesSome}, declared.cause.Cause.Cause, declared.telling.Apart.TheVariants.{Line, Blank}}
 
 -- all of it was
 pub whole_part : (old new : Option (List ℕ)) (text line : List ℕ) → text ≡ line → Appends old new text → WritesPart old new line

@@ -1,23 +1,9 @@
 -- What the command `asm` writes, and how it ends.
-use Rattle.std.specs.Prelude.{◌≡◌, ◌⊎◌, ℕ, Bool, true, false, Option, IfSome, List, [], Result, Ok, Err}
-use Rattle.std.specs.Io.KnownBytes.{Appends, Consumes, Keeps}
-use Rattle.war_types.specs.Warrior.{WarriorParts}
-use Rattle.war_types.specs.declared.fault.AsmFault.{AsmFault}
-use Rattle.war_types.specs.declared.settings.RawSettings.{RawSettings}
-use Rattle.war_types.specs.declared.settings.SettingsFault.{SettingsFault}
-use Rattle.redcode_asm.specs.Assembly.{assembly}
-use Rattle.redcode_asm.specs.LoadText.{load_text}
-use Rattle.koth_text.specs.Refusal.{refusal_line}
-use Rattle.koth_text.specs.Written.{WritesPart}
-use Rattle.koth_words.specs.declared.words.Source.{Source}
-use Rattle.koth_words.specs.declared.words.Source.TheVariants as sources
-use Rattle.koth_commands.specs.Answer.{EndsGiven, Tells}
-use Rattle.koth_commands.specs.Streams.{Streams, Takes, unread}
-use Rattle.koth_commands.specs.Told.{TellsWord, WritesSome}
-use Rattle.koth_commands.specs.Failure.{failure_word}
-use Rattle.koth_commands.specs.declared.failure.Failure.TheVariants as failures
-use Rattle.koth_commands.specs.declared.status.Status.{Status}
-use Rattle.koth_commands.specs.declared.status.Status.TheVariants as statuses
+use Rattle.std.specs.{Prelude.{◌≡◌, ◌⊎◌, ℕ, Bool, true, false, Option, IfSome, List, [], Result, Ok, Err}, Io.KnownBytes.{Appends, Consumes, Keeps}}
+use Rattle.war_types.specs.{Warrior.WarriorParts, declared.fault.AsmFault.AsmFault, declared.settings.RawSettings.RawSettings, declared.settings.SettingsFault.SettingsFault}
+use Rattle.{redcode_asm.specs.{Assembly.assembly, LoadText.load_text}, koth_text.specs.{Refusal.refusal_line, Written.WritesPart}, koth_words.specs.declared.words.Source.Source}
+use Rattle.koth_commands.specs.{Answer.{EndsGiven, Tells}, Streams.{Streams, Takes, unread}, Told.{TellsWord, WritesSome}, Failure.failure_word, declared.status.Status.Status}
+use Rattle.koth_commands.specs.declared.failure.Failure.{Failure}
 
 -- what is written: a warrior's load text, or the refusal
 abbrev pub answer_of : RawSettings → Result WarriorParts AsmFault → List ℕ
@@ -32,14 +18,13 @@ Explains (Err fault) old new = WritesSome old new
 -- how the answer to this source ends: with a warrior's load text, with a refusal, with a failed stream, or out of memory. o and p are what
 -- the output holds before and after, e and f what standard error does
 abbrev pub EndsSource : RawSettings → List ℕ → Status → Option (List ℕ) → Option (List ℕ) → Option (List ℕ) → Option (List ℕ) → Type 0
-EndsSource s source statuses.Done o p e f =
+EndsSource s source Status.Done o p e f =
     (warrior : WarriorParts) × (assembly s source ≡ Ok warrior) × Appends o p (load_text s.core warrior) × Keeps e f
-EndsSource s source statuses.Refused o p e f =
+EndsSource s source Status.Refused o p e f =
     (fault : AsmFault) × (assembly s source ≡ Err fault) × Appends o p (refusal_line fault) × WritesSome e f
-EndsSource s source statuses.WordFault o p e f = ⊥
-EndsSource s source statuses.StreamFault o p e f =
-    WritesPart o p (answer_of s (assembly s source)) × TellsWord (failure_word failures.Stream) e f
-EndsSource s source statuses.NoMemory o p e f = Keeps o p × TellsWord (failure_word failures.Memory) e f
+EndsSource s source Status.WordFault o p e f = ⊥
+EndsSource s source Status.StreamFault o p e f = WritesPart o p (answer_of s (assembly s source)) × TellsWord (failure_word Failure.Stream) e f
+EndsSource s source Status.NoMemory o p e f = Keeps o p × TellsWord (failure_word Failure.Memory) e f
 
 -- a source was taken from the input with this outcome, which is the whole input's too. The answer to it was written whole, and nothing else
 -- on the output
@@ -60,11 +45,11 @@ pub record AnswersPart (s : RawSettings) (before after : Streams) : Type 0 where
 
 -- how `asm` ends under settings: with a warrior's load text, with a refusal, with a failed stream, or out of memory
 abbrev pub EndsUnder : RawSettings → Status → Streams → Streams → Type 0
-EndsUnder s statuses.Done before after = (warrior : WarriorParts) × Answers s (Ok warrior) before after
-EndsUnder s statuses.Refused before after = (fault : AsmFault) × Answers s (Err fault) before after
-EndsUnder s statuses.WordFault before after = ⊥
-EndsUnder s statuses.StreamFault before after = AnswersPart s before after × Tells failures.Stream before after
-EndsUnder s statuses.NoMemory before after = Keeps before.output after.output × Tells failures.Memory before after
+EndsUnder s Status.Done before after = (warrior : WarriorParts) × Answers s (Ok warrior) before after
+EndsUnder s Status.Refused before after = (fault : AsmFault) × Answers s (Err fault) before after
+EndsUnder s Status.WordFault before after = ⊥
+EndsUnder s Status.StreamFault before after = AnswersPart s before after × Tells Failure.Stream before after
+EndsUnder s Status.NoMemory before after = Keeps before.output after.output × Tells Failure.Memory before after
 
 -- how `asm` ends: as under the settings that are given, with their refusal, or out of memory
 abbrev pub EndsAsm : Result RawSettings SettingsFault → Status → Streams → Streams → Type 0
@@ -77,8 +62,8 @@ EndsAsmOf false settings status before after = EndsAsm settings status (unread b
 
 -- whether it is read from the input
 abbrev pub is_of_input : Source → Bool
-is_of_input sources.Input = true
-is_of_input (sources.File path) = false
+is_of_input Source.Input = true
+is_of_input (Source.File path) = false
 
 abbrev pub EndsAsmFrom : Source → Result RawSettings SettingsFault → Status → Streams → Streams → Type 0
 EndsAsmFrom source settings status before after = EndsAsmOf (is_of_input source) settings status before after

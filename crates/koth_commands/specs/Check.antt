@@ -1,19 +1,8 @@
 -- What the command `check` writes, and how it ends.
-use Rattle.std.specs.Prelude.{◌≡◌, ℕ, Bool, true, false, if◌then◌else◌, Option, List, length, All, Result, Ok, Err}
-use Rattle.std.specs.Io.KnownBytes.{Keeps}
-use Rattle.war_types.specs.Warrior.{WarriorParts}
-use Rattle.war_types.specs.declared.fault.AsmFault.{AsmFault}
-use Rattle.war_types.specs.declared.settings.RawSettings.{RawSettings}
-use Rattle.war_types.specs.declared.settings.SettingsFault.{SettingsFault}
-use Rattle.redcode_asm.specs.Assembly.{assembly}
-use Rattle.koth_commands.specs.Answer.{EndsGiven}
-use Rattle.koth_commands.specs.Failure.{failure_word}
-use Rattle.koth_commands.specs.Pair.{IsFaultOf}
-use Rattle.koth_commands.specs.Streams.{Streams}
-use Rattle.koth_commands.specs.Told.{TellsWord, WritesSome}
-use Rattle.koth_commands.specs.declared.failure.Failure.TheVariants as failures
-use Rattle.koth_commands.specs.declared.status.Status.{Status}
-use Rattle.koth_commands.specs.declared.status.Status.TheVariants as statuses
+use Rattle.std.specs.{Prelude.{◌≡◌, ℕ, Bool, true, false, if◌then◌else◌, Option, List, length, All, Result, Ok, Err}, Io.KnownBytes.Keeps}
+use Rattle.war_types.specs.{Warrior.WarriorParts, declared.fault.AsmFault.AsmFault, declared.settings.RawSettings.RawSettings, declared.settings.SettingsFault.SettingsFault}
+use Rattle.{redcode_asm.specs.Assembly.assembly, koth_commands.specs.{Answer.EndsGiven, Failure.failure_word, Pair.IsFaultOf, Streams.Streams, Told.{TellsWord, WritesSome}}}
+use Rattle.koth_commands.specs.{declared.status.Status.Status, declared.failure.Failure.Failure}
 
 -- the source assembles to a warrior
 abbrev pub IsTaken : RawSettings → List ℕ → Type 0
@@ -30,7 +19,7 @@ Checks s is_refused old new = (source : List ℕ) × Finds s source is_refused o
 
 -- how it ends after one file more
 abbrev pub status_behind : Status → Bool → Status
-status_behind status is_refused = if is_refused then statuses.Refused else status
+status_behind status is_refused = if is_refused then Status.Refused else status
 
 -- `count` sources assemble
 pub record AreTaken (s : RawSettings) (count : ℕ) : Type 0 where
@@ -41,11 +30,11 @@ pub record AreTaken (s : RawSettings) (count : ℕ) : Type 0 where
 -- how `check` of `count` files ends, by what the output and then standard error hold before and after. It is silent if the source in each
 -- file assembles. It writes something and ends as refused if one doesn't. Or a file or a stream failed, or memory ran out
 abbrev pub EndsCheckUnder : RawSettings → ℕ → Status → Option (List ℕ) → Option (List ℕ) → Option (List ℕ) → Option (List ℕ) → Type 0
-EndsCheckUnder s count statuses.Done o p e f = AreTaken s count × Keeps o p × Keeps e f
-EndsCheckUnder s count statuses.Refused o p e f = ((fault : AsmFault) × IsFaultOf s fault) × WritesSome o p × Keeps e f
-EndsCheckUnder s count statuses.WordFault o p e f = ⊥
-EndsCheckUnder s count statuses.StreamFault o p e f = WritesSome o p × TellsWord (failure_word failures.Stream) e f
-EndsCheckUnder s count statuses.NoMemory o p e f = WritesSome o p × TellsWord (failure_word failures.Memory) e f
+EndsCheckUnder s count Status.Done o p e f = AreTaken s count × Keeps o p × Keeps e f
+EndsCheckUnder s count Status.Refused o p e f = ((fault : AsmFault) × IsFaultOf s fault) × WritesSome o p × Keeps e f
+EndsCheckUnder s count Status.WordFault o p e f = ⊥
+EndsCheckUnder s count Status.StreamFault o p e f = WritesSome o p × TellsWord (failure_word Failure.Stream) e f
+EndsCheckUnder s count Status.NoMemory o p e f = WritesSome o p × TellsWord (failure_word Failure.Memory) e f
 
 -- how `check` ends: as under the settings that are given, with their refusal, or out of memory
 abbrev pub EndsCheck : ℕ → Result RawSettings SettingsFault → Status → Streams → Streams → Type 0

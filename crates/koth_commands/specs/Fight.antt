@@ -1,27 +1,17 @@
 -- What the command `fight` writes, and how it ends.
 use Rattle.std.specs.Prelude.{◌≡◌, ℕ, Option, List, ◌++◌, Result, codes, decimal}
-use Rattle.war_types.specs.Warrior.{WarriorParts}
-use Rattle.war_types.specs.declared.settings.RawSettings.{RawSettings}
-use Rattle.war_types.specs.declared.settings.SettingsFault.{SettingsFault}
-use Rattle.koth_match.specs.Match.{match_of}
-use Rattle.koth_match.specs.declared.bout.Bout.{Bout}
-use Rattle.koth_text.specs.Bout.{bout_view}
-use Rattle.koth_words.specs.declared.words.View.{View}
-use Rattle.koth_words.specs.declared.words.View.TheVariants as views
-use Rattle.koth_commands.specs.Answer.{EndsGiven}
-use Rattle.koth_commands.specs.Pair.{EndsMatch, IsWarriorOf}
-use Rattle.koth_commands.specs.Streams.{Streams}
-use Rattle.koth_commands.specs.declared.status.Status.{Status}
+use Rattle.war_types.specs.{Warrior.WarriorParts, declared.settings.RawSettings.RawSettings, declared.settings.SettingsFault.SettingsFault}
+use Rattle.{koth_match.specs.{Match.match_of, declared.bout.Bout.Bout}, koth_text.specs.Bout.bout_view, koth_words.specs.declared.words.View.View}
+use Rattle.koth_commands.specs.{Answer.EndsGiven, Pair.{EndsMatch, IsWarriorOf}, Streams.Streams, declared.status.Status.Status}
 
 -- the line of a match: rounds that the older won, that the younger won, and ties
 abbrev pub bout_line : Bout → List ℕ
-bout_line b =
-    decimal b.older_wins ++ codes " " ++ decimal b.younger_wins ++ codes " " ++ decimal b.ties ++ codes "\n"
+bout_line b = decimal b.older_wins ++ codes " " ++ decimal b.younger_wins ++ codes " " ++ decimal b.ties ++ codes "\n"
 
 -- the text of the counts of a match of two warriors
 abbrev pub bout_text : View → WarriorParts → WarriorParts → Bout → List ℕ
-bout_text views.Plain older younger b = bout_line b
-bout_text views.Table older younger b = bout_view older younger b
+bout_text View.Plain older younger b = bout_line b
+bout_text View.Table older younger b = bout_view older younger b
 
 -- the text of the match of two warriors whose sources assemble
 pub record IsFought (s : RawSettings) (view : View) (text : List ℕ) : Type 0 where

@@ -1,20 +1,8 @@
 -- Two warriors from two sources, and how a command of their match ends.
-use Rattle.std.specs.Prelude.{◌≡◌, ◌⊎◌, ⊤, ℕ, Option, List, Ok, Err}
-use Rattle.std.specs.Io.KnownBytes.{Appends, Keeps}
-use Rattle.war_types.specs.Warrior.{WarriorParts, Fits}
-use Rattle.war_types.specs.declared.fault.AsmFault.{AsmFault}
-use Rattle.war_types.specs.declared.settings.RawSettings.{RawSettings}
-use Rattle.redcode_asm.specs.Assembly.{assembly}
-use Rattle.koth_text.specs.Refusal.{refusal_line}
-use Rattle.koth_text.specs.Written.{WritesPart}
-use Rattle.koth_commands.specs.Failure.{failure_word}
-use Rattle.koth_commands.specs.Told.{TellsWord, WritesSome}
-use Rattle.koth_commands.specs.declared.failure.Failure.TheVariants as failures
-use Rattle.koth_commands.specs.declared.pair.NoMatch.{NoMatch}
-use Rattle.koth_commands.specs.declared.pair.NoMatch.TheVariants as reasons
-use Rattle.koth_commands.specs.declared.pair.Pair.{Pair}
-use Rattle.koth_commands.specs.declared.status.Status.{Status}
-use Rattle.koth_commands.specs.declared.status.Status.TheVariants as statuses
+use Rattle.std.specs.{Prelude.{◌≡◌, ◌⊎◌, ⊤, ℕ, Option, List, Ok, Err}, Io.KnownBytes.{Appends, Keeps}}
+use Rattle.{war_types.specs.{Warrior.{WarriorParts, Fits}, declared.fault.AsmFault.AsmFault, declared.settings.RawSettings.RawSettings}, redcode_asm.specs.Assembly.assembly}
+use Rattle.{koth_text.specs.{Refusal.refusal_line, Written.WritesPart}, koth_commands.specs.{Failure.failure_word, Told.{TellsWord, WritesSome}, declared.pair.NoMatch.NoMatch}}
+use Rattle.koth_commands.specs.{declared.pair.Pair.Pair, declared.status.Status.Status, declared.failure.Failure.Failure}
 
 -- some source assembles to the warrior, which may fight under the settings
 pub record IsWarriorOf (s : RawSettings) (warrior : WarriorParts) : Type 0 where
@@ -34,8 +22,8 @@ pub record IsFaultOf (s : RawSettings) (fault : AsmFault) : Type 0 where
 
 -- if there is no match since a source is refused, that source has this fault
 abbrev pub IsRefusedOf : {A : Type 0} → RawSettings → NoMatch A → Type 0
-IsRefusedOf s (reasons.Refused path text fault) = assembly s text.items ≡ Err fault
-IsRefusedOf s (reasons.Failed trouble) = ⊤
+IsRefusedOf s (NoMatch.Refused path text fault) = assembly s text.items ≡ Err fault
+IsRefusedOf s (NoMatch.Failed trouble) = ⊤
 
 -- a part of the answer was written: of the text of a match, or of a refusal's line
 abbrev pub AnswersPartly : RawSettings → (List ℕ → Type 0) → Option (List ℕ) → Option (List ℕ) → Type 0
@@ -45,18 +33,18 @@ AnswersPartly s IsTold old new =
 -- how a command ends if there is no match, by what the output and then standard error hold before and after. A source is refused, a file
 -- or a stream failed, or memory ran out
 abbrev pub EndsNoMatch : RawSettings → Status → Option (List ℕ) → Option (List ℕ) → Option (List ℕ) → Option (List ℕ) → Type 0
-EndsNoMatch s statuses.Done o p e f = ⊥
-EndsNoMatch s statuses.Refused o p e f = (fault : AsmFault) × IsFaultOf s fault × Appends o p (refusal_line fault) × WritesSome e f
-EndsNoMatch s statuses.WordFault o p e f = ⊥
-EndsNoMatch s statuses.StreamFault o p e f =
-    (Keeps o p ⊎ ((fault : AsmFault) × IsFaultOf s fault × WritesPart o p (refusal_line fault))) × TellsWord (failure_word failures.Stream) e f
-EndsNoMatch s statuses.NoMemory o p e f = Keeps o p × TellsWord (failure_word failures.Memory) e f
+EndsNoMatch s Status.Done o p e f = ⊥
+EndsNoMatch s Status.Refused o p e f = (fault : AsmFault) × IsFaultOf s fault × Appends o p (refusal_line fault) × WritesSome e f
+EndsNoMatch s Status.WordFault o p e f = ⊥
+EndsNoMatch s Status.StreamFault o p e f =
+    (Keeps o p ⊎ ((fault : AsmFault) × IsFaultOf s fault × WritesPart o p (refusal_line fault))) × TellsWord (failure_word Failure.Stream) e f
+EndsNoMatch s Status.NoMemory o p e f = Keeps o p × TellsWord (failure_word Failure.Memory) e f
 
 -- how a command ends that writes such a text of a match. The whole text is written and nothing reported, or there is no match, or a stream
 -- failed and maybe a part of the answer was written
 abbrev pub EndsMatch : RawSettings → (List ℕ → Type 0) → Status → Option (List ℕ) → Option (List ℕ) → Option (List ℕ) → Option (List ℕ) → Type 0
-EndsMatch s IsTold statuses.Done o p e f = (text : List ℕ) × IsTold text × Appends o p text × Keeps e f
-EndsMatch s IsTold statuses.Refused o p e f = EndsNoMatch s statuses.Refused o p e f
-EndsMatch s IsTold statuses.WordFault o p e f = ⊥
-EndsMatch s IsTold statuses.StreamFault o p e f = (Keeps o p ⊎ AnswersPartly s IsTold o p) × TellsWord (failure_word failures.Stream) e f
-EndsMatch s IsTold statuses.NoMemory o p e f = Keeps o p × TellsWord (failure_word failures.Memory) e f
+EndsMatch s IsTold Status.Done o p e f = (text : List ℕ) × IsTold text × Appends o p text × Keeps e f
+EndsMatch s IsTold Status.Refused o p e f = EndsNoMatch s Status.Refused o p e f
+EndsMatch s IsTold Status.WordFault o p e f = ⊥
+EndsMatch s IsTold Status.StreamFault o p e f = (Keeps o p ⊎ AnswersPartly s IsTold o p) × TellsWord (failure_word Failure.Stream) e f
+EndsMatch s IsTold Status.NoMemory o p e f = Keeps o p × TellsWord (failure_word Failure.Memory) e f

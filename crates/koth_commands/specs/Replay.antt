@@ -1,17 +1,8 @@
 -- What the command `replay` writes, and how it ends.
 use Rattle.std.specs.Prelude.{◌≡◌, ℕ, ◌-◌, Bool, if◌then◌else◌, Option, List, Result, Ok, Err}
-use Rattle.war_types.specs.Settings.{is_from_to}
-use Rattle.war_types.specs.Warrior.{WarriorParts}
-use Rattle.war_types.specs.declared.settings.RawSettings.{RawSettings}
-use Rattle.war_types.specs.declared.settings.SettingsFault.{SettingsFault}
-use Rattle.war_types.specs.declared.settings.SettingsFault.TheVariants as faults
-use Rattle.koth_replay.specs.Replay.{IsReplay, ReplayParts}
-use Rattle.koth_watch.specs.Page.{round_page}
-use Rattle.koth_commands.specs.Answer.{EndsGiven}
-use Rattle.koth_commands.specs.Pair.{EndsMatch, IsWarriorOf}
-use Rattle.koth_commands.specs.Streams.{Streams}
-use Rattle.koth_commands.specs.declared.replay.TheConstants.{MOST_TURNS}
-use Rattle.koth_commands.specs.declared.status.Status.{Status}
+use Rattle.war_types.specs.{Settings.is_from_to, Warrior.WarriorParts, declared.settings.RawSettings.RawSettings, declared.settings.SettingsFault.SettingsFault}
+use Rattle.{koth_replay.specs.Replay.{IsReplay, ReplayParts}, koth_watch.specs.Page.round_page}
+use Rattle.koth_commands.specs.{Answer.EndsGiven, Pair.{EndsMatch, IsWarriorOf}, Streams.Streams, declared.replay.TheConstants.MOST_TURNS, declared.status.Status.Status}
 
 -- whether a match under these settings has the round of this number, counted from 1
 abbrev pub has_round : RawSettings → ℕ → Bool
@@ -19,7 +10,7 @@ has_round s round = is_from_to 1 s.rounds round
 
 -- the settings under which that round is shown, if their match has it
 abbrev pub with_round : ℕ → Result RawSettings SettingsFault → Result RawSettings SettingsFault
-with_round round (Ok s) = if has_round s round then Ok s else Err faults.Rounds
+with_round round (Ok s) = if has_round s round then Ok s else Err SettingsFault.Rounds
 with_round round (Err fault) = Err fault
 
 -- the text is the page of that round of the match of these warriors: it has the events that draw the round after each turn

@@ -1,7 +1,5 @@
 -- The number that the program leaves with.
-use Rattle.std.specs.Prelude.{ℕ}
-use Rattle.koth_commands.specs.declared.status.Status.{Status}
-use Rattle.koth_commands.specs.declared.status.Status.TheVariants.{Done, Refused, WordFault, StreamFault, NoMemory}
+use Rattle.{std.specs.Prelude.ℕ, koth_commands.specs.{declared.status.Status.Status, declared.status.Status.TheVariants.{Done, Refused, WordFault, StreamFault, NoMemory}}}
 
 abbrev pub status_code : Status → ℕ
 status_code Done = 0

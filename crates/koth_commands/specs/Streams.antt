@@ -1,6 +1,5 @@
 -- What a command takes from its input, and its three streams.
-use Rattle.std.specs.Prelude.{ℕ, ◌<◌, ◌≤◌, Option, None, List, length}
-use Rattle.std.specs.Io.KnownBytes.{Consumes, IsAtEnd}
+use Rattle.std.specs.{Prelude.{ℕ, ◌<◌, ◌≤◌, Option, None, List, length}, Io.KnownBytes.{Consumes, IsAtEnd}}
 
 -- bytes of a source that are read: one more than a source may have
 abbrev pub read_limit : ℕ

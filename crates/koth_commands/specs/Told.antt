@@ -1,10 +1,7 @@
 -- What is reported on standard error.
 use Rattle.std.specs.Prelude.{◌⊎◌, ℕ, Option, None, Some, List, ◌++◌, codes}
 use Rattle.koth_text.specs.Written.{WritesPart}
-use Rattle.koth_commands.specs.Cause.{cause_told}
-use Rattle.koth_commands.specs.declared.cause.Cause.{Cause}
-use Rattle.koth_commands.specs.declared.telling.Apart.{Apart}
-use Rattle.koth_commands.specs.declared.telling.Apart.TheVariants.{Line, Blank, Colon}
+use Rattle.koth_commands.specs.{Cause.cause_told, declared.cause.Cause.Cause, declared.telling.Apart.Apart, declared.telling.Apart.TheVariants.{Line, Blank, Colon}}
 
 -- some text was written, from its beginning on
 abbrev pub WritesSome : Option (List ℕ) → Option (List ℕ) → Type 0

@@ -1,12 +1,8 @@
 //! The command `asm`: from a source to load text.
 
 ghost use Rattle.std.specs.Prelude.{◌≡◌, None, length};
-ghost use Rattle.war_types.specs.Settings.{settings_of};
-ghost use Rattle.war_types.specs.Warrior.{Fits};
-ghost use Rattle.redcode_asm.specs.LoadText.{load_text};
-ghost use Rattle.koth_commands.specs.Answer.{EndsText};
-ghost use Rattle.koth_commands.specs.Asm.{EndsAsmFrom, EndsSource, EndsUnder};
-ghost use Rattle.koth_commands.specs.Streams.{read_limit, streams};
+ghost use Rattle.{war_types.specs.{Settings.settings_of, Warrior.Fits}, redcode_asm.specs.LoadText.load_text};
+ghost use Rattle.koth_commands.specs.{Answer.EndsText, Asm.{EndsAsmFrom, EndsSource, EndsUnder}, Streams.{read_limit, streams}};
 
 use crate::answer::{RefusedSource, write_answer, write_refusal};
 use crate::cause::{Cause, Subject, reason_of};

@@ -1,11 +1,7 @@
 //! The command `check`: what is wrong with sources, for people or for editors.
 
-ghost use Rattle.std.specs.Prelude.{◌≡◌, None, false, true, length, OnErr, OnOk, IfOk};
-ghost use Rattle.std.specs.Io.KnownBytes.{Keeps};
-ghost use Rattle.war_types.specs.Settings.{settings_of};
-ghost use Rattle.koth_commands.specs.Check.{status_behind, EndsCheck, EndsCheckUnder, Checks, Finds};
-ghost use Rattle.koth_commands.specs.Streams.{streams};
-ghost use Rattle.koth_commands.specs.Told.{WritesSome};
+ghost use Rattle.std.specs.{Prelude.{◌≡◌, None, false, true, length, OnErr, OnOk, IfOk}, Io.KnownBytes.Keeps};
+ghost use Rattle.{war_types.specs.Settings.settings_of, koth_commands.specs.{Check.{status_behind, EndsCheck, EndsCheckUnder, Checks, Finds}, Streams.streams, Told.WritesSome}};
 
 use crate::cause::Cause;
 use crate::failure::Trouble;

@@ -1,10 +1,7 @@
 //! The command `fight`: from the sources of two warriors to the counts of their match.
 
 ghost use Rattle.std.specs.Prelude.{◌≡◌, None, IfOk};
-ghost use Rattle.war_types.specs.Settings.{settings_of};
-ghost use Rattle.koth_commands.specs.Fight.{bout_line, bout_text, EndsFight, EndsFightUnder, IsFought};
-ghost use Rattle.koth_commands.specs.Pair.{ArePairOf};
-ghost use Rattle.koth_commands.specs.Streams.{streams};
+ghost use Rattle.{war_types.specs.Settings.settings_of, koth_commands.specs.{Fight.{bout_line, bout_text, EndsFight, EndsFightUnder, IsFought}, Pair.ArePairOf, Streams.streams}};
 
 use crate::answer::write_answer;
 use crate::failure::Failure;

@@ -1,7 +1,6 @@
 //! Two warriors from two files, and the answer if there are none.
 
-ghost use Rattle.std.specs.Prelude.{IfErr, IfOk};
-ghost use Rattle.koth_commands.specs.Pair.{ArePairOf, EndsNoMatch, IsRefusedOf, IsWarriorOf};
+ghost use Rattle.{std.specs.Prelude.{IfErr, IfOk}, koth_commands.specs.Pair.{ArePairOf, EndsNoMatch, IsRefusedOf, IsWarriorOf}};
 
 use crate::answer::{RefusedSource, write_refusal};
 use crate::failure::Trouble;

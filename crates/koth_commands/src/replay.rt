@@ -1,11 +1,7 @@
 //! The command `replay`: from the sources of two warriors to the page of one round of their match.
 
 ghost use Rattle.std.specs.Prelude.{◌≡◌, ◌-◌, ◌<◌, true, None, IfOk};
-ghost use Rattle.war_types.specs.Settings.{settings_of};
-ghost use Rattle.war_types.specs.Warrior.{Fits};
-ghost use Rattle.koth_commands.specs.Pair.{ArePairOf};
-ghost use Rattle.koth_commands.specs.Replay.{has_round, EndsReplay, EndsReplayUnder, IsRoundText, IsWatched};
-ghost use Rattle.koth_commands.specs.Streams.{streams};
+ghost use Rattle.{war_types.specs.{Settings.settings_of, Warrior.Fits}, koth_commands.specs.{Pair.ArePairOf, Replay.{has_round, EndsReplay, EndsReplayUnder, IsRoundText, IsWatched}, Streams.streams}};
 
 use crate::answer::write_answer;
 use crate::failure::Failure;

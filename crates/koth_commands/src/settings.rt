@@ -1,8 +1,7 @@
 //! The report of settings that are refused, and of a round that a match doesn't have.
 
 ghost use Rattle.std.specs.Prelude.{◌≡◌};
-ghost use Rattle.koth_commands.specs.Answer.{settings_word};
-ghost use Rattle.koth_commands.specs.Told.{TellsWord};
+ghost use Rattle.koth_commands.specs.{Answer.settings_word, Told.TellsWord};
 
 use crate::status::Status;
 use crate::telling::{Apart, tell_text};

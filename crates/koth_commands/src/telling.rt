@@ -1,9 +1,7 @@
 //! Reports on standard error: a word that programs know, followed by a text for people.
 
-ghost use Rattle.std.specs.Prelude.{◌≡◌, ◌++◌, OnErr, OnOk};
-ghost use Rattle.std.specs.Io.KnownBytes.{Appends};
-ghost use Rattle.koth_commands.specs.Told.{apart_text, TellsCause, TellsWord};
-ghost use Rattle.koth_text.specs.Written.{WritesPart};
+ghost use Rattle.std.specs.{Prelude.{◌≡◌, ◌++◌, OnErr, OnOk}, Io.KnownBytes.Appends};
+ghost use Rattle.{koth_text.specs.Written.WritesPart, koth_commands.specs.Told.{apart_text, TellsCause, TellsWord}};
 
 use crate::cause::{Cause, cause_text};
 use crate::stream::{StreamFault, write_whole};

@@ -1,18 +1,10 @@
 -- The hill on which a challenger stays is a hill.
 use Rattle.std.proofs.Common.{◌≡◌, ℕ, ◌+◌, ◌<◌, ◌≤◌, ◌⊎◌, inl, inr, Bool, true, false, List, [], ◌∷◌, ◌++◌, length, map, refl, sym, ap, subst, ◌∙◌, arith, suc, Option, None, Some, All}
-use Rattle.std.specs.Prelude.{◌==◌, if◌then◌else◌, nat_lt}
-use Rattle.std.proofs.lemmas.Bool.{lt-ltb, le-ltb, eq-eqb, cond-true, cond-false, cases_lt, cases_Bool}
-use Rattle.std.proofs.lemmas.List.{length_push}
-use Rattle.std.proofs.lemmas.List.Elements.{All-head, All-tail, All-cons, All-nil, All-push}
-use Rattle.war_types.specs.declared.settings.RawSettings.{RawSettings}
-use Rattle.war_types.specs.Warrior.{WarriorParts, Fits}
-use Rattle.koth_hill.specs.declared.score.Score.{Score}
-use Rattle.koth_hill.specs.Hill.{Member, Hill, Results, last_entry, last_entry_from, RiseFrom, MayStand, IsHill}
-use Rattle.koth_hill.specs.Scores.{score_of, scores_of, rank_among, last_among}
-use Rattle.koth_hill.specs.Step.{challenger, enlarged, falling_by, is_entry, without, one_older, stays_by, after_stay}
-use Rattle.koth_hill.specs.Laws.{In}
-use Rattle.koth_hill.proofs.Members.{older, RiseFrom-push}
-use Rattle.koth_hill.proofs.Scored.{scores-rising, scores-length, IsScored, score-member, IsLastScore, last_among-score, last_among-none}
+use Rattle.{std.specs.Prelude.{◌==◌, if◌then◌else◌, nat_lt}, std.proofs.{lemmas.Bool.{lt-ltb, le-ltb, eq-eqb, cond-true, cond-false, cases_lt, cases_Bool}, lemmas.List.length_push}}
+use Rattle.{std.proofs.lemmas.List.Elements.{All-head, All-tail, All-cons, All-nil, All-push}, war_types.specs.{declared.settings.RawSettings.RawSettings, Warrior.{WarriorParts, Fits}}}
+use Rattle.koth_hill.specs.{declared.score.Score.Score, Hill.{Member, Hill, Results, last_entry, last_entry_from, RiseFrom, MayStand, IsHill}}
+use Rattle.koth_hill.specs.{Scores.{score_of, scores_of, rank_among, last_among}, Step.{challenger, enlarged, falling_by, is_entry, without, one_older, stays_by, after_stay}, Laws.In}
+use Rattle.koth_hill.proofs.{Members.{older, RiseFrom-push}, Scored.{scores-rising, scores-length, IsScored, score-member, IsLastScore, last_among-score, last_among-none}}
 
 -- ---- members of lists
 

@@ -1,27 +1,13 @@
 -- A challenger that was judged to stay is taken in.
 use Rattle.std.proofs.Common.{◌≡◌, ℕ, ◌+◌, ◌<◌, ◌≤◌, true, List, [], ◌∷◌, ◌++◌, length, map, refl, sym, ap, ap₂, subst, ◌∙◌, arith, Option, None, Some, All}
-use Rattle.std.specs.Prelude.{IfSome, position}
-use Rattle.std.proofs.lemmas.Bool.{cond-true}
-use Rattle.std.proofs.lemmas.List.{length-map, map-append}
-use Rattle.std.proofs.lemmas.List.Elements.{All-head, All-tail, All-cons, All-nil}
-use Rattle.std.proofs.lemmas.List.Quantifiers.{position-Some}
-use Rattle.war_types.specs.declared.settings.RawSettings.{RawSettings}
-use Rattle.war_types.specs.Warrior.{WarriorParts, Fits}
-use Rattle.koth_match.specs.declared.bout.Bout.{Bout}
-use Rattle.koth_match.specs.Match.{match_of}
-use Rattle.koth_hill.specs.declared.verdict.Verdict.{Verdict}
-use Rattle.koth_hill.specs.Hill.{Member, RiseFrom, member_of}
-use Rattle.koth_hill.specs.Laws.{OthersStay}
+use Rattle.{std.specs.Prelude.{IfSome, position}, std.proofs.{lemmas.Bool.cond-true, lemmas.List.{length-map, map-append}, lemmas.List.Elements.{All-head, All-tail, All-cons, All-nil}}}
+use Rattle.{std.proofs.lemmas.List.Quantifiers.position-Some, war_types.specs.{declared.settings.RawSettings.RawSettings, Warrior.{WarriorParts, Fits}}}
+use Rattle.{koth_match.specs.{declared.bout.Bout.Bout, Match.match_of}, koth_hill.specs.{declared.verdict.Verdict.Verdict, Hill.{Member, RiseFrom, member_of}, Laws.OthersStay}}
 use Rattle.koth_hill.specs.Step.{challenger, is_entry, falling_by, stays_by, after_stay, without, one_older, step}
-use Rattle.koth_hill.specs.Kept.{Kept, Entrant, AreTrue, IsKept, entrant_of, fallen_place, fresh, hill_in, kept_fall, kept_of, kept_stay, known, members_of, rows_left, rows_of, stayed, step_kept, verdict_kept, without_place}
-use Rattle.koth_hill.proofs.Admitted.{IsHill-after_stay, ages-fit, without-most}
-use Rattle.koth_hill.proofs.HillLaws.{others-stay}
-use Rattle.koth_hill.proofs.Hills.{few-members}
-use Rattle.koth_hill.proofs.Members.{older, removed-first, removed-none}
-use Rattle.koth_hill.proofs.Places.{position-map}
-use Rattle.koth_hill.proofs.RowsKept.{IsKept-stay}
-use Rattle.koth_hill.proofs.Truths.{map-remove, still-true, true-step}
-use Rattle.koth_hill.proofs.Verdicts.{judged-entry, judged-falls, verdict-bouts, verdict-stays}
+use Rattle.koth_hill.specs.Kept.{Kept, Entrant, AreTrue, IsKept, entrant_of, fallen_place, fresh, hill_in, kept_fall, kept_of, kept_stay, known, members_of, rows_left, rows_of, stayed}
+use Rattle.koth_hill.specs.Kept.{step_kept, verdict_kept, without_place}
+use Rattle.koth_hill.proofs.{Admitted.{IsHill-after_stay, ages-fit, without-most}, HillLaws.others-stay, Hills.few-members, Members.{older, removed-first, removed-none}, Places.position-map}
+use Rattle.koth_hill.proofs.{RowsKept.IsKept-stay, Truths.{map-remove, still-true, true-step}, Verdicts.{judged-entry, judged-falls, verdict-bouts, verdict-stays}}
 
 -- ---- what was judged
 
@@ -29,8 +15,7 @@ pub judged-bouts : (k : Kept) (w : WarriorParts) (judged : Verdict) → judged �
 judged-bouts k w judged is = ap (λ (v : Verdict). v.bouts) is ∙ verdict-bouts (known k w) (fresh k w) (hill_in k) w
 
 pub judged-stays : (k : Kept) (w : WarriorParts) (judged : Verdict) → judged ≡ verdict_kept k w → judged.stays ≡ true → stays_by (known k w) (hill_in k) w ≡ true
-judged-stays k w judged is stays =
-    sym (verdict-stays (known k w) (fresh k w) (hill_in k) w) ∙ ap (λ (v : Verdict). v.stays) (sym is) ∙ stays
+judged-stays k w judged is stays = sym (verdict-stays (known k w) (fresh k w) (hill_in k) w) ∙ ap (λ (v : Verdict). v.stays) (sym is) ∙ stays
 
 -- a challenger has few matches
 pub few-fresh : (k : Kept) (w : WarriorParts) (judged : Verdict) (bouts : List Bout) → IsKept k → judged ≡ verdict_kept k w → bouts ≡ judged.bouts → length bouts ≤ 20

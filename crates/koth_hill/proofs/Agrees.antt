@@ -1,16 +1,9 @@
 -- What rests on the results of matches rests on those of its own members alone, and on no age.
 use Rattle.std.proofs.Common.{◌≡◌, ℕ, ◌+◌, ◌<◌, ◌⊎◌, inl, inr, true, false, List, [], ◌∷◌, ◌++◌, length, map, refl, sym, ap, ap₂, subst, ◌∙◌, arith, Option, None}
-use Rattle.std.specs.Prelude.{if◌then◌else◌, nat_lt}
-use Rattle.std.proofs.lemmas.Bool.{ltb-true, cond-true, cond-false, cases_Bool}
-use Rattle.war_types.specs.Warrior.{WarriorParts}
-use Rattle.koth_match.specs.declared.bout.Bout.{Bout}
-use Rattle.koth_hill.specs.declared.score.Score.{Score}
-use Rattle.koth_hill.specs.declared.verdict.Verdict.{Verdict}
-use Rattle.koth_hill.specs.Hill.{Member, Hill, Results, older_points, younger_points, points_against, points}
-use Rattle.koth_hill.specs.Scores.{score_of, scores_of, rank_among, last_among}
-use Rattle.koth_hill.specs.Table.{rows_by_rank, table_by}
-use Rattle.koth_hill.specs.Step.{challenger, enlarged, falling_by, is_entry, without, one_older, stays_by, after_stay, after_fall, step_by, placed_verdict, fallen_verdict, verdict_by}
-use Rattle.koth_hill.specs.Laws.{In}
+use Rattle.{std.specs.Prelude.{if◌then◌else◌, nat_lt}, std.proofs.lemmas.Bool.{ltb-true, cond-true, cond-false, cases_Bool}, war_types.specs.Warrior.WarriorParts}
+use Rattle.{koth_match.specs.declared.bout.Bout.Bout, koth_hill.specs.{declared.score.Score.Score, declared.verdict.Verdict.Verdict}}
+use Rattle.koth_hill.specs.{Hill.{Member, Hill, Results, older_points, younger_points, points_against, points}, Scores.{score_of, scores_of, rank_among, last_among}, Table.{rows_by_rank, table_by}}
+use Rattle.koth_hill.specs.{Step.{challenger, enlarged, falling_by, is_entry, without, one_older, stays_by, after_stay, after_fall, step_by, placed_verdict, fallen_verdict, verdict_by}, Laws.In}
 use Rattle.koth_hill.proofs.Members.{older}
 
 -- both say the same of each two of these

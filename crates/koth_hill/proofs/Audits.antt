@@ -1,15 +1,8 @@
 -- Each row, beside its member's matches with those before it.
 use Rattle.std.proofs.Common.{◌≡◌, ℕ, ◌+◌, ◌<◌, ◌≤◌, List, [], ◌∷◌, ◌++◌, length, take, get_or, sym, ap, ap₂, subst, ◌∙◌, arith, suc, zero, append_assoc, append-nil}
-use Rattle.std.proofs.lemmas.List.{get_or-map, length-map, take-map, take_all, take_more_same}
-use Rattle.std.proofs.lemmas.List.Elements.{All-take}
-use Rattle.war_types.specs.declared.settings.RawSettings.{RawSettings}
-use Rattle.war_types.specs.Warrior.{WarriorParts, Fits}
-use Rattle.koth_match.specs.declared.bout.Bout.{Bout}
-use Rattle.koth_hill.specs.Hill.{Member, AllFit}
-use Rattle.koth_hill.specs.Step.{matches_with}
-use Rattle.koth_hill.specs.Kept.{Kept, Entrant, AreTrue, IsKept, fought_from, hill_in, members_of, rows_of}
-use Rattle.koth_hill.proofs.Hills.{all-fit}
-use Rattle.koth_hill.proofs.Truths.{length-fought}
+use Rattle.std.proofs.{lemmas.List.{get_or-map, length-map, take-map, take_all, take_more_same}, lemmas.List.Elements.All-take}
+use Rattle.{war_types.specs.{declared.settings.RawSettings.RawSettings, Warrior.{WarriorParts, Fits}}, koth_match.specs.declared.bout.Bout.Bout, koth_hill.specs.Hill.{Member, AllFit}}
+use Rattle.{koth_hill.specs.{Step.matches_with, Kept.{Kept, Entrant, AreTrue, IsKept, fought_from, hill_in, members_of, rows_of}}, koth_hill.proofs.{Hills.all-fit, Truths.length-fought}}
 
 -- ---- those before a member
 

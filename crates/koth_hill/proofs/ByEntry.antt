@@ -1,14 +1,8 @@
 -- Scores of members by what is kept are those of their entries.
 use Rattle.std.proofs.Common.{◌≡◌, ℕ, ◌+◌, ◌<◌, ◌≤◌, Bool, true, false, List, [], ◌∷◌, ◌++◌, get_or, length, map, take, refl, sym, ap, ap₂, ◌∙◌, Option, None}
-use Rattle.std.proofs.lemmas.List.{length-map, map-append, take_all, take_more}
-use Rattle.std.specs.Prelude.{if◌then◌else◌}
-use Rattle.koth_match.specs.declared.bout.Bout.{Bout}
-use Rattle.koth_hill.specs.declared.score.Score.{Score}
-use Rattle.koth_hill.specs.Hill.{Member, Results, points}
-use Rattle.koth_hill.specs.Scores.{score_of, scores_of}
-use Rattle.koth_hill.specs.Step.{is_entry, without, one_older}
-use Rattle.koth_hill.specs.Kept.{Entrant, entries_of, members_of, rows_of, result_of, or_no_rounds}
-use Rattle.koth_hill.specs.declared.standings.Standing.{Standing}
+use Rattle.{std.proofs.lemmas.List.{length-map, map-append, take_all, take_more}, std.specs.Prelude.if◌then◌else◌, koth_match.specs.declared.bout.Bout.Bout}
+use Rattle.koth_hill.specs.{declared.score.Score.Score, Hill.{Member, Results, points}, Scores.{score_of, scores_of}, Step.{is_entry, without, one_older}}
+use Rattle.koth_hill.specs.{Kept.{Entrant, entries_of, members_of, rows_of, result_of, or_no_rounds}, declared.standings.Standing.Standing}
 use Rattle.koth_hill.specs.Standings.{StandingParts, standing_of, standing_parts, entries_in, rows_in, points_between, points_among, left, score_among, scores_among}
 
 -- results that look at entries alone

@@ -2,9 +2,7 @@
 use Rattle.std.proofs.Common.{◌≡◌, ℕ, ◌+◌, ◌<◌, ◌≤◌, inl, inr, Bool, true, false, List, [], ◌∷◌, ◌++◌, length, refl, sym, ap, ap₂, subst, ◌∙◌, arith, suc, zero, length-append}
 use Rattle.std.specs.Prelude.{◌==◌, if◌then◌else◌, nat_lt, nat_le, ◌&&◌}
 use Rattle.std.proofs.lemmas.Bool.{lt-ltb, le-ltb, le-leb, lt-leb, eqb-true, eq-eqb, ne_eqb, and_from, and_left, and_right, cond-true, cond-false, cases_lt, cases_eq, cases_order, cases_Bool}
-use Rattle.koth_hill.specs.declared.score.Score.{Score}
-use Rattle.koth_hill.specs.Scores.{rank_among, of_rank}
-use Rattle.koth_hill.proofs.Order.{Rising, InScores, InScores-above, rank-one, rank-most}
+use Rattle.{koth_hill.specs.{declared.score.Score.Score, Scores.{rank_among, of_rank}}, koth_hill.proofs.Order.{Rising, InScores, InScores-above, rank-one, rank-most}}
 
 -- ---- those of one rank
 

@@ -1,22 +1,11 @@
 -- The laws of hills.
-use Rattle.std.proofs.Common.{◌≡◌, ℕ, ◌+◌, ◌<◌, ◌≤◌, ◌⊎◌, inl, inr, true, false, List, [], ◌∷◌, length, refl, sym, ap, subst, ◌∙◌, arith, Option, None, Some}
-use Rattle.std.specs.Prelude.{if◌then◌else◌}
-use Rattle.std.proofs.lemmas.Bool.{cond-true, cond-false, cases_lt, cases_Bool, ne_eqb}
-use Rattle.war_types.specs.Warrior.{WarriorParts}
-use Rattle.koth_hill.specs.declared.score.Score.{Score}
-use Rattle.koth_hill.specs.declared.verdict.Verdict.{Verdict}
-use Rattle.koth_hill.specs.Hill.{Member, Hill, Results, with_age, fights, RiseFrom, IsHill, points}
-use Rattle.koth_hill.specs.Scores.{score_of, scores_of, rank_among}
-use Rattle.koth_hill.specs.Table.{RowParts, table}
-use Rattle.koth_hill.specs.Step.{challenger, enlarged, falling_by, falling, is_entry, without, one_older, stays, after_stay, step, verdict, matches_with}
-use Rattle.koth_hill.specs.Laws.{In, IsRanking, IsLeast, WasAged, LeastFalls, OthersStay}
-use Rattle.koth_hill.proofs.Members.{older}
-use Rattle.koth_hill.proofs.Verdicts.{step-stays, step-falls, judged-falls}
-use Rattle.koth_hill.proofs.Order.{InScores, above-cases, above-lower, rank-most, rank-one}
-use Rattle.koth_hill.proofs.Counted.{one-of_rank}
-use Rattle.koth_hill.proofs.Scored.{scores-rising, scores-length, In-scores, table-length, table-sorted}
-use Rattle.koth_hill.proofs.Agrees.{In-left}
-use Rattle.koth_hill.proofs.Admitted.{In-push, without-In, IsLast, last_among-some, enlarged-rising, falling-one, falling-room, falling-last}
+use Rattle.{std.proofs.Common.{◌≡◌, ℕ, ◌+◌, ◌<◌, ◌≤◌, ◌⊎◌, inl, inr, true, false, List, [], ◌∷◌, length, refl, sym, ap, subst, ◌∙◌, arith, Option, None, Some}, std.specs.Prelude.if◌then◌else◌}
+use Rattle.{std.proofs.lemmas.Bool.{cond-true, cond-false, cases_lt, cases_Bool, ne_eqb}, war_types.specs.Warrior.WarriorParts, koth_hill.specs.declared.score.Score.Score}
+use Rattle.koth_hill.specs.{declared.verdict.Verdict.Verdict, Hill.{Member, Hill, Results, with_age, fights, RiseFrom, IsHill, points}, Scores.{score_of, scores_of, rank_among}}
+use Rattle.koth_hill.specs.{Table.{RowParts, table}, Step.{challenger, enlarged, falling_by, falling, is_entry, without, one_older, stays, after_stay, step, verdict, matches_with}}
+use Rattle.{koth_hill.specs.Laws.{In, IsRanking, IsLeast, WasAged, LeastFalls, OthersStay}, koth_hill.proofs.{Members.older, Verdicts.{step-stays, step-falls, judged-falls}}}
+use Rattle.koth_hill.proofs.{Order.{InScores, above-cases, above-lower, rank-most, rank-one}, Counted.one-of_rank, Scored.{scores-rising, scores-length, In-scores, table-length, table-sorted}}
+use Rattle.koth_hill.proofs.{Agrees.In-left, Admitted.{In-push, without-In, IsLast, last_among-some, enlarged-rising, falling-one, falling-room, falling-last}}
 
 -- ---- tables
 

@@ -1,25 +1,12 @@
 -- What the functions of a hill ask of one another, and what they show.
 use Rattle.std.proofs.Common.{◌≡◌, ℕ, ◌+◌, ◌-◌, ◌<◌, ◌≤◌, Result, Ok, Err, true, false, All, List, [], ◌∷◌, ◌++◌, length, map, refl, sym, ap, ap₂, subst, ◌∙◌, arith, Option}
-use Rattle.std.specs.Prelude.{if◌then◌else◌}
-use Rattle.std.specs.Result.{is_ok}
-use Rattle.std.proofs.lemmas.Bool.{cond-false}
-use Rattle.std.proofs.lemmas.List.{length-map, length_push, map-append}
-use Rattle.std.proofs.lemmas.List.Elements.{All-weaker, All-cons, All-nil, All-push}
-use Rattle.war_types.specs.declared.settings.RawSettings.{RawSettings}
-use Rattle.war_types.specs.Settings.{AreSettings}
-use Rattle.war_types.specs.Warrior.{WarriorParts, Fits}
-use Rattle.koth_match.specs.declared.bout.Bout.{Bout}
-use Rattle.koth_match.specs.Match.{rounds_in}
-use Rattle.koth_hill.specs.declared.standings.Standing.{Standing}
-use Rattle.koth_hill.specs.declared.verdict.Verdict.{Verdict}
-use Rattle.koth_hill.specs.Hill.{Member, Hill, AllFit, MayStand, IsHill, member_of, last_entry}
-use Rattle.koth_hill.specs.Step.{challenger, enlarged, falling_by, matches_with, stays_by}
+use Rattle.{std.specs.{Prelude.if◌then◌else◌, Result.is_ok}, std.proofs.{lemmas.Bool.cond-false, lemmas.List.{length-map, length_push, map-append}}}
+use Rattle.{std.proofs.lemmas.List.Elements.{All-weaker, All-cons, All-nil, All-push}, war_types.specs.{declared.settings.RawSettings.RawSettings, Settings.AreSettings, Warrior.{WarriorParts, Fits}}}
+use Rattle.{koth_match.specs.{declared.bout.Bout.Bout, Match.rounds_in}, koth_hill.specs.{declared.standings.Standing.Standing, declared.verdict.Verdict.Verdict}}
+use Rattle.koth_hill.specs.{Hill.{Member, Hill, AllFit, MayStand, IsHill, member_of, last_entry}, Step.{challenger, enlarged, falling_by, matches_with, stays_by}}
 use Rattle.koth_hill.specs.Kept.{Kept, Entrant, AreRows, IsKept, entrant_of, entries_of, hill_in, kept_of, members_of, rows_of, fresh, known, kept_fall, kept_stay, result_of, step_kept, verdict_kept}
 use Rattle.koth_hill.specs.Standings.{StandingParts, HaveRounds, judged_among, kept_in, entries_in, rows_in, result_in_standings, standing_of, standing_parts}
-use Rattle.koth_hill.proofs.Members.{IsHill-put_back}
-use Rattle.koth_hill.proofs.ByEntry.{kept_among, entries-entrants, rows-entrants}
-use Rattle.koth_hill.proofs.Judged.{judged_in, judged-found}
-use Rattle.koth_hill.proofs.RowsKept.{AreRows-push, matches-rounds}
+use Rattle.koth_hill.proofs.{Members.IsHill-put_back, ByEntry.{kept_among, entries-entrants, rows-entrants}, Judged.{judged_in, judged-found}, RowsKept.{AreRows-push, matches-rounds}}
 use Rattle.koth_hill.proofs.Verdicts.{verdict-stays}
 
 -- ---- those on a hill fit, are few, and have the rounds of the settings

@@ -1,19 +1,10 @@
 -- What is found of standings is the verdict by what is known.
-use Rattle.std.proofs.Common.{◌≡◌, ℕ, ◌+◌, true, false, List, [], ◌∷◌, ◌++◌, length, sym, ap, ap₂, ◌∙◌, Option, None, Some, inl, inr}
-use Rattle.std.specs.Prelude.{if◌then◌else◌, nat_lt}
-use Rattle.std.proofs.lemmas.Bool.{cond-true, cond-false, eqb-true, cases_Bool}
-use Rattle.std.proofs.lemmas.List.{map-append}
-use Rattle.war_types.specs.Warrior.{WarriorParts}
-use Rattle.koth_match.specs.declared.bout.Bout.{Bout}
-use Rattle.koth_hill.specs.declared.score.Score.{Score}
-use Rattle.koth_hill.specs.declared.verdict.Verdict.{Verdict}
-use Rattle.koth_hill.specs.Hill.{Member, Hill}
-use Rattle.koth_hill.specs.Scores.{scores_of, rank_among, last_among}
-use Rattle.koth_hill.specs.Step.{challenger, enlarged, falling_by, is_entry, without, one_older, after_stay, verdict_by}
-use Rattle.koth_hill.specs.Kept.{entries_of}
+use Rattle.{std.proofs.Common.{◌≡◌, ℕ, ◌+◌, true, false, List, [], ◌∷◌, ◌++◌, length, sym, ap, ap₂, ◌∙◌, Option, None, Some, inl, inr}, std.specs.Prelude.{if◌then◌else◌, nat_lt}}
+use Rattle.{std.proofs.{lemmas.Bool.{cond-true, cond-false, eqb-true, cases_Bool}, lemmas.List.map-append}, war_types.specs.Warrior.WarriorParts, koth_match.specs.declared.bout.Bout.Bout}
+use Rattle.koth_hill.specs.{declared.score.Score.Score, declared.verdict.Verdict.Verdict, Hill.{Member, Hill}, Scores.{scores_of, rank_among, last_among}}
+use Rattle.koth_hill.specs.{Step.{challenger, enlarged, falling_by, is_entry, without, one_older, after_stay, verdict_by}, Kept.entries_of}
 use Rattle.koth_hill.specs.Standings.{StandingParts, points_among, left, score_among, scores_among}
-use Rattle.koth_hill.proofs.ByEntry.{by_entry, points-entries, scores-entries, left-None, left-entries, left-append, entries-older}
-use Rattle.koth_hill.proofs.Verdicts.{verdict-placed, verdict-fallen}
+use Rattle.koth_hill.proofs.{ByEntry.{by_entry, points-entries, scores-entries, left-None, left-entries, left-append, entries-older}, Verdicts.{verdict-placed, verdict-fallen}}
 
 abbrev pub falling_in : (ℕ → ℕ → Bout) → List ℕ → ℕ → ℕ → Option ℕ
 falling_in r es n capacity =

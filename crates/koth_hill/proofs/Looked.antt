@@ -1,19 +1,9 @@
 -- The results of matches that were fought for each member, looked up by the entries of two.
-use Rattle.std.proofs.Common.{◌≡◌, ℕ, ◌+◌, ◌<◌, inl, inr, Bool, true, false, cond, not, List, [], ◌∷◌, ◌++◌, length, take, map, refl, sym, ap, ap₂, ◌∙◌, arith, suc, zero, Option, None, Some, append_assoc, append-nil, get_or, slice_get, position}
-use Rattle.std.specs.Prelude.{◌==◌, nat_lt}
-use Rattle.std.specs.List.{position_or_len}
-use Rattle.std.proofs.lemmas.Bool.{lt-ltb, eq-eqb, eqb-true, ne_eqb, cond-true}
-use Rattle.std.proofs.lemmas.List.{get_or-map}
-use Rattle.std.proofs.lemmas.List.Quantifiers.{position-Some}
-use Rattle.std.proofs.lemmas.Option.{slice_get-get_or, slice_get_within}
-use Rattle.war_types.specs.declared.settings.RawSettings.{RawSettings}
-use Rattle.koth_match.specs.declared.bout.Bout.{Bout}
-use Rattle.koth_match.specs.Match.{match_of}
-use Rattle.koth_hill.specs.Hill.{Member, RiseFrom, fights}
-use Rattle.koth_hill.specs.Step.{matches_with}
-use Rattle.koth_hill.specs.Kept.{fought_from, result_in, result_at, or_no_rounds, place_of, kept_results, entries_of}
-use Rattle.koth_hill.specs.Laws.{In}
-use Rattle.koth_hill.proofs.Agrees.{Agree}
+use Rattle.std.proofs.Common.{◌≡◌, ℕ, ◌+◌, ◌<◌, inl, inr, Bool, true, false, cond, not, List, [], ◌∷◌, ◌++◌, length, take, map, refl, sym, ap, ap₂, ◌∙◌, arith, suc, zero, Option, None, Some}
+use Rattle.{std.proofs.Common.{append_assoc, append-nil, get_or, slice_get, position}, std.specs.{Prelude.{◌==◌, nat_lt}, List.position_or_len}}
+use Rattle.std.proofs.{lemmas.Bool.{lt-ltb, eq-eqb, eqb-true, ne_eqb, cond-true}, lemmas.List.get_or-map, lemmas.List.Quantifiers.position-Some, lemmas.Option.{slice_get-get_or, slice_get_within}}
+use Rattle.{war_types.specs.declared.settings.RawSettings.RawSettings, koth_match.specs.{declared.bout.Bout.Bout, Match.match_of}, koth_hill.specs.{Hill.{Member, RiseFrom, fights}, Step.matches_with}}
+use Rattle.{koth_hill.specs.{Kept.{fought_from, result_in, result_at, or_no_rounds, place_of, kept_results, entries_of}, Laws.In}, koth_hill.proofs.Agrees.Agree}
 
 -- ---- places
 

@@ -1,14 +1,8 @@
 -- The matches of one warrior, one after another.
 use Rattle.std.proofs.Common.{◌≡◌, ℕ, ◌+◌, ◌<◌, ◌≤◌, All, List, [], ◌∷◌, ◌++◌, length, take, get_or, sym, ap, ap₂, subst, ◌∙◌, arith}
-use Rattle.std.proofs.lemmas.List.{get_or-map, length-map, length-take, map-append, take_all, take_more}
-use Rattle.std.proofs.lemmas.List.Elements.{All-push}
-use Rattle.war_types.specs.declared.settings.RawSettings.{RawSettings}
-use Rattle.war_types.specs.Warrior.{WarriorParts, Fits}
-use Rattle.koth_match.specs.declared.bout.Bout.{Bout}
-use Rattle.koth_match.specs.Match.{match_of, rounds_in}
-use Rattle.koth_hill.specs.Hill.{Member, AllFit}
-use Rattle.koth_hill.specs.Step.{matches_with}
-use Rattle.koth_hill.specs.Kept.{Entrant, members_of}
+use Rattle.std.proofs.{lemmas.List.{get_or-map, length-map, length-take, map-append, take_all, take_more}, lemmas.List.Elements.All-push}
+use Rattle.{war_types.specs.{declared.settings.RawSettings.RawSettings, Warrior.{WarriorParts, Fits}}, koth_match.specs.{declared.bout.Bout.Bout, Match.{match_of, rounds_in}}}
+use Rattle.koth_hill.specs.{Hill.{Member, AllFit}, Step.matches_with, Kept.{Entrant, members_of}}
 
 -- the warrior of one of those that fit
 pub fits-at : (s : RawSettings) (es : List Entrant) (n : ℕ) (e : Entrant) (w : WarriorParts) → n < length es → e ≡ get_or es n e → w ≡ e.member.warrior → AllFit s (members_of es) → Fits s w

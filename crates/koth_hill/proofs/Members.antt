@@ -1,15 +1,8 @@
 -- The members of a hill: those that fall, those that stay, and their order.
 use Rattle.std.proofs.Common.{◌≡◌, ℕ, ◌+◌, ◌-◌, ◌<◌, ◌≤◌, Bool, true, false, cond, List, [], ◌∷◌, ◌++◌, length, map, get_or, refl, sym, ap, ◌∙◌, arith, Option, None, Some, suc, zero}
-use Rattle.std.specs.Prelude.{◌==◌, nat_lt}
-use Rattle.std.specs.List.{remove, position, position_or_len}
-use Rattle.std.proofs.lemmas.List.Sums.{fails_before_first}
-use Rattle.std.proofs.lemmas.Bool.{ltb-false, eqb-true, ne_eqb, cond-true, cond-false}
-use Rattle.std.proofs.lemmas.List.{length_push}
-use Rattle.std.proofs.lemmas.List.Elements.{All-push}
-use Rattle.std.proofs.lemmas.List.Quantifiers.{position-Some}
-use Rattle.war_types.specs.Warrior.{Fits}
-use Rattle.koth_hill.specs.Hill.{Member, Hill, hill_of, with_age, last_entry, last_entry_from, RiseFrom, MayStand, IsHill}
-use Rattle.koth_hill.specs.Step.{is_entry, without, one_older}
+use Rattle.{std.specs.{Prelude.{◌==◌, nat_lt}, List.{remove, position, position_or_len}}, std.proofs.lemmas.List.Sums.fails_before_first}
+use Rattle.std.proofs.{lemmas.Bool.{ltb-false, eqb-true, ne_eqb, cond-true, cond-false}, lemmas.List.length_push, lemmas.List.Elements.All-push, lemmas.List.Quantifiers.position-Some}
+use Rattle.{war_types.specs.Warrior.Fits, koth_hill.specs.{Hill.{Member, Hill, hill_of, with_age, last_entry, last_entry_from, RiseFrom, MayStand, IsHill}, Step.{is_entry, without, one_older}}}
 
 abbrev pub older : Member → Member
 older m = with_age (m.age + 1) m
@@ -69,8 +62,7 @@ removed entry before (m ∷ ms) (suc i) d rising within here others =
 
 pub removed-first : (fallen : Option ℕ) (before : ℕ) (ms : List Member) (i : ℕ) (d : Member) → RiseFrom before ms → position (λ m. is_entry m.entry fallen) ms ≡ Some i →
     remove ms i ≡ without fallen ms
-removed-first None before ms i d rising found =
-    let at_i : false ≡ true = (position-Some (λ m. is_entry m.entry None) ms i d found).1 in cc
+removed-first None before ms i d rising found = let at_i : false ≡ true = (position-Some (λ m. is_entry m.entry None) ms i d found).1 in cc
 removed-first (Some entry) before ms i d rising found =
     let first = position-Some (λ m. is_entry m.entry (Some entry)) ms i d found in
     removed entry before ms i d rising first.0 first.1 first.2

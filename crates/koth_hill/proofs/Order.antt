@@ -1,10 +1,8 @@
 -- The order of scores by points and then by entry, and their ranks.
 use Rattle.std.proofs.Common.{◌≡◌, ℕ, ◌+◌, ◌<◌, ◌≤◌, ◌⊎◌, inl, inr, Bool, true, false, List, [], ◌∷◌, length, refl, sym, ap, ◌∙◌, arith, suc}
 use Rattle.std.specs.Prelude.{◌==◌, if◌then◌else◌, nat_lt, ◌||◌, ◌&&◌, count_by}
-use Rattle.std.proofs.lemmas.Bool.{ltb-true, ltb-false, lt-ltb, le-ltb, eqb-true, eqb-false, eq-eqb, or_cases, or_left, or_right, or_from, or_parts, and_parts, and_from, and_right, and_cases, false_from_ne_true, cases_Bool}
-use Rattle.std.proofs.lemmas.List.Recursion.{is_count_by}
-use Rattle.koth_hill.specs.declared.score.Score.{Score}
-use Rattle.koth_hill.specs.Scores.{outranks, rank_among}
+use Rattle.std.proofs.lemmas.Bool.{ltb-true, ltb-false, lt-ltb, le-ltb, eqb-true, eqb-false, eq-eqb, or_cases, or_left, or_right, or_from, or_parts, and_parts, and_from, and_right, and_cases}
+use Rattle.{std.proofs.{lemmas.Bool.{false_from_ne_true, cases_Bool}, lemmas.List.Recursion.is_count_by}, koth_hill.specs.{declared.score.Score.Score, Scores.{outranks, rank_among}}}
 
 -- ---- on numbers: points p at entry a are above points q at entry b
 

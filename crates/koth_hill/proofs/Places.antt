@@ -1,16 +1,9 @@
 -- Places of entries among those that have them.
 use Rattle.std.proofs.Common.{◌≡◌, ℕ, ◌+◌, ◌-◌, ◌<◌, ◌≤◌, arith, suc, take, drop, ◌++◌, Bool, not, List, [], ◌∷◌, length, map, get_or, refl, sym, ap, ap₂, ◌∙◌, cond, Option, None, Some}
-use Rattle.std.specs.Prelude.{◌==◌, nat_lt, slice_get}
-use Rattle.std.specs.Option.{option_map}
-use Rattle.std.specs.List.{copy_within, position, position_or_len, remove}
-use Rattle.std.proofs.lemmas.List.{drop-take, length-drop, length-map, take-take}
-use Rattle.std.proofs.lemmas.List.Edits.{take-paste}
-use Rattle.std.proofs.lemmas.List.Quantifiers.{position-Some}
-use Rattle.std.proofs.lemmas.Option.{slice_get-map, slice_get-get_or}
-use Rattle.koth_match.specs.declared.bout.Bout.{Bout}
-use Rattle.koth_hill.specs.declared.standings.Standing.{Standing}
-use Rattle.koth_hill.specs.Kept.{place_of, result_at, result_in}
-use Rattle.koth_hill.specs.Standings.{StandingParts, standing_parts, entries_in, rows_in, result_in_standings}
+use Rattle.std.specs.{Prelude.{◌==◌, nat_lt, slice_get}, Option.option_map, List.{copy_within, position, position_or_len, remove}}
+use Rattle.std.proofs.{lemmas.List.{drop-take, length-drop, length-map, take-take}, lemmas.List.Edits.take-paste, lemmas.List.Quantifiers.position-Some}
+use Rattle.{std.proofs.lemmas.Option.{slice_get-map, slice_get-get_or}, koth_match.specs.declared.bout.Bout.Bout}
+use Rattle.koth_hill.specs.{declared.standings.Standing.Standing, Kept.{place_of, result_at, result_in}, Standings.{StandingParts, standing_parts, entries_in, rows_in, result_in_standings}}
 
 -- the first that passes a test of what is shown of it
 pub position-map : {X Y : Type 0} (p : Y → Bool) (f : X → Y) (xs : List X) → position p (map f xs) ≡ position (λ x. p (f x)) xs

@@ -1,41 +1,27 @@
 -- A small hill, step by step, computed by the definitions.
-use Rattle.std.proofs.Common.{◌≡◌, ℕ, List, [], ◌∷◌, Bool, true, false, Option, Some, None, refl}
-use Rattle.war_types.specs.declared.instr.Op.{Op}
-use Rattle.war_types.specs.declared.instr.Op.TheVariants as ops
-use Rattle.war_types.specs.declared.instr.Modifier.{Modifier}
-use Rattle.war_types.specs.declared.instr.Modifier.TheVariants as modifiers
-use Rattle.war_types.specs.declared.instr.Mode.TheVariants as modes
-use Rattle.war_types.specs.declared.instr.Instr.{Instr}
-use Rattle.war_types.specs.declared.settings.RawSettings.{RawSettings}
-use Rattle.war_types.specs.Warrior.{WarriorParts, warrior_parts}
-use Rattle.mars_core.specs.Operand.{operand}
-use Rattle.mars_core.specs.Effect.{effect}
-use Rattle.mars_core.specs.Round.{executed, side_turn, after_turn, after_turns}
-use Rattle.koth_match.specs.declared.bout.Bout.{Bout}
-use Rattle.koth_match.specs.Match.{round_outcome, match_of}
-use Rattle.koth_hill.specs.declared.verdict.Verdict.{Verdict}
-use Rattle.koth_hill.specs.Hill.{Member, Hill}
-use Rattle.koth_hill.specs.Table.{RowParts, table}
-use Rattle.koth_hill.specs.Step.{step_by, verdict_by, step, verdict, new_hill}
-use Rattle.koth_hill.specs.Kept.{Kept, fought, kept_of, result_of, step_kept, table_kept, verdict_kept}
+use Rattle.{std.proofs.Common.{◌≡◌, ℕ, List, [], ◌∷◌, Bool, true, false, Option, Some, None, refl}, war_types.specs.{declared.instr.Op.Op, declared.instr.Modifier.Modifier}}
+use Rattle.war_types.specs.{declared.instr.Instr.Instr, declared.settings.RawSettings.RawSettings, Warrior.{WarriorParts, warrior_parts}, declared.instr.Mode.Mode}
+use Rattle.mars_core.specs.{Operand.operand, Effect.effect, Round.{executed, side_turn, after_turn, after_turns}}
+use Rattle.{koth_match.specs.{declared.bout.Bout.Bout, Match.{round_outcome, match_of}}, koth_hill.specs.{declared.verdict.Verdict.Verdict, Hill.{Member, Hill}, Table.{RowParts, table}}}
+use Rattle.koth_hill.specs.{Step.{step_by, verdict_by, step, verdict, new_hill}, Kept.{Kept, fought, kept_of, result_of, step_kept, table_kept, verdict_kept}}
 
 abbrev small : RawSettings
 small = record { core = 64; cycles = 100; processes = 8; length = 10; distance = 10; rounds = 2; seed = 1; capacity = 2; read_limit = 64; write_limit = 64 }
 
 abbrev direct : Op → Modifier → ℕ → ℕ → Instr
-direct op modifier a b = record { op = op; modifier = modifier; a_mode = modes.Direct; a = a; b_mode = modes.Direct; b = b }
+direct op modifier a b = record { op = op; modifier = modifier; a_mode = Mode.Direct; a = a; b_mode = Mode.Direct; b = b }
 
 abbrev alone : Instr → WarriorParts
 alone i = warrior_parts (i ∷ []) 0 (65 ∷ []) (66 ∷ [])
 
 abbrev imp : WarriorParts
-imp = alone (direct ops.Mov modifiers.I 0 1)
+imp = alone (direct Op.Mov Modifier.I 0 1)
 
 abbrev waits : WarriorParts
-waits = alone (direct ops.Jmp modifiers.B 0 0)
+waits = alone (direct Op.Jmp Modifier.B 0 0)
 
 abbrev dies : WarriorParts
-dies = alone (direct ops.Dat modifiers.F 0 0)
+dies = alone (direct Op.Dat Modifier.F 0 0)
 
 abbrev hill : ℕ → List Member → Hill
 hill counter members = record { settings = small; counter = counter; members = members }

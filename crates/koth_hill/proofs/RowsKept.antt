@@ -1,21 +1,12 @@
 -- The rows that are kept: each one longer than the one before it, and each result of all rounds.
-use Rattle.std.proofs.Common.{◌≡◌, ℕ, ◌+◌, ◌<◌, ◌≤◌, Bool, true, false, List, [], ◌∷◌, ◌++◌, length, take, drop, map, remove, refl, sym, ap, subst, ◌∙◌, arith, suc, zero, Option, None, Some, All, slice_index_or}
-use Rattle.std.specs.Prelude.{if◌then◌else◌}
-use Rattle.std.proofs.lemmas.List.{map-id, length-map, length_push}
-use Rattle.std.proofs.lemmas.List.Edits.{length-remove}
-use Rattle.std.proofs.lemmas.List.Elements.{All-append, All-take, All-drop, All-map}
-use Rattle.std.proofs.lemmas.List.Quantifiers.{position-Some}
-use Rattle.war_types.specs.declared.settings.RawSettings.{RawSettings}
-use Rattle.war_types.specs.Warrior.{WarriorParts}
-use Rattle.koth_match.specs.declared.bout.Bout.{Bout}
-use Rattle.mars_core.specs.declared.round.Outcome.{Outcome}
-use Rattle.mars_core.specs.declared.round.Outcome.TheVariants as outcomes
-use Rattle.koth_match.specs.Match.{rounds_in, counted, round_outcome, bout_before, match_of}
-use Rattle.koth_hill.specs.Hill.{Member, Hill, RiseFrom, IsHill}
-use Rattle.koth_hill.specs.Step.{challenger, is_entry, without, one_older, falling_by, stays_by, matches_with}
+use Rattle.std.proofs.Common.{◌≡◌, ℕ, ◌+◌, ◌<◌, ◌≤◌, Bool, true, false, List, [], ◌∷◌, ◌++◌, length, take, drop, map, remove, refl, sym, ap, subst, ◌∙◌, arith, suc, zero, Option, None, Some}
+use Rattle.{std.proofs.Common.{All, slice_index_or}, std.specs.Prelude.if◌then◌else◌, std.proofs.{lemmas.List.{map-id, length-map, length_push}, lemmas.List.Edits.length-remove}}
+use Rattle.std.proofs.{lemmas.List.Elements.{All-append, All-take, All-drop, All-map}, lemmas.List.Quantifiers.position-Some}
+use Rattle.{war_types.specs.{declared.settings.RawSettings.RawSettings, Warrior.WarriorParts}, mars_core.specs.declared.round.Outcome.Outcome}
+use Rattle.koth_match.specs.{declared.bout.Bout.Bout, Match.{rounds_in, counted, round_outcome, bout_before, match_of}}
+use Rattle.koth_hill.specs.{Hill.{Member, Hill, RiseFrom, IsHill}, Step.{challenger, is_entry, without, one_older, falling_by, stays_by, matches_with}}
 use Rattle.koth_hill.specs.Kept.{Kept, hill_in, fought_from, fought, fresh, known, fallen_place, without_place, rows_left, kept_stay, kept_fall, step_kept, AreRows, IsKept}
-use Rattle.koth_hill.proofs.Members.{removed-first, removed-none}
-use Rattle.koth_hill.proofs.Truths.{remove-past, length-fought}
+use Rattle.koth_hill.proofs.{Members.{removed-first, removed-none}, Truths.{remove-past, length-fought}}
 
 -- these results have all rounds
 abbrev pub HaveAll : ℕ → List Bout → Type 0
@@ -26,8 +17,7 @@ HaveAll rounds row = All (λ b. rounds_in b ≡ rounds) row
 AreRows-behind : (rounds n : ℕ) (rows : List (List Bout)) (row : List Bout) → AreRows rounds n rows → length row ≡ n + length rows → HaveAll rounds row →
     AreRows rounds n (rows ++ row ∷ [])
 AreRows-behind rounds n [] row are long each = (omega (arith, long), each, tt)
-AreRows-behind rounds n (first ∷ rows) row are long each =
-    (are.0, are.1, AreRows-behind rounds (n + 1) rows row are.2 (omega (arith, long)) each)
+AreRows-behind rounds n (first ∷ rows) row are long each = (are.0, are.1, AreRows-behind rounds (n + 1) rows row are.2 (omega (arith, long)) each)
 
 pub AreRows-push : (rounds : ℕ) (rows : List (List Bout)) (row : List Bout) → AreRows rounds 0 rows → length row ≡ length rows → HaveAll rounds row →
     AreRows rounds 0 (rows ++ row ∷ [])
@@ -62,8 +52,7 @@ AreRows-left rounds i rows within are =
     subst P place (AreRows-without rounds 0 i rows within are)
 
 pub AreRows-left_none : (rounds : ℕ) (rows : List (List Bout)) → AreRows rounds 0 rows → AreRows rounds 0 (rows_left None rows)
-AreRows-left_none rounds rows are =
-    let P : List (List Bout) → Type 0 = AreRows rounds 0 in subst P (sym (map-id rows)) are
+AreRows-left_none rounds rows are = let P : List (List Bout) → Type 0 = AreRows rounds 0 in subst P (sym (map-id rows)) are
 
 -- ---- members that go
 
@@ -129,9 +118,9 @@ rows-stay k w fallen is all =
 -- ---- all rounds are fought
 
 counted-rounds : (o : Outcome) (b : Bout) → rounds_in (counted o b) ≡ suc (rounds_in b)
-counted-rounds outcomes.First b = omega arith
-counted-rounds outcomes.Second b = omega arith
-counted-rounds outcomes.Tie b = omega arith
+counted-rounds Outcome.First b = omega arith
+counted-rounds Outcome.Second b = omega arith
+counted-rounds Outcome.Tie b = omega arith
 
 bout_before-rounds : (s : RawSettings) (older younger : WarriorParts) (n : ℕ) → rounds_in (bout_before s older younger n) ≡ n
 bout_before-rounds s older younger zero = refl

@@ -1,15 +1,9 @@
 -- The scores of members, and the rows of their table.
 use Rattle.std.proofs.Common.{◌≡◌, ℕ, ◌+◌, ◌<◌, ◌≤◌, ◌⊎◌, inl, inr, Bool, true, false, List, [], ◌∷◌, ◌++◌, length, map, refl, sym, ap, ap₂, subst, ◌∙◌, arith, suc, zero, None, Some}
-use Rattle.std.specs.Prelude.{◌==◌, if◌then◌else◌}
-use Rattle.std.proofs.lemmas.Bool.{eqb-true, cond-true, cond-false, cases_Bool}
-use Rattle.std.proofs.lemmas.List.{length-map, map-append}
-use Rattle.koth_hill.specs.declared.score.Score.{Score}
-use Rattle.koth_hill.specs.Hill.{Member, Results, RiseFrom, points}
-use Rattle.koth_hill.specs.Scores.{score_of, scores_of, rank_among, last_among, of_rank}
-use Rattle.koth_hill.specs.Table.{RowParts, row_with, rows_of_rank, rows_by_rank, table_by}
-use Rattle.koth_hill.specs.Laws.{In, AreAfter, AreSorted}
-use Rattle.koth_hill.proofs.Order.{Rising, InScores, above-cases, above-lower}
-use Rattle.koth_hill.proofs.Counted.{of_rank-In, of_rank-one, one-of_rank, by_rank, by_rank-all}
+use Rattle.{std.specs.Prelude.{◌==◌, if◌then◌else◌}, std.proofs.{lemmas.Bool.{eqb-true, cond-true, cond-false, cases_Bool}, lemmas.List.{length-map, map-append}}}
+use Rattle.koth_hill.specs.{declared.score.Score.Score, Hill.{Member, Results, RiseFrom, points}, Scores.{score_of, scores_of, rank_among, last_among, of_rank}}
+use Rattle.koth_hill.specs.{Table.{RowParts, row_with, rows_of_rank, rows_by_rank, table_by}, Laws.{In, AreAfter, AreSorted}}
+use Rattle.koth_hill.proofs.{Order.{Rising, InScores, above-cases, above-lower}, Counted.{of_rank-In, of_rank-one, one-of_rank, by_rank, by_rank-all}}
 
 -- ---- members and their scores
 

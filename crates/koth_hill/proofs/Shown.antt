@@ -1,12 +1,7 @@
 -- What a hill shows of its entrants.
-use Rattle.std.proofs.Common.{◌≡◌, ℕ, ◌<◌, true, false, List, length, map, get_or, sym, ap, ◌∙◌, arith, None, Some, slice_get}
-use Rattle.std.specs.Prelude.{nat_lt}
-use Rattle.std.specs.Option.{option_map}
-use Rattle.std.proofs.lemmas.Bool.{ltb-true, ltb-false}
-use Rattle.std.proofs.lemmas.List.{length-map}
-use Rattle.std.proofs.lemmas.Option.{slice_get-get_or, slice_get-map, slice_get_past}
-use Rattle.koth_hill.specs.Hill.{Member}
-use Rattle.koth_hill.specs.Kept.{Kept, Entrant, members_of}
+use Rattle.{std.proofs.Common.{◌≡◌, ℕ, ◌<◌, true, false, List, length, map, get_or, sym, ap, ◌∙◌, arith, None, Some, slice_get}, std.specs.{Prelude.nat_lt, Option.option_map}}
+use Rattle.std.proofs.{lemmas.Bool.{ltb-true, ltb-false}, lemmas.List.length-map, lemmas.Option.{slice_get-get_or, slice_get-map, slice_get_past}}
+use Rattle.koth_hill.specs.{Hill.Member, Kept.{Kept, Entrant, members_of}}
 
 pub shown-at : {X : Type 0} (f : Entrant → X) (es xs : List Entrant) (n : ℕ) (e : Entrant) → xs ≡ es → n < length xs → e ≡ get_or xs n e → slice_get (map f es) n ≡ Some (f e)
 shown-at f es xs n e same within here =

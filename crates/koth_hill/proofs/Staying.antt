@@ -1,9 +1,7 @@
 -- Those that stay, one after another.
 use Rattle.std.proofs.Common.{◌≡◌, ℕ, ◌+◌, ◌<◌, ◌≤◌, All, List, ◌++◌, length, map, take, drop, set, get_or, sym, ap, ap₂, subst, ◌∙◌, arith, Option}
-use Rattle.std.proofs.lemmas.List.{append-nil, drop_all, get_or-append-add, get_or-drop, length-map, length-take, take_all}
-use Rattle.std.proofs.lemmas.List.Elements.{All-get_or}
-use Rattle.std.proofs.lemmas.List.Edits.{map_over_more}
-use Rattle.koth_hill.specs.Kept.{Entrant, stayed}
+use Rattle.std.proofs.{lemmas.List.{append-nil, drop_all, get_or-append-add, get_or-drop, length-map, length-take, take_all}, lemmas.List.Elements.All-get_or}
+use Rattle.{std.proofs.lemmas.List.Edits.map_over_more, koth_hill.specs.Kept.{Entrant, stayed}}
 
 pub stayed-more : (place : Option ℕ) (es now : List Entrant) (n : ℕ) (e grown : Entrant) → n < length es → now ≡ map (stayed place) (take n es) ++ drop n es → e ≡ get_or now n e →
     grown ≡ stayed place (get_or now n e) → set now n grown ≡ map (stayed place) (take (n + 1) es) ++ drop (n + 1) es

@@ -1,15 +1,8 @@
 -- The rows of a table, rank by rank.
-use Rattle.std.proofs.Common.{◌≡◌, ℕ, ◌+◌, ◌-◌, ◌<◌, ◌≤◌, List, [], ◌∷◌, ◌++◌, length, map, drop, get_or, sym, ap, ap₂, ◌∙◌, arith, suc, None, append_assoc}
-use Rattle.std.specs.Prelude.{◌==◌, if◌then◌else◌}
-use Rattle.std.proofs.lemmas.Bool.{cond-true, cond-false, eq-eqb, ne_eqb}
-use Rattle.std.proofs.lemmas.List.{append-nil, drop_all, length-map, drop_more, get_or_default, get_or-map}
-use Rattle.koth_match.specs.declared.bout.Bout.{Bout}
-use Rattle.koth_hill.specs.declared.score.Score.{Score}
-use Rattle.koth_hill.specs.declared.standings.Standing.{Standing}
-use Rattle.koth_hill.specs.Hill.{Member}
-use Rattle.koth_hill.specs.Scores.{rank_among, scores_of}
-use Rattle.koth_hill.specs.Table.{RowParts, row_with, rows_of_rank, rows_by_rank, table_by}
-use Rattle.koth_hill.specs.Kept.{Entrant, entries_of, members_of, rows_of, kept_results}
+use Rattle.{std.proofs.Common.{◌≡◌, ℕ, ◌+◌, ◌-◌, ◌<◌, ◌≤◌, List, [], ◌∷◌, ◌++◌, length, map, drop, get_or, sym, ap, ap₂, ◌∙◌, arith, suc, None, append_assoc}, std.specs.Prelude.{◌==◌, if◌then◌else◌}}
+use Rattle.std.proofs.{lemmas.Bool.{cond-true, cond-false, eq-eqb, ne_eqb}, lemmas.List.{append-nil, drop_all, length-map, drop_more, get_or_default, get_or-map}}
+use Rattle.{koth_match.specs.declared.bout.Bout.Bout, koth_hill.specs.{declared.score.Score.Score, declared.standings.Standing.Standing, Hill.Member, Scores.{rank_among, scores_of}}}
+use Rattle.koth_hill.specs.{Table.{RowParts, row_with, rows_of_rank, rows_by_rank, table_by}, Kept.{Entrant, entries_of, members_of, rows_of, kept_results}}
 use Rattle.koth_hill.specs.Standings.{StandingParts, standing_of, standing_parts, entries_in, kept_in, left, scores_among}
 use Rattle.koth_hill.proofs.ByEntry.{kept_among, scores-entries, left-None, entries-entrants, rows-entrants}
 
@@ -112,8 +105,7 @@ scores-kept es ss scores same found =
     ∙ sym (scores-entries (kept_among (entries_of (members_of es)) (rows_of es)) (members_of es))
 
 pub scores-beside : (es : List Entrant) (scores : List Score) → scores ≡ scores_of (kept_results (entries_of (members_of es)) (rows_of es)) (members_of es) → length scores ≡ length es
-scores-beside es scores are =
-    ap length are ∙ length-map (members_of es) _ ∙ length-map es (λ (e : Entrant). e.member)
+scores-beside es scores are = ap length are ∙ length-map (members_of es) _ ∙ length-map es (λ (e : Entrant). e.member)
 
 pub table-kept : (es : List Entrant) (scores : List Score) (due : List RowParts) → scores ≡ scores_of (kept_results (entries_of (members_of es)) (rows_of es)) (members_of es) →
     due ≡ rows_by_rank scores (members_of es) 1 (length es) → due ≡ table_by (kept_results (entries_of (members_of es)) (rows_of es)) (members_of es)

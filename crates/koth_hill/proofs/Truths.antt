@@ -1,21 +1,12 @@
 -- What is kept is true, and stays true: each row has its member's matches with those before it.
-use Rattle.std.proofs.Common.{◌≡◌, ℕ, ◌+◌, ◌<◌, ◌≤◌, Bool, true, false, List, [], ◌∷◌, ◌++◌, length, take, drop, map, remove, refl, sym, ap, ap₂, subst, ◌∙◌, arith, suc, zero, All, Option, None, Some, append_assoc, append-nil}
-use Rattle.std.specs.Prelude.{if◌then◌else◌}
-use Rattle.std.proofs.lemmas.List.{map-append, map-id, take-map, drop-map, take_all, drop_all, length-map, length_push}
-use Rattle.std.proofs.lemmas.List.Elements.{All-head, All-tail}
-use Rattle.std.proofs.lemmas.List.Quantifiers.{position-Some}
-use Rattle.war_types.specs.declared.settings.RawSettings.{RawSettings}
-use Rattle.war_types.specs.Warrior.{WarriorParts}
-use Rattle.koth_match.specs.declared.bout.Bout.{Bout}
-use Rattle.koth_match.specs.Match.{match_of}
-use Rattle.koth_hill.specs.Hill.{Member, RiseFrom, fights}
-use Rattle.koth_hill.specs.Table.{table}
-use Rattle.koth_hill.specs.Step.{challenger, enlarged, falling_by, is_entry, without, one_older, stays_by, step_by, step, matches_with, verdict}
-use Rattle.koth_hill.specs.Kept.{Kept, hill_in, rows_with, fought_from, AreTrue, kept_results, entries_of, table_kept, fresh, known, verdict_kept, fallen_place, without_place, rows_left, kept_stay, kept_fall, step_kept, IsKept}
-use Rattle.koth_hill.proofs.Members.{older, removed-first, removed-none}
-use Rattle.koth_hill.proofs.Admitted.{enlarged-rising}
-use Rattle.koth_hill.proofs.Agrees.{Agree, table_by-agree, verdict_by-agree, step_by-agree}
-use Rattle.koth_hill.proofs.Looked.{fought-looked}
+use Rattle.std.proofs.Common.{◌≡◌, ℕ, ◌+◌, ◌<◌, ◌≤◌, Bool, true, false, List, [], ◌∷◌, ◌++◌, length, take, drop, map, remove, refl, sym, ap, ap₂, subst, ◌∙◌, arith, suc, zero, All, Option, None, Some}
+use Rattle.{std.proofs.Common.{append_assoc, append-nil}, std.specs.Prelude.if◌then◌else◌, std.proofs.lemmas.List.{map-append, map-id, take-map, drop-map, take_all, drop_all, length-map, length_push}}
+use Rattle.{std.proofs.{lemmas.List.Elements.{All-head, All-tail}, lemmas.List.Quantifiers.position-Some}, war_types.specs.{declared.settings.RawSettings.RawSettings, Warrior.WarriorParts}}
+use Rattle.koth_match.specs.{declared.bout.Bout.Bout, Match.match_of}
+use Rattle.koth_hill.specs.{Hill.{Member, RiseFrom, fights}, Table.table, Step.{challenger, enlarged, falling_by, is_entry, without, one_older, stays_by, step_by, step, matches_with, verdict}}
+use Rattle.koth_hill.specs.Kept.{Kept, hill_in, rows_with, fought_from, AreTrue, kept_results, entries_of, table_kept, fresh, known, verdict_kept, fallen_place, without_place, rows_left, kept_stay}
+use Rattle.koth_hill.specs.Kept.{kept_fall, step_kept, IsKept}
+use Rattle.koth_hill.proofs.{Members.{older, removed-first, removed-none}, Admitted.enlarged-rising, Agrees.{Agree, table_by-agree, verdict_by-agree, step_by-agree}, Looked.fought-looked}
 
 -- ---- rows
 

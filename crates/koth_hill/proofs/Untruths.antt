@@ -1,17 +1,9 @@
 -- The first kept result that is not the result of its match.
 use Rattle.std.proofs.Common.{◌≡◌, ℕ, ◌+◌, ◌<◌, List, [], ◌∷◌, length, take, get_or, refl, sym, ap, ap₂, subst, ◌∙◌, arith, suc, zero, Option, None, Some, slice_get}
-use Rattle.std.proofs.lemmas.List.{length-map, length-take, take-map}
-use Rattle.std.proofs.lemmas.Option.{slice_get-get_or}
-use Rattle.war_types.specs.declared.settings.RawSettings.{RawSettings}
-use Rattle.war_types.specs.Warrior.{WarriorParts}
-use Rattle.koth_match.specs.declared.bout.Bout.{Bout}
-use Rattle.koth_match.specs.Match.{match_of}
-use Rattle.koth_hill.specs.Hill.{Member}
-use Rattle.koth_hill.specs.Step.{matches_with}
-use Rattle.koth_hill.specs.Kept.{Kept, Entrant, AreRows, AreTrueBefore, IsFirstDifference, IsKept, IsUntrue, entries_of, fought_from, kept_of, members_of, place_of, result_at, result_in, result_of, rows_of}
-use Rattle.koth_hill.proofs.RowsKept.{AreRows-fought}
-use Rattle.koth_hill.proofs.Shown.{shown-at}
-use Rattle.koth_hill.proofs.Looked.{fought_from-row, place_of-at, placed, places-rise, slice_get-take}
+use Rattle.{std.proofs.{lemmas.List.{length-map, length-take, take-map}, lemmas.Option.slice_get-get_or}, war_types.specs.{declared.settings.RawSettings.RawSettings, Warrior.WarriorParts}}
+use Rattle.{koth_match.specs.{declared.bout.Bout.Bout, Match.match_of}, koth_hill.specs.{Hill.Member, Step.matches_with}}
+use Rattle.koth_hill.specs.Kept.{Kept, Entrant, AreRows, AreTrueBefore, IsFirstDifference, IsKept, IsUntrue, entries_of, fought_from, kept_of, members_of, place_of, result_at, result_in}
+use Rattle.{koth_hill.specs.Kept.{result_of, rows_of}, koth_hill.proofs.{RowsKept.AreRows-fought, Shown.shown-at, Looked.{fought_from-row, place_of-at, placed, places-rise, slice_get-take}}}
 
 -- ---- looked up in rows that are the same so far
 

@@ -1,11 +1,7 @@
 -- A challenger stays or falls: its verdict and its step.
-use Rattle.std.proofs.Common.{◌≡◌, ℕ, ◌+◌, Bool, true, false, cond, List, Option, refl, ap, ◌∙◌, inl, inr}
-use Rattle.std.proofs.lemmas.Bool.{cond-true, cond-false, cases_Bool}
-use Rattle.war_types.specs.Warrior.{WarriorParts}
-use Rattle.koth_match.specs.declared.bout.Bout.{Bout}
-use Rattle.koth_hill.specs.declared.verdict.Verdict.{Verdict}
-use Rattle.koth_hill.specs.Hill.{Hill, Results}
-use Rattle.koth_hill.specs.Step.{falling_by, stays_by, after_stay, after_fall, step_by, verdict_by, placed_verdict, fallen_verdict}
+use Rattle.std.proofs.{Common.{◌≡◌, ℕ, ◌+◌, Bool, true, false, cond, List, Option, refl, ap, ◌∙◌, inl, inr}, lemmas.Bool.{cond-true, cond-false, cases_Bool}}
+use Rattle.{war_types.specs.Warrior.WarriorParts, koth_match.specs.declared.bout.Bout.Bout}
+use Rattle.koth_hill.specs.{declared.verdict.Verdict.Verdict, Hill.{Hill, Results}, Step.{falling_by, stays_by, after_stay, after_fall, step_by, verdict_by, placed_verdict, fallen_verdict}}
 
 either-stays : (b : Bool) (x y : Verdict) → x.stays ≡ true → y.stays ≡ false → (cond b x y).stays ≡ b
 either-stays true x y placed fallen = placed

@@ -1,10 +1,6 @@
 -- A hill, and the points of those on it.
 use Rattle.std.specs.Prelude.{ℕ, ◌+◌, ◌*◌, ◌-◌, ◌<◌, ◌≤◌, nat_lt, if◌then◌else◌, List, [], ◌∷◌, length, All}
-use Rattle.war_types.specs.declared.settings.RawSettings.{RawSettings}
-use Rattle.war_types.specs.Settings.{AreSettings}
-use Rattle.war_types.specs.Warrior.{WarriorParts, Fits}
-use Rattle.koth_match.specs.declared.bout.Bout.{Bout}
-use Rattle.koth_match.specs.Match.{match_of}
+use Rattle.{war_types.specs.{declared.settings.RawSettings.RawSettings, Settings.AreSettings, Warrior.{WarriorParts, Fits}}, koth_match.specs.{declared.bout.Bout.Bout, Match.match_of}}
 
 -- a warrior on the hill: the number of its entry, and how many warriors have stayed since
 pub record Member : Type 0 where

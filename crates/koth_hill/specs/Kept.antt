@@ -1,12 +1,7 @@
 -- A hill with a result kept of each pair, beside the younger of the two.
 use Rattle.std.specs.Prelude.{◌≡◌, ℕ, ◌+◌, ◌<◌, ◌==◌, if◌then◌else◌, List, [], ◌∷◌, ◌++◌, length, map, take, remove, position, slice_get, All, Option, None, Some}
-use Rattle.war_types.specs.declared.settings.RawSettings.{RawSettings}
-use Rattle.war_types.specs.Warrior.{WarriorParts}
-use Rattle.koth_match.specs.declared.bout.Bout.{Bout}
-use Rattle.koth_match.specs.Match.{match_of, no_rounds, rounds_in}
-use Rattle.koth_hill.specs.declared.verdict.Verdict.{Verdict}
-use Rattle.koth_hill.specs.Hill.{Member, Hill, hill_of, with_age, Results, IsHill}
-use Rattle.koth_hill.specs.Table.{RowParts, table_by}
+use Rattle.{war_types.specs.{declared.settings.RawSettings.RawSettings, Warrior.WarriorParts}, koth_match.specs.{declared.bout.Bout.Bout, Match.{match_of, no_rounds, rounds_in}}}
+use Rattle.koth_hill.specs.{declared.verdict.Verdict.Verdict, Hill.{Member, Hill, hill_of, with_age, Results, IsHill}, Table.{RowParts, table_by}}
 use Rattle.koth_hill.specs.Step.{enlarged, is_entry, falling_by, stays_by, after_stay, verdict_by, matches_with}
 
 -- a hill, and for each member by rising entry the results of its matches with those before it

@@ -1,10 +1,7 @@
 -- Laws of hills, for every hill and every warrior.
 use Rattle.std.specs.Prelude.{◌≡◌, ℕ, ◌+◌, ◌<◌, ◌≤◌, ◌⊎◌, if◌then◌else◌, List, [], ◌∷◌, length, Option, Some, None}
 use Rattle.war_types.specs.Warrior.{WarriorParts}
-use Rattle.koth_hill.specs.Hill.{Member, Hill, with_age, fights, points}
-use Rattle.koth_hill.specs.Scores.{scores_of, of_rank}
-use Rattle.koth_hill.specs.Table.{RowParts}
-use Rattle.koth_hill.specs.Step.{challenger, enlarged, falling, stays}
+use Rattle.koth_hill.specs.{Hill.{Member, Hill, with_age, fights, points}, Scores.{scores_of, of_rank}, Table.RowParts, Step.{challenger, enlarged, falling, stays}}
 
 -- one of these members
 abbrev pub In : Member → List Member → Type 0

@@ -1,7 +1,5 @@
 -- The lines of the table, as the program gives them.
-use Rattle.std.specs.Prelude.{List, map}
-use Rattle.koth_hill.specs.declared.row.Row.{Row}
-use Rattle.koth_hill.specs.Table.{RowParts}
+use Rattle.{std.specs.Prelude.{List, map}, koth_hill.specs.{declared.row.Row.Row, Table.RowParts}}
 
 abbrev pub row_parts : Row → RowParts
 row_parts r = record { entry = r.entry; name = r.name.now; author = r.author.now; score = r.score; age = r.age }

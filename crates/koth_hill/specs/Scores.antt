@@ -1,7 +1,6 @@
 -- Points beside entries, and what their order is.
 use Rattle.std.specs.Prelude.{ℕ, ◌+◌, ◌==◌, Bool, ◌||◌, ◌&&◌, nat_lt, if◌then◌else◌, List, [], ◌∷◌, length, map, count_by, Option, Some, None}
-use Rattle.koth_hill.specs.declared.score.Score.{Score}
-use Rattle.koth_hill.specs.Hill.{Member, Results, points}
+use Rattle.koth_hill.specs.{declared.score.Score.Score, Hill.{Member, Results, points}}
 
 abbrev pub score_of : Results → List Member → Member → Score
 score_of f all m = record { entry = m.entry; points = points f all m }

@@ -1,14 +1,7 @@
 -- Entries with their results, which are all that scores need of a hill.
 use Rattle.std.specs.Prelude.{ℕ, ◌+◌, ◌≤◌, nat_lt, if◌then◌else◌, List, [], ◌∷◌, length, map, All, Option, None, Some, true, false}
-use Rattle.koth_match.specs.declared.bout.Bout.{Bout}
-use Rattle.koth_match.specs.Match.{rounds_in}
-use Rattle.koth_hill.specs.declared.score.Score.{Score}
-use Rattle.koth_hill.specs.declared.standings.Standing.{Standing}
-use Rattle.koth_hill.specs.declared.verdict.Verdict.{Verdict}
-use Rattle.koth_hill.specs.Scores.{rank_among, last_among}
-use Rattle.koth_hill.specs.Hill.{older_points, younger_points}
-use Rattle.koth_hill.specs.Step.{is_entry}
-use Rattle.koth_hill.specs.Kept.{Entrant, result_of, or_no_rounds}
+use Rattle.{koth_match.specs.{declared.bout.Bout.Bout, Match.rounds_in}, koth_hill.specs.{declared.score.Score.Score, declared.standings.Standing.Standing, declared.verdict.Verdict.Verdict}}
+use Rattle.koth_hill.specs.{Scores.{rank_among, last_among}, Hill.{older_points, younger_points}, Step.is_entry, Kept.{Entrant, result_of, or_no_rounds}}
 
 -- an entry, and its results with those before it
 pub record StandingParts : Type 0 where

@@ -1,12 +1,7 @@
 -- One step of a hill: a challenger fights all on it, and the lowest falls if they are too many.
 use Rattle.std.specs.Prelude.{ℕ, ◌+◌, ◌==◌, Bool, true, false, nat_lt, if◌then◌else◌, List, [], ◌∷◌, ◌++◌, length, map, Option, Some, None}
-use Rattle.war_types.specs.declared.settings.RawSettings.{RawSettings}
-use Rattle.war_types.specs.Warrior.{WarriorParts}
-use Rattle.koth_match.specs.declared.bout.Bout.{Bout}
-use Rattle.koth_match.specs.Match.{match_of}
-use Rattle.koth_hill.specs.Hill.{Member, Hill, Results, fights, points}
-use Rattle.koth_hill.specs.Scores.{score_of, scores_of, rank_among, last_among}
-use Rattle.koth_hill.specs.declared.verdict.Verdict.{Verdict}
+use Rattle.{war_types.specs.{declared.settings.RawSettings.RawSettings, Warrior.WarriorParts}, koth_match.specs.{declared.bout.Bout.Bout, Match.match_of}}
+use Rattle.koth_hill.specs.{Hill.{Member, Hill, Results, fights, points}, Scores.{score_of, scores_of, rank_among, last_among}, declared.verdict.Verdict.Verdict}
 
 -- the warrior as the one that enters next
 abbrev pub challenger : Hill → WarriorParts → Member

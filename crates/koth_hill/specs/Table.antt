@@ -1,8 +1,6 @@
 -- The table of a hill.
 use Rattle.std.specs.Prelude.{ℕ, ◌+◌, ◌==◌, if◌then◌else◌, zero, suc, List, [], ◌∷◌, ◌++◌, length}
-use Rattle.koth_hill.specs.declared.score.Score.{Score}
-use Rattle.koth_hill.specs.Hill.{Member, Hill, Results, fights}
-use Rattle.koth_hill.specs.Scores.{rank_among, scores_of}
+use Rattle.koth_hill.specs.{declared.score.Score.Score, Hill.{Member, Hill, Results, fights}, Scores.{rank_among, scores_of}}
 
 -- a line of the table
 pub record RowParts : Type 0 where

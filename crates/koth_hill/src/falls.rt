@@ -1,8 +1,7 @@
 //! What becomes of the members when a challenger stays.
 
 ghost use Rattle.std.specs.Prelude.{◌≡◌, ◌+◌, ◌<◌, ◌^◌, All, IfSome, length, map, position, vec_capacity};
-ghost use Rattle.koth_hill.specs.Step.{is_entry};
-ghost use Rattle.koth_hill.specs.Kept.{stayed, without_place};
+ghost use Rattle.koth_hill.specs.{Step.is_entry, Kept.{stayed, without_place}};
 
 use crate::member::Entrant;
 use crate::points::is_entry;

@@ -1,11 +1,7 @@
 //! The matches of one warrior.
 
 ghost use Rattle.std.specs.Prelude.{◌≡◌, ◌<◌, ◌≤◌, All, length, None, IfSome};
-ghost use Rattle.war_types.specs.Warrior.{Fits};
-ghost use Rattle.koth_match.specs.Match.{rounds_in};
-ghost use Rattle.koth_hill.specs.Hill.{AllFit};
-ghost use Rattle.koth_hill.specs.Step.{matches_with};
-ghost use Rattle.koth_hill.specs.Kept.{IsFirstDifference, members_of};
+ghost use Rattle.{war_types.specs.Warrior.Fits, koth_match.specs.Match.rounds_in, koth_hill.specs.{Hill.AllFit, Step.matches_with, Kept.{IsFirstDifference, members_of}}};
 
 use crate::bouts::Bouts;
 use crate::member::Entrant;

@@ -1,13 +1,8 @@
 //! The hill.
 
 ghost use Rattle.std.specs.Prelude.{◌≡◌, ◌+◌, ◌-◌, ◌<◌, ◌≤◌, ◌^◌, ◌++◌, ◌∷◌, [], All, true, false, length, slice_get, None, Some, IfOk, IfSome};
-ghost use Rattle.war_types.specs.Warrior.{WarriorParts, Fits};
-ghost use Rattle.koth_match.specs.Match.{rounds_in};
-ghost use Rattle.koth_hill.specs.Hill.{last_entry, member_of};
-ghost use Rattle.koth_hill.specs.Table.{table};
-ghost use Rattle.koth_hill.specs.Rows.{rows_parts};
-ghost use Rattle.koth_hill.specs.Laws.{IsRanking, LeastFalls, OthersStay};
-ghost use Rattle.koth_hill.specs.Step.{verdict, step, matches_with};
+ghost use Rattle.{war_types.specs.Warrior.{WarriorParts, Fits}, koth_match.specs.Match.rounds_in};
+ghost use Rattle.koth_hill.specs.{Hill.{last_entry, member_of}, Table.table, Rows.rows_parts, Laws.{IsRanking, LeastFalls, OthersStay}, Step.{verdict, step, matches_with}};
 ghost use Rattle.koth_hill.specs.Kept.{AreTrue, AreTrueBefore, IsKept, IsUntrue, entries_of, hill_in, kept_fall, kept_of, new_kept, result_of, step_kept, table_kept, verdict_kept};
 
 use crate::bouts::Bouts;

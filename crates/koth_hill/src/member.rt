@@ -1,11 +1,7 @@
 //! Those who are on a hill.
 
 ghost use Rattle.std.specs.Prelude.{◌≡◌, ◌+◌, ◌<◌, ◌^◌, Option};
-ghost use Rattle.koth_hill.specs.Hill.{member_of};
-ghost use Rattle.koth_hill.specs.Rows.{row_parts};
-ghost use Rattle.koth_hill.specs.Table.{row_with};
-ghost use Rattle.koth_hill.specs.Kept.{entrant_of, stayed};
-ghost use Rattle.koth_hill.specs.Standings.{standing_of, standing_parts};
+ghost use Rattle.koth_hill.specs.{Hill.member_of, Rows.row_parts, Table.row_with, Kept.{entrant_of, stayed}, Standings.{standing_of, standing_parts}};
 
 use crate::bouts::Bouts;
 use crate::row::Row;
@@ -42,8 +38,7 @@ pub(crate) struct Entrant<A: Allocator> {
 }
 
 impl<A: Allocator> Model for Entrant<A> {
-    ghost use Rattle.koth_hill.specs.Hill.{member_of};
-    ghost use Rattle.koth_hill.specs.Kept.{Entrant as EntrantParts, entrant_of};
+    ghost use Rattle.koth_hill.specs.{Hill.member_of, Kept.{Entrant as EntrantParts, entrant_of}};
 
     ghost Value = { EntrantParts };
 

@@ -1,9 +1,7 @@
 //! Points, from the results that are there.
 
 ghost use Rattle.std.specs.Prelude.{◌≡◌, ◌≤◌, All, length, map, position, slice_get, ◌==◌};
-ghost use Rattle.koth_match.specs.Match.{rounds_in};
-ghost use Rattle.koth_hill.specs.Hill.{older_points, younger_points};
-ghost use Rattle.koth_hill.specs.Step.{is_entry};
+ghost use Rattle.{koth_match.specs.Match.rounds_in, koth_hill.specs.{Hill.{older_points, younger_points}, Step.is_entry}};
 ghost use Rattle.koth_hill.specs.Standings.{entries_in, result_in_standings, kept_in, points_between, points_among, left, scores_among, HaveRounds, standing_parts};
 
 use crate::score::{Score, Scores};

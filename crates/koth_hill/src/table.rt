@@ -1,10 +1,7 @@
 //! The table of a hill.
 
 ghost use Rattle.std.specs.Prelude.{◌≡◌, ◌+◌, ◌<◌, ◌≤◌, ◌++◌, length, map, OnOk, IfOk};
-ghost use Rattle.koth_hill.specs.Rows.{rows_parts};
-ghost use Rattle.koth_hill.specs.Table.{rows_of_rank, table_by};
-ghost use Rattle.koth_hill.specs.Kept.{members_of, rows_of as kept_rows, entries_of, kept_results};
-ghost use Rattle.koth_hill.specs.Standings.{HaveRounds, standing_of};
+ghost use Rattle.koth_hill.specs.{Rows.rows_parts, Table.{rows_of_rank, table_by}, Kept.{members_of, rows_of as kept_rows, entries_of, kept_results}, Standings.{HaveRounds, standing_of}};
 
 use crate::member::Entrant;
 use crate::points::scores;

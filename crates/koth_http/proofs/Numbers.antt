@@ -1,12 +1,7 @@
 -- A number is read back from how it is written, and from nothing else.
 use Rattle.std.proofs.Common.{◌≡◌, ℕ, ◌<◌, ◌≤◌, ◌^◌, ◌&&◌, nat_lt, if◌then◌else◌, List, true, false, refl, sym, ap, ◌∙◌, Option, Some, None, decimal, arith}
-use Rattle.std.specs.Str.{bytes_eq}
-use Rattle.std.specs.Str.Parse.{digits_value}
-use Rattle.std.proofs.lemmas.Bool.{and_parts, and_from, both_ways, ltb-true, lt-ltb}
-use Rattle.std.proofs.lemmas.Option.{cond_some, none-some, same_Some}
-use Rattle.std.proofs.lemmas.Slice.Eq.{bytes_eq-Decides}
-use Rattle.std.proofs.lemmas.Fmt.{decimal_is_IsNumeral}
-use Rattle.koth_http.specs.Target.{number_of}
+use Rattle.{std.specs.{Str.bytes_eq, Str.Parse.digits_value}, std.proofs.{lemmas.Bool.{and_parts, and_from, both_ways, ltb-true, lt-ltb}, lemmas.Option.{cond_some, none-some, same_Some}}}
+use Rattle.{std.proofs.{lemmas.Slice.Eq.bytes_eq-Decides, lemmas.Fmt.decimal_is_IsNumeral}, koth_http.specs.Target.number_of}
 
 pub number-reads : (limit n : ℕ) (text : List ℕ) → number_of limit text ≡ Some n → (n < limit) × (text ≡ decimal n)
 unfolding number_of

@@ -1,20 +1,10 @@
 -- A target is read back from how it is written, and from nothing else.
-use Rattle.std.proofs.Common.{◌≡◌, ℕ, ◌+◌, ◌<◌, ◌≤◌, ◌^◌, ◌%◌, List, [], ◌∷◌, ◌++◌, length, take, drop, get_or, cond, if◌then◌else◌, true, false, not, refl, sym, ap, ◌∙◌, Option, IfSome, Some, None, codes, decimal, Bool, arith, length-append, inl, inr}
-use Rattle.std.specs.List.{before_first, after_first, position_or_len}
-use Rattle.std.specs.Str.{bytes_eq}
-use Rattle.std.proofs.Math.ListN.{take-append-drop}
-use Rattle.std.proofs.Math.Seq.{take-append_seam, drop-append-add}
-use Rattle.std.proofs.lemmas.List.{drop_all}
-use Rattle.std.proofs.lemmas.Bool.{cases_Bool, cases_lt, eq-eqb, ne_eqb, eqb-true, not-false}
-use Rattle.std.proofs.lemmas.Fmt.{decimal_by_steps, decimal_nonempty}
-use Rattle.std.proofs.lemmas.List.Folds.{position_or_len_push, prefix_len-append}
-use Rattle.std.proofs.lemmas.List.Sums.{prefix_len_stops, split_at_first}
-use Rattle.std.proofs.lemmas.Option.{none-some, same_Some}
-use Rattle.std.proofs.lemmas.Slice.Eq.{bytes_eq-Decides}
-use Rattle.koth_http.specs.Target.{IsPage, is_slash, number_of, page_of, round_by, round_of, target_for}
-use Rattle.koth_http.specs.declared.target.Page.{Page}
-use Rattle.koth_http.specs.declared.target.Page.TheVariants as pages
-use Rattle.koth_http.proofs.Numbers.{number-found, number-reads}
+use Rattle.std.proofs.Common.{◌≡◌, ℕ, ◌+◌, ◌<◌, ◌≤◌, ◌^◌, ◌%◌, List, [], ◌∷◌, ◌++◌, length, take, drop, get_or, cond, if◌then◌else◌, true, false, not, refl, sym, ap, ◌∙◌, Option, IfSome, Some, None}
+use Rattle.{std.proofs.Common.{codes, decimal, Bool, arith, length-append, inl, inr}, std.specs.{List.{before_first, after_first, position_or_len}, Str.bytes_eq}}
+use Rattle.std.proofs.{Math.ListN.take-append-drop, Math.Seq.{take-append_seam, drop-append-add}, lemmas.List.drop_all, lemmas.Bool.{cases_Bool, cases_lt, eq-eqb, ne_eqb, eqb-true, not-false}}
+use Rattle.std.proofs.{lemmas.Fmt.{decimal_by_steps, decimal_nonempty}, lemmas.List.Folds.{position_or_len_push, prefix_len-append}, lemmas.List.Sums.{prefix_len_stops, split_at_first}}
+use Rattle.std.proofs.{lemmas.Option.{none-some, same_Some}, lemmas.Slice.Eq.bytes_eq-Decides}
+use Rattle.{koth_http.specs.{Target.{IsPage, is_slash, number_of, page_of, round_by, round_of, target_for}, declared.target.Page.Page}, koth_http.proofs.Numbers.{number-found, number-reads}}
 
 -- ---- digits hold no slash
 
@@ -68,15 +58,15 @@ cut-whole text more =
 -- ---- the three numbers of a round
 
 round-parts : (a b c : Option ℕ) (page : Page) → round_by a b c ≡ Some page
-    → (older : ℕ) × (younger : ℕ) × (round : ℕ) × (a ≡ Some older) × (b ≡ Some younger) × (c ≡ Some round) × (page ≡ pages.Round older younger round)
+    → (older : ℕ) × (younger : ℕ) × (round : ℕ) × (a ≡ Some older) × (b ≡ Some younger) × (c ≡ Some round) × (page ≡ Page.Round older younger round)
 round-parts None b c page is = absurd (none-some page is)
 round-parts (Some older) None c page is = absurd (none-some page is)
 round-parts (Some older) (Some younger) None page is = absurd (none-some page is)
 round-parts (Some older) (Some younger) (Some round) page is =
-    (older, younger, round, refl, refl, refl, sym (same_Some (pages.Round older younger round) page is))
+    (older, younger, round, refl, refl, refl, sym (same_Some (Page.Round older younger round) page is))
 
 round-found : (older younger round : ℕ) → older < 2 ^ 64 → younger < 2 ^ 64 → round < 2 ^ 32
-    → round_of (decimal older ++ (47 ∷ (decimal younger ++ (47 ∷ decimal round)))) ≡ Some (pages.Round older younger round)
+    → round_of (decimal older ++ (47 ∷ (decimal younger ++ (47 ∷ decimal round)))) ≡ Some (Page.Round older younger round)
 unfolding round_of
 round-found older younger round fits fits-too small =
     let rest = decimal younger ++ (47 ∷ decimal round) in
@@ -115,17 +105,17 @@ replay path = if bytes_eq (take 8 path) (codes "/replay/") then round_of (drop 8
 
 pub page-found : (page : Page) → IsPage page → page_of (target_for page) ≡ Some page
 unfolding page_of target_for
-page-found pages.Hill is = refl
-page-found (pages.Round older younger round) is = round-found older younger round is.0 is.1 is.2
+page-found Page.Hill is = refl
+page-found (Page.Round older younger round) is = round-found older younger round is.0 is.1 is.2
 
 pub page-reads : (path : List ℕ) (page : Page) → page_of path ≡ Some page → path ≡ target_for page
 unfolding page_of target_for
 page-reads path page is = elim (cases_Bool (bytes_eq path (codes "/"))) [
   | inl hill ↦
       (bytes_eq-Decides path (codes "/")).0 hill
-      ∙ ap target_for (same_Some pages.Hill page (sym (ap (λ b. if b then Some pages.Hill else replay path) hill) ∙ is))
+      ∙ ap target_for (same_Some Page.Hill page (sym (ap (λ b. if b then Some Page.Hill else replay path) hill) ∙ is))
   | inr other ↦
-      let found : replay path ≡ Some page = sym (ap (λ b. if b then Some pages.Hill else replay path) other) ∙ is in
+      let found : replay path ≡ Some page = sym (ap (λ b. if b then Some Page.Hill else replay path) other) ∙ is in
       let (begins, rest) = cond_some_of (bytes_eq (take 8 path) (codes "/replay/")) (round_of (drop 8 path)) page found in
       sym (take-append-drop 8 path) ∙ ap (λ l. l ++ drop 8 path) ((bytes_eq-Decides (take 8 path) (codes "/replay/")).0 begins)
       ∙ round-reads (drop 8 path) page rest

@@ -1,13 +1,7 @@
 -- What a browser asks, by the bytes that came from it.
-use Rattle.std.specs.Prelude.{◌≡◌, ◌⊎◌, ℕ, ◌<◌, ◌≤◌, Bool, true, ◌||◌, not, if◌then◌else◌, List, length, Option, None, Some, Result, Ok, Err, codes}
-use Rattle.std.specs.Str.{bytes_eq}
-use Rattle.httparse.specs.Grammar.{HasNoRequest, MayBecomeRequest, NeverHasRequest, ReadsRequest, RequestHead}
-use Rattle.httparse.specs.Spans.{RequestExceeds, RequestOverflows}
-use Rattle.koth_http.specs.declared.asked.Asked.{Asked}
-use Rattle.koth_http.specs.declared.refusal.Refusal.{Refusal}
-use Rattle.koth_http.specs.declared.refusal.Refusal.TheVariants as refusals
-use Rattle.koth_http.specs.declared.target.Page.{Page}
-use Rattle.koth_http.specs.Target.{page_named}
+use Rattle.std.specs.{Prelude.{◌≡◌, ◌⊎◌, ℕ, ◌<◌, ◌≤◌, Bool, true, ◌||◌, not, if◌then◌else◌, List, length, Option, None, Some, Result, Ok, Err, codes}, Str.bytes_eq}
+use Rattle.httparse.specs.{Grammar.{HasNoRequest, MayBecomeRequest, NeverHasRequest, ReadsRequest, RequestHead}, Spans.{RequestExceeds, RequestOverflows}}
+use Rattle.koth_http.specs.{declared.asked.Asked.Asked, declared.refusal.Refusal.Refusal, declared.target.Page.Page, Target.page_named}
 
 -- bytes of a head, and fields in it
 abbrev pub most_bytes : ℕ
@@ -22,8 +16,8 @@ is_reading method = bytes_eq method (codes "GET") || bytes_eq method (codes "HEA
 
 -- the page that a method may have
 abbrev pub page_by : List ℕ → Option Page → Result Page Refusal
-page_by method None = Err refusals.NotFound
-page_by method (Some page) = if is_reading method then Ok page else Err refusals.MethodNotAllowed
+page_by method None = Err Refusal.NotFound
+page_by method (Some page) = if is_reading method then Ok page else Err Refusal.MethodNotAllowed
 
 -- what a method asks of a target: all but `HEAD` ask for a body
 unfoldable pub asked_of : List ℕ → List ℕ → Asked
@@ -44,7 +38,7 @@ IsRead bytes asked =
 
 -- no bytes that follow can make it a request
 abbrev pub IsBad : List ℕ → Asked → Type 0
-IsBad bytes asked = NeverHasRequest bytes × (asked ≡ refused refusals.BadRequest)
+IsBad bytes asked = NeverHasRequest bytes × (asked ≡ refused Refusal.BadRequest)
 
 -- it has too many fields, or as many bytes as there may be and no whole head
 abbrev pub IsTooLarge : List ℕ → Type 0
@@ -53,7 +47,7 @@ IsTooLarge bytes =
     ⊎ (HasNoRequest bytes × MayBecomeRequest bytes × (length bytes ≡ most_bytes))
 
 abbrev pub IsLarge : List ℕ → Asked → Type 0
-IsLarge bytes asked = IsTooLarge bytes × (asked ≡ refused refusals.HeadTooLarge)
+IsLarge bytes asked = IsTooLarge bytes × (asked ≡ refused Refusal.HeadTooLarge)
 
 -- what the bytes that came ask; `None` while they may become a request that is small enough
 abbrev pub IsAsked : List ℕ → Option Asked → Type 0

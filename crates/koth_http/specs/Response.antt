@@ -1,7 +1,6 @@
 -- What a browser is answered. The first line stands here together with the fields that it alone has.
 use Rattle.std.specs.Prelude.{ℕ, Bool, if◌then◌else◌, List, [], ◌++◌, length, codes, decimal}
 use Rattle.koth_http.specs.declared.refusal.Refusal.{Refusal}
-use Rattle.koth_http.specs.declared.refusal.Refusal.TheVariants as refusals
 
 -- of a page
 abbrev pub page_line : List ℕ
@@ -9,19 +8,19 @@ page_line = codes "HTTP/1.1 200 OK\r\n"
 
 -- of a refusal
 abbrev pub refusal_line : Refusal → List ℕ
-refusal_line refusals.BadRequest = codes "HTTP/1.1 400 Bad Request\r\n"
-refusal_line refusals.NotFound = codes "HTTP/1.1 404 Not Found\r\n"
-refusal_line refusals.MethodNotAllowed = codes "HTTP/1.1 405 Method Not Allowed\r\nAllow: GET, HEAD\r\n"
-refusal_line refusals.HeadTooLarge = codes "HTTP/1.1 431 Request Header Fields Too Large\r\n"
-refusal_line refusals.Unavailable = codes "HTTP/1.1 503 Service Unavailable\r\n"
+refusal_line Refusal.BadRequest = codes "HTTP/1.1 400 Bad Request\r\n"
+refusal_line Refusal.NotFound = codes "HTTP/1.1 404 Not Found\r\n"
+refusal_line Refusal.MethodNotAllowed = codes "HTTP/1.1 405 Method Not Allowed\r\nAllow: GET, HEAD\r\n"
+refusal_line Refusal.HeadTooLarge = codes "HTTP/1.1 431 Request Header Fields Too Large\r\n"
+refusal_line Refusal.Unavailable = codes "HTTP/1.1 503 Service Unavailable\r\n"
 
 -- the sentence that explains it to people
 abbrev pub refusal_sentence : Refusal → List ℕ
-refusal_sentence refusals.BadRequest = codes "This is no request of HTTP."
-refusal_sentence refusals.NotFound = codes "There is no such page."
-refusal_sentence refusals.MethodNotAllowed = codes "A page can only be read."
-refusal_sentence refusals.HeadTooLarge = codes "The head of this request is too large."
-refusal_sentence refusals.Unavailable = codes "There is no memory for this page now."
+refusal_sentence Refusal.BadRequest = codes "This is no request of HTTP."
+refusal_sentence Refusal.NotFound = codes "There is no such page."
+refusal_sentence Refusal.MethodNotAllowed = codes "A page can only be read."
+refusal_sentence Refusal.HeadTooLarge = codes "The head of this request is too large."
+refusal_sentence Refusal.Unavailable = codes "There is no memory for this page now."
 
 -- the body of a refusal
 unfoldable pub refusal_page : Refusal → List ℕ

@@ -1,21 +1,16 @@
 -- Which page the target of a request names.
-use Rattle.std.specs.Prelude.{⊤, ℕ, ◌<◌, ◌^◌, ◌==◌, nat_lt, Bool, ◌&&◌, if◌then◌else◌, List, ◌++◌, take, drop, Option, None, Some, codes, decimal}
-use Rattle.std.specs.List.{before_first, after_first}
-use Rattle.std.specs.Str.{byte, bytes_eq}
-use Rattle.std.specs.Str.Parse.{digits_value}
-use Rattle.koth_http.specs.declared.target.Page.{Page}
-use Rattle.koth_http.specs.declared.target.Page.TheVariants as pages
+use Rattle.std.specs.{Prelude.{⊤, ℕ, ◌<◌, ◌^◌, ◌==◌, nat_lt, Bool, ◌&&◌, if◌then◌else◌, List, ◌++◌, take, drop, Option, None, Some, codes, decimal}, List.{before_first, after_first}}
+use Rattle.{std.specs.{Str.{byte, bytes_eq}, Str.Parse.digits_value}, koth_http.specs.declared.target.Page.Page}
 
 -- how the target of a page is written
 unfoldable pub target_for : Page → List ℕ
-target_for pages.Hill = codes "/"
-target_for (pages.Round older younger round) =
-    codes "/replay/" ++ (decimal older ++ (codes "/" ++ (decimal younger ++ (codes "/" ++ decimal round))))
+target_for Page.Hill = codes "/"
+target_for (Page.Round older younger round) = codes "/replay/" ++ (decimal older ++ (codes "/" ++ (decimal younger ++ (codes "/" ++ decimal round))))
 
 -- a page whose numbers are in their ranges
 abbrev pub IsPage : Page → Type 0
-IsPage pages.Hill = ⊤
-IsPage (pages.Round older younger round) = (older < 2 ^ 64) × (younger < 2 ^ 64) × (round < 2 ^ 32)
+IsPage Page.Hill = ⊤
+IsPage (Page.Round older younger round) = (older < 2 ^ 64) × (younger < 2 ^ 64) × (round < 2 ^ 32)
 
 -- the number below the limit that a text writes in decimal digits, without a sign and without leading zeros
 unfoldable pub number_of : ℕ → List ℕ → Option ℕ
@@ -31,7 +26,7 @@ is_question b = b == byte "?"
 
 -- a round, if there are its three numbers
 abbrev pub round_by : Option ℕ → Option ℕ → Option ℕ → Option Page
-round_by (Some older) (Some younger) (Some round) = Some (pages.Round older younger round)
+round_by (Some older) (Some younger) (Some round) = Some (Page.Round older younger round)
 round_by older younger round = None
 
 -- the round that a text writes: the entries of the older warrior and of the younger, and the round, with slashes between them
@@ -43,7 +38,7 @@ round_of text =
 -- the page of a target without a query
 unfoldable pub page_of : List ℕ → Option Page
 page_of path =
-    if bytes_eq path (codes "/") then Some pages.Hill else (
+    if bytes_eq path (codes "/") then Some Page.Hill else (
     if bytes_eq (take 8 path) (codes "/replay/") then round_of (drop 8 path) else None)
 
 -- a target without its query

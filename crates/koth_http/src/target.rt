@@ -1,7 +1,6 @@
 //! Which page the target of a request names.
 
-ghost use Rattle.std.specs.Prelude.{◌≡◌, ◌^◌, ◌<◌, ◌==◌, ℕ, IfSome, Some, None, decimal, bytes_eq};
-ghost use Rattle.std.specs.List.{before_first, after_first};
+ghost use Rattle.std.specs.{Prelude.{◌≡◌, ◌^◌, ◌<◌, ◌==◌, ℕ, IfSome, Some, None, decimal, bytes_eq}, List.{before_first, after_first}};
 ghost use Rattle.koth_http.specs.Target.{IsPage, number_of, page_of, page_named, path_of, round_of, target_for};
 
 use itoa::Buffer;

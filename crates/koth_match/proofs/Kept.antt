@@ -1,22 +1,12 @@
 -- Turns keep the settings, and matches count their rounds.
-use Rattle.std.proofs.Common.{◌≡◌, ◌∙◌, ℕ, ◌+◌, zero, suc, Bool, true, false, List, map, cond, refl, sym, ap, ap₂, arith, add-one}
-use Rattle.std.specs.Prelude.{if◌then◌else◌}
-use Rattle.std.specs.List.{range_with_len}
-use Rattle.std.proofs.lemmas.List.FromFn.{sum_by-map-range_with_len_more}
-use Rattle.war_types.specs.declared.settings.RawSettings.{RawSettings}
-use Rattle.war_types.specs.Warrior.{WarriorParts}
-use Rattle.mars_core.specs.declared.round.Side.{Side}
-use Rattle.mars_core.specs.declared.round.Side.TheVariants as sides
-use Rattle.mars_core.specs.declared.round.Outcome.{Outcome}
-use Rattle.mars_core.specs.declared.round.Outcome.TheVariants as outcomes
-use Rattle.mars_core.specs.Round.{Round, is_over, turn_of, after_side, after_turn, after_turns}
-use Rattle.koth_match.specs.declared.bout.Bout.{Bout}
-use Rattle.koth_match.specs.Match.{bout_before, match_of, counted, first_in, outcome_at, round_outcome, round_outcomes, rounds_in, is_outcome, times, AreCounts}
-use Rattle.koth_match.specs.Seeds.{position, seed_of_round}
+use Rattle.{std.proofs.Common.{◌≡◌, ◌∙◌, ℕ, ◌+◌, zero, suc, Bool, true, false, List, map, cond, refl, sym, ap, ap₂, arith, add-one}, std.specs.{Prelude.if◌then◌else◌, List.range_with_len}}
+use Rattle.{std.proofs.lemmas.List.FromFn.sum_by-map-range_with_len_more, war_types.specs.{declared.settings.RawSettings.RawSettings, Warrior.WarriorParts}}
+use Rattle.{mars_core.specs.{declared.round.Side.Side, declared.round.Outcome.Outcome, Round.{Round, is_over, turn_of, after_side, after_turn, after_turns}}, koth_match.specs.declared.bout.Bout.Bout}
+use Rattle.koth_match.specs.{Match.{bout_before, match_of, counted, first_in, outcome_at, round_outcome, round_outcomes, rounds_in, is_outcome, times, AreCounts}, Seeds.{position, seed_of_round}}
 
 after_side-settings : (m : Side) (r : Round) → (after_side m (turn_of r).core (turn_of r).queue r).settings ≡ r.settings
-after_side-settings sides.First r = refl
-after_side-settings sides.Second r = refl
+after_side-settings Side.First r = refl
+after_side-settings Side.Second r = refl
 
 either-settings : (over : Bool) (r next : Round) → next.settings ≡ r.settings → (if over then r else next).settings ≡ r.settings
 either-settings true r next e = refl
@@ -33,9 +23,9 @@ after_turns-settings zero r = refl
 after_turns-settings (suc n) r = after_turns-settings n (after_turn r) ∙ after_turn-settings r
 
 counted-rounds : (o : Outcome) (b : Bout) → rounds_in (counted o b) ≡ suc (rounds_in b)
-counted-rounds outcomes.First b = omega arith
-counted-rounds outcomes.Second b = omega arith
-counted-rounds outcomes.Tie b = omega arith
+counted-rounds Outcome.First b = omega arith
+counted-rounds Outcome.Second b = omega arith
+counted-rounds Outcome.Tie b = omega arith
 
 -- the counts of n rounds add up to n
 pub bout_before-rounds : (s : RawSettings) (older younger : WarriorParts) (n : ℕ) → rounds_in (bout_before s older younger n) ≡ n
@@ -46,20 +36,20 @@ bout_before-rounds s older younger (suc n) =
 -- one round more, which ends like this
 AreCounts-more : (ends more : List Outcome) (o : Outcome) (b : Bout) → AreCounts ends b → ((x : Outcome) → times x more ≡ times x ends + cond (is_outcome x o) 1 0) →
     AreCounts more (counted o b)
-AreCounts-more ends more outcomes.First b are e = record {
-  older_wins = omega (arith, are.older_wins, e outcomes.First);
-  younger_wins = omega (arith, are.younger_wins, e outcomes.Second);
-  ties = omega (arith, are.ties, e outcomes.Tie);
+AreCounts-more ends more Outcome.First b are e = record {
+  older_wins = omega (arith, are.older_wins, e Outcome.First);
+  younger_wins = omega (arith, are.younger_wins, e Outcome.Second);
+  ties = omega (arith, are.ties, e Outcome.Tie);
 }
-AreCounts-more ends more outcomes.Second b are e = record {
-  older_wins = omega (arith, are.older_wins, e outcomes.First);
-  younger_wins = omega (arith, are.younger_wins, e outcomes.Second);
-  ties = omega (arith, are.ties, e outcomes.Tie);
+AreCounts-more ends more Outcome.Second b are e = record {
+  older_wins = omega (arith, are.older_wins, e Outcome.First);
+  younger_wins = omega (arith, are.younger_wins, e Outcome.Second);
+  ties = omega (arith, are.ties, e Outcome.Tie);
 }
-AreCounts-more ends more outcomes.Tie b are e = record {
-  older_wins = omega (arith, are.older_wins, e outcomes.First);
-  younger_wins = omega (arith, are.younger_wins, e outcomes.Second);
-  ties = omega (arith, are.ties, e outcomes.Tie);
+AreCounts-more ends more Outcome.Tie b are e = record {
+  older_wins = omega (arith, are.older_wins, e Outcome.First);
+  younger_wins = omega (arith, are.younger_wins, e Outcome.Second);
+  ties = omega (arith, are.ties, e Outcome.Tie);
 }
 
 -- the counts, round after round

@@ -1,19 +1,7 @@
 -- Seeds, positions and small matches, computed by the definitions.
-use Rattle.std.proofs.Common.{◌≡◌, ℕ, [], ◌∷◌, refl}
-use Rattle.war_types.specs.declared.instr.Op.{Op}
-use Rattle.war_types.specs.declared.instr.Op.TheVariants as ops
-use Rattle.war_types.specs.declared.instr.Modifier.{Modifier}
-use Rattle.war_types.specs.declared.instr.Modifier.TheVariants as modifiers
-use Rattle.war_types.specs.declared.instr.Mode.TheVariants as modes
-use Rattle.war_types.specs.declared.instr.Instr.{Instr}
-use Rattle.war_types.specs.declared.settings.RawSettings.{RawSettings}
-use Rattle.war_types.specs.Warrior.{WarriorParts, warrior_parts}
-use Rattle.mars_core.specs.Operand.{operand}
-use Rattle.mars_core.specs.Effect.{effect}
-use Rattle.mars_core.specs.Round.{executed, side_turn, after_turn, after_turns}
-use Rattle.koth_match.specs.declared.bout.Bout.{Bout}
-use Rattle.koth_match.specs.Seeds.{next_seed, seed_of_round, position}
-use Rattle.koth_match.specs.Match.{round_outcome, match_of}
+use Rattle.{std.proofs.Common.{◌≡◌, ℕ, [], ◌∷◌, refl}, war_types.specs.{declared.instr.Op.Op, declared.instr.Modifier.Modifier, declared.instr.Instr.Instr, declared.settings.RawSettings.RawSettings}}
+use Rattle.{war_types.specs.{Warrior.{WarriorParts, warrior_parts}, declared.instr.Mode.Mode}, mars_core.specs.{Operand.operand, Effect.effect, Round.{executed, side_turn, after_turn, after_turns}}}
+use Rattle.koth_match.specs.{declared.bout.Bout.Bout, Seeds.{next_seed, seed_of_round, position}, Match.{round_outcome, match_of}}
 
 abbrev small : RawSettings
 small = record { core = 64; cycles = 100; processes = 8; length = 10; distance = 10; rounds = 2; seed = 1; capacity = 2; read_limit = 64; write_limit = 64 }
@@ -22,19 +10,19 @@ abbrev usual : RawSettings
 usual = record { core = 8000; cycles = 80000; processes = 8000; length = 100; distance = 100; rounds = 10; seed = 1; capacity = 20; read_limit = 8000; write_limit = 8000 }
 
 abbrev direct : Op → Modifier → ℕ → ℕ → Instr
-direct op modifier a b = record { op = op; modifier = modifier; a_mode = modes.Direct; a = a; b_mode = modes.Direct; b = b }
+direct op modifier a b = record { op = op; modifier = modifier; a_mode = Mode.Direct; a = a; b_mode = Mode.Direct; b = b }
 
 abbrev alone : Instr → WarriorParts
 alone i = warrior_parts (i ∷ []) 0 (65 ∷ []) (65 ∷ [])
 
 abbrev imp : WarriorParts
-imp = alone (direct ops.Mov modifiers.I 0 1)
+imp = alone (direct Op.Mov Modifier.I 0 1)
 
 abbrev stays : WarriorParts
-stays = alone (direct ops.Jmp modifiers.B 0 0)
+stays = alone (direct Op.Jmp Modifier.B 0 0)
 
 abbrev dies : WarriorParts
-dies = alone (direct ops.Dat modifiers.F 0 0)
+dies = alone (direct Op.Dat Modifier.F 0 0)
 
 abbrev bout : ℕ → ℕ → ℕ → Bout
 bout older younger ties = record { older_wins = older; younger_wins = younger; ties = ties }

@@ -1,8 +1,5 @@
 -- From a round's seed to the next.
-use Rattle.std.proofs.Common.{◌≡◌, ◌∙◌, ℕ, suc, ◌*◌, ◌^◌, ◌%◌, sym, ap, arith}
-use Rattle.std.proofs.Math.Nat.{pow-suc}
-use Rattle.std.proofs.lemmas.Nat.{mul-mod_second}
-use Rattle.war_types.specs.declared.settings.RawSettings.{RawSettings}
+use Rattle.{std.proofs.{Common.{◌≡◌, ◌∙◌, ℕ, suc, ◌*◌, ◌^◌, ◌%◌, sym, ap, arith}, Math.Nat.pow-suc, lemmas.Nat.mul-mod_second}, war_types.specs.declared.settings.RawSettings.RawSettings}
 use Rattle.koth_match.specs.Seeds.{next_seed, seed_of_round}
 
 once_more : (seed power : ℕ) → 16807 * (seed * power) ≡ seed * (power * 16807)

@@ -1,20 +1,12 @@
 -- A match of two warriors: in each of its rounds one side wins, or it is a tie (scores are counted as pMARS does; who moves
 -- first is this project's own).
-use Rattle.std.specs.Prelude.{ℕ, zero, suc, ◌+◌, ◌*◌, ◌%◌, ◌≡◌, ◌==◌, Bool, true, false, if◌then◌else◌, List, map, count_by}
-use Rattle.std.specs.List.{range_with_len}
-use Rattle.war_types.specs.declared.settings.RawSettings.{RawSettings}
-use Rattle.war_types.specs.Warrior.{WarriorParts}
-use Rattle.mars_core.specs.declared.round.Side.{Side}
-use Rattle.mars_core.specs.declared.round.Side.TheVariants as sides
-use Rattle.mars_core.specs.declared.round.Outcome.{Outcome}
-use Rattle.mars_core.specs.declared.round.Outcome.TheVariants as outcomes
-use Rattle.mars_core.specs.Round.{opening, after_turns, outcome}
-use Rattle.koth_match.specs.declared.bout.Bout.{Bout}
-use Rattle.koth_match.specs.Seeds.{position, seed_of_round}
+use Rattle.std.specs.{Prelude.{ℕ, zero, suc, ◌+◌, ◌*◌, ◌%◌, ◌≡◌, ◌==◌, Bool, true, false, if◌then◌else◌, List, map, count_by}, List.range_with_len}
+use Rattle.{war_types.specs.{declared.settings.RawSettings.RawSettings, Warrior.WarriorParts}, mars_core.specs.{declared.round.Side.Side, declared.round.Outcome.Outcome}}
+use Rattle.{mars_core.specs.Round.{opening, after_turns, outcome}, koth_match.specs.{declared.bout.Bout.Bout, Seeds.{position, seed_of_round}}}
 
 -- the older warrior moves first in every second round, the first of them included
 abbrev pub first_in : ℕ → Side
-first_in r = if r % 2 == 0 then sides.First else sides.Second
+first_in r = if r % 2 == 0 then Side.First else Side.Second
 
 -- how a round ends with the older warrior at address 0, the younger at another one, and this side moving first
 abbrev pub outcome_at : RawSettings → WarriorParts → WarriorParts → ℕ → Side → Outcome
@@ -33,9 +25,9 @@ rounds_in b = b.older_wins + b.younger_wins + b.ties
 
 -- the counts with one round more
 abbrev pub counted : Outcome → Bout → Bout
-counted outcomes.First b = record { older_wins = b.older_wins + 1; younger_wins = b.younger_wins; ties = b.ties }
-counted outcomes.Second b = record { older_wins = b.older_wins; younger_wins = b.younger_wins + 1; ties = b.ties }
-counted outcomes.Tie b = record { older_wins = b.older_wins; younger_wins = b.younger_wins; ties = b.ties + 1 }
+counted Outcome.First b = record { older_wins = b.older_wins + 1; younger_wins = b.younger_wins; ties = b.ties }
+counted Outcome.Second b = record { older_wins = b.older_wins; younger_wins = b.younger_wins + 1; ties = b.ties }
+counted Outcome.Tie b = record { older_wins = b.older_wins; younger_wins = b.younger_wins; ties = b.ties + 1 }
 
 -- the counts over the rounds before round n
 abbrev pub bout_before : RawSettings → WarriorParts → WarriorParts → ℕ → Bout
@@ -51,9 +43,9 @@ abbrev pub round_outcomes : RawSettings → WarriorParts → WarriorParts → Li
 round_outcomes s older younger = map (round_outcome s older younger) (range_with_len 0 s.rounds)
 
 abbrev pub is_outcome : Outcome → Outcome → Bool
-is_outcome outcomes.First outcomes.First = true
-is_outcome outcomes.Second outcomes.Second = true
-is_outcome outcomes.Tie outcomes.Tie = true
+is_outcome Outcome.First Outcome.First = true
+is_outcome Outcome.Second Outcome.Second = true
+is_outcome Outcome.Tie Outcome.Tie = true
 is_outcome o other = false
 
 -- how many rounds end like this
@@ -62,6 +54,6 @@ times o ends = count_by (is_outcome o) ends
 
 -- the counts are how many of these rounds the older warrior wins, the younger wins, and neither wins
 pub record AreCounts (ends : List Outcome) (b : Bout) : Type 0 where
-  pub older_wins : b.older_wins ≡ times outcomes.First ends
-  pub younger_wins : b.younger_wins ≡ times outcomes.Second ends
-  pub ties : b.ties ≡ times outcomes.Tie ends
+  pub older_wins : b.older_wins ≡ times Outcome.First ends
+  pub younger_wins : b.younger_wins ≡ times Outcome.Second ends
+  pub ties : b.ties ≡ times Outcome.Tie ends

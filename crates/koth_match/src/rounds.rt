@@ -1,8 +1,7 @@
 //! The rounds of a match.
 
 ghost use Rattle.std.specs.Prelude.{◌≡◌};
-ghost use Rattle.war_types.specs.Warrior.{Fits};
-ghost use Rattle.mars_core.specs.Round.{CanBegin, opening, outcome, after_turns};
+ghost use Rattle.{war_types.specs.Warrior.Fits, mars_core.specs.Round.{CanBegin, opening, outcome, after_turns}};
 ghost use Rattle.koth_match.specs.Match.{first_in, match_of, outcome_at, round_outcomes, rounds_in, AreCounts};
 
 use crate::bout::Bout;

@@ -1,22 +1,10 @@
 -- Every byte of a page is of ASCII, for `hill_page`.
-use Rattle.std.proofs.Common.{◌≡◌, ℕ, true, eqb, List, [], ◌∷◌, ◌++◌, codes, decimal, refl}
-use Rattle.std.specs.List.{enumerate_from, flat_map, list_all}
-use Rattle.std.proofs.lemmas.Bool.{cond_both}
-use Rattle.std.proofs.lemmas.List.Folds.{list_all-append}
-use Rattle.war_types.specs.declared.settings.RawSettings.{RawSettings}
-use Rattle.koth_hill.specs.Kept.{Kept, table_kept}
-use Rattle.koth_hill.specs.Table.{RowParts}
-use Rattle.koth_text.specs.Characters.{is_page_byte}
-use Rattle.koth_text.specs.declared.tally.Tally.{Tally}
-use Rattle.koth_text.proofs.Ascii.{Ascii, ascii_decimal, ascii_escaped, both, each}
-use Rattle.koth_views.specs.Tally.{against_all, between}
-use Rattle.koth_page.specs.declared.links.Links.{Links}
-use Rattle.koth_page.specs.declared.links.Links.TheVariants as kinds
-use Rattle.koth_page.specs.declared.parts.TheConstants.{END, HEAD}
-use Rattle.koth_page.specs.Cells.{name_cell, number_cell}
+use Rattle.{std.proofs.Common.{◌≡◌, ℕ, true, eqb, List, [], ◌∷◌, ◌++◌, codes, decimal, refl}, std.specs.List.{enumerate_from, flat_map, list_all}, std.proofs.lemmas.Bool.cond_both}
+use Rattle.{std.proofs.lemmas.List.Folds.list_all-append, war_types.specs.declared.settings.RawSettings.RawSettings, koth_hill.specs.{Kept.{Kept, table_kept}, Table.RowParts}}
+use Rattle.{koth_text.specs.{Characters.is_page_byte, declared.tally.Tally.Tally}, koth_text.proofs.Ascii.{Ascii, ascii_decimal, ascii_escaped, both, each}}
+use Rattle.{koth_views.specs.Tally.{against_all, between}, koth_page.specs.{declared.links.Links.Links, declared.parts.TheConstants.{END, HEAD}, Cells.{name_cell, number_cell}}}
 use Rattle.koth_page.specs.Matches.{fought_cell, fought_text, link_start, match_cell, matches_heading, matches_row, matches_rows, matches_text, rank_heading, rounds_text, sides_text}
-use Rattle.koth_page.specs.Page.{hill_page, page_of, tables_text}
-use Rattle.koth_page.specs.Settings.{machine_text, rules_text, setting_text, settings_text}
+use Rattle.koth_page.specs.{Page.{hill_page, page_of, tables_text}, Settings.{machine_text, rules_text, setting_text, settings_text}}
 use Rattle.koth_page.specs.Standing.{standing_heading, standing_row, standing_rows, standing_text}
 
 ascii_number_cell : (n : ℕ) → Ascii (number_cell n)
@@ -55,8 +43,8 @@ ascii_matches_heading rows =
 
 ascii_fought_cell : (links : Links) (rounds : Tally) (row other : RowParts) → Ascii (fought_cell links rounds row other)
 unfolding fought_cell fought_text link_start rounds_text sides_text
-ascii_fought_cell kinds.None rounds row other = simp (list_all-append, ascii_decimal, ascii_escaped)
-ascii_fought_cell kinds.Rounds rounds row other = simp (list_all-append, ascii_decimal, ascii_escaped)
+ascii_fought_cell Links.None rounds row other = simp (list_all-append, ascii_decimal, ascii_escaped)
+ascii_fought_cell Links.Rounds rounds row other = simp (list_all-append, ascii_decimal, ascii_escaped)
 
 ascii_match_cell : (k : Kept) (links : Links) (row other : RowParts) → Ascii (match_cell k links row other)
 ascii_match_cell k links row other =

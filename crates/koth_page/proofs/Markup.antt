@@ -1,24 +1,11 @@
 -- The tags and the attributes of a page are those of the same hill without names, for `hill_page`.
 use Rattle.std.proofs.Common.{◌≡◌, ℕ, ◌+◌, Bool, true, false, cond, eqb, ltb, List, [], ◌∷◌, ◌++◌, codes, decimal, map, refl, sym, ap, ◌∙◌}
-use Rattle.std.specs.List.{enumerate_from, flat_map, sum_by}
-use Rattle.koth_match.specs.declared.bout.Bout.{Bout}
-use Rattle.koth_hill.specs.Kept.{Kept, or_no_rounds, result_of, table_kept}
-use Rattle.koth_hill.specs.Table.{RowParts}
-use Rattle.koth_text.specs.Characters.{markup_of}
-use Rattle.koth_text.specs.Escape.{escaped}
-use Rattle.koth_text.specs.Tally.{of_older, of_younger}
-use Rattle.koth_text.specs.declared.tally.Tally.{Tally}
-use Rattle.koth_text.proofs.Markup.{Alike, both, markup_of-escaped}
+use Rattle.{std.specs.List.{enumerate_from, flat_map, sum_by}, koth_match.specs.declared.bout.Bout.Bout, koth_hill.specs.{Kept.{Kept, or_no_rounds, result_of, table_kept}, Table.RowParts}}
+use Rattle.{koth_text.specs.{Characters.markup_of, Escape.escaped, Tally.{of_older, of_younger}, declared.tally.Tally.Tally}, koth_text.proofs.Markup.{Alike, both, markup_of-escaped}}
 use Rattle.koth_views.specs.Tally.{against_all, between, no_tally}
-use Rattle.koth_page.specs.declared.links.Links.{Links}
-use Rattle.koth_page.specs.declared.links.Links.TheVariants as kinds
-use Rattle.koth_page.specs.declared.parts.TheConstants.{END, HEAD, MATCHES_START, STANDING_START, TABLE_END}
-use Rattle.koth_page.specs.Cells.{name_cell, number_cell, number_cells}
-use Rattle.koth_page.specs.Laws.{nameless}
-use Rattle.koth_page.specs.Matches.{fought_cell, fought_text, match_cell, matches_heading, matches_row, matches_rows, matches_text, rank_heading, sides_text}
-use Rattle.koth_page.specs.Page.{hill_page, page_of, tables_text}
-use Rattle.koth_page.specs.Settings.{settings_text}
-use Rattle.koth_page.specs.Standing.{standing_heading, standing_row, standing_rows, standing_text}
+use Rattle.koth_page.specs.{declared.links.Links.Links, declared.parts.TheConstants.{END, HEAD, MATCHES_START, STANDING_START, TABLE_END}, Cells.{name_cell, number_cell, number_cells}}
+use Rattle.koth_page.specs.{Laws.nameless, Matches.{fought_cell, fought_text, match_cell, matches_heading, matches_row, matches_rows, matches_text, rank_heading, sides_text}}
+use Rattle.koth_page.specs.{Page.{hill_page, page_of, tables_text}, Settings.settings_text, Standing.{standing_heading, standing_row, standing_rows, standing_text}}
 use Rattle.koth_page.proofs.Nameless.{entries_of-nameless, nameless_row, table_kept-nameless}
 
 each : {X : Type 0} (f g : X → List ℕ) (h : X → X) → ((x : X) → Alike (f x) (g (h x))) → (xs : List X) → Alike (flat_map f xs) (flat_map g (map h xs))
@@ -120,8 +107,8 @@ sides-nameless row other =
 -- a link asks for no name
 fought-nameless : (links : Links) (rounds : Tally) (row other : RowParts) → fought_text links rounds row other ≡ fought_text links rounds (nameless_row row) (nameless_row other)
 unfolding fought_text
-fought-nameless kinds.None rounds row other = refl
-fought-nameless kinds.Rounds rounds row other = refl
+fought-nameless Links.None rounds row other = refl
+fought-nameless Links.Rounds rounds row other = refl
 
 fought_cell-nameless : (links : Links) (rounds : Tally) (row other : RowParts)
     → Alike (fought_cell links rounds row other) (fought_cell links rounds (nameless_row row) (nameless_row other))

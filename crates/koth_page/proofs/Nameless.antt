@@ -1,12 +1,7 @@
 -- The table of a hill on which nobody has a name: the same rows without names, for `hill_page`.
-use Rattle.std.proofs.Common.{◌≡◌, ℕ, ◌+◌, zero, suc, Bool, true, false, cond, eqb, List, [], ◌∷◌, ◌++◌, length, map, refl, sym, ap, ap₂, ◌∙◌}
-use Rattle.std.proofs.lemmas.List.{length-map, map-append}
-use Rattle.koth_match.specs.declared.bout.Bout.{Bout}
-use Rattle.koth_hill.specs.Hill.{Member, points, points_against, Results}
-use Rattle.koth_hill.specs.Kept.{Kept, entries_of, kept_results, table_kept}
-use Rattle.koth_hill.specs.Scores.{rank_among, score_of, scores_of}
-use Rattle.koth_hill.specs.Table.{RowParts, row_with, rows_by_rank, rows_of_rank, table_by}
-use Rattle.koth_page.specs.Laws.{nameless, nameless_member}
+use Rattle.std.proofs.{Common.{◌≡◌, ℕ, ◌+◌, zero, suc, Bool, true, false, cond, eqb, List, [], ◌∷◌, ◌++◌, length, map, refl, sym, ap, ap₂, ◌∙◌}, lemmas.List.{length-map, map-append}}
+use Rattle.{koth_match.specs.declared.bout.Bout.Bout, koth_hill.specs.{Hill.{Member, points, points_against, Results}, Kept.{Kept, entries_of, kept_results, table_kept}}}
+use Rattle.{koth_hill.specs.{Scores.{rank_among, score_of, scores_of}, Table.{RowParts, row_with, rows_by_rank, rows_of_rank, table_by}}, koth_page.specs.Laws.{nameless, nameless_member}}
 
 -- a row without names
 abbrev pub nameless_row : RowParts → RowParts

@@ -1,22 +1,10 @@
 -- Parts of the pages of small hills, computed.
-use Rattle.std.proofs.Common.{◌≡◌, ℕ, List, [], ◌∷◌, ◌++◌, codes, refl}
-use Rattle.std.specs.Char.{encode_utf8}
-use Rattle.std.specs.Fmt.{digits}
-use Rattle.std.specs.Str.{chars, is_utf8}
-use Rattle.std.specs.Str.Lossy.{utf8_error_len, utf8_lossy, utf8_valid_len}
-use Rattle.war_types.specs.declared.settings.RawSettings.{RawSettings}
-use Rattle.war_types.specs.Warrior.{warrior_parts}
-use Rattle.koth_match.specs.declared.bout.Bout.{Bout}
-use Rattle.koth_hill.specs.Hill.{Member, member_of}
-use Rattle.koth_hill.specs.Kept.{Kept, kept_of, table_kept}
-use Rattle.koth_page.specs.declared.links.Links.TheVariants as kinds
-use Rattle.koth_page.specs.declared.parts.TheConstants.{END, HEAD, MATCHES_START, STANDING_START, TABLE_END}
-use Rattle.koth_page.specs.Cells.{name_cell, number_cell}
-use Rattle.koth_text.specs.Escape.{escaped}
-use Rattle.koth_page.specs.Matches.{fought_cell, fought_text, link_start, matches_heading, matches_row, matches_text, rank_heading, rounds_text, sides_text}
-use Rattle.koth_page.specs.Page.{hill_page, page_of}
-use Rattle.koth_page.specs.Settings.{machine_text, rules_text, setting_text, settings_text}
-use Rattle.koth_page.specs.Standing.{standing_heading, standing_row, standing_text}
+use Rattle.{std.proofs.Common.{◌≡◌, ℕ, List, [], ◌∷◌, ◌++◌, codes, refl}, std.specs.{Char.encode_utf8, Fmt.digits, Str.{chars, is_utf8}}}
+use Rattle.{std.specs.Str.Lossy.{utf8_error_len, utf8_lossy, utf8_valid_len}, war_types.specs.{declared.settings.RawSettings.RawSettings, Warrior.warrior_parts}}
+use Rattle.{koth_match.specs.declared.bout.Bout.Bout, koth_hill.specs.{Hill.{Member, member_of}, Kept.{Kept, kept_of, table_kept}}, koth_text.specs.Escape.escaped}
+use Rattle.koth_page.specs.{declared.parts.TheConstants.{END, HEAD, MATCHES_START, STANDING_START, TABLE_END}, Cells.{name_cell, number_cell}}
+use Rattle.koth_page.specs.{Matches.{fought_cell, fought_text, link_start, matches_heading, matches_row, matches_text, rank_heading, rounds_text, sides_text}, Page.{hill_page, page_of}}
+use Rattle.koth_page.specs.{Settings.{machine_text, rules_text, setting_text, settings_text}, Standing.{standing_heading, standing_row, standing_text}, declared.links.Links.Links}
 
 abbrev settings : RawSettings
 settings =
@@ -35,7 +23,7 @@ none = kept_of settings 0 [] []
 abbrev two : Kept
 two = kept_of settings 3 (entered 1 1 (codes "Imp") ∷ entered 3 0 (codes "<Scanner>") ∷ []) ([] ∷ (rounds 1 8 1 ∷ []) ∷ [])
 
-page_of_none : hill_page none kinds.None
+page_of_none : hill_page none Links.None
     ≡ HEAD.now
     ++ codes "<dl>\n"
     ++ codes "<div><dt>core size</dt><dd>8000</dd></div>\n"
@@ -62,7 +50,7 @@ table_of_two : standing_text two (table_kept two)
 unfolding digits chars encode_utf8 escaped is_utf8 name_cell number_cell standing_heading standing_row standing_text utf8_error_len utf8_lossy utf8_valid_len
 table_of_two = refl
 
-matches_of_two : matches_text two kinds.None (table_kept two)
+matches_of_two : matches_text two Links.None (table_kept two)
     ≡ MATCHES_START.now
     ++ codes "<thead><tr><th>rank</th><th class=\"name\">warrior</th><th title=\"&lt;Scanner&gt;\">1</th><th title=\"Imp\">2</th></tr></thead>\n"
     ++ codes "<tr><td>1</td><td class=\"name\">&lt;Scanner&gt;</td><td class=\"self\">&middot;</td><td title=\"&lt;Scanner&gt; against Imp\">8/1/1</td></tr>\n"
@@ -72,7 +60,7 @@ unfolding digits chars encode_utf8 escaped fought_cell fought_text is_utf8 match
 matches_of_two = refl
 
 -- both cells lead to the first round of the match, by the older warrior's entry and the younger's
-rounds_of_two : matches_text two kinds.Rounds (table_kept two)
+rounds_of_two : matches_text two Links.Rounds (table_kept two)
     ≡ MATCHES_START.now
     ++ codes "<thead><tr><th>rank</th><th class=\"name\">warrior</th><th title=\"&lt;Scanner&gt;\">1</th><th title=\"Imp\">2</th></tr></thead>\n"
     ++ codes "<tr><td>1</td><td class=\"name\">&lt;Scanner&gt;</td><td class=\"self\">&middot;</td>"

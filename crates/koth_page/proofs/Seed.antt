@@ -1,14 +1,7 @@
 -- A page is the same under any seed, for `hill_page`.
-use Rattle.std.proofs.Common.{◌≡◌, ℕ, List, [], ◌∷◌, ◌++◌, refl, ap}
-use Rattle.koth_hill.specs.Kept.{Kept, table_kept}
-use Rattle.koth_hill.specs.Table.{RowParts}
-use Rattle.koth_page.specs.declared.links.Links.{Links}
-use Rattle.koth_page.specs.declared.parts.TheConstants.{END, HEAD}
-use Rattle.koth_page.specs.Laws.{with_seed}
-use Rattle.koth_page.specs.Matches.{matches_row, matches_text}
-use Rattle.koth_page.specs.Page.{hill_page, page_of, tables_text}
-use Rattle.koth_page.specs.Settings.{machine_text, rules_text, settings_text}
-use Rattle.koth_page.specs.Standing.{standing_text}
+use Rattle.{std.proofs.Common.{◌≡◌, ℕ, List, [], ◌∷◌, ◌++◌, refl, ap}, koth_hill.specs.{Kept.{Kept, table_kept}, Table.RowParts}}
+use Rattle.koth_page.specs.{declared.links.Links.Links, declared.parts.TheConstants.{END, HEAD}, Laws.with_seed, Matches.{matches_row, matches_text}, Page.{hill_page, page_of, tables_text}}
+use Rattle.koth_page.specs.{Settings.{machine_text, rules_text, settings_text}, Standing.standing_text}
 
 tables-seed : (k : Kept) (links : Links) (seed : ℕ) (rows : List RowParts) → tables_text k links rows ≡ tables_text (with_seed seed k) links rows
 unfolding matches_row matches_text standing_text

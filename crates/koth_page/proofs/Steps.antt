@@ -1,11 +1,6 @@
 -- One row more with its rank, in the loops that put rows.
-use Rattle.std.proofs.Common.{◌≡◌, ℕ, ◌+◌, ◌<◌, suc, List, ◌++◌, length, take, get_or, sym, ap, ◌∙◌, arith}
-use Rattle.std.specs.List.{enumerate_from, flat_map}
-use Rattle.koth_hill.specs.Rows.{row_parts, rows_parts}
-use Rattle.koth_hill.specs.declared.row.Row.{Row}
-use Rattle.koth_hill.specs.Table.{RowParts}
-use Rattle.koth_text.proofs.Steps.{next_ranked, put_behind}
-use Rattle.koth_views.proofs.Steps.{below_parts, row_at}
+use Rattle.{std.proofs.Common.{◌≡◌, ℕ, ◌+◌, ◌<◌, suc, List, ◌++◌, length, take, get_or, sym, ap, ◌∙◌, arith}, std.specs.List.{enumerate_from, flat_map}}
+use Rattle.{koth_hill.specs.{Rows.{row_parts, rows_parts}, declared.row.Row.Row, Table.RowParts}, koth_text.proofs.Steps.{next_ranked, put_behind}, koth_views.proofs.Steps.{below_parts, row_at}}
 
 -- the part of one row more with its rank from 1 on, for the two `put_rows` and for `put_rank_headings`
 pub one_row_more : (f : ℕ × RowParts → List ℕ) (rows : List Row) (i : ℕ) (row : Row) (start now new : List ℕ) → i < length rows → row ≡ get_or rows i row

@@ -1,6 +1,5 @@
 -- Cells of a table.
-use Rattle.std.specs.Prelude.{ℕ, List, ◌++◌, codes, decimal}
-use Rattle.std.specs.List.{flat_map}
+use Rattle.std.specs.{Prelude.{ℕ, List, ◌++◌, codes, decimal}, List.flat_map}
 use Rattle.koth_text.specs.Escape.{escaped}
 
 -- a number

@@ -1,7 +1,5 @@
 -- What holds of every page of a hill.
-use Rattle.std.specs.Prelude.{ℕ, [], map}
-use Rattle.koth_hill.specs.Hill.{Member, member_of}
-use Rattle.koth_hill.specs.Kept.{Kept, kept_of}
+use Rattle.{std.specs.Prelude.{ℕ, [], map}, koth_hill.specs.{Hill.{Member, member_of}, Kept.{Kept, kept_of}}}
 
 -- a warrior without a name and an author
 abbrev pub nameless_member : Member → Member

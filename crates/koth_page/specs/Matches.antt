@@ -1,15 +1,7 @@
 -- The matches on a hill: who won, lost and tied how many rounds against whom.
-use Rattle.std.specs.Prelude.{ℕ, ◌==◌, min, max, if◌then◌else◌, List, ◌++◌, codes, decimal}
-use Rattle.std.specs.List.{enumerate_from, flat_map}
-use Rattle.koth_hill.specs.Kept.{Kept}
-use Rattle.koth_hill.specs.Table.{RowParts}
-use Rattle.koth_page.specs.declared.links.Links.{Links}
-use Rattle.koth_page.specs.declared.links.Links.TheVariants as kinds
-use Rattle.koth_text.specs.declared.tally.Tally.{Tally}
-use Rattle.koth_page.specs.declared.parts.TheConstants.{MATCHES_START, TABLE_END}
-use Rattle.koth_page.specs.Cells.{name_cell, number_cell}
-use Rattle.koth_text.specs.Escape.{escaped}
-use Rattle.koth_views.specs.Tally.{between}
+use Rattle.std.specs.{Prelude.{ℕ, ◌==◌, min, max, if◌then◌else◌, List, ◌++◌, codes, decimal}, List.{enumerate_from, flat_map}}
+use Rattle.{koth_hill.specs.{Kept.Kept, Table.RowParts}, koth_text.specs.{declared.tally.Tally.Tally, Escape.escaped}, koth_views.specs.Tally.between}
+use Rattle.koth_page.specs.{declared.links.Links.Links, declared.parts.TheConstants.{MATCHES_START, TABLE_END}, Cells.{name_cell, number_cell}}
 
 -- the heading of the column of a rank, which names the warrior
 unfoldable pub rank_heading : ℕ → RowParts → List ℕ
@@ -35,9 +27,8 @@ link_start older younger = codes "<a href=\"/replay/" ++ decimal older ++ codes 
 
 -- the rounds of two that fought, in a link to the first round if rounds are linked
 unfoldable pub fought_text : Links → Tally → RowParts → RowParts → List ℕ
-fought_text kinds.None rounds row other = rounds_text rounds
-fought_text kinds.Rounds rounds row other =
-    link_start (min row.entry other.entry) (max row.entry other.entry) ++ rounds_text rounds ++ codes "</a>"
+fought_text Links.None rounds row other = rounds_text rounds
+fought_text Links.Rounds rounds row other = link_start (min row.entry other.entry) (max row.entry other.entry) ++ rounds_text rounds ++ codes "</a>"
 
 -- the cell of two that fought, from the side of the first
 unfoldable pub fought_cell : Links → Tally → RowParts → RowParts → List ℕ

@@ -1,12 +1,7 @@
 -- The page of a hill.
 use Rattle.std.specs.Prelude.{ℕ, List, [], ◌∷◌, ◌++◌, codes}
-use Rattle.koth_hill.specs.Kept.{Kept, table_kept}
-use Rattle.koth_hill.specs.Table.{RowParts}
-use Rattle.koth_page.specs.declared.links.Links.{Links}
-use Rattle.koth_page.specs.declared.parts.TheConstants.{HEAD, END}
-use Rattle.koth_page.specs.Matches.{matches_text}
-use Rattle.koth_page.specs.Settings.{settings_text}
-use Rattle.koth_page.specs.Standing.{standing_text}
+use Rattle.koth_hill.specs.{Kept.{Kept, table_kept}, Table.RowParts}
+use Rattle.koth_page.specs.{declared.links.Links.Links, declared.parts.TheConstants.{HEAD, END}, Matches.matches_text, Settings.settings_text, Standing.standing_text}
 
 -- the tables of these rows, or that there are none
 abbrev pub tables_text : Kept → Links → List RowParts → List ℕ

@@ -1,12 +1,7 @@
 -- The table of a hill.
-use Rattle.std.specs.Prelude.{ℕ, List, [], ◌∷◌, ◌++◌, codes}
-use Rattle.std.specs.List.{enumerate_from, flat_map}
-use Rattle.koth_hill.specs.Kept.{Kept}
-use Rattle.koth_hill.specs.Table.{RowParts}
-use Rattle.koth_text.specs.declared.tally.Tally.{Tally}
-use Rattle.koth_page.specs.declared.parts.TheConstants.{STANDING_START, TABLE_END}
-use Rattle.koth_page.specs.Cells.{name_cell, number_cells}
-use Rattle.koth_views.specs.Tally.{against_all}
+use Rattle.std.specs.{Prelude.{ℕ, List, [], ◌∷◌, ◌++◌, codes}, List.{enumerate_from, flat_map}}
+use Rattle.{koth_hill.specs.{Kept.Kept, Table.RowParts}, koth_text.specs.declared.tally.Tally.Tally, koth_views.specs.Tally.against_all}
+use Rattle.koth_page.specs.{declared.parts.TheConstants.{STANDING_START, TABLE_END}, Cells.{name_cell, number_cells}}
 
 unfoldable pub standing_heading : List ℕ
 standing_heading =

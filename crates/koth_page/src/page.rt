@@ -1,12 +1,8 @@
 //! The page of a hill.
 
-ghost use Rattle.std.specs.Prelude.{◌≡◌, ℕ, List, ◌++◌, codes, IfOk, IsTrue, OnOk};
-ghost use Rattle.std.specs.List.{list_all};
-ghost use Rattle.koth_hill.specs.Rows.{rows_parts};
-ghost use Rattle.koth_text.specs.Characters.{is_harmless, is_page_byte, markup_of};
-ghost use Rattle.koth_text.specs.Escape.{escaped};
-ghost use Rattle.koth_page.specs.Laws.{nameless, with_seed};
-ghost use Rattle.koth_page.specs.Page.{hill_page, page_of, tables_text};
+ghost use Rattle.std.specs.{Prelude.{◌≡◌, ℕ, List, ◌++◌, codes, IfOk, IsTrue, OnOk}, List.list_all};
+ghost use Rattle.{koth_hill.specs.Rows.rows_parts, koth_text.specs.{Characters.{is_harmless, is_page_byte, markup_of}, Escape.escaped}};
+ghost use Rattle.koth_page.specs.{Laws.{nameless, with_seed}, Page.{hill_page, page_of, tables_text}};
 
 use crate::links::Links;
 use crate::matches::put_matches;

@@ -1,9 +1,7 @@
 //! The table of a hill.
 
 ghost use Rattle.std.specs.Prelude.{◌≡◌, ◌+◌, ◌<◌, ◌^◌, ◌++◌, ◌∷◌, [], length, codes, OnOk};
-ghost use Rattle.koth_hill.specs.Rows.{row_parts, rows_parts};
-ghost use Rattle.koth_views.specs.Tally.{against_all};
-ghost use Rattle.koth_page.specs.Standing.{standing_heading, standing_row, standing_rows, standing_text};
+ghost use Rattle.{koth_hill.specs.Rows.{row_parts, rows_parts}, koth_views.specs.Tally.against_all, koth_page.specs.Standing.{standing_heading, standing_row, standing_rows, standing_text}};
 
 use crate::cells::{put_name_cell, put_number_cells};
 use crate::parts::{STANDING_START, TABLE_END};

@@ -1,30 +1,19 @@
 -- What a command is answered, for `answer` and what it calls.
-use Rattle.std.proofs.Common.{◌≡◌, ℕ, ◌+◌, ◌<◌, List, ◌++◌, length, Option, None, Some, refl, ap, subst, ◌∙◌}
-use Rattle.sector_disk.specs.Facts.{DeviceFacts}
-use Rattle.koth_hill.specs.Kept.{table_kept}
-use Rattle.hill_store.specs.Seen.{Seen}
-use Rattle.hill_store.specs.declared.reply.Reply.{Reply}
-use Rattle.koth_protocol.specs.Commands.{Command}
-use Rattle.koth_protocol.specs.Table.{show_text}
-use Rattle.koth_session.specs.Reply.{reply_line}
-use Rattle.koth_session.specs.Transcript.{Exchange}
-use Rattle.koth_peers.specs.Peer.{AnswersPeer, Says}
-use Rattle.koth_peers.specs.declared.end.PeerEnd.{PeerEnd}
-use Rattle.koth_peers.specs.declared.end.PeerEnd.TheVariants as ends
-use Rattle.koth_session.proofs.Exchanges.{served_same}
-use Rattle.koth_session.proofs.Submissions.{IsExchanged}
+use Rattle.{std.proofs.Common.{◌≡◌, ℕ, ◌+◌, ◌<◌, List, ◌++◌, length, Option, None, Some, refl, ap, subst, ◌∙◌}, koth_hill.specs.Kept.table_kept, sector_disk.specs.Facts.DeviceFacts}
+use Rattle.{hill_store.specs.{Seen.Seen, declared.reply.Reply.Reply}, koth_protocol.specs.{Commands.Command, Table.show_text}, koth_session.specs.{Reply.reply_line, Transcript.Exchange}}
+use Rattle.{koth_session.proofs.{Exchanges.served_same, Submissions.IsExchanged}, koth_peers.specs.{Peer.{AnswersPeer, Says}, declared.end.PeerEnd.PeerEnd}}
 
 module _ {D : Type 0} (facts : DeviceFacts D) where
   pub table_said : (r : Option PeerEnd) (text unsent new : List ℕ) (store : Seen D) → text ≡ show_text (table_kept store.hill) → Says text r unsent new
       → AnswersPeer facts Command.Show r unsent store new store
   table_said None text unsent new store is says =
       (Exchange.Table, refl, served_same facts store Exchange.Table refl (λ worn. absurd worn) (λ has. absurd has), says ∙ ap (λ l. unsent ++ l) is)
-  table_said (Some ends.Unread) text unsent new store is says = (subst (λ l. 1048576 < length unsent + length l) is says.0, refl, says.1)
-  table_said (Some ends.Memory) text unsent new store is says = (refl, says)
-  table_said (Some ends.Quit) text unsent new store is says = absurd says
-  table_said (Some ends.EndOfInput) text unsent new store is says = absurd says
-  table_said (Some ends.Limit) text unsent new store is says = absurd says
-  table_said (Some ends.StoreFailed) text unsent new store is says = absurd says
+  table_said (Some PeerEnd.Unread) text unsent new store is says = (subst (λ l. 1048576 < length unsent + length l) is says.0, refl, says.1)
+  table_said (Some PeerEnd.Memory) text unsent new store is says = (refl, says)
+  table_said (Some PeerEnd.Quit) text unsent new store is says = absurd says
+  table_said (Some PeerEnd.EndOfInput) text unsent new store is says = absurd says
+  table_said (Some PeerEnd.Limit) text unsent new store is says = absurd says
+  table_said (Some PeerEnd.StoreFailed) text unsent new store is says = absurd says
 
   pub reply_said : (source : List ℕ) (reply : Reply) (unsent mid new : List ℕ) (store now : Seen D) → IsExchanged facts store now source reply → mid ≡ unsent
       → new ≡ mid ++ reply_line reply → AnswersPeer facts (Command.Submit source) None unsent store new now

@@ -1,9 +1,7 @@
 -- Whose turn it is, slot by slot.
 use Rattle.std.proofs.Common.{◌≡◌, ℕ, ◌+◌, ◌<◌, ◌≤◌, min, arith, true, false, true≢false, inl, inr, length, get_or, Option, None, Some, IsSome, MatchOption, is_some, refl, sym, subst}
-use Rattle.std.proofs.lemmas.Bool.{cases_eq, cases_lt}
-use Rattle.std.proofs.lemmas.List.{get_or_past, get_or_read}
-use Rattle.koth_peers.specs.Peers.{IsFirstDue, IsFirstDueWithin, IsFirstFree, NoneIsDueWithin, Slots, is_due_at, is_due_in, peer_at}
-use Rattle.koth_peers.specs.declared.peer.Peer.{Peer}
+use Rattle.std.proofs.{lemmas.Bool.{cases_eq, cases_lt}, lemmas.List.{get_or_past, get_or_read}}
+use Rattle.koth_peers.specs.{Peers.{IsFirstDue, IsFirstDueWithin, IsFirstFree, NoneIsDueWithin, Slots, is_due_at, is_due_in, peer_at}, declared.peer.Peer.Peer}
 
 module _ {A : Type 0} (slots : Slots A) where
   -- the command of this slot is due

@@ -1,8 +1,6 @@
 -- The turns of many peers, as lists.
 use Rattle.std.proofs.Common.{◌≡◌, ◌≢◌, inl, inr, ℕ, ◌==◌, Bool, true, false, eqb-true, if◌then◌else◌, List, [], ◌∷◌, ◌++◌, Option, None, Some, refl, sym, ap, ◌∙◌, append_assoc, append-nil}
-use Rattle.std.proofs.lemmas.Bool.Decides.{eqb_tells}
-use Rattle.koth_hill.specs.Kept.{Kept}
-use Rattle.koth_session.specs.Transcript.{Exchange, answer, command_in, commands_in, hill_after, hill_next}
+use Rattle.{std.proofs.lemmas.Bool.Decides.eqb_tells, koth_hill.specs.Kept.Kept, koth_session.specs.Transcript.{Exchange, answer, command_in, commands_in, hill_after, hill_next}}
 use Rattle.koth_peers.specs.Peers.{Turn, exchanges, forget, instead, is_whose, left_by, own, turn_of, written}
 
 not_equal : (a b : ℕ) → a ≢ b → (a == b) ≡ false

@@ -1,10 +1,6 @@
 -- Rows of the definitions, worked by hand.
-use Rattle.std.proofs.Common.{◌≡◌, true, false, inl, inr, arith, List, [], ◌∷◌, codes, None, Some, refl}
-use Rattle.koth_hill.specs.Kept.{Kept}
-use Rattle.koth_session.specs.Transcript.{Exchange, Mark}
-use Rattle.koth_peers.specs.Peer.{is_due, may_come, settled}
-use Rattle.koth_peers.specs.Peers.{ComesBefore, Turn, exchanges, forget, own, turn_of, written}
-use Rattle.koth_peers.specs.declared.end.PeerEnd.TheVariants as ends
+use Rattle.{std.proofs.Common.{◌≡◌, true, false, inl, inr, arith, List, [], ◌∷◌, codes, None, Some, refl}, koth_hill.specs.Kept.Kept, koth_session.specs.Transcript.{Exchange, Mark}}
+use Rattle.koth_peers.specs.{Peer.{is_due, may_come, settled}, Peers.{ComesBefore, Turn, exchanges, forget, own, turn_of, written}, declared.end.PeerEnd.PeerEnd}
 
 -- Peer 1 sends a line that is no command, peer 0 a source for which there is no memory, and peer 1 another such line.
 turns : List Turn
@@ -28,9 +24,9 @@ order : ComesBefore 2 2 3 × ComesBefore 2 3 0 × ComesBefore 2 2 1 × ComesBefo
 order = (inl (omega arith, omega arith), inr (omega arith, inr (omega arith)), inr (omega arith, inr (omega arith)), inr (omega arith, inl (omega arith)))
 
 -- a session is at its end once no command is due, and at the limit whether its bytes are at their end or not
-stands : (settled None false 16777216 true ≡ Some ends.Limit) × (settled None false 16777215 true ≡ Some ends.EndOfInput) × (settled None false 16777215 false ≡ None)
-    × (settled None true 16777216 true ≡ None) × (settled (Some ends.Quit) false 0 false ≡ Some ends.Quit)
+stands : (settled None false 16777216 true ≡ Some PeerEnd.Limit) × (settled None false 16777215 true ≡ Some PeerEnd.EndOfInput) × (settled None false 16777215 false ≡ None)
+    × (settled None true 16777216 true ≡ None) × (settled (Some PeerEnd.Quit) false 0 false ≡ Some PeerEnd.Quit)
 stands = (refl, refl, refl, refl, refl)
 
-comes : (may_come None false 7 ≡ 7) × (may_come None true 7 ≡ 0) × (may_come (Some ends.Unread) false 7 ≡ 0) × (is_due (Some ends.Unread) true ≡ false)
+comes : (may_come None false 7 ≡ 7) × (may_come None true 7 ≡ 0) × (may_come (Some PeerEnd.Unread) false 7 ≡ 0) × (is_due (Some PeerEnd.Unread) true ≡ false)
 comes = (refl, refl, refl, refl)

@@ -1,20 +1,14 @@
 -- How what came is read, for the calls of `Inbox`.
 use Rattle.std.proofs.Common.{◌≡◌, ◌⊎◌, inl, inr, ℕ, ◌+◌, ◌-◌, ◌≤◌, arith, true, false, true≢false, List, [], ◌∷◌, ◌++◌, length, Option, refl, sym, ap, ◌∙◌, append_assoc}
-use Rattle.std.proofs.lemmas.List.{length-append}
-use Rattle.koth_protocol.specs.Commands.{Command, commands_from, commands_of}
-use Rattle.koth_protocol.specs.Lines.{lines_from}
-use Rattle.koth_protocol.specs.Reading.{IsReading, Reads, commands_met}
-use Rattle.koth_protocol.specs.declared.script.Met.{Met}
-use Rattle.koth_protocol.specs.declared.script.Met.TheVariants as met
-use Rattle.koth_peers.specs.Inbox.{IsFollowed, IsNext, IsReadTo, is_met}
-use Rattle.koth_peers.specs.declared.inbox.Inbox.{Inbox}
+use Rattle.{std.proofs.lemmas.List.length-append, koth_protocol.specs.{Commands.{Command, commands_from, commands_of}, Lines.lines_from, Reading.{IsReading, Reads, commands_met}}}
+use Rattle.{koth_protocol.specs.declared.script.Met.Met, koth_peers.specs.{Inbox.{IsFollowed, IsNext, IsReadTo, is_met}, declared.inbox.Inbox.Inbox}}
 
-pub unmet : (m : Met) → is_met m ≡ false → m ≡ met.Nothing
-unmet met.Nothing is = refl
-unmet met.Submit is = absurd (true≢false is)
-unmet met.Show is = absurd (true≢false is)
-unmet met.Quit is = absurd (true≢false is)
-unmet met.Bad is = absurd (true≢false is)
+pub unmet : (m : Met) → is_met m ≡ false → m ≡ Met.Nothing
+unmet Met.Nothing is = refl
+unmet Met.Submit is = absurd (true≢false is)
+unmet Met.Show is = absurd (true≢false is)
+unmet Met.Quit is = absurd (true≢false is)
+unmet Met.Bad is = absurd (true≢false is)
 
 module _ {A : Type 0} where
   -- more bytes came
@@ -33,7 +27,7 @@ module _ {A : Type 0} where
   }
 
   -- a byte was read
-  pub byte_read : (old new : Inbox A) (byte : ℕ) → old.due ≡ met.Nothing → old.waiting ≡ byte ∷ new.waiting → new.taken ≡ old.taken
+  pub byte_read : (old new : Inbox A) (byte : ℕ) → old.due ≡ Met.Nothing → old.waiting ≡ byte ∷ new.waiting → new.taken ≡ old.taken
       → ((line : List ℕ) (source : Option (List ℕ)) → IsReading old.script line source → Reads line source byte new.due new.script)
       → (came : List ℕ) (done : List Command) → IsFollowed old came done → IsFollowed new came done
   byte_read old new byte due waits counts reads came done f =
@@ -50,7 +44,7 @@ module _ {A : Type 0} where
       }
 
   -- the command that was due was carried out
-  pub passed : (old new : Inbox A) → new.script ≡ old.script → new.due ≡ met.Nothing → new.waiting ≡ old.waiting → new.taken ≡ old.taken
+  pub passed : (old new : Inbox A) → new.script ≡ old.script → new.due ≡ Met.Nothing → new.waiting ≡ old.waiting → new.taken ≡ old.taken
       → (came : List ℕ) (done : List Command) (command : Command) → IsFollowed old came done → IsNext old.due old.script.source command
       → IsFollowed new came (done ++ command ∷ [])
   passed old new same_script due same_waiting counts came done command f next = record {

@@ -1,41 +1,32 @@
 -- How many peers are served one after another, for `serve_next`.
-use Rattle.std.proofs.Common.{◌≡◌, inl, inr, ℕ, true, true≢false, List, [], ◌∷◌, ◌++◌, Option, None, Some, refl, sym, ap, subst, ◌∙◌, append_assoc}
-use Rattle.sector_disk.specs.Facts.{DeviceFacts}
-use Rattle.koth_hill.specs.Kept.{Kept}
-use Rattle.hill_store.specs.Seen.{Seen}
-use Rattle.koth_protocol.specs.Commands.{Command}
-use Rattle.koth_session.specs.Sessions.{AreServed}
-use Rattle.koth_session.specs.Transcript.{Exchange, Mark, answer, commands_in, hill_after}
-use Rattle.koth_peers.specs.Peer.{AnswersPeer, IsPeer, Serves, command_of}
-use Rattle.koth_peers.specs.Peers.{AreCutOff, AreServing, AreServingOn, GoesOn, History, LawsOfPeers, Moves, MovesAt, Past, ServesNext, ServesOne, Slots, StandsAt, answered, exchanges, goes_by, is_due_in, own, peer_at, step_after, turn_of, unanswered, written}
-use Rattle.koth_peers.specs.declared.end.PeerEnd.{PeerEnd}
-use Rattle.koth_peers.specs.declared.end.PeerEnd.TheVariants as ends
-use Rattle.koth_peers.specs.declared.peer.Peer.{Peer}
-use Rattle.koth_session.proofs.Exchanges.{hill_append, served_none, served_on}
-use Rattle.koth_session.proofs.Holding.{keeps_cut, keeps_list}
-use Rattle.koth_peers.proofs.Slots.{serving_at}
-use Rattle.koth_peers.proofs.Past.{commands_append, exchanges_append, exchanges_kept, own_nobody, own_one, own_other, turn_of_nobody, written_nobody, written_one, written_other}
+use Rattle.{std.proofs.Common.{◌≡◌, inl, inr, ℕ, true, true≢false, List, [], ◌∷◌, ◌++◌, Option, None, Some, refl, sym, ap, subst, ◌∙◌, append_assoc}, koth_hill.specs.Kept.Kept}
+use Rattle.{sector_disk.specs.Facts.DeviceFacts, hill_store.specs.Seen.Seen, koth_protocol.specs.Commands.Command}
+use Rattle.koth_session.specs.{Sessions.AreServed, Transcript.{Exchange, Mark, answer, commands_in, hill_after}}
+use Rattle.{koth_session.proofs.{Exchanges.{hill_append, served_none, served_on}, Holding.{keeps_cut, keeps_list}}, koth_peers.specs.Peer.{AnswersPeer, IsPeer, Serves, command_of}}
+use Rattle.koth_peers.specs.Peers.{AreCutOff, AreServing, AreServingOn, GoesOn, History, LawsOfPeers, Moves, MovesAt, Past, ServesNext, ServesOne, Slots, StandsAt, answered, exchanges, goes_by}
+use Rattle.koth_peers.specs.{Peers.{is_due_in, own, peer_at, step_after, turn_of, unanswered, written}, declared.end.PeerEnd.PeerEnd, declared.peer.Peer.Peer}
+use Rattle.koth_peers.proofs.{Slots.serving_at, Past.{commands_append, exchanges_append, exchanges_kept, own_nobody, own_one, own_other, turn_of_nobody, written_nobody, written_one, written_other}}
 
 module _ {D : Type 0} (facts : DeviceFacts D) where
   -- ---- a session that ended by its command
 
   same_unsent : (end : PeerEnd) (command : Command) (unsent new : List ℕ) (store now : Seen D) → AnswersPeer facts command (Some end) unsent store new now → new ≡ unsent
-  same_unsent ends.Quit command unsent new store now is = is.2
-  same_unsent ends.EndOfInput command unsent new store now is = absurd is
-  same_unsent ends.Limit command unsent new store now is = absurd is
-  same_unsent ends.Unread command unsent new store now is = is.2
-  same_unsent ends.StoreFailed command unsent new store now is = is.3
-  same_unsent ends.Memory command unsent new store now is = is.1
+  same_unsent PeerEnd.Quit command unsent new store now is = is.2
+  same_unsent PeerEnd.EndOfInput command unsent new store now is = absurd is
+  same_unsent PeerEnd.Limit command unsent new store now is = absurd is
+  same_unsent PeerEnd.Unread command unsent new store now is = is.2
+  same_unsent PeerEnd.StoreFailed command unsent new store now is = is.3
+  same_unsent PeerEnd.Memory command unsent new store now is = is.1
 
   -- a session that ended without a change of the store
   same_store : (end : PeerEnd) (command : Command) (unsent new : List ℕ) (store now : Seen D) → step_after (Some end) 0 ≡ step_after None 0
       → AnswersPeer facts command (Some end) unsent store new now → now ≡ store
-  same_store ends.Quit command unsent new store now sound is = is.1
-  same_store ends.EndOfInput command unsent new store now sound is = absurd is
-  same_store ends.Limit command unsent new store now sound is = absurd is
-  same_store ends.Unread command unsent new store now sound is = is.1
-  same_store ends.StoreFailed command unsent new store now sound is = absurd (cc)
-  same_store ends.Memory command unsent new store now sound is = is.0
+  same_store PeerEnd.Quit command unsent new store now sound is = is.1
+  same_store PeerEnd.EndOfInput command unsent new store now sound is = absurd is
+  same_store PeerEnd.Limit command unsent new store now sound is = absurd is
+  same_store PeerEnd.Unread command unsent new store now sound is = is.1
+  same_store PeerEnd.StoreFailed command unsent new store now sound is = absurd (cc)
+  same_store PeerEnd.Memory command unsent new store now sound is = is.0
 
 module _ {D A : Type 0} (facts : DeviceFacts D) where
   ended_at : (hill : Kept) (past : Past) (n : ℕ) (end : PeerEnd) (old new : Option (Peer A)) (store now : Seen D)
@@ -135,14 +126,14 @@ module _ {D A : Type 0} (facts : DeviceFacts D) where
 
   -- the device failed in a submission
   cut_off_by : (n : ℕ) (old new : Slots A) (store now : Seen D) (slot : Option (Peer A)) → peer_at old n ≡ slot → is_due_in slot ≡ true
-      → MovesAt (λ p q. Serves facts (Some ends.StoreFailed) p store q now) n old new
+      → MovesAt (λ p q. Serves facts (Some PeerEnd.StoreFailed) p store q now) n old new
       → (history : History D) → AreServingOn facts old store history → AreCutOff facts new store now history
   cut_off_by n old new store now None is due moves history on = absurd (true≢false (sym due))
   cut_off_by n old new store now (Some peer) is due moves history on =
-      let m : Moves (λ p q. Serves facts (Some ends.StoreFailed) p store q now) (Some peer) (peer_at new n) =
-      subst (λ slot. Moves (λ p q. Serves facts (Some ends.StoreFailed) p store q now) slot (peer_at new n)) is moves.at in
+      let m : Moves (λ p q. Serves facts (Some PeerEnd.StoreFailed) p store q now) (Some peer) (peer_at new n) =
+      subst (λ slot. Moves (λ p q. Serves facts (Some PeerEnd.StoreFailed) p store q now) slot (peer_at new n)) is moves.at in
       record {
-        serving = serving_ended ends.StoreFailed n old new store now moves history.hill history.past on.serving;
+        serving = serving_ended PeerEnd.StoreFailed n old new store now moves history.hill history.past on.serving;
         source = m.2.answers.0;
         left_off = m.2.answers.2;
         holds = keeps_cut facts history.first store now history.since m.2.answers.0 on.served m.2.answers.2;
@@ -154,22 +145,22 @@ module _ {D A : Type 0} (facts : DeviceFacts D) where
   goes_on None n old new store now due moves history on =
       let was = serving_answered n old new store now (peer_at old n) refl due moves history.hill history.past on.hill_is on.serving in
       inr (was.e, on_answered n new store now history on.hill_is on.served was)
-  goes_on (Some ends.Quit) n old new store now due moves history on = inl (ended_by ends.Quit n old new store now (peer_at old n) refl refl due moves history on)
-  goes_on (Some ends.EndOfInput) n old new store now due moves history on = inl (ended_by ends.EndOfInput n old new store now (peer_at old n) refl refl due moves history on)
-  goes_on (Some ends.Limit) n old new store now due moves history on = inl (ended_by ends.Limit n old new store now (peer_at old n) refl refl due moves history on)
-  goes_on (Some ends.Unread) n old new store now due moves history on = inl (ended_by ends.Unread n old new store now (peer_at old n) refl refl due moves history on)
-  goes_on (Some ends.StoreFailed) n old new store now due moves history on = cut_off_by n old new store now (peer_at old n) refl due moves history on
-  goes_on (Some ends.Memory) n old new store now due moves history on = inl (ended_by ends.Memory n old new store now (peer_at old n) refl refl due moves history on)
+  goes_on (Some PeerEnd.Quit) n old new store now due moves history on = inl (ended_by PeerEnd.Quit n old new store now (peer_at old n) refl refl due moves history on)
+  goes_on (Some PeerEnd.EndOfInput) n old new store now due moves history on = inl (ended_by PeerEnd.EndOfInput n old new store now (peer_at old n) refl refl due moves history on)
+  goes_on (Some PeerEnd.Limit) n old new store now due moves history on = inl (ended_by PeerEnd.Limit n old new store now (peer_at old n) refl refl due moves history on)
+  goes_on (Some PeerEnd.Unread) n old new store now due moves history on = inl (ended_by PeerEnd.Unread n old new store now (peer_at old n) refl refl due moves history on)
+  goes_on (Some PeerEnd.StoreFailed) n old new store now due moves history on = cut_off_by n old new store now (peer_at old n) refl due moves history on
+  goes_on (Some PeerEnd.Memory) n old new store now due moves history on = inl (ended_by PeerEnd.Memory n old new store now (peer_at old n) refl refl due moves history on)
 
   pub serves_next : (outcome : Option PeerEnd) (n : ℕ) (old : Slots A) (start : ℕ) (store : Seen D) (new : Slots A) (next : ℕ) (now : Seen D)
       → ServesOne facts outcome n old start store new next now → ServesNext facts (step_after outcome n) old start store new next now
   serves_next None n old start store new next now one = (None, refl, one)
-  serves_next (Some ends.Quit) n old start store new next now one = (Some ends.Quit, refl, one)
-  serves_next (Some ends.EndOfInput) n old start store new next now one = (Some ends.EndOfInput, refl, one)
-  serves_next (Some ends.Limit) n old start store new next now one = (Some ends.Limit, refl, one)
-  serves_next (Some ends.Unread) n old start store new next now one = (Some ends.Unread, refl, one)
-  serves_next (Some ends.StoreFailed) n old start store new next now one = one
-  serves_next (Some ends.Memory) n old start store new next now one = (Some ends.Memory, refl, one)
+  serves_next (Some PeerEnd.Quit) n old start store new next now one = (Some PeerEnd.Quit, refl, one)
+  serves_next (Some PeerEnd.EndOfInput) n old start store new next now one = (Some PeerEnd.EndOfInput, refl, one)
+  serves_next (Some PeerEnd.Limit) n old start store new next now one = (Some PeerEnd.Limit, refl, one)
+  serves_next (Some PeerEnd.Unread) n old start store new next now one = (Some PeerEnd.Unread, refl, one)
+  serves_next (Some PeerEnd.StoreFailed) n old start store new next now one = one
+  serves_next (Some PeerEnd.Memory) n old start store new next now one = (Some PeerEnd.Memory, refl, one)
 
   -- ---- a store is opened
 

@@ -1,13 +1,9 @@
 -- How the peers stand after a call of `Peers`.
-use Rattle.std.proofs.Common.{◌≡◌, ◌≢◌, inl, inr, ℕ, ◌<◌, zero, suc, List, [], ◌∷◌, ◌++◌, length, get_or, set, take, drop, Option, None, Some, refl, sym, ap, subst, ◌∙◌, append_assoc, take-append-drop}
-use Rattle.std.proofs.lemmas.Bool.{cases_eq}
-use Rattle.std.proofs.lemmas.List.{get_or-set_other, get_or-set_same, get_or_read, length-set}
-use Rattle.koth_hill.specs.Kept.{Kept}
-use Rattle.koth_session.specs.Transcript.{commands_in}
-use Rattle.koth_peers.specs.Peer.{Closes, IsNew, IsPeer, Sends, Takes}
+use Rattle.std.proofs.Common.{◌≡◌, ◌≢◌, inl, inr, ℕ, ◌<◌, zero, suc, List, [], ◌∷◌, ◌++◌, length, get_or, set, take, drop, Option, None, Some, refl, sym, ap, subst, ◌∙◌, append_assoc}
+use Rattle.{std.proofs.{Common.take-append-drop, lemmas.Bool.cases_eq, lemmas.List.{get_or-set_other, get_or-set_same, get_or_read, length-set}}, koth_hill.specs.Kept.Kept}
+use Rattle.{koth_session.specs.Transcript.commands_in, koth_peers.specs.Peer.{Closes, IsNew, IsPeer, Sends, Takes}}
 use Rattle.koth_peers.specs.Peers.{AreServing, Moves, MovesAt, OnlyAt, Past, Slots, StandsAt, came_to, connected, instead, left, own, peer_at, sent_to, unsent_at, unsent_in, written}
-use Rattle.koth_peers.specs.declared.peer.Peer.{Peer}
-use Rattle.koth_peers.proofs.Past.{instead_other, instead_same, own_forgotten, own_kept, written_kept, written_none}
+use Rattle.{koth_peers.specs.declared.peer.Peer.Peer, koth_peers.proofs.Past.{instead_other, instead_same, own_forgotten, own_kept, written_kept, written_none}}
 
 -- one past tells of a peer what the other tells
 pub record IsSame (hill : Kept) (old new : Past) (p : ℕ) : Type 0 where
@@ -36,10 +32,7 @@ module _ {A : Type 0} where
   -- ---- one slot is written
 
   pub only_set : (slots : Slots A) (n : ℕ) (slot : Option (Peer A)) → OnlyAt n slots (set slots n slot)
-  only_set slots n slot = record {
-    size = length-set slots n slot;
-    others = λ p other. get_or-set_other slots n p slot None other;
-  }
+  only_set slots n slot = record { size = length-set slots n slot; others = λ p other. get_or-set_other slots n p slot None other }
 
   -- the peer in it moved on
   pub moves_written : (R : Peer A → Peer A → Type 0) (n : ℕ) (old : Slots A) (was slot : Option (Peer A)) → n < length old → was ≡ get_or old n was

@@ -1,21 +1,11 @@
 -- How a session stands after a call of `Peer`.
-use Rattle.std.proofs.Common.{◌≡◌, ℕ, ◌<◌, ◌≤◌, arith, nat_le, Bool, true, false, true≢false, if◌then◌else◌, List, [], ◌∷◌, ◌++◌, length, Option, None, Some, is_some, refl, sym, ap, subst, ◌∙◌, append-nil}
-use Rattle.std.proofs.lemmas.Bool.{leb-false, leb-true}
-use Rattle.sector_disk.specs.Facts.{DeviceFacts}
-use Rattle.hill_store.specs.Seen.{Seen}
-use Rattle.koth_protocol.specs.Commands.{Command, commands_from, commands_of, kept_source}
-use Rattle.koth_protocol.specs.Lines.{lines_from}
-use Rattle.koth_protocol.specs.Reading.{commands_met}
-use Rattle.koth_protocol.specs.declared.script.Met.{Met}
-use Rattle.koth_protocol.specs.declared.script.Met.TheVariants as met
+use Rattle.std.proofs.Common.{◌≡◌, ℕ, ◌<◌, ◌≤◌, arith, nat_le, Bool, true, false, true≢false, if◌then◌else◌, List, [], ◌∷◌, ◌++◌, length, Option, None, Some, is_some, refl, sym, ap, subst}
+use Rattle.{std.proofs.{Common.{◌∙◌, append-nil}, lemmas.Bool.{leb-false, leb-true}}, sector_disk.specs.Facts.DeviceFacts, hill_store.specs.Seen.Seen}
+use Rattle.koth_protocol.specs.{Commands.{Command, commands_from, commands_of, kept_source}, Lines.lines_from, Reading.commands_met, declared.script.Met.Met}
 use Rattle.koth_session.specs.Transcript.{Exchange, command_in}
-use Rattle.koth_peers.specs.Inbox.{IsNext, IsReadTo, is_met}
-use Rattle.koth_peers.specs.Peer.{AnswersPeer, Closes, HasRead, Serves, Takes, command_due, command_of, is_due, is_due_now, settled, settled_now}
-use Rattle.koth_peers.specs.declared.end.PeerEnd.{PeerEnd}
-use Rattle.koth_peers.specs.declared.end.PeerEnd.TheVariants as ends
-use Rattle.koth_peers.specs.declared.inbox.Inbox.{Inbox}
-use Rattle.koth_peers.specs.declared.peer.Peer.{Peer}
-use Rattle.koth_peers.proofs.Readings.{unmet}
+use Rattle.koth_peers.specs.{Inbox.{IsNext, IsReadTo, is_met}, Peer.{AnswersPeer, Closes, HasRead, Serves, Takes, command_due, command_of, is_due, is_due_now, settled, settled_now}}
+use Rattle.{koth_peers.specs.{declared.end.PeerEnd.PeerEnd, declared.inbox.Inbox.Inbox, declared.peer.Peer.Peer}, koth_peers.proofs.Readings.unmet}
+use Rattle.koth_protocol.specs.declared.script.Met.TheVariants as met
 
 pub none_of : (end : Option PeerEnd) → is_some end ≡ false → end ≡ None
 none_of None is = refl
@@ -49,12 +39,12 @@ module _ {A : Type 0} where
       few : length came ≤ 16777216
       few = r.followed.few
 
-      open_or_not : (c : Bool) → closed ≡ c → is_met inbox.due ≡ false → length came < 16777216 → HasRead (if c then Some ends.EndOfInput else None) inbox closed came done
+      open_or_not : (c : Bool) → closed ≡ c → is_met inbox.due ≡ false → length came < 16777216 → HasRead (if c then Some PeerEnd.EndOfInput else None) inbox closed came done
       open_or_not true is none below = (all_done inbox came done none r, is)
       open_or_not false is none below = (r, λ again. (is, below))
 
       limit : (l : Bool) → nat_le 16777216 inbox.taken ≡ l → is_met inbox.due ≡ false
-          → HasRead (if l then Some ends.Limit else (if closed then Some ends.EndOfInput else None)) inbox closed came done
+          → HasRead (if l then Some PeerEnd.Limit else (if closed then Some PeerEnd.EndOfInput else None)) inbox closed came done
       limit true is none = (all_done inbox came done none r, omega (arith, leb-true 16777216 inbox.taken is, counts, few))
       limit false is none = open_or_not closed refl none (omega (arith, leb-false 16777216 inbox.taken is, counts))
 
@@ -154,19 +144,19 @@ module _ {D A : Type 0} (facts : DeviceFacts D) where
 
   left_by : (end : PeerEnd) (old new : Peer A) (store now : Seen D) (came : List ℕ) (done : List Command) → is_met old.inbox.due ≡ true → IsReadTo old.inbox came done
       → AnswersPeer facts (command_of old) (Some end) old.outbox.unsent store new.outbox.unsent now → HasRead (Some end) new.inbox new.closed came done
-  left_by ends.Quit old new store now came done is r answers =
+  left_by PeerEnd.Quit old new store now came done is r answers =
       let those = those_came old.inbox came done r in
       those.1 ∙ ap (λ l. done ++ l) (quits old.inbox.due old.inbox.script.source those.0 is answers.0)
-  left_by ends.EndOfInput old new store now came done is r answers = absurd answers
-  left_by ends.Limit old new store now came done is r answers = absurd answers
-  left_by ends.Unread old new store now came done is r answers =
+  left_by PeerEnd.EndOfInput old new store now came done is r answers = absurd answers
+  left_by PeerEnd.Limit old new store now came done is r answers = absurd answers
+  left_by PeerEnd.Unread old new store now came done is r answers =
       let those = those_came old.inbox came done r in
       let b = behind_met old.inbox.due old.inbox.script.source those.0 is in (command_of old, b.0, those.1 ∙ ap (λ l. done ++ l) b.1)
-  left_by ends.StoreFailed old new store now came done is r answers =
+  left_by PeerEnd.StoreFailed old new store now came done is r answers =
       let those = those_came old.inbox came done r in
       let b = behind_met old.inbox.due old.inbox.script.source those.0 is in
       (answers.0, b.0, those.1 ∙ ap (λ l. done ++ l) b.1 ∙ ap (λ (k : Command). done ++ k ∷ b.0) answers.1)
-  left_by ends.Memory old new store now came done is r answers =
+  left_by PeerEnd.Memory old new store now came done is r answers =
       let those = those_came old.inbox came done r in
       let b = behind_met old.inbox.due old.inbox.script.source those.0 is in (command_of old, b.0, those.1 ∙ ap (λ l. done ++ l) b.1)
 

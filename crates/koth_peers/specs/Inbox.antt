@@ -1,11 +1,8 @@
 -- What came from a peer, and which commands of it are due.
 use Rattle.std.specs.Prelude.{◌≡◌, ℕ, ◌-◌, ◌≤◌, min, Bool, true, false, List, [], ◌∷◌, ◌++◌, length, Option}
-use Rattle.koth_protocol.specs.Commands.{Command, commands_from, commands_of}
-use Rattle.koth_protocol.specs.Lines.{lines_from}
-use Rattle.koth_protocol.specs.Reading.{IsReading, commands_met}
-use Rattle.koth_protocol.specs.declared.script.Met.{Met}
-use Rattle.koth_protocol.specs.declared.script.Met.TheVariants as met
+use Rattle.koth_protocol.specs.{Commands.{Command, commands_from, commands_of}, Lines.lines_from, Reading.{IsReading, commands_met}, declared.script.Met.Met}
 use Rattle.koth_peers.specs.declared.inbox.Inbox.{Inbox}
+use Rattle.koth_protocol.specs.declared.script.Met.TheVariants as met
 
 -- a command was met
 abbrev pub is_met : Met → Bool

@@ -1,19 +1,9 @@
 -- One session as a value: what came of it, what was carried out, and what is to be sent.
 use Rattle.std.specs.Prelude.{◌≡◌, ℕ, ◌+◌, ◌<◌, ◌≤◌, nat_le, Bool, true, false, if◌then◌else◌, List, [], ◌∷◌, ◌++◌, drop, length, Option, None, Some}
-use Rattle.sector_disk.specs.Facts.{DeviceFacts}
-use Rattle.koth_hill.specs.Kept.{Kept, table_kept}
-use Rattle.hill_store.specs.Seen.{Seen}
-use Rattle.koth_protocol.specs.Commands.{Command, commands_of, kept_source}
-use Rattle.koth_protocol.specs.Table.{show_text}
-use Rattle.koth_protocol.specs.declared.script.Met.{Met}
+use Rattle.{koth_hill.specs.Kept.{Kept, table_kept}, sector_disk.specs.Facts.DeviceFacts, hill_store.specs.Seen.Seen, koth_protocol.specs.Commands.{Command, commands_of, kept_source}}
+use Rattle.{koth_protocol.specs.{Table.show_text, declared.script.Met.Met}, koth_session.specs.{Sessions.{AreServed, IsLeftOff}, Transcript.{Exchange, answer, command_in}}}
+use Rattle.koth_peers.specs.{Inbox.{IsReadTo, is_met, room_of}, declared.end.PeerEnd.PeerEnd, declared.inbox.Inbox.Inbox, declared.peer.Peer.Peer}
 use Rattle.koth_protocol.specs.declared.script.Met.TheVariants as met
-use Rattle.koth_session.specs.Sessions.{AreServed, IsLeftOff}
-use Rattle.koth_session.specs.Transcript.{Exchange, answer, command_in}
-use Rattle.koth_peers.specs.Inbox.{IsReadTo, is_met, room_of}
-use Rattle.koth_peers.specs.declared.end.PeerEnd.{PeerEnd}
-use Rattle.koth_peers.specs.declared.end.PeerEnd.TheVariants as ends
-use Rattle.koth_peers.specs.declared.inbox.Inbox.{Inbox}
-use Rattle.koth_peers.specs.declared.peer.Peer.{Peer}
 
 -- ---- how a session stands
 
@@ -21,7 +11,7 @@ use Rattle.koth_peers.specs.declared.peer.Peer.{Peer}
 abbrev pub settled : Option PeerEnd → Bool → ℕ → Bool → Option PeerEnd
 settled (Some end) due taken closed = Some end
 settled None true taken closed = None
-settled None false taken closed = if nat_le 16777216 taken then Some ends.Limit else (if closed then Some ends.EndOfInput else None)
+settled None false taken closed = if nat_le 16777216 taken then Some PeerEnd.Limit else (if closed then Some PeerEnd.EndOfInput else None)
 
 abbrev pub settled_now : {A : Type 0} → Option PeerEnd → Peer A → Option PeerEnd
 settled_now end peer = settled end (is_met peer.inbox.due) peer.inbox.taken peer.closed
@@ -47,12 +37,12 @@ may_come_now peer = may_come peer.end peer.closed (room_of peer.inbox)
 -- one is due, or more bytes may come.
 abbrev pub HasRead : {A : Type 0} → Option PeerEnd → Inbox A → Bool → List ℕ → List Command → Type 0
 HasRead None inbox closed came done = IsReadTo inbox came done × (is_met inbox.due ≡ false → (closed ≡ false) × (length came < 16777216))
-HasRead (Some ends.Quit) inbox closed came done = commands_of came ≡ done ++ Command.Quit ∷ []
-HasRead (Some ends.EndOfInput) inbox closed came done = (commands_of came ≡ done) × (closed ≡ true)
-HasRead (Some ends.Limit) inbox closed came done = (commands_of came ≡ done) × (length came ≡ 16777216)
-HasRead (Some ends.Unread) inbox closed came done = (command : Command) × (behind : List Command) × (commands_of came ≡ done ++ command ∷ behind)
-HasRead (Some ends.StoreFailed) inbox closed came done = (source : List ℕ) × (behind : List Command) × (commands_of came ≡ done ++ Command.Submit source ∷ behind)
-HasRead (Some ends.Memory) inbox closed came done = (command : Command) × (behind : List Command) × (commands_of came ≡ done ++ command ∷ behind)
+HasRead (Some PeerEnd.Quit) inbox closed came done = commands_of came ≡ done ++ Command.Quit ∷ []
+HasRead (Some PeerEnd.EndOfInput) inbox closed came done = (commands_of came ≡ done) × (closed ≡ true)
+HasRead (Some PeerEnd.Limit) inbox closed came done = (commands_of came ≡ done) × (length came ≡ 16777216)
+HasRead (Some PeerEnd.Unread) inbox closed came done = (command : Command) × (behind : List Command) × (commands_of came ≡ done ++ command ∷ behind)
+HasRead (Some PeerEnd.StoreFailed) inbox closed came done = (source : List ℕ) × (behind : List Command) × (commands_of came ≡ done ++ Command.Submit source ∷ behind)
+HasRead (Some PeerEnd.Memory) inbox closed came done = (command : Command) × (behind : List Command) × (commands_of came ≡ done ++ command ∷ behind)
 
 -- these bytes came, and these commands of theirs were carried out and answered
 pub record IsPeer {A : Type 0} (peer : Peer A) (came : List ℕ) (done : List Command) : Type 0 where
@@ -108,24 +98,24 @@ IsFull hill Command.Bad unsent = 1048576 < length unsent + 4
 -- a text was put after the answers that are unsent, or the session ends: it has no room, or no memory
 abbrev pub Says : List ℕ → Option PeerEnd → List ℕ → List ℕ → Type 0
 Says text None unsent new = new ≡ unsent ++ text
-Says text (Some ends.Unread) unsent new = (1048576 < length unsent + length text) × (new ≡ unsent)
-Says text (Some ends.Memory) unsent new = new ≡ unsent
-Says text (Some ends.Quit) unsent new = ⊥
-Says text (Some ends.EndOfInput) unsent new = ⊥
-Says text (Some ends.Limit) unsent new = ⊥
-Says text (Some ends.StoreFailed) unsent new = ⊥
+Says text (Some PeerEnd.Unread) unsent new = (1048576 < length unsent + length text) × (new ≡ unsent)
+Says text (Some PeerEnd.Memory) unsent new = new ≡ unsent
+Says text (Some PeerEnd.Quit) unsent new = ⊥
+Says text (Some PeerEnd.EndOfInput) unsent new = ⊥
+Says text (Some PeerEnd.Limit) unsent new = ⊥
+Says text (Some PeerEnd.StoreFailed) unsent new = ⊥
 
 -- What came of a command: it was carried out on the store, and its answer stands after those that are unsent; or the session ends.
 abbrev pub AnswersPeer : {D : Type 0} → DeviceFacts D → Command → Option PeerEnd → List ℕ → Seen D → List ℕ → Seen D → Type 0
 AnswersPeer facts command None unsent old unsent_new new =
     (e : Exchange) × (command ≡ command_in e) × AreServed facts old new (e ∷ []) × (unsent_new ≡ unsent ++ answer old.hill e)
-AnswersPeer facts command (Some ends.Quit) unsent old unsent_new new = (command ≡ Command.Quit) × (new ≡ old) × (unsent_new ≡ unsent)
-AnswersPeer facts command (Some ends.EndOfInput) unsent old unsent_new new = ⊥
-AnswersPeer facts command (Some ends.Limit) unsent old unsent_new new = ⊥
-AnswersPeer facts command (Some ends.Unread) unsent old unsent_new new = IsFull old.hill command unsent × (new ≡ old) × (unsent_new ≡ unsent)
-AnswersPeer facts command (Some ends.StoreFailed) unsent old unsent_new new =
+AnswersPeer facts command (Some PeerEnd.Quit) unsent old unsent_new new = (command ≡ Command.Quit) × (new ≡ old) × (unsent_new ≡ unsent)
+AnswersPeer facts command (Some PeerEnd.EndOfInput) unsent old unsent_new new = ⊥
+AnswersPeer facts command (Some PeerEnd.Limit) unsent old unsent_new new = ⊥
+AnswersPeer facts command (Some PeerEnd.Unread) unsent old unsent_new new = IsFull old.hill command unsent × (new ≡ old) × (unsent_new ≡ unsent)
+AnswersPeer facts command (Some PeerEnd.StoreFailed) unsent old unsent_new new =
     (source : List ℕ) × (command ≡ Command.Submit source) × IsLeftOff facts old new source × (unsent_new ≡ unsent)
-AnswersPeer facts command (Some ends.Memory) unsent old unsent_new new = (new ≡ old) × (unsent_new ≡ unsent)
+AnswersPeer facts command (Some PeerEnd.Memory) unsent old unsent_new new = (new ≡ old) × (unsent_new ≡ unsent)
 
 -- the commands that were carried out, with this one
 abbrev pub done_after : Option PeerEnd → List Command → Command → List Command

@@ -1,19 +1,9 @@
 -- Many sessions on one store: what each was answered, and on which hill.
-use Rattle.std.specs.Prelude.{◌≡◌, ◌≢◌, ◌⊎◌, ℕ, ◌+◌, ◌<◌, ◌≤◌, ◌==◌, ◌&&◌, Bool, true, false, if◌then◌else◌, List, [], ◌∷◌, ◌++◌, length, Option, None, Some, IsSome, is_some, Result, Ok, Err, slice_index_or}
-use Rattle.sector_disk.specs.Facts.{DeviceFacts}
-use Rattle.koth_hill.specs.Kept.{Kept}
-use Rattle.hill_store.specs.Earned.{kept_next}
-use Rattle.hill_store.specs.Seen.{Seen}
-use Rattle.koth_session.specs.Sessions.{AreServed, IsLeftOff, KeepsCut, KeepsList}
-use Rattle.koth_session.specs.Transcript.{Exchange, Mark, answer, commands_in, hill_after, hill_next}
-use Rattle.koth_peers.specs.Peer.{IsNew, IsPeer, Serves, is_due_now, may_come_now}
-use Rattle.koth_peers.specs.declared.end.PeerEnd.{PeerEnd}
-use Rattle.koth_peers.specs.declared.end.PeerEnd.TheVariants as ends
-use Rattle.koth_peers.specs.declared.peers.NotConnected.{NotConnected}
-use Rattle.koth_peers.specs.declared.peers.NotConnected.TheVariants as not_connected
-use Rattle.koth_peers.specs.declared.peers.Step.{Step}
-use Rattle.koth_peers.specs.declared.peers.Step.TheVariants as steps
-use Rattle.koth_peers.specs.declared.peer.Peer.{Peer}
+use Rattle.std.specs.Prelude.{◌≡◌, ◌≢◌, ◌⊎◌, ℕ, ◌+◌, ◌<◌, ◌≤◌, ◌==◌, ◌&&◌, Bool, true, false, if◌then◌else◌, List, [], ◌∷◌, ◌++◌, length, Option, None, Some, IsSome, is_some, Result, Ok, Err}
+use Rattle.std.specs.Prelude.{slice_index_or}
+use Rattle.{koth_hill.specs.Kept.Kept, sector_disk.specs.Facts.DeviceFacts, hill_store.specs.{Earned.kept_next, Seen.Seen}, koth_session.specs.Sessions.{AreServed, IsLeftOff, KeepsCut, KeepsList}}
+use Rattle.{koth_session.specs.Transcript.{Exchange, Mark, answer, commands_in, hill_after, hill_next}, koth_peers.specs.Peer.{IsNew, IsPeer, Serves, is_due_now, may_come_now}}
+use Rattle.koth_peers.specs.{declared.end.PeerEnd.PeerEnd, declared.peers.NotConnected.NotConnected, declared.peers.Step.Step, declared.peer.Peer.Peer}
 
 -- ---- peers by their numbers
 
@@ -117,8 +107,7 @@ own p (turn ∷ turns) = if is_whose p turn.whose then turn.exchange ∷ own p t
 -- What one peer was answered in all: each answer is that on the hill which the commands of all peers before it left.
 abbrev pub written : ℕ → Kept → List Turn → List ℕ
 written p hill [] = []
-written p hill (turn ∷ turns) =
-    (if is_whose p turn.whose then answer hill turn.exchange else []) ++ written p (hill_next hill turn.exchange) turns
+written p hill (turn ∷ turns) = (if is_whose p turn.whose then answer hill turn.exchange else []) ++ written p (hill_next hill turn.exchange) turns
 
 -- a peer has left
 abbrev pub left_by : ℕ → Option ℕ → Option ℕ
@@ -177,19 +166,19 @@ pub record ServesOne {D A : Type 0} (facts : DeviceFacts D) (outcome : Option Pe
 
 -- what a step reports
 abbrev pub step_after : Option PeerEnd → ℕ → Step
-step_after None n = steps.Served n
-step_after (Some ends.Quit) n = steps.Served n
-step_after (Some ends.EndOfInput) n = steps.Served n
-step_after (Some ends.Limit) n = steps.Served n
-step_after (Some ends.Unread) n = steps.Served n
-step_after (Some ends.StoreFailed) n = steps.StoreFailed n
-step_after (Some ends.Memory) n = steps.Served n
+step_after None n = Step.Served n
+step_after (Some PeerEnd.Quit) n = Step.Served n
+step_after (Some PeerEnd.EndOfInput) n = Step.Served n
+step_after (Some PeerEnd.Limit) n = Step.Served n
+step_after (Some PeerEnd.Unread) n = Step.Served n
+step_after (Some PeerEnd.StoreFailed) n = Step.StoreFailed n
+step_after (Some PeerEnd.Memory) n = Step.Served n
 
 abbrev pub ServesNext : {D A : Type 0} → DeviceFacts D → Step → Slots A → ℕ → Seen D → Slots A → ℕ → Seen D → Type 0
-ServesNext facts steps.Nobody old start old_store new next new_store = ((p : ℕ) → is_due_at old p ≡ false) × (new ≡ old) × (next ≡ start) × (new_store ≡ old_store)
-ServesNext facts (steps.Served n) old start old_store new next new_store =
-    (outcome : Option PeerEnd) × (step_after outcome n ≡ steps.Served n) × ServesOne facts outcome n old start old_store new next new_store
-ServesNext facts (steps.StoreFailed n) old start old_store new next new_store = ServesOne facts (Some ends.StoreFailed) n old start old_store new next new_store
+ServesNext facts Step.Nobody old start old_store new next new_store = ((p : ℕ) → is_due_at old p ≡ false) × (new ≡ old) × (next ≡ start) × (new_store ≡ old_store)
+ServesNext facts (Step.Served n) old start old_store new next new_store =
+    (outcome : Option PeerEnd) × (step_after outcome n ≡ Step.Served n) × ServesOne facts outcome n old start old_store new next new_store
+ServesNext facts (Step.StoreFailed n) old start old_store new next new_store = ServesOne facts (Some PeerEnd.StoreFailed) n old start old_store new next new_store
 
 -- ---- on a store
 
@@ -221,10 +210,10 @@ pub record AreCutOff {D A : Type 0} (facts : DeviceFacts D) (slots : Slots A) (o
   pub holds : KeepsCut facts history.first now history.since source
 
 abbrev pub GoesOn : {D A : Type 0} → DeviceFacts D → Step → Slots A → Seen D → Seen D → History D → Type 0
-GoesOn facts steps.Nobody slots old now history = AreServingOn facts slots now history
-GoesOn facts (steps.Served n) slots old now history =
+GoesOn facts Step.Nobody slots old now history = AreServingOn facts slots now history
+GoesOn facts (Step.Served n) slots old now history =
     AreServingOn facts slots now history ⊎ ((e : Exchange) × AreServingOn facts slots now (goes_by n e history))
-GoesOn facts (steps.StoreFailed n) slots old now history = AreCutOff facts slots old now history
+GoesOn facts (Step.StoreFailed n) slots old now history = AreCutOff facts slots old now history
 
 -- a submission that stands, and was answered to nobody
 abbrev pub unanswered : List ℕ → Past → Past
@@ -250,5 +239,5 @@ pub record LawsOfPeers {D : Type 0} (A : Type 0) (facts : DeviceFacts D) : Type 
 abbrev pub Connects : {A : Type 0} → Result ℕ NotConnected → Slots A → Slots A → Type 0
 Connects {A} (Ok n) old new =
     OnlyAt n old new × (n < length old) × (peer_at old n ≡ None) × ((p : ℕ) → p < n → IsSome (peer_at old p)) × (peer : Peer A) × (peer_at new n ≡ Some peer) × IsNew peer
-Connects (Err not_connected.Full) old new = (new ≡ old) × ((p : ℕ) → p < length old → IsSome (peer_at old p))
-Connects (Err not_connected.Memory) old new = new ≡ old
+Connects (Err NotConnected.Full) old new = (new ≡ old) × ((p : ℕ) → p < length old → IsSome (peer_at old p))
+Connects (Err NotConnected.Memory) old new = new ≡ old

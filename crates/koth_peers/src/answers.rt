@@ -1,10 +1,7 @@
 //! What a command is answered, after the answers that are unsent.
 
 ghost use Rattle.std.specs.Prelude.{◌≡◌, ◌+◌, ◌<◌, ◌≤◌, ◌++◌, true, length};
-ghost use Rattle.koth_protocol.specs.Commands.{Command};
-ghost use Rattle.koth_session.specs.Reply.{reply_line};
-ghost use Rattle.koth_peers.specs.Inbox.{is_met};
-ghost use Rattle.koth_peers.specs.Peer.{command_due, AnswersPeer, Says};
+ghost use Rattle.{koth_protocol.specs.Commands.Command, koth_session.specs.Reply.reply_line, koth_peers.specs.{Inbox.is_met, Peer.{command_due, AnswersPeer, Says}}};
 
 use crate::end::PeerEnd;
 use crate::outbox::Outbox;

@@ -1,8 +1,7 @@
 //! What came from a peer, and the command that is due.
 
 ghost use Rattle.std.specs.Prelude.{◌≡◌, ℕ, ◌+◌, ◌≤◌, [], ◌∷◌, ◌++◌, List, length, IfOk};
-ghost use Rattle.koth_protocol.specs.Commands.{Command, kept_source};
-ghost use Rattle.koth_peers.specs.Inbox.{is_met, room_of, IsFollowed, IsNext, IsReadTo};
+ghost use Rattle.{koth_protocol.specs.Commands.{Command, kept_source}, koth_peers.specs.Inbox.{is_met, room_of, IsFollowed, IsNext, IsReadTo}};
 
 use crate::waiting::Waiting;
 use koth_protocol::{Met, Script};

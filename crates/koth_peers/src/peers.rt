@@ -1,8 +1,7 @@
 //! Many sessions on one store, each served in turn.
 
 ghost use Rattle.std.specs.Prelude.{◌≡◌, ℕ, ◌≤◌, true, List, length, option_copied, take, None, IfOk};
-ghost use Rattle.koth_hill.specs.Kept.{Kept};
-ghost use Rattle.koth_peers.specs.Peer.{Closes, Sends, Serves, Takes};
+ghost use Rattle.{koth_hill.specs.Kept.Kept, koth_peers.specs.Peer.{Closes, Sends, Serves, Takes}};
 ghost use Rattle.koth_peers.specs.Peers.{
   came_to,
   connected,

@@ -1,8 +1,7 @@
 -- Lists that are cut after their first elements.
-use Rattle.std.proofs.Common.{◌≡◌, ℕ, ◌+◌, ◌-◌, ◌<◌, ◌≤◌, ◌==◌, Result, is_ok, min, Bool, true, false, if◌then◌else◌, zero, suc, List, [], ◌∷◌, ◌++◌, length, take, refl, sym, ap, ◌∙◌, arith}
-use Rattle.std.proofs.lemmas.List.{take-take, take_min}
 use lib.Seq.{take-append-add}
-use Rattle.koth_protocol.specs.Lines.{without_dot, without_return}
+use Rattle.std.proofs.Common.{◌≡◌, ℕ, ◌+◌, ◌-◌, ◌<◌, ◌≤◌, ◌==◌, Result, is_ok, min, Bool, true, false, if◌then◌else◌, zero, suc, List, [], ◌∷◌, ◌++◌, length, take, refl, sym, ap, ◌∙◌, arith}
+use Rattle.{std.proofs.lemmas.List.{take-take, take_min}, koth_protocol.specs.Lines.{without_dot, without_return}}
 
 -- the same up to n elements
 abbrev pub Same : ℕ → List ℕ → List ℕ → Type 0

@@ -1,12 +1,7 @@
 -- The cells and the lines of matches, one more at a time.
-use Rattle.std.proofs.Common.{◌≡◌, ℕ, ◌+◌, ◌<◌, suc, List, ◌++◌, length, take, get_or, ap, ◌∙◌, append_assoc, sym, arith}
-use Rattle.std.specs.List.{enumerate_from, flat_map, range_with_len}
-use Rattle.std.proofs.lemmas.List.{get_or-map, length-map}
-use Rattle.koth_hill.specs.Rows.{row_parts, rows_parts}
-use Rattle.koth_hill.specs.Table.{RowParts}
-use Rattle.koth_hill.specs.declared.row.Row.{Row}
+use Rattle.{std.proofs.Common.{◌≡◌, ℕ, ◌+◌, ◌<◌, suc, List, ◌++◌, length, take, get_or, ap, ◌∙◌, append_assoc, sym, arith}, std.specs.List.{enumerate_from, flat_map, range_with_len}}
+use Rattle.{std.proofs.lemmas.List.{get_or-map, length-map}, koth_hill.specs.{Rows.{row_parts, rows_parts}, Table.RowParts, declared.row.Row.Row}, koth_protocol.specs.Matches.entries_shown}
 use Rattle.koth_text.proofs.Steps.{next_number, next_ranked, part_more}
-use Rattle.koth_protocol.specs.Matches.{entries_shown}
 
 -- the ranks from 1 on, by places from 0 on
 pub one-rank_more : (f : ℕ → List ℕ) (i : ℕ) → flat_map f (range_with_len 1 (i + 1)) ≡ flat_map f (range_with_len 1 i) ++ f (i + 1)

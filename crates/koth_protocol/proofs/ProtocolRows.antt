@@ -1,13 +1,6 @@
 -- Tables, matches and commands, computed.
-use Rattle.std.proofs.Common.{◌≡◌, ℕ, [], ◌∷◌, codes, refl}
-use Rattle.std.specs.Fmt.{digits}
-use Rattle.war_types.specs.declared.settings.RawSettings.{RawSettings}
-use Rattle.war_types.specs.Warrior.{warrior_parts}
-use Rattle.koth_hill.specs.Hill.{Member, member_of}
-use Rattle.koth_hill.specs.Kept.{Kept, kept_of}
-use Rattle.koth_protocol.specs.Commands.{Command, commands_of}
-use Rattle.koth_protocol.specs.Matches.{matches_text}
-use Rattle.koth_protocol.specs.Table.{show_text}
+use Rattle.{std.proofs.Common.{◌≡◌, ℕ, [], ◌∷◌, codes, refl}, std.specs.Fmt.digits, war_types.specs.{declared.settings.RawSettings.RawSettings, Warrior.warrior_parts}}
+use Rattle.{koth_hill.specs.{Hill.{Member, member_of}, Kept.{Kept, kept_of}}, koth_protocol.specs.{Commands.{Command, commands_of}, Matches.matches_text, Table.show_text}}
 
 table_of_two : show_text (record { entry = 1; name = codes "Imp"; author = codes "A. K. Dewdney"; score = 2; age = 1 } ∷ record { entry = 2; name = codes "Unnamed"; author = codes "Anonymous"; score = 2; age = 0 } ∷ [])
     ≡ codes "1 1 2 1 Imp by A. K. Dewdney\n2 2 2 0 Unnamed by Anonymous\n.\n"

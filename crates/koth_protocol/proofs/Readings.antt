@@ -1,18 +1,9 @@
 -- What a line does to a reading, if only its beginning is kept.
-use Rattle.std.proofs.Common.{◌≡◌, ◌≢◌, ◌⊎◌, inl, inr, ℕ, ◌+◌, ◌-◌, ◌<◌, ◌≤◌, ◌==◌, ◌&&◌, Bool, true, false, if◌then◌else◌, suc, List, [], ◌∷◌, ◌++◌, length, take, get_or, eqb-true, Option, None, Some, refl, sym, ap, append_assoc, subst, ◌∙◌, arith, codes}
-use Rattle.std.specs.Str.{bytes_eq}
-use Rattle.std.proofs.lemmas.List.{take-take, take_all, length-take-le}
-use Rattle.koth_protocol.specs.Lines.{lines_from, without_dot, without_return}
-use Rattle.koth_protocol.specs.Commands.{commands_from, kept_source, with_line, word_of}
-use Rattle.koth_protocol.specs.Kept.{kept}
-use Rattle.koth_protocol.specs.Reading.{IsReading, IsSourceKept, Reads, TakesCommand, TakesSourceLine, commands_met}
-use Rattle.koth_protocol.specs.declared.script.Met.{Met}
-use Rattle.koth_protocol.specs.declared.script.Met.TheVariants as met
-use Rattle.koth_protocol.specs.declared.script.Script.{Script}
-use Rattle.koth_protocol.specs.declared.script.Word.TheVariants as words
-use Rattle.std.proofs.lemmas.Bool.{cases_lt}
-use Rattle.std.proofs.lemmas.Bool.Decides.{eqb_tells}
-use Rattle.koth_protocol.proofs.Cuts.{Same, same_append, same_dot, same_entry}
+use Rattle.std.proofs.Common.{◌≡◌, ◌≢◌, ◌⊎◌, inl, inr, ℕ, ◌+◌, ◌-◌, ◌<◌, ◌≤◌, ◌==◌, ◌&&◌, Bool, true, false, if◌then◌else◌, suc, List, [], ◌∷◌, ◌++◌, length, take, get_or, eqb-true, Option}
+use Rattle.{std.proofs.Common.{None, Some, refl, sym, ap, append_assoc, subst, ◌∙◌, arith, codes}, std.specs.Str.bytes_eq, std.proofs.lemmas.List.{take-take, take_all, length-take-le}}
+use Rattle.{std.proofs.{lemmas.Bool.cases_lt, lemmas.Bool.Decides.eqb_tells}, koth_protocol.specs.Lines.{lines_from, without_dot, without_return}}
+use Rattle.koth_protocol.specs.{Commands.{commands_from, kept_source, with_line, word_of}, Kept.kept, Reading.{IsReading, IsSourceKept, Reads, TakesCommand, TakesSourceLine, commands_met}}
+use Rattle.{koth_protocol.specs.{declared.script.Met.Met, declared.script.Script.Script, declared.script.Word.Word}, koth_protocol.proofs.Cuts.{Same, same_append, same_dot, same_entry}}
 
 -- ---- the code's line without its carriage return
 
@@ -57,7 +48,7 @@ long_return [] = omega arith
 long_return (b ∷ []) = omega arith
 long_return (b ∷ c ∷ cs) = omega (arith, long_return (c ∷ cs))
 
-long_word : (xs : List ℕ) → 100 < length xs → word_of (without_return xs) ≡ words.Other
+long_word : (xs : List ℕ) → 100 < length xs → word_of (without_return xs) ≡ Word.Other
 long_word xs long =
     let longer = long_return xs in
     rw (
@@ -133,30 +124,30 @@ module _ {A : Type 0} where
 
   command_line : (script : Script A) (line : List ℕ) (m : Met) → script.line ≡ []
       → TakesCommand (without_return (kept line)) m script.in_source script.source → Reads line None 10 m script
-  command_line script line met.Nothing empty takes = record {
+  command_line script line Met.Nothing empty takes = record {
     new_line = [];
     new_source = Some [];
     reading = record { line_kept = empty; source_kept = rw (takes.1, takes.2) refl };
     commands = λ more. rw (sym (word_kept line) ∙ takes.0) refl;
   }
-  command_line script line met.Submit empty takes = absurd takes
-  command_line script line met.Show empty takes = no_source script line None met.Show empty takes.1 (λ more. rw (sym (word_kept line) ∙ takes.0) refl)
-  command_line script line met.Quit empty takes = no_source script line None met.Quit empty takes.1 (λ more. rw (sym (word_kept line) ∙ takes.0) refl)
-  command_line script line met.Bad empty takes = no_source script line None met.Bad empty takes.1 (λ more. rw (sym (word_kept line) ∙ takes.0) refl)
+  command_line script line Met.Submit empty takes = absurd takes
+  command_line script line Met.Show empty takes = no_source script line None Met.Show empty takes.1 (λ more. rw (sym (word_kept line) ∙ takes.0) refl)
+  command_line script line Met.Quit empty takes = no_source script line None Met.Quit empty takes.1 (λ more. rw (sym (word_kept line) ∙ takes.0) refl)
+  command_line script line Met.Bad empty takes = no_source script line None Met.Bad empty takes.1 (λ more. rw (sym (word_kept line) ∙ takes.0) refl)
 
   source_line : (script : Script A) (bytes line source : List ℕ) (m : Met) → script.line ≡ [] → kept_source bytes ≡ kept_source source
       → TakesSourceLine (without_return (kept line)) bytes m script.in_source script.source → Reads line (Some source) 10 m script
-  source_line script bytes line source met.Nothing empty is takes = record {
+  source_line script bytes line source Met.Nothing empty is takes = record {
     new_line = [];
     new_source = Some (with_line source (without_return line));
     reading = record { line_kept = empty; source_kept = rw (takes.1, takes.2) (grown_kept bytes source line is) };
     commands = λ more. rw (sym (end_kept line) ∙ takes.0) refl;
   }
-  source_line script bytes line source met.Submit empty is takes =
-      no_source script line (Some source) met.Submit empty takes.1 (λ more. rw (sym (end_kept line) ∙ takes.0, takes.2, is) refl)
-  source_line script bytes line source met.Show empty is takes = absurd takes
-  source_line script bytes line source met.Quit empty is takes = absurd takes
-  source_line script bytes line source met.Bad empty is takes = absurd takes
+  source_line script bytes line source Met.Submit empty is takes =
+      no_source script line (Some source) Met.Submit empty takes.1 (λ more. rw (sym (end_kept line) ∙ takes.0, takes.2, is) refl)
+  source_line script bytes line source Met.Show empty is takes = absurd takes
+  source_line script bytes line source Met.Quit empty is takes = absurd takes
+  source_line script bytes line source Met.Bad empty is takes = absurd takes
 
   -- the end of a line while a command is due
   pub command_ends : (old script : Script A) (cut : List ℕ) (m : Met) → old.in_source ≡ false → cut ≡ without_return old.line → script.line ≡ []
@@ -191,7 +182,7 @@ module _ {A : Type 0} where
 
   -- another byte of a line
   pub byte_comes : (old script : Script A) (byte : ℕ) → byte ≢ 10 → script.line ≡ kept (old.line ++ byte ∷ []) → script.source ≡ old.source
-      → script.in_source ≡ old.in_source → (line : List ℕ) (source : Option (List ℕ)) → IsReading old line source → Reads line source byte met.Nothing script
+      → script.in_source ≡ old.in_source → (line : List ℕ) (source : Option (List ℕ)) → IsReading old line source → Reads line source byte Met.Nothing script
   byte_comes old script byte other is same_source same_state line source reading = record {
     new_line = line ++ byte ∷ [];
     new_source = source;

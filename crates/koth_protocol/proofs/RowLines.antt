@@ -1,8 +1,6 @@
 -- The lines of a table, one more at a time.
 use Rattle.std.proofs.Common.{◌≡◌, ℕ, ◌+◌, ◌<◌, zero, suc, List, [], ◌∷◌, ◌++◌, length, take, get_or, sym, ap, ◌∙◌, append_assoc, append-nil, arith}
-use Rattle.koth_hill.specs.Rows.{row_parts, rows_parts}
-use Rattle.koth_hill.specs.declared.row.Row.{Row}
-use Rattle.koth_protocol.specs.Table.{row_line, row_lines}
+use Rattle.{koth_hill.specs.{Rows.{row_parts, rows_parts}, declared.row.Row.Row}, koth_protocol.specs.Table.{row_line, row_lines}}
 
 next : (rank : ℕ) (rows : List Row) (i : ℕ) (row : Row) → i < length rows → row ≡ get_or rows i row
     → row_lines rank (take (suc i) (rows_parts rows)) ≡ row_lines rank (take i (rows_parts rows)) ++ row_line (rank + i) (row_parts row)

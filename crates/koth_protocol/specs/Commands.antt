@@ -1,9 +1,6 @@
 -- The commands of a session.
-use Rattle.std.specs.Prelude.{ℕ, if◌then◌else◌, List, [], ◌∷◌, ◌++◌, take, Option, None, Some, codes}
-use Rattle.std.specs.Str.{bytes_eq}
-use Rattle.koth_protocol.specs.Lines.{lines_of, without_dot}
-use Rattle.koth_protocol.specs.declared.script.Word.{Word}
-use Rattle.koth_protocol.specs.declared.script.Word.TheVariants as words
+use Rattle.std.specs.{Prelude.{ℕ, if◌then◌else◌, List, [], ◌∷◌, ◌++◌, take, Option, None, Some, codes}, Str.bytes_eq}
+use Rattle.koth_protocol.specs.{Lines.{lines_of, without_dot}, declared.script.Word.Word}
 
 pub data Command : Type 0 where
   Submit : List ℕ → Command
@@ -18,16 +15,16 @@ kept_source source = take 65537 source
 -- what a line asks for if a command is due
 abbrev pub word_of : List ℕ → Word
 word_of line =
-    if bytes_eq line (codes "SUBMIT") then words.Submit else (
-    if bytes_eq line (codes "SHOW") then words.Show else (
-    if bytes_eq line (codes "QUIT") then words.Quit else words.Other))
+    if bytes_eq line (codes "SUBMIT") then Word.Submit else (
+    if bytes_eq line (codes "SHOW") then Word.Show else (
+    if bytes_eq line (codes "QUIT") then Word.Quit else Word.Other))
 
 -- a command line in front of other commands; after `SUBMIT` the lines are the source's
 abbrev pub commands_by : Word → List Command → List Command → List Command
-commands_by words.Submit behind others = behind
-commands_by words.Show behind others = Show ∷ others
-commands_by words.Quit behind others = Quit ∷ []
-commands_by words.Other behind others = Bad ∷ others
+commands_by Word.Submit behind others = behind
+commands_by Word.Show behind others = Show ∷ others
+commands_by Word.Quit behind others = Quit ∷ []
+commands_by Word.Other behind others = Bad ∷ others
 
 -- a source with one more line
 abbrev pub with_line : List ℕ → List ℕ → List ℕ

@@ -1,8 +1,6 @@
 -- Who won how many rounds against whom on a hill, in lines.
-use Rattle.std.specs.Prelude.{ℕ, ◌-◌, ◌==◌, max, nat_lt, if◌then◌else◌, List, ◌++◌, length, map, replicate, codes, decimal}
-use Rattle.std.specs.List.{enumerate_from, flat_map, range_with_len}
-use Rattle.koth_hill.specs.Kept.{Kept, entries_of, or_no_rounds, result_of, table_kept}
-use Rattle.koth_hill.specs.Table.{RowParts}
+use Rattle.std.specs.{Prelude.{ℕ, ◌-◌, ◌==◌, max, nat_lt, if◌then◌else◌, List, ◌++◌, length, map, replicate, codes, decimal}, List.{enumerate_from, flat_map, range_with_len}}
+use Rattle.koth_hill.specs.{Kept.{Kept, entries_of, or_no_rounds, result_of, table_kept}, Table.RowParts}
 
 -- the entries of these rows
 abbrev pub entries_shown : List RowParts → List ℕ

@@ -1,13 +1,8 @@
 -- How the commands are found as bytes come.
-use Rattle.std.specs.Prelude.{◌≡◌, ℕ, ⊤, Bool, true, false, List, [], ◌∷◌, ◌++◌, Option, None, Some, codes}
-use Rattle.std.specs.Str.{bytes_eq}
-use Rattle.koth_protocol.specs.Commands.{Command, commands_from, kept_source, word_of}
-use Rattle.koth_protocol.specs.declared.script.Word.TheVariants as words
-use Rattle.koth_protocol.specs.Kept.{kept}
-use Rattle.koth_protocol.specs.Lines.{lines_from, without_dot}
-use Rattle.koth_protocol.specs.declared.script.Met.{Met}
+use Rattle.std.specs.{Prelude.{◌≡◌, ℕ, ⊤, Bool, true, false, List, [], ◌∷◌, ◌++◌, Option, None, Some, codes}, Str.bytes_eq}
+use Rattle.koth_protocol.specs.{Commands.{Command, commands_from, kept_source, word_of}, Kept.kept, Lines.{lines_from, without_dot}, declared.script.Met.Met, declared.script.Script.Script}
+use Rattle.koth_protocol.specs.declared.script.Word.{Word}
 use Rattle.koth_protocol.specs.declared.script.Met.TheVariants as met
-use Rattle.koth_protocol.specs.declared.script.Script.{Script}
 
 -- these bytes are kept of the source under way
 abbrev pub IsSourceKept : Bool → List ℕ → Option (List ℕ) → Type 0
@@ -39,11 +34,11 @@ pub record Reads {A : Type 0} (line : List ℕ) (source : Option (List ℕ)) (by
 
 -- what a line does if a command is due
 abbrev pub TakesCommand : List ℕ → Met → Bool → List ℕ → Type 0
-TakesCommand line met.Nothing in_source bytes = (word_of line ≡ words.Submit) × (in_source ≡ true) × (bytes ≡ [])
+TakesCommand line met.Nothing in_source bytes = (word_of line ≡ Word.Submit) × (in_source ≡ true) × (bytes ≡ [])
 TakesCommand line met.Submit in_source bytes = ⊥
-TakesCommand line met.Show in_source bytes = (word_of line ≡ words.Show) × (in_source ≡ false)
-TakesCommand line met.Quit in_source bytes = (word_of line ≡ words.Quit) × (in_source ≡ false)
-TakesCommand line met.Bad in_source bytes = (word_of line ≡ words.Other) × (in_source ≡ false)
+TakesCommand line met.Show in_source bytes = (word_of line ≡ Word.Show) × (in_source ≡ false)
+TakesCommand line met.Quit in_source bytes = (word_of line ≡ Word.Quit) × (in_source ≡ false)
+TakesCommand line met.Bad in_source bytes = (word_of line ≡ Word.Other) × (in_source ≡ false)
 
 -- what a line does to the source under way
 abbrev pub TakesSourceLine : List ℕ → List ℕ → Met → Bool → List ℕ → Type 0

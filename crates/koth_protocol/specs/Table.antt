@@ -4,8 +4,7 @@ use Rattle.koth_hill.specs.Table.{RowParts}
 
 -- the numbers of a warrior on the hill: rank, entry, score and age
 abbrev pub row_numbers : ℕ → RowParts → List ℕ
-row_numbers rank row =
-    decimal rank ++ codes " " ++ decimal row.entry ++ codes " " ++ decimal row.score ++ codes " " ++ decimal row.age ++ codes " "
+row_numbers rank row = decimal rank ++ codes " " ++ decimal row.entry ++ codes " " ++ decimal row.score ++ codes " " ++ decimal row.age ++ codes " "
 
 -- the line of a warrior on the hill: its numbers, its name and its author
 abbrev pub row_line : ℕ → RowParts → List ℕ

@@ -1,9 +1,7 @@
 //! A stream whose faults are counted.
 
-ghost use Rattle.std.specs.Prelude.{◌≡◌, ◌≢◌, ◌+◌, ◌-◌, ◌^◌, ◌<◌, ◌≤◌, min, [], length, IfOk, OnOk, OnErr};
-ghost use Rattle.std.specs.Io.KnownBytes.{Appends, ReadConsumes, WriteAppends};
-ghost use Rattle.koth_protocol.specs.Counted.{raised, Rose};
-ghost use Rattle.koth_text.specs.Written.{WritesPart};
+ghost use Rattle.std.specs.{Prelude.{◌≡◌, ◌≢◌, ◌+◌, ◌-◌, ◌^◌, ◌<◌, ◌≤◌, min, [], length, IfOk, OnOk, OnErr}, Io.KnownBytes.{Appends, ReadConsumes, WriteAppends}};
+ghost use Rattle.{koth_protocol.specs.Counted.{raised, Rose}, koth_text.specs.Written.WritesPart};
 
 use koth_text::{read_uninterrupted, write_uninterrupted};
 use std::io::{Read, Write};

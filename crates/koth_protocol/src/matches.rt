@@ -1,8 +1,7 @@
 //! Who won how many rounds against whom.
 
 ghost use Rattle.std.specs.Prelude.{◌≡◌, ◌+◌, ◌++◌, length, codes, decimal, IfOk, OnOk};
-ghost use Rattle.koth_hill.specs.Rows.{rows_parts};
-ghost use Rattle.koth_protocol.specs.Matches.{cell, entries_shown, entry_line, entry_lines, matches_text, places_for, ranks_line, right, rounds_won, told_of};
+ghost use Rattle.{koth_hill.specs.Rows.rows_parts, koth_protocol.specs.Matches.{cell, entries_shown, entry_line, entry_lines, matches_text, places_for, ranks_line, right, rounds_won, told_of}};
 
 use itoa::Buffer;
 use koth_hill::{Hill, Row};

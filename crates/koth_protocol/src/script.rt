@@ -1,10 +1,7 @@
 //! The commands of a session, as its bytes come.
 
-ghost use Rattle.std.specs.Prelude.{◌≡◌, ℕ, true, false, [], ◌∷◌, List, None, Option, IfOk};
-ghost use Rattle.std.specs.Str.{bytes_eq};
-ghost use Rattle.koth_protocol.specs.Commands.{kept_source, word_of};
-ghost use Rattle.koth_protocol.specs.Lines.{without_dot, without_return};
-ghost use Rattle.koth_protocol.specs.Reading.{IsReading, Reads, TakesCommand, TakesSourceLine};
+ghost use Rattle.std.specs.{Prelude.{◌≡◌, ℕ, true, false, [], ◌∷◌, List, None, Option, IfOk}, Str.bytes_eq};
+ghost use Rattle.koth_protocol.specs.{Commands.{kept_source, word_of}, Lines.{without_dot, without_return}, Reading.{IsReading, Reads, TakesCommand, TakesSourceLine}};
 
 use crate::kept::Kept;
 use std::alloc::{AllocError, Allocator};

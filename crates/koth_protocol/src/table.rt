@@ -1,8 +1,7 @@
 //! The answer to `SHOW`.
 
 ghost use Rattle.std.specs.Prelude.{◌≡◌, ◌+◌, ◌<◌, ◌^◌, ◌++◌, length, IfOk, OnOk};
-ghost use Rattle.koth_hill.specs.Rows.{row_parts, rows_parts};
-ghost use Rattle.koth_protocol.specs.Table.{row_line, row_numbers, show_text};
+ghost use Rattle.{koth_hill.specs.Rows.{row_parts, rows_parts}, koth_protocol.specs.Table.{row_line, row_numbers, show_text}};
 
 use koth_hill::Row;
 use koth_text::{Line, put_line};

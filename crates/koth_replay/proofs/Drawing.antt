@@ -1,30 +1,11 @@
 -- What the events of cells, of processes and of a turn draw.
-use Rattle.std.proofs.Common.{◌≡◌, ℕ, zero, suc, ◌+◌, ◌-◌, ◌<◌, ◌≤◌, Bool, true, false, ◌&&◌, ◌==◌, if◌then◌else◌, List, [], ◌∷◌, ◌++◌, length, map, take, drop, get_or, set, slice_index, refl, sym, ap, subst, ◌∙◌, append_assoc, append-nil, eqb-true, arith}
-use Rattle.std.proofs.lemmas.Bool.{and_parts}
-use Rattle.std.proofs.lemmas.List.{take_all, drop_all, take_at, take-take, take-append-drop, set-get_or}
-use Rattle.war_types.specs.declared.instr.Op.{Op}
-use Rattle.war_types.specs.declared.instr.Op.TheVariants as ops
-use Rattle.war_types.specs.declared.instr.Modifier.{Modifier}
-use Rattle.war_types.specs.declared.instr.Modifier.TheVariants as modifiers
-use Rattle.war_types.specs.declared.instr.Mode.{Mode}
-use Rattle.war_types.specs.declared.instr.Mode.TheVariants as modes
-use Rattle.war_types.specs.declared.instr.Instr.{Instr}
-use Rattle.war_types.specs.declared.settings.RawSettings.{RawSettings}
-use Rattle.war_types.specs.Bytes.{op_code, modifier_code, mode_code}
-use Rattle.mars_core.specs.declared.round.Side.{Side}
-use Rattle.mars_core.specs.declared.round.Side.TheVariants as sides
-use Rattle.mars_core.specs.Cells.{blank, cell}
-use Rattle.mars_core.specs.Operand.{Reach}
-use Rattle.mars_core.specs.Effect.{are_equal, kinds_equal, numbers_equal}
-use Rattle.mars_core.specs.Words.{op_at, modifier_at, mode_at}
-use Rattle.mars_core.specs.Code.{other}
-use Rattle.mars_core.specs.Round.{Round, executed, is_empty, is_over, queue_of, side_turn, turn_of, after_side, after_turn, IsRound}
-use Rattle.mars_core.proofs.Turns.{both_sides_live}
-use Rattle.koth_replay.specs.declared.event.Event.{Event}
-use Rattle.koth_replay.specs.declared.event.Event.TheVariants as events
-use Rattle.koth_replay.specs.Picture.{Picture, picture, picture_of, after_event, drawn}
-use Rattle.koth_replay.specs.Turn.{cell_told, cell_events, core_events, process_events, turn_events}
-use Rattle.koth_replay.proofs.Steps.{next_number, at_place, one_place_more}
+use Rattle.std.proofs.Common.{◌≡◌, ℕ, zero, suc, ◌+◌, ◌-◌, ◌<◌, ◌≤◌, Bool, true, false, ◌&&◌, ◌==◌, if◌then◌else◌, List, [], ◌∷◌, ◌++◌, length, map, take, drop, get_or, set, slice_index, refl, sym}
+use Rattle.std.proofs.{Common.{ap, subst, ◌∙◌, append_assoc, append-nil, eqb-true, arith}, lemmas.Bool.and_parts, lemmas.List.{take_all, drop_all, take_at, take-take, take-append-drop, set-get_or}}
+use Rattle.war_types.specs.{declared.instr.Op.Op, declared.instr.Modifier.Modifier, declared.instr.Mode.Mode, declared.instr.Instr.Instr, declared.settings.RawSettings.RawSettings}
+use Rattle.{war_types.specs.Bytes.{op_code, modifier_code, mode_code}, mars_core.specs.{declared.round.Side.Side, Cells.{blank, cell}, Operand.Reach, Effect.{are_equal, kinds_equal, numbers_equal}}}
+use Rattle.mars_core.specs.{Words.{op_at, modifier_at, mode_at}, Code.other, Round.{Round, executed, is_empty, is_over, queue_of, side_turn, turn_of, after_side, after_turn, IsRound}}
+use Rattle.{mars_core.proofs.Turns.both_sides_live, koth_replay.specs.{declared.event.Event.Event, Picture.{Picture, picture, picture_of, after_event, drawn}}}
+use Rattle.{koth_replay.specs.Turn.{cell_told, cell_events, core_events, process_events, turn_events}, koth_replay.proofs.Steps.{next_number, at_place, one_place_more}}
 
 pub drawn-append : (p : Picture) (xs ys : List Event) → drawn p (xs ++ ys) ≡ drawn (drawn p xs) ys
 drawn-append p [] ys = refl
@@ -33,24 +14,24 @@ drawn-append p (x ∷ xs) ys = drawn-append (after_event x p) xs ys
 -- ---- equal instructions are the same
 
 op_read : (op : Op) → op_at (op_code op) ≡ op
-op_read ops.Dat = refl
+op_read Op.Dat = refl
 op_read op = refl
 
 modifier_read : (m : Modifier) → modifier_at (modifier_code m) ≡ m
-modifier_read modifiers.A = refl
+modifier_read Modifier.A = refl
 modifier_read m = refl
 
 mode_read : (m : Mode) → mode_at (mode_code m) ≡ m
-mode_read modes.Immediate = refl
+mode_read Mode.Immediate = refl
 mode_read m = refl
 
 -- things with one code are the same
 one_of : {X : Type 0} (code : X → ℕ) (at : ℕ → X) (read : (x : X) → at (code x) ≡ x) (a b : X) → (code a == code b) ≡ true → a ≡ b
 one_of code at read a b e = sym (read a) ∙ ap at (eqb-true (code a) (code b) e) ∙ read b
 
-are_equal-same : (a b : Instr) → are_equal modifiers.I a b ≡ true → a ≡ b
+are_equal-same : (a b : Instr) → are_equal Modifier.I a b ≡ true → a ≡ b
 are_equal-same a b e =
-    let all = and_parts (kinds_equal a b) (numbers_equal modifiers.I a b) e in
+    let all = and_parts (kinds_equal a b) (numbers_equal Modifier.I a b) e in
     let kinds = and_parts (op_code a.op == op_code b.op && modifier_code a.modifier == modifier_code b.modifier && mode_code a.a_mode == mode_code b.a_mode) (mode_code a.b_mode == mode_code b.b_mode) all.0 in
     let firsts = and_parts (op_code a.op == op_code b.op && modifier_code a.modifier == modifier_code b.modifier) (mode_code a.a_mode == mode_code b.a_mode) kinds.0 in
     let ops_and = and_parts (op_code a.op == op_code b.op) (modifier_code a.modifier == modifier_code b.modifier) firsts.0 in
@@ -67,7 +48,7 @@ are_equal-same a b e =
 -- ---- cells
 
 told_draws : (b : Bool) (cells : List Instr) (first second : List ℕ) (m : Side) (new : Instr) (at : ℕ) → (b ≡ true → set cells at new ≡ cells) →
-    drawn (picture cells first second m) (if b then [] else events.Cell at new ∷ []) ≡ picture (set cells at new) first second m
+    drawn (picture cells first second m) (if b then [] else Event.Cell at new ∷ []) ≡ picture (set cells at new) first second m
 told_draws true cells first second m new at same = ap (λ c. picture c first second m) (sym (same refl))
 told_draws false cells first second m new at same = refl
 
@@ -75,7 +56,7 @@ told_draws false cells first second m new at same = refl
 cell_draws : (cells : List Instr) (first second : List ℕ) (m : Side) (old new : Instr) (at : ℕ) → get_or cells at blank ≡ old →
     drawn (picture cells first second m) (cell_told old new at) ≡ picture (set cells at new) first second m
 cell_draws cells first second m old new at held =
-    told_draws (are_equal modifiers.I old new) cells first second m new at
+    told_draws (are_equal Modifier.I old new) cells first second m new at
     (λ equal. ap (set cells at) (sym (held ∙ are_equal-same old new equal)) ∙ set-get_or cells at blank)
 
 -- what is told of the first n cells draws what they hold
@@ -102,15 +83,15 @@ core_draws size old new first second m old_size new_size =
 
 -- ---- processes
 
-first_draws : (cells : List Instr) (first second more : List ℕ) → drawn (picture cells first second sides.Second) (map (λ at. events.Process at) more) ≡ picture cells (first ++ more) second sides.Second
-first_draws cells first second [] = ap (λ q. picture cells q second sides.Second) (sym (append-nil first))
+first_draws : (cells : List Instr) (first second more : List ℕ) → drawn (picture cells first second Side.Second) (map (λ at. Event.Process at) more) ≡ picture cells (first ++ more) second Side.Second
+first_draws cells first second [] = ap (λ q. picture cells q second Side.Second) (sym (append-nil first))
 first_draws cells first second (x ∷ more) =
-    first_draws cells (first ++ x ∷ []) second more ∙ ap (λ q. picture cells q second sides.Second) (append_assoc first (x ∷ []) more)
+    first_draws cells (first ++ x ∷ []) second more ∙ ap (λ q. picture cells q second Side.Second) (append_assoc first (x ∷ []) more)
 
-second_draws : (cells : List Instr) (first second more : List ℕ) → drawn (picture cells first second sides.First) (map (λ at. events.Process at) more) ≡ picture cells first (second ++ more) sides.First
-second_draws cells first second [] = ap (λ q. picture cells first q sides.First) (sym (append-nil second))
+second_draws : (cells : List Instr) (first second more : List ℕ) → drawn (picture cells first second Side.First) (map (λ at. Event.Process at) more) ≡ picture cells first (second ++ more) Side.First
+second_draws cells first second [] = ap (λ q. picture cells first q Side.First) (sym (append-nil second))
 second_draws cells first second (x ∷ more) =
-    second_draws cells first (second ++ x ∷ []) more ∙ ap (λ q. picture cells first q sides.First) (append_assoc second (x ∷ []) more)
+    second_draws cells first (second ++ x ∷ []) more ∙ ap (λ q. picture cells first q Side.First) (append_assoc second (x ∷ []) more)
 
 -- a turn takes the front of a queue off and adds the rest at its end, as far as there is room
 grown : (limit : ℕ) (rest more : List ℕ) → length rest ≤ limit → rest ++ drop (length rest) (take limit (rest ++ more)) ≡ take limit (rest ++ more)
@@ -136,40 +117,40 @@ side_follows reach limit core (pc ∷ rest) lives room =
 
 abbrev told_by : Side → Round → Round → List Event
 told_by m r next =
-    events.Turn m (slice_index (queue_of m r) 0)
+    Event.Turn m (slice_index (queue_of m r) 0)
     ∷ (core_events r.settings.core r.core next.core ++ process_events (length (queue_of m r) - 1) (queue_of m next))
 
 -- the events of a side's turn that leaves this core and this queue of its own draw the round after it
 side_draws : (m : Side) (r : Round) (core : List Instr) (queue : List ℕ) → length r.core ≡ r.settings.core → length core ≡ r.settings.core → Follows (queue_of m r) queue →
     drawn (picture_of r) (told_by m r (after_side m core queue r)) ≡ picture_of (after_side m core queue r)
-side_draws sides.First r core queue here there follows =
+side_draws Side.First r core queue here there follows =
     let size = r.settings.core in
-    let start : Picture = picture r.core (drop 1 r.first) r.second sides.Second in
+    let start : Picture = picture r.core (drop 1 r.first) r.second Side.Second in
     let more : List Event = process_events (length r.first - 1) queue in
     drawn-append start (core_events size r.core core) more
-    ∙ ap (λ p. drawn p more) (core_draws size r.core core (drop 1 r.first) r.second sides.Second here there)
+    ∙ ap (λ p. drawn p more) (core_draws size r.core core (drop 1 r.first) r.second Side.Second here there)
     ∙ first_draws core (drop 1 r.first) r.second (drop (length r.first - 1) queue)
-    ∙ ap (λ q. picture core q r.second sides.Second) follows
-side_draws sides.Second r core queue here there follows =
+    ∙ ap (λ q. picture core q r.second Side.Second) follows
+side_draws Side.Second r core queue here there follows =
     let size = r.settings.core in
-    let start : Picture = picture r.core r.first (drop 1 r.second) sides.First in
+    let start : Picture = picture r.core r.first (drop 1 r.second) Side.First in
     let more : List Event = process_events (length r.second - 1) queue in
     drawn-append start (core_events size r.core core) more
-    ∙ ap (λ p. drawn p more) (core_draws size r.core core r.first (drop 1 r.second) sides.First here there)
+    ∙ ap (λ p. drawn p more) (core_draws size r.core core r.first (drop 1 r.second) Side.First here there)
     ∙ second_draws core r.first (drop 1 r.second) (drop (length r.second - 1) queue)
-    ∙ ap (λ q. picture core r.first q sides.First) follows
+    ∙ ap (λ q. picture core r.first q Side.First) follows
 
 after_turn-goes : (r : Round) → is_over r ≡ false → after_turn r ≡ after_side r.to_move (turn_of r).core (turn_of r).queue r
 unfolding after_turn
 after_turn-goes r o = rw o refl
 
 after_side-core : (m : Side) (core : List Instr) (queue : List ℕ) (r : Round) → ((after_side m core queue r).core ≡ core) × ((after_side m core queue r).settings ≡ r.settings)
-after_side-core sides.First core queue r = (refl, refl)
-after_side-core sides.Second core queue r = (refl, refl)
+after_side-core Side.First core queue r = (refl, refl)
+after_side-core Side.Second core queue r = (refl, refl)
 
 after_side-next : (m : Side) (core : List Instr) (queue : List ℕ) (r : Round) → other m ≡ (after_side m core queue r).to_move
-after_side-next sides.First core queue r = refl
-after_side-next sides.Second core queue r = refl
+after_side-next Side.First core queue r = refl
+after_side-next Side.Second core queue r = refl
 
 -- the other side is next
 pub side-next : (m side : Side) (r next : Round) → is_over r ≡ false → next ≡ after_turn r → m ≡ r.to_move → side ≡ other m → side ≡ next.to_move
@@ -178,12 +159,12 @@ side-next m side r next o next_is m_is side_is =
 
 -- the queue of the side to move
 pub queue_lives : (m : Side) (r : Round) → is_over r ≡ false → is_empty (queue_of m r) ≡ false
-queue_lives sides.First r o = (both_sides_live r o).0
-queue_lives sides.Second r o = (both_sides_live r o).1
+queue_lives Side.First r o = (both_sides_live r o).0
+queue_lives Side.Second r o = (both_sides_live r o).1
 
 queue_room : (m : Side) (r : Round) → IsRound r → length (queue_of m r) ≤ r.settings.processes
-queue_room sides.First r is = is.first.room
-queue_room sides.Second r is = is.second.room
+queue_room Side.First r is = is.first.room
+queue_room Side.Second r is = is.second.room
 
 -- the events of a turn draw the round after it
 pub turn_draws : (r : Round) → IsRound r → IsRound (after_turn r) → is_over r ≡ false → drawn (picture_of r) (turn_events r) ≡ picture_of (after_turn r)

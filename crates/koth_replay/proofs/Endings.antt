@@ -1,23 +1,16 @@
 -- Whether there was a turn, what turns keep, and the end of a round.
-use Rattle.std.proofs.Common.{◌≡◌, ℕ, zero, suc, ◌+◌, ◌*◌, ◌<◌, ◌≤◌, min, nat_lt, not, Bool, true, false, if◌then◌else◌, List, [], ◌∷◌, slice_get, slice_index, Option, Some, inl, inr, refl, sym, ap, subst, ◌∙◌, zero-add, arith}
-use Rattle.std.proofs.lemmas.Bool.{both_ways, cases_lt}
-use Rattle.std.proofs.lemmas.Bool.Decides.{nat_tests}
-use Rattle.war_types.specs.declared.instr.Instr.{Instr}
-use Rattle.mars_core.specs.declared.round.Side.{Side}
-use Rattle.mars_core.specs.declared.round.Side.TheVariants as sides
-use Rattle.mars_core.specs.declared.round.Turned.{Turned}
-use Rattle.mars_core.specs.declared.round.Turned.TheVariants as turneds
-use Rattle.mars_core.specs.Operand.{Reach}
+use Rattle.std.proofs.Common.{◌≡◌, ℕ, zero, suc, ◌+◌, ◌*◌, ◌<◌, ◌≤◌, min, nat_lt, not, Bool, true, false, if◌then◌else◌, List, [], ◌∷◌, slice_get, slice_index, Option, Some, inl, inr, refl}
+use Rattle.{std.proofs.{Common.{sym, ap, subst, ◌∙◌, zero-add, arith}, lemmas.Bool.{both_ways, cases_lt}, lemmas.Bool.Decides.nat_tests}, war_types.specs.declared.instr.Instr.Instr}
+use Rattle.mars_core.specs.{declared.round.Side.Side, declared.round.Turned.Turned, Operand.Reach}
 use Rattle.mars_core.specs.Round.{Round, executed, is_empty, is_over, queue_of, side_turn, turn_of, turned, turned_by, after_side, after_turn, after_turns}
-use Rattle.mars_core.proofs.Turns.{after_turn-over, after_turns-over, after_turns-end}
-use Rattle.koth_replay.proofs.Drawing.{queue_lives}
+use Rattle.{mars_core.proofs.Turns.{after_turn-over, after_turns-over, after_turns-end}, koth_replay.proofs.Drawing.queue_lives}
 
 -- ---- whether there was a turn
 
 abbrev pub was_over : Turned → Bool
-was_over turneds.Over = true
-was_over turneds.Died = false
-was_over turneds.Went = false
+was_over Turned.Over = true
+was_over Turned.Died = false
+was_over Turned.Went = false
 
 queued-on : (queued : List ℕ) → was_over (turned_by queued) ≡ false
 queued-on [] = refl
@@ -28,7 +21,7 @@ unfolding side_turn
 side-on reach limit core [] lives = cc
 side-on reach limit core (pc ∷ rest) lives = queued-on (executed reach core pc).queued
 
-either-over : (over : Bool) (t : Turned) → (over ≡ false → was_over t ≡ false) → was_over (if over then turneds.Over else t) ≡ over
+either-over : (over : Bool) (t : Turned) → (over ≡ false → was_over t ≡ false) → was_over (if over then Turned.Over else t) ≡ over
 either-over true t on = refl
 either-over false t on = on refl
 
@@ -60,8 +53,8 @@ front-found m r front is o e = e ∙ front-some (queue_of m r) (queue_lives m r 
 
 after_side-kept : (m : Side) (core : List Instr) (queue : List ℕ) (r : Round) →
     ((after_side m core queue r).settings ≡ r.settings) × ((after_side m core queue r).used ≡ r.used + 1)
-after_side-kept sides.First core queue r = (refl, refl)
-after_side-kept sides.Second core queue r = (refl, refl)
+after_side-kept Side.First core queue r = (refl, refl)
+after_side-kept Side.Second core queue r = (refl, refl)
 
 -- a turn uses one
 pub after_turn-used : (r : Round) → is_over r ≡ false → (after_turn r).used ≡ r.used + 1

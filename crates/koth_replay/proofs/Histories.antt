@@ -1,33 +1,19 @@
 -- The events of turn after turn, for `kept_turns` and `replay`.
-use Rattle.std.proofs.Common.{◌≡◌, ℕ, zero, suc, ◌+◌, ◌*◌, ◌<◌, ◌≤◌, ◌⊎◌, ◌-◌, min, nat_lt, not, true, false, Bool, Option, Some, Result, Ok, Err, IfOk, Vec, slice_get, slice_index, List, [], ◌∷◌, ◌++◌, length, get_or, replicate, inl, inr, refl, sym, ap, subst, ◌∙◌, append-nil, arith}
-use Rattle.std.specs.List.{flat_map}
-use Rattle.std.proofs.lemmas.Bool.{cases_lt}
-use Rattle.std.proofs.lemmas.List.{length-map, map_push, take_all, take-append-le, get_or_append_left, get_or_push, length_push, length-replicate}
-use Rattle.std.proofs.lemmas.List.Concat.{flat_map-append}
-use Rattle.war_types.specs.declared.settings.RawSettings.{RawSettings}
-use Rattle.war_types.specs.Warrior.{WarriorParts}
-use Rattle.mars_core.specs.declared.round.Outcome.{Outcome}
-use Rattle.mars_core.specs.declared.round.Side.{Side}
-use Rattle.mars_core.specs.Cells.{blank}
-use Rattle.mars_core.specs.Round.{Round, opening, queue_of, is_over, after_turn, after_turns, outcome, IsRound}
-use Rattle.koth_match.specs.Match.{first_in, round_outcome}
-use Rattle.koth_match.specs.Seeds.{position, seed_of_round}
-use Rattle.koth_replay.specs.declared.event.Event.{Event}
-use Rattle.koth_replay.specs.declared.event.Event.TheVariants as events
-use Rattle.koth_replay.specs.declared.opening.Opening.{Opening}
-use Rattle.koth_replay.specs.Picture.{picture, picture_of, drawn}
-use Rattle.koth_replay.specs.Turn.{core_events, process_events, turn_events}
-use Rattle.koth_replay.specs.Replay.{ReplayParts, replay_parts, begun, blank_picture, first_picture, events_before, IsReplay}
-use Rattle.koth_replay.specs.Code.{turns_of, AreTurns, IsReplayOf}
-use Rattle.koth_replay.proofs.Drawing.{core_draws, drawn-append, turn_draws}
-use Rattle.koth_replay.proofs.Endings.{after_turns-next, front-found, plays-there, turns-counted}
+use Rattle.std.proofs.Common.{◌≡◌, ℕ, zero, suc, ◌+◌, ◌*◌, ◌<◌, ◌≤◌, ◌⊎◌, ◌-◌, min, nat_lt, not, true, false, Bool, Option, Some, Result, Ok, Err, IfOk, Vec, slice_get, slice_index, List, [], ◌∷◌}
+use Rattle.{std.proofs.Common.{◌++◌, length, get_or, replicate, inl, inr, refl, sym, ap, subst, ◌∙◌, append-nil, arith}, std.specs.List.flat_map, std.proofs.lemmas.Bool.cases_lt}
+use Rattle.std.proofs.{lemmas.List.{length-map, map_push, take_all, take-append-le, get_or_append_left, get_or_push, length_push, length-replicate}, lemmas.List.Concat.flat_map-append}
+use Rattle.{war_types.specs.{declared.settings.RawSettings.RawSettings, Warrior.WarriorParts}, mars_core.specs.{declared.round.Outcome.Outcome, declared.round.Side.Side, Cells.blank}}
+use Rattle.{mars_core.specs.Round.{Round, opening, queue_of, is_over, after_turn, after_turns, outcome, IsRound}, koth_match.specs.{Match.{first_in, round_outcome}, Seeds.{position, seed_of_round}}}
+use Rattle.koth_replay.specs.{declared.event.Event.Event, declared.opening.Opening.Opening, Picture.{picture, picture_of, drawn}, Turn.{core_events, process_events, turn_events}}
+use Rattle.koth_replay.specs.{Replay.{ReplayParts, replay_parts, begun, blank_picture, first_picture, events_before, IsReplay}, Code.{turns_of, AreTurns, IsReplayOf}}
+use Rattle.koth_replay.proofs.{Drawing.{core_draws, drawn-append, turn_draws}, Endings.{after_turns-next, front-found, plays-there, turns-counted}}
 
 -- ---- what is told of a turn
 
 -- the events that are put one after another are the turn's
 pub turn_told : (r next : Round) (m : Side) (core waiting at : ℕ) (front : Option ℕ) (none begins changes all : List Event)
     → is_over r ≡ false → m ≡ r.to_move → core ≡ r.settings.core → front ≡ slice_get (queue_of m r) 0 → front ≡ Some at → waiting ≡ length (queue_of m r)
-    → next ≡ after_turn r → none ≡ [] → begins ≡ none ++ events.Turn m at ∷ [] → changes ≡ begins ++ core_events core r.core next.core
+    → next ≡ after_turn r → none ≡ [] → begins ≡ none ++ Event.Turn m at ∷ [] → changes ≡ begins ++ core_events core r.core next.core
     → all ≡ changes ++ process_events (waiting - 1) (queue_of m next) → (is_over r ≡ false) × (all ≡ turn_events r)
 unfolding turn_events
 turn_told r next m core waiting at front none begins changes all o m_is core_is front_is found waiting_is next_is empty put_turn put_changes put_processes =
@@ -37,9 +23,9 @@ turn_told r next m core waiting at front none begins changes all o m_is core_is 
     let many : waiting ≡ length (queue_of r.to_move r) = waiting_is ∙ ap (λ side. length (queue_of side r)) m_is in
     let cells_told : List Event = core_events core r.core next.core in
     let processes_told : List Event = process_events (waiting - 1) (queue_of m next) in
-    let in_order : all ≡ events.Turn m at ∷ (cells_told ++ processes_told) =
-    put_processes ∙ ap (λ l. l ++ processes_told) (put_changes ∙ ap (λ l. l ++ cells_told) (put_turn ∙ ap (λ l. l ++ events.Turn m at ∷ []) empty)) in
-    (o, in_order ∙ (λ t. events.Turn (m_is t) (at_is t) ∷ (core_events (core_is t) r.core (next_is t).core ++ process_events (many t - 1) (queue_of (m_is t) (next_is t)))))
+    let in_order : all ≡ Event.Turn m at ∷ (cells_told ++ processes_told) =
+    put_processes ∙ ap (λ l. l ++ processes_told) (put_changes ∙ ap (λ l. l ++ cells_told) (put_turn ∙ ap (λ l. l ++ Event.Turn m at ∷ []) empty)) in
+    (o, in_order ∙ (λ t. Event.Turn (m_is t) (at_is t) ∷ (core_events (core_is t) r.core (next_is t).core ++ process_events (many t - 1) (queue_of (m_is t) (next_is t)))))
 
 -- ---- before the first turn
 
@@ -49,10 +35,7 @@ none-drawn start zero within = refl
 none-drawn start (suc n) within = absurd (omega (arith, within))
 
 AreTurns-none : (start : Round) → AreTurns start []
-AreTurns-none start = record {
-  draw = λ n within. none-drawn start n within;
-  tell = λ n below. absurd (omega (arith, below));
-}
+AreTurns-none start = record { draw = λ n within. none-drawn start n within; tell = λ n below. absurd (omega (arith, below)) }
 
 pub no-turns : {A : Type 0} (start : Round) (turns : List (Vec Event A)) → turns ≡ [] → AreTurns start (turns_of turns)
 no-turns {A} start turns none = subst (λ (ts : List (Vec Event A)). AreTurns start (turns_of ts)) (sym none) (AreTurns-none start)

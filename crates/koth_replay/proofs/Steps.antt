@@ -1,15 +1,11 @@
 -- One element more, in the loops over cells and over processes.
 use Rattle.std.proofs.Common.{◌≡◌, ℕ, zero, suc, ◌+◌, ◌<◌, ◌≤◌, List, [], ◌∷◌, ◌++◌, length, get_or, set, take, drop, map, slice_get, Some, sym, ap, ◌∙◌, append_assoc, append-nil, arith}
-use Rattle.std.specs.List.{flat_map, range_with_len}
-use Rattle.std.proofs.lemmas.List.{drop_all, drop_more, drop-append-le, take_more, map_push, set_at, get_or_at, length-take, length-take-le}
-use Rattle.koth_replay.specs.declared.event.Event.{Event}
-use Rattle.koth_replay.specs.declared.event.Event.TheVariants as events
-use Rattle.koth_replay.specs.Turn.{process_events}
+use Rattle.{std.specs.List.{flat_map, range_with_len}, std.proofs.lemmas.List.{drop_all, drop_more, drop-append-le, take_more, map_push, set_at, get_or_at, length-take, length-take-le}}
+use Rattle.koth_replay.specs.{declared.event.Event.Event, Turn.process_events}
 
 -- a part after what is put
 pub put_behind : {X : Type 0} (start so_far part all now new : List X) → now ≡ start ++ so_far → new ≡ now ++ part → all ≡ so_far ++ part → new ≡ start ++ all
-put_behind start so_far part all now new is put more =
-    put ∙ ap (λ l. l ++ part) is ∙ append_assoc start so_far part ∙ ap (λ l. start ++ l) (sym more)
+put_behind start so_far part all now new is put more = put ∙ ap (λ l. l ++ part) is ∙ append_assoc start so_far part ∙ ap (λ l. start ++ l) (sym more)
 
 pub next_number : {A : Type 0} (f : ℕ → List A) (first n : ℕ) → flat_map f (range_with_len first (suc n)) ≡ flat_map f (range_with_len first n) ++ f (first + n)
 next_number f first zero =
@@ -57,16 +53,16 @@ some_at (y ∷ queue) (suc i) x e =
 pub no_process : (start : List Event) (queue : List ℕ) (place : ℕ) → start ≡ start ++ process_events place (take place queue)
 no_process start queue place =
     let short : length (take place queue) ≤ place = omega (arith, length-take place queue) in
-    sym (append-nil start) ∙ ap (λ l. start ++ map (λ at. events.Process at) l) (sym (drop_all place (take place queue) short))
+    sym (append-nil start) ∙ ap (λ l. start ++ map (λ at. Event.Process at) l) (sym (drop_all place (take place queue) short))
 
 -- the event of one process more
 pub process_more : (queue : List ℕ) (place i x : ℕ) (start now new : List Event) → place ≤ i → slice_get queue i ≡ Some x
-    → now ≡ start ++ process_events place (take i queue) → new ≡ now ++ events.Process x ∷ [] → new ≡ start ++ process_events place (take (i + 1) queue)
+    → now ≡ start ++ process_events place (take i queue) → new ≡ now ++ Event.Process x ∷ [] → new ≡ start ++ process_events place (take (i + 1) queue)
 process_more queue place i x start now new behind at so_far put =
     let found = some_at queue i x at in
     let inside : i ≤ length queue = omega (arith, found.0) in
     let long : place ≤ length (take i queue) = omega (arith, length-take-le i queue inside) in
     let rest : drop place (take (i + 1) queue) ≡ drop place (take i queue) ++ x ∷ [] =
     ap (drop place) (take_more queue i x found.0 ∙ ap (λ y. take i queue ++ y ∷ []) found.1) ∙ drop-append-le place (take i queue) (x ∷ []) long in
-    put_behind start (process_events place (take i queue)) (events.Process x ∷ []) (process_events place (take (i + 1) queue)) now new so_far put
-    (ap (map (λ at. events.Process at)) rest ∙ map_push (λ at. events.Process at) (drop place (take i queue)) x)
+    put_behind start (process_events place (take i queue)) (Event.Process x ∷ []) (process_events place (take (i + 1) queue)) now new so_far put
+    (ap (map (λ at. Event.Process at)) rest ∙ map_push (λ at. Event.Process at) (drop place (take i queue)) x)

@@ -1,17 +1,9 @@
 -- The events of the cells that a turn may change, for `push_loaded` and `push_changes`.
-use Rattle.std.proofs.Common.{◌≡◌, ◌≢◌, ℕ, zero, suc, ◌+◌, ◌-◌, ◌<◌, ◌≤◌, true, ◌==◌, List, [], ◌∷◌, ◌++◌, length, map, get_or, set, take, drop, replicate, slice_get, slice_index, Option, Some, inl, inr, refl, sym, ap, ◌∙◌, append-nil, arith}
-use Rattle.std.specs.List.{flat_map, range_with_len}
-use Rattle.std.proofs.lemmas.Bool.Decides.{nat_tests}
-use Rattle.std.proofs.lemmas.List.{get_or_default, get_or-map, get_or-replicate, length-map, length-replicate}
-use Rattle.war_types.specs.declared.instr.Modifier.TheVariants as modifiers
-use Rattle.war_types.specs.declared.instr.Instr.{Instr}
-use Rattle.war_types.specs.Bytes.{op_code, modifier_code, mode_code}
-use Rattle.mars_core.specs.Cells.{blank, cell}
-use Rattle.mars_core.specs.Effect.{are_equal}
-use Rattle.mars_core.specs.Touched.{AreSameBut}
-use Rattle.koth_replay.specs.declared.event.Event.{Event}
-use Rattle.koth_replay.specs.Turn.{cell_told, cell_events, core_events}
-use Rattle.koth_replay.specs.Code.{AreBelow, IsLeast}
+use Rattle.std.proofs.Common.{◌≡◌, ◌≢◌, ℕ, zero, suc, ◌+◌, ◌-◌, ◌<◌, ◌≤◌, true, ◌==◌, List, [], ◌∷◌, ◌++◌, length, map, get_or, set, take, drop, replicate, slice_get, slice_index, Option}
+use Rattle.{std.proofs.Common.{Some, inl, inr, refl, sym, ap, ◌∙◌, append-nil, arith}, std.specs.List.{flat_map, range_with_len}}
+use Rattle.{std.proofs.{lemmas.Bool.Decides.nat_tests, lemmas.List.{get_or_default, get_or-map, get_or-replicate, length-map, length-replicate}}, war_types.specs.declared.instr.Instr.Instr}
+use Rattle.{war_types.specs.{Bytes.{op_code, modifier_code, mode_code}, declared.instr.Modifier.Modifier}, mars_core.specs.{Cells.{blank, cell}, Effect.are_equal, Touched.AreSameBut}}
+use Rattle.koth_replay.specs.{declared.event.Event.Event, Turn.{cell_told, cell_events, core_events}, Code.{AreBelow, IsLeast}}
 use Rattle.koth_replay.proofs.Steps.{one_number_more, one_place_more, put_behind}
 
 -- ---- one cell more
@@ -40,7 +32,7 @@ blank-there size at below = sym (get_or-replicate size at blank blank below)
 same_number : (n : ℕ) → (n == n) ≡ true
 same_number n = grind (arith, nat_tests)
 
-same_instruction : (i : Instr) → are_equal modifiers.I i i ≡ true
+same_instruction : (i : Instr) → are_equal Modifier.I i i ≡ true
 same_instruction i =
     rw (same_number (op_code i.op), same_number (modifier_code i.modifier), same_number (mode_code i.a_mode), same_number (mode_code i.b_mode), same_number i.a, same_number i.b) refl
 

@@ -1,12 +1,7 @@
 -- Of the code alone: the turns that it keeps, what it keeps of a round that has begun, and how it puts addresses in order. No definition names a word of this file.
 use Rattle.std.specs.Prelude.{◌≡◌, ℕ, ◌*◌, ◌<◌, ◌≤◌, ◌⊎◌, min, nat_lt, List, [], length, map, replicate, slice_index, slice_index_or, MatchOption, Option, Vec}
-use Rattle.mars_core.specs.Cells.{blank}
-use Rattle.mars_core.specs.Round.{Round, after_turns, outcome}
-use Rattle.koth_replay.specs.declared.event.Event.{Event}
-use Rattle.koth_replay.specs.declared.opening.Opening.{Opening}
-use Rattle.koth_replay.specs.Picture.{picture_of, drawn}
-use Rattle.koth_replay.specs.Turn.{core_events, turn_events}
-use Rattle.koth_replay.specs.Replay.{ReplayParts, events_before}
+use Rattle.mars_core.specs.{Cells.blank, Round.{Round, after_turns, outcome}}
+use Rattle.koth_replay.specs.{declared.event.Event.Event, declared.opening.Opening.Opening, Picture.{picture_of, drawn}, Turn.{core_events, turn_events}, Replay.{ReplayParts, events_before}}
 
 -- the events of each of these turns
 abbrev pub turns_of : {A : Type 0} → List (Vec Event A) → List (List Event)

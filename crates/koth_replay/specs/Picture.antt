@@ -1,11 +1,6 @@
 -- Pictures of a round, and how events change them.
 use Rattle.std.specs.Prelude.{ℕ, List, [], ◌∷◌, ◌++◌, drop, slice_set}
-use Rattle.war_types.specs.declared.instr.Instr.{Instr}
-use Rattle.mars_core.specs.declared.round.Side.{Side}
-use Rattle.mars_core.specs.declared.round.Side.TheVariants as sides
-use Rattle.mars_core.specs.Round.{Round}
-use Rattle.koth_replay.specs.declared.event.Event.{Event}
-use Rattle.koth_replay.specs.declared.event.Event.TheVariants as events
+use Rattle.{war_types.specs.declared.instr.Instr.Instr, mars_core.specs.{declared.round.Side.Side, Round.Round}, koth_replay.specs.declared.event.Event.Event}
 
 -- what is seen of a round: what each cell holds, the processes of each side by their addresses, the front one first, and the side that is to move
 pub record Picture : Type 0 where
@@ -23,22 +18,22 @@ picture_of r = picture r.core r.first r.second r.to_move
 
 -- a turn takes the front process of its side, and the other side is next
 abbrev pub with_turn : Side → Picture → Picture
-with_turn sides.First p = picture p.cells (drop 1 p.first) p.second sides.Second
-with_turn sides.Second p = picture p.cells p.first (drop 1 p.second) sides.First
+with_turn Side.First p = picture p.cells (drop 1 p.first) p.second Side.Second
+with_turn Side.Second p = picture p.cells p.first (drop 1 p.second) Side.First
 
 abbrev pub with_cell : ℕ → Instr → Picture → Picture
 with_cell at i p = picture (slice_set p.cells at i) p.first p.second p.to_move
 
 -- a process is added at the end of the queue of the side whose turn it is: the other one is to move next
 abbrev pub with_process : Side → ℕ → Picture → Picture
-with_process sides.First at p = picture p.cells p.first (p.second ++ at ∷ []) p.to_move
-with_process sides.Second at p = picture p.cells (p.first ++ at ∷ []) p.second p.to_move
+with_process Side.First at p = picture p.cells p.first (p.second ++ at ∷ []) p.to_move
+with_process Side.Second at p = picture p.cells (p.first ++ at ∷ []) p.second p.to_move
 
 -- the picture after an event
 abbrev pub after_event : Event → Picture → Picture
-after_event (events.Turn side at) p = with_turn side p
-after_event (events.Cell at i) p = with_cell at i p
-after_event (events.Process at) p = with_process p.to_move at p
+after_event (Event.Turn side at) p = with_turn side p
+after_event (Event.Cell at i) p = with_cell at i p
+after_event (Event.Process at) p = with_process p.to_move at p
 
 -- the picture after events, the first of them first
 abbrev pub drawn : Picture → List Event → Picture

@@ -1,17 +1,8 @@
 -- A round of a match as a replay has it.
-use Rattle.std.specs.Prelude.{◌≡◌, ℕ, ◌*◌, ◌<◌, ◌≤◌, min, nat_lt, Bool, List, [], ◌∷◌, length, take, replicate, slice_index_or}
-use Rattle.std.specs.List.{flat_map}
-use Rattle.war_types.specs.declared.settings.RawSettings.{RawSettings}
-use Rattle.war_types.specs.Warrior.{WarriorParts}
-use Rattle.mars_core.specs.declared.round.Outcome.{Outcome}
-use Rattle.mars_core.specs.Cells.{blank}
-use Rattle.mars_core.specs.Round.{Round, opening, after_turns}
-use Rattle.koth_match.specs.Match.{first_in, round_outcome}
-use Rattle.koth_match.specs.Seeds.{position, seed_of_round}
-use Rattle.koth_replay.specs.declared.event.Event.{Event}
-use Rattle.koth_replay.specs.declared.opening.Opening.{Opening}
-use Rattle.koth_replay.specs.Picture.{Picture, picture, picture_of, drawn}
-use Rattle.koth_replay.specs.Turn.{core_events, turn_events}
+use Rattle.std.specs.{Prelude.{◌≡◌, ℕ, ◌*◌, ◌<◌, ◌≤◌, min, nat_lt, Bool, List, [], ◌∷◌, length, take, replicate, slice_index_or}, List.flat_map}
+use Rattle.{war_types.specs.{declared.settings.RawSettings.RawSettings, Warrior.WarriorParts}, mars_core.specs.{declared.round.Outcome.Outcome, Cells.blank}}
+use Rattle.{mars_core.specs.Round.{Round, opening, after_turns}, koth_match.specs.{Match.{first_in, round_outcome}, Seeds.{position, seed_of_round}}}
+use Rattle.koth_replay.specs.{declared.event.Event.Event, declared.opening.Opening.Opening, Picture.{Picture, picture, picture_of, drawn}, Turn.{core_events, turn_events}}
 
 -- round r of a match as it begins, counted from 0
 abbrev pub begun : RawSettings → WarriorParts → WarriorParts → ℕ → Round

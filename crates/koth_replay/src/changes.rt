@@ -3,10 +3,7 @@
 ghost use Rattle.std.specs.Prelude.{◌≡◌, ◌<◌, ◌++◌, List, length, map, replicate, All, OnOk};
 ghost use Rattle.war_types.specs.declared.instr.Instr.{Instr};
 ghost use Rattle.war_types.specs.declared.instr.Modifier.TheVariants as modifiers;
-ghost use Rattle.mars_core.specs.Cells.{blank, cell};
-ghost use Rattle.mars_core.specs.Effect.{are_equal};
-ghost use Rattle.mars_core.specs.Touched.{AreSameBut};
-ghost use Rattle.koth_replay.specs.Turn.{core_events, cell_told};
+ghost use Rattle.{mars_core.specs.{Cells.{blank, cell}, Effect.are_equal, Touched.AreSameBut}, koth_replay.specs.Turn.{core_events, cell_told}};
 
 use crate::event::Event;
 use crate::nearest::nearest;

@@ -19,8 +19,7 @@ pub struct Replay<A: Allocator> {
 }
 
 impl<A: Allocator> Model for Replay<A> {
-    ghost use Rattle.koth_replay.specs.Replay.{ReplayParts, replay_parts};
-    ghost use Rattle.koth_replay.specs.Code.{turns_of};
+    ghost use Rattle.koth_replay.specs.{Replay.{ReplayParts, replay_parts}, Code.turns_of};
 
     ghost Value = { ReplayParts };
 

@@ -1,10 +1,7 @@
 //! Playing a round of a match, and keeping its events.
 
 ghost use Rattle.std.specs.Prelude.{◌≡◌, ◌<◌, IfOk};
-ghost use Rattle.war_types.specs.Warrior.{Fits};
-ghost use Rattle.mars_core.specs.Round.{IsRound};
-ghost use Rattle.koth_replay.specs.Replay.{IsReplay};
-ghost use Rattle.koth_replay.specs.Code.{IsReplayOf};
+ghost use Rattle.{war_types.specs.Warrior.Fits, mars_core.specs.Round.IsRound, koth_replay.specs.{Replay.IsReplay, Code.IsReplayOf}};
 
 use crate::changes::push_loaded;
 use crate::kept::Replay;

@@ -1,10 +1,7 @@
 //! Turns and their events.
 
 ghost use Rattle.std.specs.Prelude.{◌≡◌, ◌+◌, ◌<◌, ◌≤◌, ◌++◌, not, true, false, length, IfOk, OnOk, MatchOption};
-ghost use Rattle.mars_core.specs.Round.{after_turn, after_turns, is_over, queue_of, IsRound};
-ghost use Rattle.mars_core.specs.Code.{other};
-ghost use Rattle.koth_replay.specs.Turn.{process_events, turn_events};
-ghost use Rattle.koth_replay.specs.Code.{turns_of, AreTurns};
+ghost use Rattle.{mars_core.specs.{Round.{after_turn, after_turns, is_over, queue_of, IsRound}, Code.other}, koth_replay.specs.{Turn.{process_events, turn_events}, Code.{turns_of, AreTurns}}};
 
 use crate::changes::{held_at, push_changes};
 use crate::event::Event;

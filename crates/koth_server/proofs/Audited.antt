@@ -1,10 +1,6 @@
 -- What an audit of a hill finds.
-use Rattle.std.proofs.Common.{◌≡◌, Option, None, Some, IfSome, inl, inr, refl}
-use Rattle.koth_hill.specs.Kept.{Kept, AreTrue, AreTrueBefore, IsUntrue}
-use Rattle.koth_hill.specs.declared.untrue.Untrue.{Untrue}
-use Rattle.koth_commands.specs.Streams.{Streams}
-use Rattle.koth_commands.specs.declared.status.Status.{Status}
-use Rattle.koth_server.specs.Audit.{AuditsOf, EndsAudit, EndsAuditOf, IsAudited, SaysAudit}
+use Rattle.{std.proofs.Common.{◌≡◌, Option, None, Some, IfSome, inl, inr, refl}, koth_hill.specs.{Kept.{Kept, AreTrue, AreTrueBefore, IsUntrue}, declared.untrue.Untrue.Untrue}}
+use Rattle.{koth_commands.specs.{Streams.Streams, declared.status.Status.Status}, koth_server.specs.Audit.{AuditsOf, EndsAudit, EndsAuditOf, IsAudited, SaysAudit}}
 use Rattle.koth_server.proofs.Said.{said_of_some}
 
 pub is_audited : (hill : Kept) (found : Option Untrue) → (found ≡ None → AreTrue hill)

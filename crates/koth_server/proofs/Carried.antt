@@ -1,42 +1,15 @@
 -- What a run promises for its arguments, from how its request ended, or from why there is none.
 use Rattle.std.proofs.Common.{◌≡◌, ◌≢◌, ◌⊎◌, ℕ, Bool, true, false, ap, List, [], Option, None, Some, Result, Ok, Err, inl, inr, ◌∙◌, refl, sym, subst, codes, length, option_map}
-use Rattle.std.specs.Prelude.{⊤, unwrap_or}
-use Rattle.std.specs.Str.{bytes_eq}
-use Rattle.std.proofs.lemmas.List.{length-map}
-use Rattle.std.proofs.KnownBytes.{Keeps-refl}
-use Rattle.std.specs.Io.KnownBytes.{Keeps}
-use Rattle.clap.specs.Walk.{Row, Text}
-use Rattle.clap.specs.Words.{all_of, first_of, one_of}
-use Rattle.war_types.specs.declared.settings.RawSettings.{RawSettings}
-use Rattle.war_types.specs.declared.settings.SettingsFault.{SettingsFault}
-use Rattle.war_types.specs.Settings.{settings_of}
-use Rattle.koth_commands.specs.Answer.{EndsGiven}
-use Rattle.koth_commands.specs.Asm.{EndsAsmFrom, EndsAsmOf, EndsUnder, is_of_input}
-use Rattle.koth_commands.specs.Check.{EndsCheck, EndsCheckUnder}
-use Rattle.koth_commands.specs.Failure.{failure_word}
-use Rattle.koth_commands.specs.Fight.{EndsFight, EndsFightUnder}
-use Rattle.koth_commands.specs.Replay.{EndsReplay, EndsReplayUnder, with_round}
-use Rattle.koth_commands.specs.Streams.{Streams, streams, unread}
-use Rattle.koth_commands.specs.Told.{TellsWord}
-use Rattle.koth_server.specs.Hills.{EndsCreate, EndsHill, EndsServe, EndsService, EndsSubmit, Said, SaysCreated, SaysShown, listening_line}
-use Rattle.koth_server.specs.Audit.{EndsAudit}
-use Rattle.koth_server.specs.Migration.{SaysMigrated}
-use Rattle.koth_server.specs.Page.{SaysPage}
-use Rattle.koth_words.specs.Options.{number_or, settings_in}
-use Rattle.koth_server.specs.Run.{CommandEnds, EndsRequest, EndsWithout, viewed}
-use Rattle.koth_words.specs.Words.{AsksBy, IsRefusal, IsSource, given_in, is_input, matches_in, view_in}
-use Rattle.koth_commands.specs.declared.failure.Failure.TheVariants as failures
-use Rattle.koth_server.specs.declared.hill_fault.HillFault.TheVariants.{Failed}
-use Rattle.koth_commands.specs.declared.status.Status.{Status}
-use Rattle.koth_commands.specs.declared.status.Status.TheVariants.{NoMemory, WordFault}
-use Rattle.koth_words.specs.declared.words.NoRequest.{NoRequest}
-use Rattle.koth_words.specs.declared.words.NoRequest.TheVariants as reasons
-use Rattle.koth_words.specs.declared.words.Request.{Request}
-use Rattle.koth_words.specs.declared.words.Request.TheVariants.{Asm, Check, Fight, Create, Submit, Show, Serve, Audit, Migrate, Page, Replay}
-use Rattle.koth_words.specs.declared.words.Source.{Source}
-use Rattle.koth_words.specs.declared.words.Source.TheVariants as sources
-use Rattle.koth_words.specs.declared.words.View.{View}
-use Rattle.koth_commands.proofs.Told.{kept_part, keeps_some, writes_nothing}
+use Rattle.{std.specs.{Prelude.{⊤, unwrap_or}, Str.bytes_eq}, std.proofs.{lemmas.List.length-map, KnownBytes.Keeps-refl}, std.specs.Io.KnownBytes.Keeps, clap.specs.Walk.{Row, Text}}
+use Rattle.{clap.specs.Words.{all_of, first_of, one_of}, war_types.specs.{declared.settings.RawSettings.RawSettings, declared.settings.SettingsFault.SettingsFault, Settings.settings_of}}
+use Rattle.koth_words.specs.{Options.{number_or, settings_in}, Words.{AsksBy, IsRefusal, IsSource, given_in, is_input, matches_in, view_in}, declared.words.NoRequest.NoRequest}
+use Rattle.koth_words.specs.{declared.words.Request.Request, declared.words.Request.TheVariants.{Asm, Check, Fight, Create, Submit, Show, Serve, Audit, Migrate, Page, Replay}}
+use Rattle.{koth_words.specs.{declared.words.Source.Source, declared.words.View.View}, koth_commands.specs.{Answer.EndsGiven, Asm.{EndsAsmFrom, EndsAsmOf, EndsUnder, is_of_input}}}
+use Rattle.koth_commands.specs.{Check.{EndsCheck, EndsCheckUnder}, Failure.failure_word, Fight.{EndsFight, EndsFightUnder}, Replay.{EndsReplay, EndsReplayUnder, with_round}}
+use Rattle.koth_commands.specs.{Streams.{Streams, streams, unread}, Told.TellsWord, declared.status.Status.Status, declared.status.Status.TheVariants.{NoMemory, WordFault}}
+use Rattle.{koth_commands.specs.declared.failure.Failure.Failure, koth_commands.proofs.Told.{kept_part, keeps_some, writes_nothing}}
+use Rattle.koth_server.specs.{Hills.{EndsCreate, EndsHill, EndsServe, EndsService, EndsSubmit, Said, SaysCreated, SaysShown, listening_line}, Audit.EndsAudit, Migration.SaysMigrated}
+use Rattle.koth_server.specs.{Page.SaysPage, Run.{CommandEnds, EndsRequest, EndsWithout, viewed}, declared.hill_fault.HillFault.TheVariants.Failed}
 
 -- one fact or the other
 abbrev Either : Bool → Type 0 → Type 0 → Type 0
@@ -70,8 +43,8 @@ EndsNamed name view given status before after =
 
 -- a source is the input if the arguments say so
 same_source : (name : Option Text) (source : Source) → IsSource name source → is_of_input source ≡ is_input name
-same_source name sources.Input is = sym is
-same_source name (sources.File path) is = sym is.0
+same_source name Source.Input is = sym is
+same_source name (Source.File path) is = sym is.0
 
 module _ (view : View) (e : Text × List Row) (status : Status) (before after : Streams) where
   abbrev Ends : Text → Type 0
@@ -156,24 +129,24 @@ request_ends view request asked status before after is ends words = subst (λ r.
 memory_is_no_fault : (status : Status) → status ≡ NoMemory → status ≡ WordFault → ⊥
 memory_is_no_fault status memory word = absurd (cc)
 
-module _ (i o p e f : Option (List ℕ)) (kept : Keeps o p) (told : TellsWord (failure_word failures.Memory) e f) where
+module _ (i o p e f : Option (List ℕ)) (kept : Keeps o p) (told : TellsWord (failure_word Failure.Memory) e f) where
   given_no_memory : (ends : RawSettings → Status → Streams → Streams → Type 0) (r : Result RawSettings SettingsFault)
       → ((s : RawSettings) → ends s NoMemory (streams i o e) (streams i p f)) → EndsGiven ends r NoMemory (streams i o e) (streams i p f)
   given_no_memory ends (Ok s) no_memory = no_memory s
   given_no_memory ends (Err fault) no_memory = (record { input = Keeps-refl i; output = kept }, told)
 
   hill_no_memory : (said : Said) → EndsHill said NoMemory (streams i o e) (streams i p f)
-  hill_no_memory said = inr (record { fault = Failed failures.Memory; ends = refl; output = kept; told = told })
+  hill_no_memory said = inr (record { fault = Failed Failure.Memory; ends = refl; output = kept; told = told })
 
   audit_no_memory : EndsAudit NoMemory (streams i o e) (streams i p f)
-  audit_no_memory = inr (record { fault = Failed failures.Memory; ends = refl; output = kept; told = told })
+  audit_no_memory = inr (record { fault = Failed Failure.Memory; ends = refl; output = kept; told = told })
 
   submit_no_memory : (view : View) → EndsSubmit view NoMemory (streams i o e) (streams i p f)
-  submit_no_memory view = inr (record { fault = Failed failures.Memory; ends = refl; output = kept; told = told })
+  submit_no_memory view = inr (record { fault = Failed Failure.Memory; ends = refl; output = kept; told = told })
 
   service_no_memory : EndsService NoMemory (streams i o e) (streams i p f)
   service_no_memory = inr (record {
-    fault = Failed failures.Memory;
+    fault = Failed Failure.Memory;
     ends = refl;
     port = 0;
     output = kept_part o p (listening_line 0) kept;
@@ -182,7 +155,7 @@ module _ (i o p e f : Option (List ℕ)) (kept : Keeps o p) (told : TellsWord (f
     told = told;
   })
 
-module _ (i o p e f : Option (List ℕ)) (kept : Keeps o p) (told : TellsWord (failure_word failures.Memory) e f) where
+module _ (i o p e f : Option (List ℕ)) (kept : Keeps o p) (told : TellsWord (failure_word Failure.Memory) e f) where
   asm_no_memory : (of_input : Bool) (r : Result RawSettings SettingsFault) → EndsAsmOf of_input r NoMemory (streams i o e) (streams i p f)
   asm_no_memory true r = given_no_memory i o p e f kept told EndsUnder r (λ s. (kept, told))
   asm_no_memory false r = (given_no_memory None o p e f kept told EndsUnder r (λ s. (kept, told)), Keeps-refl i)
@@ -222,27 +195,27 @@ module _ (i o p e f : Option (List ℕ)) (kept : Keeps o p) (told : TellsWord (f
       (either (bytes_eq name (codes "replay")) _ ⊤ (replay_no_memory (number_or 1 (one_of (codes "round") given)) settings) tt))))))))))
 
 module _ (i o p e f : Option (List ℕ)) (status : Status) where
-  pub without : (name : Text) (view : View) (given : List Row) (none : NoRequest) → none ≡ reasons.Memory
+  pub without : (name : Text) (view : View) (given : List Row) (none : NoRequest) → none ≡ NoRequest.Memory
       → EndsWithout none status (streams None o e) (streams None p f) → EndsNamed name view given status (streams i o e) (streams i p f)
   without name view given none is ends =
-      let memory : EndsWithout reasons.Memory status (streams None o e) (streams None p f) =
+      let memory : EndsWithout NoRequest.Memory status (streams None o e) (streams None p f) =
       subst (λ n. EndsWithout n status (streams None o e) (streams None p f)) is ends in
       subst (λ t. EndsNamed name view given t (streams i o e) (streams i p f)) (sym memory.0) (named_no_memory i o p e f memory.1 memory.2 name view given)
 
   -- such a run doesn't end as at a fault of the arguments
-  pub words_without : (none : NoRequest) → none ≡ reasons.Memory → EndsWithout none status (streams None o e) (streams None p f) → status ≢ WordFault
-  words_without reasons.Memory is ends word = memory_is_no_fault status ends.0 word
-  words_without (reasons.Help text) is ends word = absurd (cc)
-  words_without (reasons.WordFault text) is ends word = absurd (cc)
+  pub words_without : (none : NoRequest) → none ≡ NoRequest.Memory → EndsWithout none status (streams None o e) (streams None p f) → status ≢ WordFault
+  words_without NoRequest.Memory is ends word = memory_is_no_fault status ends.0 word
+  words_without (NoRequest.Help text) is ends word = absurd (cc)
+  words_without (NoRequest.WordFault text) is ends word = absurd (cc)
 
   -- wrong arguments end so, or out of memory
   pub wrong_without : (none : NoRequest) → IsRefusal none → EndsWithout none status (streams None o e) (streams None p f) → (status ≡ WordFault) ⊎ (status ≡ NoMemory)
-  wrong_without reasons.Memory is ends = inr ends.0
-  wrong_without (reasons.Help text) is ends = absurd is
-  wrong_without (reasons.WordFault text) is ends = inl ends.0
+  wrong_without NoRequest.Memory is ends = inr ends.0
+  wrong_without (NoRequest.Help text) is ends = absurd is
+  wrong_without (NoRequest.WordFault text) is ends = inl ends.0
 
   -- at a fault of the arguments nothing is read, and nothing is written on the output
   pub fault_without : (none : NoRequest) → EndsWithout none status (streams None o e) (streams None p f) → status ≡ WordFault → Keeps i i × Keeps o p
-  fault_without reasons.Memory ends is = absurd (memory_is_no_fault status ends.0 is)
-  fault_without (reasons.Help text) ends is = absurd (ends is)
-  fault_without (reasons.WordFault text) ends is = (Keeps-refl i, ends.1)
+  fault_without NoRequest.Memory ends is = absurd (memory_is_no_fault status ends.0 is)
+  fault_without (NoRequest.Help text) ends is = absurd (ends is)
+  fault_without (NoRequest.WordFault text) ends is = (Keeps-refl i, ends.1)

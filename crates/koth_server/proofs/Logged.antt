@@ -1,8 +1,5 @@
 -- What a service reports stands on standard error.
-use Rattle.std.proofs.Common.{ℕ, List, Option, refl}
-use Rattle.koth_commands.proofs.Told.{whole_part}
-use Rattle.koth_commands.specs.Told.{WritesSome}
-use Rattle.koth_service.specs.Told.{Grows}
+use Rattle.{std.proofs.Common.{ℕ, List, Option, refl}, koth_service.specs.Told.Grows, koth_commands.specs.Told.WritesSome, koth_commands.proofs.Told.whole_part}
 
 pub is_log : (a b : Option (List ℕ)) → Grows a b → WritesSome a b
 is_log a b (text, grows) = (text, whole_part a b text text refl grows)

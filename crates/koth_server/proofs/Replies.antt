@@ -1,26 +1,16 @@
 -- The text of a reply.
-use Rattle.std.proofs.Common.{◌≡◌, ◌⊎◌, ℕ, List, [], Option, None, Some, IfSome, ◌++◌, inl, inr, refl, subst}
-use Rattle.sector_disk.specs.Facts.{DeviceFacts}
-use Rattle.hill_store.specs.Seen.{Seen, Submits}
-use Rattle.hill_store.specs.declared.reply.Reply.{Reply}
-use Rattle.koth_hill.specs.Kept.{Kept}
-use Rattle.koth_session.specs.Reply.{reply_line}
-use Rattle.koth_commands.specs.Streams.{streams}
-use Rattle.koth_commands.specs.declared.status.Status.{Status}
+use Rattle.{std.proofs.Common.{◌≡◌, ◌⊎◌, ℕ, List, [], Option, None, Some, IfSome, ◌++◌, inl, inr, refl, subst}, koth_hill.specs.Kept.Kept, sector_disk.specs.Facts.DeviceFacts}
+use Rattle.{hill_store.specs.{Seen.{Seen, Submits}, declared.reply.Reply.Reply}, koth_session.specs.Reply.reply_line, koth_words.specs.declared.words.View.View}
+use Rattle.{koth_views.specs.{Placing.placing_view, Roster.roster, declared.entrants.Entered.Entered}, koth_commands.specs.{Streams.streams, declared.status.Status.Status}}
 use Rattle.koth_server.specs.Hills.{EndsReply, EndsSubmission, IsPlacing}
-use Rattle.koth_views.specs.Placing.{placing_view}
-use Rattle.koth_views.specs.Roster.{roster}
-use Rattle.koth_views.specs.declared.entrants.Entered.{Entered}
-use Rattle.koth_words.specs.declared.words.View.{View}
-use Rattle.koth_words.specs.declared.words.View.TheVariants as views
 
 -- what became of the warrior is written if it is known who stood on the hill
 pub is_placing : {V : Type 0} (items : V → List Entered) (view : View) (old new : Kept) (reply : Reply) (stood : Option V) (more : List ℕ)
-    → (view ≡ views.Plain → stood ≡ None) → IfSome stood (λ v. items v ≡ roster old) → (stood ≡ None → more ≡ [])
+    → (view ≡ View.Plain → stood ≡ None) → IfSome stood (λ v. items v ≡ roster old) → (stood ≡ None → more ≡ [])
     → IfSome stood (λ v. (more ≡ []) ⊎ (more ≡ placing_view (items v) new reply)) → IsPlacing view old new reply more
-is_placing items views.Plain old new reply stood more plain known none some = none (plain refl)
-is_placing items views.Table old new reply None more plain known none some = inl (none refl)
-is_placing items views.Table old new reply (Some v) more plain known none some = elim some [
+is_placing items View.Plain old new reply stood more plain known none some = none (plain refl)
+is_placing items View.Table old new reply None more plain known none some = inl (none refl)
+is_placing items View.Table old new reply (Some v) more plain known none some = elim some [
   | inl is ↦ inl is
   | inr is ↦ inr (subst (λ r. more ≡ placing_view r new reply) known is)
 ]
@@ -33,13 +23,7 @@ submitted facts old new source view reply more status o p e f submits placing en
   reply,
   submits,
   elim ends [
-    | inl said ↦ inl (record {
-      text = reply_line reply ++ more;
-      tells = (more, placing, refl);
-      ends = said.0;
-      written = said.1;
-      explained = said.2;
-    })
+    | inl said ↦ inl (record { text = reply_line reply ++ more; tells = (more, placing, refl); ends = said.0; written = said.1; explained = said.2 })
     | inr failed ↦ inr (failed.0, (reply_line reply ++ more, (more, placing, refl), failed.1), failed.2)
   ],
 )

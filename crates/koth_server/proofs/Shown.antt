@@ -1,11 +1,6 @@
 -- The table of a hill, with the matrix of its matches or without.
-use Rattle.std.proofs.Common.{◌≡◌, ◌∙◌, ℕ, Bool, true, false, true≢false, List, ◌++◌, ap, append_assoc, codes, sym}
-use Rattle.koth_hill.specs.Kept.{Kept, table_kept}
-use Rattle.koth_protocol.specs.Matches.{matches_text}
-use Rattle.koth_protocol.specs.Table.{show_text}
-use Rattle.koth_server.specs.Hills.{shown_lines, shown_table}
-use Rattle.koth_views.specs.Matrix.{matches_view}
-use Rattle.koth_views.specs.Standing.{hill_view}
+use Rattle.{std.proofs.Common.{◌≡◌, ◌∙◌, ℕ, Bool, true, false, true≢false, List, ◌++◌, ap, append_assoc, codes, sym}, koth_hill.specs.Kept.{Kept, table_kept}}
+use Rattle.{koth_protocol.specs.{Matches.matches_text, Table.show_text}, koth_views.specs.{Matrix.matches_view, Standing.hill_view}, koth_server.specs.Hills.{shown_lines, shown_table}}
 
 pub shown_with : (matches : Bool) (hill : Kept) (shown matrix items : List ℕ) → matches ≡ true → shown ≡ show_text (table_kept hill)
     → matrix ≡ matches_text hill → items ≡ shown ++ matrix → items ≡ shown_lines matches hill

@@ -1,14 +1,7 @@
 -- What an audit of the hill in a file writes, and how it ends.
-use Rattle.std.specs.Prelude.{◌≡◌, ◌⊎◌, ℕ, List, Option, None, Some, ◌++◌, [], codes, decimal}
-use Rattle.std.specs.Io.KnownBytes.{Appends}
-use Rattle.koth_match.specs.declared.bout.Bout.{Bout}
-use Rattle.koth_hill.specs.Kept.{Kept, AreTrue, AreTrueBefore, IsUntrue}
-use Rattle.koth_hill.specs.declared.untrue.Untrue.{Untrue}
-use Rattle.koth_commands.specs.Streams.{Streams}
-use Rattle.koth_commands.specs.declared.status.Status.{Status}
-use Rattle.koth_commands.specs.declared.status.Status.TheVariants as statuses
-use Rattle.koth_protocol.specs.Written.{WritesPart}
-use Rattle.koth_server.specs.Hills.{Said, TellsFault}
+use Rattle.std.specs.{Prelude.{◌≡◌, ◌⊎◌, ℕ, List, Option, None, Some, ◌++◌, [], codes, decimal}, Io.KnownBytes.Appends}
+use Rattle.{koth_match.specs.declared.bout.Bout.Bout, koth_hill.specs.{Kept.{Kept, AreTrue, AreTrueBefore, IsUntrue}, declared.untrue.Untrue.Untrue}, koth_protocol.specs.Written.WritesPart}
+use Rattle.{koth_commands.specs.{Streams.Streams, declared.status.Status.Status}, koth_server.specs.Hills.{Said, TellsFault}}
 
 -- three counts of a match after a word
 abbrev pub counts_line : List ℕ → Bout → List ℕ
@@ -27,8 +20,8 @@ IsAudited hill None = AreTrue hill
 IsAudited hill (Some u) = IsUntrue hill u.older u.younger u.kept u.fought × AreTrueBefore hill u.older u.younger
 
 abbrev pub audit_status : Option Untrue → Status
-audit_status None = statuses.Done
-audit_status (Some u) = statuses.Refused
+audit_status None = Status.Done
+audit_status (Some u) = Status.Refused
 
 abbrev pub audit_answer : Option Untrue → List ℕ
 audit_answer None = codes "true\n"

@@ -1,35 +1,10 @@
 -- What the commands on a hill in a file write, and how they end.
-use Rattle.std.specs.Prelude.{◌≡◌, ◌≢◌, ◌⊎◌, ℕ, Bool, if◌then◌else◌, List, [], Option, ◌++◌, Result, Ok, Err, codes, decimal}
-use Rattle.std.specs.Io.KnownBytes.{Appends, Keeps}
-use Rattle.war_types.specs.declared.settings.RawSettings.{RawSettings}
-use Rattle.war_types.specs.declared.settings.SettingsFault.{SettingsFault}
-use Rattle.sector_disk.specs.Facts.{DeviceFacts}
-use Rattle.koth_hill.specs.Kept.{Kept, table_kept}
-use Rattle.hill_store.specs.Seen.{Seen, Submits}
-use Rattle.hill_store.specs.declared.reply.Reply.{Reply}
-use Rattle.hill_store.specs.declared.reply.Reply.TheVariants as replies
-use Rattle.koth_protocol.specs.Matches.{matches_text}
-use Rattle.koth_protocol.specs.Table.{show_text}
-use Rattle.koth_session.specs.Reply.{reply_line}
-use Rattle.koth_protocol.specs.Written.{WritesPart}
-use Rattle.koth_commands.specs.Answer.{EndsGiven, Tells}
-use Rattle.koth_commands.specs.Failure.{failure_word}
-use Rattle.koth_commands.specs.Told.{TellsWord, WritesSome}
-use Rattle.koth_views.specs.Standing.{hill_view}
-use Rattle.koth_views.specs.Matrix.{matches_view}
-use Rattle.koth_views.specs.Placing.{placing_view}
-use Rattle.koth_views.specs.Roster.{roster}
-use Rattle.koth_words.specs.declared.words.View.{View}
-use Rattle.koth_words.specs.declared.words.View.TheVariants as views
-use Rattle.koth_server.specs.HillFault.{fault_status, fault_word}
-use Rattle.koth_server.specs.ReplyStatus.{reply_status}
-use Rattle.koth_commands.specs.Streams.{Streams}
-use Rattle.koth_commands.specs.declared.failure.Failure.TheVariants as kinds
-use Rattle.koth_server.specs.declared.hill_fault.HillFault.{HillFault}
-use Rattle.koth_server.specs.declared.hill_fault.HillFault.TheVariants as faults
-use Rattle.koth_server.specs.declared.trouble.HillTrouble.{HillTrouble}
-use Rattle.koth_commands.specs.declared.status.Status.{Status}
-use Rattle.koth_commands.specs.declared.status.Status.TheVariants as statuses
+use Rattle.std.specs.{Prelude.{◌≡◌, ◌≢◌, ◌⊎◌, ℕ, Bool, if◌then◌else◌, List, [], Option, ◌++◌, Result, Ok, Err, codes, decimal}, Io.KnownBytes.{Appends, Keeps}}
+use Rattle.{war_types.specs.{declared.settings.RawSettings.RawSettings, declared.settings.SettingsFault.SettingsFault}, koth_hill.specs.Kept.{Kept, table_kept}, sector_disk.specs.Facts.DeviceFacts}
+use Rattle.{hill_store.specs.{Seen.{Seen, Submits}, declared.reply.Reply.Reply}, koth_protocol.specs.{Matches.matches_text, Table.show_text, Written.WritesPart}, koth_session.specs.Reply.reply_line}
+use Rattle.{koth_words.specs.declared.words.View.View, koth_views.specs.{Standing.hill_view, Matrix.matches_view, Placing.placing_view, Roster.roster}}
+use Rattle.koth_commands.specs.{Answer.{EndsGiven, Tells}, Failure.failure_word, Told.{TellsWord, WritesSome}, Streams.Streams, declared.status.Status.Status, declared.failure.Failure.Failure}
+use Rattle.koth_server.specs.{HillFault.{fault_status, fault_word}, ReplyStatus.reply_status, declared.hill_fault.HillFault.HillFault, declared.trouble.HillTrouble.HillTrouble}
 
 -- the line that names the port
 abbrev pub listening_line : ℕ → List ℕ
@@ -38,8 +13,8 @@ listening_line port = codes "LISTENING " ++ decimal port ++ codes "\n"
 -- what stands after the line of a reply that turned the old hill into the new one: for people what became of the warrior, unless there was
 -- no memory for that
 abbrev pub IsPlacing : View → Kept → Kept → Reply → List ℕ → Type 0
-IsPlacing views.Plain old new reply more = more ≡ []
-IsPlacing views.Table old new reply more = (more ≡ []) ⊎ (more ≡ placing_view (roster old) new reply)
+IsPlacing View.Plain old new reply more = more ≡ []
+IsPlacing View.Table old new reply more = (more ≡ []) ⊎ (more ≡ placing_view (roster old) new reply)
 
 -- the text of a reply
 abbrev pub IsReplyText : View → Kept → Kept → Reply → List ℕ → Type 0
@@ -47,13 +22,13 @@ IsReplyText view old new reply text = (more : List ℕ) × IsPlacing view old ne
 
 -- what is written on standard error besides: some text that explains a refusal, and else nothing
 abbrev pub ExplainsReply : Reply → Option (List ℕ) → Option (List ℕ) → Type 0
-ExplainsReply (replies.Refused fault) old new = WritesSome old new
-ExplainsReply (replies.Placed entry rank score) old new = Keeps old new
-ExplainsReply (replies.Fell entry score) old new = Keeps old new
-ExplainsReply replies.Worn old new = Keeps old new
-ExplainsReply replies.Memory old new = Keeps old new
-ExplainsReply replies.Disk old new = Keeps old new
-ExplainsReply replies.Reopen old new = Keeps old new
+ExplainsReply (Reply.Refused fault) old new = WritesSome old new
+ExplainsReply (Reply.Placed entry rank score) old new = Keeps old new
+ExplainsReply (Reply.Fell entry score) old new = Keeps old new
+ExplainsReply Reply.Worn old new = Keeps old new
+ExplainsReply Reply.Memory old new = Keeps old new
+ExplainsReply Reply.Disk old new = Keeps old new
+ExplainsReply Reply.Reopen old new = Keeps old new
 
 -- what a command that is carried out writes on the output, by the status with which it ends
 
@@ -61,12 +36,12 @@ abbrev pub Said : Type 1
 Said = Status → List ℕ → Type 0
 
 abbrev pub SaysCreated : Said
-SaysCreated status text = (status ≡ statuses.Done) × (text ≡ codes "CREATED\n")
+SaysCreated status text = (status ≡ Status.Done) × (text ≡ codes "CREATED\n")
 
 -- the text of a reply that a hill gives that was just opened
 abbrev pub SaysReply : View → Said
 SaysReply view status text = (old : Kept) × (new : Kept) × (reply : Reply)
-    × (reply ≢ replies.Reopen) × (status ≡ reply_status reply) × IsReplyText view old new reply text
+    × (reply ≢ Reply.Reopen) × (status ≡ reply_status reply) × IsReplyText view old new reply text
 
 -- the table of this hill, by the results that it keeps, and after it their matrix, if that is asked for: for programs
 abbrev pub shown_lines : Bool → Kept → List ℕ
@@ -77,11 +52,11 @@ abbrev pub shown_table : Bool → Kept → List ℕ
 shown_table matches hill = if matches then hill_view hill ++ (codes "\n" ++ matches_view hill) else hill_view hill
 
 abbrev pub shown_text : View → Bool → Kept → List ℕ
-shown_text views.Plain matches hill = shown_lines matches hill
-shown_text views.Table matches hill = shown_table matches hill
+shown_text View.Plain matches hill = shown_lines matches hill
+shown_text View.Table matches hill = shown_table matches hill
 
 abbrev pub ShowsOf : View → Bool → Kept → Said
-ShowsOf view matches hill status text = (status ≡ statuses.Done) × (text ≡ shown_text view matches hill)
+ShowsOf view matches hill status text = (status ≡ Status.Done) × (text ≡ shown_text view matches hill)
 
 -- the same of some hill
 abbrev pub SaysShown : View → Bool → Said
@@ -89,7 +64,7 @@ SaysShown view matches status text = (hill : Kept) × ShowsOf view matches hill 
 
 -- a port
 abbrev pub SaysPort : Said
-SaysPort status text = (port : ℕ) × (status ≡ statuses.Done) × (text ≡ listening_line port)
+SaysPort status text = (port : ℕ) × (status ≡ Status.Done) × (text ≡ listening_line port)
 
 -- such an answer was written
 pub record SaysWhole (said : Said) (status : Status) (old new : Option (List ℕ)) : Type 0 where
@@ -106,13 +81,13 @@ pub record SaysPart (said : Said) (old new : Option (List ℕ)) : Type 0 where
 
 -- if a stream failed, a part of such an answer may be on the output; else nothing is
 abbrev pub WritesAt : Said → HillFault → Option (List ℕ) → Option (List ℕ) → Type 0
-WritesAt said (faults.Failed kinds.Stream) old new = Keeps old new ⊎ SaysPart said old new
-WritesAt said (faults.Failed kinds.Memory) old new = Keeps old new
-WritesAt said faults.TooSmall old new = Keeps old new
-WritesAt said faults.Occupied old new = Keeps old new
-WritesAt said faults.NotAHill old new = Keeps old new
-WritesAt said faults.OldHill old new = Keeps old new
-WritesAt said faults.Damaged old new = Keeps old new
+WritesAt said (HillFault.Failed Failure.Stream) old new = Keeps old new ⊎ SaysPart said old new
+WritesAt said (HillFault.Failed Failure.Memory) old new = Keeps old new
+WritesAt said HillFault.TooSmall old new = Keeps old new
+WritesAt said HillFault.Occupied old new = Keeps old new
+WritesAt said HillFault.NotAHill old new = Keeps old new
+WritesAt said HillFault.OldHill old new = Keeps old new
+WritesAt said HillFault.Damaged old new = Keeps old new
 
 -- before a fault is reported
 abbrev pub Tries : Said → Result Status HillTrouble → Option (List ℕ) → Option (List ℕ) → Type 0
@@ -147,21 +122,21 @@ pub record SaysSubmitted (view : View) (old new : Kept) (reply : Reply) (status 
 -- how `submit` ends: with the reply of a hill that was just opened, or with a fault
 abbrev pub EndsSubmit : View → Status → Streams → Streams → Type 0
 EndsSubmit view status before after =
-    ((old : Kept) × (new : Kept) × (reply : Reply) × (reply ≢ replies.Reopen) × SaysSubmitted view old new reply status before after)
+    ((old : Kept) × (new : Kept) × (reply : Reply) × (reply ≢ Reply.Reopen) × SaysSubmitted view old new reply status before after)
     ⊎ TellsFault (SaysReply view) status before after
 
 -- how writing a reply and a text after it ends, by what the output and then standard error hold before and after
 abbrev pub EndsReply : Reply → List ℕ → Status → Option (List ℕ) → Option (List ℕ) → Option (List ℕ) → Option (List ℕ) → Type 0
 EndsReply reply more status o p e f =
     ((status ≡ reply_status reply) × Appends o p (reply_line reply ++ more) × ExplainsReply reply e f)
-    ⊎ ((status ≡ statuses.StreamFault) × WritesPart o p (reply_line reply ++ more) × TellsWord (failure_word kinds.Stream) e f)
+    ⊎ ((status ≡ Status.StreamFault) × WritesPart o p (reply_line reply ++ more) × TellsWord (failure_word Failure.Stream) e f)
 
 -- how the submission of a source to a store ends: with its reply, or with a part of the reply's text if the output failed
 abbrev pub EndsSubmission : {D : Type 0} → DeviceFacts D → Seen D → List ℕ → Seen D → View → Status → Streams → Streams → Type 0
 EndsSubmission facts old source new view status before after = (reply : Reply) × Submits facts old source reply new
     × (SaysSubmitted view old.hill new.hill reply status before after
-    ⊎ ((status ≡ statuses.StreamFault) × ((text : List ℕ) × IsReplyText view old.hill new.hill reply text × WritesPart before.output after.output text)
-    × Tells kinds.Stream before after))
+    ⊎ ((status ≡ Status.StreamFault) × ((text : List ℕ) × IsReplyText view old.hill new.hill reply text × WritesPart before.output after.output text)
+    × Tells Failure.Stream before after))
 
 -- how a service ends: after its line, or with a fault, and then a part of that line may stand on the output; the log stands on standard error
 pub record TellsServeFault (status : Status) (before after : Streams) : Type 0 where

@@ -1,22 +1,13 @@
 -- What moving the hill in a file of the old format to another file writes, and how it ends.
-use Rattle.std.specs.Prelude.{◌≡◌, ◌⊎◌, ℕ, List, Option, Result, Ok, Err, IsErrAnd, codes}
-use Rattle.std.specs.Io.KnownBytes.{Appends, Keeps}
-use Rattle.sector_disk.specs.Facts.{DeviceFacts}
-use Rattle.hill_store.specs.Opened.{IsMigrated, IsNotMigrated}
-use Rattle.hill_store.specs.Seen.{Seen}
-use Rattle.hill_store.specs.declared.migration.MigrateFault.{MigrateFault}
-use Rattle.koth_protocol.specs.Written.{WritesPart}
-use Rattle.koth_commands.specs.declared.status.Status.{Status}
-use Rattle.koth_commands.specs.declared.status.Status.TheVariants as statuses
-use Rattle.koth_server.specs.HillFault.{fault_of_refusal, stream_failed}
-use Rattle.koth_server.specs.Hills.{Said}
-use Rattle.koth_server.specs.declared.trouble.HillTrouble.{HillTrouble}
+use Rattle.std.specs.{Prelude.{◌≡◌, ◌⊎◌, ℕ, List, Option, Result, Ok, Err, IsErrAnd, codes}, Io.KnownBytes.{Appends, Keeps}}
+use Rattle.{sector_disk.specs.Facts.DeviceFacts, hill_store.specs.{Opened.{IsMigrated, IsNotMigrated}, Seen.Seen, declared.migration.MigrateFault.MigrateFault}, koth_protocol.specs.Written.WritesPart}
+use Rattle.{koth_commands.specs.declared.status.Status.Status, koth_server.specs.{HillFault.{fault_of_refusal, stream_failed}, Hills.Said, declared.trouble.HillTrouble.HillTrouble}}
 
 abbrev pub migrated_line : List ℕ
 migrated_line = codes "MIGRATED\n"
 
 abbrev pub SaysMigrated : Said
-SaysMigrated status text = (status ≡ statuses.Done) × (text ≡ migrated_line)
+SaysMigrated status text = (status ≡ Status.Done) × (text ≡ migrated_line)
 
 -- the hill on a device of the old format was moved to another device, in the new one
 pub record Migrates {D : Type 0} (facts : DeviceFacts D) (old new : D) : Type 0 where
@@ -34,7 +25,7 @@ pub record RefusesToMigrate {D : Type 0} (facts : DeviceFacts D) (old new : D) (
 
 -- the line that says so was written, or a part of it if the output failed
 abbrev pub TellsMigrated : Result Status HillTrouble → Option (List ℕ) → Option (List ℕ) → Type 0
-TellsMigrated (Ok status) before after = (status ≡ statuses.Done) × Appends before after migrated_line
+TellsMigrated (Ok status) before after = (status ≡ Status.Done) × Appends before after migrated_line
 TellsMigrated (Err trouble) before after = (trouble.fault ≡ stream_failed) × WritesPart before after migrated_line
 
 -- what moving a hill from one device to another answers and writes: nothing if it was not moved

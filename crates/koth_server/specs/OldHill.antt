@@ -1,16 +1,8 @@
 -- How it is known that a device holds a hill of the old format, and what is reported of a device whose hill is not opened.
 use Rattle.std.specs.Prelude.{◌≡◌, ◌≢◌, ◌⊎◌, ℕ, ◌%◌, Bool, true, false, List, Some, None}
-use Rattle.sector_disk.specs.Disk.{current}
-use Rattle.sector_disk.specs.Facts.{DeviceFacts}
-use Rattle.sector_disk.specs.Served.{Failed, IsKept}
-use Rattle.hill_bytes.specs.Layout.{HeaderParts, IsHeader, old_layout}
-use Rattle.hill_images.specs.Found.{IsFoundIn}
-use Rattle.hill_images.specs.Opening.{HoldsNoneIn, IsNotOpened}
-use Rattle.hill_images.specs.declared.refusal.Refusal.{Refusal}
-use Rattle.hill_images.specs.declared.refusal.Refusal.TheVariants as refusals
-use Rattle.koth_server.specs.HillFault.{fault_of_refusal}
-use Rattle.koth_server.specs.declared.hill_fault.HillFault.{HillFault}
-use Rattle.koth_server.specs.declared.hill_fault.HillFault.TheVariants.{TooSmall, Occupied, NotAHill, OldHill, Damaged, Failed as Fails}
+use Rattle.{sector_disk.specs.{Disk.current, Facts.DeviceFacts, Served.{Failed, IsKept}}, hill_bytes.specs.Layout.{HeaderParts, IsHeader, old_layout}}
+use Rattle.{hill_images.specs.{Found.IsFoundIn, Opening.{HoldsNoneIn, IsNotOpened}, declared.refusal.Refusal.Refusal}, koth_server.specs.HillFault.fault_of_refusal}
+use Rattle.koth_server.specs.{declared.hill_fault.HillFault.HillFault, declared.hill_fault.HillFault.TheVariants.{TooSmall, Occupied, NotAHill, OldHill, Damaged, Failed as Fails}}
 
 -- whether these bytes, as sector n, are a valid header of the old format
 abbrev pub IsOldHeaderIf : ℕ → List ℕ → Bool → Type 0
@@ -37,8 +29,8 @@ TellsNoHill facts old new (Fails failure) = ⊥
 
 -- what is reported of a device that was refused
 pub record TellsRefusal {D : Type 0} (facts : DeviceFacts D) (old new : D) (why : Refusal) (fault : HillFault) : Type 0 where
-  pub no_hill : why ≡ refusals.NotAHill → TellsNoHill facts old new fault
-  pub other : why ≢ refusals.NotAHill → fault ≡ fault_of_refusal why
+  pub no_hill : why ≡ Refusal.NotAHill → TellsNoHill facts old new fault
+  pub other : why ≢ Refusal.NotAHill → fault ≡ fault_of_refusal why
 
 -- the hill on a device was not opened, and this is reported
 pub record IsUnopened {D : Type 0} (facts : DeviceFacts D) (device : D) (fault : HillFault) : Type 0 where

@@ -1,14 +1,10 @@
 -- What `page` writes.
 use Rattle.std.specs.Prelude.{◌≡◌}
-use Rattle.koth_hill.specs.Kept.{Kept}
-use Rattle.koth_page.specs.declared.links.Links.TheVariants as links
-use Rattle.koth_page.specs.Page.{hill_page}
-use Rattle.koth_commands.specs.declared.status.Status.TheVariants as statuses
-use Rattle.koth_server.specs.Hills.{Said}
+use Rattle.{koth_hill.specs.Kept.Kept, koth_page.specs.{Page.hill_page, declared.links.Links.Links}, koth_commands.specs.declared.status.Status.Status, koth_server.specs.Hills.Said}
 
 -- the page of this hill, by the results that it keeps, without links
 abbrev pub PagesOf : Kept → Said
-PagesOf hill status text = (status ≡ statuses.Done) × (text ≡ hill_page hill links.None)
+PagesOf hill status text = (status ≡ Status.Done) × (text ≡ hill_page hill Links.None)
 
 -- the page of some hill
 abbrev pub SaysPage : Said

@@ -1,13 +1,7 @@
 -- The pages that browsers ask for.
 use Rattle.std.specs.Prelude.{◌≡◌, ⊤, ℕ, ◌<◌, true, List, Some, slice_get}
-use Rattle.war_types.specs.Warrior.{WarriorParts}
-use Rattle.koth_hill.specs.Hill.{Member, member_of}
-use Rattle.koth_hill.specs.Kept.{Kept}
-use Rattle.koth_page.specs.declared.links.Links.TheVariants as links
-use Rattle.koth_page.specs.Page.{hill_page}
-use Rattle.koth_http.specs.declared.target.Page.{Page}
-use Rattle.koth_http.specs.declared.target.Page.TheVariants as pages
-use Rattle.koth_commands.specs.Replay.{has_round, IsRoundText}
+use Rattle.{war_types.specs.Warrior.WarriorParts, koth_hill.specs.{Hill.{Member, member_of}, Kept.Kept}, koth_http.specs.declared.target.Page.Page}
+use Rattle.{koth_page.specs.{Page.hill_page, declared.links.Links.Links}, koth_commands.specs.Replay.{has_round, IsRoundText}}
 
 -- this warrior is on the hill, under this entry
 pub record HasWarrior (members : List Member) (entry : ℕ) (warrior : WarriorParts) : Type 0 where
@@ -28,8 +22,8 @@ pub record HasRound (hill : Kept) (older younger round : ℕ) : Type 0 where
 
 -- a hill has this page: its own in any case
 abbrev pub HasPage : Kept → Page → Type 0
-HasPage hill pages.Hill = ⊤
-HasPage hill (pages.Round older younger round) = HasRound hill older younger round
+HasPage hill Page.Hill = ⊤
+HasPage hill (Page.Round older younger round) = HasRound hill older younger round
 
 -- the text is the page of a round, counted from 1, of the match of the warriors with these entries on a hill, the older one first
 pub record IsRoundOf (hill : Kept) (older younger round : ℕ) (text : List ℕ) : Type 0 where
@@ -43,5 +37,5 @@ pub record IsRoundOf (hill : Kept) (older younger round : ℕ) (text : List ℕ)
 
 -- the text of a page of a hill, whose matches link to their first rounds
 abbrev pub IsShown : Kept → Page → List ℕ → Type 0
-IsShown hill pages.Hill text = text ≡ hill_page hill links.Rounds
-IsShown hill (pages.Round older younger round) text = IsRoundOf hill older younger round text
+IsShown hill Page.Hill text = text ≡ hill_page hill Links.Rounds
+IsShown hill (Page.Round older younger round) text = IsRoundOf hill older younger round text

@@ -1,29 +1,11 @@
 -- How a run ends.
-use Rattle.std.specs.Prelude.{◌≡◌, ◌≢◌, ◌⊎◌, ℕ, List, [], length, Option, codes, unwrap_or}
-use Rattle.std.specs.Io.KnownBytes.{Keeps}
-use Rattle.clap.specs.Words.{Text, all_of, one_of}
-use Rattle.war_types.specs.Settings.{settings_of}
-use Rattle.koth_commands.specs.Answer.{Tells}
-use Rattle.koth_commands.specs.Asm.{EndsAsmFrom, EndsAsmOf}
-use Rattle.koth_commands.specs.Check.{EndsCheck}
-use Rattle.koth_commands.specs.Fight.{EndsFight}
-use Rattle.koth_commands.specs.Replay.{EndsReplay}
-use Rattle.koth_server.specs.Hills.{EndsCreate, EndsHill, EndsServe, EndsSubmit, SaysShown}
-use Rattle.koth_server.specs.Audit.{EndsAudit}
-use Rattle.koth_server.specs.Migration.{SaysMigrated}
-use Rattle.koth_server.specs.Page.{SaysPage}
-use Rattle.koth_commands.specs.Status.{status_code}
-use Rattle.koth_commands.specs.Streams.{Streams, unread}
-use Rattle.koth_commands.specs.declared.failure.Failure.TheVariants as failures
-use Rattle.koth_commands.specs.declared.status.Status.{Status}
-use Rattle.koth_commands.specs.declared.status.Status.TheVariants as statuses
-use Rattle.koth_words.specs.Options.{number_or}
-use Rattle.koth_words.specs.Words.{given_by, matches_named, reads_input, settings_named, view_named, AreTaken, AreWrong, AsksFor}
-use Rattle.koth_words.specs.declared.words.NoRequest.{NoRequest}
-use Rattle.koth_words.specs.declared.words.NoRequest.TheVariants as reasons
-use Rattle.koth_words.specs.declared.words.Request.{Request}
-use Rattle.koth_words.specs.declared.words.Request.TheVariants.{Asm, Check, Fight, Create, Submit, Show, Serve, Audit, Migrate, Page, Replay}
-use Rattle.koth_words.specs.declared.words.View.{View}
+use Rattle.std.specs.{Prelude.{◌≡◌, ◌≢◌, ◌⊎◌, ℕ, List, [], length, Option, codes, unwrap_or}, Io.KnownBytes.Keeps}
+use Rattle.{clap.specs.Words.{Text, all_of, one_of}, war_types.specs.Settings.settings_of}
+use Rattle.koth_words.specs.{Options.number_or, Words.{given_by, matches_named, reads_input, settings_named, view_named, AreTaken, AreWrong, AsksFor}, declared.words.NoRequest.NoRequest}
+use Rattle.koth_words.specs.{declared.words.Request.Request, declared.words.Request.TheVariants.{Asm, Check, Fight, Create, Submit, Show, Serve, Audit, Migrate, Page, Replay}}
+use Rattle.{koth_words.specs.declared.words.View.View, koth_commands.specs.{Answer.Tells, Asm.{EndsAsmFrom, EndsAsmOf}, Check.EndsCheck, Fight.EndsFight, Replay.EndsReplay}}
+use Rattle.koth_commands.specs.{Status.status_code, Streams.{Streams, unread}, declared.status.Status.Status, declared.failure.Failure.Failure}
+use Rattle.koth_server.specs.{Hills.{EndsCreate, EndsHill, EndsServe, EndsSubmit, SaysShown}, Audit.EndsAudit, Migration.SaysMigrated, Page.SaysPage}
 
 -- the code is that of a status of which this holds
 abbrev pub Leaves : ℕ → (Status → Type 0) → Type 0
@@ -42,8 +24,7 @@ CommandEnds view (Fight given files) status before after =
     EndsFight (viewed files.view view) (settings_of given) status (unread before) (unread after)
 CommandEnds view (Create given creation) status before after = EndsCreate (settings_of given) status (unread before) (unread after)
 CommandEnds view (Submit files) status before after = EndsSubmit (viewed files.view view) status (unread before) (unread after)
-CommandEnds view (Show shown) status before after =
-    EndsHill (SaysShown (viewed shown.view view) shown.matches) status (unread before) (unread after)
+CommandEnds view (Show shown) status before after = EndsHill (SaysShown (viewed shown.view view) shown.matches) status (unread before) (unread after)
 CommandEnds view (Audit file) status before after = EndsAudit status (unread before) (unread after)
 CommandEnds view (Migrate files) status before after = EndsHill SaysMigrated status (unread before) (unread after)
 CommandEnds view (Page file) status before after = EndsHill SaysPage status (unread before) (unread after)
@@ -52,14 +33,13 @@ CommandEnds view (Replay given watched) status before after = EndsReplay watched
 
 -- how a run ends that carried a request out: as its command does, and never as at a fault of the arguments
 abbrev pub EndsRequest : View → Request → Status → Streams → Streams → Type 0
-EndsRequest view request status before after = CommandEnds view request status before after × (status ≢ statuses.WordFault)
+EndsRequest view request status before after = CommandEnds view request status before after × (status ≢ Status.WordFault)
 
 -- how a run ends at arguments that ask for no command; the input is not read
 abbrev pub EndsWithout : NoRequest → Status → Streams → Streams → Type 0
-EndsWithout (reasons.Help text) status before after = status ≢ statuses.WordFault
-EndsWithout (reasons.WordFault text) status before after = (status ≡ statuses.WordFault) × Keeps before.output after.output
-EndsWithout reasons.Memory status before after =
-    (status ≡ statuses.NoMemory) × Keeps before.output after.output × Tells failures.Memory before after
+EndsWithout (NoRequest.Help text) status before after = status ≢ Status.WordFault
+EndsWithout (NoRequest.WordFault text) status before after = (status ≡ Status.WordFault) × Keeps before.output after.output
+EndsWithout NoRequest.Memory status before after = (status ≡ Status.NoMemory) × Keeps before.output after.output × Tells Failure.Memory before after
 
 -- the files that the arguments name for `check`
 abbrev pub files_named : List (List ℕ) → List Text
@@ -88,6 +68,6 @@ pub record EndsRun (view : View) (given : List (List ℕ)) (status : Status) (be
   pub serve : AsksFor (codes "serve") given → EndsServe (settings_of (settings_named given)) status (unread before) (unread after)
   pub replay : AsksFor (codes "replay") given
       → EndsReplay (round_named given) (settings_of (settings_named given)) status (unread before) (unread after)
-  pub words : AreTaken given → status ≢ statuses.WordFault
-  pub wrong : AreWrong given → (status ≡ statuses.WordFault) ⊎ (status ≡ statuses.NoMemory)
-  pub word_fault : status ≡ statuses.WordFault → Keeps before.input after.input × Keeps before.output after.output
+  pub words : AreTaken given → status ≢ Status.WordFault
+  pub wrong : AreWrong given → (status ≡ Status.WordFault) ⊎ (status ≡ Status.NoMemory)
+  pub word_fault : status ≡ Status.WordFault → Keeps before.input after.input × Keeps before.output after.output

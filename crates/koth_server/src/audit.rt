@@ -1,9 +1,7 @@
 //! The command `audit`: whether the results that the hill in a file keeps are those of its matches.
 
-ghost use Rattle.std.specs.Prelude.{◌≡◌, ◌≢◌, ◌≤◌, ◌++◌, None, OnErr, OnOk, codes, decimal, length};
-ghost use Rattle.std.specs.Io.KnownBytes.{Appends};
-ghost use Rattle.koth_commands.specs.Streams.{streams};
-ghost use Rattle.koth_protocol.specs.Written.{WritesPart};
+ghost use Rattle.std.specs.{Prelude.{◌≡◌, ◌≢◌, ◌≤◌, ◌++◌, None, OnErr, OnOk, codes, decimal, length}, Io.KnownBytes.Appends};
+ghost use Rattle.{koth_protocol.specs.Written.WritesPart, koth_commands.specs.Streams.streams};
 ghost use Rattle.koth_server.specs.Audit.{EndsAudit, EndsAuditOf, audit_answer, audit_status, counts_line, pair_line, told_of, untrue_text};
 
 use crate::files::open_hill;

@@ -1,10 +1,7 @@
 //! The command `create`: a hill without warriors in a file.
 
 ghost use Rattle.std.specs.Prelude.{◌≡◌, ◌≢◌, None, false, IfOk};
-ghost use Rattle.war_types.specs.Settings.{settings_of};
-ghost use Rattle.hill_store.specs.Opened.{IsCreated};
-ghost use Rattle.koth_server.specs.Hills.{EndsCreate, EndsHill, SaysCreated, Tries};
-ghost use Rattle.koth_commands.specs.Streams.{streams};
+ghost use Rattle.{war_types.specs.Settings.settings_of, hill_store.specs.Opened.IsCreated, koth_commands.specs.Streams.streams, koth_server.specs.Hills.{EndsCreate, EndsHill, SaysCreated, Tries}};
 
 use crate::files::HillStore;
 use crate::hill_fault::HillFault;

@@ -1,8 +1,7 @@
 //! Hills in files.
 
 ghost use Rattle.std.specs.Prelude.{◌≡◌, ◌≤◌, false, IfErr, IfOk};
-ghost use Rattle.hill_store.specs.Opened.{IsOpened};
-ghost use Rattle.koth_server.specs.OldHill.{IsUnopened, TellsNoHill, TellsRefusal};
+ghost use Rattle.{hill_store.specs.Opened.IsOpened, koth_server.specs.OldHill.{IsUnopened, TellsNoHill, TellsRefusal}};
 
 use crate::damage::damaged_entry;
 use crate::hill_fault::HillFault;

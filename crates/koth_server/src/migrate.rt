@@ -1,9 +1,7 @@
 //! The command `migrate`: the hill in a file of the old format, moved to a new file.
 
 ghost use Rattle.std.specs.Prelude.{◌≡◌, ◌≢◌, None};
-ghost use Rattle.koth_server.specs.Hills.{EndsHill, Tries};
-ghost use Rattle.koth_server.specs.Migration.{MigratesTo, SaysMigrated, TellsMigrated};
-ghost use Rattle.koth_commands.specs.Streams.{streams};
+ghost use Rattle.{koth_commands.specs.Streams.streams, koth_server.specs.{Hills.{EndsHill, Tries}, Migration.{MigratesTo, SaysMigrated, TellsMigrated}}};
 
 use crate::trouble::HillTrouble;
 use hill_file::{Existing, HillFile, Sharing, TryLock};

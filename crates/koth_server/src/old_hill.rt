@@ -1,9 +1,7 @@
 //! How it is known that a device without a hill holds a hill of the old format.
 
 ghost use Rattle.std.specs.Prelude.{◌≡◌, ◌<◌, ◌≤◌, IfOk};
-ghost use Rattle.sector_disk.specs.Disk.{current};
-ghost use Rattle.sector_disk.specs.Served.{IsServed};
-ghost use Rattle.koth_server.specs.OldHill.{HoldsOldIf, IsOldHeaderIf};
+ghost use Rattle.{sector_disk.specs.{Disk.current, Served.IsServed}, koth_server.specs.OldHill.{HoldsOldIf, IsOldHeaderIf}};
 
 use hill_store::decode_old_header;
 use sector_disk::{Device, Fault};

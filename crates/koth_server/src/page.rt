@@ -1,10 +1,7 @@
 //! The command `page`: the page of the hill in a file.
 
 ghost use Rattle.std.specs.Prelude.{◌≡◌, ◌≢◌, IfOk, None};
-ghost use Rattle.koth_commands.specs.Streams.{streams};
-ghost use Rattle.koth_page.specs.Page.{hill_page};
-ghost use Rattle.koth_server.specs.Hills.{EndsHill, Tries};
-ghost use Rattle.koth_server.specs.Page.{PagesOf, SaysPage};
+ghost use Rattle.{koth_page.specs.Page.hill_page, koth_commands.specs.Streams.streams, koth_server.specs.{Hills.{EndsHill, Tries}, Page.{PagesOf, SaysPage}}};
 
 use crate::files::open_hill;
 use crate::trouble::HillTrouble;

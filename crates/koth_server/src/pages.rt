@@ -1,8 +1,6 @@
 //! The pages that browsers ask for: the hill's page, and pages of rounds on it.
 
-ghost use Rattle.std.specs.Prelude.{IfOk, IfNone, IfSome, MatchOption};
-ghost use Rattle.war_types.specs.Warrior.{Fits};
-ghost use Rattle.koth_server.specs.Pages.{HasPage, HasRound, HasWarrior, IsOnHill, IsRoundOf, IsShown};
+ghost use Rattle.{std.specs.Prelude.{IfOk, IfNone, IfSome, MatchOption}, war_types.specs.Warrior.Fits, koth_server.specs.Pages.{HasPage, HasRound, HasWarrior, IsOnHill, IsRoundOf, IsShown}};
 
 use hill_store::Store;
 use koth_commands::replay::{has_round, round_text};

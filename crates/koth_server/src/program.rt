@@ -1,8 +1,7 @@
 //! A run of the program, from its arguments to its status.
 
 ghost use Rattle.std.specs.Prelude.{◌≡◌, None, map, string_bytes};
-ghost use Rattle.koth_server.specs.Run.{viewed, EndsRequest, EndsRun, EndsWithout, Leaves};
-ghost use Rattle.koth_commands.specs.Streams.{streams};
+ghost use Rattle.{koth_commands.specs.Streams.streams, koth_server.specs.Run.{viewed, EndsRequest, EndsRun, EndsWithout, Leaves}};
 
 use crate::audit::audit;
 use crate::create::create;

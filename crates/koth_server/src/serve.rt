@@ -1,11 +1,8 @@
 //! The command `serve`: sessions of many peers over sockets on the hill in a file.
 
 ghost use Rattle.std.specs.Prelude.{◌≡◌, ◌≢◌, None, false, IfOk, MatchResult};
-ghost use Rattle.war_types.specs.Settings.{settings_of};
-ghost use Rattle.koth_server.specs.Hills.{listening_line, Announces, AnnouncesPart, EndsServe, EndsService};
-ghost use Rattle.koth_commands.specs.Streams.{streams};
-ghost use Rattle.koth_commands.specs.Told.{WritesSome};
-ghost use Rattle.koth_server.specs.Pages.{IsShown};
+ghost use Rattle.{war_types.specs.Settings.settings_of, koth_commands.specs.{Streams.streams, Told.WritesSome}};
+ghost use Rattle.koth_server.specs.{Hills.{listening_line, Announces, AnnouncesPart, EndsServe, EndsService}, Pages.IsShown};
 
 use crate::create::create_hill;
 use crate::files::{HillStore, open_hill};

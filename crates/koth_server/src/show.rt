@@ -1,8 +1,7 @@
 //! The command `show`: the table of the hill in a file, and the matrix of its matches.
 
 ghost use Rattle.std.specs.Prelude.{◌≡◌, ◌≢◌, IfOk, None, true};
-ghost use Rattle.koth_server.specs.Hills.{EndsHill, SaysShown, ShowsOf, Tries, shown_lines, shown_table, shown_text};
-ghost use Rattle.koth_commands.specs.Streams.{streams};
+ghost use Rattle.{koth_commands.specs.Streams.streams, koth_server.specs.Hills.{EndsHill, SaysShown, ShowsOf, Tries, shown_lines, shown_table, shown_text}};
 
 use crate::files::open_hill;
 use crate::trouble::HillTrouble;

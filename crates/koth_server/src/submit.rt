@@ -1,10 +1,7 @@
 //! The command `submit`: one submission to the hill in a file.
 
 ghost use Rattle.std.specs.Prelude.{◌≡◌, ◌≢◌, ◌⊎◌, [], false, None, IfSome};
-ghost use Rattle.koth_views.specs.Placing.{placing_view};
-ghost use Rattle.koth_views.specs.Roster.{roster};
-ghost use Rattle.koth_server.specs.Hills.{EndsReply, EndsSubmission, EndsSubmit, ExplainsReply};
-ghost use Rattle.koth_commands.specs.Streams.{streams};
+ghost use Rattle.{koth_views.specs.{Placing.placing_view, Roster.roster}, koth_commands.specs.Streams.streams, koth_server.specs.Hills.{EndsReply, EndsSubmission, EndsSubmit, ExplainsReply}};
 
 use crate::files::open_hill;
 use crate::reply_status::status_of;

@@ -1,9 +1,7 @@
 //! Why a command on a hill was not carried out, what it worked on, and what is reported of it.
 
 ghost use Rattle.std.specs.Prelude.{◌≡◌, codes, option_map};
-ghost use Rattle.koth_commands.specs.Cause.{reason_told};
-ghost use Rattle.koth_commands.specs.Failure.{cause_of, failure_of, failure_word};
-ghost use Rattle.koth_commands.specs.Told.{TellsCause, TellsWord};
+ghost use Rattle.koth_commands.specs.{Cause.reason_told, Failure.{cause_of, failure_of, failure_word}, Told.{TellsCause, TellsWord}};
 ghost use Rattle.koth_server.specs.HillFault.{damage_told, fault_of_file, fault_of_refusal, fault_reason, open_reason, stream_failed, trouble_told};
 
 use crate::hill_fault::HillFault;

@@ -1,13 +1,8 @@
 -- How the peers stand at a moment, for each happening.
 use Rattle.std.proofs.Common.{◌≡◌, ◌≢◌, inl, inr, ℕ, ◌==◌, true, false, List, [], ◌++◌, take, drop, Option, None, Some, refl, sym, ap, subst, ◌∙◌, append_assoc, take-append-drop}
-use Rattle.std.proofs.lemmas.Bool.{cases_eq}
-use Rattle.std.proofs.lemmas.Bool.Decides.{eqb_tells}
-use Rattle.koth_protocol.specs.Commands.{Command}
-use Rattle.koth_peers.specs.Peer.{Closes, IsNew, IsPeer, Sends, Takes}
-use Rattle.koth_peers.specs.Peers.{Moves, MovesAt, OnlyAt, Slots, peer_at, unsent_at, unsent_in}
-use Rattle.koth_peers.specs.declared.peer.Peer.{Peer}
-use Rattle.koth_service.specs.History.{Begins, Session, instead, session_anew, session_came, session_went}
-use Rattle.koth_service.specs.Standing.{AreStanding, StandsAt}
+use Rattle.{std.proofs.{lemmas.Bool.cases_eq, lemmas.Bool.Decides.eqb_tells}, koth_protocol.specs.Commands.Command}
+use Rattle.koth_peers.specs.{Peer.{Closes, IsNew, IsPeer, Sends, Takes}, Peers.{Moves, MovesAt, OnlyAt, Slots, peer_at, unsent_at, unsent_in}, declared.peer.Peer.Peer}
+use Rattle.koth_service.specs.{History.{Begins, Session, instead, session_anew, session_came, session_went}, Standing.{AreStanding, StandsAt}}
 
 not_equal : (a b : ℕ) → a ≢ b → (a == b) ≡ false
 not_equal a b other = elim (eqb_tells a b) [ inl same ↦ absurd (other same.1) | inr differ ↦ differ.0 ]

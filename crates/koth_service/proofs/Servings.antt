@@ -1,40 +1,22 @@
 -- How a history goes on by a command.
-use Rattle.std.proofs.Common.{◌≡◌, ◌≢◌, ℕ, Bool, true, true≢false, List, [], ◌∷◌, ◌++◌, Option, None, Some, refl, sym, ap, subst, ◌∙◌, append_assoc, append-nil}
-use Rattle.sector_disk.specs.Facts.{DeviceFacts}
-use Rattle.koth_hill.specs.Kept.{Kept}
-use Rattle.hill_store.specs.Seen.{Seen}
-use Rattle.koth_protocol.specs.Commands.{Command, commands_from, commands_of, kept_source}
-use Rattle.koth_protocol.specs.Lines.{lines_from}
-use Rattle.koth_protocol.specs.Reading.{commands_met}
-use Rattle.koth_protocol.specs.declared.script.Met.{Met}
-use Rattle.koth_protocol.specs.declared.script.Met.TheVariants as met
-use Rattle.koth_session.specs.Sessions.{AreServed, IsLeftOff}
-use Rattle.koth_session.specs.Transcript.{Exchange, answer, command_in, hill_after}
-use Rattle.koth_peers.specs.Inbox.{is_met}
-use Rattle.koth_peers.specs.Peer.{AnswersPeer, HasRead, IsPeer, Serves, command_due, command_of, is_due}
-use Rattle.koth_peers.specs.Peers.{Moves, MovesAt, ServesNext, Slots, is_due_in, peer_at, step_after}
-use Rattle.koth_peers.specs.declared.end.PeerEnd.{PeerEnd}
-use Rattle.koth_peers.specs.declared.end.PeerEnd.TheVariants as ends
-use Rattle.koth_peers.specs.declared.inbox.Inbox.{Inbox}
-use Rattle.koth_peers.specs.declared.peer.Peer.{Peer}
+use Rattle.{std.proofs.Common.{◌≡◌, ◌≢◌, ℕ, Bool, true, true≢false, List, [], ◌∷◌, ◌++◌, Option, None, Some, refl, sym, ap, subst, ◌∙◌, append_assoc, append-nil}, koth_hill.specs.Kept.Kept}
+use Rattle.{sector_disk.specs.Facts.DeviceFacts, hill_store.specs.Seen.Seen, koth_protocol.specs.{Commands.{Command, commands_from, commands_of, kept_source}, Lines.lines_from}}
+use Rattle.{koth_protocol.specs.{Reading.commands_met, declared.script.Met.Met}, koth_session.specs.{Sessions.{AreServed, IsLeftOff}, Transcript.{Exchange, answer, command_in, hill_after}}}
+use Rattle.{koth_session.proofs.Exchanges.hill_append, koth_peers.specs.{Inbox.is_met, Peer.{AnswersPeer, HasRead, IsPeer, Serves, command_due, command_of, is_due}}}
+use Rattle.koth_peers.specs.{Peers.{Moves, MovesAt, ServesNext, Slots, is_due_in, peer_at, step_after}, declared.end.PeerEnd.PeerEnd, declared.inbox.Inbox.Inbox, declared.peer.Peer.Peer}
 use Rattle.koth_peers.specs.declared.peers.Step.{Step}
-use Rattle.koth_peers.specs.declared.peers.Step.TheVariants as steps
-use Rattle.koth_service.specs.Noted.{Noted, Stays}
-use Rattle.koth_service.specs.History.{Answers, Begins, Breaks, Happening, IsSafe, Moment, Session, Shows, answered, moment, noted, session_answered}
-use Rattle.koth_service.specs.Standing.{AreStanding, GoesOn, IsCutOff, StandsAfter, StandsAt}
-use Rattle.koth_service.specs.declared.connections.Stage.{Stage}
-use Rattle.koth_service.proofs.Steps.{stays}
-use Rattle.koth_service.proofs.Moments.{standing_moved, standing_with}
-use Rattle.koth_session.proofs.Exchanges.{hill_append}
+use Rattle.koth_service.specs.{Noted.{Noted, Stays}, History.{Answers, Begins, Breaks, Happening, IsSafe, Moment, Session, Shows, answered, moment, noted, session_answered}}
+use Rattle.koth_service.specs.{Standing.{AreStanding, GoesOn, IsCutOff, StandsAfter, StandsAt}, declared.connections.Stage.Stage}
+use Rattle.koth_service.proofs.{Steps.stays, Moments.{standing_moved, standing_with}}
 
 -- ---- the command that is due is the next one in what came
 
 next_of : (m : Met) (bytes : List ℕ) (others : List Command) → is_met m ≡ true → Begins (command_due m (kept_source bytes) ∷ []) (commands_met m bytes others)
-next_of met.Nothing bytes others is = absurd (true≢false (sym is))
-next_of met.Submit bytes others is = (others, refl)
-next_of met.Show bytes others is = (others, refl)
-next_of met.Quit bytes others is = ([], refl)
-next_of met.Bad bytes others is = (others, refl)
+next_of Met.Nothing bytes others is = absurd (true≢false (sym is))
+next_of Met.Submit bytes others is = (others, refl)
+next_of Met.Show bytes others is = (others, refl)
+next_of Met.Quit bytes others is = ([], refl)
+next_of Met.Bad bytes others is = (others, refl)
 
 module _ {A : Type 0} where
   in_turn_at : (end : Option PeerEnd) (inbox : Inbox A) (closed : Bool) (came : List ℕ) (done : List Command) → is_due end (is_met inbox.due) ≡ true
@@ -67,21 +49,21 @@ module _ {D : Type 0} (facts : DeviceFacts D) where
 
   -- a session that ended by its command
   same_unsent : (end : PeerEnd) (command : Command) (unsent new : List ℕ) (store now : Seen D) → AnswersPeer facts command (Some end) unsent store new now → new ≡ unsent
-  same_unsent ends.Quit command unsent new store now is = is.2
-  same_unsent ends.EndOfInput command unsent new store now is = absurd is
-  same_unsent ends.Limit command unsent new store now is = absurd is
-  same_unsent ends.Unread command unsent new store now is = is.2
-  same_unsent ends.StoreFailed command unsent new store now is = is.3
-  same_unsent ends.Memory command unsent new store now is = is.1
+  same_unsent PeerEnd.Quit command unsent new store now is = is.2
+  same_unsent PeerEnd.EndOfInput command unsent new store now is = absurd is
+  same_unsent PeerEnd.Limit command unsent new store now is = absurd is
+  same_unsent PeerEnd.Unread command unsent new store now is = is.2
+  same_unsent PeerEnd.StoreFailed command unsent new store now is = is.3
+  same_unsent PeerEnd.Memory command unsent new store now is = is.1
 
   same_store : (end : PeerEnd) (command : Command) (unsent new : List ℕ) (store now : Seen D) → step_after (Some end) 0 ≡ step_after None 0
       → AnswersPeer facts command (Some end) unsent store new now → now ≡ store
-  same_store ends.Quit command unsent new store now sound is = is.1
-  same_store ends.EndOfInput command unsent new store now sound is = absurd is
-  same_store ends.Limit command unsent new store now sound is = absurd is
-  same_store ends.Unread command unsent new store now sound is = is.1
-  same_store ends.StoreFailed command unsent new store now sound is = absurd (cc)
-  same_store ends.Memory command unsent new store now sound is = is.0
+  same_store PeerEnd.Quit command unsent new store now sound is = is.1
+  same_store PeerEnd.EndOfInput command unsent new store now sound is = absurd is
+  same_store PeerEnd.Limit command unsent new store now sound is = absurd is
+  same_store PeerEnd.Unread command unsent new store now sound is = is.1
+  same_store PeerEnd.StoreFailed command unsent new store now sound is = absurd (cc)
+  same_store PeerEnd.Memory command unsent new store now sound is = is.0
 
 module _ {D A : Type 0} (facts : DeviceFacts D) where
   -- a session that ended by its command
@@ -167,14 +149,14 @@ module _ {S D A : Type 0} (happened : S → List Noted → Type 0) (facts : Devi
       )
 
   cut_by : (old_sockets sockets : S) (n : ℕ) (old new : Slots A) (store now : Seen D) (slot : Option (Peer A)) → peer_at old n ≡ slot → is_due_in slot ≡ true
-      → MovesAt (λ p q. Serves facts (Some ends.StoreFailed) p store q now) n old new → Stays happened old_sockets sockets
+      → MovesAt (λ p q. Serves facts (Some PeerEnd.StoreFailed) p store q now) n old new → Stays happened old_sockets sockets
       → GoesOn happened facts shows start old_sockets old browsers store → IsCutOff happened facts shows start sockets new browsers now
   cut_by old_sockets sockets n old new store now None is due moves kept on = absurd (true≢false (sym due))
   cut_by old_sockets sockets n old new store now (Some peer) is due moves kept on =
       let before = on.1 in
       let m = moment start on.0 in
-      let moved : Moves (λ p q. Serves facts (Some ends.StoreFailed) p store q now) (Some peer) (peer_at new n) =
-      subst (λ slot. Moves (λ p q. Serves facts (Some ends.StoreFailed) p store q now) slot (peer_at new n)) is moves.at in
+      let moved : Moves (λ p q. Serves facts (Some PeerEnd.StoreFailed) p store q now) (Some peer) (peer_at new n) =
+      subst (λ slot. Moves (λ p q. Serves facts (Some PeerEnd.StoreFailed) p store q now) slot (peer_at new n)) is moves.at in
       let source = moved.2.answers.0 in
       let s = m.sessions n in
       let at : StandsAt s (Some peer) = subst (λ slot. StandsAt s slot) is (before.standing n) in
@@ -187,34 +169,34 @@ module _ {S D A : Type 0} (happened : S → List Noted → Type 0) (facts : Devi
         record {
           logged = kept (noted on.0) before.logged;
           follows = (breaks, before.follows);
-          standing = standing_ended facts m.sessions n ends.StoreFailed old new store now moves before.standing;
+          standing = standing_ended facts m.sessions n PeerEnd.StoreFailed old new store now moves before.standing;
           visiting = before.visiting;
           now_is = refl;
         },
       )
 
-  served_by : (old_sockets sockets : S) (outcome : Option PeerEnd) (n : ℕ) (old new : Slots A) (store now : Seen D) → step_after outcome n ≡ steps.Served n
+  served_by : (old_sockets sockets : S) (outcome : Option PeerEnd) (n : ℕ) (old new : Slots A) (store now : Seen D) → step_after outcome n ≡ Step.Served n
       → is_due_in (peer_at old n) ≡ true → MovesAt (λ p q. Serves facts outcome p store q now) n old new → Stays happened old_sockets sockets
       → GoesOn happened facts shows start old_sockets old browsers store → GoesOn happened facts shows start sockets new browsers now
   served_by old_sockets sockets None n old new store now sound due moves kept on = answered_by old_sockets sockets n old new store now (peer_at old n) refl due moves kept on
-  served_by old_sockets sockets (Some ends.Quit) n old new store now sound due moves kept on =
-      ended_by old_sockets sockets ends.Quit n old new store now (peer_at old n) refl refl due moves kept on
-  served_by old_sockets sockets (Some ends.EndOfInput) n old new store now sound due moves kept on =
-      ended_by old_sockets sockets ends.EndOfInput n old new store now (peer_at old n) refl refl due moves kept on
-  served_by old_sockets sockets (Some ends.Limit) n old new store now sound due moves kept on =
-      ended_by old_sockets sockets ends.Limit n old new store now (peer_at old n) refl refl due moves kept on
-  served_by old_sockets sockets (Some ends.Unread) n old new store now sound due moves kept on =
-      ended_by old_sockets sockets ends.Unread n old new store now (peer_at old n) refl refl due moves kept on
-  served_by old_sockets sockets (Some ends.StoreFailed) n old new store now sound due moves kept on = absurd (cc)
-  served_by old_sockets sockets (Some ends.Memory) n old new store now sound due moves kept on =
-      ended_by old_sockets sockets ends.Memory n old new store now (peer_at old n) refl refl due moves kept on
+  served_by old_sockets sockets (Some PeerEnd.Quit) n old new store now sound due moves kept on =
+      ended_by old_sockets sockets PeerEnd.Quit n old new store now (peer_at old n) refl refl due moves kept on
+  served_by old_sockets sockets (Some PeerEnd.EndOfInput) n old new store now sound due moves kept on =
+      ended_by old_sockets sockets PeerEnd.EndOfInput n old new store now (peer_at old n) refl refl due moves kept on
+  served_by old_sockets sockets (Some PeerEnd.Limit) n old new store now sound due moves kept on =
+      ended_by old_sockets sockets PeerEnd.Limit n old new store now (peer_at old n) refl refl due moves kept on
+  served_by old_sockets sockets (Some PeerEnd.Unread) n old new store now sound due moves kept on =
+      ended_by old_sockets sockets PeerEnd.Unread n old new store now (peer_at old n) refl refl due moves kept on
+  served_by old_sockets sockets (Some PeerEnd.StoreFailed) n old new store now sound due moves kept on = absurd (cc)
+  served_by old_sockets sockets (Some PeerEnd.Memory) n old new store now sound due moves kept on =
+      ended_by old_sockets sockets PeerEnd.Memory n old new store now (peer_at old n) refl refl due moves kept on
 
   pub served : (old_sockets sockets : S) (step : Step) (old new : Slots A) (from to : ℕ) (store now : Seen D) → ServesNext facts step old from store new to now
       → Stays happened old_sockets sockets → GoesOn happened facts shows start old_sockets old browsers store → StandsAfter happened facts shows step start sockets new browsers now
-  served old_sockets sockets steps.Nobody old new from to store now serves kept on =
+  served old_sockets sockets Step.Nobody old new from to store now serves kept on =
       subst (λ (s : Seen D). GoesOn happened facts shows start sockets new browsers s) (sym serves.3)
       (subst (λ (slots : Slots A). GoesOn happened facts shows start sockets slots browsers store) (sym serves.1) (stays happened facts shows start browsers old_sockets sockets old store kept on))
-  served old_sockets sockets (steps.Served n) old new from to store now serves kept on =
+  served old_sockets sockets (Step.Served n) old new from to store now serves kept on =
       served_by old_sockets sockets serves.0 n old new store now serves.1 serves.2.first.due serves.2.moves kept on
-  served old_sockets sockets (steps.StoreFailed n) old new from to store now serves kept on =
+  served old_sockets sockets (Step.StoreFailed n) old new from to store now serves kept on =
       cut_by old_sockets sockets n old new store now (peer_at old n) refl serves.first.due serves.moves kept on

@@ -1,11 +1,6 @@
 -- What one part of a moment makes of the others.
-use Rattle.std.proofs.Common.{◌≡◌, ◌∙◌, inl, inr, ℕ, ◌==◌, Bool, true, false, if◌then◌else◌, Option, Some, refl, sym, subst}
-use Rattle.std.proofs.lemmas.Bool.{cases_eq}
-use Rattle.sector_disk.specs.Facts.{DeviceFacts}
-use Rattle.koth_service.specs.History.{Browser, IsSafe, Moment, Session, instead, with_browser, with_session}
-use Rattle.koth_service.specs.Standing.{AreAtStages, IsAtStage}
-use Rattle.koth_service.specs.declared.connections.Stage.{Stage}
-use Rattle.koth_service.specs.declared.connections.Stage.TheVariants as stages
+use Rattle.{std.proofs.{Common.{◌≡◌, ◌∙◌, inl, inr, ℕ, ◌==◌, Bool, true, false, if◌then◌else◌, Option, Some, refl, sym, subst}, lemmas.Bool.cases_eq}, sector_disk.specs.Facts.DeviceFacts}
+use Rattle.koth_service.specs.{History.{Browser, IsSafe, Moment, Session, instead, with_browser, with_session}, Standing.{AreAtStages, IsAtStage}, declared.connections.Stage.Stage}
 use Rattle.koth_service.proofs.Moments.{instead_other, instead_same}
 
 -- ---- a function that has another value at one place
@@ -36,7 +31,7 @@ module _ {A : Type 0} where
   stage_of_one false old new stage before after is now = is
 
   parting_of_one : (here : Bool) (b : Browser) (stage before : Option (Stage A)) → IsAtStage b (if here then before else stage)
-      → IsAtStage b (if here then Some stages.Parting else stage)
+      → IsAtStage b (if here then Some Stage.Parting else stage)
   parting_of_one true b stage before is = tt
   parting_of_one false b stage before is = is
 
@@ -48,7 +43,7 @@ module _ {A : Type 0} (visitors : ℕ → Browser) (browsers : ℕ → Option (S
       → AreAtStages (instead visitors n b) (instead browsers n after)
   stages_with b before after is are = λ p. stage_of_one (p == n) (visitors p) b (browsers p) before after (are p) is
 
-  pub stages_over : (before : Option (Stage A)) → AreAtStages visitors (instead browsers n before) → AreAtStages visitors (instead browsers n (Some stages.Parting))
+  pub stages_over : (before : Option (Stage A)) → AreAtStages visitors (instead browsers n before) → AreAtStages visitors (instead browsers n (Some Stage.Parting))
   stages_over before are = λ p. parting_of_one (p == n) (visitors p) (browsers p) before (are p)
 
 -- ---- no stop loses what was answered before

@@ -1,20 +1,10 @@
 -- How a history goes on by what happens on the sockets.
 use Rattle.std.proofs.Common.{◌≡◌, ◌≢◌, ◌∙◌, ◌==◌, ℕ, Bool, true, true≢false, false, ap, length, List, [], ◌∷◌, take, Option, None, Ok, refl, sym, subst}
-use Rattle.sector_disk.specs.Facts.{DeviceFacts}
-use Rattle.hill_store.specs.Seen.{Seen}
-use Rattle.koth_peers.specs.Peer.{Closes, Sends, Takes}
-use Rattle.koth_peers.specs.Peers.{Connects, MovesAt, OnlyAt, Slots, peer_at, unsent_at}
-use Rattle.koth_peers.specs.declared.peer.Peer.{Peer}
-use Rattle.koth_peers.specs.declared.peers.Peers.{Peers}
-use Rattle.koth_service.specs.Noted.{Adds, Noted, Stays}
-use Rattle.koth_service.specs.History.{Happening, IsHistory, Shows, beginning, moment, noted, session_anew, session_came, session_went}
-use Rattle.koth_peers.specs.declared.peers.Step.{Step}
-use Rattle.koth_peers.specs.declared.peers.Step.TheVariants as steps
-use Rattle.koth_service.specs.Standing.{GoesOn, IsAtStage, IsCutOff, IsSoundAfter, StandsAfter, StandsAt}
-use Rattle.koth_service.specs.declared.connections.Stage.{Stage}
-use Rattle.koth_service.specs.declared.desk.Desk.{Desk}
-use Rattle.koth_service.proofs.Moments.{free_at, owed_to, standing_came, standing_closed, standing_left, standing_new, standing_went}
-use Rattle.koth_service.proofs.Stages.{safe_session}
+use Rattle.{sector_disk.specs.Facts.DeviceFacts, hill_store.specs.Seen.Seen, koth_peers.specs.{Peer.{Closes, Sends, Takes}, Peers.{Connects, MovesAt, OnlyAt, Slots, peer_at, unsent_at}}}
+use Rattle.koth_peers.specs.{declared.peer.Peer.Peer, declared.peers.Peers.Peers, declared.peers.Step.Step}
+use Rattle.koth_service.specs.{Noted.{Adds, Noted, Stays}, History.{Happening, IsHistory, Shows, beginning, moment, noted, session_anew, session_came, session_went}}
+use Rattle.koth_service.specs.{Standing.{GoesOn, IsAtStage, IsCutOff, IsSoundAfter, StandsAfter, StandsAt}, declared.connections.Stage.Stage, declared.desk.Desk.Desk}
+use Rattle.koth_service.proofs.{Moments.{free_at, owed_to, standing_came, standing_closed, standing_left, standing_new, standing_went}, Stages.safe_session}
 
 -- answers that there are
 pub some_unsent : (read unsent : List ℕ) (empty : Bool) → read ≡ unsent → empty ≡ (length read == 0) → empty ≡ false → unsent ≢ []
@@ -143,22 +133,16 @@ module _ {S D A : Type 0} (happened : S → List Noted → Type 0) (facts : Devi
   opened_again sockets slots store now sound cut =
       let before = cut.1 in (
         Happening.Reopened now ∷ cut.0,
-        record {
-          logged = before.logged;
-          follows = (sound, before.follows);
-          standing = before.standing;
-          visiting = before.visiting;
-          now_is = refl;
-        },
+        record { logged = before.logged; follows = (sound, before.follows); standing = before.standing; visiting = before.visiting; now_is = refl },
         record { hill = refl; still = refl; lawful = λ is. is; reads = λ lawful open_still reads. reads },
       )
 
   -- the desk that is sound again goes on
   pub sound_after : (step : Step) (old new : Desk D A) (sockets : S) → IsSoundAfter step old new
       → StandsAfter happened facts shows step start sockets old.peers.slots.items browsers old.store → GoesOn happened facts shows start sockets new.peers.slots.items browsers new.store
-  sound_after steps.Nobody old new sockets same on = subst (λ (desk : Desk D A). GoesOn happened facts shows start sockets desk.peers.slots.items browsers desk.store) (sym same) on
-  sound_after (steps.Served n) old new sockets same on = subst (λ (desk : Desk D A). GoesOn happened facts shows start sockets desk.peers.slots.items browsers desk.store) (sym same) on
-  sound_after (steps.StoreFailed n) old new sockets (same, sound) on =
+  sound_after Step.Nobody old new sockets same on = subst (λ (desk : Desk D A). GoesOn happened facts shows start sockets desk.peers.slots.items browsers desk.store) (sym same) on
+  sound_after (Step.Served n) old new sockets same on = subst (λ (desk : Desk D A). GoesOn happened facts shows start sockets desk.peers.slots.items browsers desk.store) (sym same) on
+  sound_after (Step.StoreFailed n) old new sockets (same, sound) on =
       subst (λ (peers : Peers A). GoesOn happened facts shows start sockets peers.slots.items browsers new.store) (sym same) (opened_again sockets old.peers.slots.items old.store new.store sound on)
 
   -- ---- what has happened so far
@@ -173,6 +157,6 @@ module _ {S D A : Type 0} (happened : S → List Noted → Type 0) (facts : Devi
 
   pub so_far_after : (step : Step) (sockets : S) (slots : Slots A) (store : Seen D) → StandsAfter happened facts shows step start sockets slots browsers store
       → (history : List (Happening D)) × happened sockets (noted history) × IsHistory facts shows start history
-  so_far_after steps.Nobody sockets slots store on = so_far_on sockets slots store on
-  so_far_after (steps.Served n) sockets slots store on = so_far_on sockets slots store on
-  so_far_after (steps.StoreFailed n) sockets slots store cut = so_far sockets slots store cut
+  so_far_after Step.Nobody sockets slots store on = so_far_on sockets slots store on
+  so_far_after (Step.Served n) sockets slots store on = so_far_on sockets slots store on
+  so_far_after (Step.StoreFailed n) sockets slots store cut = so_far sockets slots store cut

@@ -1,7 +1,5 @@
 -- What a host writes grows on.
-use Rattle.std.proofs.Common.{ℕ, List, [], ◌++◌, Option}
-use Rattle.std.proofs.KnownBytes.{Appends-nil, Appends-trans}
-use Rattle.koth_service.specs.Told.{Grows}
+use Rattle.{std.proofs.{Common.{ℕ, List, [], ◌++◌, Option}, KnownBytes.{Appends-nil, Appends-trans}}, koth_service.specs.Told.Grows}
 
 pub stays : (a : Option (List ℕ)) → Grows a a
 stays a = ([], Appends-nil a)

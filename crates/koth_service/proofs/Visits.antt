@@ -1,20 +1,10 @@
 -- How a history goes on by what happens with browsers.
 use Rattle.std.proofs.Common.{◌≡◌, ◌∙◌, ℕ, true, false, ap, List, [], ◌∷◌, ◌++◌, take, drop, Option, None, Some, refl, sym, subst, append_assoc, take-append-drop}
-use Rattle.sector_disk.specs.Facts.{DeviceFacts}
-use Rattle.hill_store.specs.Seen.{Seen}
-use Rattle.koth_peers.specs.Peers.{Slots}
-use Rattle.koth_service.specs.Noted.{Adds, Noted, Reads, Stays}
-use Rattle.koth_service.specs.Answering.{AnswersBytes}
-use Rattle.koth_service.specs.History.{Browser, Happening, Replies, Shows, browser_anew, browser_came, browser_replied, browser_went, instead, moment, noted, owed_by}
-use Rattle.koth_service.specs.Standing.{GoesOn, IsAtStage}
-use Rattle.koth_service.specs.Connections.{ClosesUnless, ComesTo, Connections, IsFree, MovesOn, StaysAt, stage_at, stage_in}
-use Rattle.koth_service.specs.declared.sockets.Came.{Came}
+use Rattle.{sector_disk.specs.Facts.DeviceFacts, hill_store.specs.Seen.Seen, koth_peers.specs.Peers.Slots, koth_service.specs.{Noted.{Adds, Noted, Reads, Stays}, Answering.AnswersBytes}}
+use Rattle.koth_service.specs.{History.{Browser, Happening, Replies, Shows, browser_anew, browser_came, browser_replied, browser_went, instead, moment, noted, owed_by}, Standing.{GoesOn, IsAtStage}}
+use Rattle.koth_service.specs.{Connections.{ClosesUnless, ComesTo, Connections, IsFree, MovesOn, StaysAt, stage_at, stage_in}, declared.sockets.Came.Came, declared.connections.Connection.Connection}
+use Rattle.{koth_service.specs.declared.connections.Stage.Stage, koth_service.proofs.{Stages.{instead_kept, instead_twice, safe_browser, stage_here, stages_over, stages_with}, Steps.stays}}
 use Rattle.koth_service.specs.declared.sockets.Came.TheVariants as came
-use Rattle.koth_service.specs.declared.connections.Connection.{Connection}
-use Rattle.koth_service.specs.declared.connections.Stage.{Stage}
-use Rattle.koth_service.specs.declared.connections.Stage.TheVariants as stages
-use Rattle.koth_service.proofs.Stages.{instead_kept, instead_twice, safe_browser, stage_here, stages_over, stages_with}
-use Rattle.koth_service.proofs.Steps.{stays}
 
 -- ---- what happens with the connection of one number
 
@@ -28,7 +18,7 @@ module _ {S D A : Type 0} (happened : S → List Noted → Type 0) (facts : Devi
   still old new stage same on = stays happened facts shows start (instead browsers n stage) old new slots store same on
 
   -- nothing more goes out to it
-  pub over : (sockets : S) (stage : Option (Stage A)) → Is sockets stage → Is sockets (Some stages.Parting)
+  pub over : (sockets : S) (stage : Option (Stage A)) → Is sockets stage → Is sockets (Some Stage.Parting)
   over sockets stage on =
       let before = on.1 in (
         on.0,
@@ -43,7 +33,7 @@ module _ {S D A : Type 0} (happened : S → List Noted → Type 0) (facts : Devi
       )
 
   -- a browser came
-  pub admitted : (old new : S) → Adds happened (Noted.Admitted n) old new → Is old None → Is new (Some (stages.Asking []))
+  pub admitted : (old new : S) → Adds happened (Noted.Admitted n) old new → Is old None → Is new (Some (Stage.Asking []))
   admitted old new adds on =
       let before = on.1 in
       let m = moment start on.0 in
@@ -53,7 +43,7 @@ module _ {S D A : Type 0} (happened : S → List Noted → Type 0) (facts : Devi
           logged = adds (noted on.0) before.logged;
           follows = (stage_here m.browsers browsers n None before.visiting, before.follows);
           standing = before.standing;
-          visiting = stages_with m.browsers browsers n b None (Some (stages.Asking [])) refl before.visiting;
+          visiting = stages_with m.browsers browsers n b None (Some (Stage.Asking [])) refl before.visiting;
           now_is = before.now_is;
         },
         safe_browser facts m n b on.2,
@@ -61,25 +51,25 @@ module _ {S D A : Type 0} (happened : S → List Noted → Type 0) (facts : Devi
 
   -- bytes of it came
   pub requested : (old new : S) (visit bytes : List ℕ) → Adds happened (Noted.Requested n bytes) old new
-      → Is old (Some (stages.Asking visit)) → Is new (Some (stages.Asking (visit ++ bytes)))
+      → Is old (Some (Stage.Asking visit)) → Is new (Some (Stage.Asking (visit ++ bytes)))
   requested old new visit bytes adds on =
       let before = on.1 in
       let m = moment start on.0 in
       let b = browser_came bytes (m.browsers n) in
-      let here = stage_here m.browsers browsers n (Some (stages.Asking visit)) before.visiting in (
+      let here = stage_here m.browsers browsers n (Some (Stage.Asking visit)) before.visiting in (
         Happening.On (Noted.Requested n bytes) ∷ on.0,
         record {
           logged = adds (noted on.0) before.logged;
           follows = (tt, before.follows);
           standing = before.standing;
-          visiting = stages_with m.browsers browsers n b (Some (stages.Asking visit)) (Some (stages.Asking (visit ++ bytes))) (ap (λ (x : Browser). browser_came bytes x) here) before.visiting;
+          visiting = stages_with m.browsers browsers n b (Some (Stage.Asking visit)) (Some (Stage.Asking (visit ++ bytes))) (ap (λ (x : Browser). browser_came bytes x) here) before.visiting;
           now_is = before.now_is;
         },
         safe_browser facts m n b on.2,
       )
 
   -- bytes of it came that are thrown away
-  pub wasted : (old new : S) (bytes : List ℕ) → Adds happened (Noted.Requested n bytes) old new → Is old (Some stages.Parting) → Is new (Some stages.Parting)
+  pub wasted : (old new : S) (bytes : List ℕ) → Adds happened (Noted.Requested n bytes) old new → Is old (Some Stage.Parting) → Is new (Some Stage.Parting)
   wasted old new bytes adds on =
       let before = on.1 in
       let m = moment start on.0 in
@@ -89,20 +79,20 @@ module _ {S D A : Type 0} (happened : S → List Noted → Type 0) (facts : Devi
           logged = adds (noted on.0) before.logged;
           follows = (tt, before.follows);
           standing = before.standing;
-          visiting = stages_with m.browsers browsers n b (Some stages.Parting) (Some stages.Parting) tt before.visiting;
+          visiting = stages_with m.browsers browsers n b (Some Stage.Parting) (Some Stage.Parting) tt before.visiting;
           now_is = before.now_is;
         },
         safe_browser facts m n b on.2,
       )
 
   -- it was answered
-  pub replied : (sockets : S) (visit reply : List ℕ) → AnswersBytes (shows store) visit reply → Is sockets (Some (stages.Asking visit))
-      → Is sockets (Some (stages.Answering reply))
+  pub replied : (sockets : S) (visit reply : List ℕ) → AnswersBytes (shows store) visit reply → Is sockets (Some (Stage.Asking visit))
+      → Is sockets (Some (Stage.Answering reply))
   replied sockets visit reply answers on =
       let before = on.1 in
       let m = moment start on.0 in
       let b = browser_replied reply (m.browsers n) in
-      let here = stage_here m.browsers browsers n (Some (stages.Asking visit)) before.visiting in
+      let here = stage_here m.browsers browsers n (Some (Stage.Asking visit)) before.visiting in
       let came : (m.browsers n).came ≡ visit = ap (λ (x : Browser). x.came) here in
       let of_store : AnswersBytes (shows m.now) visit reply = subst (λ (s : Seen D). AnswersBytes (shows s) visit reply) (sym before.now_is) answers in
       let replies : Replies shows n reply m = record {
@@ -115,7 +105,7 @@ module _ {S D A : Type 0} (happened : S → List Noted → Type 0) (facts : Devi
           logged = before.logged;
           follows = (replies, before.follows);
           standing = before.standing;
-          visiting = stages_with m.browsers browsers n b (Some (stages.Asking visit)) (Some (stages.Answering reply)) (ap (λ (x : Browser). x.went ++ reply) here) before.visiting;
+          visiting = stages_with m.browsers browsers n b (Some (Stage.Asking visit)) (Some (Stage.Answering reply)) (ap (λ (x : Browser). x.went ++ reply) here) before.visiting;
           now_is = before.now_is;
         },
         safe_browser facts m n b on.2,
@@ -123,13 +113,13 @@ module _ {S D A : Type 0} (happened : S → List Noted → Type 0) (facts : Devi
 
   -- some of its answer went out
   pub shown : (old new : S) (count : ℕ) (unsent : List ℕ) → Adds happened (Noted.Shown n (take count unsent)) old new
-      → Is old (Some (stages.Answering unsent)) → Is new (Some (stages.Answering (drop count unsent)))
+      → Is old (Some (Stage.Answering unsent)) → Is new (Some (Stage.Answering (drop count unsent)))
   shown old new count unsent adds on =
       let before = on.1 in
       let m = moment start on.0 in
       let now = m.browsers n in
       let b = browser_went (take count unsent) now in
-      let here = stage_here m.browsers browsers n (Some (stages.Answering unsent)) before.visiting in
+      let here = stage_here m.browsers browsers n (Some (Stage.Answering unsent)) before.visiting in
       let all : (now.went ++ take count unsent) ++ drop count unsent ≡ owed_by now.reply =
       append_assoc now.went (take count unsent) (drop count unsent) ∙ ap (λ l. now.went ++ l) (take-append-drop count unsent) ∙ here in (
         Happening.On (Noted.Shown n (take count unsent)) ∷ on.0,
@@ -137,7 +127,7 @@ module _ {S D A : Type 0} (happened : S → List Noted → Type 0) (facts : Devi
           logged = adds (noted on.0) before.logged;
           follows = ((drop count unsent, sym all), before.follows);
           standing = before.standing;
-          visiting = stages_with m.browsers browsers n b (Some (stages.Answering unsent)) (Some (stages.Answering (drop count unsent))) all before.visiting;
+          visiting = stages_with m.browsers browsers n b (Some (Stage.Answering unsent)) (Some (Stage.Answering (drop count unsent))) all before.visiting;
           now_is = before.now_is;
         },
         safe_browser facts m n b on.2,
@@ -163,27 +153,27 @@ module _ {S D A : Type 0} (happened : S → List Noted → Type 0) (facts : Devi
   -- ---- what a call of a connection's function makes of it
 
   pub read_on : (old new : S) (visit bytes more : List ℕ) → Adds happened (Noted.Requested n bytes) old new → more ≡ visit ++ bytes
-      → Is old (Some (stages.Asking visit)) → Is new (Some (stages.Asking more))
+      → Is old (Some (Stage.Asking visit)) → Is new (Some (Stage.Asking more))
   read_on old new visit bytes more adds is on =
-      subst (λ (l : List ℕ). Is new (Some (stages.Asking l))) (sym is) (requested old new visit bytes adds on)
+      subst (λ (l : List ℕ). Is new (Some (Stage.Asking l))) (sym is) (requested old new visit bytes adds on)
 
   pub read_whole : (old new : S) (visit bytes more reply unsent : List ℕ) → Adds happened (Noted.Requested n bytes) old new → more ≡ visit ++ bytes
-      → AnswersBytes (shows store) more reply → unsent ≡ reply → Is old (Some (stages.Asking visit)) → Is new (Some (stages.Answering unsent))
+      → AnswersBytes (shows store) more reply → unsent ≡ reply → Is old (Some (Stage.Asking visit)) → Is new (Some (Stage.Answering unsent))
   read_whole old new visit bytes more reply unsent adds is answers same on =
-      subst (λ (l : List ℕ). Is new (Some (stages.Answering l))) (sym same) (replied new more reply answers (read_on old new visit bytes more adds is on))
+      subst (λ (l : List ℕ). Is new (Some (Stage.Answering l))) (sym same) (replied new more reply answers (read_on old new visit bytes more adds is on))
 
   pub written_on : (old new : S) (count : ℕ) (unsent bytes rest : List ℕ) → Adds happened (Noted.Shown n (take count bytes)) old new → bytes ≡ unsent
-      → rest ≡ drop count unsent → Is old (Some (stages.Answering unsent)) → Is new (Some (stages.Answering rest))
+      → rest ≡ drop count unsent → Is old (Some (Stage.Answering unsent)) → Is new (Some (Stage.Answering rest))
   written_on old new count unsent bytes rest adds is left on =
-      subst (λ (l : List ℕ). Is new (Some (stages.Answering l))) (sym left)
+      subst (λ (l : List ℕ). Is new (Some (Stage.Answering l))) (sym left)
       (shown old new count unsent (subst (λ (l : List ℕ). Adds happened (Noted.Shown n (take count l)) old new) is adds) on)
 
-  pub drained : (old new : S) (bytes : List ℕ) (came : Came) → Reads happened (Noted.Requested n) old bytes came new → Is old (Some stages.Parting)
-      → Is new (Some stages.Parting)
+  pub drained : (old new : S) (bytes : List ℕ) (came : Came) → Reads happened (Noted.Requested n) old bytes came new → Is old (Some Stage.Parting)
+      → Is new (Some Stage.Parting)
   drained old new bytes (came.Bytes count) reads on = wasted old new (take count bytes) reads.1 on
-  drained old new bytes came.End reads on = still old new (Some stages.Parting) reads on
-  drained old new bytes came.Nothing reads on = still old new (Some stages.Parting) reads on
-  drained old new bytes came.Gone reads on = still old new (Some stages.Parting) reads on
+  drained old new bytes came.End reads on = still old new (Some Stage.Parting) reads on
+  drained old new bytes came.Nothing reads on = still old new (Some Stage.Parting) reads on
+  drained old new bytes came.Gone reads on = still old new (Some Stage.Parting) reads on
 
   -- it was kept at its stage, or its socket was closed
   pub settled : (old new : S) (stage : Stage A) (kept : Option (Connection A)) → StaysAt stage kept → ClosesUnless happened n kept old new
@@ -214,12 +204,12 @@ module _ {S D A : Type 0} (happened : S → List Noted → Type 0) (facts : Devi
 
   -- a browser came to a number that was free
   pub taken_in : (old_sockets then_sockets sockets : S) (n : ℕ) (old new : Connections A) (kept : Option (Connection A)) → IsFree old n
-      → Adds happened (Noted.Admitted n) old_sockets then_sockets → StaysAt (stages.Asking []) kept → ClosesUnless happened n kept then_sockets sockets
+      → Adds happened (Noted.Admitted n) old_sockets then_sockets → StaysAt (Stage.Asking []) kept → ClosesUnless happened n kept then_sockets sockets
       → ComesTo n (stage_in kept) old new → GoesOn happened facts shows start old_sockets slots (stage_at old) store
       → GoesOn happened facts shows start sockets slots (stage_at new) store
   taken_in old_sockets then_sockets sockets n old new kept free adds is closes comes on =
       same_stages sockets (instead (stage_at old) n (stage_in kept)) (stage_at new) comes.stages
-      (settled happened facts shows start slots (stage_at old) store n then_sockets sockets (stages.Asking []) kept is closes
+      (settled happened facts shows start slots (stage_at old) store n then_sockets sockets (Stage.Asking []) kept is closes
       (admitted happened facts shows start slots (stage_at old) store n old_sockets then_sockets adds
       (same_stages old_sockets (stage_at old) (instead (stage_at old) n None) (instead_kept (stage_at old) n None free.1) on)))
 

@@ -1,11 +1,6 @@
 -- What a browser is answered.
 use Rattle.std.specs.Prelude.{◌≡◌, ◌⊎◌, ℕ, Bool, List, Option, Some, Result, Ok, Err, MatchOption, Vec}
-use Rattle.koth_http.specs.Asked.{FindsAsked, IsAsked}
-use Rattle.koth_http.specs.declared.asked.Asked.{Asked}
-use Rattle.koth_http.specs.declared.refusal.Refusal.{Refusal}
-use Rattle.koth_http.specs.declared.refusal.Refusal.TheVariants as refusals
-use Rattle.koth_http.specs.declared.target.Page.{Page}
-use Rattle.koth_http.specs.Response.{page_response, refusal_response}
+use Rattle.koth_http.specs.{Asked.{FindsAsked, IsAsked}, declared.asked.Asked.Asked, declared.refusal.Refusal.Refusal, declared.target.Page.Page, Response.{page_response, refusal_response}}
 
 -- no text is shown
 abbrev pub ShowsNothing : (List ℕ → Type 0) → Type 0
@@ -20,8 +15,8 @@ IsFound shows found = MatchOption found (ShowsNothing shows) (λ text. shows tex
 abbrev pub IsAnswerTo : (Page → List ℕ → Type 0) → Result Page Refusal → Bool → List ℕ → Type 0
 IsAnswerTo shows (Ok page) with_body answer =
     ((text : List ℕ) × shows page text × (answer ≡ page_response text with_body))
-    ⊎ ((ShowsNothing (shows page) × (answer ≡ refusal_response refusals.NotFound with_body))
-    ⊎ (answer ≡ refusal_response refusals.Unavailable with_body))
+    ⊎ ((ShowsNothing (shows page) × (answer ≡ refusal_response Refusal.NotFound with_body))
+    ⊎ (answer ≡ refusal_response Refusal.Unavailable with_body))
 IsAnswerTo shows (Err refusal) with_body answer = answer ≡ refusal_response refusal with_body
 
 abbrev pub IsAnswer : (Page → List ℕ → Type 0) → Asked → List ℕ → Type 0

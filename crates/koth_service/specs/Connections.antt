@@ -1,24 +1,10 @@
 -- Of private contracts alone: connections of browsers by their numbers, and how they go on.
-use Rattle.std.specs.Prelude.{◌≡◌, ⊤, ℕ, ◌<◌, Bool, List, length, Option, None, Some, Result, Ok, Err, Vec, slice_index_or}
-use Rattle.std.specs.declared.alloc.AllocError.{AllocError}
-use Rattle.sector_disk.specs.Facts.{DeviceFacts}
-use Rattle.hill_store.specs.Seen.{Seen}
-use Rattle.koth_http.specs.Asked.{IsAsked}
-use Rattle.koth_http.specs.Response.{page_response, refusal_response}
-use Rattle.koth_http.specs.declared.refusal.Refusal.TheVariants as refusals
-use Rattle.koth_http.specs.declared.target.Page.{Page}
-use Rattle.koth_peers.specs.Peers.{Slots}
-use Rattle.koth_service.specs.Noted.{Adds, Noted, Stays}
-use Rattle.koth_service.specs.Answering.{AnswersBytes}
-use Rattle.koth_service.specs.History.{Shows, instead}
-use Rattle.koth_service.specs.Standing.{GoesOn}
-use Rattle.koth_service.specs.declared.browsers.Moved.{Moved}
-use Rattle.koth_service.specs.declared.browsers.Moved.TheVariants as moved
-use Rattle.koth_service.specs.declared.connections.Browsers.{Browsers}
-use Rattle.koth_service.specs.declared.connections.Connection.{Connection}
-use Rattle.koth_service.specs.declared.connections.Stage.{Stage}
+use Rattle.std.specs.{Prelude.{◌≡◌, ⊤, ℕ, ◌<◌, Bool, List, length, Option, None, Some, Result, Ok, Err, Vec, slice_index_or}, declared.alloc.AllocError.AllocError}
+use Rattle.{sector_disk.specs.Facts.DeviceFacts, hill_store.specs.Seen.Seen, koth_peers.specs.Peers.Slots}
+use Rattle.koth_http.specs.{Asked.IsAsked, Response.{page_response, refusal_response}, declared.target.Page.Page, declared.refusal.Refusal.Refusal}
+use Rattle.koth_service.specs.{Noted.{Adds, Noted, Stays}, Answering.AnswersBytes, History.{Shows, instead}, Standing.GoesOn, declared.browsers.Moved.Moved}
+use Rattle.koth_service.specs.{declared.connections.Browsers.Browsers, declared.connections.Connection.Connection, declared.connections.Stage.Stage, declared.desk.Desk.Desk}
 use Rattle.koth_service.specs.declared.connections.Stage.TheVariants as stages
-use Rattle.koth_service.specs.declared.desk.Desk.{Desk}
 
 -- ---- connections by their numbers
 
@@ -45,10 +31,10 @@ pub record ComesTo {A : Type 0} (n : ℕ) (stage : Option (Stage A)) (old new : 
 
 -- the stage of the connection then: nothing more goes out if it is over
 abbrev pub stage_after : {A : Type 0} → Moved A → Stage A
-stage_after (moved.Next stage) = stage
-stage_after (moved.On stage) = stage
-stage_after (moved.Still stage) = stage
-stage_after moved.Over = stages.Parting
+stage_after (Moved.Next stage) = stage
+stage_after (Moved.On stage) = stage
+stage_after (Moved.Still stage) = stage
+stage_after Moved.Over = stages.Parting
 
 -- the connection stays at its stage, if it is kept
 abbrev pub StaysAt : {A : Type 0} → Stage A → Option (Connection A) → Type 0
@@ -63,8 +49,8 @@ ClosesUnless happened n (Some connection) old new = Stays happened old new
 -- the answer to what was found of a page, or to there being no memory for it
 abbrev pub found_response : {A : Type 0} → Result (Option (Vec ℕ A)) AllocError → Bool → List ℕ
 found_response (Ok (Some text)) with_body = page_response text.items with_body
-found_response (Ok None) with_body = refusal_response refusals.NotFound with_body
-found_response (Err memory) with_body = refusal_response refusals.Unavailable with_body
+found_response (Ok None) with_body = refusal_response Refusal.NotFound with_body
+found_response (Err memory) with_body = refusal_response Refusal.Unavailable with_body
 
 -- the bytes that came are answered by what they ask, once that is known
 abbrev pub AnswersOnceKnown : {A : Type 0} → (Page → List ℕ → Type 0) → List ℕ → Option (Vec ℕ A) → Type 0

@@ -1,13 +1,7 @@
 -- What happens in a service: on the sockets, and the commands and answers to browsers in between.
 use Rattle.std.specs.Prelude.{◌≡◌, ⊤, ℕ, ◌==◌, Bool, true, false, if◌then◌else◌, List, [], ◌∷◌, ◌++◌, Option, None, Some}
-use Rattle.sector_disk.specs.Facts.{DeviceFacts}
-use Rattle.hill_store.specs.Seen.{Seen}
-use Rattle.koth_protocol.specs.Commands.{Command, commands_of}
-use Rattle.koth_http.specs.declared.target.Page.{Page}
-use Rattle.koth_session.specs.Sessions.{AreServed, IsLeftOff, ReadsNow}
-use Rattle.koth_session.specs.Transcript.{Exchange, answer, command_in, hill_after}
-use Rattle.koth_service.specs.Answering.{AnswersBytes}
-use Rattle.koth_service.specs.Noted.{Noted}
+use Rattle.{sector_disk.specs.Facts.DeviceFacts, hill_store.specs.Seen.Seen, koth_protocol.specs.Commands.{Command, commands_of}, koth_session.specs.Sessions.{AreServed, IsLeftOff, ReadsNow}}
+use Rattle.{koth_session.specs.Transcript.{Exchange, answer, command_in, hill_after}, koth_http.specs.declared.target.Page.Page, koth_service.specs.{Answering.AnswersBytes, Noted.Noted}}
 
 -- Something happened on the sockets. A command of a peer was carried out, and this is the store then. The device failed in a submission of a
 -- peer. The hill was opened again. Or a browser was given this answer.
@@ -61,13 +55,7 @@ abbrev pub session_came : List ℕ → Session → Session
 session_came bytes s = record { there = s.there; came = s.came ++ bytes; done = s.done; owed = s.owed; went = s.went }
 
 abbrev pub session_answered : Command → List ℕ → Session → Session
-session_answered command reply s = record {
-  there = s.there;
-  came = s.came;
-  done = s.done ++ command ∷ [];
-  owed = s.owed ++ reply;
-  went = s.went;
-}
+session_answered command reply s = record { there = s.there; came = s.came; done = s.done ++ command ∷ []; owed = s.owed ++ reply; went = s.went }
 
 abbrev pub session_went : List ℕ → Session → Session
 session_went bytes s = record { there = s.there; came = s.came; done = s.done; owed = s.owed; went = s.went ++ bytes }
@@ -87,35 +75,17 @@ abbrev pub browser_went : List ℕ → Browser → Browser
 browser_went bytes b = record { there = b.there; came = b.came; reply = b.reply; went = b.went ++ bytes }
 
 abbrev pub beginning : {D : Type 0} → Seen D → Moment D
-beginning start = record {
-  sessions = λ p. session_anew false;
-  browsers = λ p. browser_anew false;
-  now = start;
-  first = start;
-  since = [];
-}
+beginning start = record { sessions = λ p. session_anew false; browsers = λ p. browser_anew false; now = start; first = start; since = [] }
 
 abbrev pub instead : {T : Type 0} → (ℕ → T) → ℕ → T → ℕ → T
 instead f n value p = if p == n then value else f p
 
 -- one peer's part, or one browser's, is another, and all else as it was
 abbrev pub with_session : {D : Type 0} → ℕ → Session → Moment D → Moment D
-with_session n session m = record {
-  sessions = instead m.sessions n session;
-  browsers = m.browsers;
-  now = m.now;
-  first = m.first;
-  since = m.since;
-}
+with_session n session m = record { sessions = instead m.sessions n session; browsers = m.browsers; now = m.now; first = m.first; since = m.since }
 
 abbrev pub with_browser : {D : Type 0} → ℕ → Browser → Moment D → Moment D
-with_browser n browser m = record {
-  sessions = m.sessions;
-  browsers = instead m.browsers n browser;
-  now = m.now;
-  first = m.first;
-  since = m.since;
-}
+with_browser n browser m = record { sessions = m.sessions; browsers = instead m.browsers n browser; now = m.now; first = m.first; since = m.since }
 
 -- a command was carried out on the store as it was, and its answer is owed to the peer
 abbrev pub answered : {D : Type 0} → ℕ → Exchange → Seen D → Moment D → Moment D
@@ -128,22 +98,10 @@ answered n e new m = record {
 }
 
 abbrev pub stored : {D : Type 0} → Seen D → Moment D → Moment D
-stored new m = record {
-  sessions = m.sessions;
-  browsers = m.browsers;
-  now = new;
-  first = m.first;
-  since = m.since;
-}
+stored new m = record { sessions = m.sessions; browsers = m.browsers; now = new; first = m.first; since = m.since }
 
 abbrev pub reopened : {D : Type 0} → Seen D → Moment D → Moment D
-reopened new m = record {
-  sessions = m.sessions;
-  browsers = m.browsers;
-  now = new;
-  first = new;
-  since = [];
-}
+reopened new m = record { sessions = m.sessions; browsers = m.browsers; now = new; first = new; since = [] }
 
 abbrev pub next : {D : Type 0} → Happening D → Moment D → Moment D
 next (Happening.On (Noted.Seated n)) m = with_session n (session_anew true) m

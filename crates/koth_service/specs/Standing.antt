@@ -1,17 +1,7 @@
 -- How the sessions of peers, the connections of browsers and the store stand by a history.
 use Rattle.std.specs.Prelude.{◌≡◌, ⊤, ℕ, true, false, List, [], ◌++◌, Option, None, Some}
-use Rattle.sector_disk.specs.Facts.{DeviceFacts}
-use Rattle.hill_store.specs.Seen.{Seen}
-use Rattle.koth_peers.specs.Peer.{IsPeer}
-use Rattle.koth_peers.specs.Peers.{Slots, peer_at}
-use Rattle.koth_peers.specs.declared.peer.Peer.{Peer}
-use Rattle.koth_peers.specs.declared.peers.Step.{Step}
-use Rattle.koth_peers.specs.declared.peers.Step.TheVariants as steps
-use Rattle.koth_service.specs.Noted.{Noted}
-use Rattle.koth_service.specs.History.{Browser, Happening, IsHistory, IsSafe, Session, Shows, moment, noted, owed_by}
-use Rattle.koth_service.specs.declared.connections.Stage.{Stage}
-use Rattle.koth_service.specs.declared.connections.Stage.TheVariants as stages
-use Rattle.koth_service.specs.declared.desk.Desk.{Desk}
+use Rattle.{sector_disk.specs.Facts.DeviceFacts, hill_store.specs.Seen.Seen, koth_peers.specs.{Peer.IsPeer, Peers.{Slots, peer_at}, declared.peer.Peer.Peer, declared.peers.Step.Step}}
+use Rattle.koth_service.specs.{Noted.Noted, History.{Browser, Happening, IsHistory, IsSafe, Session, Shows, moment, noted, owed_by}, declared.connections.Stage.Stage, declared.desk.Desk.Desk}
 
 -- a peer's session read what came, and has what is owed and did not go out
 abbrev pub StandsAt : {A : Type 0} → Session → Option (Peer A) → Type 0
@@ -25,9 +15,9 @@ AreStanding sessions slots = (p : ℕ) → StandsAt (sessions p) (peer_at slots 
 -- number that is free has none.
 abbrev pub IsAtStage : {A : Type 0} → Browser → Option (Stage A) → Type 0
 IsAtStage b None = b.there ≡ false
-IsAtStage b (Some (stages.Asking visit)) = b ≡ record { there = true; came = visit; reply = None; went = [] }
-IsAtStage b (Some (stages.Answering unsent)) = b.went ++ unsent ≡ owed_by b.reply
-IsAtStage b (Some stages.Parting) = ⊤
+IsAtStage b (Some (Stage.Asking visit)) = b ≡ record { there = true; came = visit; reply = None; went = [] }
+IsAtStage b (Some (Stage.Answering unsent)) = b.went ++ unsent ≡ owed_by b.reply
+IsAtStage b (Some Stage.Parting) = ⊤
 
 abbrev pub AreAtStages : {A : Type 0} → (ℕ → Browser) → (ℕ → Option (Stage A)) → Type 0
 AreAtStages browsers at = (p : ℕ) → IsAtStage (browsers p) (at p)
@@ -57,9 +47,9 @@ KeepsOn {S} {D} {A} happened facts shows sockets desk new_sockets new_desk =
     → GoesOn happened facts shows start new_sockets new_desk.peers.slots.items browsers new_desk.store
 
 abbrev pub StandsAfter : {S D A : Type 0} → (S → List Noted → Type 0) → DeviceFacts D → Shows D → Step → Seen D → S → Slots A → (ℕ → Option (Stage A)) → Seen D → Type 0
-StandsAfter happened facts shows steps.Nobody start sockets slots browsers store = GoesOn happened facts shows start sockets slots browsers store
-StandsAfter happened facts shows (steps.Served n) start sockets slots browsers store = GoesOn happened facts shows start sockets slots browsers store
-StandsAfter happened facts shows (steps.StoreFailed n) start sockets slots browsers store = IsCutOff happened facts shows start sockets slots browsers store
+StandsAfter happened facts shows Step.Nobody start sockets slots browsers store = GoesOn happened facts shows start sockets slots browsers store
+StandsAfter happened facts shows (Step.Served n) start sockets slots browsers store = GoesOn happened facts shows start sockets slots browsers store
+StandsAfter happened facts shows (Step.StoreFailed n) start sockets slots browsers store = IsCutOff happened facts shows start sockets slots browsers store
 
 -- the service goes on as it did, however the browsers stand, unless the device failed in this step
 abbrev pub KeepsOnBy : {S D A : Type 0} → (S → List Noted → Type 0) → DeviceFacts D → Shows D → Step → S → Desk D A → S → Desk D A → Type 0
@@ -69,9 +59,9 @@ KeepsOnBy {S} {D} {A} happened facts shows step sockets desk new_sockets new_des
 
 -- the same sessions, on the same store, or on one that was opened again if the device failed in this step
 abbrev pub IsSoundAfter : {D A : Type 0} → Step → Desk D A → Desk D A → Type 0
-IsSoundAfter steps.Nobody old new = new ≡ old
-IsSoundAfter (steps.Served n) old new = new ≡ old
-IsSoundAfter (steps.StoreFailed n) old new = (new.peers ≡ old.peers) × (new.store.reopen ≡ false)
+IsSoundAfter Step.Nobody old new = new ≡ old
+IsSoundAfter (Step.Served n) old new = new ≡ old
+IsSoundAfter (Step.StoreFailed n) old new = (new.peers ≡ old.peers) × (new.store.reopen ≡ false)
 
 -- If nothing had happened on the sockets before, what happened since, the commands that were carried out and the answers to browsers are a
 -- history of this store.

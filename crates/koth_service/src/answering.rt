@@ -1,8 +1,7 @@
 //! What a browser is answered.
 
 ghost use Rattle.std.specs.Prelude.{◌≡◌, IfOk};
-ghost use Rattle.koth_service.specs.Answering.{IsAnswer};
-ghost use Rattle.koth_service.specs.Connections.{AnswersOnceKnown, found_response};
+ghost use Rattle.koth_service.specs.{Answering.IsAnswer, Connections.{AnswersOnceKnown, found_response}};
 
 use crate::host::Host;
 use hill_store::Store;

@@ -1,8 +1,7 @@
 //! Peers that arrive.
 #![tactic(auto, using(crate::proofs::Told::stays))]
 
-ghost use Rattle.koth_service.specs.Standing.{KeepsOn};
-ghost use Rattle.koth_service.specs.Told.{Grows};
+ghost use Rattle.koth_service.specs.{Standing.KeepsOn, Told.Grows};
 
 use crate::desk::Desk;
 use crate::host::{Event, Host};

@@ -1,8 +1,7 @@
 //! What each browser asks, and the answer to it. Whatever the sockets say of a browser, it goes on as `served` says of the whole service.
 //! Each function says so of the connections that it moves, however the peers and the other browsers stand.
 
-ghost use Rattle.std.specs.Prelude.{[], None, Some};
-ghost use Rattle.hill_store.specs.Seen.{Seen};
+ghost use Rattle.{std.specs.Prelude.{[], None, Some}, hill_store.specs.Seen.Seen};
 ghost use Rattle.koth_service.specs.Connections.{
   BrowsersGoOn,
   ClosesUnless,

@@ -2,9 +2,7 @@
 #![tactic(auto, using(crate::proofs::Told::stays))]
 
 ghost use Rattle.std.specs.Prelude.{◌≡◌, ℕ, None, IfOk};
-ghost use Rattle.koth_peers.specs.Peers.{peer_at};
-ghost use Rattle.koth_service.specs.Standing.{KeepsOn};
-ghost use Rattle.koth_service.specs.Told.{Grows};
+ghost use Rattle.{koth_peers.specs.Peers.peer_at, koth_service.specs.{Standing.KeepsOn, Told.Grows}};
 
 use crate::host::{Event, Host, HowEnded};
 use crate::seats::Seats;

@@ -1,10 +1,7 @@
 //! The host of a service: it reports what happens, and opens the hill again.
 
 ghost use Rattle.std.specs.Prelude.{◌≡◌, ℕ, List, false, IfOk};
-ghost use Rattle.koth_http.specs.declared.target.Page.{Page};
-ghost use Rattle.hill_store.specs.Seen.{Seen};
-ghost use Rattle.koth_service.specs.Answering.{IsFound};
-ghost use Rattle.koth_service.specs.Told.{Grows};
+ghost use Rattle.{hill_store.specs.Seen.Seen, koth_http.specs.declared.target.Page.Page, koth_service.specs.{Answering.IsFound, Told.Grows}};
 
 use hill_store::Store;
 use koth_http::Page;

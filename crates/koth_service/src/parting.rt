@@ -2,9 +2,7 @@
 #![tactic(auto, using(crate::proofs::Told::stays))]
 
 ghost use Rattle.std.specs.Prelude.{◌≡◌};
-ghost use Rattle.koth_service.specs.Noted.{Stays};
-ghost use Rattle.koth_service.specs.Standing.{KeepsOn};
-ghost use Rattle.koth_service.specs.Told.{Grows};
+ghost use Rattle.koth_service.specs.{Noted.Stays, Standing.KeepsOn, Told.Grows};
 
 use crate::desk::{Desk, let_go};
 use crate::host::{Host, HowEnded};

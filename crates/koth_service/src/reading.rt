@@ -1,8 +1,7 @@
 //! Bytes that come.
 #![tactic(auto, using(crate::proofs::Told::stays))]
 
-ghost use Rattle.koth_service.specs.Standing.{KeepsOn};
-ghost use Rattle.koth_service.specs.Told.{Grows};
+ghost use Rattle.koth_service.specs.{Standing.KeepsOn, Told.Grows};
 
 use crate::desk::{Desk, let_go};
 use crate::host::{Host, HowEnded};

@@ -2,11 +2,7 @@
 #![tactic(auto, using(crate::proofs::Told::stays))]
 
 ghost use Rattle.std.specs.Prelude.{◌≡◌, ℕ, None, false, IfOk};
-ghost use Rattle.koth_peers.specs.Peers.{peer_at};
-ghost use Rattle.koth_service.specs.Noted.{Stays};
-ghost use Rattle.koth_service.specs.Connections.{stage_at, AllGoOn};
-ghost use Rattle.koth_service.specs.Standing.{IsSoundAfter, KeepsOnBy, ServesPeers};
-ghost use Rattle.koth_service.specs.Told.{Grows};
+ghost use Rattle.{koth_peers.specs.Peers.peer_at, koth_service.specs.{Noted.Stays, Connections.{stage_at, AllGoOn}, Standing.{IsSoundAfter, KeepsOnBy, ServesPeers}, Told.Grows}};
 
 use crate::arrivals::take_arrivals;
 use crate::browsers::serve_browsers;

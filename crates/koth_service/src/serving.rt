@@ -1,8 +1,7 @@
 //! The command whose turn it is.
 #![tactic(auto, using(crate::proofs::Told::stays))]
 
-ghost use Rattle.koth_service.specs.Standing.{KeepsOnBy};
-ghost use Rattle.koth_service.specs.Told.{Grows};
+ghost use Rattle.koth_service.specs.{Standing.KeepsOnBy, Told.Grows};
 
 use crate::desk::Desk;
 use crate::host::{Event, Host};

@@ -1,7 +1,6 @@
 //! What sockets may say.
 
-ghost use Rattle.std.specs.Prelude.{ℕ, List};
-ghost use Rattle.koth_service.specs.Noted.{Adds, Admits, Noted, Reads, Stays, Writes};
+ghost use Rattle.{std.specs.Prelude.{ℕ, List}, koth_service.specs.Noted.{Adds, Admits, Noted, Reads, Stays, Writes}};
 
 use std::net::SocketAddr;
 

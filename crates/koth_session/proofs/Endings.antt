@@ -1,20 +1,9 @@
 -- How a session ends, from how its bytes went.
 use Rattle.std.proofs.Common.{◌≡◌, inr, ℕ, ◌+◌, ◌<◌, ◌≤◌, List, [], ◌∷◌, ◌++◌, length, take, drop, Option, None, Some, sym, ap, subst, ◌∙◌, append-nil, take-append-drop, arith}
-use Rattle.std.proofs.KnownBytes.{Consumes-trans}
-use Rattle.std.proofs.lemmas.List.{length-append, length-take-le, take_all}
-use Rattle.std.specs.Io.KnownBytes.{Consumes}
-use Rattle.sector_disk.specs.Facts.{DeviceFacts}
-use Rattle.sector_disk.specs.Served.{IsKept}
-use Rattle.hill_store.specs.Seen.{Seen}
-use Rattle.koth_protocol.specs.Commands.{Command, commands_of}
-use Rattle.koth_session.specs.Sessions.{AnswersCommand, AnswersAll, AnswersFirst, EndsSo, Goes, Scene, Stopped, WentOn}
-use Rattle.koth_session.specs.Transcript.{commands_in}
-use Rattle.koth_protocol.specs.declared.script.Script.{Script}
-use Rattle.koth_session.specs.declared.sessions.SessionEnd.{SessionEnd}
-use Rattle.koth_session.specs.declared.sessions.SessionEnd.TheVariants as ends
-use Rattle.koth_session.proofs.Holding.{holds_at, keeps_list}
-use Rattle.sector_disk.proofs.Kept.{kept_on, kept_same}
-use Rattle.koth_session.proofs.Serving.{goes_on, stops_early}
+use Rattle.{std.proofs.{KnownBytes.Consumes-trans, lemmas.List.{length-append, length-take-le, take_all}}, std.specs.Io.KnownBytes.Consumes, sector_disk.specs.Facts.DeviceFacts}
+use Rattle.{sector_disk.specs.Served.IsKept, sector_disk.proofs.Kept.{kept_on, kept_same}, hill_store.specs.Seen.Seen, koth_protocol.specs.Commands.{Command, commands_of}}
+use Rattle.{koth_protocol.specs.declared.script.Script.Script, koth_session.specs.Sessions.{AnswersCommand, AnswersAll, AnswersFirst, EndsSo, Goes, Scene, Stopped, WentOn}}
+use Rattle.{koth_session.specs.{Transcript.commands_in, declared.sessions.SessionEnd.SessionEnd}, koth_session.proofs.{Holding.{holds_at, keeps_list}, Serving.{goes_on, stops_early}}}
 
 -- a read gave no byte
 pub end_taken : (a b c : Option (List ℕ)) (bytes chunk : List ℕ) (n : ℕ) → n ≡ 0 → Consumes a b bytes → Consumes b c (take n chunk) → Consumes a c bytes
@@ -58,23 +47,23 @@ module _ {D : Type 0} (facts : DeviceFacts D) where
   -- a command ended the session
   pub ends_by : (taken : List ℕ) (end : SessionEnd) (left : Option (List ℕ)) (a c : Scene D) → (v : Stopped facts [] None taken end a c)
       → length v.rest < 4096 → EndsSo facts end taken left a c
-  ends_by taken ends.Quit left a c v few = answers_first taken ends.Quit a c v few
-  ends_by taken ends.EndOfInput left a c v few = absurd v.ended
-  ends_by taken ends.ReadFault left a c v few = absurd v.ended
-  ends_by taken ends.WriteFault left a c v few = answers_first taken ends.WriteFault a c v few
-  ends_by taken ends.Limit left a c v few = absurd v.ended
-  ends_by taken ends.StoreFailed left a c v few = answers_first taken ends.StoreFailed a c v few
-  ends_by taken ends.Memory left a c v few = inr (answers_first taken ends.Memory a c v few)
+  ends_by taken SessionEnd.Quit left a c v few = answers_first taken SessionEnd.Quit a c v few
+  ends_by taken SessionEnd.EndOfInput left a c v few = absurd v.ended
+  ends_by taken SessionEnd.ReadFault left a c v few = absurd v.ended
+  ends_by taken SessionEnd.WriteFault left a c v few = answers_first taken SessionEnd.WriteFault a c v few
+  ends_by taken SessionEnd.Limit left a c v few = absurd v.ended
+  ends_by taken SessionEnd.StoreFailed left a c v few = answers_first taken SessionEnd.StoreFailed a c v few
+  ends_by taken SessionEnd.Memory left a c v few = inr (answers_first taken SessionEnd.Memory a c v few)
 
   -- the device is handed on by a command that ended the session
   kept_by : (end : SessionEnd) (command : Command) (a c : Scene D) → AnswersCommand facts command (Some end) a c → IsKept facts a.store.device c.store.device
-  kept_by ends.Quit command a c is = subst (λ (s : Seen D). IsKept facts a.store.device s.device) (sym is.1) (kept_same facts a.store.device)
-  kept_by ends.Memory command a c is = subst (λ (s : Seen D). IsKept facts a.store.device s.device) (sym is.1) (kept_same facts a.store.device)
-  kept_by ends.WriteFault command a c is = is.2.kept
-  kept_by ends.StoreFailed command a c is = is.2.kept
-  kept_by ends.EndOfInput command a c is = absurd is
-  kept_by ends.ReadFault command a c is = absurd is
-  kept_by ends.Limit command a c is = absurd is
+  kept_by SessionEnd.Quit command a c is = subst (λ (s : Seen D). IsKept facts a.store.device s.device) (sym is.1) (kept_same facts a.store.device)
+  kept_by SessionEnd.Memory command a c is = subst (λ (s : Seen D). IsKept facts a.store.device s.device) (sym is.1) (kept_same facts a.store.device)
+  kept_by SessionEnd.WriteFault command a c is = is.2.kept
+  kept_by SessionEnd.StoreFailed command a c is = is.2.kept
+  kept_by SessionEnd.EndOfInput command a c is = absurd is
+  kept_by SessionEnd.ReadFault command a c is = absurd is
+  kept_by SessionEnd.Limit command a c is = absurd is
 
   pub kept_at : (line : List ℕ) (source : Option (List ℕ)) (bytes : List ℕ) (end : SessionEnd) (a c : Scene D) → Stopped facts line source bytes end a c
       → IsKept facts a.store.device c.store.device
@@ -82,14 +71,14 @@ module _ {D : Type 0} (facts : DeviceFacts D) where
       kept_on facts a.store.device v.last.store.device c.store.device v.answered.served.kept (kept_by end v.command v.last c v.ended)
 
   pub never_read : (end : SessionEnd) (line : List ℕ) (source : Option (List ℕ)) (bytes : List ℕ) (a c : Scene D) → Stopped facts line source bytes end a c
-      → end ≡ ends.ReadFault → ⊥
-  never_read ends.ReadFault line source bytes a c v is = v.ended
-  never_read ends.Quit line source bytes a c v is = absurd (cc)
-  never_read ends.EndOfInput line source bytes a c v is = absurd (cc)
-  never_read ends.WriteFault line source bytes a c v is = absurd (cc)
-  never_read ends.Limit line source bytes a c v is = absurd (cc)
-  never_read ends.StoreFailed line source bytes a c v is = absurd (cc)
-  never_read ends.Memory line source bytes a c v is = absurd (cc)
+      → end ≡ SessionEnd.ReadFault → ⊥
+  never_read SessionEnd.ReadFault line source bytes a c v is = v.ended
+  never_read SessionEnd.Quit line source bytes a c v is = absurd (cc)
+  never_read SessionEnd.EndOfInput line source bytes a c v is = absurd (cc)
+  never_read SessionEnd.WriteFault line source bytes a c v is = absurd (cc)
+  never_read SessionEnd.Limit line source bytes a c v is = absurd (cc)
+  never_read SessionEnd.StoreFailed line source bytes a c v is = absurd (cc)
+  never_read SessionEnd.Memory line source bytes a c v is = absurd (cc)
 
   -- ---- byte by byte
 

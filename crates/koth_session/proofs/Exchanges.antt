@@ -1,14 +1,8 @@
 -- What exchanges make of the store, one after another.
 use Rattle.std.proofs.Common.{◌≡◌, ◌⊎◌, inl, inr, ℕ, ◌+◌, ◌-◌, ◌^◌, false, arith, List, [], ◌∷◌, ◌++◌, refl, sym, ap, ap₂, subst, ◌∙◌, append_assoc}
-use Rattle.sector_disk.specs.Facts.{DeviceFacts}
-use Rattle.sector_disk.proofs.Kept.{kept_on, kept_same}
-use Rattle.koth_hill.specs.Hill.{Hill, IsHill}
-use Rattle.koth_hill.specs.Kept.{Kept, fought, hill_in}
-use Rattle.hill_store.specs.Seen.{Seen}
-use Rattle.hill_store.proofs.Fought.{fought_next, fought_reply, fought_rows}
-use Rattle.koth_protocol.specs.Table.{show_text}
-use Rattle.koth_session.specs.Reply.{reply_line}
-use Rattle.koth_session.specs.Sessions.{AreServed, HasSubmission, HasWorn, IsAfter}
+use Rattle.{koth_hill.specs.{Hill.{Hill, IsHill}, Kept.{Kept, fought, hill_in}}, sector_disk.specs.Facts.DeviceFacts, sector_disk.proofs.Kept.{kept_on, kept_same}}
+use Rattle.{hill_store.specs.Seen.Seen, hill_store.proofs.Fought.{fought_next, fought_reply, fought_rows}, koth_protocol.specs.Table.show_text}
+use Rattle.koth_session.specs.{Reply.reply_line, Sessions.{AreServed, HasSubmission, HasWorn, IsAfter}}
 use Rattle.koth_session.specs.Transcript.{Exchange, Mark, after_anew, answer, answer_anew, hill_after, hill_next, next_anew, transcript, transcript_anew}
 
 pub hill_append : (h : Kept) (es fs : List Exchange) → hill_after h (es ++ fs) ≡ hill_after (hill_after h es) fs

@@ -1,25 +1,10 @@
 -- What the device holds after exchanges that were served, and after a session.
-use Rattle.std.proofs.Common.{◌≡◌, ◌⊎◌, ℕ, List, [], ◌∷◌, ◌++◌, None, Some, refl, sym, ap, subst, ◌∙◌}
-use Rattle.war_types.specs.declared.settings.RawSettings.{RawSettings}
-use Rattle.sector_disk.specs.Facts.{DeviceFacts}
-use Rattle.sector_disk.specs.Image.{Images}
-use Rattle.sector_disk.specs.Disk.{current}
-use Rattle.sector_disk.proofs.Images.{images_read}
-use Rattle.koth_hill.specs.Hill.{Hill, IsHill}
-use Rattle.koth_hill.specs.Step.{new_hill}
-use Rattle.koth_hill.specs.Kept.{Kept, fought}
-use Rattle.hill_store.specs.Earned.{earned, kept_next, step_source, steps}
-use Rattle.hill_store.specs.Holding.{Holds}
-use Rattle.hill_store.proofs.Fought.{fought_next}
-use Rattle.hill_images.proofs.Shown.{reads_hill}
-use Rattle.hill_store.specs.Seen.{Seen}
-use Rattle.hill_images.specs.Stands.{Reads, Stands}
-use Rattle.koth_protocol.specs.Commands.{Command}
-use Rattle.koth_session.specs.Sessions.{AnswersCommand, HoldsAt, IsAnsweredTo, IsLeftOff, AreServed, KeepsCut, KeepsList, Scene}
-use Rattle.koth_session.specs.Transcript.{Exchange, Mark, after_anew, submitted}
-use Rattle.koth_session.specs.declared.sessions.SessionEnd.{SessionEnd}
-use Rattle.koth_session.specs.declared.sessions.SessionEnd.TheVariants as ends
-use Rattle.koth_session.proofs.Exchanges.{served_on}
+use Rattle.{std.proofs.Common.{◌≡◌, ◌⊎◌, ℕ, List, [], ◌∷◌, ◌++◌, None, Some, refl, sym, ap, subst, ◌∙◌}, war_types.specs.declared.settings.RawSettings.RawSettings}
+use Rattle.{koth_hill.specs.{Hill.{Hill, IsHill}, Step.new_hill, Kept.{Kept, fought}}, sector_disk.specs.{Facts.DeviceFacts, Image.Images, Disk.current}}
+use Rattle.{sector_disk.proofs.Images.images_read, hill_images.specs.Stands.{Reads, Stands}, hill_images.proofs.Shown.reads_hill}
+use Rattle.{hill_store.specs.{Earned.{earned, kept_next, step_source, steps}, Holding.Holds, Seen.Seen}, hill_store.proofs.Fought.fought_next, koth_protocol.specs.Commands.Command}
+use Rattle.koth_session.specs.{Sessions.{AnswersCommand, HoldsAt, IsAnsweredTo, IsLeftOff, AreServed, KeepsCut, KeepsList, Scene}, Transcript.{Exchange, Mark, after_anew, submitted}}
+use Rattle.{koth_session.specs.declared.sessions.SessionEnd.SessionEnd, koth_session.proofs.Exchanges.served_on}
 
 steps_append : (h : Hill) (xs ys : List (List ℕ)) → steps h (xs ++ ys) ≡ steps (steps h xs) ys
 steps_append h [] ys = refl
@@ -72,12 +57,12 @@ module _ {D : Type 0} (facts : DeviceFacts D) where
 
   pub holds_at : (end : SessionEnd) (command : Command) (a last c : Scene D) (es : List Exchange) → IsAnsweredTo facts a last es
       → AnswersCommand facts command (Some end) last c → HoldsAt facts end command a.store c.store es
-  holds_at ends.Quit command a last c es is ended = same_store a.store last.store c.store es is.served ended.1
-  holds_at ends.Memory command a last c es is ended = same_store a.store last.store c.store es is.served ended.1
-  holds_at ends.WriteFault command a last c es is ended =
+  holds_at SessionEnd.Quit command a last c es is ended = same_store a.store last.store c.store es is.served ended.1
+  holds_at SessionEnd.Memory command a last c es is ended = same_store a.store last.store c.store es is.served ended.1
+  holds_at SessionEnd.WriteFault command a last c es is ended =
       (ended.0, ended.1, keeps_list a.store c.store (es ++ ended.0 ∷ []) (served_on facts a.store last.store c.store es (ended.0 ∷ []) is.served ended.2))
-  holds_at ends.StoreFailed command a last c es is ended =
+  holds_at SessionEnd.StoreFailed command a last c es is ended =
       (ended.0, ended.1, keeps_cut a.store last.store c.store es ended.0 is.served ended.2)
-  holds_at ends.EndOfInput command a last c es is ended = absurd ended
-  holds_at ends.ReadFault command a last c es is ended = absurd ended
-  holds_at ends.Limit command a last c es is ended = absurd ended
+  holds_at SessionEnd.EndOfInput command a last c es is ended = absurd ended
+  holds_at SessionEnd.ReadFault command a last c es is ended = absurd ended
+  holds_at SessionEnd.Limit command a last c es is ended = absurd ended

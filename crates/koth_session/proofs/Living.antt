@@ -1,20 +1,8 @@
 -- What a session is in the life of its device: for `sessions_in_lives`.
-use Rattle.std.proofs.Common.{◌≡◌, ◌⊎◌, ℕ, true, inl, inr, List, [], ◌∷◌, ◌++◌, Option, refl, sym, ap, subst, ◌∙◌}
-use Rattle.sector_disk.specs.Facts.{DeviceFacts}
-use Rattle.sector_disk.specs.Image.{Images}
-use Rattle.hill_images.specs.Stands.{Reads}
-use Rattle.koth_hill.specs.Kept.{fought}
-use Rattle.hill_store.specs.Earned.{kept_next}
-use Rattle.hill_store.specs.Lives.{Event, Lives, MovesOn}
-use Rattle.hill_store.specs.Seen.{IsStanding, Seen}
-use Rattle.hill_store.proofs.Eventful.{may_move_on, moves_on, next_by}
-use Rattle.koth_session.specs.Lives.{SessionsAreEvents, answers_to, events_of}
-use Rattle.koth_session.specs.Sessions.{EndsSo, IsLeftOff, AreServed, Scene}
-use Rattle.koth_session.specs.Transcript.{Exchange, submitted}
-use Rattle.koth_session.specs.declared.sessions.SessionEnd.{SessionEnd}
-use Rattle.koth_session.specs.declared.sessions.SessionEnd.TheVariants as ends
-use Rattle.koth_session.proofs.Holding.{hill_is}
-use Rattle.koth_session.proofs.Exchanges.{served_on}
+use Rattle.{std.proofs.Common.{◌≡◌, ◌⊎◌, ℕ, true, inl, inr, List, [], ◌∷◌, ◌++◌, Option, refl, sym, ap, subst, ◌∙◌}, koth_hill.specs.Kept.fought, sector_disk.specs.{Facts.DeviceFacts, Image.Images}}
+use Rattle.{hill_images.specs.Stands.Reads, hill_store.specs.{Earned.kept_next, Lives.{Event, Lives, MovesOn}, Seen.{IsStanding, Seen}}, hill_store.proofs.Eventful.{may_move_on, moves_on, next_by}}
+use Rattle.koth_session.specs.{Lives.{SessionsAreEvents, answers_to, events_of}, Sessions.{EndsSo, IsLeftOff, AreServed, Scene}, Transcript.{Exchange, submitted}}
+use Rattle.{koth_session.specs.declared.sessions.SessionEnd.SessionEnd, koth_session.proofs.{Holding.hill_is, Exchanges.served_on}}
 
 module _ {D : Type 0} (facts : DeviceFacts D) where
   -- commands were answered
@@ -64,17 +52,17 @@ module _ {D : Type 0} (facts : DeviceFacts D) where
   ended : (end : SessionEnd) (taken : List ℕ) (left : Option (List ℕ)) (old new : Scene D) → facts.lawful old.store.device → IsStanding facts old.store
       → (is : EndsSo facts end taken left old new)
       → Lives (facts.size old.store.device) true (facts.disk old.store.device) (events_of facts end taken left old new is) (facts.disk new.store.device)
-  ended ends.Quit taken left old new lawful standing is = served_to old.store is.last.store new.store is.es lawful standing is.answered.served is.ended.1
-  ended ends.EndOfInput taken left old new lawful standing is = served old.store new.store is.1.es lawful standing is.1.answered.served
-  ended ends.ReadFault taken left old new lawful standing is = served old.store new.store is.es lawful standing is.answered.served
-  ended ends.WriteFault taken left old new lawful standing is =
+  ended SessionEnd.Quit taken left old new lawful standing is = served_to old.store is.last.store new.store is.es lawful standing is.answered.served is.ended.1
+  ended SessionEnd.EndOfInput taken left old new lawful standing is = served old.store new.store is.1.es lawful standing is.1.answered.served
+  ended SessionEnd.ReadFault taken left old new lawful standing is = served old.store new.store is.es lawful standing is.answered.served
+  ended SessionEnd.WriteFault taken left old new lawful standing is =
       served old.store new.store (is.es ++ is.ended.0 ∷ []) lawful standing
       (served_on facts old.store is.last.store new.store is.es (is.ended.0 ∷ []) is.answered.served is.ended.2)
-  ended ends.Limit taken left old new lawful standing is = served old.store new.store is.1.es lawful standing is.1.answered.served
-  ended ends.StoreFailed taken left old new lawful standing is =
+  ended SessionEnd.Limit taken left old new lawful standing is = served old.store new.store is.1.es lawful standing is.1.answered.served
+  ended SessionEnd.StoreFailed taken left old new lawful standing is =
       cut_behind old.store is.last.store new.store is.es is.ended.0 lawful standing is.answered.served is.ended.2
-  ended ends.Memory taken left old new lawful standing (inl is) = ap (λ (s : Seen D). facts.disk s.device) is.1
-  ended ends.Memory taken left old new lawful standing (inr is) = served_to old.store is.last.store new.store is.es lawful standing is.answered.served is.ended.1
+  ended SessionEnd.Memory taken left old new lawful standing (inl is) = ap (λ (s : Seen D). facts.disk s.device) is.1
+  ended SessionEnd.Memory taken left old new lawful standing (inr is) = served_to old.store is.last.store new.store is.es lawful standing is.answered.served is.ended.1
 
   pub sessions : SessionsAreEvents facts
   sessions = record { ended = ended }

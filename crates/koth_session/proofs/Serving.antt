@@ -1,20 +1,9 @@
 -- Commands that are served one after another.
-use Rattle.std.proofs.Common.{◌≡◌, ℕ, ◌<◌, length, arith, List, [], ◌∷◌, ◌++◌, Option, None, Some, refl, sym, ap, subst, ◌∙◌, append_assoc, append-nil}
-use Rattle.std.proofs.lemmas.List.{length-append}
-use Rattle.std.specs.Io.KnownBytes.{Appends}
-use Rattle.std.proofs.KnownBytes.{Appends-nil, Appends-trans, Keeps-refl}
-use Rattle.sector_disk.specs.Facts.{DeviceFacts}
-use Rattle.koth_protocol.specs.Commands.{Command, commands_from}
-use Rattle.koth_protocol.specs.Lines.{lines_from}
-use Rattle.koth_protocol.specs.Reading.{IsReading, Reads, commands_met}
-use Rattle.koth_session.specs.Sessions.{AnswersCommand, Goes, IsAnsweredTo, Scene, Stopped, WentOn}
-use Rattle.koth_session.specs.Transcript.{Exchange, answer, command_in, commands_in, transcript}
-use Rattle.koth_protocol.specs.declared.script.Met.{Met}
-use Rattle.koth_protocol.specs.declared.script.Met.TheVariants as met
-use Rattle.koth_protocol.specs.declared.script.Script.{Script}
-use Rattle.koth_session.specs.declared.sessions.SessionEnd.{SessionEnd}
-use Rattle.koth_session.specs.declared.sessions.SessionEnd.TheVariants as ends
-use Rattle.koth_session.proofs.Exchanges.{transcript_append, served_none, served_on}
+use Rattle.std.proofs.{Common.{◌≡◌, ℕ, ◌<◌, length, arith, List, [], ◌∷◌, ◌++◌, Option, None, Some, refl, sym, ap, subst, ◌∙◌, append_assoc, append-nil}, lemmas.List.length-append}
+use Rattle.{std.specs.Io.KnownBytes.Appends, std.proofs.KnownBytes.{Appends-nil, Appends-trans, Keeps-refl}, sector_disk.specs.Facts.DeviceFacts}
+use Rattle.koth_protocol.specs.{Commands.{Command, commands_from}, Lines.lines_from, Reading.{IsReading, Reads, commands_met}, declared.script.Met.Met, declared.script.Script.Script}
+use Rattle.koth_session.specs.{Sessions.{AnswersCommand, Goes, IsAnsweredTo, Scene, Stopped, WentOn}, Transcript.{Exchange, answer, command_in, commands_in, transcript}}
+use Rattle.{koth_session.specs.declared.sessions.SessionEnd.SessionEnd, koth_session.proofs.Exchanges.{transcript_append, served_none, served_on}}
 
 commands_append : (es fs : List Exchange) → commands_in (es ++ fs) ≡ commands_in es ++ commands_in fs
 commands_append [] fs = refl
@@ -120,7 +109,7 @@ module _ {D : Type 0} (facts : DeviceFacts D) where
     -- ---- one byte
 
     pub nothing_met : (line : List ℕ) (source : Option (List ℕ)) (byte : ℕ) (script : Script A) (s : Scene D)
-        → Reads line source byte met.Nothing script → Goes facts line source (byte ∷ []) None script s s
+        → Reads line source byte Met.Nothing script → Goes facts line source (byte ∷ []) None script s s
     nothing_met line source byte script s reads = record {
       es = [];
       answered = answered_none s;
@@ -131,7 +120,7 @@ module _ {D : Type 0} (facts : DeviceFacts D) where
     }
 
     pub quit_met : (line : List ℕ) (source : Option (List ℕ)) (byte : ℕ) (script : Script A) (s : Scene D)
-        → Reads line source byte met.Quit script → Goes facts line source (byte ∷ []) (Some ends.Quit) script s s
+        → Reads line source byte Met.Quit script → Goes facts line source (byte ∷ []) (Some SessionEnd.Quit) script s s
     quit_met line source byte script s reads = record {
       es = [];
       last = s;

@@ -1,21 +1,8 @@
 -- What a submission makes of the store, and of a session.
-use Rattle.std.proofs.Common.{◌≡◌, ℕ, ◌+◌, ◌-◌, ◌^◌, false, arith, List, [], ◌∷◌, Result, Ok, Err, OnOk, OnErr, refl, sym, ap, subst, ◌∙◌}
-use Rattle.std.specs.Io.KnownBytes.{Appends}
-use Rattle.sector_disk.specs.Facts.{DeviceFacts}
-use Rattle.sector_disk.specs.Served.{IsKept}
-use Rattle.sector_disk.specs.Image.{Images}
-use Rattle.hill_store.specs.Seen.{IsAnswered, Seen, Submits}
-use Rattle.hill_images.specs.Stands.{Reads}
-use Rattle.koth_hill.specs.Kept.{Kept}
-use Rattle.hill_store.specs.Earned.{kept_next}
-use Rattle.hill_store.proofs.Counting.{source_counts}
-use Rattle.hill_store.specs.declared.reply.Reply.{Reply}
-use Rattle.hill_store.specs.declared.reply.Reply.TheVariants as replies
-use Rattle.koth_protocol.specs.Commands.{Command}
-use Rattle.koth_session.specs.Reply.{reply_line}
-use Rattle.koth_session.specs.Sessions.{AnswersCommand, HasWorn, AreServed, Scene, has_failed, said}
-use Rattle.koth_protocol.specs.Written.{WritesPart}
-use Rattle.koth_session.specs.Transcript.{Exchange, Mark, answer, command_in, hill_after}
+use Rattle.{std.proofs.Common.{◌≡◌, ℕ, ◌+◌, ◌-◌, ◌^◌, false, arith, List, [], ◌∷◌, Result, Ok, Err, OnOk, OnErr, refl, sym, ap, subst, ◌∙◌}, std.specs.Io.KnownBytes.Appends}
+use Rattle.{koth_hill.specs.Kept.Kept, sector_disk.specs.{Facts.DeviceFacts, Served.IsKept, Image.Images}, hill_images.specs.Stands.Reads, hill_store.specs.Seen.{IsAnswered, Seen, Submits}}
+use Rattle.{hill_store.specs.{Earned.kept_next, declared.reply.Reply.Reply}, hill_store.proofs.Counting.source_counts, koth_protocol.specs.{Commands.Command, Written.WritesPart}}
+use Rattle.koth_session.specs.{Reply.reply_line, Sessions.{AnswersCommand, HasWorn, AreServed, Scene, has_failed, said}, Transcript.{Exchange, Mark, answer, command_in, hill_after}}
 use Rattle.koth_session.proofs.Exchanges.{after_one, served_same}
 
 module _ {D : Type 0} (facts : DeviceFacts D) where
@@ -57,18 +44,18 @@ module _ {D : Type 0} (facts : DeviceFacts D) where
   pub exchanged : (old new : Seen D) (source : List ℕ) (reply : Reply) → Submits facts old source reply new
       → IsKept facts old.device new.device → (old.generation ≡ 2 ^ 64 - 1 → new ≡ old)
       → has_failed reply ≡ false → IsExchanged old new source reply
-  exchanged old new source (replies.Placed entry rank score) s kept full sound =
+  exchanged old new source (Reply.Placed entry rank score) s kept full sound =
       (Mark.Taken, ap reply_line s.0, moved old new source s.1 (source_counts old.hill source _ s.0 refl) kept full)
-  exchanged old new source (replies.Fell entry score) s kept full sound =
+  exchanged old new source (Reply.Fell entry score) s kept full sound =
       (Mark.Taken, ap reply_line s.0, moved old new source s.1 (source_counts old.hill source _ s.0 refl) kept full)
-  exchanged old new source (replies.Refused fault) s kept full sound =
+  exchanged old new source (Reply.Refused fault) s kept full sound =
       (Mark.Taken, ap reply_line s.0, left old new (Exchange.Submission source Mark.Taken) s.2.same s.1 (λ worn. absurd worn) s.2.was_open)
-  exchanged old new source replies.Memory s kept full sound =
+  exchanged old new source Reply.Memory s kept full sound =
       (Mark.NoMemory, refl, left old new (Exchange.Submission source Mark.NoMemory) s.same refl (λ worn. absurd worn) s.was_open)
-  exchanged old new source replies.Worn s kept full sound =
+  exchanged old new source Reply.Worn s kept full sound =
       (Mark.Worn, refl, left old new (Exchange.Submission source Mark.Worn) s.2.same refl (λ worn. s.0) s.2.was_open)
-  exchanged old new source replies.Disk s kept full sound = absurd (cc)
-  exchanged old new source replies.Reopen s kept full sound = absurd (cc)
+  exchanged old new source Reply.Disk s kept full sound = absurd (cc)
+  exchanged old new source Reply.Reopen s kept full sound = absurd (cc)
 
   pub submission_said : {T E : Type 0} (source : List ℕ) (reply : Reply) (r : Result T E) (a c : Scene D) → IsExchanged a.store c.store source reply
       → OnOk r (Appends a.output c.output (reply_line reply)) → OnErr r (WritesPart a.output c.output (reply_line reply))

@@ -1,27 +1,10 @@
 -- How a session goes, and how it ends.
 use Rattle.std.specs.Prelude.{◌≡◌, ◌⊎◌, ⊤, ℕ, ◌+◌, ◌-◌, ◌^◌, ◌<◌, ◌≤◌, Bool, true, false, List, [], ◌∷◌, ◌++◌, length, Option, None, Some, Result, Ok, Err}
 use Rattle.std.specs.Io.KnownBytes.{Appends, Consumes, IsAtEnd, Keeps}
-use Rattle.war_types.specs.declared.settings.RawSettings.{RawSettings}
-use Rattle.sector_disk.specs.Facts.{DeviceFacts}
-use Rattle.sector_disk.specs.Image.{Images}
-use Rattle.sector_disk.specs.Served.{IsKept}
-use Rattle.koth_hill.specs.Hill.{Hill, IsHill}
-use Rattle.koth_hill.specs.Kept.{Kept, fought}
-use Rattle.hill_store.specs.Earned.{earned, kept_next}
-use Rattle.hill_store.specs.Seen.{Seen}
-use Rattle.hill_store.specs.declared.reply.Reply.{Reply}
-use Rattle.hill_store.specs.declared.reply.Reply.TheVariants as replies
-use Rattle.hill_store.specs.Holding.{Holds}
-use Rattle.hill_images.specs.Stands.{Reads}
-use Rattle.koth_protocol.specs.Commands.{Command, commands_from, commands_of}
-use Rattle.koth_protocol.specs.Counted.{Rose}
-use Rattle.koth_protocol.specs.Lines.{lines_from}
-use Rattle.koth_protocol.specs.Reading.{IsReading}
-use Rattle.koth_protocol.specs.Written.{WritesPart}
-use Rattle.koth_session.specs.Transcript.{Exchange, Mark, answer, command_in, commands_in, hill_after, after_anew, submitted, transcript, transcript_anew}
-use Rattle.koth_protocol.specs.declared.script.Script.{Script}
-use Rattle.koth_session.specs.declared.sessions.SessionEnd.{SessionEnd}
-use Rattle.koth_session.specs.declared.sessions.SessionEnd.TheVariants as ends
+use Rattle.{war_types.specs.declared.settings.RawSettings.RawSettings, koth_hill.specs.{Hill.{Hill, IsHill}, Kept.{Kept, fought}}, sector_disk.specs.{Facts.DeviceFacts, Image.Images, Served.IsKept}}
+use Rattle.{hill_images.specs.Stands.Reads, hill_store.specs.{Earned.{earned, kept_next}, Seen.Seen, declared.reply.Reply.Reply, Holding.Holds}}
+use Rattle.koth_protocol.specs.{Commands.{Command, commands_from, commands_of}, Counted.Rose, Lines.lines_from, Reading.IsReading, Written.WritesPart, declared.script.Script.Script}
+use Rattle.koth_session.specs.{Transcript.{Exchange, Mark, answer, command_in, commands_in, hill_after, after_anew, submitted, transcript, transcript_anew}, declared.sessions.SessionEnd.SessionEnd}
 
 -- the bytes that the output holds, and the store
 pub record Scene (D : Type 0) : Type 0 where
@@ -86,18 +69,16 @@ abbrev pub AnswersCommand : {D : Type 0} → DeviceFacts D → Command → Optio
 AnswersCommand facts command None old new =
     (e : Exchange) × (command ≡ command_in e) × AreServed facts old.store new.store (e ∷ [])
     × Appends old.output new.output (answer old.store.hill e)
-AnswersCommand facts command (Some ends.WriteFault) old new =
+AnswersCommand facts command (Some SessionEnd.WriteFault) old new =
     (e : Exchange) × (command ≡ command_in e) × AreServed facts old.store new.store (e ∷ [])
     × WritesPart old.output new.output (answer old.store.hill e)
-AnswersCommand facts command (Some ends.StoreFailed) old new =
+AnswersCommand facts command (Some SessionEnd.StoreFailed) old new =
     (source : List ℕ) × (command ≡ Command.Submit source) × IsLeftOff facts old.store new.store source × Keeps old.output new.output
-AnswersCommand facts command (Some ends.Memory) old new =
-    (command ≡ Command.Show) × (new.store ≡ old.store) × Keeps old.output new.output
-AnswersCommand facts command (Some ends.Quit) old new =
-    (command ≡ Command.Quit) × (new.store ≡ old.store) × Keeps old.output new.output
-AnswersCommand facts command (Some ends.EndOfInput) old new = ⊥
-AnswersCommand facts command (Some ends.ReadFault) old new = ⊥
-AnswersCommand facts command (Some ends.Limit) old new = ⊥
+AnswersCommand facts command (Some SessionEnd.Memory) old new = (command ≡ Command.Show) × (new.store ≡ old.store) × Keeps old.output new.output
+AnswersCommand facts command (Some SessionEnd.Quit) old new = (command ≡ Command.Quit) × (new.store ≡ old.store) × Keeps old.output new.output
+AnswersCommand facts command (Some SessionEnd.EndOfInput) old new = ⊥
+AnswersCommand facts command (Some SessionEnd.ReadFault) old new = ⊥
+AnswersCommand facts command (Some SessionEnd.Limit) old new = ⊥
 
 -- these exchanges were answered whole
 pub record IsAnsweredTo {D : Type 0} (facts : DeviceFacts D) (old new : Scene D) (es : List Exchange) : Type 0 where
@@ -135,18 +116,18 @@ Goes facts line source bytes (Some end) script old new = Stopped facts line sour
 
 -- the device failed, in this submission or before
 abbrev pub has_failed : Reply → Bool
-has_failed replies.Disk = true
-has_failed replies.Reopen = true
-has_failed replies.Worn = false
-has_failed replies.Memory = false
-has_failed (replies.Refused fault) = false
-has_failed (replies.Fell entry score) = false
-has_failed (replies.Placed entry rank score) = false
+has_failed Reply.Disk = true
+has_failed Reply.Reopen = true
+has_failed Reply.Worn = false
+has_failed Reply.Memory = false
+has_failed (Reply.Refused fault) = false
+has_failed (Reply.Fell entry score) = false
+has_failed (Reply.Placed entry rank score) = false
 
 -- how a session goes on after an answer
 abbrev pub said : {T E : Type 0} → Result T E → Option SessionEnd
 said (Ok done) = None
-said (Err fault) = Some ends.WriteFault
+said (Err fault) = Some SessionEnd.WriteFault
 
 -- If every image stood for the hill that these sources earn, every image stands for what they and the submissions answered earn.
 abbrev pub KeepsList : {D : Type 0} → DeviceFacts D → Seen D → Seen D → List Exchange → Type 0
@@ -162,15 +143,13 @@ KeepsCut facts old new es source = (s : RawSettings) (sources : List (List ℕ))
 
 -- what the device holds after a command that ended the session
 abbrev pub HoldsAt : {D : Type 0} → DeviceFacts D → SessionEnd → Command → Seen D → Seen D → List Exchange → Type 0
-HoldsAt facts ends.Quit command old new es = KeepsList facts old new es
-HoldsAt facts ends.Memory command old new es = KeepsList facts old new es
-HoldsAt facts ends.WriteFault command old new es =
-    (e : Exchange) × (command ≡ command_in e) × KeepsList facts old new (es ++ e ∷ [])
-HoldsAt facts ends.StoreFailed command old new es =
-    (source : List ℕ) × (command ≡ Command.Submit source) × KeepsCut facts old new es source
-HoldsAt facts ends.EndOfInput command old new es = ⊥
-HoldsAt facts ends.ReadFault command old new es = ⊥
-HoldsAt facts ends.Limit command old new es = ⊥
+HoldsAt facts SessionEnd.Quit command old new es = KeepsList facts old new es
+HoldsAt facts SessionEnd.Memory command old new es = KeepsList facts old new es
+HoldsAt facts SessionEnd.WriteFault command old new es = (e : Exchange) × (command ≡ command_in e) × KeepsList facts old new (es ++ e ∷ [])
+HoldsAt facts SessionEnd.StoreFailed command old new es = (source : List ℕ) × (command ≡ Command.Submit source) × KeepsCut facts old new es source
+HoldsAt facts SessionEnd.EndOfInput command old new es = ⊥
+HoldsAt facts SessionEnd.ReadFault command old new es = ⊥
+HoldsAt facts SessionEnd.Limit command old new es = ⊥
 
 -- All commands of the bytes that were taken were answered, and none of them is `QUIT`.
 pub record AnswersAll {D : Type 0} (facts : DeviceFacts D) (taken : List ℕ) (old new : Scene D) : Type 0 where
@@ -197,14 +176,14 @@ pub record AnswersFirst {D : Type 0} (facts : DeviceFacts D) (taken : List ℕ) 
   pub holds : HoldsAt facts end command old.store new.store es
 
 abbrev pub EndsSo : {D : Type 0} → DeviceFacts D → SessionEnd → List ℕ → Option (List ℕ) → Scene D → Scene D → Type 0
-EndsSo facts ends.Quit taken left old new = AnswersFirst facts taken ends.Quit old new
-EndsSo facts ends.EndOfInput taken left old new = IsAtEnd left × AnswersAll facts taken old new
-EndsSo facts ends.ReadFault taken left old new = AnswersAll facts taken old new
-EndsSo facts ends.WriteFault taken left old new = AnswersFirst facts taken ends.WriteFault old new
-EndsSo facts ends.Limit taken left old new = (length taken ≡ 16777216) × AnswersAll facts taken old new
-EndsSo facts ends.StoreFailed taken left old new = AnswersFirst facts taken ends.StoreFailed old new
-EndsSo facts ends.Memory taken left old new =
-    ((taken ≡ []) × (new.store ≡ old.store) × Keeps old.output new.output) ⊎ AnswersFirst facts taken ends.Memory old new
+EndsSo facts SessionEnd.Quit taken left old new = AnswersFirst facts taken SessionEnd.Quit old new
+EndsSo facts SessionEnd.EndOfInput taken left old new = IsAtEnd left × AnswersAll facts taken old new
+EndsSo facts SessionEnd.ReadFault taken left old new = AnswersAll facts taken old new
+EndsSo facts SessionEnd.WriteFault taken left old new = AnswersFirst facts taken SessionEnd.WriteFault old new
+EndsSo facts SessionEnd.Limit taken left old new = (length taken ≡ 16777216) × AnswersAll facts taken old new
+EndsSo facts SessionEnd.StoreFailed taken left old new = AnswersFirst facts taken SessionEnd.StoreFailed old new
+EndsSo facts SessionEnd.Memory taken left old new =
+    ((taken ≡ []) × (new.store ≡ old.store) × Keeps old.output new.output) ⊎ AnswersFirst facts taken SessionEnd.Memory old new
 
 -- Bytes were taken, 16,777,216 at most, the device was handed on, and the session ended so.
 abbrev pub EndsSession : {D : Type 0} → DeviceFacts D → SessionEnd → Option (List ℕ) → Option (List ℕ) → Scene D → Scene D → Type 0

@@ -1,11 +1,7 @@
 //! The line of a reply.
 
-ghost use Rattle.std.specs.Prelude.{◌≡◌, ◌≤◌, ◌++◌, length, codes, decimal, OnOk, OnErr};
-ghost use Rattle.std.specs.Io.KnownBytes.{Appends};
-ghost use Rattle.koth_protocol.specs.Counted.{Rose};
-ghost use Rattle.koth_protocol.specs.Refusal.{refusal_line};
-ghost use Rattle.koth_protocol.specs.Written.{WritesPart};
-ghost use Rattle.koth_session.specs.Reply.{reply_line};
+ghost use Rattle.std.specs.{Prelude.{◌≡◌, ◌≤◌, ◌++◌, length, codes, decimal, OnOk, OnErr}, Io.KnownBytes.Appends};
+ghost use Rattle.{koth_protocol.specs.{Counted.Rose, Refusal.refusal_line, Written.WritesPart}, koth_session.specs.Reply.reply_line};
 
 use hill_store::Reply;
 use koth_protocol::{Counted, Line, WriteFault, refusal_line, send};

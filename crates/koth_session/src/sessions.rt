@@ -1,12 +1,7 @@
 //! A session: commands in, answers out.
 
-ghost use Rattle.std.specs.Prelude.{◌≡◌, ◌≢◌, ◌+◌, ◌<◌, ◌≤◌, ℕ, [], ◌∷◌, List, None, Option, Some, length, take, IfOk, OnOk, OnErr};
-ghost use Rattle.std.specs.Io.KnownBytes.{Consumes, IsAtEnd, Keeps};
-ghost use Rattle.koth_hill.specs.Kept.{table_kept};
-ghost use Rattle.koth_protocol.specs.Commands.{Command};
-ghost use Rattle.koth_protocol.specs.Counted.{Rose};
-ghost use Rattle.koth_protocol.specs.Reading.{IsReading};
-ghost use Rattle.koth_protocol.specs.Table.{show_text};
+ghost use Rattle.std.specs.{Prelude.{◌≡◌, ◌≢◌, ◌+◌, ◌<◌, ◌≤◌, ℕ, [], ◌∷◌, List, None, Option, Some, length, take, IfOk, OnOk, OnErr}, Io.KnownBytes.{Consumes, IsAtEnd, Keeps}};
+ghost use Rattle.{koth_hill.specs.Kept.table_kept, koth_protocol.specs.{Commands.Command, Counted.Rose, Reading.IsReading, Table.show_text}};
 ghost use Rattle.koth_session.specs.Sessions.{has_failed, said, scene, AnswersCommand, EndsSession, Goes};
 
 use crate::reply::write_reply;

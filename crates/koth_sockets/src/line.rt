@@ -1,7 +1,6 @@
 //! One peer's socket.
 
-ghost use Rattle.std.specs.Prelude.{[]};
-ghost use Rattle.koth_service.specs.Noted.{CameWithin, WentWithin};
+ghost use Rattle.{std.specs.Prelude.[], koth_service.specs.Noted.{CameWithin, WentWithin}};
 
 use koth_service::{Came, Drained, Went};
 use mio::event::Event;

@@ -1,7 +1,6 @@
 //! Sockets of the system, over a poll.
 
-ghost use Rattle.std.specs.Prelude.{⊤};
-ghost use Rattle.koth_service.specs.Noted.{Noted};
+ghost use Rattle.{std.specs.Prelude.⊤, koth_service.specs.Noted.Noted};
 
 use crate::line::Line;
 use koth_service::{Arrival, Came, Drained, Sockets, Went};

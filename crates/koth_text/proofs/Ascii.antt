@@ -1,12 +1,8 @@
 -- What stands for a text in a page: characters that begin and end nothing, and bytes of ASCII alone.
 use Rattle.std.proofs.Common.{◌≡◌, ℕ, ◌<◌, ◌≤◌, ◌/◌, ◌%◌, zero, suc, Bool, true, false, not, ◌&&◌, inl, inr, cond, eqb, leb, List, [], ◌∷◌, ◌++◌, codes, decimal, refl, ◌∙◌, arith}
-use Rattle.std.specs.Char.{is_control}
-use Rattle.std.specs.Fmt.{digits, digits_onto, digit_glyph}
-use Rattle.std.specs.List.{flat_map, list_all}
-use Rattle.std.proofs.lemmas.Bool.{agree_below_at, and_cases, and_from, and_parts, cond_both, le-leb, leb-false, not_from_false, or_from, or_left, or_parts}
-use Rattle.std.proofs.lemmas.List.Folds.{list_all-append}
-use Rattle.koth_text.specs.Characters.{is_harmless, is_markup, is_page_byte, is_printable}
-use Rattle.koth_text.specs.Escape.{character_text, characters, escaped, plain_text, reference}
+use Rattle.std.specs.{Char.is_control, Fmt.{digits, digits_onto, digit_glyph}, List.{flat_map, list_all}}
+use Rattle.std.proofs.{lemmas.Bool.{agree_below_at, and_cases, and_from, and_parts, cond_both, le-leb, leb-false, not_from_false, or_from, or_left, or_parts}, lemmas.List.Folds.list_all-append}
+use Rattle.koth_text.specs.{Characters.{is_harmless, is_markup, is_page_byte, is_printable}, Escape.{character_text, characters, escaped, plain_text, reference}}
 
 -- ---- texts all of whose bytes pass a test
 

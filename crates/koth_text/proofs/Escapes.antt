@@ -1,14 +1,8 @@
 -- What stands for a chunk of bytes and for the rest of them, for `put_escaped`.
 use Rattle.std.proofs.Common.{◌≡◌, ℕ, ◌<◌, List, [], ◌∷◌, ◌++◌, eqb, length, drop, refl, sym, ap, ◌∙◌, append_assoc, append-nil, arith}
-use Rattle.std.specs.declared.str.Utf8Chunk.{Utf8Chunk}
-use Rattle.std.specs.Char.{encode_utf8}
-use Rattle.std.specs.List.{flat_map}
-use Rattle.std.specs.Str.{chars, IsUtf8}
-use Rattle.std.specs.Str.Chunks.{utf8_chunk_invalid, utf8_chunk_valid}
-use Rattle.std.specs.Str.Lossy.{replacement_bytes, utf8_invalid_len, utf8_lossy, utf8_valid_len}
-use Rattle.std.proofs.lemmas.Bool.{cond_both, eqb-false, eqb-true}
-use Rattle.std.proofs.lemmas.List.Concat.{flat_map-append}
-use Rattle.std.proofs.lemmas.Str.{chars-append, chars-encodes, chars-nil, utf8_lossy_chunk, utf8_lossy_empty, utf8_lossy_last_chunk}
+use Rattle.std.specs.{declared.str.Utf8Chunk.Utf8Chunk, Char.encode_utf8, List.flat_map, Str.{chars, IsUtf8}, Str.Chunks.{utf8_chunk_invalid, utf8_chunk_valid}}
+use Rattle.{std.specs.Str.Lossy.{replacement_bytes, utf8_invalid_len, utf8_lossy, utf8_valid_len}, std.proofs.lemmas.Bool.{cond_both, eqb-false, eqb-true}}
+use Rattle.std.proofs.{lemmas.List.Concat.flat_map-append, lemmas.Str.{chars-append, chars-encodes, chars-nil, utf8_lossy_chunk, utf8_lossy_empty, utf8_lossy_last_chunk}}
 use Rattle.koth_text.specs.Escape.{character_text, chunk_characters, escaped}
 
 IsUtf8-replacement : IsUtf8 replacement_bytes

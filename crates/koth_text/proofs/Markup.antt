@@ -1,11 +1,6 @@
 -- Texts with the same tags and attributes, and what stands for a text, which has none.
-use Rattle.std.proofs.Common.{◌≡◌, ℕ, Bool, true, false, not, cond, List, [], ◌∷◌, ◌++◌, refl, sym, ap, ap₂, ◌∙◌}
-use Rattle.std.specs.List.{list_all}
-use Rattle.std.proofs.lemmas.Bool.{and_parts, not-true}
-use Rattle.std.proofs.lemmas.List.Elements.{filter-append}
-use Rattle.koth_text.specs.Characters.{is_harmless, is_markup, is_printable, markup_of}
-use Rattle.koth_text.specs.Escape.{escaped}
-use Rattle.koth_text.proofs.Ascii.{harmless}
+use Rattle.{std.proofs.Common.{◌≡◌, ℕ, Bool, true, false, not, cond, List, [], ◌∷◌, ◌++◌, refl, sym, ap, ap₂, ◌∙◌}, std.specs.List.list_all, std.proofs.lemmas.Bool.{and_parts, not-true}}
+use Rattle.{std.proofs.lemmas.List.Elements.filter-append, koth_text.specs.{Characters.{is_harmless, is_markup, is_printable, markup_of}, Escape.escaped}, koth_text.proofs.Ascii.harmless}
 
 abbrev pub Alike : List ℕ → List ℕ → Type 0
 Alike a b = markup_of a ≡ markup_of b

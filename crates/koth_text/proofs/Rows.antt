@@ -1,23 +1,13 @@
 -- Small texts, computed.
-use Rattle.std.proofs.Common.{◌≡◌, [], ◌∷◌, ◌++◌, codes, refl}
-use Rattle.std.specs.Char.{encode_utf8}
-use Rattle.std.specs.Fmt.{digits}
-use Rattle.std.specs.Str.{chars, is_utf8}
-use Rattle.std.specs.Str.Lossy.{utf8_error_len, utf8_lossy, utf8_valid_len}
-use Rattle.war_types.specs.Warrior.{warrior_parts}
-use Rattle.war_types.specs.declared.fault.AsmKind.TheVariants as kinds
-use Rattle.war_types.specs.declared.fault.ExprFault.TheVariants as expressions
-use Rattle.koth_text.specs.declared.columns.Alignment.TheVariants as sides
-use Rattle.koth_text.specs.Bout.{bout_view}
-use Rattle.koth_text.specs.Columns.{columns_text}
-use Rattle.koth_text.specs.Escape.{escaped}
-use Rattle.koth_text.specs.Refusal.{refusal_line}
+use Rattle.{std.proofs.Common.{◌≡◌, [], ◌∷◌, ◌++◌, codes, refl}, std.specs.{Char.encode_utf8, Fmt.digits, Str.{chars, is_utf8}, Str.Lossy.{utf8_error_len, utf8_lossy, utf8_valid_len}}}
+use Rattle.war_types.specs.{Warrior.warrior_parts, declared.fault.AsmKind.AsmKind, declared.fault.ExprFault.ExprFault}
+use Rattle.koth_text.specs.{Bout.bout_view, Columns.columns_text, Escape.escaped, Refusal.refusal_line, declared.columns.Alignment.Alignment}
 
-no_line_to_blame : refusal_line (record { line = 0; kind = kinds.Empty }) ≡ codes "REFUSED 0 Empty\n"
+no_line_to_blame : refusal_line (record { line = 0; kind = AsmKind.Empty }) ≡ codes "REFUSED 0 Empty\n"
 unfolding digits
 no_line_to_blame = refl
 
-name_of_the_expression's_fault : refusal_line (record { line = 4097; kind = kinds.Expression expressions.Overflow }) ≡ codes "REFUSED 4097 Overflow\n"
+name_of_the_expression's_fault : refusal_line (record { line = 4097; kind = AsmKind.Expression ExprFault.Overflow }) ≡ codes "REFUSED 4097 Overflow\n"
 unfolding digits
 name_of_the_expression's_fault = refl
 
@@ -32,7 +22,7 @@ unfolding digits chars encode_utf8 escaped is_utf8 utf8_error_len utf8_lossy utf
 names = (refl, refl, refl, refl, refl)
 
 -- a column past the sides that are given, a cell that is missing, and a row whose cells after the first are blank
-columns : columns_text (sides.Left ∷ sides.Right ∷ []) ((codes "a" ∷ codes "bb" ∷ codes "c" ∷ []) ∷ (codes "dd" ∷ codes "e" ∷ []) ∷ (codes "f" ∷ codes " " ∷ codes " " ∷ []) ∷ [])
+columns : columns_text (Alignment.Left ∷ Alignment.Right ∷ []) ((codes "a" ∷ codes "bb" ∷ codes "c" ∷ []) ∷ (codes "dd" ∷ codes "e" ∷ []) ∷ (codes "f" ∷ codes " " ∷ codes " " ∷ []) ∷ [])
     ≡ codes "a   bb  c\ndd   e\nf\n"
 columns = refl
 

@@ -1,14 +1,10 @@
 -- One part more: of a list, of numbers, of ranks, or of a chain of parts.
 use Rattle.std.proofs.Common.{◌≡◌, ℕ, ◌+◌, ◌<◌, zero, suc, max, List, [], ◌∷◌, ◌++◌, length, take, get_or, sym, ap, ◌∙◌, append_assoc, append-nil, arith}
-use Rattle.std.specs.List.{enumerate_from, flat_map, range_with_len}
-use Rattle.std.proofs.lemmas.List.{take_more}
-use Rattle.std.proofs.lemmas.List.Concat.{flat_map-append}
-use Rattle.koth_text.specs.Columns.{cell_at, width}
+use Rattle.{std.specs.List.{enumerate_from, flat_map, range_with_len}, std.proofs.{lemmas.List.take_more, lemmas.List.Concat.flat_map-append}, koth_text.specs.Columns.{cell_at, width}}
 
 -- a part after what is put
 pub put_behind : {X : Type 0} (start so_far part all now new : List X) → now ≡ start ++ so_far → new ≡ now ++ part → all ≡ so_far ++ part → new ≡ start ++ all
-put_behind start so_far part all now new is put more =
-    put ∙ ap (λ l. l ++ part) is ∙ append_assoc start so_far part ∙ ap (λ l. start ++ l) (sym more)
+put_behind start so_far part all now new is put more = put ∙ ap (λ l. l ++ part) is ∙ append_assoc start so_far part ∙ ap (λ l. start ++ l) (sym more)
 
 -- the part of the element at a place
 pub part_more : {X A : Type 0} (f : X → List A) (xs : List X) (i : ℕ) (d : X) → i < length xs → flat_map f (take (i + 1) xs) ≡ flat_map f (take i xs) ++ f (get_or xs i d)

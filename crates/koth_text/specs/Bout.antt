@@ -1,16 +1,11 @@
 -- The counts of one match, for people.
 use Rattle.std.specs.Prelude.{ℕ, List, [], ◌∷◌, codes, decimal}
-use Rattle.war_types.specs.Warrior.{WarriorParts}
-use Rattle.koth_match.specs.declared.bout.Bout.{Bout}
-use Rattle.koth_text.specs.declared.columns.Alignment.{Alignment}
-use Rattle.koth_text.specs.declared.columns.Alignment.TheVariants as sides
-use Rattle.koth_text.specs.declared.tally.Tally.{Tally}
-use Rattle.koth_text.specs.Columns.{columns_text}
-use Rattle.koth_text.specs.Tally.{of_older, of_younger}
+use Rattle.{war_types.specs.Warrior.WarriorParts, koth_match.specs.declared.bout.Bout.Bout}
+use Rattle.koth_text.specs.{declared.columns.Alignment.Alignment, declared.tally.Tally.Tally, Columns.columns_text, Tally.{of_older, of_younger}}
 
 -- names at the left, and the numbers after them at the right
 abbrev pub rounds_sides : List Alignment
-rounds_sides = sides.Left ∷ sides.Left ∷ []
+rounds_sides = Alignment.Left ∷ Alignment.Left ∷ []
 
 abbrev pub rounds_heading : List (List ℕ)
 rounds_heading = codes "warrior" ∷ codes "author" ∷ codes "won" ∷ codes "lost" ∷ codes "tied" ∷ []

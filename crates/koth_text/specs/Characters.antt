@@ -1,7 +1,5 @@
 -- The characters of a page, and those that HTML gives a meaning.
-use Rattle.std.specs.Prelude.{ℕ, ◌==◌, Bool, ◌||◌, ◌&&◌, not, nat_le, List}
-use Rattle.std.specs.List.{filter}
-use Rattle.std.specs.Str.{byte}
+use Rattle.std.specs.{Prelude.{ℕ, ◌==◌, Bool, ◌||◌, ◌&&◌, not, nat_le, List}, List.filter, Str.byte}
 
 -- a character that begins or ends a tag or the value of an attribute
 abbrev pub is_markup : ℕ → Bool

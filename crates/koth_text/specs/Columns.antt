@@ -1,14 +1,11 @@
 -- Texts in columns.
-use Rattle.std.specs.Prelude.{ℕ, ◌-◌, ◌==◌, max, if◌then◌else◌, List, [], ◌∷◌, ◌++◌, length, replicate, slice_index_or, codes}
-use Rattle.std.specs.List.{flat_map, range_with_len}
-use Rattle.war_types.specs.Title.{before_blanks}
-use Rattle.koth_text.specs.declared.columns.Alignment.{Alignment}
-use Rattle.koth_text.specs.declared.columns.Alignment.TheVariants as sides
+use Rattle.std.specs.{Prelude.{ℕ, ◌-◌, ◌==◌, max, if◌then◌else◌, List, [], ◌∷◌, ◌++◌, length, replicate, slice_index_or, codes}, List.{flat_map, range_with_len}}
+use Rattle.{war_types.specs.Title.before_blanks, koth_text.specs.declared.columns.Alignment.Alignment}
 
 -- a text at one side of `places` places; a longer text stands as it is
 abbrev pub padded : Alignment → ℕ → List ℕ → List ℕ
-padded sides.Left places text = text ++ replicate (places - length text) 32
-padded sides.Right places text = replicate (places - length text) 32 ++ text
+padded Alignment.Left places text = text ++ replicate (places - length text) 32
+padded Alignment.Right places text = replicate (places - length text) 32 ++ text
 
 -- the cell of a row in a column, counted from 0: empty past its last one
 abbrev pub cell_at : List (List ℕ) → ℕ → List ℕ
@@ -21,7 +18,7 @@ width (row ∷ rows) column = max (length (cell_at row column)) (width rows colu
 
 -- the side of a column: the right past the last that is given
 abbrev pub alignment_at : List Alignment → ℕ → Alignment
-alignment_at alignments column = slice_index_or alignments column sides.Right
+alignment_at alignments column = slice_index_or alignments column Alignment.Right
 
 -- two blanks before each column but the first
 abbrev pub gap : ℕ → List ℕ

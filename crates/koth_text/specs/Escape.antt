@@ -1,11 +1,6 @@
 -- What others wrote, as it stands in a page: no byte of it is read as a tag, as the end of an attribute or in another encoding.
-use Rattle.std.specs.Prelude.{ℕ, ◌==◌, nat_le, if◌then◌else◌, List, [], ◌∷◌, ◌++◌, length, codes, decimal}
-use Rattle.std.specs.Char.{is_control}
-use Rattle.std.specs.List.{flat_map}
-use Rattle.std.specs.Str.{byte, chars}
-use Rattle.std.specs.declared.str.Utf8Chunk.{Utf8Chunk}
-use Rattle.std.specs.Str.Chunks.{utf8_chunk_invalid, utf8_chunk_valid}
-use Rattle.std.specs.Str.Lossy.{utf8_lossy}
+use Rattle.std.specs.{Prelude.{ℕ, ◌==◌, nat_le, if◌then◌else◌, List, [], ◌∷◌, ◌++◌, length, codes, decimal}, Char.is_control, List.flat_map, Str.{byte, chars}}
+use Rattle.std.specs.{declared.str.Utf8Chunk.Utf8Chunk, Str.Chunks.{utf8_chunk_invalid, utf8_chunk_valid}, Str.Lossy.utf8_lossy}
 
 -- a character by its number
 abbrev pub reference : ℕ → List ℕ

@@ -1,6 +1,5 @@
 -- The rounds of a match from one side.
-use Rattle.koth_match.specs.declared.bout.Bout.{Bout}
-use Rattle.koth_text.specs.declared.tally.Tally.{Tally}
+use Rattle.{koth_match.specs.declared.bout.Bout.Bout, koth_text.specs.declared.tally.Tally.Tally}
 
 -- a result from the side of the older warrior
 abbrev pub of_older : Bout → Tally

@@ -1,6 +1,5 @@
 -- What is written of a text, if a clause can name the output's bytes.
-use Rattle.std.specs.Prelude.{◌≡◌, ℕ, Option, List, ◌++◌}
-use Rattle.std.specs.Io.KnownBytes.{Appends}
+use Rattle.std.specs.{Prelude.{◌≡◌, ℕ, Option, List, ◌++◌}, Io.KnownBytes.Appends}
 
 -- a part of a text was written, from its beginning on
 pub record WritesPart (old new : Option (List ℕ)) (text : List ℕ) : Type 0 where

@@ -2,10 +2,7 @@
 //!
 //! The names on a hill are printable ASCII already. This takes any bytes, so that a page asks nothing of them.
 
-ghost use Rattle.std.specs.Prelude.{◌≡◌, ◌+◌, ◌≤◌, ◌++◌, length, codes, decimal, OnOk};
-ghost use Rattle.std.specs.List.{flat_map};
-ghost use Rattle.std.specs.Str.{IsUtf8, chars};
-ghost use Rattle.std.specs.Str.Chunks.{utf8_chunk_valid};
+ghost use Rattle.std.specs.{Prelude.{◌≡◌, ◌+◌, ◌≤◌, ◌++◌, length, codes, decimal, OnOk}, List.flat_map, Str.{IsUtf8, chars}, Str.Chunks.utf8_chunk_valid};
 ghost use Rattle.koth_text.specs.Escape.{character_text, chunk_characters, escaped, plain_text, reference};
 
 use crate::line::Line;

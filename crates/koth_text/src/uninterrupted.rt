@@ -1,8 +1,6 @@
 //! One read or write that no signal ends: if a signal interrupts the call, it is made again.
 
-ghost use Rattle.std.specs.Prelude.{◌≡◌, ◌≢◌, ◌↔◌, ◌≤◌, length, IfErr, IfOk, IsTrue};
-ghost use Rattle.std.specs.IoError.{error_kind};
-ghost use Rattle.std.specs.Io.KnownBytes.{ReadConsumes, WriteAppends};
+ghost use Rattle.std.specs.{Prelude.{◌≡◌, ◌≢◌, ◌↔◌, ◌≤◌, length, IfErr, IfOk, IsTrue}, IoError.error_kind, Io.KnownBytes.{ReadConsumes, WriteAppends}};
 
 use std::io;
 use std::io::{ErrorKind, Read, Write};

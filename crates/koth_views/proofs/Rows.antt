@@ -1,15 +1,7 @@
 -- Texts of small hills, computed.
-use Rattle.std.proofs.Common.{◌≡◌, ℕ, List, [], ◌∷◌, ◌++◌, codes, refl}
-use Rattle.std.specs.Fmt.{digits}
-use Rattle.war_types.specs.declared.settings.RawSettings.{RawSettings}
-use Rattle.war_types.specs.Warrior.{warrior_parts}
-use Rattle.koth_match.specs.declared.bout.Bout.{Bout}
-use Rattle.koth_hill.specs.Hill.{Member, member_of}
-use Rattle.koth_hill.specs.Kept.{Kept, kept_of}
-use Rattle.koth_views.specs.Matrix.{matches_view}
-use Rattle.koth_views.specs.Placed.{fell_text, placed_text}
-use Rattle.koth_views.specs.Roster.{roster}
-use Rattle.koth_views.specs.Standing.{hill_view}
+use Rattle.{std.proofs.Common.{◌≡◌, ℕ, List, [], ◌∷◌, ◌++◌, codes, refl}, std.specs.Fmt.digits, war_types.specs.{declared.settings.RawSettings.RawSettings, Warrior.warrior_parts}}
+use Rattle.{koth_match.specs.declared.bout.Bout.Bout, koth_hill.specs.{Hill.{Member, member_of}, Kept.{Kept, kept_of}}}
+use Rattle.koth_views.specs.{Matrix.matches_view, Placed.{fell_text, placed_text}, Roster.roster, Standing.hill_view}
 
 abbrev settings : RawSettings
 settings =

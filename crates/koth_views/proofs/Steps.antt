@@ -1,13 +1,7 @@
 -- One row more, in the loops that put texts and cells.
-use Rattle.std.proofs.Common.{◌≡◌, ℕ, ◌+◌, ◌<◌, suc, List, [], ◌∷◌, ◌++◌, length, map, take, get_or, sym, ap, ◌∙◌, arith}
-use Rattle.std.specs.List.{enumerate_from, range_with_len}
-use Rattle.std.proofs.lemmas.List.{get_or-map, length-map, map_more}
-use Rattle.std.proofs.lemmas.List.Concat.{flat_map_single}
-use Rattle.std.proofs.lemmas.List.FromFn.{map-range_with_len_more}
-use Rattle.koth_hill.specs.Rows.{row_parts, rows_parts}
-use Rattle.koth_hill.specs.declared.row.Row.{Row}
-use Rattle.koth_hill.specs.Table.{RowParts}
-use Rattle.koth_text.proofs.Steps.{next_ranked, put_behind}
+use Rattle.{std.proofs.Common.{◌≡◌, ℕ, ◌+◌, ◌<◌, suc, List, [], ◌∷◌, ◌++◌, length, map, take, get_or, sym, ap, ◌∙◌, arith}, std.specs.List.{enumerate_from, range_with_len}}
+use Rattle.std.proofs.{lemmas.List.{get_or-map, length-map, map_more}, lemmas.List.Concat.flat_map_single, lemmas.List.FromFn.map-range_with_len_more}
+use Rattle.{koth_hill.specs.{Rows.{row_parts, rows_parts}, declared.row.Row.Row, Table.RowParts}, koth_text.proofs.Steps.{next_ranked, put_behind}}
 
 -- a row at its place, in its parts
 pub row_at : (rows : List Row) (i : ℕ) (row : Row) → i < length rows → row ≡ get_or rows i row → row_parts row ≡ get_or (rows_parts rows) i (row_parts row)

@@ -1,18 +1,11 @@
 -- The matches on a hill, for people: who won, lost and tied how many rounds against whom.
-use Rattle.std.specs.Prelude.{ℕ, ◌==◌, if◌then◌else◌, List, [], ◌∷◌, ◌++◌, length, map, codes, decimal}
-use Rattle.std.specs.List.{enumerate_from, range_with_len}
-use Rattle.koth_hill.specs.Kept.{Kept, table_kept}
-use Rattle.koth_hill.specs.Table.{RowParts}
-use Rattle.koth_text.specs.declared.columns.Alignment.{Alignment}
-use Rattle.koth_text.specs.declared.columns.Alignment.TheVariants as sides
-use Rattle.koth_text.specs.declared.tally.Tally.{Tally}
-use Rattle.koth_text.specs.Columns.{columns_text}
-use Rattle.koth_views.specs.Standing.{note_of_none}
-use Rattle.koth_views.specs.Tally.{between}
+use Rattle.std.specs.{Prelude.{ℕ, ◌==◌, if◌then◌else◌, List, [], ◌∷◌, ◌++◌, length, map, codes, decimal}, List.{enumerate_from, range_with_len}}
+use Rattle.{koth_hill.specs.{Kept.{Kept, table_kept}, Table.RowParts}, koth_text.specs.{declared.columns.Alignment.Alignment, declared.tally.Tally.Tally, Columns.columns_text}}
+use Rattle.koth_views.specs.{Standing.note_of_none, Tally.between}
 
 -- ranks and rounds at the right, names at the left
 abbrev pub matrix_sides : List Alignment
-matrix_sides = sides.Right ∷ sides.Left ∷ []
+matrix_sides = Alignment.Right ∷ Alignment.Left ∷ []
 
 -- rank and name, and a column for each rank from 1 on
 abbrev pub matrix_heading : ℕ → List (List ℕ)

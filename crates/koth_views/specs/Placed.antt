@@ -1,13 +1,7 @@
 -- What became of a warrior that was submitted, for people.
-use Rattle.std.specs.Prelude.{ℕ, ◌==◌, Bool, true, false, if◌then◌else◌, List, [], ◌∷◌, ◌++◌, length, codes, decimal}
-use Rattle.std.specs.List.{flat_map}
-use Rattle.koth_hill.specs.Kept.{Kept, table_kept}
-use Rattle.koth_hill.specs.Table.{RowParts}
-use Rattle.koth_views.specs.declared.entrants.Entered.{Entered}
-use Rattle.koth_views.specs.declared.placed.Place.{Place}
-use Rattle.koth_text.specs.Bout.{rounds_cells, rounds_heading, rounds_sides}
-use Rattle.koth_text.specs.Columns.{columns_text}
-use Rattle.koth_views.specs.Tally.{between}
+use Rattle.std.specs.{Prelude.{ℕ, ◌==◌, Bool, true, false, if◌then◌else◌, List, [], ◌∷◌, ◌++◌, length, codes, decimal}, List.flat_map}
+use Rattle.{koth_hill.specs.{Kept.{Kept, table_kept}, Table.RowParts}, koth_text.specs.{Bout.{rounds_cells, rounds_heading, rounds_sides}, Columns.columns_text}}
+use Rattle.koth_views.specs.{declared.entrants.Entered.Entered, declared.placed.Place.Place, Tally.between}
 
 -- points, in words
 abbrev pub points_text : ℕ → List ℕ
@@ -44,8 +38,7 @@ is_on (row ∷ rows) entry = if row.entry == entry then true else is_on rows ent
 
 -- the line of a warrior that is in none of these rows
 abbrev pub fallen_line : List RowParts → Entered → List ℕ
-fallen_line rows one =
-    if is_on rows one.entry then [] else who_text one.name one.author ++ codes " (entry " ++ decimal one.entry ++ codes ") fell\n"
+fallen_line rows one = if is_on rows one.entry then [] else who_text one.name one.author ++ codes " (entry " ++ decimal one.entry ++ codes ") fell\n"
 
 -- the lines of the warriors that stood before and are in none of these rows
 abbrev pub fallen_lines : List RowParts → List Entered → List ℕ

@@ -1,8 +1,5 @@
 -- Who stands on a hill.
-use Rattle.std.specs.Prelude.{List, map}
-use Rattle.koth_hill.specs.Kept.{Kept, table_kept}
-use Rattle.koth_hill.specs.Table.{RowParts}
-use Rattle.koth_views.specs.declared.entrants.Entered.{Entered}
+use Rattle.{std.specs.Prelude.{List, map}, koth_hill.specs.{Kept.{Kept, table_kept}, Table.RowParts}, koth_views.specs.declared.entrants.Entered.Entered}
 
 -- entry, name and author of a row
 abbrev pub entered_of : RowParts → Entered

@@ -1,17 +1,11 @@
 -- The table of a hill, for people.
-use Rattle.std.specs.Prelude.{ℕ, List, [], ◌∷◌, ◌++◌, map, codes, decimal}
-use Rattle.std.specs.List.{enumerate_from}
-use Rattle.koth_hill.specs.Kept.{Kept, table_kept}
-use Rattle.koth_hill.specs.Table.{RowParts}
-use Rattle.koth_text.specs.declared.columns.Alignment.{Alignment}
-use Rattle.koth_text.specs.declared.columns.Alignment.TheVariants as sides
-use Rattle.koth_text.specs.declared.tally.Tally.{Tally}
-use Rattle.koth_text.specs.Columns.{columns_text}
+use Rattle.std.specs.{Prelude.{ℕ, List, [], ◌∷◌, ◌++◌, map, codes, decimal}, List.enumerate_from}
+use Rattle.{koth_hill.specs.{Kept.{Kept, table_kept}, Table.RowParts}, koth_text.specs.{declared.columns.Alignment.Alignment, declared.tally.Tally.Tally, Columns.columns_text}}
 use Rattle.koth_views.specs.Tally.{against_all}
 
 -- numbers at the right, texts at the left
 abbrev pub hill_sides : List Alignment
-hill_sides = sides.Right ∷ sides.Right ∷ sides.Right ∷ sides.Right ∷ sides.Right ∷ sides.Right ∷ sides.Right ∷ sides.Left ∷ sides.Left ∷ []
+hill_sides = Alignment.Right ∷ Alignment.Right ∷ Alignment.Right ∷ Alignment.Right ∷ Alignment.Right ∷ Alignment.Right ∷ Alignment.Right ∷ Alignment.Left ∷ Alignment.Left ∷ []
 
 abbrev pub hill_heading : List (List ℕ)
 hill_heading =

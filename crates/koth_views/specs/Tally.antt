@@ -1,10 +1,6 @@
 -- Rounds that one entry won, lost and tied.
-use Rattle.std.specs.Prelude.{ℕ, nat_lt, if◌then◌else◌, List}
-use Rattle.std.specs.List.{sum_by}
-use Rattle.koth_match.specs.declared.bout.Bout.{Bout}
-use Rattle.koth_hill.specs.Kept.{Kept, entries_of, or_no_rounds, result_of}
-use Rattle.koth_text.specs.Tally.{of_older, of_younger}
-use Rattle.koth_text.specs.declared.tally.Tally.{Tally}
+use Rattle.std.specs.{Prelude.{ℕ, nat_lt, if◌then◌else◌, List}, List.sum_by}
+use Rattle.{koth_match.specs.declared.bout.Bout.Bout, koth_hill.specs.Kept.{Kept, entries_of, or_no_rounds, result_of}, koth_text.specs.{Tally.{of_older, of_younger}, declared.tally.Tally.Tally}}
 
 abbrev pub no_tally : Tally
 no_tally = record { won = 0; lost = 0; tied = 0 }

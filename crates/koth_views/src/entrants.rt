@@ -1,8 +1,7 @@
 //! Who stands on a hill.
 
 ghost use Rattle.std.specs.Prelude.{◌≡◌, IfOk};
-ghost use Rattle.koth_hill.specs.Rows.{row_parts, rows_parts};
-ghost use Rattle.koth_views.specs.Roster.{entered_of, roster, roster_of};
+ghost use Rattle.{koth_hill.specs.Rows.{row_parts, rows_parts}, koth_views.specs.Roster.{entered_of, roster, roster_of}};
 
 use koth_hill::{Hill, Row};
 use koth_text::Line;

@@ -1,9 +1,7 @@
 //! The matches on a hill: who won, lost and tied how many rounds against whom.
 
-ghost use Rattle.std.specs.Prelude.{◌≡◌, ◌+◌, ◌≤◌, ◌++◌, ◌∷◌, [], length, map, codes, decimal, IfOk, OnOk};
-ghost use Rattle.std.specs.List.{range_with_len};
-ghost use Rattle.koth_hill.specs.Rows.{row_parts, rows_parts};
-ghost use Rattle.koth_views.specs.Matrix.{matches_view, matrix_cells, matrix_heading, matrix_rows, matrix_text, tally_text, told_of};
+ghost use Rattle.std.specs.{Prelude.{◌≡◌, ◌+◌, ◌≤◌, ◌++◌, ◌∷◌, [], length, map, codes, decimal, IfOk, OnOk}, List.range_with_len};
+ghost use Rattle.{koth_hill.specs.Rows.{row_parts, rows_parts}, koth_views.specs.Matrix.{matches_view, matrix_cells, matrix_heading, matrix_rows, matrix_text, tally_text, told_of}};
 
 use crate::standing::noted_text;
 use crate::tally::between;

@@ -1,10 +1,9 @@
 //! What became of a warrior that was submitted.
 
-ghost use Rattle.std.specs.Prelude.{◌≡◌, ◌+◌, ◌≤◌, ◌++◌, ◌∷◌, [], length, codes, decimal, IfOk, OnOk};
-ghost use Rattle.std.specs.List.{flat_map};
-ghost use Rattle.koth_hill.specs.Rows.{row_parts, rows_parts};
-ghost use Rattle.koth_text.specs.Bout.{rounds_heading};
-ghost use Rattle.koth_views.specs.Placed.{entry_text, fallen_line, fallen_lines, fell_text, is_on, opponent_cells, opponents_text, own_line, own_lines, place_text, placed_among, placed_text, points_text, rank_text, who_text};
+ghost use Rattle.std.specs.{Prelude.{◌≡◌, ◌+◌, ◌≤◌, ◌++◌, ◌∷◌, [], length, codes, decimal, IfOk, OnOk}, List.flat_map};
+ghost use Rattle.{koth_hill.specs.Rows.{row_parts, rows_parts}, koth_text.specs.Bout.rounds_heading};
+ghost use Rattle.koth_views.specs.Placed.{entry_text, fallen_line, fallen_lines, fell_text, is_on, opponent_cells, opponents_text, own_line, own_lines, place_text, placed_among};
+ghost use Rattle.koth_views.specs.Placed.{placed_text, points_text, rank_text, who_text};
 
 use crate::entrants::Entered;
 use crate::tally::between;

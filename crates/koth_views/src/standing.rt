@@ -1,10 +1,8 @@
 //! The table of a hill.
 
 ghost use Rattle.std.specs.Prelude.{◌≡◌, ◌+◌, ◌<◌, ◌^◌, ◌++◌, ◌∷◌, [], length, IfOk, OnOk};
-ghost use Rattle.koth_hill.specs.Rows.{row_parts, rows_parts};
-ghost use Rattle.koth_text.specs.Columns.{columns_text};
-ghost use Rattle.koth_views.specs.Standing.{hill_cells, hill_heading, hill_rows, hill_view, note_of_none, standing_text};
-ghost use Rattle.koth_views.specs.Tally.{against_all};
+ghost use Rattle.{koth_hill.specs.Rows.{row_parts, rows_parts}, koth_text.specs.Columns.columns_text};
+ghost use Rattle.koth_views.specs.{Standing.{hill_cells, hill_heading, hill_rows, hill_view, note_of_none, standing_text}, Tally.against_all};
 
 use crate::tally::against_all;
 use koth_hill::{Hill, Row};

@@ -1,9 +1,7 @@
 //! Rounds that one entry won, lost and tied.
 
 ghost use Rattle.std.specs.Prelude.{◌≡◌, ◌<◌, ◌≤◌, length, slice_index};
-ghost use Rattle.koth_hill.specs.Kept.{entries_of};
-ghost use Rattle.koth_text.specs.Tally.{of_older, of_younger};
-ghost use Rattle.koth_views.specs.Tally.{against_all, between, kept_of_two, no_tally};
+ghost use Rattle.{koth_hill.specs.Kept.entries_of, koth_text.specs.Tally.{of_older, of_younger}, koth_views.specs.Tally.{against_all, between, kept_of_two, no_tally}};
 
 use koth_hill::Hill;
 use koth_match::Bout;

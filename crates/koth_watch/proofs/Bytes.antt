@@ -1,35 +1,14 @@
 -- What each text of a page is made of, for `round_page`: no byte of the data begins a tag, and every byte of the page is of ASCII.
-use Rattle.std.proofs.Common.{◌≡◌, ℕ, ◌-◌, ◌*◌, zero, suc, true, false, not, ltb, eqb, List, ◌++◌, codes, decimal, refl, Bool}
-use Rattle.std.specs.List.{enumerate_from, flat_map, list_all}
-use Rattle.std.proofs.lemmas.Bool.{and_from, and_parts, cond_both, not-true, not_from_false, or_parts}
-use Rattle.std.proofs.lemmas.List.Folds.{list_all-append}
-use Rattle.war_types.specs.Warrior.{WarriorParts}
-use Rattle.war_types.specs.declared.instr.Instr.{Instr}
-use Rattle.war_types.specs.declared.instr.Mode.{Mode}
-use Rattle.war_types.specs.declared.instr.Mode.TheVariants as modes
-use Rattle.war_types.specs.declared.instr.Modifier.{Modifier}
-use Rattle.war_types.specs.declared.instr.Modifier.TheVariants as modifiers
-use Rattle.war_types.specs.declared.instr.Op.{Op}
-use Rattle.war_types.specs.declared.instr.Op.TheVariants as ops
-use Rattle.redcode_text.specs.Vocabulary.{op_text, modifier_text}
-use Rattle.mars_core.specs.declared.round.Outcome.{Outcome}
-use Rattle.mars_core.specs.declared.round.Outcome.TheVariants as outcomes
-use Rattle.mars_core.specs.declared.round.Side.{Side}
-use Rattle.mars_core.specs.declared.round.Side.TheVariants as sides
-use Rattle.koth_text.specs.Characters.{is_harmless, is_markup, is_page_byte, is_printable}
+use Rattle.{std.proofs.Common.{◌≡◌, ℕ, ◌-◌, ◌*◌, zero, suc, true, false, not, ltb, eqb, List, ◌++◌, codes, decimal, refl, Bool}, std.specs.List.{enumerate_from, flat_map, list_all}}
+use Rattle.std.proofs.{lemmas.Bool.{and_from, and_parts, cond_both, not-true, not_from_false, or_parts}, lemmas.List.Folds.list_all-append}
+use Rattle.war_types.specs.{Warrior.WarriorParts, declared.instr.Instr.Instr, declared.instr.Mode.Mode, declared.instr.Modifier.Modifier, declared.instr.Op.Op}
+use Rattle.{redcode_text.specs.Vocabulary.{op_text, modifier_text}, mars_core.specs.{declared.round.Outcome.Outcome, declared.round.Side.Side}, koth_replay.specs.declared.event.Event.Event}
+use Rattle.{koth_replay.specs.{declared.opening.Opening.Opening, Replay.ReplayParts}, koth_text.specs.Characters.{is_harmless, is_markup, is_page_byte, is_printable}}
 use Rattle.koth_text.proofs.Ascii.{Pass, Ascii, both, each, weaker, page_byte, harmless_decimal, ascii_decimal, ascii_escaped}
-use Rattle.koth_replay.specs.declared.event.Event.{Event}
-use Rattle.koth_replay.specs.declared.event.Event.TheVariants as events
-use Rattle.koth_replay.specs.declared.opening.Opening.{Opening}
-use Rattle.koth_replay.specs.Replay.{ReplayParts}
-use Rattle.koth_watch.specs.declared.drawing.TheConstants.{DRAWING_SCRIPT}
-use Rattle.koth_watch.specs.declared.parts.TheConstants.{CONTROLS, END, HEAD, STYLE}
-use Rattle.koth_watch.specs.declared.script.TheConstants.{ROUND_SCRIPT}
-use Rattle.koth_watch.specs.Data.{cell_text, comma_before, data_text, event_at, event_text, events_text, opening_text, place_text, processes_text, side_text, start_text, turn_at, turn_text, turns_text}
-use Rattle.koth_watch.specs.Heading.{cut_told, ending_text, outcome_text, round_told, sides_text, turns_told, warrior_text, warriors_text, whole_told, winner_text}
-use Rattle.koth_watch.specs.Instruction.{instruction_text, number_text, operand_text, sign_text}
-use Rattle.koth_watch.specs.Laws.{is_data_byte}
-use Rattle.koth_watch.specs.Page.{heading_text, round_page, scripts_text}
+use Rattle.koth_watch.specs.{declared.drawing.TheConstants.DRAWING_SCRIPT, declared.parts.TheConstants.{CONTROLS, END, HEAD, STYLE}, declared.script.TheConstants.ROUND_SCRIPT}
+use Rattle.koth_watch.specs.Data.{cell_text, comma_before, data_text, event_at, event_text, events_text, opening_text, place_text, processes_text, side_text, start_text, turn_at, turn_text}
+use Rattle.koth_watch.specs.{Data.turns_text, Heading.{cut_told, ending_text, outcome_text, round_told, sides_text, turns_told, warrior_text, warriors_text, whole_told, winner_text}}
+use Rattle.koth_watch.specs.{Instruction.{instruction_text, number_text, operand_text, sign_text}, Laws.is_data_byte, Page.{heading_text, round_page, scripts_text}}
 
 -- ---- the data
 
@@ -46,41 +25,41 @@ data_decimal : (n : ℕ) → Data (decimal n)
 data_decimal n = weaker is_harmless is_data_byte data_byte (decimal n) (harmless_decimal n)
 
 data_op : (op : Op) → Data (op_text op)
-data_op ops.Dat = refl
-data_op ops.Mov = refl
-data_op ops.Add = refl
-data_op ops.Sub = refl
-data_op ops.Mul = refl
-data_op ops.Div = refl
-data_op ops.Mdl = refl
-data_op ops.Jmp = refl
-data_op ops.Jmz = refl
-data_op ops.Jmn = refl
-data_op ops.Djn = refl
-data_op ops.Seq = refl
-data_op ops.Sne = refl
-data_op ops.Slt = refl
-data_op ops.Spl = refl
-data_op ops.Nop = refl
+data_op Op.Dat = refl
+data_op Op.Mov = refl
+data_op Op.Add = refl
+data_op Op.Sub = refl
+data_op Op.Mul = refl
+data_op Op.Div = refl
+data_op Op.Mdl = refl
+data_op Op.Jmp = refl
+data_op Op.Jmz = refl
+data_op Op.Jmn = refl
+data_op Op.Djn = refl
+data_op Op.Seq = refl
+data_op Op.Sne = refl
+data_op Op.Slt = refl
+data_op Op.Spl = refl
+data_op Op.Nop = refl
 
 data_modifier : (modifier : Modifier) → Data (modifier_text modifier)
-data_modifier modifiers.A = refl
-data_modifier modifiers.B = refl
-data_modifier modifiers.AB = refl
-data_modifier modifiers.BA = refl
-data_modifier modifiers.F = refl
-data_modifier modifiers.X = refl
-data_modifier modifiers.I = refl
+data_modifier Modifier.A = refl
+data_modifier Modifier.B = refl
+data_modifier Modifier.AB = refl
+data_modifier Modifier.BA = refl
+data_modifier Modifier.F = refl
+data_modifier Modifier.X = refl
+data_modifier Modifier.I = refl
 
 data_sign : (mode : Mode) → Data (sign_text mode)
-data_sign modes.Immediate = refl
-data_sign modes.Direct = refl
-data_sign modes.AIndirect = refl
-data_sign modes.BIndirect = refl
-data_sign modes.APre = refl
-data_sign modes.BPre = refl
-data_sign modes.APost = refl
-data_sign modes.BPost = refl
+data_sign Mode.Immediate = refl
+data_sign Mode.Direct = refl
+data_sign Mode.AIndirect = refl
+data_sign Mode.BIndirect = refl
+data_sign Mode.APre = refl
+data_sign Mode.BPre = refl
+data_sign Mode.APost = refl
+data_sign Mode.BPost = refl
 
 data_number : (core n : ℕ) → Data (number_text core n)
 data_number core n =
@@ -96,14 +75,14 @@ unfolding instruction_text
 data_instruction core i = simp (list_all-append, data_op, data_modifier, data_operand)
 
 data_side : (side : Side) → Data (side_text side)
-data_side sides.First = refl
-data_side sides.Second = refl
+data_side Side.First = refl
+data_side Side.Second = refl
 
 data_event : (core : ℕ) (event : Event) → Data (event_text core event)
 unfolding cell_text turn_text
-data_event core (events.Turn side at) = simp (list_all-append, data_side, data_decimal)
-data_event core (events.Cell at i) = simp (list_all-append, data_decimal, data_instruction)
-data_event core (events.Process at) = data_decimal at
+data_event core (Event.Turn side at) = simp (list_all-append, data_side, data_decimal)
+data_event core (Event.Cell at i) = simp (list_all-append, data_decimal, data_instruction)
+data_event core (Event.Process at) = data_decimal at
 
 data_comma : (place : ℕ) → Data (comma_before place)
 data_comma zero = refl
@@ -124,8 +103,7 @@ unfolding turn_at
 data_turn_at core place turn = simp (list_all-append, data_comma, data_events)
 
 data_turns : (core : ℕ) (turns : List (List Event)) → Data (turns_text core turns)
-data_turns core turns =
-    each is_data_byte (λ (p : ℕ × List Event). turn_at core p.0 p.1) (λ p. data_turn_at core p.0 p.1) (enumerate_from 0 turns)
+data_turns core turns = each is_data_byte (λ (p : ℕ × List Event). turn_at core p.0 p.1) (λ p. data_turn_at core p.0 p.1) (enumerate_from 0 turns)
 
 data_opening : (o : Opening) → Data (opening_text o)
 unfolding opening_text place_text processes_text
@@ -150,9 +128,9 @@ ascii_sides older younger = simp (list_all-append, ascii_escaped)
 
 ascii_outcome : (older younger : WarriorParts) (o : Outcome) → Ascii (outcome_text older younger o)
 unfolding winner_text
-ascii_outcome older younger outcomes.First = simp (list_all-append, ascii_escaped)
-ascii_outcome older younger outcomes.Second = simp (list_all-append, ascii_escaped)
-ascii_outcome older younger outcomes.Tie = refl
+ascii_outcome older younger Outcome.First = simp (list_all-append, ascii_escaped)
+ascii_outcome older younger Outcome.Second = simp (list_all-append, ascii_escaped)
+ascii_outcome older younger Outcome.Tie = refl
 
 ascii_turns_told : (is_cut : Bool) (turns : ℕ) → Ascii (turns_told is_cut turns)
 unfolding cut_told whole_told

@@ -1,16 +1,8 @@
 -- The tags and the attributes of a page are those of the same round without names, for `round_page`.
-use Rattle.std.proofs.Common.{◌≡◌, ℕ, List, [], ◌++◌, length, codes, refl}
-use Rattle.std.proofs.lemmas.List.Elements.{filter-append}
-use Rattle.war_types.specs.Warrior.{WarriorParts}
-use Rattle.mars_core.specs.declared.round.Outcome.{Outcome}
-use Rattle.mars_core.specs.declared.round.Outcome.TheVariants as outcomes
-use Rattle.koth_text.specs.Characters.{markup_of}
-use Rattle.koth_text.proofs.Markup.{Alike, both, markup_of-escaped}
-use Rattle.koth_replay.specs.Replay.{ReplayParts}
-use Rattle.koth_watch.specs.declared.parts.TheConstants.{CONTROLS, END, HEAD, OLDER_START, STYLE, WARRIORS_END, YOUNGER_START}
-use Rattle.koth_watch.specs.Data.{data_text}
-use Rattle.koth_watch.specs.Heading.{ending_text, outcome_text, round_told, sides_text, turns_told, warrior_text, warriors_text, winner_text}
-use Rattle.koth_watch.specs.Laws.{unnamed}
+use Rattle.{std.proofs.{Common.{◌≡◌, ℕ, List, [], ◌++◌, length, codes, refl}, lemmas.List.Elements.filter-append}, war_types.specs.Warrior.WarriorParts}
+use Rattle.{mars_core.specs.declared.round.Outcome.Outcome, koth_replay.specs.Replay.ReplayParts, koth_text.specs.Characters.markup_of}
+use Rattle.{koth_text.proofs.Markup.{Alike, both, markup_of-escaped}, koth_watch.specs.declared.parts.TheConstants.{CONTROLS, END, HEAD, OLDER_START, STYLE, WARRIORS_END, YOUNGER_START}}
+use Rattle.koth_watch.specs.{Data.data_text, Heading.{ending_text, outcome_text, round_told, sides_text, turns_told, warrior_text, warriors_text, winner_text}, Laws.unnamed}
 use Rattle.koth_watch.specs.Page.{heading_text, round_page, scripts_text}
 
 -- the same text before two that are alike, and after them
@@ -26,9 +18,9 @@ sides_alike older younger = simp (filter-append, markup_of-escaped)
 
 outcome_alike : (older younger : WarriorParts) (o : Outcome) → Alike (outcome_text older younger o) (outcome_text (unnamed older) (unnamed younger) o)
 unfolding winner_text
-outcome_alike older younger outcomes.First = simp (filter-append, markup_of-escaped)
-outcome_alike older younger outcomes.Second = simp (filter-append, markup_of-escaped)
-outcome_alike older younger outcomes.Tie = refl
+outcome_alike older younger Outcome.First = simp (filter-append, markup_of-escaped)
+outcome_alike older younger Outcome.Second = simp (filter-append, markup_of-escaped)
+outcome_alike older younger Outcome.Tie = refl
 
 ending_alike : (older younger : WarriorParts) (round : ℕ) (r : ReplayParts)
     → Alike (ending_text older younger round r) (ending_text (unnamed older) (unnamed younger) round r)

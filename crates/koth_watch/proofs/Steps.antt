@@ -1,7 +1,5 @@
 -- One element more of a list, in the loops that put turns and events.
-use Rattle.std.proofs.Common.{◌≡◌, ℕ, ◌+◌, ◌<◌, ◌≤◌, suc, List, ◌++◌, length, take, get_or, ap, ◌∙◌, arith}
-use Rattle.std.specs.List.{enumerate_from, flat_map}
-use Rattle.std.proofs.lemmas.List.{take_all}
+use Rattle.{std.proofs.Common.{◌≡◌, ℕ, ◌+◌, ◌<◌, ◌≤◌, suc, List, ◌++◌, length, take, get_or, ap, ◌∙◌, arith}, std.specs.List.{enumerate_from, flat_map}, std.proofs.lemmas.List.take_all}
 use Rattle.koth_text.proofs.Steps.{next_ranked, put_behind}
 
 pub one_more : {X : Type 0} (f : ℕ × X → List ℕ) (xs : List X) (i : ℕ) (d : X) (start now new : List ℕ) → i < length xs

@@ -1,18 +1,11 @@
 -- The data of a page, as JSON: the events of a round, each of them, in their order.
-use Rattle.std.specs.Prelude.{ℕ, zero, suc, List, [], ◌++◌, codes, decimal}
-use Rattle.std.specs.List.{enumerate_from, flat_map}
-use Rattle.war_types.specs.declared.instr.Instr.{Instr}
-use Rattle.mars_core.specs.declared.round.Side.{Side}
-use Rattle.mars_core.specs.declared.round.Side.TheVariants as sides
-use Rattle.koth_replay.specs.declared.event.Event.{Event}
-use Rattle.koth_replay.specs.declared.event.Event.TheVariants as events
-use Rattle.koth_replay.specs.declared.opening.Opening.{Opening}
-use Rattle.koth_replay.specs.Replay.{ReplayParts}
-use Rattle.koth_watch.specs.Instruction.{instruction_text}
+use Rattle.std.specs.{Prelude.{ℕ, zero, suc, List, [], ◌++◌, codes, decimal}, List.{enumerate_from, flat_map}}
+use Rattle.{war_types.specs.declared.instr.Instr.Instr, mars_core.specs.declared.round.Side.Side}
+use Rattle.{koth_replay.specs.{declared.event.Event.Event, declared.opening.Opening.Opening, Replay.ReplayParts}, koth_watch.specs.Instruction.instruction_text}
 
 abbrev pub side_text : Side → List ℕ
-side_text sides.First = codes "0"
-side_text sides.Second = codes "1"
+side_text Side.First = codes "0"
+side_text Side.Second = codes "1"
 
 -- a turn by its side and the address that it executes, a cell by its address and what it holds now, a process by its address
 unfoldable pub turn_text : Side → ℕ → List ℕ
@@ -22,9 +15,9 @@ unfoldable pub cell_text : ℕ → ℕ → Instr → List ℕ
 cell_text core at i = codes "[" ++ decimal at ++ codes ",\"" ++ instruction_text core i ++ codes "\"]"
 
 abbrev pub event_text : ℕ → Event → List ℕ
-event_text core (events.Turn side at) = turn_text side at
-event_text core (events.Cell at i) = cell_text core at i
-event_text core (events.Process at) = decimal at
+event_text core (Event.Turn side at) = turn_text side at
+event_text core (Event.Cell at i) = cell_text core at i
+event_text core (Event.Process at) = decimal at
 
 -- what parts the element of this place from the one before it
 abbrev pub comma_before : ℕ → List ℕ

@@ -1,10 +1,6 @@
 -- What a page says of its round in words.
 use Rattle.std.specs.Prelude.{ℕ, ◌+◌, Bool, if◌then◌else◌, List, ◌++◌, length, codes, decimal}
-use Rattle.war_types.specs.Warrior.{WarriorParts}
-use Rattle.mars_core.specs.declared.round.Outcome.{Outcome}
-use Rattle.mars_core.specs.declared.round.Outcome.TheVariants as outcomes
-use Rattle.koth_text.specs.Escape.{escaped}
-use Rattle.koth_replay.specs.Replay.{ReplayParts}
+use Rattle.{war_types.specs.Warrior.WarriorParts, mars_core.specs.declared.round.Outcome.Outcome, koth_replay.specs.Replay.ReplayParts, koth_text.specs.Escape.escaped}
 use Rattle.koth_watch.specs.declared.parts.TheConstants.{OLDER_START, WARRIORS_END, YOUNGER_START}
 
 -- who fights whom
@@ -16,9 +12,9 @@ unfoldable pub winner_text : WarriorParts → List ℕ
 winner_text warrior = escaped warrior.name ++ codes " won"
 
 abbrev pub outcome_text : WarriorParts → WarriorParts → Outcome → List ℕ
-outcome_text older younger outcomes.First = winner_text older
-outcome_text older younger outcomes.Second = winner_text younger
-outcome_text older younger outcomes.Tie = codes "nobody won"
+outcome_text older younger Outcome.First = winner_text older
+outcome_text older younger Outcome.Second = winner_text younger
+outcome_text older younger Outcome.Tie = codes "nobody won"
 
 -- how many turns there are, or how many of them the page has
 unfoldable pub cut_told : ℕ → List ℕ
@@ -36,8 +32,7 @@ round_told round core = codes "<p>Round " ++ decimal (round + 1) ++ codes " in a
 
 -- which round it is, and how it ended
 unfoldable pub ending_text : WarriorParts → WarriorParts → ℕ → ReplayParts → List ℕ
-ending_text older younger round r =
-    round_told round r.opening.core ++ outcome_text older younger r.outcome ++ turns_told r.is_cut (length r.turns)
+ending_text older younger round r = round_told round r.opening.core ++ outcome_text older younger r.outcome ++ turns_told r.is_cut (length r.turns)
 
 -- a warrior with its author, and both of them
 unfoldable pub warrior_text : WarriorParts → List ℕ

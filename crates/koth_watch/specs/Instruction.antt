@@ -1,9 +1,6 @@
 -- An instruction in the data of a page: as load text spells it, without the blanks that make columns there.
 use Rattle.std.specs.Prelude.{ℕ, ◌-◌, ◌*◌, nat_lt, if◌then◌else◌, List, ◌++◌, codes, decimal}
-use Rattle.war_types.specs.declared.instr.Instr.{Instr}
-use Rattle.war_types.specs.declared.instr.Mode.{Mode}
-use Rattle.war_types.specs.declared.instr.Mode.TheVariants as modes
-use Rattle.redcode_text.specs.Vocabulary.{op_text, modifier_text, mode_text}
+use Rattle.{war_types.specs.{declared.instr.Instr.Instr, declared.instr.Mode.Mode}, redcode_text.specs.Vocabulary.{op_text, modifier_text, mode_text}}
 
 -- the number nearest to 0 that is equal to this one modulo the size of the core
 abbrev pub number_text : ℕ → ℕ → List ℕ
@@ -11,14 +8,14 @@ number_text core n = if nat_lt core (2 * n) then codes "-" ++ decimal (core - n)
 
 -- the sign of a mode: a `<`, which could end the data, by its number
 abbrev pub sign_text : Mode → List ℕ
-sign_text modes.Immediate = mode_text modes.Immediate
-sign_text modes.Direct = mode_text modes.Direct
-sign_text modes.AIndirect = mode_text modes.AIndirect
-sign_text modes.BIndirect = mode_text modes.BIndirect
-sign_text modes.APre = mode_text modes.APre
-sign_text modes.BPre = codes "\\u003c"
-sign_text modes.APost = mode_text modes.APost
-sign_text modes.BPost = mode_text modes.BPost
+sign_text Mode.Immediate = mode_text Mode.Immediate
+sign_text Mode.Direct = mode_text Mode.Direct
+sign_text Mode.AIndirect = mode_text Mode.AIndirect
+sign_text Mode.BIndirect = mode_text Mode.BIndirect
+sign_text Mode.APre = mode_text Mode.APre
+sign_text Mode.BPre = codes "\\u003c"
+sign_text Mode.APost = mode_text Mode.APost
+sign_text Mode.BPost = mode_text Mode.BPost
 
 unfoldable pub operand_text : ℕ → Mode → ℕ → List ℕ
 operand_text core mode n = sign_text mode ++ number_text core n

@@ -1,8 +1,6 @@
 -- What holds of every page of a round.
-use Rattle.std.specs.Prelude.{ℕ, ◌==◌, Bool, ◌&&◌, not, []}
-use Rattle.std.specs.Str.{byte}
-use Rattle.war_types.specs.Warrior.{WarriorParts, warrior_parts}
-use Rattle.koth_text.specs.Characters.{is_page_byte}
+use Rattle.std.specs.{Prelude.{ℕ, ◌==◌, Bool, ◌&&◌, not, []}, Str.byte}
+use Rattle.{war_types.specs.Warrior.{WarriorParts, warrior_parts}, koth_text.specs.Characters.is_page_byte}
 
 -- a byte of the data: a byte of a page that begins no tag, so that no data end the element that they stand in
 abbrev pub is_data_byte : ℕ → Bool

@@ -1,12 +1,7 @@
 -- The page of a round.
 use Rattle.std.specs.Prelude.{ℕ, List, ◌++◌, codes}
-use Rattle.war_types.specs.Warrior.{WarriorParts}
-use Rattle.koth_replay.specs.Replay.{ReplayParts}
-use Rattle.koth_watch.specs.declared.parts.TheConstants.{CONTROLS, END, HEAD, STYLE}
-use Rattle.koth_watch.specs.declared.script.TheConstants.{ROUND_SCRIPT}
-use Rattle.koth_watch.specs.declared.drawing.TheConstants.{DRAWING_SCRIPT}
-use Rattle.koth_watch.specs.Data.{data_text}
-use Rattle.koth_watch.specs.Heading.{ending_text, sides_text, warriors_text}
+use Rattle.{war_types.specs.Warrior.WarriorParts, koth_replay.specs.Replay.ReplayParts, koth_watch.specs.declared.parts.TheConstants.{CONTROLS, END, HEAD, STYLE}}
+use Rattle.koth_watch.specs.{declared.script.TheConstants.ROUND_SCRIPT, declared.drawing.TheConstants.DRAWING_SCRIPT, Data.data_text, Heading.{ending_text, sides_text, warriors_text}}
 
 -- its head, and above its controls who fights whom and how it ended
 unfoldable pub heading_text : WarriorParts → WarriorParts → ℕ → ReplayParts → List ℕ

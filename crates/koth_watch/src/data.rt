@@ -1,9 +1,9 @@
 //! The data of a page, as JSON: the events of a round, each of them, in their order.
 
-ghost use Rattle.std.specs.Prelude.{◌≡◌, ◌+◌, ◌≤◌, ◌++◌, length, codes, decimal, OnOk};
-ghost use Rattle.std.specs.List.{enumerate_from, flat_map};
+ghost use Rattle.std.specs.{Prelude.{◌≡◌, ◌+◌, ◌≤◌, ◌++◌, length, codes, decimal, OnOk}, List.{enumerate_from, flat_map}};
 ghost use Rattle.koth_replay.specs.Replay.{ReplayParts};
-ghost use Rattle.koth_watch.specs.Data.{cell_text, comma_before, data_text, event_at, event_text, events_text, opening_text, place_text, processes_text, side_text, start_text, turn_at, turn_text, turns_text};
+ghost use Rattle.koth_watch.specs.Data.{cell_text, comma_before, data_text, event_at, event_text, events_text, opening_text, place_text, processes_text, side_text, start_text, turn_at};
+ghost use Rattle.koth_watch.specs.Data.{turn_text, turns_text};
 
 use crate::instruction::put_instruction;
 use koth_replay::{Event, Opening, Replay};

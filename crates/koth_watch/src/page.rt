@@ -1,11 +1,7 @@
 //! The page of a round.
 
-ghost use Rattle.std.specs.Prelude.{◌≡◌, ◌++◌, codes, IfOk, IsTrue, OnOk};
-ghost use Rattle.std.specs.List.{list_all};
-ghost use Rattle.koth_text.specs.Characters.{is_page_byte, markup_of};
-ghost use Rattle.koth_watch.specs.Data.{data_text};
-ghost use Rattle.koth_watch.specs.Laws.{is_data_byte, unnamed};
-ghost use Rattle.koth_watch.specs.Page.{heading_text, round_page, scripts_text};
+ghost use Rattle.std.specs.{Prelude.{◌≡◌, ◌++◌, codes, IfOk, IsTrue, OnOk}, List.list_all};
+ghost use Rattle.{koth_text.specs.Characters.{is_page_byte, markup_of}, koth_watch.specs.{Data.data_text, Laws.{is_data_byte, unnamed}, Page.{heading_text, round_page, scripts_text}}};
 
 use crate::data::put_data;
 use crate::drawing::DRAWING_SCRIPT;

@@ -1,21 +1,12 @@
 -- The texts of addresses. For `address_given` and `has_address`.
 use Rattle.std.proofs.Common.{◌≡◌, ◌∙◌, ◌↔◌, ℕ, Bool, List, [], ◌∷◌, Option, None, Some, Result, Ok, Err, Bor, option_map, codes, refl, sym, inr, lit≤, true≢false}
-use Rattle.std.specs.Prelude.{unwrap_or, is_ok, IsOk, IsTrue}
-use Rattle.std.specs.Fmt.{digits}
-use Rattle.std.specs.Net.Grammar.{IsIpText, Parses}
-use Rattle.std.specs.Net.Reader.{read_ipv4, read_ipv6, read_number, read_octet, read_segment, read_segments}
-use Rattle.std.specs.declared.net.ip_addr.IpAddr.{IpAddr}
-use Rattle.std.specs.declared.net.ip_addr.IpAddr.TheVariants as addresses
-use Rattle.std.proofs.lemmas.Option.{none-some}
-use Rattle.std.proofs.NetLemmas.Ipv4.{read_ipv4_complete}
-use Rattle.std.proofs.NetLemmas.Ipv6.{EndsGroups-nil, read_ipv6_complete}
-use Rattle.std.proofs.NetLemmas.Options.{same_parts}
-use Rattle.clap.specs.Walk.{Text}
-use Rattle.koth_words.specs.Words.{WritesAddress}
+use Rattle.std.specs.{Prelude.{unwrap_or, is_ok, IsOk, IsTrue}, Fmt.digits, Net.Grammar.{IsIpText, Parses}, Net.Reader.{read_ipv4, read_ipv6, read_number, read_octet, read_segment, read_segments}}
+use Rattle.{std.specs.declared.net.ip_addr.IpAddr.IpAddr, std.proofs.{lemmas.Option.none-some, NetLemmas.Ipv4.read_ipv4_complete, NetLemmas.Ipv6.{EndsGroups-nil, read_ipv6_complete}}}
+use Rattle.{std.proofs.NetLemmas.Options.same_parts, clap.specs.Walk.Text, koth_words.specs.Words.WritesAddress}
 
 -- the address of four numbers
 abbrev pub four : List ℕ → IpAddr
-four octets = addresses.V4 (record { octets = octets })
+four octets = IpAddr.V4 (record { octets = octets })
 
 pub this_machine : IsIpText (codes "127.0.0.1") (four (127 ∷ 0 ∷ 0 ∷ 1 ∷ []))
 unfolding digits
@@ -42,15 +33,15 @@ unfolding digits
 every_address = record { a = 0; b = 0; c = 0; d = 0; fit = (lit≤ tt, lit≤ tt, lit≤ tt, lit≤ tt); value = refl; spelled = refl }
 
 abbrev pub any_address : IpAddr
-any_address = addresses.V6 (record { segments = 0 ∷ 0 ∷ 0 ∷ 0 ∷ 0 ∷ 0 ∷ 0 ∷ 0 ∷ [] })
+any_address = IpAddr.V6 (record { segments = 0 ∷ 0 ∷ 0 ∷ 0 ∷ 0 ∷ 0 ∷ 0 ∷ 0 ∷ [] })
 
 pub every_long_address : IsIpText (codes "::") any_address
 every_long_address = inr (record { head_text = []; tail_text = []; head = []; tail = []; spelled = refl; head_groups = refl; tail_groups = refl; room = lit≤ tt; value = refl })
 
 pub not_here : (address : IpAddr) → IsIpText (codes "here") address → ⊥
 unfolding read_ipv4 read_octet read_number read_ipv6 read_segments read_segment
-not_here (addresses.V4 a) writes = none-some _ (read_ipv4_complete (codes "here") _ [] writes (lit≤ tt))
-not_here (addresses.V6 a) writes = none-some _ (read_ipv6_complete (codes "here") _ [] writes EndsGroups-nil)
+not_here (IpAddr.V4 a) writes = none-some _ (read_ipv4_complete (codes "here") _ [] writes (lit≤ tt))
+not_here (IpAddr.V6 a) writes = none-some _ (read_ipv6_complete (codes "here") _ [] writes EndsGroups-nil)
 
 -- a reader that leaves something has not read the whole text
 some_left : (x y : List ℕ) (c : ℕ) (cs : List ℕ) → ◌≡◌ {A = Option (List ℕ × List ℕ)} (Some (x, c ∷ cs)) (Some (y, [])) → ⊥
@@ -60,5 +51,5 @@ some_left x y c cs e =
 
 pub not_with_port : (address : IpAddr) → IsIpText (codes "0.0.0.0:80") address → ⊥
 unfolding read_ipv4 read_octet read_number read_ipv6 read_segments read_segment
-not_with_port (addresses.V4 a) writes = some_left _ _ _ _ (read_ipv4_complete (codes "0.0.0.0:80") _ [] writes (lit≤ tt))
-not_with_port (addresses.V6 a) writes = none-some _ (read_ipv6_complete (codes "0.0.0.0:80") _ [] writes EndsGroups-nil)
+not_with_port (IpAddr.V4 a) writes = some_left _ _ _ _ (read_ipv4_complete (codes "0.0.0.0:80") _ [] writes (lit≤ tt))
+not_with_port (IpAddr.V6 a) writes = none-some _ (read_ipv6_complete (codes "0.0.0.0:80") _ [] writes EndsGroups-nil)

@@ -1,10 +1,6 @@
 -- Commands as they are built.
-use Rattle.std.proofs.Common.{◌≡◌, ◌∙◌, ap, false}
-use Rattle.clap.specs.Simple.{App, app_of_fields}
-use Rattle.clap.specs.declared.builder.command.Command.{Command}
-use Rattle.clap.specs.declared.builder.command.Command.TheOpen.{Command-F}
-use Rattle.clap.specs.declared.builder.command.Command.TheViews.{out-Command}
-use Rattle.koth_words.specs.Commands.{IsReadAs}
+use Rattle.{std.proofs.Common.{◌≡◌, ◌∙◌, ap, false}, clap.specs.{Simple.{App, app_of_fields}, declared.builder.command.Command.Command, declared.builder.command.Command.TheOpen.Command-F}}
+use Rattle.{clap.specs.declared.builder.command.Command.TheViews.out-Command, koth_words.specs.Commands.IsReadAs}
 
 -- a command with other fields
 pub changed : {app : App} {fields : Command-F Command} (new : Command) → out-Command new ≡ fields → app_of_fields fields ≡ app → fields.has_globals ≡ false

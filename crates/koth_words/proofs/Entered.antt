@@ -1,14 +1,10 @@
 -- Which subcommand a parse without fault enters.
 use Rattle.std.proofs.Common.{◌≡◌, ◌&&◌, ℕ, Bool, true, false, not, List, [], ◌∷◌, Option, None, Some, IfSome, if◌then◌else◌, refl, sym, subst}
-use Rattle.std.specs.List.{fold, list_any}
-use Rattle.std.specs.Str.{bytes_eq}
-use Rattle.clap.specs.Facts.{explicit_source}
-use Rattle.clap.specs.Faults.{defaults_fault, level_fault, settle_fault, turn_fault, walk_fault, word_fault}
-use Rattle.clap.specs.Kinds.{Kinds, check_kinds, or_else}
-use Rattle.clap.specs.Lexer.{long_of, short_of}
-use Rattle.clap.specs.Simple.{Shape}
-use Rattle.clap.specs.Takes.{is_given}
-use Rattle.clap.specs.Walk.{Held, Names, Outcome, Row, Rule, Step, Text, Waiting, Walk, after_flag, after_step, arg_by_index, done, finished, idle, long_or_other, next, nothing_held, option, plain, plain_word, positional, refused, settled, short_or_plain, subcommand, subcommand_met, subcommand_or_other, to_positional, trailing, value, waits, walk, walk_from, walked, word_met}
+use Rattle.{std.specs.{List.{fold, list_any}, Str.bytes_eq}, clap.specs.{Facts.explicit_source, Faults.{defaults_fault, level_fault, settle_fault, turn_fault, walk_fault, word_fault}}}
+use Rattle.clap.specs.{Kinds.{Kinds, check_kinds, or_else}, Lexer.{long_of, short_of}, Simple.Shape, Takes.is_given}
+use Rattle.clap.specs.Walk.{Held, Names, Outcome, Row, Rule, Step, Text, Waiting, Walk, after_flag, after_step, arg_by_index, done, finished, idle, long_or_other, next, nothing_held, option}
+use Rattle.clap.specs.Walk.{plain, plain_word, positional, refused, settled, short_or_plain, subcommand, subcommand_met, subcommand_or_other, to_positional, trailing, value, waits, walk}
+use Rattle.clap.specs.Walk.{walk_from, walked, word_met}
 
 -- the name of the subcommand that a step enters
 abbrev name_in : Step → Option Text

@@ -1,12 +1,6 @@
 -- What a flag's text is read as.
-use Rattle.std.proofs.Common.{◌≡◌, ℕ, Bool, true, false, List, Option, None, Some, Result, Ok, Err, refl, codes}
-use Rattle.std.specs.Prelude.{unwrap_or}
-use Rattle.std.specs.Str.{bytes_eq}
-use Rattle.std.specs.Str.Parse.{ParsesBool}
-use Rattle.std.proofs.lemmas.Slice.Eq.{bytes_eq-Decides}
-use Rattle.clap.specs.Matches.{ReadsOne}
-use Rattle.clap.specs.Walk.{Text}
-use Rattle.koth_words.specs.Words.{is_true}
+use Rattle.{std.proofs.Common.{◌≡◌, ℕ, Bool, true, false, List, Option, None, Some, Result, Ok, Err, refl, codes}, std.specs.{Prelude.unwrap_or, Str.bytes_eq, Str.Parse.ParsesBool}}
+use Rattle.{std.proofs.lemmas.Slice.Eq.bytes_eq-Decides, clap.specs.{Matches.ReadsOne, Walk.Text}, koth_words.specs.Words.is_true}
 
 no_text : (text : Text) (b : Bool) → bytes_eq text (codes "true") ≡ b → (text ≡ codes "true" → ⊥) → false ≡ b
 no_text text false is differs = refl

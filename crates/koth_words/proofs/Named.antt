@@ -1,23 +1,11 @@
 -- What a parse of the program's words met.
 use Rattle.std.proofs.Common.{◌≡◌, ◌≢◌, inl, inr, subst, ◌∙◌, ◌||◌, Bool, true, false, List, Option, None, Some, Box, is_some, IfSome, if◌then◌else◌, sym, ap, refl, codes, [], option_map}
-use Rattle.std.specs.Box.{box_value}
-use Rattle.std.specs.List.{find}
-use Rattle.clap.specs.Faults.{entered_fault, fault_of, is_simple_and_free, other_fault}
-use Rattle.clap.specs.Simple.{App, HasMatchesOf, argument_words, built, entered, is_simple, label_of, names_of, rows_at, subcommand_of, subcommand_rows, subcommand_rows_of}
-use Rattle.clap.specs.Takes.{takes}
-use Rattle.clap.specs.Kinds.{HasKind, IsAmong, Kinds}
-use Rattle.clap.specs.Matches.{subcommand_name_of}
-use Rattle.clap.specs.Values.{kind_of}
-use Rattle.clap.specs.Walk.{Held, Row, Text, answers_to, idle, nothing_held, option, positional, stop_after, walk_from}
-use Rattle.clap.specs.declared.error.Error.{Error}
-use Rattle.clap.specs.declared.error.kind.ErrorKind.{ErrorKind}
-use Rattle.clap.specs.declared.error.kind.ErrorKind.TheVariants as kinds
-use Rattle.clap.specs.declared.parser.matches.ArgMatches.{ArgMatches}
-use Rattle.clap.specs.declared.parser.matches.ArgMatches.TheViews.{out-ArgMatches, out-SubCommand}
-use Rattle.clap.specs.declared.parser.matches.SubCommand.{SubCommand}
-use Rattle.clap.proofs.OnLiterals.{clap_on_literals}
-use Rattle.koth_words.proofs.Entered.{OnNames, level_has, level_walks, walk_stops}
-use Rattle.koth_words.specs.Words.{given_by, given_in, koth_app, AreTaken, AreWrong, HaveFault, IsCommandName, NamesCommand}
+use Rattle.{std.specs.{Box.box_value, List.find}, clap.specs.Faults.{entered_fault, fault_of, is_simple_and_free, other_fault}}
+use Rattle.clap.specs.{Simple.{App, HasMatchesOf, argument_words, built, entered, is_simple, label_of, names_of, rows_at, subcommand_of, subcommand_rows, subcommand_rows_of}, Takes.takes}
+use Rattle.clap.specs.{Kinds.{HasKind, IsAmong, Kinds}, Matches.subcommand_name_of, Values.kind_of, Walk.{Held, Row, Text, answers_to, idle, nothing_held, option, positional, stop_after, walk_from}}
+use Rattle.clap.specs.{declared.error.Error.Error, declared.error.kind.ErrorKind.ErrorKind, declared.parser.matches.ArgMatches.ArgMatches}
+use Rattle.{clap.specs.{declared.parser.matches.ArgMatches.TheViews.{out-ArgMatches, out-SubCommand}, declared.parser.matches.SubCommand.SubCommand}, clap.proofs.OnLiterals.clap_on_literals}
+use Rattle.{koth_words.specs.Words.{given_by, given_in, koth_app, AreTaken, AreWrong, HaveFault, IsCommandName, NamesCommand}, koth_words.proofs.Entered.{OnNames, level_has, level_walks, walk_stops}}
 
 koth_is_simple : (is_simple koth_app ≡ true) × (is_simple_and_free koth_app ≡ true)
 unfolding clap_on_literals koth_app
@@ -35,8 +23,7 @@ module _ {Z : Type 0} where
 -- the name that the parse gives is that of the subcommand that the words name
 named : (app : App) (m : ArgMatches) (words : List Text) → app ≡ koth_app → HasMatchesOf app words m
     → option_map (λ p. p.0) (subcommand_of koth_app words) ≡ subcommand_name_of m
-named app m words is has =
-    ap (option_map (λ p. p.0)) (sym (found app m words is has)) ∙ name-rows (out-ArgMatches m).subcommand
+named app m words is has = ap (option_map (λ p. p.0)) (sym (found app m words is has)) ∙ name-rows (out-ArgMatches m).subcommand
 
 -- ---- words without fault name a command
 
@@ -126,19 +113,19 @@ pub not_wrong : (app : App) (words : List Text) → app ≡ koth_app → (is_sim
 not_wrong app words is none wrong = wrong.0 (on_faults app words (λ faults. faults ≡ []) is none)
 
 -- if the words are taken, an error is a lack of memory
-pub memory_kind : (app : App) (words : List Text) (e : Error) → app ≡ koth_app → (takes app words ≡ true → kind_of e ≡ kinds.OutOfMemory)
-    → AreTaken words → kind_of e ≡ kinds.OutOfMemory
+pub memory_kind : (app : App) (words : List Text) (e : Error) → app ≡ koth_app → (takes app words ≡ true → kind_of e ≡ ErrorKind.OutOfMemory)
+    → AreTaken words → kind_of e ≡ ErrorKind.OutOfMemory
 memory_kind app words e is passes taken = passes (ap (λ a. takes a words) is ∙ taken.0)
 
 -- an error at wrong words is no request for help
 pub wrong_kind : (app : App) (words : List Text) (e : Error) → app ≡ koth_app → (is_simple_and_free app ≡ true → HasKind (fault_of app words) e) → AreWrong words
-    → (kind_of e ≢ kinds.DisplayHelp) × (kind_of e ≢ kinds.DisplayVersion)
+    → (kind_of e ≢ ErrorKind.DisplayHelp) × (kind_of e ≢ ErrorKind.DisplayVersion)
 wrong_kind app words e is has wrong = by_kind (on_faults app words (λ faults. HasKind faults e) is has) wrong
   where
     IsKind : ErrorKind → Type 0
     IsKind k = IsAmong k (fault_of koth_app words)
 
-    by_kind : HasKind (fault_of koth_app words) e → AreWrong words → (kind_of e ≢ kinds.DisplayHelp) × (kind_of e ≢ kinds.DisplayVersion)
+    by_kind : HasKind (fault_of koth_app words) e → AreWrong words → (kind_of e ≢ ErrorKind.DisplayHelp) × (kind_of e ≢ ErrorKind.DisplayVersion)
     by_kind (inl memory) wrong = (λ help. absurd (cc), λ version. absurd (cc))
     by_kind (inr among) (inl fault) = (λ help. fault.1 (subst IsKind help among), λ version. fault.2 (subst IsKind version among))
     by_kind (inr among) (inr unclear) = absurd (subst (λ faults. IsAmong (kind_of e) faults) unclear.0 among)

@@ -1,11 +1,7 @@
 -- What an option's text is read as.
-use Rattle.std.proofs.Common.{◌≡◌, ◌&&◌, ℕ, Bool, true, false, true≢false, List, [], ◌∷◌, length, Option, None, Some, Result, Ok, Err, refl, sym, ap, subst, ◌<◌, ◌^◌, nat_lt, lt-ltb, ltb-true}
-use Rattle.std.specs.Char.{digit_value}
-use Rattle.std.specs.List.{list_all}
-use Rattle.std.specs.Str.Parse.{AllDigits, ParsesUnsigned, digits_value, without_leading_plus}
-use Rattle.clap.specs.Matches.{ReadsOne}
-use Rattle.clap.specs.Walk.{Text}
-use Rattle.koth_words.specs.Options.{is_number, number_given, number_in}
+use Rattle.std.proofs.Common.{◌≡◌, ◌&&◌, ℕ, Bool, true, false, true≢false, List, [], ◌∷◌, length, Option, None, Some, Result, Ok, Err, refl, sym, ap, subst, ◌<◌, ◌^◌, nat_lt, lt-ltb}
+use Rattle.{std.proofs.Common.ltb-true, std.specs.{Char.digit_value, List.list_all, Str.Parse.{AllDigits, ParsesUnsigned, digits_value, without_leading_plus}}}
+use Rattle.{clap.specs.{Matches.ReadsOne, Walk.Text}, koth_words.specs.Options.{is_number, number_given, number_in}}
 
 digits_pass : (ds : List ℕ) → AllDigits 10 ds → list_all (λ d. nat_lt (digit_value d) 10) ds ≡ true
 digits_pass [] h = refl

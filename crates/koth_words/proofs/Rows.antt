@@ -1,14 +1,9 @@
 -- Rows of the definitions, computed.
-use Rattle.std.proofs.Common.{◌≡◌, true, false, true≢false, List, [], ◌∷◌, Some, None, Ok, codes, refl, sym, inr}
-use Rattle.war_types.specs.Settings.{settings_of}
-use Rattle.clap.specs.Words.{Row, all_of, fault_of, first_of, one_of, subcommand_of, takes}
-use Rattle.clap.specs.declared.error.kind.ErrorKind.TheVariants as errors
-use Rattle.clap.proofs.OnLiterals.{clap_on_literals}
+use Rattle.{std.proofs.Common.{◌≡◌, true, false, true≢false, List, [], ◌∷◌, Some, None, Ok, codes, refl, sym, inr}, clap.specs.Words.{Row, all_of, fault_of, first_of, one_of, subcommand_of, takes}}
+use Rattle.{clap.proofs.OnLiterals.clap_on_literals, clap.specs.declared.error.kind.ErrorKind.ErrorKind, war_types.specs.Settings.settings_of}
 use Rattle.koth_words.specs.Options.{default_settings, number_given, number_or}
-use Rattle.koth_words.specs.Words.{AreTaken, AreWrong, AsksFor, IsAddress, create_named, form_named, given_by, given_in, koth_app, matches_named, overwrite_named, reads_input, settings_named, view_named}
-use Rattle.koth_words.proofs.Addresses.{any_address, every_address, every_long_address, four, not_here, not_with_port, this_machine}
-use Rattle.koth_words.specs.declared.words.Form.TheVariants as forms
-use Rattle.koth_words.specs.declared.words.View.TheVariants as views
+use Rattle.koth_words.specs.Words.{AreTaken, AreWrong, AsksFor, IsAddress, create_named, form_named, given_by, given_in, koth_app, matches_named, overwrite_named, reads_input, settings_named}
+use Rattle.{koth_words.specs.{Words.view_named, declared.words.{Form.Form, View.View}}, koth_words.proofs.Addresses.{any_address, every_address, every_long_address, four, not_here, not_with_port, this_machine}}
 
 -- the premise of `asm` is met by these words
 asm_asks : AsksFor (codes "asm") (codes "koth" ∷ codes "asm" ∷ [])
@@ -85,12 +80,12 @@ unfolding clap_on_literals koth_app
 not_taken = (refl, refl, refl, refl, refl, refl, refl, refl, refl)
 
 -- what clap finds wrong in them
-faults : (fault_of koth_app (codes "koth" ∷ []) ≡ errors.MissingSubcommand ∷ [])
-    × (fault_of koth_app (codes "koth" ∷ codes "fly" ∷ []) ≡ errors.UnknownArgument ∷ errors.InvalidSubcommand ∷ [])
-    × (fault_of koth_app (codes "koth" ∷ codes "fight" ∷ []) ≡ errors.MissingRequiredArgument ∷ [])
-    × (fault_of koth_app (codes "koth" ∷ codes "asm" ∷ codes "a.red" ∷ codes "extra" ∷ []) ≡ errors.UnknownArgument ∷ [])
-    × (fault_of koth_app (codes "koth" ∷ codes "asm" ∷ codes "--core=x" ∷ []) ≡ errors.ValueValidation ∷ [])
-    × (fault_of koth_app (codes "koth" ∷ codes "asm" ∷ codes "--help" ∷ []) ≡ errors.DisplayHelp ∷ [])
+faults : (fault_of koth_app (codes "koth" ∷ []) ≡ ErrorKind.MissingSubcommand ∷ [])
+    × (fault_of koth_app (codes "koth" ∷ codes "fly" ∷ []) ≡ ErrorKind.UnknownArgument ∷ ErrorKind.InvalidSubcommand ∷ [])
+    × (fault_of koth_app (codes "koth" ∷ codes "fight" ∷ []) ≡ ErrorKind.MissingRequiredArgument ∷ [])
+    × (fault_of koth_app (codes "koth" ∷ codes "asm" ∷ codes "a.red" ∷ codes "extra" ∷ []) ≡ ErrorKind.UnknownArgument ∷ [])
+    × (fault_of koth_app (codes "koth" ∷ codes "asm" ∷ codes "--core=x" ∷ []) ≡ ErrorKind.ValueValidation ∷ [])
+    × (fault_of koth_app (codes "koth" ∷ codes "asm" ∷ codes "--help" ∷ []) ≡ ErrorKind.DisplayHelp ∷ [])
 unfolding clap_on_literals koth_app
 faults = (refl, refl, refl, refl, refl, refl)
 
@@ -109,8 +104,8 @@ checks_ask = (((refl, (refl, refl, refl, tt)), refl), ((refl, (refl, refl, refl,
 
 -- the files in their order, and the form and the setting among them
 checked_files : (all_of (codes "FILE") (given_by (codes "koth" ∷ codes "check" ∷ codes "a.red" ∷ codes "-s64" ∷ codes "b.red" ∷ codes "--format=json" ∷ [])) ≡ Some (codes "a.red" ∷ codes "b.red" ∷ []))
-    × (form_named (codes "koth" ∷ codes "check" ∷ codes "a.red" ∷ codes "--format=json" ∷ []) ≡ forms.Json)
-    × (form_named (codes "koth" ∷ codes "check" ∷ codes "a.red" ∷ []) ≡ forms.Text)
+    × (form_named (codes "koth" ∷ codes "check" ∷ codes "a.red" ∷ codes "--format=json" ∷ []) ≡ Form.Json)
+    × (form_named (codes "koth" ∷ codes "check" ∷ codes "a.red" ∷ []) ≡ Form.Text)
     × (settings_named (codes "koth" ∷ codes "check" ∷ codes "a.red" ∷ codes "-s64" ∷ codes "b.red" ∷ []) ≡ record default_settings { core = 64 })
 unfolding clap_on_literals koth_app
 checked_files = (refl, refl, refl, refl)
@@ -126,8 +121,8 @@ inputs : (reads_input (codes "koth" ∷ codes "asm" ∷ []) ≡ true) × (reads_
 unfolding clap_on_literals koth_app
 inputs = (refl, refl, refl)
 
-layouts : (view_named (codes "koth" ∷ codes "show" ∷ codes "h.hill" ∷ codes "--plain" ∷ []) ≡ Some views.Plain)
-    × (view_named (codes "koth" ∷ codes "fight" ∷ codes "a" ∷ codes "--table" ∷ codes "b" ∷ []) ≡ Some views.Table)
+layouts : (view_named (codes "koth" ∷ codes "show" ∷ codes "h.hill" ∷ codes "--plain" ∷ []) ≡ Some View.Plain)
+    × (view_named (codes "koth" ∷ codes "fight" ∷ codes "a" ∷ codes "--table" ∷ codes "b" ∷ []) ≡ Some View.Table)
     × (view_named (codes "koth" ∷ codes "submit" ∷ codes "h.hill" ∷ codes "a.red" ∷ []) ≡ None)
 unfolding clap_on_literals koth_app
 layouts = (refl, refl, refl)
@@ -152,9 +147,9 @@ unfolding clap_on_literals koth_app
 two_layouts_wrong = (inr (refl, λ clear. true≢false (sym clear.0)), inr (refl, λ clear. true≢false (sym clear.1)))
 
 -- the version is asked for by a word or a letter, and of the program alone
-versions : (fault_of koth_app (codes "koth" ∷ codes "--version" ∷ []) ≡ errors.DisplayVersion ∷ [])
-    × (fault_of koth_app (codes "koth" ∷ codes "-V" ∷ []) ≡ errors.DisplayVersion ∷ [])
-    × (fault_of koth_app (codes "koth" ∷ codes "asm" ∷ codes "--version" ∷ []) ≡ errors.UnknownArgument ∷ [])
+versions : (fault_of koth_app (codes "koth" ∷ codes "--version" ∷ []) ≡ ErrorKind.DisplayVersion ∷ [])
+    × (fault_of koth_app (codes "koth" ∷ codes "-V" ∷ []) ≡ ErrorKind.DisplayVersion ∷ [])
+    × (fault_of koth_app (codes "koth" ∷ codes "asm" ∷ codes "--version" ∷ []) ≡ ErrorKind.UnknownArgument ∷ [])
 unfolding clap_on_literals koth_app
 versions = (refl, refl, refl)
 

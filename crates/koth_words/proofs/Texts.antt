@@ -1,7 +1,5 @@
 -- The names of files, as texts.
-use Rattle.std.proofs.Common.{◌≡◌, List, [], map, is_some, Option, None, Some, Bor, ◌∙◌, ap, option_map}
-use Rattle.std.specs.Prelude.{unwrap_or}
-use Rattle.clap.specs.Walk.{Text}
+use Rattle.{std.proofs.Common.{◌≡◌, List, [], map, is_some, Option, None, Some, Bor, ◌∙◌, ap, option_map}, std.specs.Prelude.unwrap_or, clap.specs.Walk.Text}
 
 -- the text of a file's name, or of another argument, if one is given
 pub file_text : {default : Text} (r : Option (Bor Text)) (empty x : Bor Text) (text : Option Text) → x ≡ unwrap_or r empty → empty.now ≡ default

@@ -1,10 +1,7 @@
 -- The commands of `koth`, as `clap` reads them.
 use Rattle.std.specs.Prelude.{◌≡◌, true, false, List, [], ◌∷◌, codes, fold, Some}
-use Rattle.clap.specs.Words.{App, Rule, Text, app_of, new_app, new_rule, with_rule, with_subcommand}
-use Rattle.clap.specs.declared.builder.action.ArgAction.TheVariants as actions
-use Rattle.clap.specs.declared.builder.command.Command.{Command}
-use Rattle.clap.specs.declared.builder.command.Command.TheViews.{out-Command}
-use Rattle.koth_words.specs.Options.{required_rule, with_option, with_ranged, with_settings}
+use Rattle.clap.specs.{Words.{App, Rule, Text, app_of, new_app, new_rule, with_rule, with_subcommand}, declared.builder.command.Command.Command, declared.builder.command.Command.TheViews.out-Command}
+use Rattle.{clap.specs.declared.builder.action.ArgAction.ArgAction, koth_words.specs.Options.{required_rule, with_option, with_ranged, with_settings}}
 
 -- a command that `clap` reads as this one, with no argument that its subcommands take too
 abbrev pub IsReadAs : App → Command → Type 0
@@ -24,7 +21,7 @@ file_rule name = record (new_rule name) { required = true }
 
 -- one file or more
 abbrev pub files_rule : Text → Rule
-files_rule name = record (file_rule name) { action = Some actions.Append }
+files_rule name = record (file_rule name) { action = Some ArgAction.Append }
 
 -- an option with a text
 abbrev pub text_rule : Text → Rule
@@ -32,7 +29,7 @@ text_rule name = record (new_rule name) { long = Some name; value_names = 1 }
 
 -- a flag, which takes no value
 abbrev pub flag_rule : Text → Rule
-flag_rule name = record (new_rule name) { long = Some name; action = Some actions.SetTrue }
+flag_rule name = record (new_rule name) { long = Some name; action = Some ArgAction.SetTrue }
 
 abbrev pub with_file : App → Text → App
 with_file app name = with_rule app (file_rule name)
@@ -48,8 +45,7 @@ abbrev pub asm_app : App
 asm_app = with_settings (with_rule (new_app (codes "asm")) (new_rule (codes "FILE")))
 
 abbrev pub check_app : App
-check_app =
-    with_settings (with_rule (with_rule (new_app (codes "check")) (files_rule (codes "FILE"))) (text_rule (codes "format")))
+check_app = with_settings (with_rule (with_rule (new_app (codes "check")) (files_rule (codes "FILE"))) (text_rule (codes "format")))
 
 abbrev pub fight_app : App
 fight_app = with_settings (with_view (with_file (with_file (new_app (codes "fight")) (codes "A")) (codes "B")))

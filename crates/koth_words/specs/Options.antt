@@ -1,18 +1,14 @@
 -- The options that give settings, and the settings that they give.
-use Rattle.std.specs.Prelude.{ℕ, ℤ, ◌&&◌, Bool, true, nat_lt, if◌then◌else◌, List, length, Option, Some, None, codes, option_and_then, pos, unwrap_or}
-use Rattle.std.specs.Char.{digit_value}
-use Rattle.std.specs.List.{list_all}
-use Rattle.std.specs.Str.Parse.{digits_value, without_leading_plus}
-use Rattle.clap.specs.Words.{App, Row, Rule, Text, new_rule, one_of, with_rule}
-use Rattle.clap.specs.declared.builder.value_parser.ValueParser.TheVariants as parsers
-use Rattle.war_types.specs.declared.settings.RawSettings.{RawSettings}
+use Rattle.std.specs.{Prelude.{ℕ, ℤ, ◌&&◌, Bool, true, nat_lt, if◌then◌else◌, List, length, Option, Some, None, codes, option_and_then, pos, unwrap_or}, Char.digit_value, List.list_all}
+use Rattle.{std.specs.Str.Parse.{digits_value, without_leading_plus}, clap.specs.Words.{App, Row, Rule, Text, new_rule, one_of, with_rule}}
+use Rattle.{clap.specs.declared.builder.value_parser.ValueParser.ValueParser, war_types.specs.declared.settings.RawSettings.RawSettings}
 
 -- an option with a whole number from the least to the greatest
 abbrev pub ranged_rule : Text → ℤ → ℤ → Rule
 ranged_rule name least greatest = record (new_rule name) {
   long = Some name;
   value_names = 1;
-  parser = Some (parsers.Signed least greatest);
+  parser = Some (ValueParser.Signed least greatest);
 }
 
 -- an option with a whole number of 32 bits
@@ -52,13 +48,11 @@ with_settings app = with_option (with_option (with_bounds (with_sizes app)) (cod
 
 -- one decimal digit or more, which write a number below the limit
 abbrev pub is_number : ℕ → Text → Bool
-is_number limit digits =
-    nat_lt 0 (length digits) && list_all (λ d. nat_lt (digit_value d) 10) digits && nat_lt (digits_value 10 digits) limit
+is_number limit digits = nat_lt 0 (length digits) && list_all (λ d. nat_lt (digit_value d) 10) digits && nat_lt (digits_value 10 digits) limit
 
 -- the number below the limit that a text writes, a plus sign before it or not
 abbrev pub number_in : ℕ → Text → Option ℕ
-number_in limit text =
-    if is_number limit (without_leading_plus text) then Some (digits_value 10 (without_leading_plus text)) else None
+number_in limit text = if is_number limit (without_leading_plus text) then Some (digits_value 10 (without_leading_plus text)) else None
 
 -- the number that an option's text writes, if the option is given (no other text is taken)
 abbrev pub number_given : ℕ → Option Text → Option ℕ

@@ -1,24 +1,11 @@
 -- What a command line asks for. `words` are its arguments, of which the first is the program's name.
 use Rattle.std.specs.Prelude.{◌≡◌, ◌≢◌, ◌⊎◌, ◌&&◌, ◌||◌, ⊤, ℕ, Bool, true, false, not, List, [], codes, map, Option, None, Some, IfSome, is_some, option_map, unwrap_or, if◌then◌else◌}
-use Rattle.std.specs.Option.{option_map_or}
-use Rattle.std.specs.Net.Grammar.{IsIpText}
-use Rattle.std.specs.Str.{bytes_eq}
-use Rattle.std.specs.declared.net.ip_addr.IpAddr.{IpAddr}
-use Rattle.clap.specs.Words.{IsAmong, Row, Text, all_of, fault_of, first_of, one_of, subcommand_of, takes}
-use Rattle.clap.specs.declared.error.kind.ErrorKind.TheVariants as kinds
+use Rattle.std.specs.{Option.option_map_or, Net.Grammar.IsIpText, Str.bytes_eq, declared.net.ip_addr.IpAddr.IpAddr}
+use Rattle.clap.specs.{Words.{IsAmong, Row, Text, all_of, fault_of, first_of, one_of, subcommand_of, takes}, declared.error.kind.ErrorKind.ErrorKind}
 use Rattle.war_types.specs.declared.settings.RawSettings.{RawSettings}
-use Rattle.koth_words.specs.Options.{number_below, number_given, number_or, settings_in}
+use Rattle.koth_words.specs.{Options.{number_below, number_given, number_or, settings_in}, declared.words.Form.Form, declared.words.NoRequest.NoRequest, declared.words.Request.Request}
+use Rattle.koth_words.specs.{declared.words.Request.TheVariants.{Asm, Check, Fight, Create, Submit, Show, Serve, Audit, Migrate, Page, Replay}, declared.words.Source.Source, declared.words.View.View}
 unfoldable pub use Rattle.koth_words.specs.Commands.{koth_app}
-use Rattle.koth_words.specs.declared.words.Form.{Form}
-use Rattle.koth_words.specs.declared.words.Form.TheVariants as forms
-use Rattle.koth_words.specs.declared.words.NoRequest.{NoRequest}
-use Rattle.koth_words.specs.declared.words.NoRequest.TheVariants as reasons
-use Rattle.koth_words.specs.declared.words.Request.{Request}
-use Rattle.koth_words.specs.declared.words.Request.TheVariants.{Asm, Check, Fight, Create, Submit, Show, Serve, Audit, Migrate, Page, Replay}
-use Rattle.koth_words.specs.declared.words.Source.{Source}
-use Rattle.koth_words.specs.declared.words.Source.TheVariants as sources
-use Rattle.koth_words.specs.declared.words.View.{View}
-use Rattle.koth_words.specs.declared.words.View.TheVariants as views
 
 -- what a command is given, if one is entered
 abbrev pub given_in : Option (Text × List Row) → List Row
@@ -64,8 +51,8 @@ create_named words = has_flag (codes "create") (given_by words)
 
 abbrev pub view_in : List Row → Option View
 view_in given =
-    if has_flag (codes "plain") given then Some views.Plain
-    else (if has_flag (codes "table") given then Some views.Table else None)
+    if has_flag (codes "plain") given then Some View.Plain
+    else (if has_flag (codes "table") given then Some View.Table else None)
 
 -- the layout that is asked for, if one is
 abbrev pub view_named : List (List ℕ) → Option View
@@ -88,8 +75,8 @@ reads_input words = is_input (first_of (codes "FILE") (given_by words))
 
 -- the source is the input, or the file of this name
 abbrev pub IsSource : Option Text → Source → Type 0
-IsSource name sources.Input = is_input name ≡ true
-IsSource name (sources.File file) = (is_input name ≡ false) × (file.now ≡ text_or_none name)
+IsSource name Source.Input = is_input name ≡ true
+IsSource name (Source.File file) = (is_input name ≡ false) × (file.now ≡ text_or_none name)
 
 -- ---- forms
 
@@ -97,7 +84,7 @@ abbrev pub is_json : Option Text → Bool
 is_json name = option_map_or (λ text. bytes_eq text (codes "json")) name false
 
 abbrev pub form_in : List Row → Form
-form_in given = if is_json (first_of (codes "format") given) then forms.Json else forms.Text
+form_in given = if is_json (first_of (codes "format") given) then Form.Json else Form.Text
 
 -- the form of the report of `check`
 abbrev pub form_named : List (List ℕ) → Form
@@ -157,8 +144,8 @@ AsksFor verb words = AreTaken words
 -- `clap` finds a fault in the words, and they ask for neither help nor the version
 abbrev pub HaveFault : List (List ℕ) → Type 0
 HaveFault words = (fault_of koth_app words ≢ [])
-    × ¬ IsAmong kinds.DisplayHelp (fault_of koth_app words)
-    × ¬ IsAmong kinds.DisplayVersion (fault_of koth_app words)
+    × ¬ IsAmong ErrorKind.DisplayHelp (fault_of koth_app words)
+    × ¬ IsAmong ErrorKind.DisplayVersion (fault_of koth_app words)
 
 -- `clap` finds no fault in the words, but they are not clear
 abbrev pub AreUnclear : List (List ℕ) → Type 0
@@ -232,6 +219,6 @@ NamesCommand (Some name) = IsCommandName name
 
 -- there is no request, and none for help or the version either
 abbrev pub IsRefusal : NoRequest → Type 0
-IsRefusal (reasons.Help text) = ⊥
-IsRefusal (reasons.WordFault text) = ⊤
-IsRefusal reasons.Memory = ⊤
+IsRefusal (NoRequest.Help text) = ⊥
+IsRefusal (NoRequest.WordFault text) = ⊤
+IsRefusal NoRequest.Memory = ⊤

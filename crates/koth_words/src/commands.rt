@@ -2,7 +2,8 @@
 
 ghost use Rattle.std.specs.Prelude.{◌≡◌, codes, false, IfOk};
 ghost use Rattle.clap.specs.Words.{App, Rule, new_app, rule_of, with_rule, with_subcommand};
-ghost use Rattle.koth_words.specs.Commands.{asm_app, audit_app, check_app, create_app, fight_app, koth_app, migrate_app, page_app, replay_app, serve_app, show_app, submit_app, wants_subcommand, with_version, with_view, IsReadAs};
+ghost use Rattle.koth_words.specs.Commands.{asm_app, audit_app, check_app, create_app, fight_app, koth_app, migrate_app, page_app, replay_app, serve_app, show_app, submit_app};
+ghost use Rattle.koth_words.specs.Commands.{wants_subcommand, with_version, with_view, IsReadAs};
 
 use crate::arguments::{file, files, flag, port, ranged, source, text};
 use crate::options::{option, with_settings};

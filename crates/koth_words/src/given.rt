@@ -1,8 +1,7 @@
 //! What the arguments that `clap` took give a command.
 
 ghost use Rattle.std.specs.Prelude.{◌≡◌, ◌↔◌, [], codes, map, option_map, unwrap_or, IfOk, IsTrue};
-ghost use Rattle.clap.specs.Words.{all_of, first_of, found_of, one_of, rows_of};
-ghost use Rattle.koth_words.specs.Options.{number_below, number_given, number_or};
+ghost use Rattle.{clap.specs.Words.{all_of, first_of, found_of, one_of, rows_of}, koth_words.specs.Options.{number_below, number_given, number_or}};
 ghost use Rattle.koth_words.specs.Words.{form_in, has_flag, has_known_form, has_one_view, has_option, has_setting, matches_in, text_or_none, uses_settings, view_in, HasAddress, IsAddress, IsSource};
 
 use crate::options::{number_given, number_if_given};

@@ -2,8 +2,7 @@
 
 ghost use Rattle.std.specs.Prelude.{◌≡◌, IfOk, false};
 ghost use Rattle.clap.specs.Words.{App, found_of, one_of, rows_of, rule_of};
-ghost use Rattle.koth_words.specs.Commands.{IsReadAs};
-ghost use Rattle.koth_words.specs.Options.{lettered_rule, number_given, number_or, option_rule, settings_in, with_bounds, with_settings, with_sizes};
+ghost use Rattle.koth_words.specs.{Commands.IsReadAs, Options.{lettered_rule, number_given, number_or, option_rule, settings_in, with_bounds, with_settings, with_sizes}};
 
 use crate::commands::{headed, with_arg};
 use clap::{Arg, ArgMatches, Command, value_parser};

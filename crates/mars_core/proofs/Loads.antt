@@ -1,13 +1,8 @@
 -- The core at the beginning of a round.
-use Rattle.std.proofs.Common.{◌≡◌, ℕ, ◌+◌, ◌-◌, ◌<◌, ◌≤◌, List, ◌++◌, length, replicate, get_or, set, take, drop, sym, ap, ap₂, ◌∙◌, arith, append_assoc, length-append, zero-add}
-use Rattle.std.proofs.lemmas.List.{length-replicate, drop-replicate, replicate-append-replicate, take_at, drop_at, drop-drop}
-use Rattle.std.proofs.lemmas.List.Elements.{All-replicate}
-use Rattle.std.proofs.lemmas.List.Edits.{paste_more}
 use lib.Seq.{paste}
-use Rattle.war_types.specs.declared.instr.Instr.{Instr}
-use Rattle.war_types.specs.Warrior.{HasNumbersBelow}
-use Rattle.mars_core.specs.Cells.{IsCore, blank}
-use Rattle.mars_core.specs.Round.{loaded}
+use Rattle.std.proofs.Common.{◌≡◌, ℕ, ◌+◌, ◌-◌, ◌<◌, ◌≤◌, List, ◌++◌, length, replicate, get_or, set, take, drop, sym, ap, ap₂, ◌∙◌, arith, append_assoc, length-append, zero-add}
+use Rattle.std.proofs.{lemmas.List.{length-replicate, drop-replicate, replicate-append-replicate, take_at, drop_at, drop-drop}, lemmas.List.Elements.All-replicate}
+use Rattle.{std.proofs.lemmas.List.Edits.paste_more, war_types.specs.{declared.instr.Instr.Instr, Warrior.HasNumbersBelow}, mars_core.specs.{Cells.{IsCore, blank}, Round.loaded}}
 
 -- a core of blank cells is one
 pub IsCore-replicate : (size : ℕ) (core : List Instr) → 1 ≤ size → core ≡ replicate size blank → IsCore size core

@@ -1,23 +1,17 @@
 -- The cells of a core, and the list of those that were written.
-use Rattle.std.proofs.Common.{◌≡◌, ◌≢◌, ℕ, ◌+◌, ◌<◌, ◌≤◌, Bool, true, false, cond, List, [], ◌∷◌, length, map, get_or, set, replicate, count_by, All, sym, ap, ap₂, refl, ◌∙◌, subst, inl, inr, arith, length-set, get_or-set_same, get_or-set_other}
-use Rattle.std.proofs.lemmas.Bool.{cases_eq, both_ways, false_from_ne_true, cond-true, cond-false}
-use Rattle.std.proofs.lemmas.List.{map-set, length-map, length-replicate, get_or-map, get_or_read}
-use Rattle.std.proofs.lemmas.List.Elements.{All-head, All-tail, All-from_get_or, All-get_or, All-set, All-replicate}
-use Rattle.std.proofs.lemmas.List.Sums.{sum_by-cons, sum_by-set, count_by-le-length}
-use Rattle.war_types.specs.declared.instr.Instr.{Instr}
-use Rattle.war_types.specs.Warrior.{HasNumbersBelow}
-use Rattle.mars_core.specs.Cells.{IsCore, blank, cell}
-use Rattle.mars_core.specs.Words.{Word, word_in, IsWord, core_in, is_marked, IsListed, AreCells}
+use Rattle.std.proofs.Common.{◌≡◌, ◌≢◌, ℕ, ◌+◌, ◌<◌, ◌≤◌, Bool, true, false, cond, List, [], ◌∷◌, length, map, get_or, set, replicate, count_by, All, sym, ap, ap₂, refl, ◌∙◌, subst, inl, inr, arith}
+use Rattle.std.proofs.{Common.{length-set, get_or-set_same, get_or-set_other}, lemmas.Bool.{cases_eq, both_ways, false_from_ne_true, cond-true, cond-false}}
+use Rattle.std.proofs.{lemmas.List.{map-set, length-map, length-replicate, get_or-map, get_or_read}, lemmas.List.Elements.{All-head, All-tail, All-from_get_or, All-get_or, All-set, All-replicate}}
+use Rattle.{std.proofs.lemmas.List.Sums.{sum_by-cons, sum_by-set, count_by-le-length}, war_types.specs.{declared.instr.Instr.Instr, Warrior.HasNumbersBelow}}
+use Rattle.mars_core.specs.{Cells.{IsCore, blank, cell}, Words.{Word, word_in, IsWord, core_in, is_marked, IsListed, AreCells}}
 
 -- how many pass a test, after a write of one that passes
 count_by-set : (p : ℕ → Bool) (xs : List ℕ) (i y : ℕ) → i < length xs → p y ≡ true →
     count_by p (set xs i y) + cond (p (get_or xs i 0)) 1 0 ≡ count_by p xs + 1
-count_by-set p xs i y inside passes =
-    sum_by-set (λ x. cond (p x) 1 0) xs i y 0 inside ∙ ap (λ (b : Bool). count_by p xs + cond b 1 0) passes
+count_by-set p xs i y inside passes = sum_by-set (λ x. cond (p x) 1 0) xs i y 0 inside ∙ ap (λ (b : Bool). count_by p xs + cond b 1 0) passes
 
 count_by-set_kept : (p : ℕ → Bool) (xs : List ℕ) (i y : ℕ) → i < length xs → p y ≡ true → p (get_or xs i 0) ≡ true → count_by p (set xs i y) ≡ count_by p xs
-count_by-set_kept p xs i y inside passes before =
-    omega (arith, count_by-set p xs i y inside passes, cond-true {A = ℕ} (p (get_or xs i 0)) 1 0 before)
+count_by-set_kept p xs i y inside passes before = omega (arith, count_by-set p xs i y inside passes, cond-true {A = ℕ} (p (get_or xs i 0)) 1 0 before)
 
 count_by-set_more : (p : ℕ → Bool) (xs : List ℕ) (i y : ℕ) → i < length xs → p y ≡ true → p (get_or xs i 0) ≡ false → count_by p (set xs i y) ≡ count_by p xs + 1
 count_by-set_more p xs i y inside passes before =

@@ -1,17 +1,10 @@
 -- Under limits of the core size an operand is the one without limits, for `laws_of_limits` and for machines without limits.
 use Rattle.std.proofs.Common.{◌≡◌, ℕ, ◌+◌, ◌-◌, ◌*◌, ◌/◌, ◌%◌, ◌<◌, Bool, true, false, nat_lt, if◌then◌else◌, List, [], ◌∷◌, ◌++◌, take, All, refl, ap, sym, ◌∙◌, arith, mod-eq_of_lt}
-use Rattle.std.proofs.lemmas.Nat.{div-add-mod', mod-mul-add, mod_below}
-use Rattle.war_types.specs.declared.instr.Instr.{Instr}
-use Rattle.war_types.specs.declared.instr.Mode.{Mode}
-use Rattle.war_types.specs.declared.instr.Mode.TheVariants as modes
-use Rattle.mars_core.specs.Cells.{Field, cell, number, plus}
+use Rattle.{std.proofs.lemmas.Nat.{div-add-mod', mod-mul-add, mod_below}, war_types.specs.{declared.instr.Instr.Instr, declared.instr.Mode.Mode}, mars_core.specs.Cells.{Field, cell, number, plus}}
+use Rattle.mars_core.specs.{Operand.{Operand, Evaluated, folded, pointers, evaluated, raised_at, lowered_at}, Whole.{whole, found, indirect, predecremented, postincremented, by_mode, operand}}
+use Rattle.mars_core.specs.{Effect.{Effect, effect}, Round.{executed, side_turn, side_turned, turned_by}, Code.{Operands, operands, whole_operands, evaluated_both}}
 use Rattle.mars_core.specs.Operand as limited
-use Rattle.mars_core.specs.Operand.{Operand, Evaluated, folded, pointers, evaluated, raised_at, lowered_at}
 use Rattle.mars_core.specs.Whole as without_limits
-use Rattle.mars_core.specs.Whole.{whole, found, indirect, predecremented, postincremented, by_mode, operand}
-use Rattle.mars_core.specs.Effect.{Effect, effect}
-use Rattle.mars_core.specs.Round.{executed, side_turn, side_turned, turned_by}
-use Rattle.mars_core.specs.Code.{Operands, operands, whole_operands, evaluated_both}
 
 add-mod : (a b m : ℕ) → 0 < m → (a + b % m) % m ≡ (a + b) % m
 add-mod a b m some =
@@ -52,16 +45,16 @@ module _ (size pc f : ℕ) (field : Field) (some : 0 < size) where
       ap (λ (o : Operand). evaluated o raised) (indirect-whole (plus size pc f) core refl) ∙ ap (λ (n : ℕ). postincremented size core n field) e
 
 by_mode-whole : (size pc f at : ℕ) (core : List Instr) (mode : Mode) → 0 < size → pc < size → plus size pc f ≡ at → limited.by_mode (whole size) core pc mode (pointers f f) ≡ by_mode size core pc mode at
-by_mode-whole size pc f at core modes.Immediate some inside e =
+by_mode-whole size pc f at core Mode.Immediate some inside e =
     let none : pc + 0 ≡ pc = omega arith in
     ap (λ (n : ℕ). evaluated (found core n) core) (ap (λ (n : ℕ). n % size) none ∙ mod-eq_of_lt inside)
-by_mode-whole size pc f at core modes.Direct some inside e = ap (λ (n : ℕ). evaluated (found core n) core) e
-by_mode-whole size pc f at core modes.AIndirect some inside e = ap (λ (o : Operand). evaluated o core) (indirect-whole size pc f Field.A some at core e)
-by_mode-whole size pc f at core modes.BIndirect some inside e = ap (λ (o : Operand). evaluated o core) (indirect-whole size pc f Field.B some at core e)
-by_mode-whole size pc f at core modes.APre some inside e = predecremented-whole size pc f Field.A some at core e
-by_mode-whole size pc f at core modes.BPre some inside e = predecremented-whole size pc f Field.B some at core e
-by_mode-whole size pc f at core modes.APost some inside e = postincremented-whole size pc f Field.A some at core e
-by_mode-whole size pc f at core modes.BPost some inside e = postincremented-whole size pc f Field.B some at core e
+by_mode-whole size pc f at core Mode.Direct some inside e = ap (λ (n : ℕ). evaluated (found core n) core) e
+by_mode-whole size pc f at core Mode.AIndirect some inside e = ap (λ (o : Operand). evaluated o core) (indirect-whole size pc f Field.A some at core e)
+by_mode-whole size pc f at core Mode.BIndirect some inside e = ap (λ (o : Operand). evaluated o core) (indirect-whole size pc f Field.B some at core e)
+by_mode-whole size pc f at core Mode.APre some inside e = predecremented-whole size pc f Field.A some at core e
+by_mode-whole size pc f at core Mode.BPre some inside e = predecremented-whole size pc f Field.B some at core e
+by_mode-whole size pc f at core Mode.APost some inside e = postincremented-whole size pc f Field.A some at core e
+by_mode-whole size pc f at core Mode.BPost some inside e = postincremented-whole size pc f Field.B some at core e
 
 pub operand-whole : (size pc number : ℕ) (core : List Instr) (mode : Mode) → pc < size → limited.operand (whole size) core pc mode number ≡ operand size core pc mode number
 unfolding limited.operand operand

@@ -1,20 +1,8 @@
 -- Of the cells that a turn may change, for `touchable`.
 use Rattle.std.proofs.Common.{◌≡◌, ◌≢◌, ℕ, zero, suc, ◌+◌, ◌<◌, List, [], ◌∷◌, All, Some, slice_set, refl, sym, ap, false, subst, ◌∙◌, arith, get_or-set_other}
-use Rattle.war_types.specs.declared.instr.Op.{Op}
-use Rattle.war_types.specs.declared.instr.Op.TheVariants as ops
-use Rattle.war_types.specs.declared.instr.Modifier.{Modifier}
-use Rattle.war_types.specs.declared.instr.Mode.{Mode}
-use Rattle.war_types.specs.declared.instr.Mode.TheVariants as modes
-use Rattle.war_types.specs.declared.instr.Instr.{Instr}
-use Rattle.mars_core.specs.declared.round.Side.{Side}
-use Rattle.mars_core.specs.declared.round.Side.TheVariants as sides
-use Rattle.mars_core.specs.Cells.{Field, blank, cell, number, plus, minus, raised, lowered}
-use Rattle.mars_core.specs.Operand.{Reach, Pointers, Operand, folded, pointed, by_mode, operand, raised_at, lowered_at}
-use Rattle.mars_core.specs.Effect.{by_op, effect}
-use Rattle.mars_core.specs.Queue.{front}
-use Rattle.mars_core.specs.Round.{Round, executed, is_over, queue_of, reach_of, turn_of, side_turn, after_side, after_turn}
-use Rattle.mars_core.specs.Touched.{AreSameBut}
-use Rattle.mars_core.specs.Code.{led_by}
+use Rattle.{war_types.specs.{declared.instr.Op.Op, declared.instr.Modifier.Modifier, declared.instr.Mode.Mode, declared.instr.Instr.Instr}, mars_core.specs.declared.round.Side.Side}
+use Rattle.mars_core.specs.{Cells.{Field, blank, cell, number, plus, minus, raised, lowered}, Operand.{Reach, Pointers, Operand, folded, pointed, by_mode, operand, raised_at, lowered_at}}
+use Rattle.mars_core.specs.{Effect.{by_op, effect}, Queue.front, Round.{Round, executed, is_over, queue_of, reach_of, turn_of, side_turn, after_side, after_turn}, Touched.AreSameBut, Code.led_by}
 
 -- ---- what stays
 
@@ -23,33 +11,33 @@ set-kept core i at x other = get_or-set_other core i at x blank (λ e. other (sy
 
 -- an operand changes no cell but the one that it goes through
 by_mode-kept : (reach : Reach) (core : List Instr) (pc at : ℕ) (mode : Mode) (p : Pointers) → plus reach.size pc p.write ≢ at → cell (by_mode reach core pc mode p).core at ≡ cell core at
-by_mode-kept reach core pc at modes.Immediate p other = refl
-by_mode-kept reach core pc at modes.Direct p other = refl
-by_mode-kept reach core pc at modes.AIndirect p other = refl
-by_mode-kept reach core pc at modes.BIndirect p other = refl
-by_mode-kept reach core pc at modes.APre p other = set-kept core (plus reach.size pc p.write) at _ other
-by_mode-kept reach core pc at modes.BPre p other = set-kept core (plus reach.size pc p.write) at _ other
-by_mode-kept reach core pc at modes.APost p other = set-kept core (plus reach.size pc p.write) at _ other
-by_mode-kept reach core pc at modes.BPost p other = set-kept core (plus reach.size pc p.write) at _ other
+by_mode-kept reach core pc at Mode.Immediate p other = refl
+by_mode-kept reach core pc at Mode.Direct p other = refl
+by_mode-kept reach core pc at Mode.AIndirect p other = refl
+by_mode-kept reach core pc at Mode.BIndirect p other = refl
+by_mode-kept reach core pc at Mode.APre p other = set-kept core (plus reach.size pc p.write) at _ other
+by_mode-kept reach core pc at Mode.BPre p other = set-kept core (plus reach.size pc p.write) at _ other
+by_mode-kept reach core pc at Mode.APost p other = set-kept core (plus reach.size pc p.write) at _ other
+by_mode-kept reach core pc at Mode.BPost p other = set-kept core (plus reach.size pc p.write) at _ other
 
 -- an operation changes no cell but the one that the B operand writes
 by_op-kept : (size pc : ℕ) (op : Op) (m : Modifier) (a b : Operand) (core : List Instr) (at : ℕ) → b.target ≢ at → cell (by_op size pc op m a b core).core at ≡ cell core at
-by_op-kept size pc ops.Dat m a b core at other = refl
-by_op-kept size pc ops.Mov m a b core at other = set-kept core b.target at _ other
-by_op-kept size pc ops.Add m a b core at other = set-kept core b.target at _ other
-by_op-kept size pc ops.Sub m a b core at other = set-kept core b.target at _ other
-by_op-kept size pc ops.Mul m a b core at other = set-kept core b.target at _ other
-by_op-kept size pc ops.Div m a b core at other = set-kept core b.target at _ other
-by_op-kept size pc ops.Mdl m a b core at other = set-kept core b.target at _ other
-by_op-kept size pc ops.Jmp m a b core at other = refl
-by_op-kept size pc ops.Jmz m a b core at other = refl
-by_op-kept size pc ops.Jmn m a b core at other = refl
-by_op-kept size pc ops.Djn m a b core at other = set-kept core b.target at _ other
-by_op-kept size pc ops.Seq m a b core at other = refl
-by_op-kept size pc ops.Sne m a b core at other = refl
-by_op-kept size pc ops.Slt m a b core at other = refl
-by_op-kept size pc ops.Spl m a b core at other = refl
-by_op-kept size pc ops.Nop m a b core at other = refl
+by_op-kept size pc Op.Dat m a b core at other = refl
+by_op-kept size pc Op.Mov m a b core at other = set-kept core b.target at _ other
+by_op-kept size pc Op.Add m a b core at other = set-kept core b.target at _ other
+by_op-kept size pc Op.Sub m a b core at other = set-kept core b.target at _ other
+by_op-kept size pc Op.Mul m a b core at other = set-kept core b.target at _ other
+by_op-kept size pc Op.Div m a b core at other = set-kept core b.target at _ other
+by_op-kept size pc Op.Mdl m a b core at other = set-kept core b.target at _ other
+by_op-kept size pc Op.Jmp m a b core at other = refl
+by_op-kept size pc Op.Jmz m a b core at other = refl
+by_op-kept size pc Op.Jmn m a b core at other = refl
+by_op-kept size pc Op.Djn m a b core at other = set-kept core b.target at _ other
+by_op-kept size pc Op.Seq m a b core at other = refl
+by_op-kept size pc Op.Sne m a b core at other = refl
+by_op-kept size pc Op.Slt m a b core at other = refl
+by_op-kept size pc Op.Spl m a b core at other = refl
+by_op-kept size pc Op.Nop m a b core at other = refl
 
 -- ---- where the B operand writes
 
@@ -89,14 +77,14 @@ module _ (P : ℕ → Type 0) (size : ℕ) (core : List Instr) (i at : ℕ) (fie
 -- a number of a cell once an operand is evaluated
 by_mode-number : (P : ℕ → Type 0) (reach : Reach) (core : List Instr) (pc at : ℕ) (mode : Mode) (p : Pointers) (f : Field) → P (number f (cell core at)) → P (plus reach.size (number f (cell core at)) 1)
     → P (minus reach.size (number f (cell core at)) 1) → P (number f (cell (by_mode reach core pc mode p).core at))
-by_mode-number P reach core pc at modes.Immediate p f same more less = same
-by_mode-number P reach core pc at modes.Direct p f same more less = same
-by_mode-number P reach core pc at modes.AIndirect p f same more less = same
-by_mode-number P reach core pc at modes.BIndirect p f same more less = same
-by_mode-number P reach core pc at modes.APre p f same more less = lowered_at-number P reach.size core (plus reach.size pc p.write) at Field.A f same less
-by_mode-number P reach core pc at modes.BPre p f same more less = lowered_at-number P reach.size core (plus reach.size pc p.write) at Field.B f same less
-by_mode-number P reach core pc at modes.APost p f same more less = raised_at-number P reach.size core (plus reach.size pc p.write) at Field.A f same more
-by_mode-number P reach core pc at modes.BPost p f same more less = raised_at-number P reach.size core (plus reach.size pc p.write) at Field.B f same more
+by_mode-number P reach core pc at Mode.Immediate p f same more less = same
+by_mode-number P reach core pc at Mode.Direct p f same more less = same
+by_mode-number P reach core pc at Mode.AIndirect p f same more less = same
+by_mode-number P reach core pc at Mode.BIndirect p f same more less = same
+by_mode-number P reach core pc at Mode.APre p f same more less = lowered_at-number P reach.size core (plus reach.size pc p.write) at Field.A f same less
+by_mode-number P reach core pc at Mode.BPre p f same more less = lowered_at-number P reach.size core (plus reach.size pc p.write) at Field.B f same less
+by_mode-number P reach core pc at Mode.APost p f same more less = raised_at-number P reach.size core (plus reach.size pc p.write) at Field.A f same more
+by_mode-number P reach core pc at Mode.BPost p f same more less = raised_at-number P reach.size core (plus reach.size pc p.write) at Field.B f same more
 
 -- the address to which a pointer leads on by a number, counted from an instruction
 abbrev pub on_by : ℕ → ℕ → ℕ → ℕ → ℕ → ℕ
@@ -107,18 +95,18 @@ by_mode-target : (P : ℕ → Type 0) (reach : Reach) (core : List Instr) (pc : 
     → P (on_by reach.size reach.write pc p.write (number (led_by mode) (cell core (plus reach.size pc p.write))))
     → P (on_by reach.size reach.write pc p.write (minus reach.size (number (led_by mode) (cell core (plus reach.size pc p.write))) 1))
     → P (by_mode reach core pc mode p).operand.target
-by_mode-target P reach core pc modes.Immediate p here there on less = here
-by_mode-target P reach core pc modes.Direct p here there on less = there
-by_mode-target P reach core pc modes.AIndirect p here there on less = on
-by_mode-target P reach core pc modes.BIndirect p here there on less = on
-by_mode-target P reach core pc modes.APre p here there on less =
+by_mode-target P reach core pc Mode.Immediate p here there on less = here
+by_mode-target P reach core pc Mode.Direct p here there on less = there
+by_mode-target P reach core pc Mode.AIndirect p here there on less = on
+by_mode-target P reach core pc Mode.BIndirect p here there on less = on
+by_mode-target P reach core pc Mode.APre p here there on less =
     let at : ℕ = plus reach.size pc p.write in
     lowered_at-number (λ n. P (on_by reach.size reach.write pc p.write n)) reach.size core at at Field.A Field.A on less
-by_mode-target P reach core pc modes.BPre p here there on less =
+by_mode-target P reach core pc Mode.BPre p here there on less =
     let at : ℕ = plus reach.size pc p.write in
     lowered_at-number (λ n. P (on_by reach.size reach.write pc p.write n)) reach.size core at at Field.B Field.B on less
-by_mode-target P reach core pc modes.APost p here there on less = on
-by_mode-target P reach core pc modes.BPost p here there on less = on
+by_mode-target P reach core pc Mode.APost p here there on less = on
+by_mode-target P reach core pc Mode.BPost p here there on less = on
 
 -- ---- a turn
 
@@ -171,8 +159,8 @@ side_turn-core reach limit pc core (x ∷ rest) f =
     ap (λ (n : ℕ). (executed reach core n).core) same
 
 after_side-core : (m : Side) (core : List Instr) (queue : List ℕ) (r : Round) → (after_side m core queue r).core ≡ core
-after_side-core sides.First core queue r = refl
-after_side-core sides.Second core queue r = refl
+after_side-core Side.First core queue r = refl
+after_side-core Side.Second core queue r = refl
 
 after_turn-core : (r : Round) → is_over r ≡ false → (after_turn r).core ≡ (turn_of r).core
 unfolding after_turn

@@ -1,24 +1,15 @@
 -- What turns make of a round and of its sides' queues, for `turns` and the arena.
-use Rattle.std.proofs.Common.{◌≡◌, ℕ, ◌+◌, ◌-◌, ◌*◌, ◌<◌, ◌≤◌, suc, zero, Bool, true, false, ◌||◌, leb, List, [], ◌∷◌, ◌++◌, length, take, All, Some, refl, sym, ap, ap₂, ◌∙◌, subst, arith, append-nil, take_all}
-use Rattle.std.proofs.lemmas.List.{length-take}
-use Rattle.std.proofs.lemmas.List.Elements.{All-take, All-append, All-tail}
-use Rattle.std.proofs.lemmas.Bool.Decides.{nat_tests}
-use Rattle.war_types.specs.declared.instr.Instr.{Instr}
-use Rattle.war_types.specs.declared.settings.RawSettings.{RawSettings}
-use Rattle.mars_core.specs.declared.round.Side.{Side}
-use Rattle.mars_core.specs.declared.round.Side.TheVariants as sides
-use Rattle.mars_core.specs.declared.round.Turned.TheVariants as turneds
-use Rattle.mars_core.specs.Operand.{Reach}
-use Rattle.mars_core.specs.Effect.{Effect, queues}
-use Rattle.mars_core.specs.Queue.{Processes, processes, queued, front, behind_front}
+use Rattle.std.proofs.Common.{◌≡◌, ℕ, ◌+◌, ◌-◌, ◌*◌, ◌<◌, ◌≤◌, suc, zero, Bool, true, false, ◌||◌, leb, List, [], ◌∷◌, ◌++◌, length, take, All, Some, refl, sym, ap, ap₂, ◌∙◌, subst, arith}
+use Rattle.std.proofs.{Common.{append-nil, take_all}, lemmas.List.length-take, lemmas.List.Elements.{All-take, All-append, All-tail}, lemmas.Bool.Decides.nat_tests}
+use Rattle.war_types.specs.{declared.instr.Instr.Instr, declared.settings.RawSettings.RawSettings}
+use Rattle.mars_core.specs.{declared.round.Side.Side, Operand.Reach, Effect.{Effect, queues}, Queue.{Processes, processes, queued, front, behind_front}}
 use Rattle.mars_core.specs.Round.{Round, SideTurn, executed, reach_of, is_empty, is_over, turn_of, turned_by, after_side, side_turn, side_turned, after_turn, turned, after_turns, IsQueue}
-use Rattle.mars_core.specs.Arena.{round_in}
-use Rattle.mars_core.specs.Code.{other}
+use Rattle.mars_core.specs.{Arena.round_in, Code.other, declared.round.Turned.Turned}
 
 -- of two queues the one of a side
 abbrev pub queue_at : Side → Processes → Processes → Processes
-queue_at sides.First first second = first
-queue_at sides.Second first second = second
+queue_at Side.First first second = first
+queue_at Side.Second first second = second
 
 abbrev pub without_front : Processes → Processes
 without_front q = processes q.limit (behind_front q.addresses)
@@ -32,19 +23,19 @@ pub record AreQueuesAfter (m : Side) (more : List ℕ) (first second first' seco
 abbrev pub Moved : Side → List ℕ → Processes → Processes → Processes → Processes → Bool → Type 0
 Moved m more first second first' second' empty = AreQueuesAfter m more first second first' second' × (is_empty (queue_at m first' second').addresses ≡ empty)
 
-pub first_moves : (m : Side) (more : List ℕ) (first second first' second' : Processes) (empty : Bool) → m ≡ sides.First → first' ≡ queued (without_front first) more → second' ≡ second → is_empty first'.addresses ≡ empty →
+pub first_moves : (m : Side) (more : List ℕ) (first second first' second' : Processes) (empty : Bool) → m ≡ Side.First → first' ≡ queued (without_front first) more → second' ≡ second → is_empty first'.addresses ≡ empty →
     Moved m more first second first' second' empty
 first_moves m more first second first' second' empty is own others e = subst (λ (m : Side). Moved m more first second first' second' empty) (sym is) (record { own = own; others = others }, e)
 
-pub second_moves : (m : Side) (more : List ℕ) (first second first' second' : Processes) (empty : Bool) → m ≡ sides.Second → second' ≡ queued (without_front second) more → first' ≡ first → is_empty second'.addresses ≡ empty →
+pub second_moves : (m : Side) (more : List ℕ) (first second first' second' : Processes) (empty : Bool) → m ≡ Side.Second → second' ≡ queued (without_front second) more → first' ≡ first → is_empty second'.addresses ≡ empty →
     Moved m more first second first' second' empty
 second_moves m more first second first' second' empty is own others e = subst (λ (m : Side). Moved m more first second first' second' empty) (sym is) (record { own = own; others = others }, e)
 
 -- the front process of the side to move
-pub first_front : (m : Side) (first second : Processes) (pc n : ℕ) → m ≡ sides.First → front first.addresses ≡ Some n → pc ≡ n → front (queue_at m first second).addresses ≡ Some pc
+pub first_front : (m : Side) (first second : Processes) (pc n : ℕ) → m ≡ Side.First → front first.addresses ≡ Some n → pc ≡ n → front (queue_at m first second).addresses ≡ Some pc
 first_front m first second pc n is f e = ap (λ (m : Side). front (queue_at m first second).addresses) is ∙ (f ∙ ap Some (sym e))
 
-pub second_front : (m : Side) (first second : Processes) (pc n : ℕ) → m ≡ sides.Second → front second.addresses ≡ Some n → pc ≡ n → front (queue_at m first second).addresses ≡ Some pc
+pub second_front : (m : Side) (first second : Processes) (pc n : ℕ) → m ≡ Side.Second → front second.addresses ≡ Some n → pc ≡ n → front (queue_at m first second).addresses ≡ Some pc
 second_front m first second pc n is f e = ap (λ (m : Side). front (queue_at m first second).addresses) is ∙ (f ∙ ap Some (sym e))
 
 -- the front process is one of the core
@@ -82,20 +73,20 @@ IsQueue-queued size q p more h m e =
 -- what a side's turn keeps of both queues
 pub queues_kept : (size : ℕ) (m : Side) (more : List ℕ) (first second first' second' : Processes) → IsQueue size first.limit first.addresses → IsQueue size second.limit second.addresses → All (λ a. a < size) more →
     AreQueuesAfter m more first second first' second' → IsQueue size first'.limit first'.addresses × IsQueue size second'.limit second'.addresses
-queues_kept size sides.First more first second first' second' f g m h =
+queues_kept size Side.First more first second first' second' f g m h =
     (IsQueue-queued size first first' more f m h.own, subst (λ (p : Processes). IsQueue size p.limit p.addresses) (sym h.others) g)
-queues_kept size sides.Second more first second first' second' f g m h =
+queues_kept size Side.Second more first second first' second' f g m h =
     (subst (λ (p : Processes). IsQueue size p.limit p.addresses) (sym h.others) f, IsQueue-queued size second second' more g m h.own)
 
 pub limits_kept : (m : Side) (more : List ℕ) (first second first' second' : Processes) → AreQueuesAfter m more first second first' second' → (first'.limit ≡ first.limit) × (second'.limit ≡ second.limit)
-limits_kept sides.First more first second first' second' h = (ap (λ (p : Processes). p.limit) h.own, ap (λ (p : Processes). p.limit) h.others)
-limits_kept sides.Second more first second first' second' h = (ap (λ (p : Processes). p.limit) h.others, ap (λ (p : Processes). p.limit) h.own)
+limits_kept Side.First more first second first' second' h = (ap (λ (p : Processes). p.limit) h.own, ap (λ (p : Processes). p.limit) h.others)
+limits_kept Side.Second more first second first' second' h = (ap (λ (p : Processes). p.limit) h.others, ap (λ (p : Processes). p.limit) h.own)
 
 -- if the side's own queue has a process left, both still have one
 pub both_live : (m : Side) (more : List ℕ) (first second first' second' : Processes) → is_empty first.addresses ≡ false → is_empty second.addresses ≡ false → AreQueuesAfter m more first second first' second' →
     is_empty (queue_at m first' second').addresses ≡ false → (is_empty first'.addresses ≡ false) × (is_empty second'.addresses ≡ false)
-both_live sides.First more first second first' second' f g h own = (own, ap (λ (p : Processes). is_empty p.addresses) h.others ∙ g)
-both_live sides.Second more first second first' second' f g h own = (ap (λ (p : Processes). is_empty p.addresses) h.others ∙ f, own)
+both_live Side.First more first second first' second' f g h own = (own, ap (λ (p : Processes). is_empty p.addresses) h.others ∙ g)
+both_live Side.Second more first second first' second' f g h own = (ap (λ (p : Processes). is_empty p.addresses) h.others ∙ f, own)
 
 -- what `is_over` says, by its parts
 is_over-no : (a b : Bool) (m n : ℕ) → a ≡ false → b ≡ false → n < m → (a || b || leb m n) ≡ false
@@ -128,10 +119,10 @@ both_sides_live r o = is_over-parts (is_empty r.first) (is_empty r.second) (2 * 
 -- a round is over if the queue of a side is empty
 pub over-empty : (m : Side) (s : RawSettings) (core : List Instr) (first second : Processes) (next : Side) (used : ℕ) → is_empty (queue_at m first second).addresses ≡ true →
     is_over (round_in s core first.addresses second.addresses next used) ≡ true
-over-empty sides.First s core first second next used e = is_over-first (is_empty first.addresses) (is_empty second.addresses) (leb (2 * s.cycles) used) e
-over-empty sides.Second s core first second next used e = is_over-second (is_empty first.addresses) (is_empty second.addresses) (leb (2 * s.cycles) used) e
+over-empty Side.First s core first second next used e = is_over-first (is_empty first.addresses) (is_empty second.addresses) (leb (2 * s.cycles) used) e
+over-empty Side.Second s core first second next used e = is_over-second (is_empty first.addresses) (is_empty second.addresses) (leb (2 * s.cycles) used) e
 
-pub turned-over : (r : Round) (over : Bool) → over ≡ is_over r → over ≡ true → turneds.Over ≡ turned r
+pub turned-over : (r : Round) (over : Bool) → over ≡ is_over r → over ≡ true → Turned.Over ≡ turned r
 unfolding turned
 turned-over r over e t = rw (sym e ∙ t)
 
@@ -159,17 +150,17 @@ side_turn-front reach limit pc core core' (x ∷ rest) more f e =
 turn_of-front : (m : Side) (s : RawSettings) (reach : Reach) (pc used : ℕ) (core core' : List Instr) (first second : Processes) (more : List ℕ) → reach_of s ≡ reach → s.processes ≡ first.limit → s.processes ≡ second.limit →
     front (queue_at m first second).addresses ≡ Some pc → executed reach core pc ≡ queues core' more →
     turn_of (round_in s core first.addresses second.addresses m used) ≡ side_turned core' (queued (without_front (queue_at m first second)) more).addresses (turned_by more)
-turn_of-front sides.First s reach pc used core core' first second more z l1 l2 f e =
+turn_of-front Side.First s reach pc used core core' first second more z l1 l2 f e =
     ap₂ (λ (a : Reach) (b : ℕ). side_turn a b core first.addresses) z l1 ∙ side_turn-front reach first.limit pc core core' first.addresses more f e
-turn_of-front sides.Second s reach pc used core core' first second more z l1 l2 f e =
+turn_of-front Side.Second s reach pc used core core' first second more z l1 l2 f e =
     ap₂ (λ (a : Reach) (b : ℕ). side_turn a b core second.addresses) z l2 ∙ side_turn-front reach second.limit pc core core' second.addresses more f e
 
 after_side-queues : (m : Side) (s : RawSettings) (used : ℕ) (core core' : List Instr) (more : List ℕ) (first second first' second' : Processes) → AreQueuesAfter m more first second first' second' →
     after_side m core' (queued (without_front (queue_at m first second)) more).addresses (round_in s core first.addresses second.addresses m used) ≡ round_in s core' first'.addresses second'.addresses (other m) (used + 1)
-after_side-queues sides.First s used core core' more first second first' second' h =
-    ap₂ (λ (a b : Processes). round_in s core' a.addresses b.addresses sides.Second (used + 1)) (sym h.own) (sym h.others)
-after_side-queues sides.Second s used core core' more first second first' second' h =
-    ap₂ (λ (a b : Processes). round_in s core' a.addresses b.addresses sides.First (used + 1)) (sym h.others) (sym h.own)
+after_side-queues Side.First s used core core' more first second first' second' h =
+    ap₂ (λ (a b : Processes). round_in s core' a.addresses b.addresses Side.Second (used + 1)) (sym h.own) (sym h.others)
+after_side-queues Side.Second s used core core' more first second first' second' h =
+    ap₂ (λ (a b : Processes). round_in s core' a.addresses b.addresses Side.First (used + 1)) (sym h.others) (sym h.own)
 
 after_turns-suc : (m n : ℕ) (r : Round) → m ≡ suc n → after_turns n (after_turn r) ≡ after_turns m r
 unfolding after_turns
@@ -227,8 +218,8 @@ unfolding after_turns
 after_turns-one r = refl
 
 after_side-kept : (m : Side) (core : List Instr) (queue : List ℕ) (r : Round) → ((after_side m core queue r).settings ≡ r.settings) × ((after_side m core queue r).used ≡ r.used + 1)
-after_side-kept sides.First core queue r = (refl, refl)
-after_side-kept sides.Second core queue r = (refl, refl)
+after_side-kept Side.First core queue r = (refl, refl)
+after_side-kept Side.Second core queue r = (refl, refl)
 
 -- a turn keeps the settings, and uses one turn
 after_turn-kept : (r : Round) → is_over r ≡ false → ((after_turn r).settings ≡ r.settings) × ((after_turn r).used ≡ r.used + 1)

@@ -1,33 +1,22 @@
 -- The bits of a word, for the functions of src/word.rt: how its parts are read back from them, and which word the bits are that each function makes.
-use Rattle.std.proofs.Common.{◌≡◌, ℕ, zero, suc, ◌+◌, ◌-◌, ◌*◌, ◌/◌, ◌%◌, ◌^◌, ◌<◌, ◌≤◌, ◌==◌, Bool, true, false, ◌&&◌, bit_and, bit_or, Decides, refl, sym, ap, ap₂, subst, subst₂, ◌∙◌, arith}
-use Rattle.std.proofs.lemmas.Nat.{and_comm, and_mask, and-not, or_comm, or_block, or_shifted, shl_whole, field_of}
-use Rattle.std.proofs.lemmas.Nat.Bits.{and_high, and_high_mask}
-use Rattle.std.proofs.lemmas.Bool.{agree_below_at}
-use Rattle.std.proofs.lemmas.Bool.Decides.{same_from_decides, Decides-eqb, Decides-and, Decides-like}
-use Rattle.war_types.specs.declared.instr.Op.{Op}
-use Rattle.war_types.specs.declared.instr.Op.TheVariants as ops
-use Rattle.war_types.specs.declared.instr.Modifier.{Modifier}
-use Rattle.war_types.specs.declared.instr.Modifier.TheVariants as modifiers
-use Rattle.war_types.specs.declared.instr.Mode.{Mode}
-use Rattle.war_types.specs.declared.instr.Mode.TheVariants as modes
-use Rattle.war_types.specs.declared.instr.Instr.{Instr}
-use Rattle.war_types.specs.Bytes.{op_code, modifier_code, mode_code}
-use Rattle.mars_core.specs.Cells.{Field, with_number}
-use Rattle.mars_core.specs.Effect.{are_equal}
-use Rattle.mars_core.specs.Words.{Word, mark, bits_of, word_in, IsWord, mode_at, modifier_at, op_at, is_plain}
+use Rattle.std.proofs.Common.{◌≡◌, ℕ, zero, suc, ◌+◌, ◌-◌, ◌*◌, ◌/◌, ◌%◌, ◌^◌, ◌<◌, ◌≤◌, ◌==◌, Bool, true, false, ◌&&◌, bit_and, bit_or, Decides, refl, sym, ap, ap₂, subst, subst₂, ◌∙◌}
+use Rattle.std.proofs.{Common.arith, lemmas.Nat.{and_comm, and_mask, and-not, or_comm, or_block, or_shifted, shl_whole, field_of}, lemmas.Nat.Bits.{and_high, and_high_mask}}
+use Rattle.std.proofs.{lemmas.Bool.agree_below_at, lemmas.Bool.Decides.{same_from_decides, Decides-eqb, Decides-and, Decides-like}}
+use Rattle.war_types.specs.{declared.instr.Op.Op, declared.instr.Modifier.Modifier, declared.instr.Mode.Mode, declared.instr.Instr.Instr, Bytes.{op_code, modifier_code, mode_code}}
+use Rattle.mars_core.specs.{Cells.{Field, with_number}, Effect.are_equal, Words.{Word, mark, bits_of, word_in, IsWord, mode_at, modifier_at, op_at, is_plain}}
 
 -- ---- codes
 
 mode_is_read : (m : Mode) → (mode_at (mode_code m) ≡ m) × (mode_code m < 8)
-mode_is_read modes.Immediate = (refl, omega arith)
+mode_is_read Mode.Immediate = (refl, omega arith)
 mode_is_read m = (refl, omega arith)
 
 modifier_is_read : (m : Modifier) → (modifier_at (modifier_code m) ≡ m) × (modifier_code m < 8)
-modifier_is_read modifiers.A = (refl, omega arith)
+modifier_is_read Modifier.A = (refl, omega arith)
 modifier_is_read m = (refl, omega arith)
 
 op_is_read : (op : Op) → (op_at (op_code op) ≡ op) × (op_code op < 16)
-op_is_read ops.Dat = (refl, omega arith)
+op_is_read Op.Dat = (refl, omega arith)
 op_is_read op = (refl, omega arith)
 
 mark_is_read : (m : Bool) → ((mark m == 1) ≡ m) × (mark m < 2)
@@ -241,7 +230,7 @@ same_parts m n e =
 same_bits : (m n : ℕ) → IsWord m → IsWord n → HaveSameParts (word_in m).instr (word_in n).instr → m * 2 % 2 ^ 64 ≡ n * 2 % 2 ^ 64
 same_bits m n left right same = same_but_mark m n _ _ (mark (word_in m).is_marked) (mark (word_in n).is_marked) left right (omega arith)
 
-are_equal_decides : (i j : Instr) → Decides (are_equal modifiers.I i j) (HaveSameParts i j)
+are_equal_decides : (i j : Instr) → Decides (are_equal Modifier.I i j) (HaveSameParts i j)
 are_equal_decides i j =
     let op = Decides-eqb (op_code i.op) (op_code j.op) in
     let modifier = Decides-eqb (modifier_code i.modifier) (modifier_code j.modifier) in
@@ -250,13 +239,13 @@ are_equal_decides i j =
     let kinds = Decides-and _ _ (Decides-and _ _ (Decides-and _ _ op modifier) a_mode) b_mode in
     Decides-and _ _ kinds (Decides-and _ _ (Decides-eqb _ _) (Decides-and _ _ (Decides-eqb _ _) (λ _. tt, λ _. refl)))
 
-same_are_equal : (m n : ℕ) → IsWord m → IsWord n → (m * 2 % 2 ^ 64 == n * 2 % 2 ^ 64) ≡ are_equal modifiers.I (word_in m).instr (word_in n).instr
+same_are_equal : (m n : ℕ) → IsWord m → IsWord n → (m * 2 % 2 ^ 64 == n * 2 % 2 ^ 64) ≡ are_equal Modifier.I (word_in m).instr (word_in n).instr
 same_are_equal m n left right =
     let shifted = Decides-eqb (m * 2 % 2 ^ 64) (n * 2 % 2 ^ 64) in
     same_from_decides _ _ (Decides-like _ (same_parts m n) (same_bits m n left right) shifted) (are_equal_decides (word_in m).instr (word_in n).instr)
 
-pub are_equal-shifted : (v w : Word) (m n : ℕ) → IsWord m → IsWord n → word_in m ≡ v → word_in n ≡ w → (m * 2 % 2 ^ 64 == n * 2 % 2 ^ 64) ≡ are_equal modifiers.I v.instr w.instr
-are_equal-shifted v w m n left right v_is w_is = same_are_equal m n left right ∙ ap₂ (λ (x y : Word). are_equal modifiers.I x.instr y.instr) v_is w_is
+pub are_equal-shifted : (v w : Word) (m n : ℕ) → IsWord m → IsWord n → word_in m ≡ v → word_in n ≡ w → (m * 2 % 2 ^ 64 == n * 2 % 2 ^ 64) ≡ are_equal Modifier.I v.instr w.instr
+are_equal-shifted v w m n left right v_is w_is = same_are_equal m n left right ∙ ap₂ (λ (x y : Word). are_equal Modifier.I x.instr y.instr) v_is w_is
 
 -- ---- plain modes
 

@@ -1,9 +1,6 @@
 -- The round in an arena.
 use Rattle.std.specs.Prelude.{ℕ, ◌≡◌, List}
-use Rattle.war_types.specs.declared.instr.Instr.{Instr}
-use Rattle.war_types.specs.declared.settings.RawSettings.{RawSettings}
-use Rattle.mars_core.specs.declared.round.Side.{Side}
-use Rattle.mars_core.specs.Round.{Round, IsRound}
+use Rattle.{war_types.specs.{declared.instr.Instr.Instr, declared.settings.RawSettings.RawSettings}, mars_core.specs.{declared.round.Side.Side, Round.{Round, IsRound}}}
 
 abbrev pub round_in : RawSettings → List Instr → List ℕ → List ℕ → Side → ℕ → Round
 round_in settings core first second to_move used =

@@ -1,14 +1,10 @@
 -- Cells, and sums and differences in a core of `size` cells.
 use Rattle.std.specs.Prelude.{ℕ, ◌+◌, ◌-◌, ◌%◌, ◌≤◌, ◌≡◌, List, length, slice_index_or, All}
-use Rattle.war_types.specs.declared.instr.Op.TheVariants as ops
-use Rattle.war_types.specs.declared.instr.Modifier.TheVariants as modifiers
-use Rattle.war_types.specs.declared.instr.Mode.TheVariants as modes
-use Rattle.war_types.specs.declared.instr.Instr.{Instr}
-use Rattle.war_types.specs.Warrior.{HasNumbersBelow}
+use Rattle.war_types.specs.{declared.instr.Instr.Instr, Warrior.HasNumbersBelow, declared.instr.Op.Op, declared.instr.Modifier.Modifier, declared.instr.Mode.Mode}
 
 -- what a cell holds that nothing was loaded into: DAT.F $0,$0
 abbrev pub blank : Instr
-blank = record { op = ops.Dat; modifier = modifiers.F; a_mode = modes.Direct; a = 0; b_mode = modes.Direct; b = 0 }
+blank = record { op = Op.Dat; modifier = Modifier.F; a_mode = Mode.Direct; a = 0; b_mode = Mode.Direct; b = 0 }
 
 -- all numbers and addresses are modulo the core size
 abbrev pub plus : ℕ → ℕ → ℕ → ℕ

@@ -1,26 +1,15 @@
 -- Of the code alone: what its own values are in the words of the definitions. No definition names a word of this file.
 use Rattle.std.specs.Prelude.{ℕ, ◌≤◌, List, [], ◌∷◌}
+use Rattle.{war_types.specs.{declared.instr.Mode.Mode, declared.instr.Instr.Instr}, mars_core.specs.{declared.field.Paired.Paired, declared.effect.Queued.Queued, declared.round.Side.Side}}
+use Rattle.mars_core.specs.{Cells.Field, Pairs.Pair, Operand.{Reach, Pointers, Operand, operand}, Effect.Arithmetic}
 use Rattle.mars_core.specs.declared.field.Field as code_field
 use Rattle.mars_core.specs.declared.field.Field.TheVariants as fields
 use Rattle.mars_core.specs.declared.field.Pair as code_pair
-use Rattle.mars_core.specs.declared.field.Paired.{Paired}
-use Rattle.mars_core.specs.declared.field.Paired.TheVariants as paireds
 use Rattle.mars_core.specs.declared.arithmetic.Arithmetic as code_arithmetic
 use Rattle.mars_core.specs.declared.arithmetic.Arithmetic.TheVariants as arithmetics
 use Rattle.mars_core.specs.declared.operand.Operand as code_operand
 use Rattle.mars_core.specs.declared.limits.Pointers as code_pointers
-use Rattle.mars_core.specs.declared.effect.Queued.{Queued}
-use Rattle.mars_core.specs.declared.effect.Queued.TheVariants as queueds
-use Rattle.mars_core.specs.declared.round.Side.{Side}
-use Rattle.mars_core.specs.declared.round.Side.TheVariants as sides
-use Rattle.mars_core.specs.Cells.{Field}
-use Rattle.mars_core.specs.Pairs.{Pair}
-use Rattle.war_types.specs.declared.instr.Mode.{Mode}
-use Rattle.war_types.specs.declared.instr.Mode.TheVariants as modes
-use Rattle.war_types.specs.declared.instr.Instr.{Instr}
-use Rattle.mars_core.specs.Operand.{Reach, Pointers, Operand, operand}
 use Rattle.mars_core.specs.Whole as whole
-use Rattle.mars_core.specs.Effect.{Arithmetic}
 
 abbrev pub field_of : code_field.Field → Field
 field_of fields.A = Field.A
@@ -31,8 +20,8 @@ pair_of p = record { source = field_of p.source; target = field_of p.target }
 
 -- the pairs that it names one by one
 abbrev pub listed : Paired → List Pair
-listed (paireds.One p) = pair_of p ∷ []
-listed (paireds.Two p q) = pair_of p ∷ pair_of q ∷ []
+listed (Paired.One p) = pair_of p ∷ []
+listed (Paired.Two p q) = pair_of p ∷ pair_of q ∷ []
 
 abbrev pub arithmetic_of : code_arithmetic.Arithmetic → Arithmetic
 arithmetic_of arithmetics.Sum = Arithmetic.Sum
@@ -71,19 +60,19 @@ whole_operands size core pc i =
 
 -- the addresses that it names one by one
 abbrev pub addresses : Queued → List ℕ
-addresses queueds.Nothing = []
-addresses (queueds.One a) = a ∷ []
-addresses (queueds.Two a b) = a ∷ b ∷ []
+addresses Queued.Nothing = []
+addresses (Queued.One a) = a ∷ []
+addresses (Queued.Two a b) = a ∷ b ∷ []
 
 abbrev pub other : Side → Side
-other sides.First = sides.Second
-other sides.Second = sides.First
+other Side.First = Side.Second
+other Side.Second = Side.First
 
 -- the number by which an indirect mode leads on
 abbrev pub led_by : Mode → Field
-led_by modes.AIndirect = Field.A
-led_by modes.APre = Field.A
-led_by modes.APost = Field.A
+led_by Mode.AIndirect = Field.A
+led_by Mode.APre = Field.A
+led_by Mode.APost = Field.A
 led_by mode = Field.B
 
 -- limits that are within a core

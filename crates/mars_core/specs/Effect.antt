@@ -1,16 +1,7 @@
 -- What each operation does (the 1994 draft standard, "Instructions"; SEQ, SNE and NOP as in pMARS).
-use Rattle.std.specs.Prelude.{ℕ, ◌*◌, ◌/◌, ◌%◌, Bool, ◌&&◌, ◌==◌, not, nat_lt, if◌then◌else◌, List, [], ◌∷◌, Option, Some, None, slice_set}
-use Rattle.std.specs.Option.{is_some}
-use Rattle.std.specs.List.{list_all}
-use Rattle.war_types.specs.declared.instr.Op.{Op}
-use Rattle.war_types.specs.declared.instr.Op.TheVariants as ops
-use Rattle.war_types.specs.declared.instr.Modifier.{Modifier}
-use Rattle.war_types.specs.declared.instr.Modifier.TheVariants as modifiers
-use Rattle.war_types.specs.declared.instr.Instr.{Instr}
-use Rattle.war_types.specs.Bytes.{op_code, modifier_code, mode_code}
-use Rattle.mars_core.specs.Cells.{Field, cell, number, with_number, lowered, plus, minus}
-use Rattle.mars_core.specs.Pairs.{Pair, pairs}
-use Rattle.mars_core.specs.Operand.{Operand}
+use Rattle.std.specs.{Prelude.{ℕ, ◌*◌, ◌/◌, ◌%◌, Bool, ◌&&◌, ◌==◌, not, nat_lt, if◌then◌else◌, List, [], ◌∷◌, Option, Some, None, slice_set}, Option.is_some, List.list_all}
+use Rattle.war_types.specs.{declared.instr.Op.Op, declared.instr.Modifier.Modifier, declared.instr.Instr.Instr, Bytes.{op_code, modifier_code, mode_code}}
+use Rattle.mars_core.specs.{Cells.{Field, cell, number, with_number, lowered, plus, minus}, Pairs.{Pair, pairs}, Operand.Operand}
 
 -- MOV: each target field is the A register's field of its pair
 abbrev pub moved : List Pair → Instr → Instr → Instr
@@ -19,7 +10,7 @@ moved (p ∷ ps) a target = moved ps a (with_number p.target (number p.source a)
 
 -- under .I the whole instruction
 abbrev pub copied : Modifier → Instr → Instr → Instr
-copied modifiers.I a target = a
+copied Modifier.I a target = a
 copied modifier a target = moved (pairs modifier) a target
 
 -- what an operation makes of two numbers
@@ -80,7 +71,7 @@ kinds_equal a b =
 
 -- SEQ: all pairs are equal; under .I all else too
 abbrev pub are_equal : Modifier → Instr → Instr → Bool
-are_equal modifiers.I a b = kinds_equal a b && numbers_equal modifiers.I a b
+are_equal Modifier.I a b = kinds_equal a b && numbers_equal Modifier.I a b
 are_equal modifier a b = numbers_equal modifier a b
 
 -- SLT: in every pair the A field is below the B field
@@ -121,23 +112,23 @@ calculates size pc arithmetic m a b core =
 
 -- a line for each operation
 abbrev pub by_op : ℕ → ℕ → Op → Modifier → Operand → Operand → List Instr → Effect
-by_op size pc ops.Dat m a b core = queues core []
-by_op size pc ops.Mov m a b core = queues (put b (copied m a.register (target b core)) core) (next size pc)
-by_op size pc ops.Add m a b core = calculates size pc Arithmetic.Sum m a b core
-by_op size pc ops.Sub m a b core = calculates size pc Arithmetic.Difference m a b core
-by_op size pc ops.Mul m a b core = calculates size pc Arithmetic.Product m a b core
-by_op size pc ops.Div m a b core = calculates size pc Arithmetic.Quotient m a b core
-by_op size pc ops.Mdl m a b core = calculates size pc Arithmetic.Remainder m a b core
-by_op size pc ops.Jmp m a b core = queues core (a.pointer ∷ [])
-by_op size pc ops.Jmz m a b core = queues core (jump_where size pc a (are_zero m b.register))
-by_op size pc ops.Jmn m a b core = queues core (jump_where size pc a (not (are_zero m b.register)))
-by_op size pc ops.Djn m a b core =
+by_op size pc Op.Dat m a b core = queues core []
+by_op size pc Op.Mov m a b core = queues (put b (copied m a.register (target b core)) core) (next size pc)
+by_op size pc Op.Add m a b core = calculates size pc Arithmetic.Sum m a b core
+by_op size pc Op.Sub m a b core = calculates size pc Arithmetic.Difference m a b core
+by_op size pc Op.Mul m a b core = calculates size pc Arithmetic.Product m a b core
+by_op size pc Op.Div m a b core = calculates size pc Arithmetic.Quotient m a b core
+by_op size pc Op.Mdl m a b core = calculates size pc Arithmetic.Remainder m a b core
+by_op size pc Op.Jmp m a b core = queues core (a.pointer ∷ [])
+by_op size pc Op.Jmz m a b core = queues core (jump_where size pc a (are_zero m b.register))
+by_op size pc Op.Jmn m a b core = queues core (jump_where size pc a (not (are_zero m b.register)))
+by_op size pc Op.Djn m a b core =
     queues (put b (all_lowered size (pairs m) (target b core)) core) (jump_where size pc a (not (fall_to_zero size m b.register)))
-by_op size pc ops.Seq m a b core = queues core (skip_where size pc (are_equal m a.register b.register))
-by_op size pc ops.Sne m a b core = queues core (skip_where size pc (not (are_equal m a.register b.register)))
-by_op size pc ops.Slt m a b core = queues core (skip_where size pc (are_less m a.register b.register))
-by_op size pc ops.Spl m a b core = queues core (plus size pc 1 ∷ a.pointer ∷ [])
-by_op size pc ops.Nop m a b core = queues core (next size pc)
+by_op size pc Op.Seq m a b core = queues core (skip_where size pc (are_equal m a.register b.register))
+by_op size pc Op.Sne m a b core = queues core (skip_where size pc (not (are_equal m a.register b.register)))
+by_op size pc Op.Slt m a b core = queues core (skip_where size pc (are_less m a.register b.register))
+by_op size pc Op.Spl m a b core = queues core (plus size pc 1 ∷ a.pointer ∷ [])
+by_op size pc Op.Nop m a b core = queues core (next size pc)
 
 unfoldable pub effect : ℕ → ℕ → Op → Modifier → Operand → Operand → List Instr → Effect
 effect size pc op m a b core = by_op size pc op m a b core

@@ -1,10 +1,7 @@
 -- A law of limits.
 use Rattle.std.specs.Prelude.{◌≡◌, ℕ, List}
-use Rattle.war_types.specs.declared.instr.Instr.{Instr}
-use Rattle.mars_core.specs.Cells.{IsCore}
-use Rattle.mars_core.specs.Round.{side_turn, IsQueue}
+use Rattle.{war_types.specs.declared.instr.Instr.Instr, mars_core.specs.{Cells.IsCore, Round.{side_turn, IsQueue}, Whole.whole}}
 use Rattle.mars_core.specs.Whole as without_limits
-use Rattle.mars_core.specs.Whole.{whole}
 
 -- with both limits at the core size a side's turn is the turn without limits
 abbrev pub LawOfLimits : Type 0

@@ -1,10 +1,7 @@
 -- The evaluation of an operand (the 1994 draft standard, "Instruction Execution"; the time of the B operand's copy is
 -- this project's own, for an immediate one too).
 use Rattle.std.specs.Prelude.{ℕ, ◌+◌, ◌-◌, ◌/◌, ◌%◌, nat_lt, if◌then◌else◌, List, slice_set}
-use Rattle.war_types.specs.declared.instr.Mode.{Mode}
-use Rattle.war_types.specs.declared.instr.Mode.TheVariants as modes
-use Rattle.war_types.specs.declared.instr.Instr.{Instr}
-use Rattle.mars_core.specs.Cells.{Field, cell, number, plus, raised, lowered}
+use Rattle.{war_types.specs.{declared.instr.Mode.Mode, declared.instr.Instr.Instr}, mars_core.specs.Cells.{Field, cell, number, plus, raised, lowered}}
 
 -- how many cells a core has, and within how many around its instruction an operand reads, and writes
 pub record Reach : Type 0 where
@@ -77,19 +74,18 @@ predecremented reach core pc field p =
 
 -- a postincrement raises it after the register is copied
 abbrev pub postincremented : Reach → List Instr → ℕ → Field → Pointers → Evaluated
-postincremented reach core pc field p =
-    evaluated (indirect reach core pc field p) (raised_at reach.size core (plus reach.size pc p.write) field)
+postincremented reach core pc field p = evaluated (indirect reach core pc field p) (raised_at reach.size core (plus reach.size pc p.write) field)
 
 -- the operand of a mode in an instruction at pc, by the pointers that its number makes
 abbrev pub by_mode : Reach → List Instr → ℕ → Mode → Pointers → Evaluated
-by_mode reach core pc modes.Immediate p = evaluated (found_from reach core pc (pointers 0 0)) core
-by_mode reach core pc modes.Direct p = evaluated (found_from reach core pc p) core
-by_mode reach core pc modes.AIndirect p = evaluated (indirect reach core pc Field.A p) core
-by_mode reach core pc modes.BIndirect p = evaluated (indirect reach core pc Field.B p) core
-by_mode reach core pc modes.APre p = predecremented reach core pc Field.A p
-by_mode reach core pc modes.BPre p = predecremented reach core pc Field.B p
-by_mode reach core pc modes.APost p = postincremented reach core pc Field.A p
-by_mode reach core pc modes.BPost p = postincremented reach core pc Field.B p
+by_mode reach core pc Mode.Immediate p = evaluated (found_from reach core pc (pointers 0 0)) core
+by_mode reach core pc Mode.Direct p = evaluated (found_from reach core pc p) core
+by_mode reach core pc Mode.AIndirect p = evaluated (indirect reach core pc Field.A p) core
+by_mode reach core pc Mode.BIndirect p = evaluated (indirect reach core pc Field.B p) core
+by_mode reach core pc Mode.APre p = predecremented reach core pc Field.A p
+by_mode reach core pc Mode.BPre p = predecremented reach core pc Field.B p
+by_mode reach core pc Mode.APost p = postincremented reach core pc Field.A p
+by_mode reach core pc Mode.BPost p = postincremented reach core pc Field.B p
 
 unfoldable pub operand : Reach → List Instr → ℕ → Mode → ℕ → Evaluated
 operand reach core pc mode number = by_mode reach core pc mode (pointed reach number)

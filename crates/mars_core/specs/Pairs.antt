@@ -1,8 +1,6 @@
 -- The pairs of fields that a modifier names (the 1994 draft standard, "Instruction Modifiers").
 use Rattle.std.specs.Prelude.{List, [], ◌∷◌}
-use Rattle.war_types.specs.declared.instr.Modifier.{Modifier}
-use Rattle.war_types.specs.declared.instr.Modifier.TheVariants as modifiers
-use Rattle.mars_core.specs.Cells.{Field}
+use Rattle.{war_types.specs.declared.instr.Modifier.Modifier, mars_core.specs.Cells.Field}
 
 -- a field of the A operand with a field of the B operand
 pub record Pair : Type 0 where
@@ -13,10 +11,10 @@ abbrev pub pair : Field → Field → Pair
 pair source target = record { source = source; target = target }
 
 abbrev pub pairs : Modifier → List Pair
-pairs modifiers.A = pair Field.A Field.A ∷ []
-pairs modifiers.B = pair Field.B Field.B ∷ []
-pairs modifiers.AB = pair Field.A Field.B ∷ []
-pairs modifiers.BA = pair Field.B Field.A ∷ []
-pairs modifiers.F = pair Field.A Field.A ∷ pair Field.B Field.B ∷ []
-pairs modifiers.X = pair Field.A Field.B ∷ pair Field.B Field.A ∷ []
-pairs modifiers.I = pair Field.A Field.A ∷ pair Field.B Field.B ∷ []
+pairs Modifier.A = pair Field.A Field.A ∷ []
+pairs Modifier.B = pair Field.B Field.B ∷ []
+pairs Modifier.AB = pair Field.A Field.B ∷ []
+pairs Modifier.BA = pair Field.B Field.A ∷ []
+pairs Modifier.F = pair Field.A Field.A ∷ pair Field.B Field.B ∷ []
+pairs Modifier.X = pair Field.A Field.B ∷ pair Field.B Field.A ∷ []
+pairs Modifier.I = pair Field.A Field.A ∷ pair Field.B Field.B ∷ []

@@ -1,18 +1,7 @@
 -- Turns and rounds (the 1994 draft standard, "MARS" and "Scoring"; the end of a round is this project's own).
 use Rattle.std.specs.Prelude.{ℕ, ◌+◌, ◌-◌, ◌*◌, ◌<◌, ◌≤◌, zero, suc, Bool, true, false, ◌||◌, nat_le, if◌then◌else◌, List, [], ◌∷◌, ◌++◌, length, take, replicate, All}
-use Rattle.war_types.specs.declared.instr.Instr.{Instr}
-use Rattle.war_types.specs.declared.settings.RawSettings.{RawSettings}
-use Rattle.war_types.specs.Settings.{AreSettings}
-use Rattle.war_types.specs.Warrior.{WarriorParts, Fits}
-use Rattle.mars_core.specs.declared.round.Side.{Side}
-use Rattle.mars_core.specs.declared.round.Side.TheVariants as sides
-use Rattle.mars_core.specs.declared.round.Turned.{Turned}
-use Rattle.mars_core.specs.declared.round.Turned.TheVariants as turneds
-use Rattle.mars_core.specs.declared.round.Outcome.{Outcome}
-use Rattle.mars_core.specs.declared.round.Outcome.TheVariants as outcomes
-use Rattle.mars_core.specs.Cells.{IsCore, blank, cell}
-use Rattle.mars_core.specs.Operand.{Reach, operand}
-use Rattle.mars_core.specs.Effect.{Effect, effect}
+use Rattle.war_types.specs.{declared.instr.Instr.Instr, declared.settings.RawSettings.RawSettings, Settings.AreSettings, Warrior.{WarriorParts, Fits}}
+use Rattle.mars_core.specs.{declared.round.Side.Side, declared.round.Turned.Turned, declared.round.Outcome.Outcome, Cells.{IsCore, blank, cell}, Operand.{Reach, operand}, Effect.{Effect, effect}}
 
 -- the process at pc: its instruction is copied, A is evaluated, then B on the core that A left, then the operation
 unfoldable pub executed : Reach → List Instr → ℕ → Effect
@@ -41,19 +30,19 @@ is_over r = is_empty r.first || is_empty r.second || nat_le (2 * r.settings.cycl
 
 -- the queue of a side
 abbrev pub queue_of : Side → Round → List ℕ
-queue_of sides.First r = r.first
-queue_of sides.Second r = r.second
+queue_of Side.First r = r.first
+queue_of Side.Second r = r.second
 
 -- the round after a side's turn, which left this core and this queue of its own: the other side is next
 abbrev pub after_side : Side → List Instr → List ℕ → Round → Round
-after_side sides.First core queue r =
-    record { settings = r.settings; core = core; first = queue; second = r.second; to_move = sides.Second; used = r.used + 1 }
-after_side sides.Second core queue r =
-    record { settings = r.settings; core = core; first = r.first; second = queue; to_move = sides.First; used = r.used + 1 }
+after_side Side.First core queue r =
+    record { settings = r.settings; core = core; first = queue; second = r.second; to_move = Side.Second; used = r.used + 1 }
+after_side Side.Second core queue r =
+    record { settings = r.settings; core = core; first = r.first; second = queue; to_move = Side.First; used = r.used + 1 }
 
 abbrev pub turned_by : List ℕ → Turned
-turned_by [] = turneds.Died
-turned_by (x ∷ xs) = turneds.Went
+turned_by [] = Turned.Died
+turned_by (x ∷ xs) = Turned.Went
 
 -- what a side's turn leaves, and how it went
 pub record SideTurn : Type 0 where
@@ -66,7 +55,7 @@ side_turned core queue turned = record { core = core; queue = queue; turned = tu
 
 -- the front process is taken and executed, and what it queues goes after the others as far as there is room
 unfoldable pub side_turn : Reach → ℕ → List Instr → List ℕ → SideTurn
-side_turn reach limit core [] = side_turned core [] turneds.Over
+side_turn reach limit core [] = side_turned core [] Turned.Over
 side_turn reach limit core (pc ∷ rest) =
     let done = executed reach core pc in
     side_turned done.core (take limit (rest ++ done.queued)) (turned_by done.queued)
@@ -85,7 +74,7 @@ after_turn r = if is_over r then r else after_side r.to_move (turn_of r).core (t
 
 -- whether the round was over, and else how the turn went
 unfoldable pub turned : Round → Turned
-turned r = if is_over r then turneds.Over else (turn_of r).turned
+turned r = if is_over r then Turned.Over else (turn_of r).turned
 
 -- a number of turns
 unfoldable pub after_turns : ℕ → Round → Round
@@ -94,23 +83,21 @@ after_turns (suc n) r = after_turns n (after_turn r)
 
 -- the side that alone has a process wins
 abbrev pub outcome_of : Bool → Bool → Outcome
-outcome_of false true = outcomes.First
-outcome_of true false = outcomes.Second
-outcome_of true true = outcomes.Tie
-outcome_of false false = outcomes.Tie
+outcome_of false true = Outcome.First
+outcome_of true false = Outcome.Second
+outcome_of true true = Outcome.Tie
+outcome_of false false = Outcome.Tie
 
 abbrev pub outcome : Round → Outcome
 outcome r = outcome_of (is_empty r.first) (is_empty r.second)
 
 -- nothing loaded, and no process
 abbrev pub fresh : RawSettings → Round
-fresh s =
-    record { settings = s; core = replicate s.core blank; first = []; second = []; to_move = sides.First; used = 0 }
+fresh s = record { settings = s; core = replicate s.core blank; first = []; second = []; to_move = Side.First; used = 0 }
 
 -- the core with two warriors in it, the first at 0, the second at a position
 abbrev pub loaded : ℕ → List Instr → List Instr → ℕ → List Instr
-loaded size code0 code1 position =
-    code0 ++ replicate (position - length code0) blank ++ code1 ++ replicate (size - (position + length code1)) blank
+loaded size code0 code1 position = code0 ++ replicate (position - length code0) blank ++ code1 ++ replicate (size - (position + length code1)) blank
 
 -- each warrior has one process, at its start
 abbrev pub opening : RawSettings → WarriorParts → WarriorParts → ℕ → Side → Round

@@ -1,7 +1,6 @@
 -- What a turn leaves as it was.
 use Rattle.std.specs.Prelude.{◌≡◌, ◌≢◌, ℕ, List, All}
-use Rattle.war_types.specs.declared.instr.Instr.{Instr}
-use Rattle.mars_core.specs.Cells.{cell}
+use Rattle.{war_types.specs.declared.instr.Instr.Instr, mars_core.specs.Cells.cell}
 
 -- the cells at all addresses but these hold the same in both cores
 abbrev pub AreSameBut : List ℕ → List Instr → List Instr → Type 0

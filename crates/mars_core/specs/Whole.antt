@@ -1,15 +1,9 @@
 -- Of the machine without limits: an operand reads and writes anywhere in the core, so one address stands for both pointers. The laws of limits say
 -- that this is the definition if both limits are the core size.
 use Rattle.std.specs.Prelude.{ℕ, List, [], ◌∷◌, ◌++◌, take}
-use Rattle.war_types.specs.declared.instr.Mode.{Mode}
-use Rattle.war_types.specs.declared.instr.Mode.TheVariants as modes
-use Rattle.war_types.specs.declared.instr.Instr.{Instr}
-use Rattle.mars_core.specs.Cells.{Field, cell, number, plus}
+use Rattle.{war_types.specs.{declared.instr.Mode.Mode, declared.instr.Instr.Instr}, mars_core.specs.Cells.{Field, cell, number, plus}}
+use Rattle.mars_core.specs.{Operand.{Reach, Operand, Evaluated, evaluated, raised_at, lowered_at}, Effect.{Effect, effect}, Round.{SideTurn, side_turned, turned_by}, declared.round.Turned.Turned}
 use Rattle.mars_core.specs.Operand as limited
-use Rattle.mars_core.specs.Operand.{Reach, Operand, Evaluated, evaluated, raised_at, lowered_at}
-use Rattle.mars_core.specs.declared.round.Turned.TheVariants as turneds
-use Rattle.mars_core.specs.Effect.{Effect, effect}
-use Rattle.mars_core.specs.Round.{SideTurn, side_turned, turned_by}
 
 -- both limits are the core size
 abbrev pub whole : ℕ → Reach
@@ -38,14 +32,14 @@ postincremented size core at field = evaluated (indirect size core at field) (ra
 
 -- the operand of a mode and a number in an instruction at pc, by the address that pc and the number make
 abbrev pub by_mode : ℕ → List Instr → ℕ → Mode → ℕ → Evaluated
-by_mode size core pc modes.Immediate at = evaluated (found core pc) core
-by_mode size core pc modes.Direct at = evaluated (found core at) core
-by_mode size core pc modes.AIndirect at = evaluated (indirect size core at Field.A) core
-by_mode size core pc modes.BIndirect at = evaluated (indirect size core at Field.B) core
-by_mode size core pc modes.APre at = predecremented size core at Field.A
-by_mode size core pc modes.BPre at = predecremented size core at Field.B
-by_mode size core pc modes.APost at = postincremented size core at Field.A
-by_mode size core pc modes.BPost at = postincremented size core at Field.B
+by_mode size core pc Mode.Immediate at = evaluated (found core pc) core
+by_mode size core pc Mode.Direct at = evaluated (found core at) core
+by_mode size core pc Mode.AIndirect at = evaluated (indirect size core at Field.A) core
+by_mode size core pc Mode.BIndirect at = evaluated (indirect size core at Field.B) core
+by_mode size core pc Mode.APre at = predecremented size core at Field.A
+by_mode size core pc Mode.BPre at = predecremented size core at Field.B
+by_mode size core pc Mode.APost at = postincremented size core at Field.A
+by_mode size core pc Mode.BPost at = postincremented size core at Field.B
 
 unfoldable pub operand : ℕ → List Instr → ℕ → Mode → ℕ → Evaluated
 operand size core pc mode number = by_mode size core pc mode (plus size pc number)
@@ -60,7 +54,7 @@ executed size core pc =
 
 -- a side's turn, as with limits
 unfoldable pub side_turn : ℕ → ℕ → List Instr → List ℕ → SideTurn
-side_turn size limit core [] = side_turned core [] turneds.Over
+side_turn size limit core [] = side_turned core [] Turned.Over
 side_turn size limit core (pc ∷ rest) =
     let done = executed size core pc in
     side_turned done.core (take limit (rest ++ done.queued)) (turned_by done.queued)

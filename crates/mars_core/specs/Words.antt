@@ -1,14 +1,7 @@
 -- Of the code alone: what a cell holds in 64 bits, and the list of the cells that were written. No definition of turns and rounds names a word
 -- of this file.
 use Rattle.std.specs.Prelude.{◌≡◌, ℕ, ◌+◌, ◌*◌, ◌/◌, ◌%◌, ◌^◌, ◌<◌, ◌≤◌, ◌==◌, Bool, true, false, if◌then◌else◌, List, length, map, slice_index, count_by, All}
-use Rattle.war_types.specs.declared.instr.Op.{Op}
-use Rattle.war_types.specs.declared.instr.Op.TheVariants as ops
-use Rattle.war_types.specs.declared.instr.Modifier.{Modifier}
-use Rattle.war_types.specs.declared.instr.Modifier.TheVariants as modifiers
-use Rattle.war_types.specs.declared.instr.Mode.{Mode}
-use Rattle.war_types.specs.declared.instr.Mode.TheVariants as modes
-use Rattle.war_types.specs.declared.instr.Instr.{Instr}
-use Rattle.war_types.specs.Bytes.{op_code, modifier_code, mode_code}
+use Rattle.war_types.specs.{declared.instr.Op.Op, declared.instr.Modifier.Modifier, declared.instr.Mode.Mode, declared.instr.Instr.Instr, Bytes.{op_code, modifier_code, mode_code}}
 use Rattle.mars_core.specs.Cells.{blank}
 
 -- what a cell holds: an instruction, and the mark of a cell that was written since its core was cleared
@@ -29,20 +22,20 @@ bits_of w =
 
 abbrev pub mode_at : ℕ → Mode
 mode_at n =
-    if n == 0 then modes.Immediate else if n == 1 then modes.Direct else if n == 2 then modes.AIndirect else if n == 3 then modes.BIndirect
-    else if n == 4 then modes.APre else if n == 5 then modes.BPre else if n == 6 then modes.APost else modes.BPost
+    if n == 0 then Mode.Immediate else if n == 1 then Mode.Direct else if n == 2 then Mode.AIndirect else if n == 3 then Mode.BIndirect
+    else if n == 4 then Mode.APre else if n == 5 then Mode.BPre else if n == 6 then Mode.APost else Mode.BPost
 
 abbrev pub modifier_at : ℕ → Modifier
 modifier_at n =
-    if n == 0 then modifiers.A else if n == 1 then modifiers.B else if n == 2 then modifiers.AB else if n == 3 then modifiers.BA
-    else if n == 4 then modifiers.F else if n == 5 then modifiers.X else modifiers.I
+    if n == 0 then Modifier.A else if n == 1 then Modifier.B else if n == 2 then Modifier.AB else if n == 3 then Modifier.BA
+    else if n == 4 then Modifier.F else if n == 5 then Modifier.X else Modifier.I
 
 abbrev pub op_at : ℕ → Op
 op_at n =
-    if n == 0 then ops.Dat else if n == 1 then ops.Mov else if n == 2 then ops.Add else if n == 3 then ops.Sub else if n == 4 then ops.Mul
-    else if n == 5 then ops.Div else if n == 6 then ops.Mdl else if n == 7 then ops.Jmp else if n == 8 then ops.Jmz else if n == 9 then ops.Jmn
-    else if n == 10 then ops.Djn else if n == 11 then ops.Seq else if n == 12 then ops.Sne else if n == 13 then ops.Slt else if n == 14 then ops.Spl
-    else ops.Nop
+    if n == 0 then Op.Dat else if n == 1 then Op.Mov else if n == 2 then Op.Add else if n == 3 then Op.Sub else if n == 4 then Op.Mul
+    else if n == 5 then Op.Div else if n == 6 then Op.Mdl else if n == 7 then Op.Jmp else if n == 8 then Op.Jmz else if n == 9 then Op.Jmn
+    else if n == 10 then Op.Djn else if n == 11 then Op.Seq else if n == 12 then Op.Sne else if n == 13 then Op.Slt else if n == 14 then Op.Spl
+    else Op.Nop
 
 -- the word in these bits
 abbrev pub word_in : ℕ → Word
@@ -64,8 +57,8 @@ IsWord bits = bits_of (word_in bits) ≡ bits
 
 -- immediate or direct
 abbrev pub is_plain : Mode → Bool
-is_plain modes.Immediate = true
-is_plain modes.Direct = true
+is_plain Mode.Immediate = true
+is_plain Mode.Direct = true
 is_plain mode = false
 
 -- the core in these cells

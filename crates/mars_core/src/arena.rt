@@ -1,9 +1,7 @@
 //! The arena in which rounds are played.
 
 ghost use Rattle.std.specs.Prelude.{◌≡◌, ◌+◌, ◌-◌, ◌*◌, ◌<◌, ◌≤◌, Bool, true, false, Option, Some, length, slice_get, All, IfOk, IfSome, MatchOption};
-ghost use Rattle.mars_core.specs.Queue.{front};
-ghost use Rattle.mars_core.specs.Round.{is_empty, is_over, queue_of, reach_of, after_turn, turned, after_turns, outcome, fresh, opening, IsRound, CanBegin};
-ghost use Rattle.mars_core.specs.Touched.{AreSameBut};
+ghost use Rattle.mars_core.specs.{Queue.front, Round.{is_empty, is_over, queue_of, reach_of, after_turn, turned, after_turns, outcome, fresh, opening, IsRound, CanBegin}, Touched.AreSameBut};
 
 use crate::cells::Core;
 use crate::limits::{Limits, Whole, Within};

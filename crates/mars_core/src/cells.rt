@@ -1,9 +1,7 @@
 //! The core: its cells, and the addresses of those that were written.
 
 ghost use Rattle.std.specs.Prelude.{◌≡◌, ◌+◌, ◌<◌, ◌≤◌, List, length, replicate, slice_set, IfOk};
-ghost use Rattle.war_types.specs.Warrior.{HasNumbersBelow};
-ghost use Rattle.mars_core.specs.Cells.{IsCore, blank, cell, with_number};
-ghost use Rattle.mars_core.specs.Code.{field_of};
+ghost use Rattle.{war_types.specs.Warrior.HasNumbersBelow, mars_core.specs.{Cells.{IsCore, blank, cell, with_number}, Code.field_of}};
 
 use crate::field::Field;
 use crate::size::Size;
@@ -32,9 +30,7 @@ pub(crate) struct Core<A: Allocator> {
 }
 
 impl<A: Allocator> Model for Core<A> {
-    ghost use Rattle.std.specs.Prelude.{List, length};
-    ghost use Rattle.war_types.specs.declared.instr.Instr.{Instr};
-    ghost use Rattle.mars_core.specs.Words.{core_in, AreCells};
+    ghost use Rattle.{std.specs.Prelude.{List, length}, war_types.specs.declared.instr.Instr.Instr, mars_core.specs.Words.{core_in, AreCells}};
 
     ghost Value = { List Instr };
 

@@ -1,10 +1,7 @@
 //! What a MOV writes, by the pairs of its modifier.
 
 ghost use Rattle.std.specs.Prelude.{◌≡◌, ◌<◌, slice_set};
-ghost use Rattle.war_types.specs.Warrior.{HasNumbersBelow};
-ghost use Rattle.mars_core.specs.Cells.{IsCore, cell};
-ghost use Rattle.mars_core.specs.Pairs.{pairs};
-ghost use Rattle.mars_core.specs.Effect.{copied, moved};
+ghost use Rattle.{war_types.specs.Warrior.HasNumbersBelow, mars_core.specs.{Cells.{IsCore, cell}, Pairs.pairs, Effect.{copied, moved}}};
 
 use crate::cells::Core;
 use crate::field::{Paired, pairs};

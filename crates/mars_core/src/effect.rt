@@ -2,10 +2,7 @@
 
 ghost use Rattle.std.specs.Prelude.{◌≡◌, ◌<◌, ◌≤◌, All};
 ghost use Rattle.war_types.specs.Warrior.{HasNumbersBelow};
-ghost use Rattle.mars_core.specs.Cells.{IsCore};
-ghost use Rattle.mars_core.specs.Round.{executed};
-ghost use Rattle.mars_core.specs.Effect.{queues, effect, skip_where, jump_where, calculates, put, target};
-ghost use Rattle.mars_core.specs.Code.{addresses, arithmetic_of, operand_of};
+ghost use Rattle.mars_core.specs.{Cells.IsCore, Round.executed, Effect.{queues, effect, skip_where, jump_where, calculates, put, target}, Code.{addresses, arithmetic_of, operand_of}};
 
 use crate::arithmetic::Arithmetic;
 use crate::cells::Core;

@@ -1,8 +1,7 @@
 //! The two numbers of an instruction, and the pairs of them that a modifier names.
 
 ghost use Rattle.std.specs.Prelude.{◌≡◌};
-ghost use Rattle.mars_core.specs.Pairs.{pairs};
-ghost use Rattle.mars_core.specs.Code.{listed};
+ghost use Rattle.mars_core.specs.{Pairs.pairs, Code.listed};
 
 use war_types::Modifier;
 

@@ -1,11 +1,8 @@
 //! How far the operands of an instruction reach.
 
 ghost use Rattle.std.specs.Prelude.{◌≡◌, ℕ, ◌+◌, ◌<◌, ◌≤◌};
-ghost use Rattle.war_types.specs.Warrior.{HasNumbersBelow};
-ghost use Rattle.mars_core.specs.Cells.{IsCore};
-ghost use Rattle.mars_core.specs.Operand.{Reach, pointed, led_on, found_from, evaluated, operand, indirect, predecremented, postincremented};
-ghost use Rattle.mars_core.specs.Whole.{whole};
-ghost use Rattle.mars_core.specs.Code.{evaluated_both, field_of, operand_of, operands, pointers_of, IsReach};
+ghost use Rattle.{war_types.specs.Warrior.HasNumbersBelow, mars_core.specs.{Cells.IsCore, Operand.{Reach, pointed, led_on, found_from, evaluated, operand, indirect, predecremented, postincremented}}};
+ghost use Rattle.mars_core.specs.{Whole.whole, Code.{evaluated_both, field_of, operand_of, operands, pointers_of, IsReach}};
 
 use crate::cells::Core;
 use crate::field::Field;
@@ -71,8 +68,7 @@ pub(crate) struct Within {
 }
 
 impl Model for Within {
-    ghost use Rattle.mars_core.specs.Operand.{Reach};
-    ghost use Rattle.mars_core.specs.Code.{IsReach};
+    ghost use Rattle.mars_core.specs.{Operand.Reach, Code.IsReach};
 
     ghost Value = { Reach };
 

@@ -1,9 +1,7 @@
 //! The core at the beginning of a round.
 
 ghost use Rattle.std.specs.Prelude.{◌≡◌, ◌+◌, ◌≤◌, ◌++◌, All, drop, length, take};
-ghost use Rattle.war_types.specs.Warrior.{HasNumbersBelow};
-ghost use Rattle.mars_core.specs.Cells.{IsCore};
-ghost use Rattle.mars_core.specs.Round.{loaded};
+ghost use Rattle.{war_types.specs.Warrior.HasNumbersBelow, mars_core.specs.{Cells.IsCore, Round.loaded}};
 
 use crate::cells::Core;
 use crate::size::Size;

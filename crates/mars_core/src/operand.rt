@@ -1,12 +1,8 @@
 //! The evaluation of operands without limits.
 
 ghost use Rattle.std.specs.Prelude.{◌≡◌, ◌<◌, true};
-ghost use Rattle.war_types.specs.Warrior.{HasNumbersBelow};
-ghost use Rattle.mars_core.specs.Cells.{IsCore};
-ghost use Rattle.mars_core.specs.Operand.{evaluated};
-ghost use Rattle.mars_core.specs.Whole.{found, through, indirect, predecremented, postincremented, operand};
-ghost use Rattle.mars_core.specs.Code.{field_of, operand_of, evaluated_both, whole_operands};
-ghost use Rattle.mars_core.specs.Words.{is_plain};
+ghost use Rattle.{war_types.specs.Warrior.HasNumbersBelow, mars_core.specs.{Cells.IsCore, Operand.evaluated, Whole.{found, through, indirect, predecremented, postincremented, operand}}};
+ghost use Rattle.mars_core.specs.{Code.{field_of, operand_of, evaluated_both, whole_operands}, Words.is_plain};
 
 use crate::cells::Core;
 use crate::field::Field;

@@ -1,8 +1,7 @@
 //! Queues of processes.
 
 ghost use Rattle.std.specs.Prelude.{◌≡◌, ℕ, ◌<◌, ◌≤◌, false, [], ◌∷◌, ◌++◌, List, Option, length, slice_get, IfOk};
-ghost use Rattle.mars_core.specs.Queue.{front, processes, queued, behind_front};
-ghost use Rattle.mars_core.specs.Round.{is_empty};
+ghost use Rattle.mars_core.specs.{Queue.{front, processes, queued, behind_front}, Round.is_empty};
 
 use circular_buffer::HeapCircularBuffer;
 use std::alloc::{AllocError, Allocator};

@@ -1,9 +1,7 @@
 //! What an operation reads and makes of its registers, by the pairs of its modifier.
 
 ghost use Rattle.std.specs.Prelude.{◌≡◌, ◌<◌, ◌≤◌, ◌==◌, nat_lt, IfSome};
-ghost use Rattle.war_types.specs.Warrior.{HasNumbersBelow};
-ghost use Rattle.mars_core.specs.Cells.{number, lowered, minus};
-ghost use Rattle.mars_core.specs.Pairs.{pairs};
+ghost use Rattle.{war_types.specs.Warrior.HasNumbersBelow, mars_core.specs.{Cells.{number, lowered, minus}, Pairs.pairs}};
 ghost use Rattle.mars_core.specs.Effect.{value, with_value, calculated, have_values, all_lowered, are_zero, fall_to_zero, are_equal, numbers_equal, are_less};
 ghost use Rattle.mars_core.specs.Code.{arithmetic_of, field_of, pair_of};
 

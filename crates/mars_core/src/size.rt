@@ -1,10 +1,7 @@
 //! The size of a core, and the numbers below it.
 
 ghost use Rattle.std.specs.Prelude.{◌≡◌, ◌<◌, ◌≤◌, IfSome};
-ghost use Rattle.mars_core.specs.Cells.{plus, minus};
-ghost use Rattle.mars_core.specs.Operand.{folded};
-ghost use Rattle.mars_core.specs.Effect.{combined};
-ghost use Rattle.mars_core.specs.Code.{arithmetic_of};
+ghost use Rattle.mars_core.specs.{Cells.{plus, minus}, Operand.folded, Effect.combined, Code.arithmetic_of};
 
 use crate::arithmetic::Arithmetic;
 use std::marker::Model;

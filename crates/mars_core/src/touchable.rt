@@ -1,11 +1,7 @@
 //! The cells that a process may write.
 
 ghost use Rattle.std.specs.Prelude.{◌≡◌, ◌<◌, ◌≤◌, All};
-ghost use Rattle.mars_core.specs.Cells.{plus, IsCore};
-ghost use Rattle.mars_core.specs.Operand.{Reach, folded};
-ghost use Rattle.mars_core.specs.Round.{executed};
-ghost use Rattle.mars_core.specs.Touched.{AreSameBut};
-ghost use Rattle.mars_core.specs.Code.{field_of, led_by};
+ghost use Rattle.mars_core.specs.{Cells.{plus, IsCore}, Operand.{Reach, folded}, Round.executed, Touched.AreSameBut, Code.{field_of, led_by}};
 
 use crate::cells::Core;
 use crate::field::Field;

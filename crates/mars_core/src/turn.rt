@@ -1,11 +1,7 @@
 //! Turns.
 
 ghost use Rattle.std.specs.Prelude.{◌≡◌, ℕ, ◌+◌, ◌-◌, ◌*◌, ◌≤◌, false};
-ghost use Rattle.war_types.specs.declared.settings.RawSettings.{RawSettings};
-ghost use Rattle.mars_core.specs.Cells.{IsCore};
-ghost use Rattle.mars_core.specs.Round.{after_turns, is_empty, reach_of, turned, IsQueue};
-ghost use Rattle.mars_core.specs.Arena.{round_in};
-ghost use Rattle.mars_core.specs.Code.{other};
+ghost use Rattle.{war_types.specs.declared.settings.RawSettings.RawSettings, mars_core.specs.{Cells.IsCore, Round.{after_turns, is_empty, reach_of, turned, IsQueue}, Arena.round_in, Code.other}};
 
 use crate::cells::Core;
 use crate::effect::{Queued, execute};

@@ -2,10 +2,7 @@
 
 ghost use Rattle.std.specs.Prelude.{◌≡◌, ℕ, ◌<◌, ◌≤◌, ◌==◌, Bool, true, false, ◌&&◌};
 ghost use Rattle.war_types.specs.Warrior.{HasNumbersBelow};
-ghost use Rattle.mars_core.specs.Cells.{number, with_number};
-ghost use Rattle.mars_core.specs.Effect.{are_equal};
-ghost use Rattle.mars_core.specs.Code.{field_of};
-ghost use Rattle.mars_core.specs.Words.{Word, IsWord, word_in, op_at, modifier_at, mode_at, is_plain};
+ghost use Rattle.mars_core.specs.{Cells.{number, with_number}, Effect.are_equal, Code.field_of, Words.{Word, IsWord, word_in, op_at, modifier_at, mode_at, is_plain}};
 
 use crate::field::Field;
 use std::marker::Model;

@@ -1,32 +1,22 @@
 -- The warrior of the lines of a load text.
-use Rattle.std.proofs.Common.{◌≡◌, ℕ, ◌+◌, ◌≤◌, ◌<◌, Bool, false, List, [], ◌∷◌, length, None, Some, Ok, pos, refl, arith, lt-ltb}
-use Rattle.std.specs.Fmt.{decimal}
-use Rattle.std.specs.List.{AllByRecursion}
-use Rattle.std.proofs.lemmas.Bool.Decides.{nat_tests}
-use Rattle.war_types.specs.declared.instr.Instr.{Instr}
-use Rattle.war_types.specs.declared.settings.RawSettings.{RawSettings}
-use Rattle.war_types.specs.Warrior.{WarriorParts, HasNumbersBelow}
-use Rattle.redcode_text.specs.declared.vocabulary.Word.TheVariants as words
-use Rattle.redcode_lines.specs.declared.line.LineKind.{LineKind}
-use Rattle.redcode_lines.specs.declared.line.LineKind.TheVariants as lines
-use Rattle.redcode_statement.specs.declared.statement.Statement.TheVariants as statements
-use Rattle.redcode_statement.proofs.OperandLemmas.{Spells-decimal, number_token}
-use Rattle.redcode_statement.proofs.InstrLemmas.{instr_tokens, not_bad-line, instruction_of-line, parted-one}
-use Rattle.redcode_asm.specs.Names.{values_of}
-use Rattle.redcode_asm.specs.Said.{said_by}
-use Rattle.redcode_asm.specs.Assembly.{Placed, all_said, code_of, org_of, last_of, all_hold, of_length, last_text, is_name, is_author, warrior_with, assembly_of}
+use Rattle.{std.proofs.Common.{◌≡◌, ℕ, ◌+◌, ◌≤◌, ◌<◌, Bool, false, List, [], ◌∷◌, length, None, Some, Ok, pos, refl, arith, lt-ltb}, std.specs.{Fmt.decimal, List.AllByRecursion}}
+use Rattle.{std.proofs.lemmas.Bool.Decides.nat_tests, war_types.specs.{declared.instr.Instr.Instr, declared.settings.RawSettings.RawSettings, Warrior.{WarriorParts, HasNumbersBelow}}}
+use Rattle.{redcode_text.specs.declared.vocabulary.Word.Word, redcode_lines.specs.declared.line.LineKind.LineKind, redcode_statement.specs.declared.statement.Statement.Statement}
+use Rattle.redcode_statement.proofs.{OperandLemmas.{Spells-decimal, number_token}, InstrLemmas.{instr_tokens, not_bad-line, instruction_of-line, parted-one}}
+use Rattle.redcode_asm.specs.{Names.values_of, Said.said_by, Assembly.{Placed, all_said, code_of, org_of, last_of, all_hold, of_length, last_text, is_name, is_author, warrior_with, assembly_of}}
 use Rattle.redcode_asm.proofs.LoadLemmas.{end_tokens, org_tokens, code_lines, load_lines}
+use Rattle.redcode_lines.specs.declared.line.LineKind.TheVariants as lines
 
 -- what the lines of this code and END say, from this line number on
 abbrev said_lines : ℕ → List Instr → List Placed
-said_lines n [] = (n, statements.Nothing) ∷ []
-said_lines n (i ∷ is) = (n, statements.Instruction i) ∷ said_lines (n + 1) is
+said_lines n [] = (n, Statement.Nothing) ∷ []
+said_lines n (i ∷ is) = (n, Statement.Instruction i) ∷ said_lines (n + 1) is
 
-said_by-end : (s : RawSettings) (before : ℕ) → said_by s [] lines.End (Some words.End) before end_tokens ≡ Ok statements.Nothing
+said_by-end : (s : RawSettings) (before : ℕ) → said_by s [] lines.End (Some Word.End) before end_tokens ≡ Ok Statement.Nothing
 unfolding said_by
 said_by-end s before = refl
 
-said_by-org : (s : RawSettings) (start : ℕ) → start < 65536 → said_by s [] lines.Org (Some words.Org) 0 (org_tokens start) ≡ Ok (statements.Org (pos start))
+said_by-org : (s : RawSettings) (start : ℕ) → start < 65536 → said_by s [] lines.Org (Some Word.Org) 0 (org_tokens start) ≡ Ok (Statement.Org (pos start))
 unfolding said_by
 said_by-org s start small =
     let number = (Spells-decimal start small).0 in
@@ -34,7 +24,7 @@ said_by-org s start small =
     rw (whole.0, whole.1, number.value (values_of s [] 0 0)) refl
 
 said_by-line : (s : RawSettings) (before : ℕ) (i : Instr) → HasNumbersBelow s.core i → s.core ≤ 65535
-    → said_by s [] lines.Operation (Some (words.Operation i.op)) before (instr_tokens s.core i) ≡ Ok (statements.Instruction i)
+    → said_by s [] lines.Operation (Some (Word.Operation i.op)) before (instr_tokens s.core i) ≡ Ok (Statement.Instruction i)
 unfolding said_by
 said_by-line s before i below most = rw (not_bad-line s.core i below most, instruction_of-line s.core (values_of s [] before before) i below most) refl
 

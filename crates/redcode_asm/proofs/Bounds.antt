@@ -1,27 +1,16 @@
 -- The numbers of the code are addresses of the core.
-use Rattle.std.proofs.Common.{ℕ, ◌<◌, List, [], ◌∷◌, ◌++◌, drop, Option, IfOk, arith}
-use Rattle.std.specs.List.{AllByRecursion}
-use Rattle.war_types.specs.declared.instr.Instr.{Instr}
-use Rattle.war_types.specs.declared.settings.RawSettings.{RawSettings}
-use Rattle.war_types.specs.Warrior.{HasNumbersBelow}
-use Rattle.redcode_text.specs.declared.vocabulary.Word.{Word}
-use Rattle.redcode_text.specs.Tokens.{Piece}
-use Rattle.redcode_lines.specs.declared.line.LineKind.{LineKind}
-use Rattle.redcode_lines.specs.declared.line.LineKind.TheVariants as lines
-use Rattle.redcode_names.specs.Name.{LabelList}
-use Rattle.redcode_expand.specs.Expansion.{ExpandedLine}
-use Rattle.redcode_statement.proofs.Bounds.{HasBounds, below-instruction, below-said}
-use Rattle.redcode_asm.specs.Names.{values_of}
-use Rattle.redcode_asm.specs.Said.{said_by, said_by_kind}
-use Rattle.redcode_asm.specs.Assembly.{Placed, all_said, code_of}
+use Rattle.{std.proofs.Common.{ℕ, ◌<◌, List, [], ◌∷◌, ◌++◌, drop, Option, IfOk, arith}, std.specs.List.AllByRecursion, war_types.specs.declared.instr.Instr.Instr}
+use Rattle.{war_types.specs.{declared.settings.RawSettings.RawSettings, Warrior.HasNumbersBelow}, redcode_text.specs.{declared.vocabulary.Word.Word, Tokens.Piece}}
+use Rattle.{redcode_lines.specs.declared.line.LineKind.LineKind, redcode_statement.proofs.Bounds.{HasBounds, below-instruction, below-said}, redcode_names.specs.Name.LabelList}
+use Rattle.{redcode_expand.specs.Expansion.ExpandedLine, redcode_asm.specs.{Names.values_of, Said.{said_by, said_by_kind}, Assembly.{Placed, all_said, code_of}}}
 
 below-kind : (s : RawSettings) (labels : LabelList) (kind : LineKind) (word : Option Word) (before : ℕ) (tokens : List Piece) → 0 < s.core
     → IfOk (said_by_kind s labels kind word before tokens) (HasBounds s.core)
-below-kind s labels lines.Operation word before tokens some = below-said s.core _ (below-instruction s.core (values_of s labels before before) word (drop 1 tokens) some)
-below-kind s labels lines.Org word before tokens some = grind arith
-below-kind s labels lines.End word before tokens some = grind arith
-below-kind s labels lines.Assert word before tokens some = grind arith
-below-kind s labels lines.Other word before tokens some = grind arith
+below-kind s labels LineKind.Operation word before tokens some = below-said s.core _ (below-instruction s.core (values_of s labels before before) word (drop 1 tokens) some)
+below-kind s labels LineKind.Org word before tokens some = grind arith
+below-kind s labels LineKind.End word before tokens some = grind arith
+below-kind s labels LineKind.Assert word before tokens some = grind arith
+below-kind s labels LineKind.Other word before tokens some = grind arith
 below-kind s labels _ word before tokens some = tt
 
 below-said_by : (s : RawSettings) (labels : LabelList) (kind : LineKind) (word : Option Word) (before : ℕ) (tokens : List Piece) → 0 < s.core

@@ -1,19 +1,9 @@
 -- A warrior of code of the right length, with its start in it and its numbers below the core size, fits.
-use Rattle.std.proofs.Common.{◌≡◌, ℕ, ◌<◌, ◌≤◌, List, length, Option, None, Some, Result, Ok, ℤ, IfOk, refl, subst, arith}
-use Rattle.std.specs.Prelude.{IsSome}
-use Rattle.std.specs.Option.{SomeIff}
-use Rattle.std.proofs.lemmas.Bool.Decides.{nat_tests}
-use Rattle.std.proofs.lemmas.List.Elements.{All-from_recursion}
-use Rattle.war_types.specs.declared.fault.AsmFault.{AsmFault}
-use Rattle.war_types.specs.declared.instr.Instr.{Instr}
-use Rattle.war_types.specs.declared.settings.RawSettings.{RawSettings}
-use Rattle.war_types.specs.Settings.{AreSettings}
-use Rattle.war_types.specs.Warrior.{HasNumbersBelow, Fits, warrior_parts}
-use Rattle.redcode_names.specs.Name.{LabelList}
-use Rattle.redcode_expand.specs.Expansion.{ExpandedLine}
-use Rattle.redcode_statement.specs.Chain.{◌>>=◌}
-use Rattle.redcode_asm.specs.Assembly.{Placed, all_said, code_of, of_length, start_of, checked_start, given_start, all_hold}
-use Rattle.redcode_asm.proofs.Bounds.{HasCode, below-all_said}
+use Rattle.{std.proofs.Common.{◌≡◌, ℕ, ◌<◌, ◌≤◌, List, length, Option, None, Some, Result, Ok, ℤ, IfOk, refl, subst, arith}, std.specs.{Prelude.IsSome, Option.SomeIff}}
+use Rattle.{std.proofs.{lemmas.Bool.Decides.nat_tests, lemmas.List.Elements.All-from_recursion}, war_types.specs.{declared.fault.AsmFault.AsmFault, declared.instr.Instr.Instr}}
+use Rattle.{war_types.specs.{declared.settings.RawSettings.RawSettings, Settings.AreSettings, Warrior.{HasNumbersBelow, Fits, warrior_parts}}, redcode_statement.specs.Chain.◌>>=◌}
+use Rattle.{redcode_names.specs.Name.LabelList, redcode_expand.specs.Expansion.ExpandedLine}
+use Rattle.{redcode_asm.specs.Assembly.{Placed, all_said, code_of, of_length, start_of, checked_start, given_start, all_hold}, redcode_asm.proofs.Bounds.{HasCode, below-all_said}}
 
 -- a start that was found is one of few instructions
 found : (limit : ℕ) (code : List Instr) (given : Option (ℕ × ℤ)) (held : Result (Unit {0}) AsmFault) (start : ℕ)

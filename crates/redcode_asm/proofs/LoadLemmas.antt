@@ -1,44 +1,26 @@
 -- How the load text of a warrior expands.
 use Rattle.std.proofs.Common.{◌≡◌, ℕ, suc, ◌+◌, ◌-◌, ◌*◌, ◌≤◌, ◌<◌, false, true, List, [], ◌∷◌, ◌++◌, length, Some, None, Ok, refl, ap, ◌∙◌, arith, lt-ltb, le-ltb, append_assoc, codes}
-use Rattle.std.specs.Fmt.{decimal}
-use Rattle.std.specs.List.{AllByRecursion, flat_map}
-use Rattle.std.proofs.lemmas.List.{append-nil, length-append}
-use Rattle.war_types.specs.declared.instr.Instr.{Instr}
-use Rattle.war_types.specs.declared.settings.RawSettings.{RawSettings}
-use Rattle.war_types.specs.Warrior.{WarriorParts, HasNumbersBelow}
-use Rattle.redcode_text.specs.declared.token.TokenKind.TheVariants as kinds
-use Rattle.redcode_text.specs.declared.vocabulary.Word.{Word}
-use Rattle.redcode_text.specs.declared.vocabulary.Word.TheVariants as words
-use Rattle.redcode_text.specs.Tokens.{Piece, piece}
-use Rattle.redcode_lines.specs.declared.line.LineKind.{LineKind}
-use Rattle.redcode_lines.specs.declared.line.LineKind.TheVariants as lines
-use Rattle.redcode_lines.specs.declared.reading.LineForm.TheVariants as forms
-use Rattle.redcode_lines.specs.Source.{lines_of, numbered_from, redcode_on}
-use Rattle.redcode_lines.specs.Line.{SourceLine, source_line, statement_tokens, without_comment}
-use Rattle.redcode_lines.specs.Block.{source_lines, parsed}
-use Rattle.redcode_names.specs.Equ.{has_equ}
-use Rattle.redcode_names.specs.Name.{names_of}
-use Rattle.redcode_names.proofs.Unchanged.{tokens-same}
-use Rattle.redcode_expand.specs.Walk.{ExpandedLine, walk_state, walk}
-use Rattle.redcode_expand.specs.Expansion.{expansion, all_replaced}
-use Rattle.redcode_statement.specs.InstrLine.{instr_line}
-use Rattle.redcode_statement.proofs.LineLemmas.{in_line-append, lines_of-line}
-use Rattle.redcode_statement.proofs.TokenLemmas.{bare-is}
-use Rattle.redcode_statement.proofs.OperandLemmas.{Spells-decimal, number_token}
+use Rattle.{std.specs.{Fmt.decimal, List.{AllByRecursion, flat_map}}, std.proofs.lemmas.List.{append-nil, length-append}}
+use Rattle.{war_types.specs.{declared.instr.Instr.Instr, declared.settings.RawSettings.RawSettings, Warrior.{WarriorParts, HasNumbersBelow}}, redcode_text.specs.declared.vocabulary.Word.Word}
+use Rattle.{redcode_text.specs.{Tokens.{Piece, piece}, declared.token.TokenKind.TokenKind}, redcode_lines.specs.{declared.line.LineKind.LineKind, Source.{lines_of, numbered_from, redcode_on}}}
+use Rattle.redcode_lines.specs.{Line.{SourceLine, source_line, statement_tokens, without_comment}, Block.{source_lines, parsed}, declared.reading.LineForm.LineForm}
+use Rattle.{redcode_statement.specs.InstrLine.instr_line, redcode_statement.proofs.{LineLemmas.{in_line-append, lines_of-line}, TokenLemmas.bare-is, OperandLemmas.{Spells-decimal, number_token}}}
 use Rattle.redcode_statement.proofs.InstrLemmas.{both_tokens, instr_tokens, length-both, directive_of-line, line_by-line, lines_of-instr, length-line}
-use Rattle.redcode_asm.specs.LoadText.{load_text}
+use Rattle.{redcode_names.specs.{Equ.has_equ, Name.names_of}, redcode_names.proofs.Unchanged.tokens-same}
+use Rattle.{redcode_expand.specs.{Walk.{ExpandedLine, walk_state, walk}, Expansion.{expansion, all_replaced}}, redcode_asm.specs.LoadText.load_text}
+use Rattle.redcode_lines.specs.declared.line.LineKind.TheVariants as lines
 
 -- ---- its lines
 
 abbrev pub end_tokens : List Piece
-end_tokens = piece kinds.Name (codes "END") ∷ []
+end_tokens = piece TokenKind.Name (codes "END") ∷ []
 
 abbrev pub org_tokens : ℕ → List Piece
-org_tokens start = piece kinds.Name (codes "ORG") ∷ number_token (decimal start) ∷ []
+org_tokens start = piece TokenKind.Name (codes "ORG") ∷ number_token (decimal start) ∷ []
 
 -- a line of the source, its word the first token
 abbrev source : ℕ → Word → List Piece → SourceLine
-source n word tokens = source_line n forms.Statement (Some word) [] [] tokens
+source n word tokens = source_line n LineForm.Statement (Some word) [] [] tokens
 
 -- and one of the expanded source
 abbrev pub line : ℕ → LineKind → Word → ℕ → List Piece → ExpandedLine
@@ -46,15 +28,15 @@ line n kind word before tokens = record { source_line = n; kind = kind; word = S
 
 -- the lines of the code and END, from this line number on
 abbrev code_source : ℕ → ℕ → List Instr → List SourceLine
-code_source core n [] = source n words.End end_tokens ∷ []
-code_source core n (i ∷ is) = source n (words.Operation i.op) (instr_tokens core i) ∷ code_source core (n + 1) is
+code_source core n [] = source n Word.End end_tokens ∷ []
+code_source core n (i ∷ is) = source n (Word.Operation i.op) (instr_tokens core i) ∷ code_source core (n + 1) is
 
 abbrev pub code_lines : ℕ → ℕ → ℕ → List Instr → List ExpandedLine
-code_lines core n before [] = line n lines.End words.End before end_tokens ∷ []
-code_lines core n before (i ∷ is) = line n lines.Operation (words.Operation i.op) before (instr_tokens core i) ∷ code_lines core (n + 1) (before + 1) is
+code_lines core n before [] = line n lines.End Word.End before end_tokens ∷ []
+code_lines core n before (i ∷ is) = line n lines.Operation (Word.Operation i.op) before (instr_tokens core i) ∷ code_lines core (n + 1) (before + 1) is
 
 abbrev pub load_lines : ℕ → WarriorParts → List ExpandedLine
-load_lines core w = line 1 lines.Org words.Org 0 (org_tokens w.start) ∷ code_lines core 2 0 w.code
+load_lines core w = line 1 lines.Org Word.Org 0 (org_tokens w.start) ∷ code_lines core 2 0 w.code
 
 -- ---- the source
 
@@ -90,7 +72,7 @@ lines_of-load core w small =
     ∙ lines_of-line org (code ++ codes "END\n") inside
 
 ReadsAs-load : (core : ℕ) (w : WarriorParts) → AllByRecursion (HasNumbersBelow core) w.code → core ≤ 65535 → w.start < 65536
-    → ReadsAs (load_text core w) 1 (source 1 words.Org (org_tokens w.start) ∷ code_source core 2 w.code)
+    → ReadsAs (load_text core w) 1 (source 1 Word.Org (org_tokens w.start) ∷ code_source core 2 w.code)
 ReadsAs-load core w below most small =
     let behind = ReadsAs-code core 2 w.code below most in
     record {
@@ -106,7 +88,7 @@ walk-code : (s : RawSettings) (n counted before : ℕ) (done : List ExpandedLine
     ≡ Ok (walk_state counted_then before_then (names_of [] []) (done ++ code_lines s.core n before code) true))
 walk-code s n counted before done [] few = (counted + 1, before, rw (lt-ltb counted 4096 (omega arith)) refl)
 walk-code s n counted before done (i ∷ is) few =
-    let first = line n lines.Operation (words.Operation i.op) before (instr_tokens s.core i) in
+    let first = line n lines.Operation (Word.Operation i.op) before (instr_tokens s.core i) in
     let rest = walk-code s (n + 1) (counted + 1) (before + 1) (done ++ first ∷ []) is (omega arith) in
     (rest.0, rest.1, rw (lt-ltb counted 4096 (omega arith)) (rest.2 ∙ rw (append_assoc done (first ∷ []) (code_lines s.core (n + 1) (before + 1) is)) refl))
 
@@ -145,7 +127,7 @@ pub expansion-load_text : (s : RawSettings) (w : WarriorParts) → AllByRecursio
 unfolding expansion
 expansion-load_text s w below most small few =
     let reads = ReadsAs-load s.core w below most small in
-    let org = line 1 lines.Org words.Org 0 (org_tokens w.start) in
+    let org = line 1 lines.Org Word.Org 0 (org_tokens w.start) in
     let walked = walk-code s 2 1 0 (org ∷ []) w.code (omega arith) in
     let short : length (load_text s.core w) ≤ 65536 = omega (arith, length-load_text s.core w below most small) in
     let replaced = tokens-same 1 [] (number_token (decimal w.start) ∷ []) refl (omega arith) in

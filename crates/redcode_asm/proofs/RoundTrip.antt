@@ -1,14 +1,7 @@
 -- The load text of a warrior is a source of that warrior.
-use Rattle.std.proofs.Common.{◌≡◌, ℕ, ◌≤◌, ◌<◌, List, length, Ok, sym, ap, ◌∙◌, arith}
-use Rattle.std.proofs.lemmas.List.Elements.{recursion_from_All}
-use Rattle.war_types.specs.declared.settings.RawSettings.{RawSettings}
-use Rattle.war_types.specs.Settings.{AreSettings}
-use Rattle.war_types.specs.Warrior.{WarriorParts, HasNumbersBelow, Fits}
-use Rattle.redcode_asm.specs.Assembly.{assembly, warrior_with}
-use Rattle.redcode_asm.specs.LoadText.{load_text}
-use Rattle.redcode_asm.specs.RoundTrip.{AssemblesTo}
-use Rattle.redcode_asm.proofs.LoadLemmas.{expansion-load_text}
-use Rattle.redcode_asm.proofs.AssemblyLemmas.{assembly_of-load}
+use Rattle.{std.proofs.{Common.{◌≡◌, ℕ, ◌≤◌, ◌<◌, List, length, Ok, sym, ap, ◌∙◌, arith}, lemmas.List.Elements.recursion_from_All}, war_types.specs.declared.settings.RawSettings.RawSettings}
+use Rattle.{war_types.specs.{Settings.AreSettings, Warrior.{WarriorParts, HasNumbersBelow, Fits}}, redcode_asm.specs.{Assembly.{assembly, warrior_with}, LoadText.load_text}}
+use Rattle.{redcode_asm.specs.RoundTrip.AssemblesTo, redcode_asm.proofs.{LoadLemmas.expansion-load_text, AssemblyLemmas.assembly_of-load}}
 
 -- a warrior that fits the settings, printed and assembled again, has its code and its start
 pub round_trip : (s : RawSettings) (w : WarriorParts) → AreSettings s → Fits s w → assembly s (load_text s.core w) ≡ Ok (warrior_with w.code w.start)

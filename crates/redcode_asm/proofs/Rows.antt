@@ -1,19 +1,8 @@
 -- The definition computed on small sources, with what it has to give.
-use Rattle.std.proofs.Common.{◌≡◌, ℕ, List, [], Result, Ok, Err, refl, codes}
-use Rattle.std.specs.Fmt.{digits}
-use Rattle.war_types.specs.declared.fault.AsmKind.TheVariants as kinds
-use Rattle.war_types.specs.declared.fault.AsmFault.{AsmFault}
-use Rattle.war_types.specs.declared.fault.ExprFault.TheVariants as expressions
-use Rattle.war_types.specs.declared.settings.RawSettings.{RawSettings}
-use Rattle.war_types.specs.Warrior.{WarriorParts}
-use Rattle.redcode_text.specs.Value.{value_within}
-use Rattle.redcode_names.specs.Equ.{replaced}
-use Rattle.redcode_expand.specs.Expansion.{expansion}
-use Rattle.redcode_names.specs.Gives.{fault_at}
-use Rattle.redcode_asm.specs.Said.{said_by}
-use Rattle.redcode_asm.specs.Assembly.{assembly}
-use Rattle.redcode_asm.specs.LoadText.{load_text}
-use Rattle.redcode_statement.specs.InstrLine.{instr_line}
+use Rattle.{std.proofs.Common.{◌≡◌, ℕ, List, [], Result, Ok, Err, refl, codes}, std.specs.Fmt.digits, war_types.specs.declared.fault.AsmFault.AsmFault}
+use Rattle.war_types.specs.{declared.settings.RawSettings.RawSettings, Warrior.WarriorParts, declared.fault.AsmKind.AsmKind, declared.fault.ExprFault.ExprFault}
+use Rattle.{redcode_text.specs.Value.value_within, redcode_statement.specs.InstrLine.instr_line, redcode_names.specs.{Equ.replaced, Gives.fault_at}, redcode_expand.specs.Expansion.expansion}
+use Rattle.redcode_asm.specs.{Said.said_by, Assembly.assembly, LoadText.load_text}
 
 abbrev defaults : RawSettings
 defaults = record { core = 8000; cycles = 80000; processes = 8000; length = 100; distance = 100; rounds = 10; seed = 1; capacity = 20; read_limit = 8000; write_limit = 8000 }
@@ -89,95 +78,95 @@ names_are_no_name : gives (codes "DAT 0\n;names Imp\r\n;assert") (codes "ORG 0\n
 unfolding assembly expansion replaced said_by value_within load_text instr_line digits
 names_are_no_name = refl
 
-empty : refused [] (fault_at 0 kinds.Empty)
+empty : refused [] (fault_at 0 AsmKind.Empty)
 unfolding assembly expansion replaced said_by value_within load_text instr_line digits
 empty = refl
 
-jump : refused (codes "JMP") (fault_at 1 kinds.MissingOperand)
+jump : refused (codes "JMP") (fault_at 1 AsmKind.MissingOperand)
 unfolding assembly expansion replaced said_by value_within load_text instr_line digits
 jump = refl
 
-end_five : refused (codes "DAT 0\nEND 5\n") (fault_at 2 kinds.BadStart)
+end_five : refused (codes "DAT 0\nEND 5\n") (fault_at 2 AsmKind.BadStart)
 unfolding assembly expansion replaced said_by value_within load_text instr_line digits
 end_five = refl
 
-overflow : refused (codes "DAT 0\nDAT 9223372036854775808") (fault_at 2 (kinds.Expression expressions.Overflow))
+overflow : refused (codes "DAT 0\nDAT 9223372036854775808") (fault_at 2 (AsmKind.Expression ExprFault.Overflow))
 unfolding assembly expansion replaced said_by value_within load_text instr_line digits
 overflow = refl
 
-second_label : refused (codes "x DAT 0\nx DAT 1") (fault_at 2 kinds.DuplicateName)
+second_label : refused (codes "x DAT 0\nx DAT 1") (fault_at 2 AsmKind.DuplicateName)
 unfolding assembly expansion replaced said_by value_within load_text instr_line digits
 second_label = refl
 
-bad_token : refused (codes "DAT 0 = 1") (fault_at 1 kinds.BadToken)
+bad_token : refused (codes "DAT 0 = 1") (fault_at 1 AsmKind.BadToken)
 unfolding assembly expansion replaced said_by value_within load_text instr_line digits
 bad_token = refl
 
-pspace : refused (codes "LDP 0, 1") (fault_at 1 kinds.Pspace)
+pspace : refused (codes "LDP 0, 1") (fault_at 1 AsmKind.Pspace)
 unfolding assembly expansion replaced said_by value_within load_text instr_line digits
 pspace = refl
 
-pin_with_a_bad_token : refused (codes "PIN ?") (fault_at 1 kinds.BadToken)
+pin_with_a_bad_token : refused (codes "PIN ?") (fault_at 1 AsmKind.BadToken)
 unfolding assembly expansion replaced said_by value_within load_text instr_line digits
 pin_with_a_bad_token = refl
 
-bad_modifier : refused (codes "MOV.Q 0, 1") (fault_at 1 kinds.BadModifier)
+bad_modifier : refused (codes "MOV.Q 0, 1") (fault_at 1 AsmKind.BadModifier)
 unfolding assembly expansion replaced said_by value_within load_text instr_line digits
 bad_modifier = refl
 
-third_operand : refused (codes "MOV 0, 1, 2") (fault_at 1 kinds.ExtraText)
+third_operand : refused (codes "MOV 0, 1, 2") (fault_at 1 AsmKind.ExtraText)
 unfolding assembly expansion replaced said_by value_within load_text instr_line digits
 third_operand = refl
 
-second_missing : refused (codes "MOV 0,,2") (fault_at 1 kinds.MissingOperand)
+second_missing : refused (codes "MOV 0,,2") (fault_at 1 AsmKind.MissingOperand)
 unfolding assembly expansion replaced said_by value_within load_text instr_line digits
 second_missing = refl
 
-not_a_line : refused (codes "FOO 0") (fault_at 1 kinds.BadOperation)
+not_a_line : refused (codes "FOO 0") (fault_at 1 AsmKind.BadOperation)
 unfolding assembly expansion replaced said_by value_within load_text instr_line digits
 not_a_line = refl
 
-parted_within_parentheses : refused (codes "MOV (1, 2)") (fault_at 1 (kinds.Expression expressions.BadExpression))
+parted_within_parentheses : refused (codes "MOV (1, 2)") (fault_at 1 (AsmKind.Expression ExprFault.BadExpression))
 unfolding assembly expansion replaced said_by value_within load_text instr_line digits
 parted_within_parentheses = refl
 
-mode_alone : refused (codes "MOV #, 1") (fault_at 1 (kinds.Expression expressions.BadExpression))
+mode_alone : refused (codes "MOV #, 1") (fault_at 1 (AsmKind.Expression ExprFault.BadExpression))
 unfolding assembly expansion replaced said_by value_within load_text instr_line digits
 mode_alone = refl
 
-unknown_before_extra : refused (codes "MOV foo, 1, 2") (fault_at 1 (kinds.Expression expressions.UnknownName))
+unknown_before_extra : refused (codes "MOV foo, 1, 2") (fault_at 1 (AsmKind.Expression ExprFault.UnknownName))
 unfolding assembly expansion replaced said_by value_within load_text instr_line digits
 unknown_before_extra = refl
 
-a_before_b : refused (codes "MOV 1/0, foo") (fault_at 1 (kinds.Expression expressions.DivideByZero))
+a_before_b : refused (codes "MOV 1/0, foo") (fault_at 1 (AsmKind.Expression ExprFault.DivideByZero))
 unfolding assembly expansion replaced said_by value_within load_text instr_line digits
 a_before_b = refl
 
-unused_end : refused (codes "ORG 0\nDAT 0\nEND foo") (fault_at 3 (kinds.Expression expressions.UnknownName))
+unused_end : refused (codes "ORG 0\nDAT 0\nEND foo") (fault_at 3 (AsmKind.Expression ExprFault.UnknownName))
 unfolding assembly expansion replaced said_by value_within load_text instr_line digits
 unused_end = refl
 
-walk_first : refused (codes "SPL\nDAT foo\nx\nx") (fault_at 4 kinds.DuplicateName)
+walk_first : refused (codes "SPL\nDAT foo\nx\nx") (fault_at 4 AsmKind.DuplicateName)
 unfolding assembly expansion replaced said_by value_within load_text instr_line digits
 walk_first = refl
 
-first_false : refused (codes ";assert 1\n;assert 0\n;assert 0\nDAT 0") (fault_at 2 kinds.AssertFalse)
+first_false : refused (codes ";assert 1\n;assert 0\n;assert 0\nDAT 0") (fault_at 2 AsmKind.AssertFalse)
 unfolding assembly expansion replaced said_by value_within load_text instr_line digits
 first_false = refl
 
-start_before_assertions : refused (codes ";assert 0\nDAT 0\nEND 1") (fault_at 3 kinds.BadStart)
+start_before_assertions : refused (codes ";assert 0\nDAT 0\nEND 1") (fault_at 3 AsmKind.BadStart)
 unfolding assembly expansion replaced said_by value_within load_text instr_line digits
 start_before_assertions = refl
 
-prefix_of_labels : refused (codes "ORG start\nbomb DAT #0, #") (fault_at 1 (kinds.Expression expressions.UnknownName))
+prefix_of_labels : refused (codes "ORG start\nbomb DAT #0, #") (fault_at 1 (AsmKind.Expression ExprFault.UnknownName))
 unfolding assembly expansion replaced said_by value_within load_text instr_line digits
 prefix_of_labels = refl
 
-prefix_within_a_name : refused (codes "ORG start\nbomb DAT #0, #0\nstart ADD #4, bo") (fault_at 3 (kinds.Expression expressions.UnknownName))
+prefix_within_a_name : refused (codes "ORG start\nbomb DAT #0, #0\nstart ADD #4, bo") (fault_at 3 (AsmKind.Expression ExprFault.UnknownName))
 unfolding assembly expansion replaced said_by value_within load_text instr_line digits
 prefix_within_a_name = refl
 
-prefix_behind_a_comma : refused (codes "ORG start\nbomb DAT #0, #0\nstart ADD #4,") (fault_at 3 kinds.MissingOperand)
+prefix_behind_a_comma : refused (codes "ORG start\nbomb DAT #0, #0\nstart ADD #4,") (fault_at 3 AsmKind.MissingOperand)
 unfolding assembly expansion replaced said_by value_within load_text instr_line digits
 prefix_behind_a_comma = refl
 
@@ -194,7 +183,7 @@ modifier_of_a_body : gives (codes "m EQU .AB 1\nMOV m, 2") (codes "ORG 0\nMOV.AB
 unfolding assembly expansion replaced said_by value_within load_text instr_line digits
 modifier_of_a_body = refl
 
-word_in_a_body : refused (codes "DAT foo\nx EQU MOV 0, 1") (fault_at 2 kinds.BadEqu)
+word_in_a_body : refused (codes "DAT foo\nx EQU MOV 0, 1") (fault_at 2 AsmKind.BadEqu)
 unfolding assembly expansion replaced said_by value_within load_text instr_line digits
 word_in_a_body = refl
 

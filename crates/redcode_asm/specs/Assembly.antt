@@ -1,25 +1,9 @@
 -- The assembly of a source: the warrior, or the first fault in the order of the refusals.
 use Rattle.std.specs.Prelude.{◌≡◌, ◌⊎◌, ℕ, nat_lt, if◌then◌else◌, Bool, true, false, List, [], ◌∷◌, length, flat_map, Option, Some, None, Result, Ok, Err, unwrap_or, codes, ℤ, pos, negsuc}
-use Rattle.std.specs.Option.{option_or}
-use Rattle.war_types.specs.declared.fault.AsmKind.{AsmKind}
-use Rattle.war_types.specs.declared.fault.AsmKind.TheVariants as kinds
-use Rattle.war_types.specs.declared.fault.AsmFault.{AsmFault}
-use Rattle.war_types.specs.declared.instr.Instr.{Instr}
-use Rattle.war_types.specs.declared.settings.RawSettings.{RawSettings}
-use Rattle.war_types.specs.Fault.{no_memory}
-use Rattle.war_types.specs.Title.{title_of}
-use Rattle.war_types.specs.Warrior.{WarriorParts, warrior_parts}
-use Rattle.redcode_text.specs.Operators.{is_zero}
-use Rattle.redcode_lines.specs.declared.line.LineKind.{LineKind}
-use Rattle.redcode_lines.specs.declared.line.LineKind.TheVariants as lines
-use Rattle.redcode_expand.specs.Expansion.{ExpandedLine, Expansion, expansion}
-use Rattle.redcode_names.specs.Gives.{fault_at}
-use Rattle.redcode_names.specs.Name.{LabelList}
-use Rattle.redcode_statement.specs.declared.statement.Statement.{Statement}
-use Rattle.redcode_statement.specs.declared.statement.Statement.TheVariants as statements
-use Rattle.redcode_statement.specs.Chain.{◌>>=◌}
-use Rattle.redcode_statement.specs.Statement.{instr_said}
-use Rattle.redcode_asm.specs.Said.{statement_of}
+use Rattle.{std.specs.Option.option_or, war_types.specs.{declared.fault.AsmKind.AsmKind, declared.fault.AsmFault.AsmFault, declared.instr.Instr.Instr}}
+use Rattle.{war_types.specs.{declared.settings.RawSettings.RawSettings, Fault.no_memory, Title.title_of, Warrior.{WarriorParts, warrior_parts}}, redcode_text.specs.Operators.is_zero}
+use Rattle.{redcode_lines.specs.declared.line.LineKind.LineKind, redcode_statement.specs.{declared.statement.Statement.Statement, Chain.◌>>=◌, Statement.instr_said}}
+use Rattle.{redcode_names.specs.{Gives.fault_at, Name.LabelList}, redcode_expand.specs.Expansion.{ExpandedLine, Expansion, expansion}, redcode_asm.specs.Said.statement_of}
 
 -- a statement with the source line that it stands on
 abbrev pub Placed : Type 0
@@ -46,8 +30,8 @@ code_of said = flat_map (λ s. instr_said s.1) said
 
 -- code of 1 to `limit` instructions
 abbrev pub of_length : ℕ → List Instr → Result (Unit {0}) AsmFault
-of_length limit [] = Err (fault_at 0 kinds.Empty)
-of_length limit (i ∷ is) = if nat_lt limit (length (i ∷ is)) then Err (fault_at 0 kinds.TooLong) else Ok tt
+of_length limit [] = Err (fault_at 0 AsmKind.Empty)
+of_length limit (i ∷ is) = if nat_lt limit (length (i ∷ is)) then Err (fault_at 0 AsmKind.TooLong) else Ok tt
 
 -- ---- the start
 
@@ -58,11 +42,11 @@ last_of gives (x ∷ xs) = option_or (last_of gives xs) (gives x)
 
 -- the line and the value of an ORG, or of an END
 abbrev pub org_at : ℕ → Statement → Option (ℕ × ℤ)
-org_at line (statements.Org z) = Some (line, z)
+org_at line (Statement.Org z) = Some (line, z)
 org_at line _ = None
 
 abbrev pub end_at : ℕ → Statement → Option (ℕ × ℤ)
-end_at line (statements.End z) = Some (line, z)
+end_at line (Statement.End z) = Some (line, z)
 end_at line _ = None
 
 abbrev pub org_of : Placed → Option (ℕ × ℤ)
@@ -78,19 +62,19 @@ given_start said = option_or (last_of org_of said) (last_of end_of said)
 -- the start among `count` instructions, 0 if none is given
 abbrev pub start_of : ℕ → Option (ℕ × ℤ) → Result ℕ AsmFault
 start_of count None = Ok 0
-start_of count (Some (line, pos n)) = if nat_lt n count then Ok n else Err (fault_at line kinds.BadStart)
-start_of count (Some (line, negsuc n)) = Err (fault_at line kinds.BadStart)
+start_of count (Some (line, pos n)) = if nat_lt n count then Ok n else Err (fault_at line AsmKind.BadStart)
+start_of count (Some (line, negsuc n)) = Err (fault_at line AsmKind.BadStart)
 
 -- ---- the assertions
 
 abbrev pub is_false : Statement → Bool
-is_false (statements.Assert z) = is_zero z
+is_false (Statement.Assert z) = is_zero z
 is_false _ = false
 
 -- no assertion has the value 0; the first that has it is refused
 abbrev pub all_hold : List Placed → Result (Unit {0}) AsmFault
 all_hold [] = Ok tt
-all_hold (s ∷ ss) = if is_false s.1 then Err (fault_at s.0 kinds.AssertFalse) else all_hold ss
+all_hold (s ∷ ss) = if is_false s.1 then Err (fault_at s.0 AsmKind.AssertFalse) else all_hold ss
 
 -- ---- the titles
 
@@ -99,11 +83,11 @@ title_if true title = Some title
 title_if false title = None
 
 abbrev pub is_name : LineKind → Bool
-is_name lines.Name = true
+is_name LineKind.Name = true
 is_name _ = false
 
 abbrev pub is_author : LineKind → Bool
-is_author lines.Author = true
+is_author LineKind.Author = true
 is_author _ = false
 
 -- the text of the last line of a kind, none if no line is of that kind

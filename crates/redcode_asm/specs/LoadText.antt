@@ -1,8 +1,6 @@
 -- The load text of a warrior.
-use Rattle.std.specs.Prelude.{ℕ, List, ◌++◌, codes, decimal}
-use Rattle.std.specs.List.{flat_map}
-use Rattle.war_types.specs.Warrior.{WarriorParts}
-use Rattle.redcode_statement.specs.InstrLine.{instr_line}
+use Rattle.std.specs.{Prelude.{ℕ, List, ◌++◌, codes, decimal}, List.flat_map}
+use Rattle.{war_types.specs.Warrior.WarriorParts, redcode_statement.specs.InstrLine.instr_line}
 
 -- ORG with the start, a line for each instruction, END
 unfoldable pub load_text : ℕ → WarriorParts → List ℕ

@@ -1,8 +1,6 @@
 -- What names stand for on a line.
-use Rattle.std.specs.Prelude.{ℕ, List, Option, ℤ, pos, ◌-ℤ◌}
-use Rattle.std.specs.Option.{option_map, option_or}
-use Rattle.war_types.specs.declared.settings.RawSettings.{RawSettings}
-use Rattle.redcode_names.specs.Name.{LabelList, address_of, predefined}
+use Rattle.std.specs.{Prelude.{ℕ, List, Option, ℤ, pos, ◌-ℤ◌}, Option.{option_map, option_or}}
+use Rattle.{war_types.specs.declared.settings.RawSettings.RawSettings, redcode_names.specs.Name.{LabelList, address_of, predefined}}
 
 -- A label is its address as seen from `origin`, and a predefined name has its value on a line with `before` instructions before it.
 -- The origin is the instruction's own address in an operand, and 0 in ORG, END and ;assert.

@@ -1,10 +1,7 @@
 //! The assembler.
 
 ghost use Rattle.std.specs.Prelude.{◌≡◌, ◌^◌, ◌<◌, length, IfOk, Ok, Err, unwrap_or, []};
-ghost use Rattle.war_types.specs.Warrior.{Fits};
-ghost use Rattle.war_types.specs.declared.fault.AsmKind.TheVariants.{SourceTooLong};
-ghost use Rattle.redcode_names.specs.Gives.{Gives, fault_at};
-ghost use Rattle.redcode_asm.specs.Said.{statement_of};
+ghost use Rattle.{war_types.specs.{Warrior.Fits, declared.fault.AsmKind.TheVariants.SourceTooLong}, redcode_names.specs.Gives.{Gives, fault_at}, redcode_asm.specs.Said.statement_of};
 ghost use Rattle.redcode_asm.specs.Assembly.{Assembles, assembly, checked_start, warrior_said, all_said, code_of, given_start, start_of, all_hold, last_text, is_name, is_author};
 
 use crate::names::Labels;

@@ -1,10 +1,7 @@
 //! The load text of a warrior.
 
-ghost use Rattle.std.specs.Prelude.{◌≡◌, All};
-ghost use Rattle.std.specs.Result.{IfOk};
-ghost use Rattle.war_types.specs.Warrior.{HasNumbersBelow};
-ghost use Rattle.redcode_asm.specs.RoundTrip.{AssemblesTo};
-ghost use Rattle.redcode_asm.specs.LoadText.{load_text};
+ghost use Rattle.std.specs.{Prelude.{◌≡◌, All}, Result.IfOk};
+ghost use Rattle.{war_types.specs.Warrior.HasNumbersBelow, redcode_asm.specs.{RoundTrip.AssemblesTo, LoadText.load_text}};
 
 use itoa::Buffer;
 use redcode_statement::append_line;

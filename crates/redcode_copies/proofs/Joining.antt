@@ -1,11 +1,7 @@
 -- For `joined_tokens`: the steps of joining names to a counter's number.
-use Rattle.std.proofs.Common.{◌≡◌, ◌-◌, ◌≤◌, Bool, true, false, List, [], ◌∷◌, ◌++◌, length, get_or, take, drop, ap, ◌∙◌, append_assoc, arith}
-use Rattle.std.proofs.lemmas.List.{take_all}
-use Rattle.redcode_text.specs.declared.token.Token.{Token}
-use Rattle.redcode_text.specs.Tokens.{Piece, piece_of, pieces}
-use Rattle.redcode_copies.specs.Counter.{Counter, is_label, joins, joined, joined_from, joined_name, kept, numbered, without_word}
-use Rattle.redcode_lines.specs.Line.{taken_while, dropped_while}
-use Rattle.redcode_lines.proofs.Readings.{take-taken_while}
+use Rattle.std.proofs.{Common.{◌≡◌, ◌-◌, ◌≤◌, Bool, true, false, List, [], ◌∷◌, ◌++◌, length, get_or, take, drop, ap, ◌∙◌, append_assoc, arith}, lemmas.List.take_all}
+use Rattle.{redcode_text.specs.{declared.token.Token.Token, Tokens.{Piece, piece_of, pieces}}, redcode_lines.specs.Line.{taken_while, dropped_while}}
+use Rattle.{redcode_lines.proofs.Readings.take-taken_while, redcode_copies.specs.Counter.{Counter, is_label, joins, joined, joined_from, joined_name, kept, numbered, without_word}}
 
 -- the tokens after the first
 abbrev pub behind : List Token → List Token

@@ -1,19 +1,10 @@
 -- For `plain_copy`: a line without an & within copies.
-use Rattle.std.proofs.Common.{◌≡◌, ℕ, zero, suc, ◌+◌, ◌/◌, ◌%◌, ◌<◌, ◌≤◌, Bool, ◌||◌, ◌&&◌, true, false, if◌then◌else◌, List, [], ◌∷◌, ◌++◌, length, map, is_some, Option, Some, None, codes, refl, sym, ap, subst, ◌∙◌, arith, inl, inr}
-use Rattle.std.specs.Prelude.{◌==◌, decimal}
-use Rattle.std.specs.Fmt.{digits, digits_onto, digit_glyph}
-use Rattle.std.specs.Str.{bytes_eq}
-use Rattle.std.proofs.lemmas.Bool.{cases_Bool, or_parts}
-use Rattle.std.proofs.lemmas.Slice.Eq.{bytes_eq-Decides}
-use Rattle.redcode_text.specs.Tokens.{Piece}
-use Rattle.redcode_text.specs.declared.vocabulary.Word.{Word}
-use Rattle.redcode_text.specs.declared.vocabulary.Word.TheVariants as words
-use Rattle.redcode_lines.specs.declared.reading.LineForm.{LineForm}
-use Rattle.redcode_lines.specs.declared.reading.LineForm.TheVariants as forms
-use Rattle.redcode_lines.specs.Line.{SourceLine, has_text, is_name, is_name_token, taken_while, dropped_while}
-use Rattle.redcode_lines.specs.Capped.{has_and}
-use Rattle.redcode_copies.specs.Counter.{Counter, number_token, is_counter, is_join, joined, joined_from, kept, numbered, is_label, behind_operation, behind_word, without_word, copied_tokens, in_copy, in_copies}
-use Rattle.redcode_copies.specs.Plain.{has_number, number_of, number_or_token, number_by, modifier_count, kept_behind, kept_count, changed_from, plain_copy}
+use Rattle.std.proofs.Common.{◌≡◌, ℕ, zero, suc, ◌+◌, ◌/◌, ◌%◌, ◌<◌, ◌≤◌, Bool, ◌||◌, ◌&&◌, true, false, if◌then◌else◌, List, [], ◌∷◌, ◌++◌, length, map, is_some, Option, Some, None, codes, refl, sym}
+use Rattle.{std.proofs.Common.{ap, subst, ◌∙◌, arith, inl, inr}, std.specs.{Prelude.{◌==◌, decimal}, Fmt.{digits, digits_onto, digit_glyph}, Str.bytes_eq}}
+use Rattle.{std.proofs.{lemmas.Bool.{cases_Bool, or_parts}, lemmas.Slice.Eq.bytes_eq-Decides}, redcode_text.specs.{Tokens.Piece, declared.vocabulary.Word.Word}}
+use Rattle.redcode_lines.specs.{declared.reading.LineForm.LineForm, Line.{SourceLine, has_text, is_name, is_name_token, taken_while, dropped_while}, Capped.has_and}
+use Rattle.redcode_copies.specs.Counter.{Counter, number_token, is_counter, is_join, joined, joined_from, kept, numbered, is_label, behind_operation, behind_word, without_word, copied_tokens, in_copy}
+use Rattle.redcode_copies.specs.{Counter.in_copies, Plain.{has_number, number_of, number_or_token, number_by, modifier_count, kept_behind, kept_count, changed_from, plain_copy}}
 
 -- ---- a number is no sign
 
@@ -139,15 +130,15 @@ operation-plain c (x ∷ []) = refl
 operation-plain c (x ∷ y ∷ xs) = dot-plain c x y xs (has_text (codes ".") x)
 
 behind-plain : (c : Counter) (word : Word) (xs : List Piece) → behind_word c word (map plain xs) ≡ changed_from (plain_number c) (kept_behind word xs) xs
-behind-plain c (words.Operation op) xs = operation-plain c xs
-behind-plain c words.Pspace xs = operation-plain c xs
+behind-plain c (Word.Operation op) xs = operation-plain c xs
+behind-plain c Word.Pspace xs = operation-plain c xs
 behind-plain c _ xs = numbered-plain c xs
 
 copied-plain : (c : Counter) (form : LineForm) (word : Option Word) (xs : List Piece) → has_and xs ≡ false
     → copied_tokens c form word xs ≡ changed_from (plain_number c) (kept_count form word xs) xs
-copied-plain c forms.Statement None xs none = rw (joined-plain c xs none) (labels-plain c xs)
-copied-plain c forms.Statement (Some word) [] none = refl
-copied-plain c forms.Statement (Some word) (x ∷ xs) none =
+copied-plain c LineForm.Statement None xs none = rw (joined-plain c xs none) (labels-plain c xs)
+copied-plain c LineForm.Statement (Some word) [] none = refl
+copied-plain c LineForm.Statement (Some word) (x ∷ xs) none =
     rw (joined-plain c xs (or_parts (has_text (codes "&") x) (has_and xs) none).1) (ap (λ (ts : List Piece). x ∷ ts) (behind-plain c word xs))
 copied-plain c _ word xs none = rw (joined-plain c xs none) (numbered-plain c xs)
 
@@ -162,8 +153,8 @@ modifier-same c (x ∷ y ∷ xs) = elim (cases_Bool (has_text (codes ".") x)) [
 ]
 
 behind-same : (c : Counter) (word : Word) (xs : List Piece) → kept_behind word (changed_from (plain_number c) (kept_behind word xs) xs) ≡ kept_behind word xs
-behind-same c (words.Operation op) xs = modifier-same c xs
-behind-same c words.Pspace xs = modifier-same c xs
+behind-same c (Word.Operation op) xs = modifier-same c xs
+behind-same c Word.Pspace xs = modifier-same c xs
 behind-same c _ xs = refl
 
 names-by : (c : Counter) (x : Piece) (xs front : List Piece) (b : Bool) → is_name x.kind ≡ b → length (taken_while is_name_token (changed_from (plain_number c) (length front) xs)) ≡ length front
@@ -177,9 +168,9 @@ names-same c (x ∷ xs) = names-by c x xs (taken_while is_name_token xs) (is_nam
 
 count-same : (c : Counter) (form : LineForm) (word : Option Word) (xs : List Piece)
     → kept_count form word (changed_from (plain_number c) (kept_count form word xs) xs) ≡ kept_count form word xs
-count-same c forms.Statement None xs = names-same c xs
-count-same c forms.Statement (Some word) [] = refl
-count-same c forms.Statement (Some word) (x ∷ xs) = ap suc (behind-same c word xs)
+count-same c LineForm.Statement None xs = names-same c xs
+count-same c LineForm.Statement (Some word) [] = refl
+count-same c LineForm.Statement (Some word) (x ∷ xs) = ap suc (behind-same c word xs)
 count-same c _ word xs = refl
 
 -- ---- all counters

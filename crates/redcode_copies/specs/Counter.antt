@@ -1,13 +1,7 @@
 -- The counters of blocks, and what a copy of a line is under them.
-use Rattle.std.specs.Prelude.{ℕ, Bool, true, false, ◌&&◌, nat_lt, if◌then◌else◌, List, [], ◌∷◌, ◌++◌, map, Option, Some, None, codes, decimal}
-use Rattle.std.specs.Str.{bytes_eq}
-use Rattle.redcode_text.specs.declared.token.TokenKind.TheVariants as kinds
-use Rattle.redcode_text.specs.Tokens.{Piece, piece}
-use Rattle.redcode_lines.specs.declared.reading.LineForm.{LineForm}
-use Rattle.redcode_lines.specs.declared.reading.LineForm.TheVariants as forms
-use Rattle.redcode_text.specs.declared.vocabulary.Word.{Word}
-use Rattle.redcode_text.specs.declared.vocabulary.Word.TheVariants as words
-use Rattle.redcode_lines.specs.Line.{SourceLine, is_name, has_text, taken_while, dropped_while}
+use Rattle.std.specs.{Prelude.{ℕ, Bool, true, false, ◌&&◌, nat_lt, if◌then◌else◌, List, [], ◌∷◌, ◌++◌, map, Option, Some, None, codes, decimal}, Str.bytes_eq}
+use Rattle.redcode_text.specs.{Tokens.{Piece, piece}, declared.vocabulary.Word.Word, declared.token.TokenKind.TokenKind}
+use Rattle.redcode_lines.specs.{declared.reading.LineForm.LineForm, Line.{SourceLine, is_name, has_text, taken_while, dropped_while}}
 
 -- a name that stands for the number of a copy
 pub record Counter : Type 0 where
@@ -25,7 +19,7 @@ abbrev pub two_digits : ℕ → List ℕ
 two_digits n = if nat_lt n 10 then codes "0" ++ decimal n else decimal n
 
 abbrev pub number_token : ℕ → Piece
-number_token n = piece kinds.Number (decimal n)
+number_token n = piece TokenKind.Number (decimal n)
 
 -- ---- names joined to the number by an &
 
@@ -33,7 +27,7 @@ abbrev pub is_join : Counter → Piece → Piece → Piece → Bool
 is_join c token next after = is_name token.kind && (has_text (codes "&") next && is_counter c after)
 
 abbrev pub joined_name : Counter → Piece → Piece
-joined_name c token = piece kinds.Name (token.text ++ two_digits c.number)
+joined_name c token = piece TokenKind.Name (token.text ++ two_digits c.number)
 
 -- a name that an & and the counter follow
 abbrev pub joins : Counter → Piece → List Piece → Bool
@@ -74,8 +68,8 @@ behind_operation c (token ∷ name ∷ tokens) =
     if has_text (codes ".") token.1 then token.1 ∷ name.1 ∷ numbered c tokens else numbered c (token ∷ name ∷ tokens)
 
 abbrev pub behind_word : Counter → Word → List (Bool × Piece) → List Piece
-behind_word c (words.Operation op) tokens = behind_operation c tokens
-behind_word c words.Pspace tokens = behind_operation c tokens
+behind_word c (Word.Operation op) tokens = behind_operation c tokens
+behind_word c Word.Pspace tokens = behind_operation c tokens
 behind_word c _ tokens = numbered c tokens
 
 -- the word is never joined
@@ -94,8 +88,8 @@ without_word c tokens = kept (taken_while is_label tokens) ++ numbered c (droppe
 
 -- the tokens of a line from its word on, or all of them if it has no word
 abbrev pub copied_tokens : Counter → LineForm → Option Word → List Piece → List Piece
-copied_tokens c forms.Statement None tokens = without_word c (joined c tokens)
-copied_tokens c forms.Statement (Some word) tokens = from_word c word tokens
+copied_tokens c LineForm.Statement None tokens = without_word c (joined c tokens)
+copied_tokens c LineForm.Statement (Some word) tokens = from_word c word tokens
 copied_tokens c _ word tokens = numbered c (joined c tokens)
 
 -- a line in the copy of this number; before a word no number stands for the counter

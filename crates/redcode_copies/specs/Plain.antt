@@ -1,13 +1,7 @@
 -- Lines without an &: each token that is a counter becomes its number where it stands. No part of the definition: a shorter way to the same.
-use Rattle.std.specs.Prelude.{ℕ, zero, suc, Bool, false, ◌||◌, ◌&&◌, if◌then◌else◌, List, [], ◌∷◌, length, map, is_some, Option, Some, None, codes}
-use Rattle.std.specs.Str.{bytes_eq}
-use Rattle.redcode_text.specs.declared.vocabulary.Word.{Word}
-use Rattle.redcode_text.specs.declared.vocabulary.Word.TheVariants as words
-use Rattle.redcode_text.specs.Tokens.{Piece}
-use Rattle.redcode_lines.specs.declared.reading.LineForm.{LineForm}
-use Rattle.redcode_lines.specs.declared.reading.LineForm.TheVariants as forms
-use Rattle.redcode_lines.specs.Line.{SourceLine, has_text, is_name, is_name_token, taken_while}
-use Rattle.redcode_copies.specs.Counter.{Counter, number_token}
+use Rattle.std.specs.{Prelude.{ℕ, zero, suc, Bool, false, ◌||◌, ◌&&◌, if◌then◌else◌, List, [], ◌∷◌, length, map, is_some, Option, Some, None, codes}, Str.bytes_eq}
+use Rattle.redcode_text.specs.{declared.vocabulary.Word.Word, Tokens.Piece}
+use Rattle.{redcode_lines.specs.{declared.reading.LineForm.LineForm, Line.{SourceLine, has_text, is_name, is_name_token, taken_while}}, redcode_copies.specs.Counter.{Counter, number_token}}
 
 -- the number of the first counter of this name
 abbrev pub number_of : List Counter → List ℕ → Option ℕ
@@ -34,15 +28,15 @@ modifier_count (token ∷ []) = 0
 modifier_count (token ∷ name ∷ tokens) = if has_text (codes ".") token then 2 else 0
 
 abbrev pub kept_behind : Word → List Piece → ℕ
-kept_behind (words.Operation op) tokens = modifier_count tokens
-kept_behind words.Pspace tokens = modifier_count tokens
+kept_behind (Word.Operation op) tokens = modifier_count tokens
+kept_behind Word.Pspace tokens = modifier_count tokens
 kept_behind _ tokens = 0
 
 -- the number of tokens at the front that stay whatever they are
 abbrev pub kept_count : LineForm → Option Word → List Piece → ℕ
-kept_count forms.Statement None tokens = length (taken_while is_name_token tokens)
-kept_count forms.Statement (Some word) [] = 0
-kept_count forms.Statement (Some word) (token ∷ tokens) = suc (kept_behind word tokens)
+kept_count LineForm.Statement None tokens = length (taken_while is_name_token tokens)
+kept_count LineForm.Statement (Some word) [] = 0
+kept_count LineForm.Statement (Some word) (token ∷ tokens) = suc (kept_behind word tokens)
 kept_count _ word tokens = 0
 
 -- tokens changed by f, but for the first ones, whose number is given: these stay

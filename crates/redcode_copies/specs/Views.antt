@@ -1,7 +1,5 @@
 -- What a contract sees of the tokens of a copy that lie in memory.
-use Rattle.std.specs.Prelude.{List}
-use Rattle.redcode_text.specs.Tokens.{Piece}
-use Rattle.redcode_lines.specs.Line.{SourceLine}
+use Rattle.{std.specs.Prelude.List, redcode_text.specs.Tokens.Piece, redcode_lines.specs.Line.SourceLine}
 
 -- the tokens of a line: before its word, and from it on
 pub record LineTokens : Type 0 where

@@ -1,11 +1,8 @@
 //! What a copy of a line is under one counter.
 
 ghost use Rattle.std.specs.Prelude.{◌≡◌, ◌≤◌, ◌++◌, length, Some, None, IfOk, OnOk};
-ghost use Rattle.redcode_text.specs.Tokens.{pieces};
-ghost use Rattle.redcode_lines.specs.Line.{dropped_while};
-ghost use Rattle.redcode_lines.specs.Views.{line_read};
-ghost use Rattle.redcode_copies.specs.Counter.{behind_word, copied_tokens, from_word, in_copy, is_label, joined, kept, numbered, without_word};
-ghost use Rattle.redcode_copies.specs.Views.{with_tokens};
+ghost use Rattle.{redcode_text.specs.Tokens.pieces, redcode_lines.specs.{Line.dropped_while, Views.line_read}};
+ghost use Rattle.redcode_copies.specs.{Counter.{behind_word, copied_tokens, from_word, in_copy, is_label, joined, kept, numbered, without_word}, Views.with_tokens};
 
 use crate::counter::{Counter, Joined};
 use crate::line_copy::LineCopy;

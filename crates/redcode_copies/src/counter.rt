@@ -1,8 +1,7 @@
 //! The counters of blocks.
 
 ghost use Rattle.std.specs.Prelude.{◌≡◌, IfOk};
-ghost use Rattle.redcode_text.specs.Tokens.{piece_of, pieces};
-ghost use Rattle.redcode_copies.specs.Counter.{joined, number_token};
+ghost use Rattle.{redcode_text.specs.Tokens.{piece_of, pieces}, redcode_copies.specs.Counter.{joined, number_token}};
 
 use bumpalo::Bump;
 use bumpalo::collections::into_bump_slice;
@@ -35,8 +34,7 @@ pub(crate) struct Joined<'s> {
 }
 
 impl<'s> Model for Joined<'s> {
-    ghost use Rattle.std.specs.Prelude.{Bool};
-    ghost use Rattle.redcode_text.specs.Tokens.{Piece, piece_of};
+    ghost use Rattle.{std.specs.Prelude.Bool, redcode_text.specs.Tokens.{Piece, piece_of}};
 
     ghost Value = { Bool × Piece };
 
@@ -45,8 +43,7 @@ impl<'s> Model for Joined<'s> {
 
 impl<'s> Counter<'s> {
     ghost use Rattle.std.specs.Prelude.{◌≡◌, ◌++◌, decimal, IfOk, OnOk};
-    ghost use Rattle.redcode_text.specs.Tokens.{piece_of, pieces};
-    ghost use Rattle.redcode_copies.specs.Counter.{counter_of, is_counter, joined_name, joins, number_or, number_token, two_digits};
+    ghost use Rattle.{redcode_text.specs.Tokens.{piece_of, pieces}, redcode_copies.specs.Counter.{counter_of, is_counter, joined_name, joins, number_or, number_token, two_digits}};
 
     /// A counter of this name in the copy of this number.
     pub fn new(name: &'s [u8], number: u64) -> Counter<'s>

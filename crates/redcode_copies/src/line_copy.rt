@@ -15,8 +15,7 @@ pub struct LineCopy<'s, A: Allocator> {
 }
 
 impl<'s, A: Allocator> Model for LineCopy<'s, A> {
-    ghost use Rattle.redcode_text.specs.Tokens.{pieces};
-    ghost use Rattle.redcode_copies.specs.Views.{LineTokens, line_tokens};
+    ghost use Rattle.{redcode_text.specs.Tokens.pieces, redcode_copies.specs.Views.{LineTokens, line_tokens}};
 
     ghost Value = { LineTokens };
 
@@ -25,8 +24,7 @@ impl<'s, A: Allocator> Model for LineCopy<'s, A> {
 
 impl<'s, A: Allocator + Copy> LineCopy<'s, A> {
     ghost use Rattle.std.specs.Prelude.{◌≡◌, IfOk};
-    ghost use Rattle.redcode_lines.specs.Views.{line_read};
-    ghost use Rattle.redcode_copies.specs.Views.{with_tokens};
+    ghost use Rattle.{redcode_lines.specs.Views.line_read, redcode_copies.specs.Views.with_tokens};
 
     /// The tokens as the line has them.
     pub fn of(alloc: A, line: Reading<'_, 's>) -> Result<LineCopy<'s, A>, AllocError>

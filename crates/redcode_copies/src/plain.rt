@@ -1,12 +1,8 @@
 //! Lines without an `&`: in them no name is joined, so all counters are replaced at once.
 
 ghost use Rattle.std.specs.Prelude.{◌≡◌, ◌≤◌, ◌++◌, false, length, map, take, drop, Some, None, IfOk, OnOk, MatchOption};
-ghost use Rattle.redcode_text.specs.Tokens.{piece_of, pieces};
-ghost use Rattle.redcode_lines.specs.Capped.{has_and};
-ghost use Rattle.redcode_lines.specs.Views.{line_read};
-ghost use Rattle.redcode_copies.specs.Counter.{in_copies};
-ghost use Rattle.redcode_copies.specs.Plain.{changed_from, has_number, kept_behind, kept_count, modifier_count, number_by};
-ghost use Rattle.redcode_copies.specs.Views.{with_tokens};
+ghost use Rattle.{redcode_text.specs.Tokens.{piece_of, pieces}, redcode_lines.specs.{Capped.has_and, Views.line_read}};
+ghost use Rattle.redcode_copies.specs.{Counter.in_copies, Plain.{changed_from, has_number, kept_behind, kept_count, modifier_count, number_by}, Views.with_tokens};
 
 use crate::counter::number_token;
 use crate::line_copy::LineCopy;
@@ -18,8 +14,7 @@ use std::alloc::{AllocError, Allocator};
 /// The counters of blocks within each other, the outermost first.
 pub trait Counters {
     ghost use Rattle.std.specs.Prelude.{◌≡◌, List};
-    ghost use Rattle.redcode_copies.specs.Counter.{Counter};
-    ghost use Rattle.redcode_copies.specs.Plain.{number_of};
+    ghost use Rattle.redcode_copies.specs.{Counter.Counter, Plain.number_of};
 
     /// The counters.
     ghost counters: { Self → List Counter };

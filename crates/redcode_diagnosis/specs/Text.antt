@@ -1,7 +1,6 @@
 -- What the text of a refusal begins with.
 use Rattle.std.specs.Prelude.{◌≡◌, ℕ, List, ◌++◌, codes, decimal}
-use Rattle.war_types.specs.declared.fault.AsmFault.{AsmFault}
-use Rattle.war_types.specs.Fault.{kind_name}
+use Rattle.war_types.specs.{declared.fault.AsmFault.AsmFault, Fault.kind_name}
 
 -- a text that begins with the front
 abbrev pub Begins : List ℕ → List ℕ → Type 0

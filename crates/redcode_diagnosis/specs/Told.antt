@@ -1,9 +1,6 @@
 -- The refusals that are reported for a source.
 use Rattle.std.specs.Prelude.{◌≡◌, Bool, true, false, List, [], ◌∷◌, Result, Ok, Err}
-use Rattle.war_types.specs.declared.fault.AsmKind.{AsmKind}
-use Rattle.war_types.specs.declared.fault.AsmKind.TheVariants as kinds
-use Rattle.war_types.specs.declared.fault.AsmFault.{AsmFault}
-use Rattle.war_types.specs.Warrior.{WarriorParts}
+use Rattle.war_types.specs.{declared.fault.AsmKind.AsmKind, declared.fault.AsmFault.AsmFault, Warrior.WarriorParts}
 
 -- a fault before others
 abbrev pub IsFirst : AsmFault → List AsmFault → Type 0
@@ -16,7 +13,7 @@ Tells faults (Err fault) = IsFirst fault faults
 
 -- memory ran out
 abbrev pub is_memory : AsmKind → Bool
-is_memory kinds.Memory = true
+is_memory AsmKind.Memory = true
 is_memory _ = false
 
 -- faults of a source; the first is not that memory ran out

@@ -1,9 +1,7 @@
 //! The refusals of a source.
 
 ghost use Rattle.std.specs.Prelude.{◌≡◌, All, IfOk, map};
-ghost use Rattle.redcode_asm.specs.Assembly.{assembly};
-ghost use Rattle.redcode_diagnosis.specs.Told.{AreToldFrom, IsFirst, Tells, is_memory};
-ghost use Rattle.redcode_lines.specs.Place.{IsPlaceIn, line_text};
+ghost use Rattle.{redcode_lines.specs.Place.{IsPlaceIn, line_text}, redcode_asm.specs.Assembly.assembly, redcode_diagnosis.specs.Told.{AreToldFrom, IsFirst, Tells, is_memory}};
 
 use bumpalo::Bump;
 use redcode_asm::assemble;

@@ -1,14 +1,10 @@
 -- What the lines of a walk make of its EQUs.
 use Rattle.std.proofs.Common.{unwrap_or, arith, ◌≡◌, ℕ, Bool, true, false, ◌||◌, is_some, if◌then◌else◌, List, [], ◌∷◌, ◌++◌, drop, Option, Some, None, Result, Ok, refl, sym, ap, ◌∙◌, subst}
-use Rattle.std.proofs.lemmas.Bool.{or_parts}
-use Rattle.std.proofs.lemmas.Slice.Eq.{bytes_eq-Decides}
-use Rattle.std.specs.Str.{bytes_eq}
-use Rattle.redcode_expand.proofs.Words.{AsmFault, RawSettings, Piece, SourceLine, labels_of, behind_labels, Counter, in_copies, EquList, body_of, has_tokens, Names, defined, all_defined, but_last, equ_defined, equ_named, equ_line, predefined, for_labels, LineKind, LineForm, Word}
-use Rattle.redcode_names.specs.Gives.{◌>>=◌}
-use Rattle.redcode_expand.specs.Walk.{lined, WalkState, Begun, begun_as, counted, labelled, equated, placed_by, placed, is_equ_word, worded, step_by, step, copies_of, begun_of, begun, closed, copied}
-use Rattle.redcode_expand.specs.Kept.{Keeps}
-use Rattle.redcode_expand.proofs.Counted.{Holds, bind, either, all-hold, last-hold}
-use Rattle.std.specs.Bool.{⊤}
+use Rattle.{std.proofs.{lemmas.Bool.or_parts, lemmas.Slice.Eq.bytes_eq-Decides}, std.specs.{Str.bytes_eq, Bool.⊤}, redcode_names.specs.Gives.◌>>=◌}
+use Rattle.redcode_expand.specs.Walk.{lined, WalkState, Begun, begun_as, counted, labelled, equated, placed_by, placed, is_equ_word, worded, step_by, step, copies_of, begun_of, begun}
+use Rattle.redcode_expand.specs.{Walk.{closed, copied}, Kept.Keeps}
+use Rattle.redcode_expand.proofs.Words.{AsmFault, RawSettings, Piece, SourceLine, labels_of, behind_labels, Counter, in_copies, EquList, body_of, has_tokens, Names, defined, all_defined}
+use Rattle.redcode_expand.proofs.{Words.{but_last, equ_defined, equ_named, equ_line, predefined, for_labels, LineKind, LineForm, Word}, Counted.{Holds, bind, either, all-hold, last-hold}}
 use Rattle.redcode_lines.specs.declared.line.LineKind.TheVariants as line_kinds
 use Rattle.redcode_lines.specs.declared.reading.LineForm.TheVariants as forms
 
@@ -30,8 +26,7 @@ differs-by s name other h1 h2 b h3 = grind (arith, bytes_eq-Decides)
 
 body-added : (s : RawSettings) (equs : EquList) (other : List ℕ) (body : List Piece) → is_some (predefined s 0 other) ≡ false → (name : List ℕ)
     → (has_tokens (body_of equs name) || is_some (predefined s 0 name)) ≡ true → body_of (equs ++ (other, body) ∷ []) name ≡ body_of equs name
-body-added s [] other body free name is =
-    ap (λ (b : Bool). if b then body else []) (differs-by s name other free is (bytes_eq name other) refl)
+body-added s [] other body free name is = ap (λ (b : Bool). if b then body else []) (differs-by s name other free is (bytes_eq name other) refl)
 body-added s (equ ∷ equs) other body free name is =
     body-found (is_some (predefined s 0 name)) (bytes_eq name equ.0) name equ.1 equ.1 (body_of equs name) (body_of (equs ++ (other, body) ∷ []) name) is
     (λ later. body-added s equs other body free name later)

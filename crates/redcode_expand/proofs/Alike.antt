@@ -1,17 +1,15 @@
 -- Walks that give the same: their lines are the same, or both are refused at last.
-use Rattle.std.proofs.Common.{arith, ◌≡◌, ◌⊎◌, ℕ, zero, suc, ◌+◌, Bool, true, if◌then◌else◌, List, [], ◌∷◌, ◌++◌, Option, None, Result, Ok, Err, refl, ap, ◌∙◌, inl}
-use Rattle.std.specs.Bool.{⊤}
-use Rattle.redcode_expand.proofs.Words.{AsmFault, RawSettings, Piece, SourceLine, Counter, EquList, Names, Word, LineKind, LineForm}
-use Rattle.war_types.specs.declared.fault.AsmKind.TheVariants as kinds
-use Rattle.redcode_names.specs.Gives.{◌>>=◌, fault_at}
+use Rattle.{std.proofs.Common.{arith, ◌≡◌, ◌⊎◌, ℕ, zero, suc, ◌+◌, Bool, true, if◌then◌else◌, List, [], ◌∷◌, ◌++◌, Option, None, Result, Ok, Err, refl, ap, ◌∙◌, inl}, std.specs.Bool.⊤}
+use Rattle.{war_types.specs.declared.fault.AsmKind.AsmKind, redcode_names.specs.Gives.{◌>>=◌, fault_at}}
 use Rattle.redcode_expand.specs.Walk.{ExpandedLine, WalkState, Begun, begun_as, begun_of, closed, copied, copies, counted, labelled, step_as, until_end, with_line}
 use Rattle.redcode_expand.specs.Expansion.{all_replaced, finished, line_replaced}
+use Rattle.redcode_expand.proofs.Words.{AsmFault, RawSettings, Piece, SourceLine, Counter, EquList, Names, Word, LineKind, LineForm}
 
 -- ---- lines that are alike
 
 -- a line that is refused whatever the EQUs are
 pub record IsOver (line : ExpandedLine) : Type 0 where
-  pub over : (equs : EquList) → line_replaced equs line ≡ Err (fault_at line.source_line kinds.EquLimit)
+  pub over : (equs : EquList) → line_replaced equs line ≡ Err (fault_at line.source_line AsmKind.EquLimit)
 
 -- the same line, or both are refused
 abbrev pub Alike : ExpandedLine → ExpandedLine → Type 0

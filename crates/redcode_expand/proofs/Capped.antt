@@ -1,19 +1,16 @@
 -- For `expand`: a source whose long lines are capped gives the same, since such a line is refused whatever else it has.
-use Rattle.std.proofs.Common.{◌≡◌, ℕ, zero, suc, ◌<◌, ◌≤◌, Bool, true, false, not, ◌&&◌, ◌||◌, List, [], ◌∷◌, ◌++◌, length, map, take, Option, Some, None, Result, Ok, Err, refl, sym, ap, ◌∙◌, arith, inl, inr, lt-ltb}
-use Rattle.std.specs.Bool.{⊤}
-use Rattle.std.proofs.lemmas.Bool.{true≢false, cases_Bool, or_parts, ltb-true, ltb-false}
-use Rattle.std.proofs.lemmas.List.{take_all, length-take-le}
-use Rattle.redcode_expand.proofs.Words.{AsmFault, RawSettings, Piece, SourceLine, label_tokens, names_among, Blocks, Parsed, parsed, behind_by, with_body, finish, one_line, block, open_for, Counter, counter_of, in_copies, changed_from, kept_count, number_by, plain_copy, EquList, Word, LineKind, LineForm, has_and, has_operands, is_limited, is_capped, capped}
-use Rattle.redcode_names.specs.Equ.{replaced}
-use Rattle.war_types.specs.declared.fault.AsmKind.TheVariants as kinds
+use Rattle.std.proofs.Common.{◌≡◌, ℕ, zero, suc, ◌<◌, ◌≤◌, Bool, true, false, not, ◌&&◌, ◌||◌, List, [], ◌∷◌, ◌++◌, length, map, take, Option, Some, None, Result, Ok, Err, refl, sym, ap, ◌∙◌, arith}
+use Rattle.{std.proofs.Common.{inl, inr, lt-ltb}, std.specs.Bool.⊤, std.proofs.{lemmas.Bool.{true≢false, cases_Bool, or_parts, ltb-true, ltb-false}, lemmas.List.{take_all, length-take-le}}}
+use Rattle.{war_types.specs.declared.fault.AsmKind.AsmKind, redcode_copies.proofs.PlainLines.copies-plain, redcode_names.specs.{Equ.replaced, Gives.{◌>>=◌, fault_at}}}
+use Rattle.redcode_expand.specs.Walk.{WalkState, lined, begun, closed, copies, counted, labelled, step, step_as, until_end, walk, walk_all, walk_begin, with_line, with_word, is_equ_word, worded}
+use Rattle.redcode_expand.specs.Expansion.{finished}
+use Rattle.redcode_expand.proofs.Words.{AsmFault, RawSettings, Piece, SourceLine, label_tokens, names_among, Blocks, Parsed, parsed, behind_by, with_body, finish, one_line, block, open_for, Counter}
+use Rattle.redcode_expand.proofs.Words.{counter_of, in_copies, changed_from, kept_count, number_by, plain_copy, EquList, Word, LineKind, LineForm, has_and, has_operands, is_limited, is_capped, capped}
+use Rattle.redcode_expand.proofs.Alike.{IsOver, alike-more, SameWalk, Both, both-bind, both-until, both-finished, both-counted, both-labelled, new_line, same-instruction, same-end, both-lined}
+use Rattle.redcode_expand.proofs.Alike.{both-step, both-closed, both-copies, both-begun}
 use Rattle.redcode_text.specs.declared.vocabulary.Word.TheVariants as words
 use Rattle.redcode_lines.specs.declared.line.LineKind.TheVariants as lines
 use Rattle.redcode_lines.specs.declared.reading.LineForm.TheVariants as forms
-use Rattle.redcode_copies.proofs.PlainLines.{copies-plain}
-use Rattle.redcode_names.specs.Gives.{◌>>=◌, fault_at}
-use Rattle.redcode_expand.specs.Walk.{WalkState, lined, begun, closed, copies, counted, labelled, step, step_as, until_end, walk, walk_all, walk_begin, with_line, with_word, is_equ_word, worded}
-use Rattle.redcode_expand.specs.Expansion.{finished}
-use Rattle.redcode_expand.proofs.Alike.{IsOver, alike-more, SameWalk, Both, both-bind, both-until, both-finished, both-counted, both-labelled, new_line, same-instruction, same-end, both-lined, both-step, both-closed, both-copies, both-begun}
 
 -- ---- lines that are too long
 
@@ -25,7 +22,7 @@ IsLimited lines.End = ⊤
 IsLimited lines.Assert = ⊤
 IsLimited _ = ⊥
 
-replaced-long : (line : ℕ) (equs : EquList) (ts : List Piece) → 512 < length ts → replaced line equs ts ≡ Err (fault_at line kinds.EquLimit)
+replaced-long : (line : ℕ) (equs : EquList) (ts : List Piece) → 512 < length ts → replaced line equs ts ≡ Err (fault_at line AsmKind.EquLimit)
 unfolding replaced
 replaced-long line equs ts long = rw (lt-ltb 512 (length ts) long) refl
 

@@ -1,18 +1,14 @@
 -- Each address of a walk is a number of instructions among its lines, and each of an expansion as well.
-use Rattle.std.proofs.Common.{◌≡◌, ℕ, zero, suc, ◌+◌, ◌<◌, Bool, if◌then◌else◌, List, [], ◌∷◌, ◌++◌, length, take, drop, unwrap_or, Option, Some, None, Result, Ok, Err, refl, arith, true, false, nat_lt, sym, ◌∙◌}
-use Rattle.std.specs.Bool.{⊤}
-use Rattle.std.proofs.lemmas.List.{take_all, take-append-le, length-append}
-use Rattle.redcode_expand.proofs.Words.{AsmFault, RawSettings, Piece, SourceLine, labels_of, Blocks, Parsed, finish, one_line, block, open_for, parsed, source_lines, Counter, counter_of, in_copies, LabelList, Names, all_defined, but_last, defined, equ_line, equ_named, for_labels, address_of, EquList, Word, LineKind, LineForm}
-use Rattle.war_types.specs.declared.fault.AsmKind.TheVariants as kinds
+use Rattle.std.proofs.Common.{◌≡◌, ℕ, zero, suc, ◌+◌, ◌<◌, Bool, if◌then◌else◌, List, [], ◌∷◌, ◌++◌, length, take, drop, unwrap_or, Option, Some, None, Result, Ok, Err, refl, arith, true}
+use Rattle.{std.proofs.Common.{false, nat_lt, sym, ◌∙◌}, std.specs.Bool.⊤, std.proofs.lemmas.List.{take_all, take-append-le, length-append}, std.specs.{Result.IfOk, Str.bytes_eq}}
+use Rattle.{war_types.specs.declared.fault.AsmKind.AsmKind, redcode_lines.specs.Source.live_lines, redcode_names.specs.Gives.{◌>>=◌, fault_at, Gives}}
+use Rattle.redcode_expand.specs.Walk.{ExpandedLine, WalkState, Begun, begun, begun_as, begun_of, closed, copied, copies, copies_of, counted, equated, labelled, step, step_by, until_end}
+use Rattle.redcode_expand.specs.{Walk.{walk, walk_all, walk_begin, with_line, with_other, with_word, worded}, Laws.{instruction_of, instructions, before_at, IsPlace, AreCounted}}
+use Rattle.redcode_expand.specs.Expansion.{Expansion, all_replaced, expansion, finished, line_replaced}
+use Rattle.redcode_expand.proofs.Words.{AsmFault, RawSettings, Piece, SourceLine, labels_of, Blocks, Parsed, finish, one_line, block, open_for, parsed, source_lines, Counter, counter_of}
+use Rattle.redcode_expand.proofs.Words.{in_copies, LabelList, Names, all_defined, but_last, defined, equ_line, equ_named, for_labels, address_of, EquList, Word, LineKind, LineForm}
 use Rattle.redcode_lines.specs.declared.line.LineKind.TheVariants as lines
 use Rattle.redcode_lines.specs.declared.reading.LineForm.TheVariants as forms
-use Rattle.redcode_names.specs.Gives.{◌>>=◌, fault_at, Gives}
-use Rattle.redcode_expand.specs.Walk.{ExpandedLine, WalkState, Begun, begun, begun_as, begun_of, closed, copied, copies, copies_of, counted, equated, labelled, step, step_by, until_end, walk, walk_all, walk_begin, with_line, with_other, with_word, worded}
-use Rattle.redcode_expand.specs.Laws.{instruction_of, instructions, before_at, IsPlace, AreCounted}
-use Rattle.std.specs.Result.{IfOk}
-use Rattle.std.specs.Str.{bytes_eq}
-use Rattle.redcode_lines.specs.Source.{live_lines}
-use Rattle.redcode_expand.specs.Expansion.{Expansion, all_replaced, expansion, finished, line_replaced}
 
 -- ---- what was found, if it was
 
@@ -202,7 +198,7 @@ holds-walk s cs (block for body rof rest) st is =
     (λ b now. holds-copies (inner b.counter) (λ n x later. holds-walk s (cs ++ counter_of b.counter n ∷ []) body x later) for.number b.copies 1 b.state now)))
     (λ a counts. holds-until (closed s cs rof) a counts (λ x now. holds-labelled s rof.number (labels_of (in_copies cs rof)) x now)))
     (λ a counts. holds-walk s cs rest a counts)
-holds-walk s cs (open_for for) st is = holds-until (λ st. Err (fault_at for.number kinds.UnmatchedFor)) st is (λ a counts. tt)
+holds-walk s cs (open_for for) st is = holds-until (λ st. Err (fault_at for.number AsmKind.UnmatchedFor)) st is (λ a counts. tt)
 
 pub holds-all : (s : RawSettings) (source : Parsed) → Holds IsCounted (walk_all s source walk_begin)
 holds-all s source = grind (arith, holds-walk)
@@ -250,7 +246,7 @@ counted-finished st h1 = grind (arith, lines-of, from-at, place-among)
 expansion-counted : (s : RawSettings) (source : List ℕ) → Holds AreCounted (expansion s source)
 unfolding expansion
 expansion-counted s source =
-    either AreCounted (nat_lt 65536 (length source)) (Err (fault_at 0 kinds.SourceTooLong)) (walk_all s (parsed (source_lines (live_lines source))) walk_begin >>= finished) tt
+    either AreCounted (nat_lt 65536 (length source)) (Err (fault_at 0 AsmKind.SourceTooLong)) (walk_all s (parsed (source_lines (live_lines source))) walk_begin >>= finished) tt
     (bind IsCounted AreCounted (walk_all s (parsed (source_lines (live_lines source))) walk_begin) finished (holds-all s (parsed (source_lines (live_lines source)))) (λ st is. counted-finished st is))
 
 -- what is expanded is counted

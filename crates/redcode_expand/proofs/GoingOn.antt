@@ -1,15 +1,11 @@
 -- How the walk goes on within open blocks: after a line, a FOR and a ROF, at the end of a copy, and whether a FOR has its ROF.
-use Rattle.std.proofs.Common.{◌≡◌, ◌≢◌, ℕ, suc, ◌+◌, ◌≤◌, Bool, true, false, List, [], ◌∷◌, ◌++◌, drop, nat_eq, Result, Ok, refl, sym, ap, ◌∙◌, arith, subst, zero, ◌-◌, ◌*◌, ◌<◌, length, Option, Some, leb}
-use Rattle.std.specs.Prelude.{if◌then◌else◌}
-use Rattle.std.proofs.lemmas.Bool.{true≢false, cond_both}
-use Rattle.std.proofs.lemmas.Bool.Decides.{nat_tests}
-use Rattle.redcode_expand.proofs.Words.{AsmFault, RawSettings, SourceLine, Blocks, Parsed, parsed, behind_for, finish, one_line, block, open_for, behind_by, behind_rof, with_body, Counter, counter_of, Word}
-use Rattle.redcode_names.specs.Gives.{◌>>=◌, Fails}
-use Rattle.redcode_expand.specs.Marks.{AreFromRof}
-use Rattle.redcode_expand.specs.Walk.{WalkState, Begun, walk, step, begun, closed, copied, copies, until_end, begun_as, IsCopied}
+use Rattle.std.proofs.Common.{◌≡◌, ◌≢◌, ℕ, suc, ◌+◌, ◌≤◌, Bool, true, false, List, [], ◌∷◌, ◌++◌, drop, nat_eq, Result, Ok, refl, sym, ap, ◌∙◌, arith, subst, zero, ◌-◌, ◌*◌, ◌<◌, length, Option, Some}
+use Rattle.{std.proofs.Common.leb, std.specs.Prelude.if◌then◌else◌, std.proofs.{lemmas.Bool.{true≢false, cond_both}, lemmas.Bool.Decides.nat_tests, lemmas.List.{drop_all, length-drop}}}
+use Rattle.{redcode_names.specs.Gives.{◌>>=◌, Fails}, redcode_expand.specs.{Marks.AreFromRof, Walk.{WalkState, Begun, walk, step, begun, closed, copied, copies, until_end, begun_as, IsCopied}}}
 use Rattle.redcode_expand.specs.Rest.{OpenBlock, open_block, counters_of, more_copies, behind_copy, rest_of, counts, AreOpen, steps_left, GoesOn, IsUnmatched}
+use Rattle.redcode_expand.proofs.Words.{AsmFault, RawSettings, SourceLine, Blocks, Parsed, parsed, behind_for, finish, one_line, block, open_for, behind_by, behind_rof, with_body, Counter, counter_of}
+use Rattle.redcode_expand.proofs.Words.{Word}
 use Rattle.redcode_text.specs.declared.vocabulary.Word.TheVariants as words
-use Rattle.std.proofs.lemmas.List.{drop_all, length-drop}
 
 -- ---- the steps that are left
 

@@ -1,20 +1,13 @@
 -- A count that was computed stays the same while EQUs are added; counts that are kept, and how a block begins, from the steps of the code.
-use Rattle.std.proofs.Common.{arith, ◌≡◌, ℕ, zero, suc, Bool, false, ◌||◌, ◌&&◌, not, if◌then◌else◌, List, [], ◌∷◌, ◌++◌, length, map, Ok, refl, sym, ap, ◌∙◌, nat_eq, true, ◌+◌, ◌<◌, ◌^◌, drop, Option, Some, None, subst, inl, inr, replicate, Result}
-use Rattle.std.proofs.lemmas.Bool.{or_parts, cases_Bool, eqb-true}
-use Rattle.redcode_expand.proofs.Words.{RawSettings, Piece, is_name, SourceLine, labels_of, EquList, body_at, round, has_tokens, has_equ, left_over, replaced, after_rounds, is_loose, predefined, Names, for_labels, AsmFault}
-use Rattle.redcode_text.specs.Value.{part_of, value_of, value_within, or_bad}
-use Rattle.redcode_expand.specs.Kept.{count_of, has_loose, Keeps, CountIsFixed, IsKept, AreKept, kept_at}
-use Rattle.redcode_expand.specs.declared.counts.Kept.{Kept}
+use Rattle.std.proofs.Common.{arith, ◌≡◌, ℕ, zero, suc, Bool, false, ◌||◌, ◌&&◌, not, if◌then◌else◌, List, [], ◌∷◌, ◌++◌, length, map, Ok, refl, sym, ap, ◌∙◌, nat_eq, true, ◌+◌, ◌<◌, ◌^◌, drop}
+use Rattle.std.proofs.{Common.{Option, Some, None, subst, inl, inr, replicate, Result}, lemmas.Bool.{or_parts, cases_Bool, eqb-true}, lemmas.Grind.common_steps}
+use Rattle.{std.specs.Prelude.{slice_index_or, slice_set}, std.proofs.lemmas.List.{get_or-map, get_or-set_other, get_or-replicate, length-map, length-set, length-replicate, map-set, set-get_or}}
+use Rattle.{redcode_text.specs.Value.{part_of, value_of, value_within, or_bad}, redcode_names.specs.{Equ.or_itself, Gives.{◌>>=◌, Fails}}}
+use Rattle.{redcode_names.proofs.{Replacing.left_over-all, Unchanged.replaced-left}, redcode_expand.specs.Kept.{count_of, has_loose, Keeps, CountIsFixed, IsKept, AreKept, kept_at}}
+use Rattle.redcode_expand.specs.{declared.counts.Kept.Kept, Walk.{WalkState, begun_as, walk_state, ExpandedLine, Begun, begun_of, copies_of, count_by}}
+use Rattle.redcode_expand.proofs.Words.{RawSettings, Piece, is_name, SourceLine, labels_of, EquList, body_at, round, has_tokens, has_equ, left_over, replaced, after_rounds, is_loose, predefined}
+use Rattle.redcode_expand.proofs.{Words.{Names, for_labels, AsmFault}, GoingOn.nat_eq-other}
 use Rattle.redcode_expand.specs.declared.counts.Kept.TheVariants as kept
-use Rattle.redcode_names.specs.Equ.{or_itself}
-use Rattle.redcode_names.proofs.Replacing.{left_over-all}
-use Rattle.redcode_names.proofs.Unchanged.{replaced-left}
-use Rattle.std.proofs.lemmas.Grind.{common_steps}
-use Rattle.std.specs.Prelude.{slice_index_or, slice_set}
-use Rattle.std.proofs.lemmas.List.{get_or-map, get_or-set_other, get_or-replicate, length-map, length-set, length-replicate, map-set, set-get_or}
-use Rattle.redcode_expand.specs.Walk.{WalkState, begun_as, walk_state, ExpandedLine, Begun, begun_of, copies_of, count_by}
-use Rattle.redcode_expand.proofs.GoingOn.{nat_eq-other}
-use Rattle.redcode_names.specs.Gives.{◌>>=◌, Fails}
 
 -- ---- the value of a name that is not loose
 

@@ -1,20 +1,13 @@
 -- Lines that are marked: the ROF that belongs to each FOR, found from the last line on.
 use Rattle.std.proofs.Common.{◌≡◌, ℕ, ◌+◌, ◌≤◌, ◌<◌, arith, true, false, Bool, not, ◌&&◌, List, [], ◌∷◌, length, drop, Option, Some, Result, Ok, refl, sym, ap, subst, ◌∙◌, nat_eq}
-use Rattle.std.specs.Prelude.{if◌then◌else◌, slice_set}
-use Rattle.std.proofs.lemmas.Bool.{eqb-true, or_parts}
-use Rattle.std.proofs.lemmas.List.{drop_all, drop_more, get_or-set_same, get_or-set_other, length-set}
-use Rattle.redcode_expand.proofs.Words.{AsmFault, RawSettings, Piece, SourceLine, Blocks, Parsed, parsed, with_body, behind_by, behind_for, has_tokens, Counter, has_number, Word, has_and}
-use Rattle.redcode_text.specs.declared.vocabulary.Word.TheVariants as words
-use Rattle.redcode_expand.specs.declared.marked_lines.Edge.TheVariants as edges
-use Rattle.redcode_expand.specs.declared.marked_lines.Mark.{Mark}
-use Rattle.redcode_expand.specs.Marks.{edge_of, has_name, is_bare, line_in, mark_at, no_mark, AreFromRof, AreMarked, IsMarked, IsNextRof}
+use Rattle.{std.specs.Prelude.{if◌then◌else◌, slice_set}, std.proofs.{lemmas.Bool.{eqb-true, or_parts}, lemmas.List.{drop_all, drop_more, get_or-set_same, get_or-set_other, length-set}}}
 use Rattle.redcode_names.specs.Gives.{◌>>=◌}
-use Rattle.redcode_expand.specs.Kept.{AreKept, kept_at}
-use Rattle.redcode_expand.specs.Rest.{OpenBlock, behind_copy, counters_of, rest_of, steps_left, AreOpen, GoesOn}
-use Rattle.redcode_expand.specs.Walk.{Begun, WalkState, begun, begun_as, begun_of, closed, walk}
-use Rattle.redcode_expand.proofs.GoingOn.{begun_rest, for-here, rest-begun, rof-here, nat_eq-other}
-use Rattle.redcode_expand.proofs.Keeping.{begun-kept}
-use Rattle.redcode_expand.proofs.PlainCounts.{begun-unnamed, closed-none}
+use Rattle.redcode_expand.specs.{declared.marked_lines.Mark.Mark, Marks.{edge_of, has_name, is_bare, line_in, mark_at, no_mark, AreFromRof, AreMarked, IsMarked, IsNextRof}}
+use Rattle.redcode_expand.specs.{Kept.{AreKept, kept_at}, Rest.{OpenBlock, behind_copy, counters_of, rest_of, steps_left, AreOpen, GoesOn}}
+use Rattle.redcode_expand.specs.{Walk.{Begun, WalkState, begun, begun_as, begun_of, closed, walk}, declared.marked_lines.Edge.Edge}
+use Rattle.redcode_expand.proofs.Words.{AsmFault, RawSettings, Piece, SourceLine, Blocks, Parsed, parsed, with_body, behind_by, behind_for, has_tokens, Counter, has_number, Word, has_and}
+use Rattle.redcode_expand.proofs.{GoingOn.{begun_rest, for-here, rest-begun, rof-here, nat_eq-other}, Keeping.begun-kept, PlainCounts.{begun-unnamed, closed-none}}
+use Rattle.redcode_text.specs.declared.vocabulary.Word.TheVariants as words
 
 -- ---- a line and its edge
 
@@ -24,16 +17,16 @@ line-drop ls at some = drop_more ls at _ some
 pub line-first : (ls : List SourceLine) (at : ℕ) (line : SourceLine) → at < length ls → drop at ls ≡ line ∷ drop (at + 1) ls → line_in ls at ≡ line
 line-first ls at line some h = grind (arith, line-drop)
 
-pub word-for : (word : Option Word) → edge_of word ≡ edges.For → word ≡ Some words.For
+pub word-for : (word : Option Word) → edge_of word ≡ Edge.For → word ≡ Some words.For
 word-for (Some words.For) h = refl
 word-for _ h = absurd cc
 
-pub word-rof : (word : Option Word) → edge_of word ≡ edges.Rof → word ≡ Some words.Rof
+pub word-rof : (word : Option Word) → edge_of word ≡ Edge.Rof → word ≡ Some words.Rof
 word-rof (Some words.Rof) h = refl
 word-rof _ h = absurd cc
 
 -- what begins and ends no block leaves the ROFs after it as they are
-rofs-behind : (word : Option Word) (line : SourceLine) (left : Parsed) → edge_of word ≡ edges.Neither → (behind_by word line left).1 ≡ left.1
+rofs-behind : (word : Option Word) (line : SourceLine) (left : Parsed) → edge_of word ≡ Edge.Neither → (behind_by word line left).1 ≡ left.1
 rofs-behind (Some words.For) line left h = absurd cc
 rofs-behind (Some words.Rof) line left h = absurd cc
 rofs-behind _ line left h = refl
@@ -46,7 +39,7 @@ rof-word ls rof from some = subst AreFromRof (line-drop ls rof some) from
 pub next-rof : (ls : List SourceLine) (at : ℕ) → at < length ls → (line_in ls at).word ≡ Some words.Rof → IsNextRof ls at at
 next-rof ls at some word = record { rofs = refl; from = subst AreFromRof (sym (line-drop ls at some)) word; later = omega arith }
 
-pub next-other : (ls : List SourceLine) (at rof : ℕ) → at < length ls → edge_of (line_in ls at).word ≡ edges.Neither → IsNextRof ls (at + 1) rof → IsNextRof ls at rof
+pub next-other : (ls : List SourceLine) (at rof : ℕ) → at < length ls → edge_of (line_in ls at).word ≡ Edge.Neither → IsNextRof ls (at + 1) rof → IsNextRof ls at rof
 next-other ls at rof some neither next =
     let here : (parsed (drop at ls)).1 ≡ (parsed (drop (at + 1) ls)).1 =
     ap (λ (xs : List SourceLine). (parsed xs).1) (line-drop ls at some) ∙ rofs-behind (line_in ls at).word (line_in ls at) (parsed (drop (at + 1) ls)) neither in
@@ -178,11 +171,7 @@ empty-goes-on s ls bs at rof st few some going word opened none own there bare =
     let rest : rest_of s ls bs (parsed (drop at ls)) st ≡ rest_of s ls bs behind st =
     ap (λ (p : Parsed). rest_of s ls bs p st) (for-here ls at line (line-drop ls at some) word)
     ∙ rest-empty s ls bs line left behind (line_in ls rof) st (ends-with ls at rof own there) going none closes in
-    record {
-      rest = sym rest;
-      opened = subst (AreOpen ls bs) (for-rofs ls at rof some word own there) opened;
-      less = omega (arith, own.later, there);
-    }
+    record { rest = sym rest; opened = subst (AreOpen ls bs) (for-rofs ls at rof some word own there) opened; less = omega (arith, own.later, there) }
 
 -- the count of a FOR that has no labels and no names
 pub begun-empty : (s : RawSettings) (cs : List Counter) (ls : List SourceLine) (counts : List (Option ℕ)) (at : ℕ) (st : WalkState) → at < length ls → (line_in ls at).word ≡ Some words.For

@@ -1,14 +1,9 @@
 -- The counters of open blocks, the outermost first: the index of the first block whose counter has a name.
-use Rattle.std.proofs.Common.{◌≡◌, ℕ, zero, suc, ◌<◌, ◌≤◌, ◌^◌, Bool, true, false, if◌then◌else◌, List, [], ◌∷◌, ◌++◌, length, get_or, Option, Some, None, refl, sym, ap, ◌∙◌, subst, inl, inr, arith, ◌+◌, ◌&&◌, ◌||◌, reverse, take, eqb}
-use Rattle.std.proofs.lemmas.Bool.{cases_Bool, eqb-true}
-use Rattle.std.proofs.lemmas.Slice.Eq.{bytes_eq-Decides}
-use Rattle.std.specs.Option.{is_some, option_map}
-use Rattle.std.specs.Str.{bytes_eq}
-use Rattle.indexmap.specs.IndexMap.{insert_entry}
-use Rattle.redcode_expand.proofs.Words.{number_of, has_number, LabelList, address_of, Piece, SourceLine, is_name, Counter, in_copy, in_copies}
+use Rattle.std.proofs.Common.{◌≡◌, ℕ, zero, suc, ◌<◌, ◌≤◌, ◌^◌, Bool, true, false, if◌then◌else◌, List, [], ◌∷◌, ◌++◌, length, get_or, Option, Some, None, refl, sym, ap, ◌∙◌, subst, inl}
+use Rattle.std.proofs.{Common.{inr, arith, ◌+◌, ◌&&◌, ◌||◌, reverse, take, eqb}, lemmas.Bool.{cases_Bool, eqb-true}, lemmas.Slice.Eq.bytes_eq-Decides}
+use Rattle.{std.specs.{Option.{is_some, option_map}, Str.bytes_eq}, indexmap.specs.IndexMap.insert_entry, std.proofs.{lemmas.Grind.common_steps, lemmas.List.{reverse-append, take_more}}}
 use Rattle.redcode_expand.specs.Rest.{OpenBlock, ArePlaced, AreFew, counters_in, place_in, counters_of}
-use Rattle.std.proofs.lemmas.Grind.{common_steps}
-use Rattle.std.proofs.lemmas.List.{reverse-append, take_more}
+use Rattle.redcode_expand.proofs.Words.{number_of, has_number, LabelList, address_of, Piece, SourceLine, is_name, Counter, in_copy, in_copies}
 
 None≢Some : {X : Type 0} (x : X) (o : Option X) → o ≡ None → o ≡ Some x → ⊥
 None≢Some x o none some = cc

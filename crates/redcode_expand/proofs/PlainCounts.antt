@@ -1,29 +1,19 @@
 -- Lines of blocks that have no labels: their ROFs do nothing, and their counts are those of the tokens as they stand in the source.
-use Rattle.std.proofs.Common.{◌≡◌, ℕ, ◌<◌, ◌≤◌, ◌^◌, Bool, false, nat_lt, if◌then◌else◌, List, [], ◌∷◌, length, map, drop, Option, Some, None, Result, Ok, Err, ℤ, pos, refl, sym, ap, ◌∙◌, arith, rules, lt-ltb}
-use Rattle.std.specs.Bool.{⊤}
-use Rattle.std.proofs.lemmas.Bool.{or_parts}
-use Rattle.std.proofs.lemmas.Fmt.{digits_value-decimal}
-use Rattle.std.proofs.lemmas.List.{length-map}
-use Rattle.std.proofs.lemmas.Str.Parse.{IsNumeralModel, numerals_by_fold, tells_digits}
-use Rattle.std.specs.Fmt.{decimal}
-use Rattle.std.specs.Str.Parse.{AllDigits}
-use Rattle.redcode_expand.proofs.Words.{AsmFault, RawSettings, Piece, SourceLine, labels_of, Counter, in_copy, in_copies, changed_from, has_number, kept_count, number_by, number_of, plain_copy, EquList, has_equ, replaced, for_labels, predefined, Word, LineForm, has_and}
-use Rattle.war_types.specs.declared.fault.ExprFault.TheVariants as faults
+use Rattle.std.proofs.Common.{◌≡◌, ℕ, ◌<◌, ◌≤◌, ◌^◌, Bool, false, nat_lt, if◌then◌else◌, List, [], ◌∷◌, length, map, drop, Option, Some, None, Result, Ok, Err, ℤ, pos, refl, sym, ap, ◌∙◌}
+use Rattle.{std.proofs.Common.{arith, rules, lt-ltb}, std.specs.Bool.⊤, std.proofs.{lemmas.Bool.or_parts, lemmas.Fmt.digits_value-decimal, lemmas.List.length-map}}
+use Rattle.{std.proofs.lemmas.Str.Parse.{IsNumeralModel, numerals_by_fold, tells_digits}, std.specs.{Fmt.decimal, Str.Parse.AllDigits}, war_types.specs.declared.fault.ExprFault.ExprFault}
+use Rattle.{redcode_text.specs.Value.{number_from, number_value, part_of, value_of}, redcode_copies.proofs.PlainLines.{copies-plain, none-changed}, redcode_names.specs.Gives.◌>>=◌}
+use Rattle.{redcode_names.proofs.Unchanged.tokens-same, redcode_expand.specs.{Rest.AreFew, Values.counter_values, Walk.{WalkState, begun, begun_as, begun_of, closed, copies_of, count_by}}}
+use Rattle.redcode_expand.proofs.Words.{AsmFault, RawSettings, Piece, SourceLine, labels_of, Counter, in_copy, in_copies, changed_from, has_number, kept_count, number_by, number_of}
+use Rattle.redcode_expand.proofs.Words.{plain_copy, EquList, has_equ, replaced, for_labels, predefined, Word, LineForm, has_and}
 use Rattle.redcode_text.specs.declared.vocabulary.Word.TheVariants as words
-use Rattle.redcode_text.specs.Value.{number_from, number_value, part_of, value_of}
-use Rattle.redcode_copies.proofs.PlainLines.{copies-plain, none-changed}
-use Rattle.redcode_names.specs.Gives.{◌>>=◌}
-use Rattle.redcode_names.proofs.Unchanged.{tokens-same}
-use Rattle.redcode_expand.specs.Rest.{AreFew}
-use Rattle.redcode_expand.specs.Values.{counter_values}
-use Rattle.redcode_expand.specs.Walk.{WalkState, begun, begun_as, begun_of, closed, copies_of, count_by}
 
 -- ---- the value of a counter
 
 numerals : IsNumeralModel (AllDigits 10) (number_from 0)
 numerals = numerals_by_fold (AllDigits 10) tells_digits number_from (search rules)
 
-small-value : (n digits : ℕ) → digits ≡ n → n < 2 ^ 63 → (if nat_lt digits (2 ^ 63) then Ok (pos digits) else Err faults.Overflow) ≡ Ok (pos n)
+small-value : (n digits : ℕ) → digits ≡ n → n < 2 ^ 63 → (if nat_lt digits (2 ^ 63) then Ok (pos digits) else Err ExprFault.Overflow) ≡ Ok (pos n)
 small-value n digits is small = rw (is, lt-ltb n (2 ^ 63) small) refl
 
 digits-value : (n : ℕ) → n < 2 ^ 63 → number_value (decimal n) ≡ Ok (pos n)

@@ -1,16 +1,7 @@
 -- The definition computed on small sources, with what it has to give.
-use Rattle.std.proofs.Common.{◌≡◌, ℕ, List, [], ◌∷◌, map, Result, Ok, Err, refl, codes}
-use Rattle.std.specs.Bool.{⊤}
-use Rattle.war_types.specs.declared.fault.AsmKind.TheVariants as kinds
-use Rattle.war_types.specs.declared.fault.AsmFault.{AsmFault}
-use Rattle.war_types.specs.declared.settings.RawSettings.{RawSettings}
-use Rattle.redcode_lines.specs.declared.line.LineKind.{LineKind}
-use Rattle.redcode_lines.specs.declared.line.LineKind.TheVariants as lines
-use Rattle.redcode_names.specs.Gives.{fault_at}
-use Rattle.redcode_text.specs.Tokens.{Piece}
-use Rattle.redcode_names.specs.Equ.{replaced}
-use Rattle.redcode_names.specs.Name.{LabelList}
-use Rattle.redcode_expand.specs.Expansion.{Expansion, ExpandedLine, expansion}
+use Rattle.{std.proofs.Common.{◌≡◌, ℕ, List, [], ◌∷◌, map, Result, Ok, Err, refl, codes}, std.specs.Bool.⊤, war_types.specs.declared.fault.AsmFault.AsmFault}
+use Rattle.{war_types.specs.{declared.settings.RawSettings.RawSettings, declared.fault.AsmKind.AsmKind}, redcode_text.specs.Tokens.Piece, redcode_lines.specs.declared.line.LineKind.LineKind}
+use Rattle.{redcode_names.specs.{Gives.fault_at, Equ.replaced, Name.LabelList}, redcode_expand.specs.Expansion.{Expansion, ExpandedLine, expansion}}
 
 abbrev defaults : RawSettings
 defaults = record { core = 8000; cycles = 80000; processes = 8000; length = 100; distance = 100; rounds = 10; seed = 1; capacity = 20; read_limit = 8000; write_limit = 8000 }
@@ -41,42 +32,42 @@ AreRefused [] = ⊤
 AreRefused (row ∷ rows) = refused row.0 row.1 × AreRefused rows
 
 labels_and_lines : gives (codes "ORG start\nbomb DAT #0\nstart b: ADD 4 ; c\n\nJMP x\nx")
-    ((1, (lines.Org, (0, ([], codes "ORG" ∷ codes "start" ∷ []))))
-    ∷ (2, (lines.Operation, (0, ([], codes "DAT" ∷ codes "#" ∷ codes "0" ∷ []))))
-    ∷ (3, (lines.Operation, (1, ([], codes "ADD" ∷ codes "4" ∷ []))))
-    ∷ (5, (lines.Operation, (2, ([], codes "JMP" ∷ codes "x" ∷ [])))) ∷ []) ((codes "bomb", 0) ∷ (codes "start", 1) ∷ (codes "b", 1) ∷ (codes "x", 3) ∷ [])
+    ((1, (LineKind.Org, (0, ([], codes "ORG" ∷ codes "start" ∷ []))))
+    ∷ (2, (LineKind.Operation, (0, ([], codes "DAT" ∷ codes "#" ∷ codes "0" ∷ []))))
+    ∷ (3, (LineKind.Operation, (1, ([], codes "ADD" ∷ codes "4" ∷ []))))
+    ∷ (5, (LineKind.Operation, (2, ([], codes "JMP" ∷ codes "x" ∷ [])))) ∷ []) ((codes "bomb", 0) ∷ (codes "start", 1) ∷ (codes "b", 1) ∷ (codes "x", 3) ∷ [])
 unfolding expansion replaced
 labels_and_lines = refl
 
 titles_and_assertions : gives (codes ";name  Imp \n;Author\n;ASSERT\t1,x ;c\n;names\n;assert0\n;assert;x\n; name")
-    ((1, (lines.Name, (0, (codes "  Imp ", []))))
-    ∷ (2, (lines.Author, (0, ([], []))))
-    ∷ (3, (lines.Assert, (0, ([], codes "1" ∷ codes "," ∷ codes "x" ∷ [])))) ∷ []) []
+    ((1, (LineKind.Name, (0, (codes "  Imp ", []))))
+    ∷ (2, (LineKind.Author, (0, ([], []))))
+    ∷ (3, (LineKind.Assert, (0, ([], codes "1" ∷ codes "," ∷ codes "x" ∷ [])))) ∷ []) []
 unfolding expansion replaced
 titles_and_assertions = refl
 
 other_lines : gives (codes "here:\nx PIN ?\nLDP\nFOO 0 DAT\nEND\nDAT")
-    ((1, (lines.Other, (0, ([], codes ":" ∷ []))))
-    ∷ (2, (lines.Other, (0, ([], codes "PIN" ∷ codes "?" ∷ []))))
-    ∷ (3, (lines.Operation, (0, ([], codes "LDP" ∷ []))))
-    ∷ (4, (lines.Other, (1, ([], codes "0" ∷ codes "DAT" ∷ []))))
-    ∷ (5, (lines.End, (1, ([], codes "END" ∷ [])))) ∷ []) ((codes "here", 0) ∷ (codes "x", 0) ∷ (codes "FOO", 1) ∷ [])
+    ((1, (LineKind.Other, (0, ([], codes ":" ∷ []))))
+    ∷ (2, (LineKind.Other, (0, ([], codes "PIN" ∷ codes "?" ∷ []))))
+    ∷ (3, (LineKind.Operation, (0, ([], codes "LDP" ∷ []))))
+    ∷ (4, (LineKind.Other, (1, ([], codes "0" ∷ codes "DAT" ∷ []))))
+    ∷ (5, (LineKind.End, (1, ([], codes "END" ∷ [])))) ∷ []) ((codes "here", 0) ∷ (codes "x", 0) ∷ (codes "FOO", 1) ∷ [])
 unfolding expansion replaced
 other_lines = refl
 
 from_redcode : gives (codes "x x\nROF\n ;ReDcOdEx\nDAT\n;redcode\nX NOP\nEND\n;redcode")
-    ((4, (lines.Operation, (0, ([], codes "DAT" ∷ []))))
-    ∷ (6, (lines.Operation, (1, ([], codes "NOP" ∷ []))))
-    ∷ (7, (lines.End, (2, ([], codes "END" ∷ [])))) ∷ []) ((codes "X", 1) ∷ [])
+    ((4, (LineKind.Operation, (0, ([], codes "DAT" ∷ []))))
+    ∷ (6, (LineKind.Operation, (1, ([], codes "NOP" ∷ []))))
+    ∷ (7, (LineKind.End, (2, ([], codes "END" ∷ [])))) ∷ []) ((codes "X", 1) ∷ [])
 unfolding expansion replaced
 from_redcode = refl
 
 -- a second definition, a predefined label, a misspelt operation twice, a label twice on a line
 names_refused : AreRefused (
-    (codes "x DAT 0\nX DAT 0\nx DAT 1", fault_at 3 kinds.DuplicateName)
-    ∷ (codes "coresize DAT 0\nCORESIZE DAT 0", fault_at 2 kinds.DuplicateName)
-    ∷ (codes "MVO 0, 1\nMVO 0, 1", fault_at 2 kinds.DuplicateName)
-    ∷ (codes "x & x : DAT", fault_at 1 kinds.DuplicateName) ∷ [])
+    (codes "x DAT 0\nX DAT 0\nx DAT 1", fault_at 3 AsmKind.DuplicateName)
+    ∷ (codes "coresize DAT 0\nCORESIZE DAT 0", fault_at 2 AsmKind.DuplicateName)
+    ∷ (codes "MVO 0, 1\nMVO 0, 1", fault_at 2 AsmKind.DuplicateName)
+    ∷ (codes "x & x : DAT", fault_at 1 AsmKind.DuplicateName) ∷ [])
 unfolding expansion replaced
 names_refused = (refl, (refl, (refl, (refl, tt))))
 
@@ -84,49 +75,49 @@ names_refused = (refl, (refl, (refl, (refl, tt))))
 
 -- the body stands for the name as tokens, not as a value
 body_as_tokens : gives (codes "x EQU 3+4 ; seven\nDAT 0, x*2")
-    ((2, (lines.Operation, (0, ([], codes "DAT" ∷ codes "0" ∷ codes "," ∷ codes "3" ∷ codes "+" ∷ codes "4" ∷ codes "*" ∷ codes "2" ∷ [])))) ∷ []) []
+    ((2, (LineKind.Operation, (0, ([], codes "DAT" ∷ codes "0" ∷ codes "," ∷ codes "3" ∷ codes "+" ∷ codes "4" ∷ codes "*" ∷ codes "2" ∷ [])))) ∷ []) []
 unfolding expansion replaced
 body_as_tokens = refl
 
 -- a name may be defined by a later line, and one body may name another
-later_name : gives (codes "a EQU b+1\nb EQU 2\nDAT a*2") ((3, (lines.Operation, (0, ([], codes "DAT" ∷ codes "2" ∷ codes "+" ∷ codes "1" ∷ codes "*" ∷ codes "2" ∷ [])))) ∷ []) []
+later_name : gives (codes "a EQU b+1\nb EQU 2\nDAT a*2") ((3, (LineKind.Operation, (0, ([], codes "DAT" ∷ codes "2" ∷ codes "+" ∷ codes "1" ∷ codes "*" ∷ codes "2" ∷ [])))) ∷ []) []
 unfolding expansion replaced
 later_name = refl
 
 -- the labels before the last one stand at the next instruction; a dot of a body is one of the line
 labels_before_the_name : gives (codes "DAT\nx: y & m EQU .AB 1\nz MOV m\nORG m")
-    ((1, (lines.Operation, (0, ([], codes "DAT" ∷ []))))
-    ∷ (3, (lines.Operation, (1, ([], codes "MOV" ∷ codes "." ∷ codes "AB" ∷ codes "1" ∷ []))))
-    ∷ (4, (lines.Org, (2, ([], codes "ORG" ∷ codes "." ∷ codes "AB" ∷ codes "1" ∷ [])))) ∷ []) ((codes "x", 1) ∷ (codes "y", 1) ∷ (codes "z", 1) ∷ [])
+    ((1, (LineKind.Operation, (0, ([], codes "DAT" ∷ []))))
+    ∷ (3, (LineKind.Operation, (1, ([], codes "MOV" ∷ codes "." ∷ codes "AB" ∷ codes "1" ∷ []))))
+    ∷ (4, (LineKind.Org, (2, ([], codes "ORG" ∷ codes "." ∷ codes "AB" ∷ codes "1" ∷ [])))) ∷ []) ((codes "x", 1) ∷ (codes "y", 1) ∷ (codes "z", 1) ∷ [])
 unfolding expansion replaced
 labels_before_the_name = refl
 
 -- assertions are replaced, commas and all; titles, PIN lines and other lines are not
 kinds_of_lines : gives (codes ";assert m,m\n;name m\nPIN m\n+ m\nm EQU 1\nEND m")
-    ((1, (lines.Assert, (0, ([], codes "1" ∷ codes "," ∷ codes "1" ∷ []))))
-    ∷ (2, (lines.Name, (0, (codes " m", []))))
-    ∷ (3, (lines.Other, (0, ([], codes "PIN" ∷ codes "m" ∷ []))))
-    ∷ (4, (lines.Other, (0, ([], codes "+" ∷ codes "m" ∷ []))))
-    ∷ (6, (lines.End, (0, ([], codes "END" ∷ codes "1" ∷ [])))) ∷ []) []
+    ((1, (LineKind.Assert, (0, ([], codes "1" ∷ codes "," ∷ codes "1" ∷ []))))
+    ∷ (2, (LineKind.Name, (0, (codes " m", []))))
+    ∷ (3, (LineKind.Other, (0, ([], codes "PIN" ∷ codes "m" ∷ []))))
+    ∷ (4, (LineKind.Other, (0, ([], codes "+" ∷ codes "m" ∷ []))))
+    ∷ (6, (LineKind.End, (0, ([], codes "END" ∷ codes "1" ∷ [])))) ∷ []) []
 unfolding expansion replaced
 kinds_of_lines = refl
 
 -- the names after the dot of an operation are the modifier's
-modifier_left_alone : gives (codes "I EQU 5\nMOV.I I") ((2, (lines.Operation, (0, ([], codes "MOV" ∷ codes "." ∷ codes "I" ∷ codes "5" ∷ [])))) ∷ []) []
+modifier_left_alone : gives (codes "I EQU 5\nMOV.I I") ((2, (LineKind.Operation, (0, ([], codes "MOV" ∷ codes "." ∷ codes "I" ∷ codes "5" ∷ [])))) ∷ []) []
 unfolding expansion replaced
 modifier_left_alone = refl
 
-unused_cycle : gives (codes "a EQU a\nDAT") ((2, (lines.Operation, (0, ([], codes "DAT" ∷ [])))) ∷ []) []
+unused_cycle : gives (codes "a EQU a\nDAT") ((2, (LineKind.Operation, (0, ([], codes "DAT" ∷ [])))) ∷ []) []
 unfolding expansion replaced
 unused_cycle = refl
 
 -- a cycle, no name, no body, a word in a body, a name twice, a label and a name
 equs_refused : AreRefused (
-    (codes "a EQU b b\nb EQU a a\nDAT 0, a", fault_at 3 kinds.EquLimit)
-    ∷ (codes "EQU 3", fault_at 1 kinds.BadEqu)
-    ∷ (codes "x EQU ; none", fault_at 1 kinds.BadEqu)
-    ∷ (codes "x EQU 1, pin", fault_at 1 kinds.BadEqu)
-    ∷ (codes "x EQU 1\nx EQU", fault_at 2 kinds.DuplicateName)
-    ∷ (codes "x DAT\nx x EQU 1", fault_at 2 kinds.DuplicateName) ∷ [])
+    (codes "a EQU b b\nb EQU a a\nDAT 0, a", fault_at 3 AsmKind.EquLimit)
+    ∷ (codes "EQU 3", fault_at 1 AsmKind.BadEqu)
+    ∷ (codes "x EQU ; none", fault_at 1 AsmKind.BadEqu)
+    ∷ (codes "x EQU 1, pin", fault_at 1 AsmKind.BadEqu)
+    ∷ (codes "x EQU 1\nx EQU", fault_at 2 AsmKind.DuplicateName)
+    ∷ (codes "x DAT\nx x EQU 1", fault_at 2 AsmKind.DuplicateName) ∷ [])
 unfolding expansion replaced
 equs_refused = (refl, (refl, (refl, (refl, (refl, (refl, tt))))))

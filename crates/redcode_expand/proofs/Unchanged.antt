@@ -1,13 +1,9 @@
 -- A line with the names of EQUs replaced, and all lines so, one after another.
-use Rattle.std.proofs.Common.{◌≡◌, ℕ, ◌-◌, ◌<◌, ◌≤◌, true, false, nat_lt, if◌then◌else◌, List, [], ◌++◌, length, take, take_at, take_all, Option, Some, None, Ok, Err, append-nil, length-append, length-drop, drop, get_or, ◌+◌, lt-ltb, le-ltb, sym, ap, ◌∙◌, arith, ◌∷◌, Result, append_assoc, refl}
-use Rattle.std.proofs.lemmas.Bool.Decides.{nat_tests}
-use Rattle.std.proofs.lemmas.List.{drop_all, drop_more}
-use Rattle.redcode_expand.proofs.Words.{AsmFault, Piece, EquList, has_equ, LineKind}
-use Rattle.war_types.specs.declared.fault.AsmKind.TheVariants as kinds
-use Rattle.redcode_names.specs.Gives.{Fails, fault_at, ◌>>=◌}
-use Rattle.redcode_expand.specs.Expansion.{ExpandedLine, line_replaced, all_replaced}
-use Rattle.redcode_lines.specs.Operand.{behind_modifier, operands_of}
-use Rattle.redcode_names.proofs.Unchanged.{tokens-same, tokens-over}
+use Rattle.std.proofs.Common.{◌≡◌, ℕ, ◌-◌, ◌<◌, ◌≤◌, true, false, nat_lt, if◌then◌else◌, List, [], ◌++◌, length, take, take_at, take_all, Option, Some, None, Ok, Err, append-nil}
+use Rattle.std.proofs.{Common.{length-append, length-drop, drop, get_or, ◌+◌, lt-ltb, le-ltb, sym, ap, ◌∙◌, arith, ◌∷◌, Result, append_assoc, refl}, lemmas.Bool.Decides.nat_tests}
+use Rattle.{std.proofs.lemmas.List.{drop_all, drop_more}, war_types.specs.declared.fault.AsmKind.AsmKind, redcode_lines.specs.Operand.{behind_modifier, operands_of}}
+use Rattle.{redcode_names.specs.Gives.{Fails, fault_at, ◌>>=◌}, redcode_names.proofs.Unchanged.{tokens-same, tokens-over}}
+use Rattle.{redcode_expand.specs.Expansion.{ExpandedLine, line_replaced, all_replaced}, redcode_expand.proofs.Words.{AsmFault, Piece, EquList, has_equ, LineKind}}
 
 -- ---- the operands are the last tokens
 
@@ -27,7 +23,7 @@ line-same equs line operands h1 h2 h3 = grind (arith, tokens-same, length-append
 
 -- or it has too many tokens
 pub line-over : (equs : EquList) (line : ExpandedLine) (operands : List Piece) (fault : AsmFault) → operands ≡ operands_of line.kind line.tokens
-    → has_equ equs operands ≡ false → 512 < length operands → fault ≡ fault_at line.source_line kinds.EquLimit → Fails fault (line_replaced equs line)
+    → has_equ equs operands ≡ false → 512 < length operands → fault ≡ fault_at line.source_line AsmKind.EquLimit → Fails fault (line_replaced equs line)
 line-over equs line operands fault h1 h2 h3 h4 = grind (arith, tokens-over)
 
 -- ---- without EQUs
@@ -52,7 +48,7 @@ first_over (line ∷ lines) = if nat_lt 512 (length (operands_of line.kind line.
 short-kept : (line : ExpandedLine) → nat_lt 512 (length (operands_of line.kind line.tokens)) ≡ false → line_replaced [] line ≡ Ok line
 short-kept line h = line-same [] line (operands_of line.kind line.tokens) refl (none-named (operands_of line.kind line.tokens)) (grind (arith, nat_tests))
 
-over-refused : (line : ExpandedLine) → nat_lt 512 (length (operands_of line.kind line.tokens)) ≡ true → line_replaced [] line ≡ Err (fault_at line.source_line kinds.EquLimit)
+over-refused : (line : ExpandedLine) → nat_lt 512 (length (operands_of line.kind line.tokens)) ≡ true → line_replaced [] line ≡ Err (fault_at line.source_line AsmKind.EquLimit)
 over-refused line h = grind (arith, nat_tests, tokens-over, none-named)
 
 -- if none has, all stay as they are
@@ -61,7 +57,7 @@ all-short [] h = refl
 all-short (line ∷ lines) h = grind (arith, short-kept, all-short lines)
 
 -- and else the first is refused
-pub first-refused : (lines : List ExpandedLine) (number : ℕ) → first_over lines ≡ Some number → all_replaced [] lines ≡ Err (fault_at number kinds.EquLimit)
+pub first-refused : (lines : List ExpandedLine) (number : ℕ) → first_over lines ≡ Some number → all_replaced [] lines ≡ Err (fault_at number AsmKind.EquLimit)
 first-refused [] number h = grind arith
 first-refused (line ∷ lines) number h = grind (arith, short-kept, over-refused, first-refused lines number)
 
@@ -76,7 +72,7 @@ short-next line others h = rw (le-ltb 512 (length (operands_of line.kind line.to
 
 -- the line at this index has too many
 pub over-told : (lines : List ExpandedLine) (i : ℕ) (line : ExpandedLine) → i < length lines → line ≡ get_or lines i line → first_over (drop i lines) ≡ first_over lines
-    → 512 < length (operands_of line.kind line.tokens) → all_replaced [] lines ≡ Err (fault_at line.source_line kinds.EquLimit)
+    → 512 < length (operands_of line.kind line.tokens) → all_replaced [] lines ≡ Err (fault_at line.source_line AsmKind.EquLimit)
 over-told lines i line h1 h2 h3 h4 = first-refused lines line.source_line (sym h3 ∙ ap first_over (drop-line lines i line h1 h2) ∙ over-first line (drop (i + 1) lines) h4)
 
 -- or it is not the one

@@ -1,18 +1,8 @@
 -- The expanded lines and the labels of a source, or the first fault in the order of the refusals.
 use Rattle.std.specs.Prelude.{ℕ, ◌-◌, nat_lt, if◌then◌else◌, List, [], ◌∷◌, ◌++◌, length, take, Result, Ok, Err}
-use Rattle.war_types.specs.declared.fault.AsmKind.TheVariants as kinds
-use Rattle.war_types.specs.declared.fault.AsmFault.{AsmFault}
-use Rattle.war_types.specs.declared.settings.RawSettings.{RawSettings}
-use Rattle.redcode_text.specs.Tokens.{Piece}
-use Rattle.redcode_lines.specs.declared.line.Line.{Line}
-use Rattle.redcode_lines.specs.declared.line.LineKind.{LineKind}
-use Rattle.redcode_names.specs.Gives.{◌>>=◌, fault_at}
-use Rattle.redcode_lines.specs.Operand.{operands_of}
-use Rattle.redcode_lines.specs.Source.{NumberedLine, live_lines}
-use Rattle.redcode_names.specs.Equ.{EquList, replaced}
-use Rattle.redcode_lines.specs.Block.{Parsed, parsed, source_lines}
-use Rattle.redcode_names.specs.Name.{LabelList, Names}
-use Rattle.redcode_expand.specs.Walk.{WalkState, walk_all, walk_begin}
+use Rattle.{war_types.specs.{declared.fault.AsmFault.AsmFault, declared.settings.RawSettings.RawSettings, declared.fault.AsmKind.AsmKind}, redcode_text.specs.Tokens.Piece}
+use Rattle.redcode_lines.specs.{declared.line.Line.Line, declared.line.LineKind.LineKind, Operand.operands_of, Source.{NumberedLine, live_lines}, Block.{Parsed, parsed, source_lines}}
+use Rattle.{redcode_names.specs.{Gives.{◌>>=◌, fault_at}, Equ.{EquList, replaced}, Name.{LabelList, Names}}, redcode_expand.specs.Walk.{WalkState, walk_all, walk_begin}}
 pub use Rattle.redcode_names.specs.Name.{address_of, predefined}
 pub use Rattle.redcode_expand.specs.Walk.{ExpandedLine}
 
@@ -54,4 +44,4 @@ abbrev pub expansion_of_lines : RawSettings → List NumberedLine → Result Exp
 expansion_of_lines s live = expansion_of_blocks s (parsed (source_lines live))
 
 unfoldable pub expansion : RawSettings → List ℕ → Result Expansion AsmFault
-expansion s source = if nat_lt 65536 (length source) then Err (fault_at 0 kinds.SourceTooLong) else expansion_of_lines s (live_lines source)
+expansion s source = if nat_lt 65536 (length source) then Err (fault_at 0 AsmKind.SourceTooLong) else expansion_of_lines s (live_lines source)

@@ -1,13 +1,7 @@
 -- Counts of blocks that stay the same in the rest of a source: what the code keeps, no part of the definition.
 use Rattle.std.specs.Prelude.{◌≡◌, ℕ, ◌+◌, ◌<◌, ◌^◌, Bool, true, false, ◌||◌, ◌&&◌, List, [], ◌∷◌, length, drop, is_some, Option, Some, None, Ok, slice_index_or}
-use Rattle.war_types.specs.declared.settings.RawSettings.{RawSettings}
-use Rattle.redcode_text.specs.Tokens.{Piece}
-use Rattle.redcode_text.specs.Value.{value_of}
-use Rattle.redcode_lines.specs.Line.{SourceLine, is_name, labels_of}
-use Rattle.redcode_names.specs.Equ.{EquList, body_of, has_tokens, replaced}
-use Rattle.redcode_names.specs.Name.{is_loose, predefined}
-use Rattle.redcode_expand.specs.Walk.{count_by}
-use Rattle.redcode_expand.specs.declared.counts.Kept.{Kept}
+use Rattle.{war_types.specs.declared.settings.RawSettings.RawSettings, redcode_text.specs.{Tokens.Piece, Value.value_of}, redcode_lines.specs.Line.{SourceLine, is_name, labels_of}}
+use Rattle.{redcode_names.specs.{Equ.{EquList, body_of, has_tokens, replaced}, Name.{is_loose, predefined}}, redcode_expand.specs.{Walk.count_by, declared.counts.Kept.Kept}}
 use Rattle.redcode_expand.specs.declared.counts.Kept.TheVariants as kept
 
 -- such a name is among the tokens

@@ -1,15 +1,9 @@
 -- What holds of every walk and of every expansion: a block is its body written out, and addresses count instructions.
 use Rattle.std.specs.Prelude.{◌≡◌, ◌<◌, ◌≤◌, ℕ, ◌+◌, zero, suc, List, [], ◌∷◌, length, take, Some}
-use Rattle.war_types.specs.declared.settings.RawSettings.{RawSettings}
-use Rattle.redcode_lines.specs.declared.line.LineKind.{LineKind}
+use Rattle.{war_types.specs.declared.settings.RawSettings.RawSettings, redcode_lines.specs.{declared.line.LineKind.LineKind, Line.{SourceLine, labels_of}}}
+use Rattle.{redcode_lines.specs.Block.{Blocks, finish, one_line, block, open_for}, redcode_copies.specs.Counter.{Counter, counter_of, in_copy}}
+use Rattle.{redcode_names.specs.{Gives.◌>>=◌, Name.address_of}, redcode_expand.specs.{Walk.{ExpandedLine, WalkState, begun_of, copies, labelled, until_end, walk}, Expansion.Expansion}}
 use Rattle.redcode_lines.specs.declared.line.LineKind.TheVariants as lines
-use Rattle.redcode_lines.specs.Line.{SourceLine, labels_of}
-use Rattle.redcode_lines.specs.Block.{Blocks, finish, one_line, block, open_for}
-use Rattle.redcode_copies.specs.Counter.{Counter, counter_of, in_copy}
-use Rattle.redcode_names.specs.Gives.{◌>>=◌}
-use Rattle.redcode_names.specs.Name.{address_of}
-use Rattle.redcode_expand.specs.Walk.{ExpandedLine, WalkState, begun_of, copies, labelled, until_end, walk}
-use Rattle.redcode_expand.specs.Expansion.{Expansion}
 
 -- ---- blocks
 

@@ -1,26 +1,17 @@
 -- What the walk knows of the lines of a source before it reads them. No part of the definition: a shorter way to the same.
 use Rattle.std.specs.Prelude.{◌≡◌, ℕ, ◌+◌, ◌<◌, ◌≤◌, Bool, true, false, not, ◌||◌, ◌&&◌, List, [], ◌∷◌, length, drop, Option, Some, None, ⊤, slice_index_or}
-use Rattle.redcode_text.specs.declared.vocabulary.Word.{Word}
-use Rattle.redcode_text.specs.declared.vocabulary.Word.TheVariants as words
-use Rattle.redcode_text.specs.Tokens.{Piece}
-use Rattle.redcode_lines.specs.declared.reading.LineForm.TheVariants as forms
-use Rattle.redcode_lines.specs.Line.{SourceLine, is_name, source_line}
-use Rattle.redcode_lines.specs.Block.{parsed}
-use Rattle.redcode_lines.specs.Capped.{has_and}
-use Rattle.redcode_names.specs.Equ.{has_tokens}
-use Rattle.redcode_expand.specs.declared.marked_lines.Edge.{Edge}
-use Rattle.redcode_expand.specs.declared.marked_lines.Edge.TheVariants as edges
-use Rattle.redcode_expand.specs.declared.marked_lines.Mark.{Mark}
+use Rattle.{redcode_text.specs.{declared.vocabulary.Word.Word, Tokens.Piece}, redcode_lines.specs.{Line.{SourceLine, is_name, source_line}, Block.parsed, Capped.has_and}}
+use Rattle.{redcode_lines.specs.declared.reading.LineForm.LineForm, redcode_names.specs.Equ.has_tokens, redcode_expand.specs.{declared.marked_lines.Edge.Edge, declared.marked_lines.Mark.Mark}}
 
 -- the line at this index
 abbrev pub line_in : List SourceLine → ℕ → SourceLine
-line_in lines at = slice_index_or lines at (source_line 0 forms.Statement None [] [] [])
+line_in lines at = slice_index_or lines at (source_line 0 LineForm.Statement None [] [] [])
 
 -- what a line with this word is to a block
 abbrev pub edge_of : Option Word → Edge
-edge_of (Some words.For) = edges.For
-edge_of (Some words.Rof) = edges.Rof
-edge_of _ = edges.Neither
+edge_of (Some Word.For) = Edge.For
+edge_of (Some Word.Rof) = Edge.Rof
+edge_of _ = Edge.Neither
 
 -- nothing stands before its word, and no & after it
 abbrev pub is_bare : SourceLine → Bool
@@ -34,7 +25,7 @@ has_name (token ∷ tokens) = is_name token.kind || has_name tokens
 -- these lines are none, or the first is a ROF
 abbrev pub AreFromRof : List SourceLine → Type 0
 AreFromRof [] = ⊤
-AreFromRof (line ∷ lines) = line.word ≡ Some words.Rof
+AreFromRof (line ∷ lines) = line.word ≡ Some Word.Rof
 
 -- rof is the index of the first ROF, from the line at body on, that belongs to no FOR from there on; or there is none
 pub record IsNextRof (lines : List SourceLine) (body rof : ℕ) : Type 0 where
@@ -50,7 +41,7 @@ pub record IsMarked (lines : List SourceLine) (at : ℕ) (mark : Mark) : Type 0 
   pub rof : IsNextRof lines (at + 1) mark.rof
 
 abbrev pub no_mark : Mark
-no_mark = record { edge = edges.For; is_bare = false; has_names = false; rof = 0 }
+no_mark = record { edge = Edge.For; is_bare = false; has_names = false; rof = 0 }
 
 abbrev pub mark_at : List Mark → ℕ → Mark
 mark_at marks at = slice_index_or marks at no_mark

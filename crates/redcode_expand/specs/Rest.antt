@@ -1,16 +1,8 @@
 -- What is left of a source within blocks that are open.
 use Rattle.std.specs.Prelude.{◌≡◌, ℕ, suc, ◌+◌, ◌-◌, ◌*◌, ◌≤◌, ◌<◌, ◌^◌, Bool, true, false, IsTrue, nat_eq, if◌then◌else◌, List, [], ◌∷◌, ◌++◌, length, drop, ⊤, Option, Some, None, Result, Ok, Err}
-use Rattle.std.specs.Option.{option_map}
-use Rattle.std.specs.Str.{bytes_eq}
-use Rattle.war_types.specs.declared.fault.AsmFault.{AsmFault}
-use Rattle.war_types.specs.declared.fault.AsmKind.TheVariants as kinds
-use Rattle.war_types.specs.declared.settings.RawSettings.{RawSettings}
-use Rattle.redcode_names.specs.Gives.{◌>>=◌, fault_at}
-use Rattle.redcode_lines.specs.Line.{SourceLine}
-use Rattle.redcode_lines.specs.Block.{Blocks, Parsed, parsed}
-use Rattle.redcode_copies.specs.Counter.{Counter, counter_of}
-use Rattle.redcode_names.specs.Name.{LabelList, address_of}
-use Rattle.redcode_expand.specs.Walk.{WalkState, walk, copies, copied, closed, unmatched, until_end}
+use Rattle.{std.specs.{Option.option_map, Str.bytes_eq}, war_types.specs.{declared.fault.AsmFault.AsmFault, declared.settings.RawSettings.RawSettings, declared.fault.AsmKind.AsmKind}}
+use Rattle.{redcode_lines.specs.{Line.SourceLine, Block.{Blocks, Parsed, parsed}}, redcode_copies.specs.Counter.{Counter, counter_of}}
+use Rattle.{redcode_names.specs.{Gives.{◌>>=◌, fault_at}, Name.{LabelList, address_of}}, redcode_expand.specs.Walk.{WalkState, walk, copies, copied, closed, unmatched, until_end}}
 
 -- a block whose copies are being written
 pub record OpenBlock : Type 0 where
@@ -83,7 +75,7 @@ IsUnmatched false blocks (rof ∷ rofs) = ⊤
 
 -- what is left after the ROF of a block without a copy, whose FOR has this line number
 abbrev pub rest_behind : RawSettings → List SourceLine → List OpenBlock → ℕ → List (SourceLine × Blocks) → WalkState → Result WalkState AsmFault
-rest_behind s lines blocks number [] st = Err (fault_at number kinds.UnmatchedFor)
+rest_behind s lines blocks number [] st = Err (fault_at number AsmKind.UnmatchedFor)
 rest_behind s lines blocks number (rof ∷ rofs) st = closed s (counters_of blocks) rof.0 st >>= rest_of s lines blocks (rof.1, rofs)
 
 -- how the walk goes on after the ROF of a block whose body begins at the line of this index

@@ -1,7 +1,5 @@
 -- The values of counters in a count that is read as it stands in the source. No part of the definition: a shorter way to the same.
-use Rattle.std.specs.Prelude.{ℕ, List, Option, Some, None, ℤ, pos}
-use Rattle.redcode_copies.specs.Counter.{Counter}
-use Rattle.redcode_copies.specs.Plain.{number_of}
+use Rattle.{std.specs.Prelude.{ℕ, List, Option, Some, None, ℤ, pos}, redcode_copies.specs.{Counter.Counter, Plain.number_of}}
 
 abbrev pub or_value : Option ℕ → Option ℤ → Option ℤ
 or_value None value = value

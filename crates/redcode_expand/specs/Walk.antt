@@ -1,23 +1,10 @@
 -- The walk over the lines of a source, in the order in which they are written out.
 use Rattle.std.specs.Prelude.{◌≡◌, ◌≢◌, ℕ, zero, suc, ◌+◌, ◌<◌, ◌≤◌, ℤ, pos, negsuc, Bool, true, false, nat_lt, nat_eq, if◌then◌else◌, List, [], ◌∷◌, ◌++◌, drop, Option, Some, None, Result, Ok, Err}
-use Rattle.war_types.specs.declared.fault.AsmKind.TheVariants as kinds
-use Rattle.war_types.specs.declared.fault.AsmFault.{AsmFault}
-use Rattle.war_types.specs.declared.settings.RawSettings.{RawSettings}
-use Rattle.war_types.specs.declared.fault.ExprFault.{ExprFault}
-use Rattle.redcode_text.specs.Tokens.{Piece}
-use Rattle.redcode_text.specs.Value.{value_of}
-use Rattle.redcode_lines.specs.declared.reading.LineForm.{LineForm}
-use Rattle.redcode_lines.specs.declared.reading.LineForm.TheVariants as forms
-use Rattle.redcode_lines.specs.declared.line.LineKind.{LineKind}
+use Rattle.war_types.specs.{declared.fault.AsmFault.AsmFault, declared.settings.RawSettings.RawSettings, declared.fault.ExprFault.ExprFault, declared.fault.AsmKind.AsmKind}
+use Rattle.{redcode_text.specs.{Tokens.Piece, Value.value_of, declared.vocabulary.Word.Word}, redcode_lines.specs.{declared.reading.LineForm.LineForm, declared.line.LineKind.LineKind}}
+use Rattle.{redcode_lines.specs.{Line.{SourceLine, labels_of, behind_labels}, Block.{Blocks, Parsed, finish, one_line, block, open_for}}, redcode_copies.specs.Counter.{Counter, counter_of, in_copies}}
+use Rattle.redcode_names.specs.{Gives.{◌>>=◌, fault_at}, Equ.{EquList, replaced}, Name.{Names, names_of, all_defined, equ_line, for_labels, predefined}}
 use Rattle.redcode_lines.specs.declared.line.LineKind.TheVariants as lines
-use Rattle.redcode_text.specs.declared.vocabulary.Word.{Word}
-use Rattle.redcode_text.specs.declared.vocabulary.Word.TheVariants as words
-use Rattle.redcode_names.specs.Gives.{◌>>=◌, fault_at}
-use Rattle.redcode_lines.specs.Line.{SourceLine, labels_of, behind_labels}
-use Rattle.redcode_lines.specs.Block.{Blocks, Parsed, finish, one_line, block, open_for}
-use Rattle.redcode_copies.specs.Counter.{Counter, counter_of, in_copies}
-use Rattle.redcode_names.specs.Equ.{EquList, replaced}
-use Rattle.redcode_names.specs.Name.{Names, names_of, all_defined, equ_line, for_labels, predefined}
 
 -- a line of the expanded source
 pub record ExpandedLine : Type 0 where
@@ -52,7 +39,7 @@ walk_begin = record { counted = 0; before = 0; names = names_of [] []; lines = [
 
 -- a line that counts
 abbrev pub counted : ℕ → WalkState → Result WalkState AsmFault
-counted line st = if nat_lt st.counted 4096 then Ok (record st { counted = st.counted + 1 }) else Err (fault_at line kinds.ForLimit)
+counted line st = if nat_lt st.counted 4096 then Ok (record st { counted = st.counted + 1 }) else Err (fault_at line AsmKind.ForLimit)
 
 -- labels at the next instruction
 abbrev pub labelled : RawSettings → ℕ → List (List ℕ) → WalkState → Result WalkState AsmFault
@@ -78,11 +65,11 @@ with_instruction line word tokens st = record (with_line line lines.Operation (S
 
 -- a line by its word, with the tokens from it on
 abbrev pub with_word : ℕ → Word → List Piece → WalkState → WalkState
-with_word line (words.Operation op) tokens st = with_instruction line (words.Operation op) tokens st
-with_word line words.Pspace tokens st = with_instruction line words.Pspace tokens st
-with_word line words.Org tokens st = with_line line lines.Org (Some words.Org) [] tokens st
-with_word line words.End tokens st = record (with_line line lines.End (Some words.End) [] tokens st) { ended = true }
-with_word line words.Pin tokens st = with_line line lines.Other (Some words.Pin) [] tokens st
+with_word line (Word.Operation op) tokens st = with_instruction line (Word.Operation op) tokens st
+with_word line Word.Pspace tokens st = with_instruction line Word.Pspace tokens st
+with_word line Word.Org tokens st = with_line line lines.Org (Some Word.Org) [] tokens st
+with_word line Word.End tokens st = record (with_line line lines.End (Some Word.End) [] tokens st) { ended = true }
+with_word line Word.Pin tokens st = with_line line lines.Other (Some Word.Pin) [] tokens st
 with_word line _ tokens st = st
 
 abbrev pub placed_by : ℕ → Option Word → List Piece → WalkState → WalkState
@@ -94,7 +81,7 @@ abbrev pub placed : SourceLine → WalkState → WalkState
 placed line st = placed_by line.number line.word (behind_labels line) st
 
 abbrev pub is_equ_word : Option Word → Bool
-is_equ_word (Some words.Equ) = true
+is_equ_word (Some Word.Equ) = true
 is_equ_word _ = false
 
 -- a statement that counts
@@ -111,10 +98,10 @@ abbrev pub lined : ℕ → LineKind → List ℕ → List Piece → WalkState �
 lined line kind title tokens st = counted line st >>= λ st. Ok (with_line line kind None title tokens st)
 
 abbrev pub step_by : RawSettings → LineForm → SourceLine → WalkState → Result WalkState AsmFault
-step_by s forms.Statement line st = statement s line st
-step_by s forms.Assert line st = lined line.number lines.Assert [] line.tokens st
-step_by s forms.Name line st = lined line.number lines.Name line.title [] st
-step_by s forms.Author line st = lined line.number lines.Author line.title [] st
+step_by s LineForm.Statement line st = statement s line st
+step_by s LineForm.Assert line st = lined line.number lines.Assert [] line.tokens st
+step_by s LineForm.Name line st = lined line.number lines.Name line.title [] st
+step_by s LineForm.Author line st = lined line.number lines.Author line.title [] st
 
 -- a line that makes no block
 abbrev pub step_as : RawSettings → SourceLine → WalkState → Result WalkState AsmFault
@@ -134,7 +121,7 @@ copies_by (negsuc n) = 0
 -- the number of copies, or the fault of a count
 abbrev pub count_by : ℕ → Result ℤ ExprFault → Result ℕ AsmFault
 count_by line (Ok count) = Ok (copies_by count)
-count_by line (Err fault) = Err (fault_at line (kinds.ForCount fault))
+count_by line (Err fault) = Err (fault_at line (AsmKind.ForCount fault))
 
 -- how many copies a count asks for: the names of the EQUs so far are replaced in it, and labels are not known
 abbrev pub copies_of : RawSettings → ℕ → ℕ → EquList → List Piece → Result ℕ AsmFault
@@ -183,12 +170,12 @@ walk s counters (one_line line rest) st = until_end (step s counters line) st >>
 walk s counters (block for body rof rest) st =
     until_end (λ st. begun s counters for st >>= λ b. copies (λ number. walk s (counters ++ counter_of b.counter number ∷ []) body) for.number b.copies 1 b.state) st
     >>= until_end (closed s counters rof) >>= walk s counters rest
-walk s counters (open_for for) st = until_end (λ st. Err (fault_at for.number kinds.UnmatchedFor)) st
+walk s counters (open_for for) st = until_end (λ st. Err (fault_at for.number AsmKind.UnmatchedFor)) st
 
 -- a ROF that no FOR stands before
 abbrev pub unmatched : List (SourceLine × Blocks) → WalkState → Result WalkState AsmFault
 unmatched [] st = Ok st
-unmatched (rof ∷ rofs) st = Err (fault_at rof.0.number kinds.UnmatchedRof)
+unmatched (rof ∷ rofs) st = Err (fault_at rof.0.number AsmKind.UnmatchedRof)
 
 -- all blocks of a source
 abbrev pub walk_all : RawSettings → Parsed → WalkState → Result WalkState AsmFault

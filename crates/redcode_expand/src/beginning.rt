@@ -1,15 +1,8 @@
 //! How a block begins.
 
 ghost use Rattle.std.specs.Prelude.{◌≡◌, ◌<◌, ◌^◌, [], true, false, Some, drop, length, IfOk, OnOk};
-ghost use Rattle.redcode_text.specs.Tokens.{pieces};
-ghost use Rattle.redcode_text.specs.declared.vocabulary.Word.TheVariants.{For};
-ghost use Rattle.redcode_names.specs.Gives.{Gives};
-ghost use Rattle.redcode_lines.specs.Views.{line_read};
-ghost use Rattle.redcode_copies.specs.Plain.{has_number};
-ghost use Rattle.redcode_expand.specs.Rest.{counters_of};
-ghost use Rattle.redcode_expand.specs.Walk.{begun, begun_as, begun_of};
-ghost use Rattle.redcode_expand.specs.Kept.{AreKept, CountIsFixed};
-ghost use Rattle.redcode_expand.specs.Marks.{is_bare, line_in};
+ghost use Rattle.{redcode_text.specs.{Tokens.pieces, declared.vocabulary.Word.TheVariants.For}, redcode_lines.specs.Views.line_read, redcode_copies.specs.Plain.has_number};
+ghost use Rattle.{redcode_names.specs.Gives.Gives, redcode_expand.specs.{Rest.counters_of, Walk.{begun, begun_as, begun_of}, Kept.{AreKept, CountIsFixed}, Marks.{is_bare, line_in}}};
 
 use crate::count::copies_of;
 use crate::counts::Counts;

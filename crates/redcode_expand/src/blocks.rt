@@ -1,14 +1,9 @@
 //! The lines of a source written out, copy by copy.
 
 ghost use Rattle.std.specs.Prelude.{◌≡◌, ◌+◌, ◌<◌, ◌≤◌, ◌∷◌, [], false, Some, drop, length, IfSome, MatchResult, OnOk};
-ghost use Rattle.redcode_text.specs.declared.vocabulary.Word.TheVariants.{For, Rof};
-ghost use Rattle.redcode_names.specs.Gives.{Gives, Fails, fault_at};
-ghost use Rattle.redcode_lines.specs.Block.{parsed};
-ghost use Rattle.redcode_expand.specs.Rest.{counters_of, rest_of, rest_behind, steps_left, AreOpen, GoesOn, IsUnmatched, Passes};
-ghost use Rattle.redcode_expand.specs.Walk.{walk_all, walk_begin, begun, closed};
-ghost use Rattle.redcode_expand.specs.Kept.{AreKept};
-ghost use Rattle.redcode_expand.specs.Marks.{line_in};
-ghost use Rattle.war_types.specs.declared.fault.AsmKind.TheVariants.{UnmatchedFor};
+ghost use Rattle.{war_types.specs.declared.fault.AsmKind.TheVariants.UnmatchedFor, redcode_text.specs.declared.vocabulary.Word.TheVariants.{For, Rof}, redcode_lines.specs.Block.parsed};
+ghost use Rattle.{redcode_names.specs.Gives.{Gives, Fails, fault_at}, redcode_expand.specs.Rest.{counters_of, rest_of, rest_behind, steps_left, AreOpen, GoesOn, IsUnmatched, Passes}};
+ghost use Rattle.redcode_expand.specs.{Walk.{walk_all, walk_begin, begun, closed}, Kept.AreKept, Marks.line_in};
 
 use crate::beginning::begun_at;
 use crate::counts::Counts;

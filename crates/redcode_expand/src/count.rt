@@ -1,11 +1,7 @@
 //! The count of a block.
 
 ghost use Rattle.std.specs.Prelude.{◌≡◌, ◌<◌, ◌^◌, IfOk};
-ghost use Rattle.redcode_text.specs.Tokens.{pieces};
-ghost use Rattle.redcode_text.specs.Value.{value_of};
-ghost use Rattle.redcode_names.specs.Gives.{Gives};
-ghost use Rattle.redcode_expand.specs.Walk.{copies_of, count_by};
-ghost use Rattle.redcode_expand.specs.Kept.{has_loose, CountIsFixed};
+ghost use Rattle.{redcode_text.specs.{Tokens.pieces, Value.value_of}, redcode_names.specs.Gives.Gives, redcode_expand.specs.{Walk.{copies_of, count_by}, Kept.{has_loose, CountIsFixed}}};
 
 use redcode_lines::is_name;
 use redcode_names::{Equs, is_loose, predefined, replaced};

@@ -21,8 +21,7 @@ pub(crate) struct Counts<A: Allocator> {
 }
 
 impl<A: Allocator> Model for Counts<A> {
-    ghost use Rattle.std.specs.Prelude.{ℕ, List, Option, map};
-    ghost use Rattle.redcode_expand.specs.Kept.{count_of};
+    ghost use Rattle.{std.specs.Prelude.{ℕ, List, Option, map}, redcode_expand.specs.Kept.count_of};
 
     ghost Value = { List (Option ℕ) };
 

@@ -21,8 +21,7 @@ pub struct Entry<'s, A: Allocator> {
 }
 
 impl<'s, A: Allocator> Model for Entry<'s, A> {
-    ghost use Rattle.redcode_text.specs.Tokens.{pieces};
-    ghost use Rattle.redcode_expand.specs.Walk.{ExpandedLine};
+    ghost use Rattle.{redcode_text.specs.Tokens.pieces, redcode_expand.specs.Walk.ExpandedLine};
 
     ghost Value = { ExpandedLine };
 

@@ -1,11 +1,8 @@
 //! The lines of a source written out, with the names of `EQU`s in their operands replaced.
 
 ghost use Rattle.std.specs.Prelude.{◌≡◌, ◌<◌, ◌≤◌, ◌++◌, [], length, IfOk, Err};
-ghost use Rattle.redcode_names.specs.Gives.{Gives, fault_at};
-ghost use Rattle.redcode_expand.specs.Laws.{AreCounted, BlocksAreWrittenOut};
-ghost use Rattle.war_types.specs.declared.fault.AsmKind.TheVariants.{SourceTooLong};
-ghost use Rattle.redcode_expand.specs.Expansion.{expansion, address_of, all_replaced, line_replaced, with_names, expansion_of_blocks};
-ghost use Rattle.redcode_lines.specs.Block.{parsed};
+ghost use Rattle.{war_types.specs.declared.fault.AsmKind.TheVariants.SourceTooLong, redcode_lines.specs.Block.parsed, redcode_names.specs.Gives.{Gives, fault_at}};
+ghost use Rattle.redcode_expand.specs.{Laws.{AreCounted, BlocksAreWrittenOut}, Expansion.{expansion, address_of, all_replaced, line_replaced, with_names, expansion_of_blocks}};
 
 use crate::blocks::walk_all;
 use crate::entry::Entry;

@@ -4,9 +4,7 @@
 //! say whether there is anything to read.
 
 ghost use Rattle.std.specs.Prelude.{◌≡◌, ◌+◌, ◌<◌, ◌∷◌, drop, length, IfOk};
-ghost use Rattle.redcode_text.specs.Tokens.{pieces};
-ghost use Rattle.redcode_lines.specs.Views.{line_read};
-ghost use Rattle.redcode_expand.specs.Marks.{edge_of, has_name, is_bare, line_in, AreMarked, IsNextRof};
+ghost use Rattle.{redcode_text.specs.Tokens.pieces, redcode_lines.specs.Views.line_read, redcode_expand.specs.Marks.{edge_of, has_name, is_bare, line_in, AreMarked, IsNextRof}};
 
 use redcode_lines::{Reading, SourceLine, behind_first, has_and, is_name, line_at};
 use redcode_text::{Token, Word};
@@ -43,9 +41,7 @@ pub(crate) struct MarkedLines<'l, 's, A: Allocator> {
 }
 
 impl<'l, 's, A: Allocator> Model for MarkedLines<'l, 's, A> {
-    ghost use Rattle.std.specs.Prelude.{List};
-    ghost use Rattle.redcode_lines.specs.Line.{SourceLine};
-    ghost use Rattle.redcode_expand.specs.Marks.{AreMarked};
+    ghost use Rattle.{std.specs.Prelude.List, redcode_lines.specs.Line.SourceLine, redcode_expand.specs.Marks.AreMarked};
 
     ghost Value = { List SourceLine };
 

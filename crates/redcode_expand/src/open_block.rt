@@ -25,10 +25,8 @@ impl<'s> Model for OpenBlock<'s> {
 }
 
 impl<'s> OpenBlock<'s> {
-    ghost use Rattle.std.specs.Prelude.{◌≡◌, ◌+◌, ◌-◌, ◌<◌, ◌^◌};
-    ghost use Rattle.std.specs.Str.{bytes_eq};
-    ghost use Rattle.redcode_copies.specs.Counter.{counter_of};
-    ghost use Rattle.redcode_expand.specs.Rest.{open_block};
+    ghost use Rattle.std.specs.{Prelude.{◌≡◌, ◌+◌, ◌-◌, ◌<◌, ◌^◌}, Str.bytes_eq};
+    ghost use Rattle.{redcode_copies.specs.Counter.counter_of, redcode_expand.specs.Rest.open_block};
 
     /// The first copy of a block, with `left` copies after it.
     pub(crate) fn new(

@@ -1,13 +1,8 @@
 //! The blocks whose copies are being written.
 
 ghost use Rattle.std.specs.Prelude.{◌≡◌, ◌<◌, ◌^◌, ◌∷◌, [], length, true, None, Some, IfOk, IfSome, OnOk, MatchOption};
-ghost use Rattle.redcode_text.specs.Tokens.{pieces};
-ghost use Rattle.redcode_lines.specs.Views.{line_read};
-ghost use Rattle.redcode_copies.specs.Counter.{in_copies};
-ghost use Rattle.redcode_copies.specs.Plain.{has_number, number_of};
-ghost use Rattle.redcode_copies.specs.Views.{with_tokens};
-ghost use Rattle.redcode_names.specs.Name.{address_of};
-ghost use Rattle.redcode_expand.specs.Rest.{AreFew, ArePlaced, counters_in, counters_of, has_none, place_in};
+ghost use Rattle.{redcode_text.specs.Tokens.pieces, redcode_lines.specs.Views.line_read, redcode_copies.specs.{Counter.in_copies, Plain.{has_number, number_of}, Views.with_tokens}};
+ghost use Rattle.{redcode_names.specs.Name.address_of, redcode_expand.specs.Rest.{AreFew, ArePlaced, counters_in, counters_of, has_none, place_in}};
 
 use crate::open_block::OpenBlock;
 use bumpalo::Bump;
@@ -32,8 +27,7 @@ pub(crate) struct OpenBlocks<'s, A: Allocator + Copy> {
 }
 
 impl<'s, A: Allocator + Copy> Model for OpenBlocks<'s, A> {
-    ghost use Rattle.std.specs.Prelude.{List, reverse};
-    ghost use Rattle.redcode_expand.specs.Rest.{OpenBlock, ArePlaced, AreFew, counters_in};
+    ghost use Rattle.{std.specs.Prelude.{List, reverse}, redcode_expand.specs.Rest.{OpenBlock, ArePlaced, AreFew, counters_in}};
 
     ghost Value = { List OpenBlock };
 

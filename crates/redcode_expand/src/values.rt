@@ -1,13 +1,8 @@
 //! Counts of blocks as they stand in the source.
 
 ghost use Rattle.std.specs.Prelude.{◌≡◌, ◌<◌, ◌^◌, IfOk};
-ghost use Rattle.redcode_text.specs.Tokens.{pieces};
-ghost use Rattle.redcode_text.specs.Value.{value_of};
-ghost use Rattle.redcode_expand.specs.Values.{counter_values};
-ghost use Rattle.redcode_names.specs.Gives.{Gives};
-ghost use Rattle.redcode_names.specs.Name.{predefined};
-ghost use Rattle.redcode_expand.specs.Rest.{counters_of};
-ghost use Rattle.redcode_expand.specs.Walk.{count_by};
+ghost use Rattle.{redcode_text.specs.{Tokens.pieces, Value.value_of}, redcode_names.specs.{Gives.Gives, Name.predefined}};
+ghost use Rattle.redcode_expand.specs.{Values.counter_values, Rest.counters_of, Walk.count_by};
 
 use crate::count::counted;
 use crate::open_blocks::OpenBlocks;

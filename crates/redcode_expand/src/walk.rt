@@ -1,14 +1,8 @@
 //! The walk over the lines of a source.
 
 ghost use Rattle.std.specs.Prelude.{◌≡◌, ◌+◌, ◌<◌, [], true, Ok, OnOk};
-ghost use Rattle.redcode_text.specs.Tokens.{pieces};
-ghost use Rattle.redcode_names.specs.Equ.{has_equ};
-ghost use Rattle.redcode_names.specs.Gives.{Gives};
-ghost use Rattle.redcode_lines.specs.declared.line.LineKind.TheVariants.{End, Operation};
-ghost use Rattle.redcode_lines.specs.Line.{labels_of};
-ghost use Rattle.redcode_lines.specs.Views.{line_read};
-ghost use Rattle.redcode_expand.specs.Expansion.{finished};
-ghost use Rattle.redcode_expand.specs.Rest.{counters_of};
+ghost use Rattle.{redcode_text.specs.Tokens.pieces, redcode_lines.specs.{declared.line.LineKind.TheVariants.{End, Operation}, Line.labels_of, Views.line_read}};
+ghost use Rattle.{redcode_names.specs.{Equ.has_equ, Gives.Gives}, redcode_expand.specs.{Expansion.finished, Rest.counters_of}};
 ghost use Rattle.redcode_expand.specs.Walk.{walk_begin, closed, copied, counted, labelled, with_line, placed, statement, lined, step, step_as, IsCopied};
 
 use crate::entry::Entry;

@@ -1,9 +1,6 @@
 -- For `statement_tokens`: a comment is the last token of its line.
 use Rattle.std.proofs.Common.{◌≡◌, ◌≢◌, ℕ, zero, suc, ◌-◌, ◌<◌, ◌≤◌, ◌||◌, ◌==◌, Bool, true, false, not, List, [], ◌∷◌, length, map, get_or, take, if◌then◌else◌, refl, sym, ap, ◌∙◌, arith}
-use Rattle.war_types.specs.Title.{is_blank}
-use Rattle.redcode_text.specs.Bytes.{is_digit, is_letter, is_symbol}
-use Rattle.redcode_text.specs.declared.token.Token.{Token}
-use Rattle.redcode_text.specs.declared.token.TokenKind.{TokenKind}
+use Rattle.{war_types.specs.Title.is_blank, redcode_text.specs.{Bytes.{is_digit, is_letter, is_symbol}, declared.token.Token.Token, declared.token.TokenKind.TokenKind}}
 use Rattle.redcode_text.specs.declared.token.TokenKind.TheVariants.{Name, Number, Symbol, Comment, Bad}
 use Rattle.redcode_text.specs.Tokens.{Piece, ScannedPiece, piece_of, pieces, pieces_of, without_place, tokens_after, begins_symbol, kind_at, rest_of_token}
 use Rattle.redcode_lines.specs.Line.{is_comment, is_no_comment, without_comment, statement_tokens}

@@ -1,6 +1,5 @@
 -- The lines of a source, one after another: for `first_line`.
-use Rattle.std.proofs.Common.{◌≡◌, ◌≢◌, ℕ, zero, suc, ◌<◌, true, false, eqb, List, [], ◌∷◌, length, get_or, take, drop, refl, arith}
-use Rattle.std.proofs.lemmas.Bool.Decides.{nat_tests}
+use Rattle.std.proofs.{Common.{◌≡◌, ◌≢◌, ℕ, zero, suc, ◌<◌, true, false, eqb, List, [], ◌∷◌, length, get_or, take, drop, refl, arith}, lemmas.Bool.Decides.nat_tests}
 use Rattle.redcode_lines.specs.Source.{lines_of}
 
 -- a line without a line feed is the only one

@@ -1,13 +1,7 @@
 -- What stands at the front of a list, and what is after it: for `labels`, `from_word` and `statement`.
-use Rattle.std.proofs.Common.{◌≡◌, ℕ, ◌-◌, ◌≤◌, Bool, true, false, if◌then◌else◌, List, [], ◌∷◌, length, get_or, take, drop, is_some, Option, Some, None, codes, not, ◌&&◌, ◌||◌, refl, sym, ap, ◌∙◌, arith, ◌++◌, length-append}
-use Rattle.std.proofs.lemmas.Bool.{false_from_ne_true}
-use Rattle.std.proofs.lemmas.List.{take-map, drop-map, length-map, take_at, drop_at}
-use Rattle.std.specs.Cmp.Lexicographic.{bytes_decides}
-use Rattle.std.specs.Str.{bytes_eq}
-use Rattle.redcode_text.specs.Vocabulary.{word_of}
-use Rattle.redcode_text.specs.declared.token.Token.{Token}
-use Rattle.redcode_text.specs.declared.vocabulary.Word.{Word}
-use Rattle.redcode_text.specs.Tokens.{Piece, piece_of, pieces}
+use Rattle.std.proofs.Common.{◌≡◌, ℕ, ◌-◌, ◌≤◌, Bool, true, false, if◌then◌else◌, List, [], ◌∷◌, length, get_or, take, drop, is_some, Option, Some, None, codes, not, ◌&&◌, ◌||◌, refl, sym, ap, ◌∙◌}
+use Rattle.{std.proofs.{Common.{arith, ◌++◌, length-append}, lemmas.Bool.false_from_ne_true, lemmas.List.{take-map, drop-map, length-map, take_at, drop_at}}, std.specs.Cmp.Lexicographic.bytes_decides}
+use Rattle.{std.specs.Str.bytes_eq, redcode_text.specs.{Vocabulary.word_of, declared.token.Token.Token, declared.vocabulary.Word.Word, Tokens.{Piece, piece_of, pieces}}}
 use Rattle.redcode_lines.specs.Line.{source_line, statement, statement_by, line_word, first_word, word_at, has_text, is_name, is_front, tokens_from_word, taken_while, dropped_while}
 use Rattle.redcode_lines.specs.declared.reading.LineForm.TheVariants.{Statement}
 
@@ -44,14 +38,12 @@ statement-by : (number : ℕ) (word : Option Word) (tokens rest : List Token) �
 statement-by number None tokens rest from =
     let none : length tokens - length rest ≡ 0 = omega (arith, ap length from, length-map tokens piece_of, length-map rest piece_of) in
     rw none refl
-statement-by number (Some word) tokens rest from =
-    let cut = cut-pieces is_front tokens rest from in rw (cut.0, cut.1) refl
+statement-by number (Some word) tokens rest from = let cut = cut-pieces is_front tokens rest from in rw (cut.0, cut.1) refl
 
 -- a statement is cut before its word
 pub statement-cut : (number count : ℕ) (word : Option Word) (tokens rest : List Token) → count ≡ length tokens → word ≡ line_word (pieces tokens) → pieces rest ≡ tokens_from_word (pieces tokens)
     → source_line number Statement word [] (pieces (take (count - length rest) tokens)) (pieces (drop (count - length rest) tokens)) ≡ statement number (pieces tokens)
-statement-cut number count word tokens rest whole is from =
-    rw (whole, is) (statement-by number (line_word (pieces tokens)) tokens rest from)
+statement-cut number count word tokens rest whole is from = rw (whole, is) (statement-by number (line_word (pieces tokens)) tokens rest from)
 
 -- ---- the word: for `from_word`
 

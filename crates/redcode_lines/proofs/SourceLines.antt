@@ -1,17 +1,8 @@
 -- The lines of a source that are not skipped, one after another.
 use Rattle.std.proofs.Common.{◌≡◌, ℕ, ◌+◌, ◌≤◌, List, [], ◌∷◌, ◌++◌, length, length-append, map, Option, None, sym, ap, ◌∙◌, append_assoc, arith, true, false, take, drop, refl, eqb, if◌then◌else◌}
-use Rattle.std.proofs.lemmas.List.{length-map, map-append, take-map, take-take, drop-take, take_all}
-use Rattle.std.proofs.lemmas.Bool.{true≢false}
-use Rattle.redcode_text.specs.declared.token.Token.{Token}
-use Rattle.redcode_text.specs.declared.vocabulary.Word.{Word}
-use Rattle.redcode_text.specs.Tokens.{piece_of, pieces}
-use Rattle.redcode_lines.specs.declared.reading.LineForm.{LineForm}
-use Rattle.redcode_lines.specs.declared.source.Directive.{Directive}
-use Rattle.redcode_lines.specs.Source.{directive_of, lines_of, numbered_from}
-use Rattle.redcode_lines.specs.Line.{statement_tokens}
-use Rattle.redcode_lines.specs.Line.{SourceLine, source_line, statement}
-use Rattle.redcode_lines.specs.Capped.{capped, is_capped}
-use Rattle.redcode_lines.specs.Block.{source_lines, line_by}
+use Rattle.{std.proofs.{lemmas.List.{length-map, map-append, take-map, take-take, drop-take, take_all}, lemmas.Bool.true≢false}, redcode_text.specs.declared.token.Token.Token}
+use Rattle.{redcode_text.specs.{declared.vocabulary.Word.Word, Tokens.{piece_of, pieces}}, redcode_lines.specs.{declared.reading.LineForm.LineForm, declared.source.Directive.Directive}}
+use Rattle.redcode_lines.specs.{Source.{directive_of, lines_of, numbered_from}, Line.{statement_tokens, SourceLine, source_line, statement}, Capped.{capped, is_capped}, Block.{source_lines, line_by}}
 
 line-one : (n : ℕ) (line : List ℕ) (found : Option (Directive × List ℕ)) → length (line_by n line found) ≤ 1
 line-one n line found = grind arith

@@ -1,13 +1,7 @@
 -- The blocks of a source.
 use Rattle.std.specs.Prelude.{ℕ, List, [], ◌∷◌, ◌++◌, Option, Some, None}
-use Rattle.redcode_text.specs.Tokens.{Piece}
-use Rattle.redcode_lines.specs.declared.source.Directive.{Directive}
-use Rattle.redcode_lines.specs.declared.source.Directive.TheVariants as directives
-use Rattle.redcode_lines.specs.declared.reading.LineForm.TheVariants as forms
-use Rattle.redcode_text.specs.declared.vocabulary.Word.{Word}
-use Rattle.redcode_text.specs.declared.vocabulary.Word.TheVariants as words
-use Rattle.redcode_lines.specs.Source.{NumberedLine, directive_of}
-use Rattle.redcode_lines.specs.Line.{SourceLine, source_line, statement, statement_tokens}
+use Rattle.{redcode_text.specs.{Tokens.Piece, declared.vocabulary.Word.Word}, redcode_lines.specs.{declared.source.Directive.Directive, Source.{NumberedLine, directive_of}}}
+use Rattle.redcode_lines.specs.{Line.{SourceLine, source_line, statement, statement_tokens}, declared.reading.LineForm.LineForm}
 
 -- ---- the lines that are not skipped
 
@@ -16,11 +10,11 @@ statement_line number [] = []
 statement_line number (token ∷ tokens) = statement number (token ∷ tokens) ∷ []
 
 abbrev pub directive_line : ℕ → Directive → List ℕ → List SourceLine
-directive_line number directives.Redcode text = []
-directive_line number directives.Remark text = []
-directive_line number directives.Name text = source_line number forms.Name None text [] [] ∷ []
-directive_line number directives.Author text = source_line number forms.Author None text [] [] ∷ []
-directive_line number directives.Assert text = source_line number forms.Assert None [] [] (statement_tokens text) ∷ []
+directive_line number Directive.Redcode text = []
+directive_line number Directive.Remark text = []
+directive_line number Directive.Name text = source_line number LineForm.Name None text [] [] ∷ []
+directive_line number Directive.Author text = source_line number LineForm.Author None text [] [] ∷ []
+directive_line number Directive.Assert text = source_line number LineForm.Assert None [] [] (statement_tokens text) ∷ []
 
 abbrev pub line_by : ℕ → List ℕ → Option (Directive × List ℕ) → List SourceLine
 line_by number line (Some (directive, text)) = directive_line number directive text
@@ -63,8 +57,8 @@ abbrev pub behind_line : SourceLine → Parsed → Parsed
 behind_line line behind = (one_line line behind.0, behind.1)
 
 abbrev pub behind_by : Option Word → SourceLine → Parsed → Parsed
-behind_by (Some words.For) line behind = behind_for line behind
-behind_by (Some words.Rof) line behind = behind_rof line behind
+behind_by (Some Word.For) line behind = behind_for line behind
+behind_by (Some Word.Rof) line behind = behind_rof line behind
 behind_by _ line behind = behind_line line behind
 
 abbrev pub parsed : List SourceLine → Parsed

@@ -1,25 +1,19 @@
 -- How a line is read: its labels, its word, and what is after them.
-use Rattle.std.specs.Prelude.{ℕ, Bool, true, false, not, ◌&&◌, ◌||◌, if◌then◌else◌, List, [], ◌∷◌, is_some, Option, Some, None, codes}
-use Rattle.std.specs.Str.{bytes_eq}
-use Rattle.redcode_text.specs.declared.token.TokenKind.{TokenKind}
-use Rattle.redcode_text.specs.declared.token.TokenKind.TheVariants as kinds
-use Rattle.redcode_text.specs.declared.vocabulary.Word.{Word}
-use Rattle.redcode_text.specs.Tokens.{Piece, pieces_of}
-use Rattle.redcode_text.specs.Vocabulary.{word_of}
+use Rattle.std.specs.{Prelude.{ℕ, Bool, true, false, not, ◌&&◌, ◌||◌, if◌then◌else◌, List, [], ◌∷◌, is_some, Option, Some, None, codes}, Str.bytes_eq}
+use Rattle.redcode_text.specs.{declared.token.TokenKind.TokenKind, declared.vocabulary.Word.Word, Tokens.{Piece, pieces_of}, Vocabulary.word_of}
 use Rattle.redcode_lines.specs.declared.reading.LineForm.{LineForm}
-use Rattle.redcode_lines.specs.declared.reading.LineForm.TheVariants as forms
 
 -- ---- tokens
 
 abbrev pub is_name : TokenKind → Bool
-is_name kinds.Name = true
+is_name TokenKind.Name = true
 is_name _ = false
 
 abbrev pub is_name_token : Piece → Bool
 is_name_token token = is_name token.kind
 
 abbrev pub is_comment : TokenKind → Bool
-is_comment kinds.Comment = true
+is_comment TokenKind.Comment = true
 is_comment _ = false
 
 abbrev pub is_no_comment : Piece → Bool
@@ -87,8 +81,8 @@ abbrev pub source_line : ℕ → LineForm → Option Word → List ℕ → List 
 source_line number form word title front tokens = record { number = number; form = form; word = word; title = title; front = front; tokens = tokens }
 
 abbrev pub statement_by : ℕ → Option Word → List Piece → SourceLine
-statement_by number None tokens = source_line number forms.Statement None [] [] tokens
-statement_by number (Some word) tokens = source_line number forms.Statement (Some word) [] (taken_while is_front tokens) (dropped_while is_front tokens)
+statement_by number None tokens = source_line number LineForm.Statement None [] [] tokens
+statement_by number (Some word) tokens = source_line number LineForm.Statement (Some word) [] (taken_while is_front tokens) (dropped_while is_front tokens)
 
 -- a statement of these tokens
 abbrev pub statement : ℕ → List Piece → SourceLine

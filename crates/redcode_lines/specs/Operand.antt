@@ -1,9 +1,6 @@
 -- The operands of a line.
 use Rattle.std.specs.Prelude.{if◌then◌else◌, List, [], ◌∷◌, drop, codes}
-use Rattle.redcode_text.specs.Tokens.{Piece}
-use Rattle.redcode_lines.specs.declared.line.LineKind.{LineKind}
-use Rattle.redcode_lines.specs.declared.line.LineKind.TheVariants as lines
-use Rattle.redcode_lines.specs.Line.{has_text}
+use Rattle.{redcode_text.specs.Tokens.Piece, redcode_lines.specs.{declared.line.LineKind.LineKind, Line.has_text}}
 
 -- after an operation: the tokens after a dot and the modifier's name that follows it
 abbrev pub behind_modifier : List Piece → List Piece
@@ -12,8 +9,8 @@ behind_modifier (token ∷ tokens) = if has_text (codes ".") token then drop 1 t
 
 -- the tokens that are operands, or an expression
 abbrev pub operands_of : LineKind → List Piece → List Piece
-operands_of lines.Operation tokens = behind_modifier (drop 1 tokens)
-operands_of lines.Org tokens = drop 1 tokens
-operands_of lines.End tokens = drop 1 tokens
-operands_of lines.Assert tokens = tokens
+operands_of LineKind.Operation tokens = behind_modifier (drop 1 tokens)
+operands_of LineKind.Org tokens = drop 1 tokens
+operands_of LineKind.End tokens = drop 1 tokens
+operands_of LineKind.Assert tokens = tokens
 operands_of _ tokens = []

@@ -1,11 +1,6 @@
 -- The lines of a source, and its directives.
-use Rattle.std.specs.Prelude.{ℕ, ◌+◌, Bool, true, false, ◌&&◌, ◌==◌, if◌then◌else◌, List, [], ◌∷◌, take, drop, length, Option, Some, None, codes}
-use Rattle.std.specs.Borrow.{Bor}
-use Rattle.std.specs.Option.{unwrap_or}
-use Rattle.war_types.specs.Title.{is_blank, after_blanks}
-use Rattle.redcode_text.specs.Vocabulary.{is_word}
-use Rattle.redcode_lines.specs.declared.source.Directive.{Directive}
-use Rattle.redcode_lines.specs.declared.source.Directive.TheVariants as directives
+use Rattle.std.specs.{Prelude.{ℕ, ◌+◌, Bool, true, false, ◌&&◌, ◌==◌, if◌then◌else◌, List, [], ◌∷◌, take, drop, length, Option, Some, None, codes}, Borrow.Bor, Option.unwrap_or}
+use Rattle.{war_types.specs.Title.{is_blank, after_blanks}, redcode_text.specs.Vocabulary.is_word, redcode_lines.specs.declared.source.Directive.Directive}
 
 -- a line with its number in the source, counted from 1
 pub record NumberedLine : Type 0 where
@@ -44,10 +39,10 @@ begins_alone word text = begins word text && is_blank_or_end (drop (length word)
 -- what stands after a semicolon: redcode, whatever follows, or name, author or assert with a text
 abbrev pub remark_of : List ℕ → Directive × List ℕ
 remark_of text =
-    if begins (codes "redcode") text then (directives.Redcode, []) else (
-    if begins_alone (codes "name") text then (directives.Name, drop 4 text) else (
-    if begins_alone (codes "author") text then (directives.Author, drop 6 text) else (
-    if begins_alone (codes "assert") text then (directives.Assert, drop 6 text) else (directives.Remark, []))))
+    if begins (codes "redcode") text then (Directive.Redcode, []) else (
+    if begins_alone (codes "name") text then (Directive.Name, drop 4 text) else (
+    if begins_alone (codes "author") text then (Directive.Author, drop 6 text) else (
+    if begins_alone (codes "assert") text then (Directive.Assert, drop 6 text) else (Directive.Remark, []))))
 
 -- a line from its first byte that is no blank
 abbrev pub directive_from : List ℕ → Option (Directive × List ℕ)
@@ -63,7 +58,7 @@ abbrev pub seen : Directive × Bor (List ℕ) → Directive × List ℕ
 seen found = (found.0, found.1.now)
 
 abbrev pub is_redcode : Option (Directive × List ℕ) → Bool
-is_redcode (Some (directives.Redcode, text)) = true
+is_redcode (Some (Directive.Redcode, text)) = true
 is_redcode _ = false
 
 -- from the first ;redcode line on

@@ -1,8 +1,7 @@
 //! Lines: the text of one by its number, and the lines of an expanded source.
 
 ghost use Rattle.std.specs.Prelude.{◌≡◌};
-ghost use Rattle.redcode_lines.specs.Place.{line_behind, line_text, without_return};
-ghost use Rattle.redcode_lines.specs.Source.{lines_of};
+ghost use Rattle.redcode_lines.specs.{Place.{line_behind, line_text, without_return}, Source.lines_of};
 
 use crate::source::first_line;
 

@@ -1,7 +1,6 @@
 //! The lines of a source, and those that begin with a semicolon.
 
-ghost use Rattle.std.specs.Prelude.{◌≡◌, ◌+◌, ◌<◌, ◌≤◌, ◌∷◌, drop, length, IfSome};
-ghost use Rattle.std.specs.Option.{option_map};
+ghost use Rattle.std.specs.{Prelude.{◌≡◌, ◌+◌, ◌<◌, ◌≤◌, ◌∷◌, drop, length, IfSome}, Option.option_map};
 ghost use Rattle.redcode_lines.specs.Source.{begins, begins_alone, directive_of, lines_of, live_lines, numbered_from, remark_of, seen};
 
 use redcode_text::{is_blank, is_word};

@@ -1,12 +1,8 @@
 //! The lines of a source that are not skipped.
 
 ghost use Rattle.std.specs.Prelude.{◌≡◌, ◌+◌, ◌≤◌, ◌<◌, ◌++◌, ◌∷◌, [], None, length, drop, map, OnOk, IfOk};
-ghost use Rattle.redcode_text.specs.Tokens.{pieces};
-ghost use Rattle.redcode_lines.specs.Source.{directive_of, lines_of, numbered_from};
-ghost use Rattle.redcode_lines.specs.Line.{source_line, statement, statement_tokens};
-ghost use Rattle.redcode_lines.specs.Capped.{capped, is_limited};
-ghost use Rattle.redcode_lines.specs.Block.{directive_line, line_by, source_lines};
-ghost use Rattle.redcode_lines.specs.declared.reading.LineForm.TheVariants.{Assert};
+ghost use Rattle.{redcode_text.specs.Tokens.pieces, redcode_lines.specs.{Source.{directive_of, lines_of, numbered_from}, Line.{source_line, statement, statement_tokens}}};
+ghost use Rattle.redcode_lines.specs.{Capped.{capped, is_limited}, Block.{directive_line, line_by, source_lines}, declared.reading.LineForm.TheVariants.Assert};
 
 use crate::reading::{LineForm, Reading, from_word, has_and};
 use crate::source::{Directive, directive_of, first_line};
@@ -31,8 +27,7 @@ pub struct SourceLine<'s, A: Allocator> {
 
 impl<'s, A: Allocator> Model for SourceLine<'s, A> {
     ghost use Rattle.std.specs.Prelude.{◌≤◌, length, take, drop};
-    ghost use Rattle.redcode_text.specs.Tokens.{pieces};
-    ghost use Rattle.redcode_lines.specs.Line.{SourceLine, source_line};
+    ghost use Rattle.{redcode_text.specs.Tokens.pieces, redcode_lines.specs.Line.{SourceLine, source_line}};
 
     ghost Value = { SourceLine };
 
@@ -43,8 +38,7 @@ impl<'s, A: Allocator> Model for SourceLine<'s, A> {
 
 impl<'s, A: Allocator> SourceLine<'s, A> {
     ghost use Rattle.std.specs.Prelude.{◌≡◌};
-    ghost use Rattle.redcode_lines.specs.Capped.{capped, is_capped};
-    ghost use Rattle.redcode_lines.specs.Views.{line_read};
+    ghost use Rattle.redcode_lines.specs.{Capped.{capped, is_capped}, Views.line_read};
 
     /// Its number in the source, counted from 1.
     pub fn number(&self) -> u32

@@ -1,18 +1,7 @@
 -- The labels and the EQUs of a map.
-use Rattle.std.proofs.Common.{◌≡◌, ℕ, Vec, List, [], ◌∷◌, map, refl, arith}
-use Rattle.std.proofs.lemmas.List.{length-map, map-append}
-use Rattle.std.proofs.lemmas.List.Elements.{All-push}
-use Rattle.std.proofs.lemmas.Grind.{common_steps}
-use Rattle.std.specs.Map.{lookup}
-use Rattle.std.specs.Option.{is_some, option_map_or}
-use Rattle.std.proofs.lemmas.Option.{slice_get-map}
-use Rattle.redcode_names.specs.Link.{bodies_of}
-use Rattle.std.specs.Str.{bytes_eq}
-use Rattle.indexmap.proofs.CallerLemmas.{insert_entry-new}
-use Rattle.redcode_text.specs.declared.token.Token.{Token}
-use Rattle.redcode_text.specs.Tokens.{pieces}
-use Rattle.redcode_names.specs.Equ.{EquList, is_equ, body_of}
-use Rattle.redcode_names.specs.Name.{LabelList, address_of}
+use Rattle.std.proofs.{Common.{◌≡◌, ℕ, Vec, List, [], ◌∷◌, map, refl, arith}, lemmas.List.{length-map, map-append}, lemmas.List.Elements.All-push, lemmas.Grind.common_steps}
+use Rattle.{std.specs.{Map.lookup, Option.{is_some, option_map_or}}, std.proofs.lemmas.Option.slice_get-map, std.specs.Str.bytes_eq, indexmap.proofs.CallerLemmas.insert_entry-new}
+use Rattle.{redcode_text.specs.{declared.token.Token.Token, Tokens.pieces}, redcode_names.specs.{Link.bodies_of, Equ.{EquList, is_equ, body_of}, Name.{LabelList, address_of}}}
 
 -- what a map finds is the address of the label
 pub lookup-address_of : (name : List ℕ) (labels : LabelList) → lookup (bytes_eq name) labels ≡ address_of labels name

@@ -1,14 +1,8 @@
 -- Rounds of replacement over lists, what they leave, and what is written.
 use Rattle.std.proofs.Common.{◌≡◌, ℕ, zero, suc, ◌≤◌, ◌<◌, ◌-◌, ◌||◌, List, [], ◌∷◌, ◌++◌, length, Result, Ok, Err, refl, sym, ap, ◌∙◌, append_assoc, append-nil, length-append, arith}
-use Rattle.std.proofs.lemmas.Bool.Decides.{nat_tests}
-use Rattle.std.proofs.lemmas.Grind.{common_steps}
-use Rattle.std.proofs.lemmas.List.{length-map, map-append, drop_more, drop_all}
-use Rattle.war_types.specs.declared.fault.AsmKind.TheVariants as kinds
-use Rattle.war_types.specs.declared.fault.AsmFault.{AsmFault}
-use Rattle.redcode_text.specs.Tokens.{Piece}
-use Rattle.redcode_names.specs.Gives.{◌>>=◌, fault_at}
-use Rattle.redcode_names.specs.Equ.{EquList, or_itself, body_at, round, has_equ, left_over, rounds, after_rounds}
-use Rattle.redcode_names.specs.Link.{all_written, itself_or, written}
+use Rattle.std.proofs.{lemmas.Bool.Decides.nat_tests, lemmas.Grind.common_steps, lemmas.List.{length-map, map-append, drop_more, drop_all}}
+use Rattle.{war_types.specs.{declared.fault.AsmFault.AsmFault, declared.fault.AsmKind.AsmKind}, redcode_text.specs.Tokens.Piece}
+use Rattle.redcode_names.specs.{Gives.{◌>>=◌, fault_at}, Equ.{EquList, or_itself, body_at, round, has_equ, left_over, rounds, after_rounds}, Link.{all_written, itself_or, written}}
 
 round-append : (equs : EquList) (xs ys : List Piece) → round equs (xs ++ ys) ≡ round equs xs ++ round equs ys
 round-append equs [] ys = refl
@@ -46,7 +40,7 @@ left_over-all line equs xs ys is = grind arith
 
 -- a token after others when no round is left
 then-last : (line : ℕ) (equs : EquList) (out : List Piece) (x : Piece) (body : List Piece) → body_at equs x ≡ body
-    → (left_over line equs out >>= λ o. itself_or line o x body (Err (fault_at line kinds.EquLimit))) ≡ left_over line equs (out ++ x ∷ [])
+    → (left_over line equs out >>= λ o. itself_or line o x body (Err (fault_at line AsmKind.EquLimit))) ≡ left_over line equs (out ++ x ∷ [])
 then-last line equs out x [] is = grind (arith, nat_tests, has_equ-append equs out (x ∷ []), length-append out (x ∷ []))
 then-last line equs out x (b ∷ bs) is = grind (arith, nat_tests, has_equ-append equs out (x ∷ []), length-append out (x ∷ []))
 

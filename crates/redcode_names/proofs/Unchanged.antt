@@ -1,14 +1,7 @@
 -- What is written in 16 rounds, and tokens among which no name of an EQU is.
-use Rattle.std.proofs.Common.{◌≡◌, ℕ, zero, suc, ◌<◌, ◌≤◌, false, List, [], ◌∷◌, length, Ok, Err, refl, sym, ap, ◌∙◌, arith}
-use Rattle.std.proofs.lemmas.Bool.Decides.{nat_tests}
-use Rattle.std.proofs.lemmas.List.{length-map}
-use Rattle.war_types.specs.declared.fault.AsmFault.{AsmFault}
-use Rattle.war_types.specs.declared.fault.AsmKind.TheVariants as kinds
-use Rattle.redcode_text.specs.Tokens.{Piece}
-use Rattle.redcode_names.specs.Gives.{fault_at}
-use Rattle.redcode_names.specs.Equ.{EquList, round, has_equ, left_over, after_rounds, replaced}
-use Rattle.redcode_names.specs.Link.{written}
-use Rattle.redcode_names.proofs.Replacing.{rounds-left_over, written-left}
+use Rattle.std.proofs.{Common.{◌≡◌, ℕ, zero, suc, ◌<◌, ◌≤◌, false, List, [], ◌∷◌, length, Ok, Err, refl, sym, ap, ◌∙◌, arith}, lemmas.Bool.Decides.nat_tests, lemmas.List.length-map}
+use Rattle.{war_types.specs.{declared.fault.AsmFault.AsmFault, declared.fault.AsmKind.AsmKind}, redcode_text.specs.Tokens.Piece, redcode_names.specs.Gives.fault_at}
+use Rattle.{redcode_names.specs.{Equ.{EquList, round, has_equ, left_over, after_rounds, replaced}, Link.written}, redcode_names.proofs.Replacing.{rounds-left_over, written-left}}
 
 pub replaced-left : (line : ℕ) (equs : EquList) (tokens : List Piece) → replaced line equs tokens ≡ left_over line equs (after_rounds 16 equs tokens)
 unfolding replaced
@@ -33,7 +26,7 @@ pub tokens-same : (line : ℕ) (equs : EquList) (xs : List Piece) → has_equ eq
 tokens-same line equs xs none short = rw (replaced-left line equs xs, after-same 16 equs xs none) (grind (arith, nat_tests))
 
 -- or there are too many
-pub tokens-over : (line : ℕ) (equs : EquList) (xs : List Piece) (fault : AsmFault) → has_equ equs xs ≡ false → 512 < length xs → fault ≡ fault_at line kinds.EquLimit
+pub tokens-over : (line : ℕ) (equs : EquList) (xs : List Piece) (fault : AsmFault) → has_equ equs xs ≡ false → 512 < length xs → fault ≡ fault_at line AsmKind.EquLimit
     → replaced line equs xs ≡ Err fault
 tokens-over line equs xs fault none long is = rw (replaced-left line equs xs, after-same 16 equs xs none) (grind (arith, nat_tests))
 

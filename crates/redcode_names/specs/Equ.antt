@@ -1,11 +1,7 @@
 -- EQU: names that stand for tokens, and their replacement.
-use Rattle.std.specs.Prelude.{ℕ, zero, suc, Bool, true, false, ◌||◌, nat_lt, if◌then◌else◌, List, [], ◌∷◌, ◌++◌, length, is_some, Result, Ok, Err}
-use Rattle.std.specs.Str.{bytes_eq}
-use Rattle.war_types.specs.declared.fault.AsmKind.TheVariants as kinds
-use Rattle.war_types.specs.declared.fault.AsmFault.{AsmFault}
-use Rattle.redcode_text.specs.Tokens.{Piece}
+use Rattle.std.specs.{Prelude.{ℕ, zero, suc, Bool, true, false, ◌||◌, nat_lt, if◌then◌else◌, List, [], ◌∷◌, ◌++◌, length, is_some, Result, Ok, Err}, Str.bytes_eq}
+use Rattle.{war_types.specs.{declared.fault.AsmFault.AsmFault, declared.fault.AsmKind.AsmKind}, redcode_text.specs.Tokens.Piece, redcode_lines.specs.Line.{is_name, word_at}}
 use Rattle.redcode_names.specs.Gives.{fault_at}
-use Rattle.redcode_lines.specs.Line.{is_name, word_at}
 
 -- names with the tokens that they stand for, one token at least, in the order of their definition
 abbrev pub EquList : Type 0
@@ -57,12 +53,12 @@ has_equ equs (token ∷ tokens) = has_tokens (body_at equs token) || has_equ equ
 
 -- what the rounds leave: 512 tokens at most, and no name of an EQU
 abbrev pub left_over : ℕ → EquList → List Piece → Result (List Piece) AsmFault
-left_over line equs tokens = if nat_lt 512 (length tokens) || has_equ equs tokens then Err (fault_at line kinds.EquLimit) else Ok tokens
+left_over line equs tokens = if nat_lt 512 (length tokens) || has_equ equs tokens then Err (fault_at line AsmKind.EquLimit) else Ok tokens
 
 -- this number of rounds, with never more than 512 tokens
 abbrev pub rounds : ℕ → ℕ → EquList → List Piece → Result (List Piece) AsmFault
 rounds zero line equs tokens = left_over line equs tokens
-rounds (suc n) line equs tokens = if nat_lt 512 (length tokens) then Err (fault_at line kinds.EquLimit) else rounds n line equs (round equs tokens)
+rounds (suc n) line equs tokens = if nat_lt 512 (length tokens) then Err (fault_at line AsmKind.EquLimit) else rounds n line equs (round equs tokens)
 
 -- the tokens after 16 rounds, or the refusal of the line
 unfoldable pub replaced : ℕ → EquList → List Piece → Result (List Piece) AsmFault

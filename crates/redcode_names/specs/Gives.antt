@@ -1,8 +1,6 @@
 -- What a function answers if memory may run out.
 use Rattle.std.specs.Prelude.{◌≡◌, ◌⊎◌, ℕ, Result, Ok, Err}
-use Rattle.war_types.specs.declared.fault.AsmFault.{AsmFault}
-use Rattle.war_types.specs.declared.fault.AsmKind.{AsmKind}
-use Rattle.war_types.specs.Fault.{no_memory}
+use Rattle.war_types.specs.{declared.fault.AsmFault.AsmFault, declared.fault.AsmKind.AsmKind, Fault.no_memory}
 
 infixl 10 ◌>>=◌
 abbrev pub ◌>>=◌ : {A B : Type 0} → Result A AsmFault → (A → Result B AsmFault) → Result B AsmFault

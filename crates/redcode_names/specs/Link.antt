@@ -1,11 +1,7 @@
 -- Tokens that know the index of the EQU that they name, and what the code writes of them.
 use Rattle.std.specs.Prelude.{◌≡◌, ℕ, zero, suc, nat_eq, if◌then◌else◌, List, [], ◌∷◌, ◌++◌, length, map, slice_get, Option, Some, MatchOption, All, Result, Ok, Err}
-use Rattle.war_types.specs.declared.fault.AsmKind.TheVariants as kinds
-use Rattle.war_types.specs.declared.fault.AsmFault.{AsmFault}
-use Rattle.redcode_text.specs.Tokens.{Piece, piece_of}
-use Rattle.redcode_names.specs.declared.link.Link.{Link}
-use Rattle.redcode_names.specs.Gives.{◌>>=◌, fault_at}
-use Rattle.redcode_names.specs.Equ.{EquList, body_at}
+use Rattle.{war_types.specs.{declared.fault.AsmFault.AsmFault, declared.fault.AsmKind.AsmKind}, redcode_text.specs.Tokens.{Piece, piece_of}}
+use Rattle.redcode_names.specs.{declared.link.Link.Link, Gives.{◌>>=◌, fault_at}, Equ.{EquList, body_at}}
 
 -- the tokens alone
 abbrev pub tokens_of : List Link → List Piece
@@ -32,10 +28,10 @@ all_written one out (token ∷ tokens) = one out token >>= λ out. all_written o
 
 -- a token without a body is appended, unless 512 are written; of one with a body this is what that becomes
 abbrev pub itself_or : ℕ → List Piece → Piece → List Piece → Result (List Piece) AsmFault → Result (List Piece) AsmFault
-itself_or line out token [] other = if nat_eq (length out) 512 then Err (fault_at line kinds.EquLimit) else Ok (out ++ token ∷ [])
+itself_or line out token [] other = if nat_eq (length out) 512 then Err (fault_at line AsmKind.EquLimit) else Ok (out ++ token ∷ [])
 itself_or line out token (first ∷ others) other = other
 
 -- the tokens written so far, and these appended in fewer rounds than given: each token itself, or what its body becomes in one round less
 abbrev pub written : ℕ → ℕ → EquList → List Piece → List Piece → Result (List Piece) AsmFault
-written zero line equs out tokens = Err (fault_at line kinds.EquLimit)
+written zero line equs out tokens = Err (fault_at line AsmKind.EquLimit)
 written (suc n) line equs out tokens = all_written (λ out token. itself_or line out token (body_at equs token) (written n line equs out (body_at equs token))) out tokens

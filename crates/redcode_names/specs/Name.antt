@@ -1,12 +1,7 @@
 -- The names of a source: its labels, those of its EQU lines, and those that are known before it.
-use Rattle.std.specs.Prelude.{ℕ, Bool, not, ◌||◌, if◌then◌else◌, List, [], ◌∷◌, ◌++◌, is_some, unwrap_or, Option, Some, None, Result, Ok, Err, ℤ, pos, codes}
-use Rattle.std.specs.Str.{bytes_eq}
-use Rattle.war_types.specs.declared.fault.AsmKind.TheVariants as kinds
-use Rattle.war_types.specs.declared.fault.AsmFault.{AsmFault}
-use Rattle.war_types.specs.declared.settings.RawSettings.{RawSettings}
-use Rattle.redcode_text.specs.Tokens.{Piece}
-use Rattle.redcode_names.specs.Gives.{◌>>=◌, fault_at}
-use Rattle.redcode_names.specs.Equ.{EquList, is_equ, is_bad_body}
+use Rattle.std.specs.{Prelude.{ℕ, Bool, not, ◌||◌, if◌then◌else◌, List, [], ◌∷◌, ◌++◌, is_some, unwrap_or, Option, Some, None, Result, Ok, Err, ℤ, pos, codes}, Str.bytes_eq}
+use Rattle.{war_types.specs.{declared.fault.AsmFault.AsmFault, declared.settings.RawSettings.RawSettings, declared.fault.AsmKind.AsmKind}, redcode_text.specs.Tokens.Piece}
+use Rattle.redcode_names.specs.{Gives.{◌>>=◌, fault_at}, Equ.{EquList, is_equ, is_bad_body}}
 
 -- names with the addresses that they stand for, in the order of their definition
 abbrev pub LabelList : Type 0
@@ -48,7 +43,7 @@ is_taken s names name = is_some (predefined s 0 name) || (is_some (address_of na
 -- a label of this name at this address
 abbrev pub defined : RawSettings → ℕ → ℕ → List ℕ → Names → Result Names AsmFault
 defined s line address name names =
-    if is_taken s names name then Err (fault_at line kinds.DuplicateName) else Ok (record names { labels = names.labels ++ (name, address) ∷ [] })
+    if is_taken s names name then Err (fault_at line AsmKind.DuplicateName) else Ok (record names { labels = names.labels ++ (name, address) ∷ [] })
 
 -- labels of these names at this address, one after another
 abbrev pub all_defined : RawSettings → ℕ → ℕ → List (List ℕ) → Names → Result Names AsmFault
@@ -58,8 +53,8 @@ all_defined s line address (name ∷ others) names = defined s line address name
 -- an EQU of this name and this body
 abbrev pub equ_defined : RawSettings → ℕ → List Piece → List ℕ → Names → Result Names AsmFault
 equ_defined s line body name names =
-    if is_taken s names name then Err (fault_at line kinds.DuplicateName) else (
-    if is_bad_body body then Err (fault_at line kinds.BadEqu) else Ok (record names { equs = names.equs ++ (name, body) ∷ [] }))
+    if is_taken s names name then Err (fault_at line AsmKind.DuplicateName) else (
+    if is_bad_body body then Err (fault_at line AsmKind.BadEqu) else Ok (record names { equs = names.equs ++ (name, body) ∷ [] }))
 
 -- labels of these names at this address but the last one, and that one
 abbrev pub but_last : RawSettings → ℕ → ℕ → List (List ℕ) → Names → Result (Names × Option (List ℕ)) AsmFault
@@ -68,7 +63,7 @@ but_last s line address (name ∷ []) names = Ok (names, Some name)
 but_last s line address (name ∷ next ∷ others) names = defined s line address name names >>= but_last s line address (next ∷ others)
 
 abbrev pub equ_named : RawSettings → ℕ → List Piece → Option (List ℕ) → Names → Result Names AsmFault
-equ_named s line body None names = Err (fault_at line kinds.BadEqu)
+equ_named s line body None names = Err (fault_at line AsmKind.BadEqu)
 equ_named s line body (Some name) names = equ_defined s line body name names
 
 -- the labels of an EQU line: the last one is its name, and those before it stand at this address

@@ -21,10 +21,8 @@ impl<'s, A: Allocator + Copy> Model for CounterNames<'s, A> {
 }
 
 impl<'s, A: Allocator + Copy> CounterNames<'s, A> {
-    ghost use Rattle.std.specs.Prelude.{◌≡◌, [], OnOk, OnErr};
-    ghost use Rattle.std.specs.Str.{bytes_eq};
-    ghost use Rattle.indexmap.specs.IndexMap.{insert_entry};
-    ghost use Rattle.redcode_names.specs.Name.{address_of};
+    ghost use Rattle.std.specs.{Prelude.{◌≡◌, [], OnOk, OnErr}, Str.bytes_eq};
+    ghost use Rattle.{indexmap.specs.IndexMap.insert_entry, redcode_names.specs.Name.address_of};
 
     /// No names.
     pub fn new(alloc: A, hash: NameHash) -> Self

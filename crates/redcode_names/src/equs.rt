@@ -2,9 +2,7 @@
 #![tactic(auto, using(crate::proofs::Lookups::names))]
 
 ghost use Rattle.std.specs.Prelude.{◌≡◌, ◌++◌, ◌∷◌, [], false, map, OnOk};
-ghost use Rattle.redcode_text.specs.Tokens.{piece_of, pieces};
-ghost use Rattle.redcode_names.specs.Equ.{body_at, has_equ, is_equ};
-ghost use Rattle.redcode_names.specs.Link.{Stands, bodies_of};
+ghost use Rattle.{redcode_text.specs.Tokens.{piece_of, pieces}, redcode_names.specs.{Equ.{body_at, has_equ, is_equ}, Link.{Stands, bodies_of}}};
 
 use crate::name_key::{NameHash, NameKey};
 use indexmap::IndexMap;
@@ -21,9 +19,7 @@ pub struct Equs<'s, A: Allocator + Copy> {
 }
 
 impl<'s, A: Allocator + Copy> Model for Equs<'s, A> {
-    ghost use Rattle.std.specs.Prelude.{map};
-    ghost use Rattle.redcode_text.specs.Tokens.{pieces};
-    ghost use Rattle.redcode_names.specs.Equ.{EquList};
+    ghost use Rattle.{std.specs.Prelude.map, redcode_text.specs.Tokens.pieces, redcode_names.specs.Equ.EquList};
 
     ghost Value = { EquList };
 

@@ -1,8 +1,7 @@
 //! Tokens that know which EQU they name, so that each is looked up once, however often it is written.
 
 ghost use Rattle.std.specs.Prelude.{◌≡◌, IfOk};
-ghost use Rattle.redcode_text.specs.Tokens.{pieces};
-ghost use Rattle.redcode_names.specs.Link.{AreLinked, tokens_of};
+ghost use Rattle.{redcode_text.specs.Tokens.pieces, redcode_names.specs.Link.{AreLinked, tokens_of}};
 
 use crate::equs::Equs;
 use redcode_text::Token;
@@ -44,8 +43,7 @@ pub struct LinkedEqus<'e, 's, A: Allocator + Copy> {
 
 impl<'e, 's, A: Allocator + Copy> Model for LinkedEqus<'e, 's, A> {
     ghost use Rattle.std.specs.Prelude.{◌≡◌, map, All};
-    ghost use Rattle.redcode_names.specs.Equ.{EquList};
-    ghost use Rattle.redcode_names.specs.Link.{AreLinked, bodies_of, tokens_of};
+    ghost use Rattle.redcode_names.specs.{Equ.EquList, Link.{AreLinked, bodies_of, tokens_of}};
 
     ghost Value = { EquList };
 
@@ -56,9 +54,7 @@ impl<'e, 's, A: Allocator + Copy> Model for LinkedEqus<'e, 's, A> {
 
 impl<'e, 's, A: Allocator + Copy> LinkedEqus<'e, 's, A> {
     ghost use Rattle.std.specs.Prelude.{◌≡◌, IfOk};
-    ghost use Rattle.redcode_text.specs.Tokens.{piece_of};
-    ghost use Rattle.redcode_names.specs.Equ.{body_at};
-    ghost use Rattle.redcode_names.specs.Link.{AreLinked, Stands, tokens_of};
+    ghost use Rattle.{redcode_text.specs.Tokens.piece_of, redcode_names.specs.{Equ.body_at, Link.{AreLinked, Stands, tokens_of}}};
 
     /// Links the tokens of all bodies.
     #[tactic(auto, using(crate::proofs::Lookups::linking))]

@@ -1,7 +1,6 @@
 //! Names that are known before any source.
 
-ghost use Rattle.std.specs.Prelude.{◌≡◌};
-ghost use Rattle.std.specs.Str.{bytes_eq};
+ghost use Rattle.std.specs.{Prelude.◌≡◌, Str.bytes_eq};
 ghost use Rattle.redcode_names.specs.Name.{is_loose, predefined};
 
 use war_types::Settings;

@@ -1,10 +1,6 @@
 //! Names as the keys of a map. Their bytes are hashed in one call; a slice's hash makes one for each.
 
-ghost use Rattle.std.specs.Prelude.{◌∷◌, []};
-ghost use Rattle.std.proofs.Common.{ap};
-ghost use Rattle.std.specs.Cmp.{partial_equiv_from_equiv};
-ghost use Rattle.std.specs.Cmp.Lexicographic.{bytes_decides, nat_list_eq_equiv};
-ghost use Rattle.std.specs.Str.{bytes_eq};
+ghost use Rattle.std.{specs.Prelude.{◌∷◌, []}, proofs.Common.ap, specs.{Cmp.partial_equiv_from_equiv, Cmp.Lexicographic.{bytes_decides, nat_list_eq_equiv}, Str.bytes_eq}};
 
 use std::hash::{BuildHasher, DefaultHasher, FoldHasher, Hash, Hasher};
 use std::marker::Model;

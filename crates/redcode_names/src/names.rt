@@ -1,11 +1,8 @@
 //! The names of a source, and the lines that define them.
 
 ghost use Rattle.std.specs.Prelude.{◌≡◌, ◌↔◌, [], length, option_map, IsTrue};
-ghost use Rattle.redcode_names.specs.Gives.{Gives, fault_at};
-ghost use Rattle.redcode_text.specs.Tokens.{pieces};
-ghost use Rattle.redcode_lines.specs.Line.{names_among};
-ghost use Rattle.redcode_names.specs.Equ.{has_word};
-ghost use Rattle.redcode_names.specs.Name.{names_of, defined, all_defined, but_last, equ_defined, equ_line, for_labels};
+ghost use Rattle.{redcode_text.specs.Tokens.pieces, redcode_lines.specs.Line.names_among};
+ghost use Rattle.redcode_names.specs.{Gives.{Gives, fault_at}, Equ.has_word, Name.{names_of, defined, all_defined, but_last, equ_defined, equ_line, for_labels}};
 
 use crate::equs::Equs;
 use crate::labels::Labels;

@@ -1,12 +1,8 @@
 //! The replacement of the names of EQUs, in 16 rounds at most.
 
-ghost use Rattle.std.specs.Prelude.{◌≡◌, suc, []};
-ghost use Rattle.std.specs.Cow.{cow_slice_items};
-ghost use Rattle.redcode_text.specs.Tokens.{pieces};
-ghost use Rattle.redcode_names.specs.Gives.{Gives, fault_at};
-ghost use Rattle.redcode_names.specs.Equ.{replaced};
-ghost use Rattle.redcode_names.specs.Link.{AreLinked, tokens_of, written};
-ghost use Rattle.war_types.specs.declared.fault.AsmKind.TheVariants.{EquLimit};
+ghost use Rattle.std.specs.{Prelude.{◌≡◌, suc, []}, Cow.cow_slice_items};
+ghost use Rattle.{war_types.specs.declared.fault.AsmKind.TheVariants.EquLimit, redcode_text.specs.Tokens.pieces};
+ghost use Rattle.redcode_names.specs.{Gives.{Gives, fault_at}, Equ.replaced, Link.{AreLinked, tokens_of, written}};
 
 use crate::equs::Equs;
 use crate::link::{Link, LinkedEqus, linked};

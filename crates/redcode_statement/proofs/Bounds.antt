@@ -1,18 +1,8 @@
 -- The numbers of an instruction are addresses of the core.
-use Rattle.std.proofs.Common.{ℕ, ◌<◌, Bool, List, Option, Result, ℤ, IfOk, arith}
-use Rattle.std.specs.List.{AllByRecursion}
-use Rattle.war_types.specs.declared.fault.AsmKind.{AsmKind}
-use Rattle.war_types.specs.declared.instr.Instr.{Instr}
-use Rattle.war_types.specs.declared.instr.Mode.{Mode}
-use Rattle.war_types.specs.declared.instr.Modifier.{Modifier}
-use Rattle.war_types.specs.declared.instr.Op.{Op}
-use Rattle.war_types.specs.Warrior.{HasNumbersBelow}
-use Rattle.redcode_text.specs.declared.vocabulary.Word.{Word}
-use Rattle.redcode_text.specs.Operators.{Value}
-use Rattle.redcode_text.specs.Tokens.{Piece}
-use Rattle.redcode_statement.specs.declared.statement.Statement.{Statement}
-use Rattle.redcode_statement.specs.Instruction.{reduced, instr_of_values, instruction_of}
-use Rattle.redcode_statement.specs.Statement.{instruction_said, instr_said}
+use Rattle.{std.proofs.Common.{ℕ, ◌<◌, Bool, List, Option, Result, ℤ, IfOk, arith}, std.specs.List.AllByRecursion, war_types.specs.declared.fault.AsmKind.AsmKind}
+use Rattle.war_types.specs.{declared.instr.Instr.Instr, declared.instr.Mode.Mode, declared.instr.Modifier.Modifier, declared.instr.Op.Op, Warrior.HasNumbersBelow}
+use Rattle.redcode_text.specs.{declared.vocabulary.Word.Word, Operators.Value, Tokens.Piece}
+use Rattle.redcode_statement.specs.{declared.statement.Statement.Statement, Instruction.{reduced, instr_of_values, instruction_of}, Statement.{instruction_said, instr_said}}
 
 reduced-below : (core : ℕ) (z : ℤ) → 0 < core → reduced core z < core
 reduced-below core z some = grind arith

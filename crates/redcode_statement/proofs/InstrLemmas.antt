@@ -1,24 +1,10 @@
 -- An instruction's line of the load text, as it is read.
 use Rattle.std.proofs.Common.{◌≡◌, ℕ, ◌≤◌, false, List, [], ◌∷◌, ◌++◌, length, drop, Option, Some, None, Ok, ℤ, refl, ap, subst, ◌∙◌, arith, append_assoc, codes}
-use Rattle.std.specs.List.{AllByRecursion, list_any}
-use Rattle.std.proofs.lemmas.Bool.Decides.{nat_tests}
-use Rattle.std.proofs.lemmas.List.{append-nil, length-append}
-use Rattle.war_types.specs.declared.instr.Instr.{Instr}
-use Rattle.war_types.specs.Warrior.{HasNumbersBelow}
-use Rattle.redcode_text.specs.declared.token.TokenKind.TheVariants as kinds
-use Rattle.redcode_text.specs.declared.vocabulary.Word.TheVariants as words
-use Rattle.redcode_text.specs.Tokens.{Piece, piece}
-use Rattle.redcode_text.specs.Vocabulary.{op_text, modifier_text}
-use Rattle.redcode_lines.specs.declared.reading.LineForm.TheVariants as forms
-use Rattle.redcode_lines.specs.Source.{lines_of, directive_of}
-use Rattle.redcode_lines.specs.Line.{source_line, statement_tokens, without_comment}
-use Rattle.redcode_lines.specs.Block.{line_by}
-use Rattle.redcode_statement.specs.Sides.{side_tokens, before_comma, behind_comma, sides_of}
-use Rattle.redcode_statement.specs.Instruction.{instruction_of}
-use Rattle.redcode_statement.specs.Statement.{is_bad}
-use Rattle.redcode_statement.specs.InstrLine.{left_in, operand_text, instr_line}
-use Rattle.redcode_statement.proofs.LineLemmas.{AreInLine, in_line-append, lines_of-line}
-use Rattle.redcode_statement.proofs.TokenLemmas.{bare, bare-is}
+use Rattle.{std.specs.List.{AllByRecursion, list_any}, std.proofs.{lemmas.Bool.Decides.nat_tests, lemmas.List.{append-nil, length-append}}, war_types.specs.declared.instr.Instr.Instr}
+use Rattle.{war_types.specs.Warrior.HasNumbersBelow, redcode_text.specs.{Tokens.{Piece, piece}, Vocabulary.{op_text, modifier_text}, declared.token.TokenKind.TokenKind, declared.vocabulary.Word.Word}}
+use Rattle.redcode_lines.specs.{Source.{lines_of, directive_of}, Line.{source_line, statement_tokens, without_comment}, Block.line_by, declared.reading.LineForm.LineForm}
+use Rattle.redcode_statement.specs.{Sides.{side_tokens, before_comma, behind_comma, sides_of}, Instruction.instruction_of, Statement.is_bad, InstrLine.{left_in, operand_text, instr_line}}
+use Rattle.redcode_statement.proofs.{LineLemmas.{AreInLine, in_line-append, lines_of-line}, TokenLemmas.{bare, bare-is}}
 use Rattle.redcode_statement.proofs.OperandLemmas.{IsInside, operand_tokens, bare-operand, inside-operand, operand_of-operand, reduced-number, in_line-operand, length-operand}
 
 -- ---- the operation and its modifier in their 7 places
@@ -36,13 +22,13 @@ directive_of-left : (i : Instr) (rest : List ℕ) → directive_of (left_text i 
 directive_of-left i rest = grind arith
 
 bare-left : (i : Instr) (rest : List ℕ)
-    → bare (left_text i ++ rest) ≡ piece kinds.Name (op_text i.op) ∷ piece kinds.Symbol (codes ".") ∷ piece kinds.Name (modifier_text i.modifier) ∷ bare rest
+    → bare (left_text i ++ rest) ≡ piece TokenKind.Name (op_text i.op) ∷ piece TokenKind.Symbol (codes ".") ∷ piece TokenKind.Name (modifier_text i.modifier) ∷ bare rest
 bare-left i rest = grind arith
 
 -- ---- the operands
 
 abbrev comma : Piece
-comma = piece kinds.Symbol (codes ",")
+comma = piece TokenKind.Symbol (codes ",")
 
 -- tokens that a comma parts
 parted-both : (xs ys : List Piece) → AllByRecursion IsInside xs → (before_comma (xs ++ comma ∷ ys) ≡ xs) × (behind_comma (xs ++ comma ∷ ys) ≡ Some ys)
@@ -91,11 +77,11 @@ clean-both core i below most =
 
 -- its tokens
 abbrev pub instr_tokens : ℕ → Instr → List Piece
-instr_tokens core i = piece kinds.Name (op_text i.op) ∷ piece kinds.Symbol (codes ".") ∷ piece kinds.Name (modifier_text i.modifier) ∷ both_tokens core i
+instr_tokens core i = piece TokenKind.Name (op_text i.op) ∷ piece TokenKind.Symbol (codes ".") ∷ piece TokenKind.Name (modifier_text i.modifier) ∷ both_tokens core i
 
 -- after the operation they are read as the instruction
 pub instruction_of-line : (core : ℕ) (names : List ℕ → Option ℤ) (i : Instr) → HasNumbersBelow core i → core ≤ 65535
-    → instruction_of core names (Some (words.Operation i.op)) (drop 1 (instr_tokens core i)) ≡ Ok i
+    → instruction_of core names (Some (Word.Operation i.op)) (drop 1 (instr_tokens core i)) ≡ Ok i
 instruction_of-line core names i below most =
     let sides = sides_of-both core i below most in
     let a = operand_of-operand names core i.a_mode i.a below.a most in
@@ -134,11 +120,11 @@ statement_tokens-line core i below most = ap without_comment (bare-is (line_of c
 
 -- it is a statement without labels, its word the operation
 line_by-tokens : (core n : ℕ) (i : Instr) (text : List ℕ) → statement_tokens text ≡ instr_tokens core i
-    → line_by n text None ≡ source_line n forms.Statement (Some (words.Operation i.op)) [] [] (instr_tokens core i) ∷ []
+    → line_by n text None ≡ source_line n LineForm.Statement (Some (Word.Operation i.op)) [] [] (instr_tokens core i) ∷ []
 line_by-tokens core n i text is = rw is (grind arith)
 
 pub line_by-line : (core n : ℕ) (i : Instr) → HasNumbersBelow core i → core ≤ 65535
-    → line_by n (line_of core i) (directive_of (line_of core i)) ≡ source_line n forms.Statement (Some (words.Operation i.op)) [] [] (instr_tokens core i) ∷ []
+    → line_by n (line_of core i) (directive_of (line_of core i)) ≡ source_line n LineForm.Statement (Some (Word.Operation i.op)) [] [] (instr_tokens core i) ∷ []
 line_by-line core n i below most = ap (line_by n (line_of core i)) (directive_of-line core i) ∙ line_by-tokens core n i (line_of core i) (statement_tokens-line core i below most)
 
 -- it is the first of the lines that begin with it

@@ -1,7 +1,5 @@
 -- Texts without a line feed.
-use Rattle.std.proofs.Common.{◌≡◌, ℕ, ◌==◌, false, List, [], ◌∷◌, ◌++◌, refl}
-use Rattle.std.specs.List.{AllByRecursion}
-use Rattle.redcode_lines.specs.Source.{lines_of}
+use Rattle.{std.proofs.Common.{◌≡◌, ℕ, ◌==◌, false, List, [], ◌∷◌, ◌++◌, refl}, std.specs.List.AllByRecursion, redcode_lines.specs.Source.lines_of}
 
 -- a byte that ends no line
 abbrev pub IsInLine : ℕ → Type 0

@@ -1,30 +1,12 @@
 -- The numbers and the operands of the load text, as they are read.
-use Rattle.std.proofs.Common.{◌≡◌, ℕ, zero, suc, ◌-◌, ◌*◌, ◌^◌, ◌≤◌, ◌<◌, true, false, List, [], ◌∷◌, ◌++◌, length, Option, Ok, ℤ, pos, neg_ℤ, refl, inl, inr, arith, rules, ne_eqb, lt-ltb, le-ltb, append_assoc, codes}
-use Rattle.std.specs.Prelude.{nat_lt, if◌then◌else◌}
-use Rattle.std.specs.Fmt.{decimal}
-use Rattle.std.specs.List.{AllByRecursion, take_while}
-use Rattle.std.specs.Str.Parse.{AllDigits, IsNumeral}
-use Rattle.std.proofs.Math.Nat.{mod-eq_of_lt}
-use Rattle.std.proofs.lemmas.Bool.{cases_lt}
-use Rattle.std.proofs.lemmas.Bool.Decides.{nat_tests}
-use Rattle.std.proofs.lemmas.List.{length-append, length-replicate}
-use Rattle.std.proofs.lemmas.Fmt.{decimal_is_IsNumeral, digits_value-decimal, length-decimal-le}
-use Rattle.std.proofs.lemmas.Str.Parse.{IsNumeralModel, numerals_by_fold, tells_digits, digit_from_value}
-use Rattle.war_types.specs.declared.instr.Mode.{Mode}
-use Rattle.redcode_text.specs.declared.token.TokenKind.TheVariants as kinds
-use Rattle.redcode_text.specs.Bytes.{is_digit}
-use Rattle.redcode_text.specs.Tokens.{Piece, piece}
-use Rattle.redcode_text.specs.Operators.{negated}
-use Rattle.redcode_text.specs.Value.{number_from, value_of, value_within}
-use Rattle.redcode_text.specs.Vocabulary.{mode_text}
-use Rattle.redcode_lines.specs.Line.{is_no_comment}
-use Rattle.redcode_statement.specs.Operand.{operand_of}
-use Rattle.redcode_statement.specs.Instruction.{reduced}
-use Rattle.redcode_statement.specs.Sides.{is_comma}
-use Rattle.redcode_statement.specs.Statement.{is_bad}
-use Rattle.redcode_statement.specs.InstrLine.{spaces, signed_number, operand_text}
-use Rattle.redcode_statement.proofs.LineLemmas.{AreInLine, in_line-append}
-use Rattle.redcode_statement.proofs.TokenLemmas.{bare, IsDigitByte, Follows, bare-spaces, bare-digits, bare-mode, bare-minus}
+use Rattle.std.proofs.Common.{◌≡◌, ℕ, zero, suc, ◌-◌, ◌*◌, ◌^◌, ◌≤◌, ◌<◌, true, false, List, [], ◌∷◌, ◌++◌, length, Option, Ok, ℤ, pos, neg_ℤ, refl, inl, inr, arith, rules, ne_eqb, lt-ltb}
+use Rattle.{std.proofs.Common.{le-ltb, append_assoc, codes}, std.specs.{Prelude.{nat_lt, if◌then◌else◌}, Fmt.decimal, List.{AllByRecursion, take_while}, Str.Parse.{AllDigits, IsNumeral}}}
+use Rattle.std.proofs.{Math.Nat.mod-eq_of_lt, lemmas.Bool.cases_lt, lemmas.Bool.Decides.nat_tests, lemmas.List.{length-append, length-replicate}}
+use Rattle.std.proofs.{lemmas.Fmt.{decimal_is_IsNumeral, digits_value-decimal, length-decimal-le}, lemmas.Str.Parse.{IsNumeralModel, numerals_by_fold, tells_digits, digit_from_value}}
+use Rattle.{war_types.specs.declared.instr.Mode.Mode, redcode_text.specs.{Bytes.is_digit, Tokens.{Piece, piece}, Operators.negated, Value.{number_from, value_of, value_within}}}
+use Rattle.{redcode_text.specs.{Vocabulary.mode_text, declared.token.TokenKind.TokenKind}, redcode_lines.specs.Line.is_no_comment}
+use Rattle.redcode_statement.specs.{Operand.operand_of, Instruction.reduced, Sides.is_comma, Statement.is_bad, InstrLine.{spaces, signed_number, operand_text}}
+use Rattle.redcode_statement.proofs.{LineLemmas.{AreInLine, in_line-append}, TokenLemmas.{bare, IsDigitByte, Follows, bare-spaces, bare-digits, bare-mode, bare-minus}}
 
 -- ---- numbers
 
@@ -42,10 +24,10 @@ pub record Spells (text : List ℕ) (tokens : List Piece) (z : ℤ) : Type 0 whe
   pub short : length text ≤ 6
 
 abbrev pub number_token : List ℕ → Piece
-number_token digits = piece kinds.Number digits
+number_token digits = piece TokenKind.Number digits
 
 abbrev minus : Piece
-minus = piece kinds.Symbol (codes "-")
+minus = piece TokenKind.Symbol (codes "-")
 
 -- a text of digits has digit bytes only
 digit_bytes : (ds : List ℕ) → AllDigits 10 ds → AllByRecursion IsDigitByte ds
@@ -117,7 +99,7 @@ reduced-number core n below = grind (arith, nat_tests, mod-eq_of_lt)
 
 -- the tokens of an operand of the load text
 abbrev pub operand_tokens : ℕ → Mode → ℕ → List Piece
-operand_tokens core mode n = piece kinds.Symbol (mode_text mode) ∷ number_tokens core n
+operand_tokens core mode n = piece TokenKind.Symbol (mode_text mode) ∷ number_tokens core n
 
 Follows-spaces : (k : ℕ) (text : List ℕ) → Follows text → Follows (spaces k ++ text)
 Follows-spaces zero text h = h

@@ -1,18 +1,8 @@
 -- The tokens of a text, one after another.
 use Rattle.std.proofs.Common.{◌≡◌, ℕ, zero, suc, ◌==◌, true, false, List, [], ◌∷◌, ◌++◌, length, map, refl, ◌∙◌, arith, take_at, drop_at, inl, inr, codes}
-use Rattle.std.specs.List.{AllByRecursion, take_while}
-use Rattle.std.specs.Int.{IsInRange}
-use Rattle.std.proofs.lemmas.Bool.{cases_Bool}
-use Rattle.std.proofs.lemmas.Bool.Decides.{nat_tests}
-use Rattle.std.proofs.lemmas.List.Sums.{take_while-cons}
-use Rattle.war_types.specs.Title.{is_blank}
-use Rattle.war_types.specs.declared.instr.Mode.{Mode}
-use Rattle.redcode_text.specs.declared.token.TokenKind.TheVariants as kinds
-use Rattle.redcode_text.specs.Bytes.{is_digit, is_letter}
-use Rattle.redcode_text.specs.Tokens.{Piece, piece, without_place, rest_of_token, tokens_after, pieces_of}
-use Rattle.redcode_text.specs.Vocabulary.{mode_text}
-use Rattle.redcode_text.proofs.Scanning.{tokens_after-drop}
-use Rattle.redcode_statement.specs.InstrLine.{spaces}
+use Rattle.{std.specs.{List.{AllByRecursion, take_while}, Int.IsInRange}, std.proofs.{lemmas.Bool.cases_Bool, lemmas.Bool.Decides.nat_tests, lemmas.List.Sums.take_while-cons}}
+use Rattle.{war_types.specs.{Title.is_blank, declared.instr.Mode.Mode}, redcode_text.specs.{Bytes.{is_digit, is_letter}, Tokens.{Piece, piece, without_place, rest_of_token, tokens_after, pieces_of}}}
+use Rattle.{redcode_text.specs.{Vocabulary.mode_text, declared.token.TokenKind.TokenKind}, redcode_text.proofs.Scanning.tokens_after-drop, redcode_statement.specs.InstrLine.spaces}
 
 -- the tokens of a text without their places
 abbrev pub bare : List ℕ → List Piece
@@ -58,7 +48,7 @@ take_while-digits (d ∷ ds) rest all stops =
 
 -- digits that no further one follows are one token
 pub bare-digits : (d : ℕ) (ds rest : List ℕ) → AllByRecursion IsDigitByte (d ∷ ds) → take_while is_digit rest ≡ []
-    → bare (d ∷ (ds ++ rest)) ≡ piece kinds.Number (d ∷ ds) ∷ bare rest
+    → bare (d ∷ (ds ++ rest)) ≡ piece TokenKind.Number (d ∷ ds) ∷ bare rest
 bare-digits d ds rest all stops =
     rw (
       is_blank-digit d all.0,
@@ -78,11 +68,11 @@ Follows [] = ⊥
 Follows (c ∷ cs) = (c == 61) ≡ false
 
 -- before such a text a mode is a token of its own
-pub bare-mode : (mode : Mode) (text : List ℕ) → Follows text → bare (mode_text mode ++ text) ≡ piece kinds.Symbol (mode_text mode) ∷ bare text
+pub bare-mode : (mode : Mode) (text : List ℕ) → Follows text → bare (mode_text mode ++ text) ≡ piece TokenKind.Symbol (mode_text mode) ∷ bare text
 bare-mode mode [] other = absurd other
 bare-mode mode (c ∷ cs) other = grind arith
 
 -- and so is a minus sign
-pub bare-minus : (text : List ℕ) → Follows text → bare (45 ∷ text) ≡ piece kinds.Symbol (codes "-") ∷ bare text
+pub bare-minus : (text : List ℕ) → Follows text → bare (45 ∷ text) ≡ piece TokenKind.Symbol (codes "-") ∷ bare text
 bare-minus [] other = absurd other
 bare-minus (c ∷ cs) other = rw other refl

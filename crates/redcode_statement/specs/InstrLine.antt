@@ -1,8 +1,6 @@
 -- The line of an instruction in a load text.
 use Rattle.std.specs.Prelude.{ℕ, ◌-◌, ◌*◌, nat_lt, if◌then◌else◌, List, ◌∷◌, ◌++◌, length, replicate, codes, decimal}
-use Rattle.war_types.specs.declared.instr.Instr.{Instr}
-use Rattle.war_types.specs.declared.instr.Mode.{Mode}
-use Rattle.redcode_text.specs.Vocabulary.{op_text, modifier_text, mode_text}
+use Rattle.{war_types.specs.{declared.instr.Instr.Instr, declared.instr.Mode.Mode}, redcode_text.specs.Vocabulary.{op_text, modifier_text, mode_text}}
 
 abbrev pub spaces : ℕ → List ℕ
 spaces n = replicate n 32

@@ -1,27 +1,11 @@
 -- The instruction that a line gives.
 use Rattle.std.specs.Prelude.{ℕ, ◌-◌, ◌%◌, Bool, true, false, if◌then◌else◌, List, [], ◌∷◌, Option, Some, None, Result, Ok, Err, ℤ, pos, negsuc, unwrap_or, codes}
-use Rattle.war_types.specs.declared.fault.AsmKind.{AsmKind}
-use Rattle.war_types.specs.declared.fault.AsmKind.TheVariants as kinds
-use Rattle.war_types.specs.declared.instr.Op.{Op}
-use Rattle.war_types.specs.declared.instr.Op.TheVariants as ops
-use Rattle.war_types.specs.declared.instr.Modifier.{Modifier}
-use Rattle.war_types.specs.declared.instr.Modifier.TheVariants as modifiers
-use Rattle.war_types.specs.declared.instr.Mode.{Mode}
-use Rattle.war_types.specs.declared.instr.Mode.TheVariants as modes
-use Rattle.war_types.specs.declared.instr.Instr.{Instr}
-use Rattle.redcode_text.specs.Operators.{Value}
-use Rattle.redcode_text.specs.declared.vocabulary.Word.{Word}
-use Rattle.redcode_text.specs.declared.vocabulary.Word.TheVariants as words
-use Rattle.redcode_text.specs.Tokens.{Piece}
-use Rattle.redcode_text.specs.Vocabulary.{named, modifier_names}
-use Rattle.redcode_lines.specs.Line.{has_text}
-use Rattle.redcode_statement.specs.declared.operand.Operand.{Operand}
-use Rattle.redcode_statement.specs.Chain.{◌>>=◌}
-use Rattle.redcode_statement.specs.Operand.{operand_of}
-use Rattle.redcode_statement.specs.Sides.{SideTokens, sides_of}
+use Rattle.war_types.specs.{declared.fault.AsmKind.AsmKind, declared.instr.Op.Op, declared.instr.Modifier.Modifier, declared.instr.Mode.Mode, declared.instr.Instr.Instr}
+use Rattle.{redcode_text.specs.{Operators.Value, declared.vocabulary.Word.Word, Tokens.Piece, Vocabulary.{named, modifier_names}}, redcode_lines.specs.Line.has_text}
+use Rattle.redcode_statement.specs.{declared.operand.Operand.Operand, Chain.◌>>=◌, Operand.operand_of, Sides.{SideTokens, sides_of}}
 
 abbrev pub is_immediate : Mode → Bool
-is_immediate modes.Immediate = true
+is_immediate Mode.Immediate = true
 is_immediate _ = false
 
 -- one modifier if the A operand is immediate, another if the B operand is, a third if neither is
@@ -30,19 +14,19 @@ by_modes a b at_a at_b elsewhere = if is_immediate a then at_a else (if is_immed
 
 -- the modifier if none is written (the draft standard's table of default modifiers; for SLT and NOP the project's own)
 abbrev pub default_modifier : Op → Mode → Mode → Modifier
-default_modifier ops.Dat a b = modifiers.F
-default_modifier ops.Nop a b = modifiers.F
-default_modifier ops.Mov a b = by_modes a b modifiers.AB modifiers.B modifiers.I
-default_modifier ops.Seq a b = by_modes a b modifiers.AB modifiers.B modifiers.I
-default_modifier ops.Sne a b = by_modes a b modifiers.AB modifiers.B modifiers.I
-default_modifier ops.Add a b = by_modes a b modifiers.AB modifiers.B modifiers.F
-default_modifier ops.Sub a b = by_modes a b modifiers.AB modifiers.B modifiers.F
-default_modifier ops.Mul a b = by_modes a b modifiers.AB modifiers.B modifiers.F
-default_modifier ops.Div a b = by_modes a b modifiers.AB modifiers.B modifiers.F
-default_modifier ops.Mdl a b = by_modes a b modifiers.AB modifiers.B modifiers.F
-default_modifier ops.Slt a b = by_modes a b modifiers.AB modifiers.B modifiers.B
+default_modifier Op.Dat a b = Modifier.F
+default_modifier Op.Nop a b = Modifier.F
+default_modifier Op.Mov a b = by_modes a b Modifier.AB Modifier.B Modifier.I
+default_modifier Op.Seq a b = by_modes a b Modifier.AB Modifier.B Modifier.I
+default_modifier Op.Sne a b = by_modes a b Modifier.AB Modifier.B Modifier.I
+default_modifier Op.Add a b = by_modes a b Modifier.AB Modifier.B Modifier.F
+default_modifier Op.Sub a b = by_modes a b Modifier.AB Modifier.B Modifier.F
+default_modifier Op.Mul a b = by_modes a b Modifier.AB Modifier.B Modifier.F
+default_modifier Op.Div a b = by_modes a b Modifier.AB Modifier.B Modifier.F
+default_modifier Op.Mdl a b = by_modes a b Modifier.AB Modifier.B Modifier.F
+default_modifier Op.Slt a b = by_modes a b Modifier.AB Modifier.B Modifier.B
 -- JMP, JMZ, JMN, DJN and SPL
-default_modifier _ a b = modifiers.B
+default_modifier _ a b = Modifier.B
 
 -- a number as an address of a core of this size: its remainder, from 0 on
 abbrev pub reduced : ℕ → ℤ → ℕ
@@ -51,13 +35,13 @@ reduced core (negsuc n) = core - 1 - n % core
 
 -- x, if nothing stands after the operands
 abbrev pub unless_more : {X : Type 0} → Bool → X → Result X AsmKind
-unless_more true x = Err kinds.ExtraText
+unless_more true x = Err AsmKind.ExtraText
 unless_more false x = Ok x
 
 -- the A operand's fault, else that of the B operand, else a second comma's
 abbrev pub instr_of_values : ℕ → Op → Option Modifier → Mode → Mode → Value → Value → Bool → Result Instr AsmKind
-instr_of_values core op modifier a_mode b_mode (Err fault) b more = Err (kinds.Expression fault)
-instr_of_values core op modifier a_mode b_mode (Ok a) (Err fault) more = Err (kinds.Expression fault)
+instr_of_values core op modifier a_mode b_mode (Err fault) b more = Err (AsmKind.Expression fault)
+instr_of_values core op modifier a_mode b_mode (Ok a) (Err fault) more = Err (AsmKind.Expression fault)
 instr_of_values core op modifier a_mode b_mode (Ok a) (Ok b) more =
     unless_more more (record {
       op = op;
@@ -75,11 +59,11 @@ instr_of core op modifier a b more = instr_of_values core op modifier a.mode b.m
 
 -- the modifier of this name, and the tokens after it
 abbrev pub modifier_or_bad : Option Modifier → List Piece → Result (Option Modifier × List Piece) AsmKind
-modifier_or_bad None behind = Err kinds.BadModifier
+modifier_or_bad None behind = Err AsmKind.BadModifier
 modifier_or_bad (Some modifier) behind = Ok (Some modifier, behind)
 
 abbrev pub modifier_named_at : List Piece → Result (Option Modifier × List Piece) AsmKind
-modifier_named_at [] = Err kinds.BadModifier
+modifier_named_at [] = Err AsmKind.BadModifier
 modifier_named_at (t ∷ ts) = modifier_or_bad (named modifier_names t.text) ts
 
 -- the modifier after a dot, or none if no dot stands there, and the tokens of the operands
@@ -93,8 +77,8 @@ instr_of_sides core names op modifier sides = instr_of core op modifier (operand
 -- the instruction of a word and the tokens after it, in a core of this size, by what the names stand for; or its first fault.
 -- A word that is no operation of the machine is LDP or STP, and there is no P-space
 abbrev pub instruction_of : ℕ → (List ℕ → Option ℤ) → Option Word → List Piece → Result Instr AsmKind
-instruction_of core names (Some (words.Operation op)) tokens =
+instruction_of core names (Some (Word.Operation op)) tokens =
     modifier_at tokens >>= λ modifier.
     sides_of op modifier.1 >>= λ sides.
     instr_of_sides core names op modifier.0 sides
-instruction_of core names _ tokens = Err kinds.Pspace
+instruction_of core names _ tokens = Err AsmKind.Pspace

@@ -1,12 +1,7 @@
 -- The operands of an instruction, parted by commas, even within parentheses: the first comma parts A from B, and a second
 -- one ends B.
 use Rattle.std.specs.Prelude.{Bool, false, if◌then◌else◌, List, [], ◌∷◌, Option, Some, None, Result, Ok, Err, is_some, codes}
-use Rattle.war_types.specs.declared.fault.AsmKind.{AsmKind}
-use Rattle.war_types.specs.declared.fault.AsmKind.TheVariants as kinds
-use Rattle.war_types.specs.declared.instr.Op.{Op}
-use Rattle.war_types.specs.declared.instr.Op.TheVariants as ops
-use Rattle.redcode_text.specs.Tokens.{Piece}
-use Rattle.redcode_lines.specs.Line.{has_text}
+use Rattle.{war_types.specs.{declared.fault.AsmKind.AsmKind, declared.instr.Op.Op}, redcode_text.specs.Tokens.Piece, redcode_lines.specs.Line.has_text}
 
 abbrev pub is_comma : Piece → Bool
 is_comma token = has_text (codes ",") token
@@ -32,13 +27,13 @@ side_tokens a b more = record { a = a; b = b; more = more }
 
 -- DAT and NOP may have no operand; every other operation needs one
 abbrev pub no_operand : Op → Result SideTokens AsmKind
-no_operand ops.Dat = Ok (side_tokens [] [] false)
-no_operand ops.Nop = Ok (side_tokens [] [] false)
-no_operand other = Err kinds.MissingOperand
+no_operand Op.Dat = Ok (side_tokens [] [] false)
+no_operand Op.Nop = Ok (side_tokens [] [] false)
+no_operand other = Err AsmKind.MissingOperand
 
 -- one operand is the B operand of DAT and the A operand of every other operation
 abbrev pub one_operand : Op → List Piece → SideTokens
-one_operand ops.Dat given = side_tokens [] given false
+one_operand Op.Dat given = side_tokens [] given false
 one_operand other given = side_tokens given [] false
 
 abbrev pub without_comma : Op → List Piece → Result SideTokens AsmKind
@@ -47,8 +42,8 @@ without_comma op (t ∷ ts) = Ok (one_operand op (t ∷ ts))
 
 -- of two operands each needs a token
 abbrev pub two_operands : List Piece → List Piece → Bool → Result SideTokens AsmKind
-two_operands [] b more = Err kinds.MissingOperand
-two_operands (t ∷ ts) [] more = Err kinds.MissingOperand
+two_operands [] b more = Err AsmKind.MissingOperand
+two_operands (t ∷ ts) [] more = Err AsmKind.MissingOperand
 two_operands (t ∷ ts) (u ∷ us) more = Ok (side_tokens (t ∷ ts) (u ∷ us) more)
 
 abbrev pub parted : Op → List Piece → Option (List Piece) → Result SideTokens AsmKind

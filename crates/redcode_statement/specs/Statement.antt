@@ -1,22 +1,10 @@
 -- What the tokens of a line say.
 use Rattle.std.specs.Prelude.{Bool, true, false, ℕ, List, [], ◌∷◌, Option, Some, None, Result, Ok, Err, ℤ}
-use Rattle.war_types.specs.declared.fault.AsmKind.{AsmKind}
-use Rattle.war_types.specs.declared.fault.AsmKind.TheVariants as kinds
-use Rattle.war_types.specs.declared.instr.Instr.{Instr}
-use Rattle.redcode_text.specs.declared.token.TokenKind.{TokenKind}
-use Rattle.redcode_text.specs.declared.token.TokenKind.TheVariants as token_kinds
-use Rattle.redcode_text.specs.declared.vocabulary.Word.{Word}
-use Rattle.redcode_text.specs.declared.vocabulary.Word.TheVariants as words
-use Rattle.redcode_text.specs.Operators.{Value}
-use Rattle.redcode_text.specs.Tokens.{Piece}
-use Rattle.redcode_text.specs.Value.{value_of}
-use Rattle.redcode_statement.specs.declared.statement.Statement.{Statement}
-use Rattle.redcode_statement.specs.declared.statement.Statement.TheVariants as statements
-use Rattle.redcode_statement.specs.Chain.{◌>>=◌}
-use Rattle.redcode_statement.specs.Sides.{before_comma, behind_comma}
+use Rattle.{war_types.specs.{declared.fault.AsmKind.AsmKind, declared.instr.Instr.Instr}, redcode_text.specs.{declared.token.TokenKind.TokenKind, declared.vocabulary.Word.Word, Operators.Value}}
+use Rattle.{redcode_text.specs.{Tokens.Piece, Value.value_of}, redcode_statement.specs.{declared.statement.Statement.Statement, Chain.◌>>=◌, Sides.{before_comma, behind_comma}}}
 
 abbrev pub is_bad_kind : TokenKind → Bool
-is_bad_kind token_kinds.Bad = true
+is_bad_kind TokenKind.Bad = true
 is_bad_kind _ = false
 
 abbrev pub is_bad : Piece → Bool
@@ -26,15 +14,15 @@ is_bad token = is_bad_kind token.kind
 
 abbrev pub as_said : Value → Result ℤ AsmKind
 as_said (Ok z) = Ok z
-as_said (Err fault) = Err (kinds.Expression fault)
+as_said (Err fault) = Err (AsmKind.Expression fault)
 
 abbrev pub value_or_missing : (List ℕ → Option ℤ) → List Piece → Result ℤ AsmKind
-value_or_missing names [] = Err kinds.MissingOperand
+value_or_missing names [] = Err AsmKind.MissingOperand
 value_or_missing names (t ∷ ts) = as_said (value_of names (t ∷ ts))
 
 abbrev pub unless_comma : Option (List Piece) → ℤ → Result ℤ AsmKind
 unless_comma None z = Ok z
-unless_comma (Some behind) z = Err kinds.ExtraText
+unless_comma (Some behind) z = Err AsmKind.ExtraText
 
 -- the expression's fault, else that of the comma
 abbrev pub single_value : (List ℕ → Option ℤ) → List Piece → Result ℤ AsmKind
@@ -43,27 +31,27 @@ single_value names tokens = value_or_missing names (before_comma tokens) >>= unl
 -- ---- the lines
 
 abbrev pub org_said : (List ℕ → Option ℤ) → List Piece → Result Statement AsmKind
-org_said names tokens = single_value names tokens >>= λ z. Ok (statements.Org z)
+org_said names tokens = single_value names tokens >>= λ z. Ok (Statement.Org z)
 
 -- END may stand alone
 abbrev pub end_said : (List ℕ → Option ℤ) → List Piece → Result Statement AsmKind
-end_said names [] = Ok statements.Nothing
-end_said names (t ∷ ts) = single_value names (t ∷ ts) >>= λ z. Ok (statements.End z)
+end_said names [] = Ok Statement.Nothing
+end_said names (t ∷ ts) = single_value names (t ∷ ts) >>= λ z. Ok (Statement.End z)
 
 -- an assertion without a token says nothing
 abbrev pub assert_said : (List ℕ → Option ℤ) → List Piece → Result Statement AsmKind
-assert_said names [] = Ok statements.Nothing
-assert_said names (t ∷ ts) = single_value names (t ∷ ts) >>= λ z. Ok (statements.Assert z)
+assert_said names [] = Ok Statement.Nothing
+assert_said names (t ∷ ts) = single_value names (t ∷ ts) >>= λ z. Ok (Statement.Assert z)
 
 abbrev pub instruction_said : Result Instr AsmKind → Result Statement AsmKind
-instruction_said instr = instr >>= λ i. Ok (statements.Instruction i)
+instruction_said instr = instr >>= λ i. Ok (Statement.Instruction i)
 
 -- any other line: there is no P-space, so PIN is refused for that, and every other line has no operation
 abbrev pub other_said : Option Word → Result Statement AsmKind
-other_said (Some words.Pin) = Err kinds.Pspace
-other_said _ = Err kinds.BadOperation
+other_said (Some Word.Pin) = Err AsmKind.Pspace
+other_said _ = Err AsmKind.BadOperation
 
 -- the instruction of a statement that is one
 abbrev pub instr_said : Statement → List Instr
-instr_said (statements.Instruction instr) = instr ∷ []
+instr_said (Statement.Instruction instr) = instr ∷ []
 instr_said _ = []

@@ -1,11 +1,6 @@
 -- What a contract sees of tokens in memory.
-use Rattle.std.specs.Prelude.{List, Option, Result, Ok, Err}
-use Rattle.std.specs.Borrow.{Bor}
-use Rattle.std.specs.Option.{option_map}
-use Rattle.redcode_text.specs.declared.token.Token.{Token}
-use Rattle.redcode_text.specs.Tokens.{Piece, pieces}
-use Rattle.redcode_statement.specs.declared.operand.Sides.{Sides}
-use Rattle.redcode_statement.specs.Sides.{SideTokens, side_tokens}
+use Rattle.{std.specs.{Prelude.{List, Option, Result, Ok, Err}, Borrow.Bor, Option.option_map}, redcode_text.specs.{declared.token.Token.Token, Tokens.{Piece, pieces}}}
+use Rattle.redcode_statement.specs.{declared.operand.Sides.Sides, Sides.{SideTokens, side_tokens}}
 
 -- a result with its value as a contract sees it
 abbrev pub result_map : {X Y E : Type 0} → (X → Y) → Result X E → Result Y E

@@ -2,8 +2,7 @@
 
 ghost use Rattle.std.specs.Prelude.{◌≡◌, ◌<◌, IfOk};
 ghost use Rattle.redcode_text.specs.Tokens.{pieces};
-ghost use Rattle.redcode_statement.specs.Instruction.{default_modifier, reduced, instr_of, modifier_named_at, modifier_at, instruction_of};
-ghost use Rattle.redcode_statement.specs.Views.{read, result_map};
+ghost use Rattle.redcode_statement.specs.{Instruction.{default_modifier, reduced, instr_of, modifier_named_at, modifier_at, instruction_of}, Views.{read, result_map}};
 
 use crate::operand::{Operand, operand_of, sides_of};
 use redcode_lines::has_text;

@@ -1,10 +1,7 @@
 //! The line of an instruction in a load text.
 
-ghost use Rattle.std.specs.Prelude.{◌≡◌, ◌<◌, ◌++◌, codes};
-ghost use Rattle.std.specs.Fmt.{signed_decimal};
-ghost use Rattle.std.specs.Result.{OnOk};
-ghost use Rattle.war_types.specs.Warrior.{HasNumbersBelow};
-ghost use Rattle.redcode_text.specs.Vocabulary.{op_text, modifier_text, mode_text};
+ghost use Rattle.std.specs.{Prelude.{◌≡◌, ◌<◌, ◌++◌, codes}, Fmt.signed_decimal, Result.OnOk};
+ghost use Rattle.{war_types.specs.Warrior.HasNumbersBelow, redcode_text.specs.Vocabulary.{op_text, modifier_text, mode_text}};
 ghost use Rattle.redcode_statement.specs.InstrLine.{spaces, signed_number, left_in, operand_text, instr_line};
 
 use itoa::Buffer;

@@ -2,9 +2,7 @@
 
 ghost use Rattle.std.specs.Prelude.{◌≡◌};
 ghost use Rattle.redcode_text.specs.Tokens.{pieces};
-ghost use Rattle.redcode_statement.specs.Operand.{operand_of};
-ghost use Rattle.redcode_statement.specs.Sides.{before_comma, behind_comma, without_comma, sides_of};
-ghost use Rattle.redcode_statement.specs.Views.{result_map, sides_seen, tokens_seen};
+ghost use Rattle.redcode_statement.specs.{Operand.operand_of, Sides.{before_comma, behind_comma, without_comma, sides_of}, Views.{result_map, sides_seen, tokens_seen}};
 
 use redcode_lines::has_text;
 use redcode_text::{Names, Token, mode_named, value};

@@ -1,9 +1,7 @@
 //! What the tokens of a line say.
 
-ghost use Rattle.std.specs.Prelude.{◌≡◌};
-ghost use Rattle.std.specs.List.{list_any};
-ghost use Rattle.redcode_text.specs.Tokens.{pieces};
-ghost use Rattle.redcode_statement.specs.Statement.{is_bad, is_bad_kind, single_value, value_or_missing, org_said, end_said, assert_said, other_said};
+ghost use Rattle.std.specs.{Prelude.◌≡◌, List.list_any};
+ghost use Rattle.{redcode_text.specs.Tokens.pieces, redcode_statement.specs.Statement.{is_bad, is_bad_kind, single_value, value_or_missing, org_said, end_said, assert_said, other_said}};
 
 use crate::operand::at_comma;
 use redcode_text::{Names, Token, TokenKind, Word, value};

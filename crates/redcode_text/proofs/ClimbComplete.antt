@@ -1,33 +1,29 @@
 -- An expression is climbed whole.
 use Rattle.std.proofs.Common.{◌≡◌, ℕ, zero, suc, ◌≤◌, true, false, List, [], ◌∷◌, ◌++◌, Some, None, refl, sym, ap, ◌∙◌, subst, arith, append_assoc, append-nil, ne_eqb, eq-eqb}
-use Rattle.std.specs.Prelude.{◌==◌}
-use Rattle.redcode_text.specs.declared.operator.Operator.{Operator}
-use Rattle.redcode_text.specs.declared.expression.Part.{Part}
-use Rattle.redcode_text.specs.declared.expression.Part.TheVariants as parts
-use Rattle.redcode_text.specs.Operators.{Value, rank_of, applied, negated, denied}
+use Rattle.{std.specs.Prelude.◌==◌, redcode_text.specs.{declared.operator.Operator.Operator, declared.expression.Part.Part, Operators.{Value, rank_of, applied, negated, denied}}}
 use Rattle.redcode_text.specs.Climbing.{Found, Climbs, Start, Begin, Continue, next_at, behind_close, under, signed_found, with_close, enclosed, is_refused}
-use Rattle.redcode_text.specs.Climbing as climbs
 use Rattle.redcode_text.proofs.Reading.{Reads, same_pair}
+use Rattle.redcode_text.specs.Climbing as climbs
 use Rattle.redcode_text.proofs.Reading as reads
 
 -- no operator of a tighter rank stands at the front
 abbrev pub StopsBelow : ℕ → List Part → Type 0
-StopsBelow r (parts.Operator o ∷ ps) = r ≤ rank_of o
+StopsBelow r (Part.Operator o ∷ ps) = r ≤ rank_of o
 StopsBelow r _ = Unit {0}
 
 stops_tighter : (r : ℕ) (ps : List Part) → StopsBelow (suc r) ps → StopsBelow r ps
-stops_tighter r (parts.Operator o ∷ ps) h = omega arith
+stops_tighter r (Part.Operator o ∷ ps) h = omega arith
 stops_tighter r _ h = tt
 
 stops_next : (r : ℕ) (ps : List Part) → StopsBelow (suc r) ps → next_at r ps ≡ None
-stops_next r (parts.Operator o ∷ ps) h = let differs : (rank_of o == r) ≡ false = ne_eqb (rank_of o) r (λ e. omega arith) in rw differs refl
+stops_next r (Part.Operator o ∷ ps) h = let differs : (rank_of o == r) ≡ false = ne_eqb (rank_of o) r (λ e. omega arith) in rw differs refl
 stops_next r _ h = refl
 
 stops_zero : (ps : List Part) → StopsBelow zero ps
-stops_zero (parts.Operator o ∷ ps) = omega arith
+stops_zero (Part.Operator o ∷ ps) = omega arith
 stops_zero _ = tt
 
-next_here : (r : ℕ) (o : Operator) (ps : List Part) → rank_of o ≡ r → next_at r (parts.Operator o ∷ ps) ≡ Some (o, ps)
+next_here : (r : ℕ) (o : Operator) (ps : List Part) → rank_of o ≡ r → next_at r (Part.Operator o ∷ ps) ≡ Some (o, ps)
 next_here r o ps e = let same : (rank_of o == r) ≡ true = eq-eqb (rank_of o) r e in rw same refl
 
 -- ---- what a climb must have done
@@ -74,8 +70,8 @@ climb_follows (reads.minus h) rest out stops (climbs.refused e) = absurd cc
 climb_follows (reads.minus h) rest out stops (climbs.sign o c) = ap (under negated) (climb_follows h rest _ (stops_zero rest) c)
 climb_follows (reads.parentheses h) rest out stops (climbs.refused e) = absurd cc
 climb_follows (reads.parentheses {d} {ps} {v} h) rest out stops (climbs.parentheses {out = inner} c) =
-    let whole = subst (λ (xs : List Part). Climbs 6 d (Begin xs) inner) (append_assoc ps (parts.Close ∷ []) rest) c in
-    ap enclosed (stop_follows 6 d v (parts.Close ∷ rest) inner tt (climb_follows h (parts.Close ∷ rest) inner tt whole))
+    let whole = subst (λ (xs : List Part). Climbs 6 d (Begin xs) inner) (append_assoc ps (Part.Close ∷ []) rest) c in
+    ap enclosed (stop_follows 6 d v (Part.Close ∷ rest) inner tt (climb_follows h (Part.Close ∷ rest) inner tt whole))
 climb_follows (reads.tighter {r} {d} {ps} {v} h) rest out stops (climbs.unbegun c) =
     let found = stop_follows r d v rest None stops (climb_follows h rest None (stops_tighter r rest stops) c) in
     absurd cc
@@ -83,8 +79,8 @@ climb_follows (reads.tighter {r} {d} {ps} {v} h) rest out stops (climbs.begun {r
     let found = same_pair w v behind rest (stop_follows r d v rest (Some (w, behind)) stops (climb_follows h rest (Some (w, behind)) (stops_tighter r rest stops) c)) in
     rw (← found.0, ← found.1) later
 climb_follows (reads.both {r} {d} {ls} {rs} {v} {w} o rank left right) rest out stops c =
-    let whole = subst (λ (xs : List Part). Climbs (suc r) d (Begin xs) out) (append_assoc ls (parts.Operator o ∷ rs) rest) c in
-    goes_on (climb_follows left (parts.Operator o ∷ (rs ++ rest)) out (omega arith) whole) o (rs ++ rest) w rest (next_here (suc r) o (rs ++ rest) rank)
+    let whole = subst (λ (xs : List Part). Climbs (suc r) d (Begin xs) out) (append_assoc ls (Part.Operator o ∷ rs) rest) c in
+    goes_on (climb_follows left (Part.Operator o ∷ (rs ++ rest)) out (omega arith) whole) o (rs ++ rest) w rest (next_here (suc r) o (rs ++ rest) rank)
     (λ found climbed. stop_follows r d w rest found stops (climb_follows right rest found (stops_tighter r rest stops) climbed))
 
 pub climb_whole : {r d : ℕ} {ps : List Part} {v : Value} {out : Found} → Reads r d ps v → Climbs r d (Begin ps) out → out ≡ Some (v, [])

@@ -1,15 +1,9 @@
 -- What is climbed is an expression.
-use Rattle.std.proofs.Common.{◌≡◌, ℕ, zero, suc, List, [], ◌∷◌, ◌++◌, Some, None, refl, sym, ap, ◌∙◌, inl, inr, append_assoc}
-use Rattle.std.specs.Prelude.{◌==◌}
-use Rattle.std.proofs.lemmas.Bool.{cases_Bool, eqb-true}
-use Rattle.redcode_text.specs.declared.operator.Operator.{Operator}
-use Rattle.redcode_text.specs.declared.operator.Operator.TheVariants as operators
-use Rattle.redcode_text.specs.declared.expression.Part.{Part}
+use Rattle.{std.proofs.Common.{◌≡◌, ℕ, zero, suc, List, [], ◌∷◌, ◌++◌, Some, None, refl, sym, ap, ◌∙◌, inl, inr, append_assoc}, std.specs.Prelude.◌==◌, std.proofs.lemmas.Bool.{cases_Bool, eqb-true}}
+use Rattle.redcode_text.specs.{declared.operator.Operator.Operator, declared.expression.Part.Part, Operators.{Value, rank_of, applied}}
+use Rattle.{redcode_text.specs.Climbing.{Found, Climbs, Start, Begin, Continue, next_at, behind_close, under, signed_found, with_close, enclosed}, redcode_text.proofs.Reading.{Reads, same_pair}}
 use Rattle.redcode_text.specs.declared.expression.Part.TheVariants as parts
-use Rattle.redcode_text.specs.Operators.{Value, rank_of, applied}
-use Rattle.redcode_text.specs.Climbing.{Found, Climbs, Start, Begin, Continue, next_at, behind_close, under, signed_found, with_close, enclosed}
 use Rattle.redcode_text.specs.Climbing as climbs
-use Rattle.redcode_text.proofs.Reading.{Reads, same_pair}
 use Rattle.redcode_text.proofs.Reading as reads
 
 -- a front of the parts with this value, before the rest
@@ -46,8 +40,8 @@ enclosed_front d ps (Some (v, (parts.Close ∷ rest))) found =
 enclosed_front d ps _ found = tt
 
 signed_front : (d : ℕ) (ps : List Part) (o : Operator) (out : Found) → IsFound zero d (Begin ps) out → IsFound zero (suc d) (Begin (parts.Operator o ∷ ps)) (signed_found o out)
-signed_front d ps operators.Plus (Some (v, rest)) found = with_part (parts.Operator operators.Plus) (λ front h. reads.plus h) found
-signed_front d ps operators.Minus (Some (v, rest)) found = with_part (parts.Operator operators.Minus) (λ front h. reads.minus h) found
+signed_front d ps Operator.Plus (Some (v, rest)) found = with_part (parts.Operator Operator.Plus) (λ front h. reads.plus h) found
+signed_front d ps Operator.Minus (Some (v, rest)) found = with_part (parts.Operator Operator.Minus) (λ front h. reads.minus h) found
 signed_front d ps _ _ found = tt
 
 on_front : (r d : ℕ) (ps others rest : List Part) (v w : Value) (out : Found) (o : Operator) → next_at (suc r) ps ≡ Some (o, others)

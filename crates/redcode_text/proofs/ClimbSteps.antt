@@ -1,13 +1,8 @@
 -- The steps of the code are steps of the climb.
 use Rattle.std.proofs.Common.{◌≡◌, ◌≢◌, ℕ, zero, suc, ◌-◌, ◌≤◌, true, List, [], ◌∷◌, length, Option, Some, None, ℤ, refl, arith}
-use Rattle.redcode_text.specs.declared.operator.Operator.{Operator}
-use Rattle.redcode_text.specs.declared.expression.Part.{Part}
-use Rattle.redcode_text.specs.declared.expression.Part.TheVariants as parts
-use Rattle.redcode_text.specs.declared.token.Token.{Token}
-use Rattle.redcode_text.specs.Operators.{Value}
-use Rattle.redcode_text.specs.Climbing.{Found, Climbs, Start, Begin, Continue, first_of, next_at, under, signed_found, enclosed, is_refused, parts_of}
+use Rattle.redcode_text.specs.{declared.operator.Operator.Operator, declared.expression.Part.Part, declared.token.Token.Token, Operators.Value}
+use Rattle.{redcode_text.specs.Climbing.{Found, Climbs, Start, Begin, Continue, first_of, next_at, under, signed_found, enclosed, is_refused, parts_of}, redcode_text.proofs.Reading.upward}
 use Rattle.redcode_text.specs.Climbing as climbs
-use Rattle.redcode_text.proofs.Reading.{upward}
 
 -- ---- operands
 
@@ -24,17 +19,17 @@ part_at {d} {ps} {qs} {part} {next} {out} e is c = rw (first_is ps qs part e, is
 pub inner_at : {d : ℕ} {ps qs : List Part} {part next : Part} {out : Found} → d ≢ 0 → Some (part, qs) ≡ first_of ps → part ≡ next → Climbs zero (suc (d - 1)) (Begin (next ∷ qs)) out → Climbs zero d (Begin ps) out
 inner_at {d} some e is c = let deep : suc (d - 1) ≡ d = omega arith in part_at e is (rw deep at c)
 
-refused : (d : ℕ) (part : Part) (qs : List Part) → ((v : Value) → part ≡ parts.Operand v → ⊥)
-    → ((k : ℕ) → d ≡ suc k → (part ≡ parts.Open → ⊥) × (part ≡ parts.Not → ⊥) × ((o : Operator) → part ≡ parts.Operator o → ⊥)) → is_refused d (part ∷ qs) ≡ true
-refused d (parts.Operand v) qs operand inner = absurd (operand v refl)
+refused : (d : ℕ) (part : Part) (qs : List Part) → ((v : Value) → part ≡ Part.Operand v → ⊥)
+    → ((k : ℕ) → d ≡ suc k → (part ≡ Part.Open → ⊥) × (part ≡ Part.Not → ⊥) × ((o : Operator) → part ≡ Part.Operator o → ⊥)) → is_refused d (part ∷ qs) ≡ true
+refused d (Part.Operand v) qs operand inner = absurd (operand v refl)
 refused zero _ qs operand inner = refl
-refused (suc d) parts.Open qs operand inner = absurd ((inner d refl).0 refl)
-refused (suc d) parts.Not qs operand inner = absurd ((inner d refl).1 refl)
-refused (suc d) (parts.Operator o) qs operand inner = absurd ((inner d refl).2 o refl)
+refused (suc d) Part.Open qs operand inner = absurd ((inner d refl).0 refl)
+refused (suc d) Part.Not qs operand inner = absurd ((inner d refl).1 refl)
+refused (suc d) (Part.Operator o) qs operand inner = absurd ((inner d refl).2 o refl)
 refused _ _ qs operand inner = refl
 
-pub refused_at : {d : ℕ} {ps qs : List Part} {part : Part} → Some (part, qs) ≡ first_of ps → ((v : Value) → part ≡ parts.Operand v → ⊥)
-    → ((k : ℕ) → d ≡ suc k → (part ≡ parts.Open → ⊥) × (part ≡ parts.Not → ⊥) × ((o : Operator) → part ≡ parts.Operator o → ⊥)) → Climbs zero d (Begin ps) None
+pub refused_at : {d : ℕ} {ps qs : List Part} {part : Part} → Some (part, qs) ≡ first_of ps → ((v : Value) → part ≡ Part.Operand v → ⊥)
+    → ((k : ℕ) → d ≡ suc k → (part ≡ Part.Open → ⊥) × (part ≡ Part.Not → ⊥) × ((o : Operator) → part ≡ Part.Operator o → ⊥)) → Climbs zero d (Begin ps) None
 refused_at {d} {ps} {qs} {part} e operand inner = part_at e refl (climbs.refused (refused d part qs operand inner))
 
 -- ---- ranks

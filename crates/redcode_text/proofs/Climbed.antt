@@ -1,17 +1,8 @@
 -- The value that is climbed is the value by splitting.
-use Rattle.std.proofs.Common.{◌≡◌, ℕ, zero, ◌≤◌, false, List, [], ◌∷◌, length, Option, Some, None, Err, ℤ, refl, sym, ap, ◌∙◌, arith, append-nil}
-use Rattle.std.proofs.lemmas.List.{length-map}
-use Rattle.war_types.specs.declared.fault.ExprFault.TheVariants as faults
-use Rattle.redcode_text.specs.declared.expression.Part.{Part}
-use Rattle.redcode_text.specs.declared.token.Token.{Token}
-use Rattle.redcode_text.specs.Tokens.{pieces}
-use Rattle.redcode_text.specs.Operators.{Value}
-use Rattle.redcode_text.specs.Value.{split_from, value_within, or_bad, part_of, value_of}
-use Rattle.redcode_text.specs.Climbing.{Found, Climbs, Begin, parts_of}
-use Rattle.redcode_text.proofs.ClimbSound.{climbs_sound}
-use Rattle.redcode_text.proofs.ClimbComplete.{climb_whole}
-use Rattle.redcode_text.proofs.SplitReads.{value_reads, Under-all}
-use Rattle.redcode_text.proofs.ReadSplits.{reads_value}
+use Rattle.std.proofs.{Common.{◌≡◌, ℕ, zero, ◌≤◌, false, List, [], ◌∷◌, length, Option, Some, None, Err, ℤ, refl, sym, ap, ◌∙◌, arith, append-nil}, lemmas.List.length-map}
+use Rattle.{war_types.specs.declared.fault.ExprFault.ExprFault, redcode_text.specs.{declared.expression.Part.Part, declared.token.Token.Token, Tokens.pieces, Operators.Value}}
+use Rattle.redcode_text.specs.{Value.{split_from, value_within, or_bad, part_of, value_of}, Climbing.{Found, Climbs, Begin, parts_of}}
+use Rattle.redcode_text.proofs.{ClimbSound.climbs_sound, ClimbComplete.climb_whole, SplitReads.{value_reads, Under-all}, ReadSplits.reads_value}
 
 -- the value if nothing is left after it
 abbrev pub whole_of : Found → Option Value
@@ -33,6 +24,6 @@ value_is names tokens out c =
     sym (ap or_bad (climbed n 64 (parts_of names tokens) out _ (omega (arith, length-map (pieces tokens) (part_of names))) c refl))
 
 pub value_with : (names : List ℕ → Option ℤ) (tokens rest : List Token) (v : Value) → Climbs 6 64 (Begin (parts_of names tokens)) (Some (v, parts_of names rest))
-    → (length rest ≡ 0 → value_of names (pieces tokens) ≡ v) × (1 ≤ length rest → value_of names (pieces tokens) ≡ Err faults.BadExpression)
+    → (length rest ≡ 0 → value_of names (pieces tokens) ≡ v) × (1 ≤ length rest → value_of names (pieces tokens) ≡ Err ExprFault.BadExpression)
 value_with names tokens [] v c = (λ none. value_is names tokens _ c, λ some. absurd (omega arith))
 value_with names tokens (t ∷ rest) v c = (λ none. absurd (omega arith), λ some. value_is names tokens _ c)

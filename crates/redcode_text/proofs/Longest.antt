@@ -1,15 +1,8 @@
 -- The scanner's tokens are the tokens of the line.
-use Rattle.std.proofs.Common.{◌≡◌, ℕ, zero, suc, ◌+◌, ◌-◌, Bool, true, false, ◌||◌, List, [], ◌∷◌, ◌++◌, length, take, drop, refl, sym, ap, ◌∙◌, inl, inr, arith, length-take, length-drop, take-append-drop}
-use Rattle.std.specs.Prelude.{◌==◌, if◌then◌else◌}
-use Rattle.std.specs.List.{list_all, take_while}
-use Rattle.std.proofs.lemmas.Bool.{and_from, cases_Bool}
-use Rattle.std.proofs.lemmas.List.{drop_all}
-use Rattle.std.proofs.lemmas.List.Sums.{take_while-cons}
-use Rattle.war_types.specs.Title.{is_blank}
-use Rattle.redcode_text.specs.Bytes.{is_digit, is_letter, is_name_byte, is_symbol, are_symbol}
-use Rattle.redcode_text.specs.declared.token.TokenKind.{TokenKind}
-use Rattle.redcode_text.specs.declared.token.TokenKind.TheVariants as kinds
-use Rattle.redcode_text.specs.Tokens.{ScannedPiece, AreTokensFrom, IsTokensOf, is_of_kind, begins_symbol, kind_at, rest_of_token, tokens_after, tokens_of}
+use Rattle.std.proofs.Common.{◌≡◌, ℕ, zero, suc, ◌+◌, ◌-◌, Bool, true, false, ◌||◌, List, [], ◌∷◌, ◌++◌, length, take, drop, refl, sym, ap, ◌∙◌, inl, inr, arith, length-take, length-drop}
+use Rattle.{std.proofs.Common.take-append-drop, std.specs.{Prelude.{◌==◌, if◌then◌else◌}, List.{list_all, take_while}}, std.proofs.{lemmas.Bool.{and_from, cases_Bool}, lemmas.List.drop_all}}
+use Rattle.{std.proofs.lemmas.List.Sums.take_while-cons, war_types.specs.Title.is_blank, redcode_text.specs.Bytes.{is_digit, is_letter, is_name_byte, is_symbol, are_symbol}}
+use Rattle.redcode_text.specs.{declared.token.TokenKind.TokenKind, Tokens.{ScannedPiece, AreTokensFrom, IsTokensOf, is_of_kind, begins_symbol, kind_at, rest_of_token, tokens_after, tokens_of}}
 use Rattle.redcode_text.proofs.TextKinds.{kind_of_byte, name_longest, number_longest, three_bytes, two_bytes}
 
 -- how many bytes go on a name or a number
@@ -43,7 +36,7 @@ abbrev pub Fits : ℕ → List ℕ → TokenKind → ℕ → Type 0
 Fits b bs kind n = (is_of_kind kind (b ∷ take n bs) ≡ true) × ((other : TokenKind) (c : ℕ) (more rest : List ℕ) → drop n bs ≡ c ∷ (more ++ rest) → is_of_kind other (b ∷ (take n bs ++ c ∷ more)) ≡ false)
 
 symbol_fits : (b : ℕ) (bs : List ℕ) → is_blank b ≡ false → is_letter b ≡ false → is_digit b ≡ false → (b == 59) ≡ false
-    → Fits b bs (if begins_symbol b bs || is_symbol b then kinds.Symbol else kinds.Bad) (if begins_symbol b bs then 1 else 0)
+    → Fits b bs (if begins_symbol b bs || is_symbol b then TokenKind.Symbol else TokenKind.Bad) (if begins_symbol b bs then 1 else 0)
 symbol_fits b [] blank letter digit semicolon = (kind_of_byte b blank letter digit semicolon, λ other c more rest e. absurd cc)
 symbol_fits b (x ∷ xs) blank letter digit semicolon = elim (cases_Bool (are_symbol b x)) [
   | inl two ↦ rw two (two, λ other c more rest e. three_bytes other b x c more letter digit semicolon)

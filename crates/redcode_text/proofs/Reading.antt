@@ -1,19 +1,15 @@
 -- An expression of a rank: operands, joined by operators that bind no more loosely, each operator by those that bind more tightly on its right.
 use Rattle.std.proofs.Common.{◌≡◌, ℕ, zero, suc, List, [], ◌∷◌, ◌++◌, ◌+◌, ◌-◌, ◌≤◌, Option, Some, subst, arith}
-use Rattle.redcode_text.specs.declared.operator.Operator.{Operator}
-use Rattle.redcode_text.specs.declared.operator.Operator.TheVariants as operators
-use Rattle.redcode_text.specs.declared.expression.Part.{Part}
-use Rattle.redcode_text.specs.declared.expression.Part.TheVariants as parts
-use Rattle.redcode_text.specs.Operators.{Value, rank_of, applied, negated, denied}
+use Rattle.redcode_text.specs.{declared.operator.Operator.Operator, declared.expression.Part.Part, Operators.{Value, rank_of, applied, negated, denied}}
 
 pub data Reads : ℕ → ℕ → List Part → Value → Type 0 where
-  operand : {d : ℕ} {v : Value} → Reads zero d (parts.Operand v ∷ []) v
-  negation : {d : ℕ} {ps : List Part} {v : Value} → Reads zero d ps v → Reads zero (suc d) (parts.Not ∷ ps) (denied v)
-  plus : {d : ℕ} {ps : List Part} {v : Value} → Reads zero d ps v → Reads zero (suc d) (parts.Operator operators.Plus ∷ ps) v
-  minus : {d : ℕ} {ps : List Part} {v : Value} → Reads zero d ps v → Reads zero (suc d) (parts.Operator operators.Minus ∷ ps) (negated v)
-  parentheses : {d : ℕ} {ps : List Part} {v : Value} → Reads 6 d ps v → Reads zero (suc d) (parts.Open ∷ (ps ++ parts.Close ∷ [])) v
+  operand : {d : ℕ} {v : Value} → Reads zero d (Part.Operand v ∷ []) v
+  negation : {d : ℕ} {ps : List Part} {v : Value} → Reads zero d ps v → Reads zero (suc d) (Part.Not ∷ ps) (denied v)
+  plus : {d : ℕ} {ps : List Part} {v : Value} → Reads zero d ps v → Reads zero (suc d) (Part.Operator Operator.Plus ∷ ps) v
+  minus : {d : ℕ} {ps : List Part} {v : Value} → Reads zero d ps v → Reads zero (suc d) (Part.Operator Operator.Minus ∷ ps) (negated v)
+  parentheses : {d : ℕ} {ps : List Part} {v : Value} → Reads 6 d ps v → Reads zero (suc d) (Part.Open ∷ (ps ++ Part.Close ∷ [])) v
   tighter : {r d : ℕ} {ps : List Part} {v : Value} → Reads r d ps v → Reads (suc r) d ps v
-  both : {r d : ℕ} {ls rs : List Part} {v w : Value} (o : Operator) → rank_of o ≡ suc r → Reads (suc r) d ls v → Reads r d rs w → Reads (suc r) d (ls ++ parts.Operator o ∷ rs) (applied o v w)
+  both : {r d : ℕ} {ls rs : List Part} {v w : Value} (o : Operator) → rank_of o ≡ suc r → Reads (suc r) d ls v → Reads r d rs w → Reads (suc r) d (ls ++ Part.Operator o ∷ rs) (applied o v w)
 
 -- what is found in two ways is one
 pub same_pair : {A B : Type 0} (a c : A) (b d : B) → ◌≡◌ {A = Option (A × B)} (Some (a, b)) (Some (c, d)) → (a ≡ c) × (b ≡ d)

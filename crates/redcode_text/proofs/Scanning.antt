@@ -1,8 +1,6 @@
 -- How far a token goes, and what is after it.
-use Rattle.std.proofs.Common.{◌≡◌, ℕ, zero, suc, ◌+◌, ◌-◌, ◌≤◌, List, [], ◌∷◌, length, get_or, map, take, drop, false, refl, ap, arith}
-use Rattle.war_types.specs.Title.{is_blank}
-use Rattle.redcode_text.specs.declared.token.Token.{Token}
-use Rattle.redcode_text.specs.Tokens.{Piece, piece_of, pieces, scanned_pieces, without_place, kind_at, rest_of_token, tokens_after}
+use Rattle.{std.proofs.Common.{◌≡◌, ℕ, zero, suc, ◌+◌, ◌-◌, ◌≤◌, List, [], ◌∷◌, length, get_or, map, take, drop, false, refl, ap, arith}, war_types.specs.Title.is_blank}
+use Rattle.redcode_text.specs.{declared.token.Token.Token, Tokens.{Piece, piece_of, pieces, scanned_pieces, without_place, kind_at, rest_of_token, tokens_after}}
 
 -- after the bytes of a token the line begins again
 pub tokens_after-drop : (bytes n : ℕ) (bs : List ℕ) → tokens_after bytes n bs ≡ tokens_after bytes 0 (drop n bs)

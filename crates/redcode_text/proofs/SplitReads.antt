@@ -1,14 +1,9 @@
 -- What splits to a value is an expression with that value.
 use Rattle.std.proofs.Common.{◌≡◌, ℕ, zero, suc, ◌-◌, ◌≤◌, false, List, [], ◌∷◌, ◌++◌, Option, Some, None, refl, sym, subst, arith}
-use Rattle.redcode_text.specs.declared.operator.Operator.{Operator}
-use Rattle.redcode_text.specs.declared.operator.Operator.TheVariants as operators
-use Rattle.redcode_text.specs.declared.expression.Part.{Part}
-use Rattle.redcode_text.specs.declared.expression.Part.TheVariants as parts
-use Rattle.redcode_text.specs.Operators.{Value, rank_of, applied, negated, denied}
+use Rattle.redcode_text.specs.{declared.operator.Operator.Operator, declared.expression.Part.Part, Operators.{Value, rank_of, applied, negated, denied}}
 use Rattle.redcode_text.specs.Value.{Split, behind, split_from, joined, option_of, signed, onto, closed, inside_of, whole, value_by, value_within}
-use Rattle.redcode_text.proofs.Reading.{Reads, upward}
+use Rattle.redcode_text.proofs.{Reading.{Reads, upward}, Splits.{Under, SplitIs, IsSplit, is_split}}
 use Rattle.redcode_text.proofs.Reading as reads
-use Rattle.redcode_text.proofs.Splits.{Under, SplitIs, IsSplit, is_split}
 
 -- an expression of a rank is one of each looser rank
 looser_reads : (r k d : ℕ) (ps : List Part) (v : Value) → r ≤ k → Reads r d ps v → Reads k d ps v
@@ -25,12 +20,12 @@ Under-all (Some s) = omega (arith, (rank_range s.operator).1)
 some_is : {A : Type 0} (a b : A) → Some a ≡ Some b → a ≡ b
 some_is a b e = cc
 
-onto_is : (part : Part) (ps inside : List Part) (x : Option (List Part)) → onto part x ≡ Some inside → ((xs : List Part) → x ≡ Some xs → ps ≡ xs ++ parts.Close ∷ []) → part ∷ ps ≡ inside ++ parts.Close ∷ []
+onto_is : (part : Part) (ps inside : List Part) (x : Option (List Part)) → onto part x ≡ Some inside → ((xs : List Part) → x ≡ Some xs → ps ≡ xs ++ Part.Close ∷ []) → part ∷ ps ≡ inside ++ Part.Close ∷ []
 onto_is part ps inside None e h = absurd cc
 onto_is part ps inside (Some xs) e h = rw (← some_is (part ∷ xs) inside e, h xs refl) refl
 
-pub closed_is : (ps inside : List Part) → closed ps ≡ Some inside → ps ≡ inside ++ parts.Close ∷ []
-closed_is (parts.Close ∷ []) inside e = rw (← some_is [] inside e) refl
+pub closed_is : (ps inside : List Part) → closed ps ≡ Some inside → ps ≡ inside ++ Part.Close ∷ []
+closed_is (Part.Close ∷ []) inside e = rw (← some_is [] inside e) refl
 closed_is (part ∷ next ∷ others) inside e = onto_is part (next ∷ others) inside (closed (next ∷ others)) e (λ xs h. closed_is (next ∷ others) xs h)
 closed_is _ inside e = absurd cc
 
@@ -48,25 +43,25 @@ reads_before : (f : Value → Value) (d : ℕ) (ps : List Part) (v : Value) (x :
 reads_before f d ps v None reads e = absurd cc
 reads_before f d ps v (Some w) reads e = rw (← some_is (f w) v e) (reads w refl)
 
-reads_sign : (n : ℕ) → AllRead n → (d : ℕ) (o : Operator) (ps : List Part) (v : Value) → Under 1 (split_from false zero ps) → signed o (value_within n d ps) ≡ Some v → Reads zero (suc d) (parts.Operator o ∷ ps) v
-reads_sign n all d operators.Plus ps v under e = reads.plus (all d ps v zero e under)
-reads_sign n all d operators.Minus ps v under e =
-    reads_before negated (suc d) (parts.Operator operators.Minus ∷ ps) v (value_within n d ps) (λ w is. reads.minus (all d ps w zero is under)) e
+reads_sign : (n : ℕ) → AllRead n → (d : ℕ) (o : Operator) (ps : List Part) (v : Value) → Under 1 (split_from false zero ps) → signed o (value_within n d ps) ≡ Some v → Reads zero (suc d) (Part.Operator o ∷ ps) v
+reads_sign n all d Operator.Plus ps v under e = reads.plus (all d ps v zero e under)
+reads_sign n all d Operator.Minus ps v under e =
+    reads_before negated (suc d) (Part.Operator Operator.Minus ∷ ps) v (value_within n d ps) (λ w is. reads.minus (all d ps w zero is under)) e
 reads_sign n all d _ ps v under e = absurd cc
 
-reads_inside : (n : ℕ) → AllRead n → (d : ℕ) (ps : List Part) (v : Value) (x : Option (List Part)) → closed ps ≡ x → inside_of (value_within n d) x ≡ Some v → Reads zero (suc d) (parts.Open ∷ ps) v
+reads_inside : (n : ℕ) → AllRead n → (d : ℕ) (ps : List Part) (v : Value) (x : Option (List Part)) → closed ps ≡ x → inside_of (value_within n d) x ≡ Some v → Reads zero (suc d) (Part.Open ∷ ps) v
 reads_inside n all d ps v None is e = absurd cc
 reads_inside n all d ps v (Some inside) is e =
-    subst (λ (xs : List Part). Reads zero (suc d) (parts.Open ∷ xs) v) (sym (closed_is ps inside is)) (reads.parentheses (all d inside v 6 e (Under-all (split_from false zero inside))))
+    subst (λ (xs : List Part). Reads zero (suc d) (Part.Open ∷ xs) v) (sym (closed_is ps inside is)) (reads.parentheses (all d inside v 6 e (Under-all (split_from false zero inside))))
 
 reads_whole : (n : ℕ) → AllRead n → (d : ℕ) (ps : List Part) (v : Value) → split_from false zero ps ≡ None → whole (value_within n) d ps ≡ Some v → Reads zero d ps v
-reads_whole n all zero (parts.Operand w ∷ []) v none e = rw (some_is w v e) reads.operand
-reads_whole n all (suc d) (parts.Operand w ∷ []) v none e = rw (some_is w v e) reads.operand
-reads_whole n all (suc d) (parts.Not ∷ ps) v none e =
-    let under = none_under parts.Not (split_from false zero ps) none in
-    reads_before denied (suc d) (parts.Not ∷ ps) v (value_within n d ps) (λ w is. reads.negation (all d ps w zero is under)) e
-reads_whole n all (suc d) (parts.Operator o ∷ ps) v none e = reads_sign n all d o ps v (none_under (parts.Operator o) (split_from false zero ps) none) e
-reads_whole n all (suc d) (parts.Open ∷ ps) v none e = reads_inside n all d ps v (closed ps) refl e
+reads_whole n all zero (Part.Operand w ∷ []) v none e = rw (some_is w v e) reads.operand
+reads_whole n all (suc d) (Part.Operand w ∷ []) v none e = rw (some_is w v e) reads.operand
+reads_whole n all (suc d) (Part.Not ∷ ps) v none e =
+    let under = none_under Part.Not (split_from false zero ps) none in
+    reads_before denied (suc d) (Part.Not ∷ ps) v (value_within n d ps) (λ w is. reads.negation (all d ps w zero is under)) e
+reads_whole n all (suc d) (Part.Operator o ∷ ps) v none e = reads_sign n all d o ps v (none_under (Part.Operator o) (split_from false zero ps) none) e
+reads_whole n all (suc d) (Part.Open ∷ ps) v none e = reads_inside n all d ps v (closed ps) refl e
 reads_whole n all _ _ v none e = absurd cc
 
 reads_joined : (n : ℕ) → AllRead n → (d r : ℕ) (ps : List Part) (v : Value) (s : Split) (left right : Option Value) → rank_of s.operator ≡ suc r → SplitIs false zero ps s

@@ -1,27 +1,20 @@
 -- What the kind of a text says of its bytes.
-use Rattle.std.proofs.Common.{◌≡◌, ℕ, true, false, List, [], ◌∷◌, refl, sym, arith}
-use Rattle.std.specs.Prelude.{◌==◌, if◌then◌else◌}
-use Rattle.std.specs.List.{list_all}
-use Rattle.std.proofs.lemmas.Bool.Decides.{nat_tests}
-use Rattle.war_types.specs.Title.{is_blank}
-use Rattle.redcode_text.specs.Bytes.{is_digit, is_letter, is_name_byte, is_symbol, are_symbol}
-use Rattle.redcode_text.specs.declared.token.TokenKind.{TokenKind}
-use Rattle.redcode_text.specs.declared.token.TokenKind.TheVariants as kinds
-use Rattle.redcode_text.specs.Tokens.{is_of_kind}
+use Rattle.{std.proofs.Common.{◌≡◌, ℕ, true, false, List, [], ◌∷◌, refl, sym, arith}, std.specs.{Prelude.{◌==◌, if◌then◌else◌}, List.list_all}, std.proofs.lemmas.Bool.Decides.nat_tests}
+use Rattle.{war_types.specs.Title.is_blank, redcode_text.specs.{Bytes.{is_digit, is_letter, is_name_byte, is_symbol, are_symbol}, declared.token.TokenKind.TokenKind, Tokens.is_of_kind}}
 
 -- a text of a kind begins with no blank
 pub not_blank : (kind : TokenKind) (b : ℕ) (bs : List ℕ) → is_of_kind kind (b ∷ bs) ≡ true → is_blank b ≡ false
 not_blank kind b bs h = grind (arith, nat_tests)
 
 -- a text has one kind
-kind_once : (k l : TokenKind) (b : ℕ) (bs : List ℕ) → (k ≡ kinds.Symbol → ⊥) → is_of_kind k (b ∷ bs) ≡ true → is_of_kind l (b ∷ bs) ≡ true → k ≡ l
-kind_once kinds.Symbol l b bs other p q = absurd (other refl)
+kind_once : (k l : TokenKind) (b : ℕ) (bs : List ℕ) → (k ≡ TokenKind.Symbol → ⊥) → is_of_kind k (b ∷ bs) ≡ true → is_of_kind l (b ∷ bs) ≡ true → k ≡ l
+kind_once TokenKind.Symbol l b bs other p q = absurd (other refl)
 kind_once k l b bs other p q = grind (arith, nat_tests)
 
 pub same_kind : (k l : TokenKind) (text : List ℕ) → is_of_kind k text ≡ true → is_of_kind l text ≡ true → k ≡ l
 same_kind k l [] p q = absurd cc
-same_kind kinds.Symbol kinds.Symbol (b ∷ bs) p q = refl
-same_kind kinds.Symbol l (b ∷ bs) p q = sym (kind_once l kinds.Symbol b bs (λ e. cc) q p)
+same_kind TokenKind.Symbol TokenKind.Symbol (b ∷ bs) p q = refl
+same_kind TokenKind.Symbol l (b ∷ bs) p q = sym (kind_once l TokenKind.Symbol b bs (λ e. cc) q p)
 same_kind k l (b ∷ bs) p q = kind_once k l b bs (λ e. cc) p q
 
 -- a name goes on with no byte that no name has, nor a number with one that is no digit
@@ -39,5 +32,5 @@ pub three_bytes : (kind : TokenKind) (b c d : ℕ) (more : List ℕ) → is_lett
 three_bytes kind b c d more letter digit semicolon = grind (arith, nat_tests)
 
 -- one byte that begins no longer symbol
-pub kind_of_byte : (b : ℕ) → is_blank b ≡ false → is_letter b ≡ false → is_digit b ≡ false → (b == 59) ≡ false → is_of_kind (if is_symbol b then kinds.Symbol else kinds.Bad) (b ∷ []) ≡ true
+pub kind_of_byte : (b : ℕ) → is_blank b ≡ false → is_letter b ≡ false → is_digit b ≡ false → (b == 59) ≡ false → is_of_kind (if is_symbol b then TokenKind.Symbol else TokenKind.Bad) (b ∷ []) ≡ true
 kind_of_byte b blank letter digit semicolon = grind (arith, nat_tests)

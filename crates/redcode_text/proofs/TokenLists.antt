@@ -1,12 +1,7 @@
 -- The tokens of a line are one list.
-use Rattle.std.proofs.Common.{◌≡◌, ℕ, ◌+◌, Bool, true, false, List, [], ◌∷◌, ◌++◌, length, refl, sym, ap, ◌∙◌, arith}
-use Rattle.std.specs.List.{list_all}
-use Rattle.std.proofs.lemmas.Bool.{true≢false}
-use Rattle.std.proofs.lemmas.Grind.{common_steps}
-use Rattle.war_types.specs.Title.{is_blank}
-use Rattle.redcode_text.specs.declared.token.TokenKind.{TokenKind}
-use Rattle.redcode_text.specs.Tokens.{ScannedPiece, IsFirst, AreTokensFrom, is_of_kind}
-use Rattle.redcode_text.proofs.TextKinds.{not_blank, same_kind}
+use Rattle.{std.proofs.Common.{◌≡◌, ℕ, ◌+◌, Bool, true, false, List, [], ◌∷◌, ◌++◌, length, refl, sym, ap, ◌∙◌, arith}, std.specs.List.list_all}
+use Rattle.{std.proofs.{lemmas.Bool.true≢false, lemmas.Grind.common_steps}, war_types.specs.Title.is_blank}
+use Rattle.{redcode_text.specs.{declared.token.TokenKind.TokenKind, Tokens.{ScannedPiece, IsFirst, AreTokensFrom, is_of_kind}}, redcode_text.proofs.TextKinds.{not_blank, same_kind}}
 
 -- if two texts with something after them are one line, they are equal, or one goes on in what is after the other
 data Fronts (xs us ys vs : List ℕ) : Type 0 where

@@ -1,11 +1,6 @@
 -- For `word_of`: a text of another length than three is no reserved word.
-use Rattle.std.proofs.Common.{◌≡◌, ℕ, false, List, [], ◌∷◌, length, map, None, refl, sym, ap, ◌∙◌}
-use Rattle.std.proofs.lemmas.Bool.{false_from_ne_true}
-use Rattle.std.proofs.lemmas.List.{length-map}
-use Rattle.std.specs.Cmp.Lexicographic.{bytes_decides}
-use Rattle.std.specs.Char.{to_ascii_lowercase}
-use Rattle.std.specs.List.{AllByRecursion}
-use Rattle.redcode_text.specs.Vocabulary.{is_word, named, reserved_words, word_of}
+use Rattle.std.proofs.{Common.{◌≡◌, ℕ, false, List, [], ◌∷◌, length, map, None, refl, sym, ap, ◌∙◌}, lemmas.Bool.false_from_ne_true, lemmas.List.length-map}
+use Rattle.{std.specs.{Cmp.Lexicographic.bytes_decides, Char.to_ascii_lowercase, List.AllByRecursion}, redcode_text.specs.Vocabulary.{is_word, named, reserved_words, word_of}}
 
 -- an entry whose word has n letters
 abbrev Has : {X : Type 0} → ℕ → List ℕ × X → Type 0

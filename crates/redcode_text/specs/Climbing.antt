@@ -1,15 +1,7 @@
 -- How an expression is read from the left: an operand, then each operator of the rank with a right side of tighter ranks.
-use Rattle.std.specs.Prelude.{◌≡◌, ℕ, zero, suc, Bool, true, false, ◌==◌, if◌then◌else◌, List, [], ◌∷◌, map, Option, Some, None, ℤ}
-use Rattle.std.specs.Option.{option_map}
-use Rattle.std.specs.Borrow.{Bor}
-use Rattle.redcode_text.specs.declared.operator.Operator.{Operator}
-use Rattle.redcode_text.specs.declared.operator.Operator.TheVariants as operators
-use Rattle.redcode_text.specs.declared.expression.Part.{Part}
-use Rattle.redcode_text.specs.declared.expression.Part.TheVariants as parts
-use Rattle.redcode_text.specs.declared.token.Token.{Token}
-use Rattle.redcode_text.specs.Tokens.{pieces}
-use Rattle.redcode_text.specs.Operators.{Value, rank_of, applied, negated, denied}
-use Rattle.redcode_text.specs.Value.{part_of}
+use Rattle.std.specs.{Prelude.{◌≡◌, ℕ, zero, suc, Bool, true, false, ◌==◌, if◌then◌else◌, List, [], ◌∷◌, map, Option, Some, None, ℤ}, Option.option_map, Borrow.Bor}
+use Rattle.redcode_text.specs.{declared.operator.Operator.Operator, declared.expression.Part.Part, declared.token.Token.Token, Tokens.pieces}
+use Rattle.redcode_text.specs.{Operators.{Value, rank_of, applied, negated, denied}, Value.part_of}
 
 abbrev pub parts_of : (List ℕ → Option ℤ) → List Token → List Part
 parts_of names tokens = map (part_of names) (pieces tokens)
@@ -30,11 +22,11 @@ first_of (part ∷ others) = Some (part, others)
 
 -- the operator of this rank at the front, and what is after it
 abbrev pub next_at : ℕ → List Part → Option (Operator × List Part)
-next_at rank (parts.Operator operator ∷ others) = if rank_of operator == rank then Some (operator, others) else None
+next_at rank (Part.Operator operator ∷ others) = if rank_of operator == rank then Some (operator, others) else None
 next_at rank _ = None
 
 abbrev pub behind_close : List Part → Option (List Part)
-behind_close (parts.Close ∷ others) = Some others
+behind_close (Part.Close ∷ others) = Some others
 behind_close _ = None
 
 -- a value with an operator before it
@@ -44,8 +36,8 @@ under f (Some (v, rest)) = Some (f v, rest)
 
 -- a value with a sign before it
 abbrev pub signed_found : Operator → Found → Found
-signed_found operators.Plus out = out
-signed_found operators.Minus out = under negated out
+signed_found Operator.Plus out = out
+signed_found Operator.Minus out = under negated out
 signed_found _ out = None
 
 -- a value with parentheses around it
@@ -60,10 +52,10 @@ enclosed (Some (v, rest)) = with_close v (behind_close rest)
 -- no operand begins with these parts if at most `depth` parentheses and unary operators may still stand around it
 abbrev pub is_refused : ℕ → List Part → Bool
 is_refused depth [] = true
-is_refused depth (parts.Operand v ∷ others) = false
+is_refused depth (Part.Operand v ∷ others) = false
 is_refused zero (part ∷ others) = true
-is_refused (suc depth) (parts.Close ∷ others) = true
-is_refused (suc depth) (parts.Other ∷ others) = true
+is_refused (suc depth) (Part.Close ∷ others) = true
+is_refused (suc depth) (Part.Other ∷ others) = true
 is_refused (suc depth) (part ∷ others) = false
 
 -- at the beginning of parts, or after a value in front of parts
@@ -73,10 +65,10 @@ pub data Start : Type 0 where
 
 pub data Climbs : ℕ → ℕ → Start → Found → Type 0 where
   refused : {d : ℕ} {ps : List Part} → is_refused d ps ≡ true → Climbs zero d (Begin ps) None
-  operand : {d : ℕ} {v : Value} {ps : List Part} → Climbs zero d (Begin (parts.Operand v ∷ ps)) (Some (v, ps))
-  negation : {d : ℕ} {ps : List Part} {out : Found} → Climbs zero d (Begin ps) out → Climbs zero (suc d) (Begin (parts.Not ∷ ps)) (under denied out)
-  sign : {d : ℕ} {ps : List Part} {out : Found} (o : Operator) → Climbs zero d (Begin ps) out → Climbs zero (suc d) (Begin (parts.Operator o ∷ ps)) (signed_found o out)
-  parentheses : {d : ℕ} {ps : List Part} {out : Found} → Climbs 6 d (Begin ps) out → Climbs zero (suc d) (Begin (parts.Open ∷ ps)) (enclosed out)
+  operand : {d : ℕ} {v : Value} {ps : List Part} → Climbs zero d (Begin (Part.Operand v ∷ ps)) (Some (v, ps))
+  negation : {d : ℕ} {ps : List Part} {out : Found} → Climbs zero d (Begin ps) out → Climbs zero (suc d) (Begin (Part.Not ∷ ps)) (under denied out)
+  sign : {d : ℕ} {ps : List Part} {out : Found} (o : Operator) → Climbs zero d (Begin ps) out → Climbs zero (suc d) (Begin (Part.Operator o ∷ ps)) (signed_found o out)
+  parentheses : {d : ℕ} {ps : List Part} {out : Found} → Climbs 6 d (Begin ps) out → Climbs zero (suc d) (Begin (Part.Open ∷ ps)) (enclosed out)
   unbegun : {r d : ℕ} {ps : List Part} → Climbs r d (Begin ps) None → Climbs (suc r) d (Begin ps) None
   begun : {r d : ℕ} {ps rest : List Part} {v : Value} {out : Found} → Climbs r d (Begin ps) (Some (v, rest)) → Climbs (suc r) d (Continue v rest) out → Climbs (suc r) d (Begin ps) out
   over : {r d : ℕ} {ps : List Part} {v : Value} → next_at (suc r) ps ≡ None → Climbs (suc r) d (Continue v ps) (Some (v, ps))

@@ -1,11 +1,6 @@
 -- The tokens of a line: at each place that is no blank, the longest one.
-use Rattle.std.specs.Prelude.{◌≡◌, ℕ, zero, suc, ◌+◌, ◌-◌, Bool, true, false, not, ◌||◌, ◌&&◌, ◌==◌, if◌then◌else◌, List, [], ◌∷◌, ◌++◌, length, map, take}
-use Rattle.std.specs.List.{take_while, list_all}
-use Rattle.war_types.specs.Title.{is_blank}
-use Rattle.redcode_text.specs.Bytes.{is_digit, is_letter, is_name_byte, is_symbol, are_symbol}
-use Rattle.redcode_text.specs.declared.token.Token.{Token}
-use Rattle.redcode_text.specs.declared.token.TokenKind.{TokenKind}
-use Rattle.redcode_text.specs.declared.token.TokenKind.TheVariants as kinds
+use Rattle.std.specs.{Prelude.{◌≡◌, ℕ, zero, suc, ◌+◌, ◌-◌, Bool, true, false, not, ◌||◌, ◌&&◌, ◌==◌, if◌then◌else◌, List, [], ◌∷◌, ◌++◌, length, map, take}, List.{take_while, list_all}}
+use Rattle.{war_types.specs.Title.is_blank, redcode_text.specs.{Bytes.{is_digit, is_letter, is_name_byte, is_symbol, are_symbol}, declared.token.Token.Token, declared.token.TokenKind.TokenKind}}
 
 -- a token without its places in memory and in its line
 pub record Piece : Type 0 where
@@ -52,11 +47,11 @@ is_bad_text b (c ∷ cs) = false
 -- the texts of each kind
 abbrev pub is_of_kind : TokenKind → List ℕ → Bool
 is_of_kind kind [] = false
-is_of_kind kinds.Name (b ∷ bs) = is_letter b && list_all is_name_byte bs
-is_of_kind kinds.Number (b ∷ bs) = is_digit b && list_all is_digit bs
-is_of_kind kinds.Symbol (b ∷ bs) = is_symbol_text b bs
-is_of_kind kinds.Comment (b ∷ bs) = b == 59
-is_of_kind kinds.Bad (b ∷ bs) = is_bad_text b bs
+is_of_kind TokenKind.Name (b ∷ bs) = is_letter b && list_all is_name_byte bs
+is_of_kind TokenKind.Number (b ∷ bs) = is_digit b && list_all is_digit bs
+is_of_kind TokenKind.Symbol (b ∷ bs) = is_symbol_text b bs
+is_of_kind TokenKind.Comment (b ∷ bs) = b == 59
+is_of_kind TokenKind.Bad (b ∷ bs) = is_bad_text b bs
 
 -- the piece is the first token of a line that begins at a place, and what is after it
 pub record IsFirst (place : ℕ) (line : List ℕ) (piece : ScannedPiece) (behind : List ℕ) : Type 0 where
@@ -84,10 +79,10 @@ begins_symbol b (c ∷ cs) = are_symbol b c
 -- the kind of the longest token at b ∷ bs
 abbrev pub kind_at : ℕ → List ℕ → TokenKind
 kind_at b bs =
-    if is_letter b then kinds.Name else (
-    if is_digit b then kinds.Number else (
-    if b == 59 then kinds.Comment else (
-    if begins_symbol b bs || is_symbol b then kinds.Symbol else kinds.Bad)))
+    if is_letter b then TokenKind.Name else (
+    if is_digit b then TokenKind.Number else (
+    if b == 59 then TokenKind.Comment else (
+    if begins_symbol b bs || is_symbol b then TokenKind.Symbol else TokenKind.Bad)))
 
 -- how many bytes of bs belong to the longest token at b ∷ bs
 abbrev pub rest_of_token : ℕ → List ℕ → ℕ

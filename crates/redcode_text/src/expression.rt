@@ -1,10 +1,7 @@
 //! Expressions: C's operators and precedence on 64-bit signed numbers.
 
-ghost use Rattle.std.specs.Prelude.{◌≡◌, ◌≤◌, ◌<◌, ℕ, List, length, Option, IfSome, ℤ};
-ghost use Rattle.std.specs.Option.{option_map};
-ghost use Rattle.redcode_text.specs.Operators.{denied};
-ghost use Rattle.redcode_text.specs.Tokens.{piece_of, pieces};
-ghost use Rattle.redcode_text.specs.Value.{symbols, listed, known, number_value, part_of, value_of};
+ghost use Rattle.std.specs.{Prelude.{◌≡◌, ◌≤◌, ◌<◌, ℕ, List, length, Option, IfSome, ℤ}, Option.option_map};
+ghost use Rattle.redcode_text.specs.{Operators.denied, Tokens.{piece_of, pieces}, Value.{symbols, listed, known, number_value, part_of, value_of}};
 ghost use Rattle.redcode_text.specs.Climbing.{Climbs, Begin, parts_of, found, next, next_at, under, signed_found, enclosed};
 
 use crate::names::Names;

@@ -1,7 +1,6 @@
 //! The scanner: from a line to its tokens.
 
-ghost use Rattle.std.specs.Prelude.{◌≡◌, ◌-◌, ◌<◌, ◌≤◌, List, ◌∷◌, [], length, IfOk, MatchOption};
-ghost use Rattle.std.specs.List.{prefix_len};
+ghost use Rattle.std.specs.{Prelude.{◌≡◌, ◌-◌, ◌<◌, ◌≤◌, List, ◌∷◌, [], length, IfOk, MatchOption}, List.prefix_len};
 ghost use Rattle.redcode_text.specs.Bytes.{is_letter, goes_on};
 ghost use Rattle.redcode_text.specs.Tokens.{ScannedPiece, IsTokensOf, pieces, pieces_of, scanned_piece_of, scanned_pieces, tokens_after, tokens_of, begins_symbol, kind_at, rest_of_token};
 

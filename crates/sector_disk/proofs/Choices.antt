@@ -1,11 +1,7 @@
 -- Each image of a device in memory is named by some numbers.
-use Rattle.std.proofs.Common.{◌≡◌, ℕ, zero, suc, ◌<◌, ◌≤◌, inl, inr, List, [], ◌∷◌, length, map, get_or, sym, ap, ◌∙◌, arith, zero-add}
-use Rattle.std.specs.List.{range_with_len}
-use Rattle.std.proofs.lemmas.List.{get_or_past}
-use Rattle.std.proofs.lemmas.List.FromFn.{length-map-range_with_len, get_or-map-range_with_len}
-use Rattle.std.proofs.lemmas.Bool.{cases_lt}
-use Rattle.sector_disk.specs.Image.{MayHold, IsImage}
-use Rattle.sector_disk.specs.Memory.{MemoryState, nothing, memory_disk, memory_size, chosen, chosen_image, Names, EachImageIsChosen}
+use Rattle.{std.proofs.Common.{◌≡◌, ℕ, zero, suc, ◌<◌, ◌≤◌, inl, inr, List, [], ◌∷◌, length, map, get_or, sym, ap, ◌∙◌, arith, zero-add}, std.specs.List.range_with_len}
+use Rattle.std.proofs.{lemmas.List.get_or_past, lemmas.List.FromFn.{length-map-range_with_len, get_or-map-range_with_len}, lemmas.Bool.cases_lt}
+use Rattle.sector_disk.specs.{Image.{MayHold, IsImage}, Memory.{MemoryState, nothing, memory_disk, memory_size, chosen, chosen_image, Names, EachImageIsChosen}}
 
 -- a number that names this content
 pub record Number (stable : List ℕ) (contents : List (List ℕ)) (content : List ℕ) : Type 0 where

@@ -1,7 +1,5 @@
 -- One sector: what it may hold after a stop, and the last of its contents.
-use Rattle.std.proofs.Common.{◌≡◌, ℕ, zero, suc, ◌⊎◌, inl, inr, List, [], ◌∷◌, ◌++◌, take, refl}
-use Rattle.sector_disk.specs.Disk.{last_of}
-use Rattle.sector_disk.specs.Image.{MayHold}
+use Rattle.{std.proofs.Common.{◌≡◌, ℕ, zero, suc, ◌⊎◌, inl, inr, List, [], ◌∷◌, ◌++◌, take, refl}, sector_disk.specs.{Disk.last_of, Image.MayHold}}
 
 -- the last content written is the last
 pub last_of-append : (stable : List ℕ) (contents : List (List ℕ)) (content : List ℕ) → last_of stable (contents ++ content ∷ []) ≡ content

@@ -1,11 +1,8 @@
 -- What is known of every image, through reads, writes and syncs: the images after a write are the images before it and those with the
 -- content put in, and after a sync there is one.
 use Rattle.std.proofs.Common.{◌≡◌, ℕ, ◌⊎◌, inl, inr, List, [], ◌∷◌, ◌++◌, refl, sym, subst, ap, ◌∙◌, ◌≢◌}
-use Rattle.sector_disk.specs.Disk.{Disk, last_of, current, wrote, synced, IsSettled}
-use Rattle.sector_disk.specs.Image.{MayHold, IsImage, Images, put, started}
-use Rattle.sector_disk.specs.Laws.{HasPut, LawsOfImages}
-use Rattle.sector_disk.proofs.Places.{at_same, at_other, by_place}
-use Rattle.sector_disk.proofs.Contents.{last_of-append, may_hold_last, may_hold_more, may_hold_written, may_hold_no_other}
+use Rattle.sector_disk.specs.{Disk.{Disk, last_of, current, wrote, synced, IsSettled}, Image.{MayHold, IsImage, Images, put, started}, Laws.{HasPut, LawsOfImages}}
+use Rattle.sector_disk.proofs.{Places.{at_same, at_other, by_place}, Contents.{last_of-append, may_hold_last, may_hold_more, may_hold_written, may_hold_no_other}}
 
 pub same_images : (image other : ℕ → List ℕ) → ((n : ℕ) → image n ≡ other n) → image ≡ other
 same_images image other same = λ i. λ n. same n i

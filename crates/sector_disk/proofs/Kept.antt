@@ -1,7 +1,5 @@
 -- What holds of each run of calls of a device, for every function that makes some.
-use Rattle.std.proofs.Common.{Result, le_refl, le_trans, refl, ◌∙◌}
-use Rattle.sector_disk.specs.Facts.{DeviceFacts}
-use Rattle.sector_disk.specs.Served.{IsKept, IsServed}
+use Rattle.{std.proofs.Common.{Result, le_refl, le_trans, refl, ◌∙◌}, sector_disk.specs.{Facts.DeviceFacts, Served.{IsKept, IsServed}}}
 
 module _ {D : Type 0} (facts : DeviceFacts D) where
   -- of none

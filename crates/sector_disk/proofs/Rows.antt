@@ -1,12 +1,6 @@
 -- The definitions computed on a device of two sectors, with what they have to give. A content is one byte here.
-use Rattle.std.proofs.Common.{◌≡◌, ℕ, List, [], ◌∷◌, ◌⊎◌, refl, Some, Ok, Err}
-use Rattle.sector_disk.specs.declared.fuse.FuseKind.TheVariants as kinds
-use Rattle.sector_disk.specs.declared.fuse.Fate.TheVariants as fates
-use Rattle.sector_disk.specs.Disk.{Disk, current, wrote, synced}
-use Rattle.sector_disk.specs.Image.{MayHold}
-use Rattle.sector_disk.specs.Changes.{after, Changes}
-use Rattle.sector_disk.specs.Memory.{sector_of, disk_of, set_at, chosen_image, stopped_at}
-use Rattle.sector_disk.specs.Fuse.{fate_at, left_after}
+use Rattle.{std.proofs.Common.{◌≡◌, ℕ, List, [], ◌∷◌, ◌⊎◌, refl, Some, Ok, Err}, sector_disk.specs.{Disk.{Disk, current, wrote, synced}, Image.MayHold, Changes.{after, Changes}}}
+use Rattle.sector_disk.specs.{Memory.{sector_of, disk_of, set_at, chosen_image, stopped_at}, Fuse.{fate_at, left_after}, declared.fuse.FuseKind.FuseKind, declared.fuse.Fate.Fate}
 
 abbrev byte : ℕ → List ℕ
 byte b = b ∷ []
@@ -89,28 +83,28 @@ done_run : (new : Disk) → Changes {T = ℕ} {E = ℕ} (wrote 0 (byte 9) ∷ sy
 done_run new = refl
 
 -- with calls left, a call passes and leaves one less
-fuse_passes : fate_at kinds.Stop (Some 2) ≡ fates.Passes
+fuse_passes : fate_at FuseKind.Stop (Some 2) ≡ Fate.Passes
 fuse_passes = refl
 
-fuse_counts : left_after kinds.Stop (Some 2) ≡ Some 1
+fuse_counts : left_after FuseKind.Stop (Some 2) ≡ Some 1
 fuse_counts = refl
 
 -- with none left, `Stop` loses this call and each later one
-stop_loses : fate_at kinds.Stop (Some 0) ≡ fates.Lost
+stop_loses : fate_at FuseKind.Stop (Some 0) ≡ Fate.Lost
 stop_loses = refl
 
-stop_stays : left_after kinds.Stop (Some 0) ≡ Some 0
+stop_stays : left_after FuseKind.Stop (Some 0) ≡ Some 0
 stop_stays = refl
 
 -- the others fail once
-lost_once : fate_at kinds.FailLost (Some 0) ≡ fates.Lost
+lost_once : fate_at FuseKind.FailLost (Some 0) ≡ Fate.Lost
 lost_once = refl
 
-kept_once : fate_at kinds.FailKept (Some 0) ≡ fates.Kept
+kept_once : fate_at FuseKind.FailKept (Some 0) ≡ Fate.Kept
 kept_once = refl
 
-passes_again : fate_at kinds.FailLost (left_after kinds.FailLost (Some 0)) ≡ fates.Passes
+passes_again : fate_at FuseKind.FailLost (left_after FuseKind.FailLost (Some 0)) ≡ Fate.Passes
 passes_again = refl
 
-passes_after_kept : fate_at kinds.FailKept (left_after kinds.FailKept (Some 0)) ≡ fates.Passes
+passes_after_kept : fate_at FuseKind.FailKept (left_after FuseKind.FailKept (Some 0)) ≡ Fate.Passes
 passes_after_kept = refl

@@ -1,7 +1,5 @@
 -- Runs of changes, one after another.
-use Rattle.std.proofs.Common.{◌≡◌, inl, inr, List, [], ◌∷◌, ◌++◌, refl, Result, Ok, Err, subst, sym, ap, ◌∙◌}
-use Rattle.sector_disk.specs.Disk.{Disk}
-use Rattle.sector_disk.specs.Changes.{after, Begun, Changes}
+use Rattle.{std.proofs.Common.{◌≡◌, inl, inr, List, [], ◌∷◌, ◌++◌, refl, Result, Ok, Err, subst, sym, ap, ◌∙◌}, sector_disk.specs.{Disk.Disk, Changes.{after, Begun, Changes}}}
 
 pub after-append : (front back : List (Disk → Disk)) (disk : Disk) → after (front ++ back) disk ≡ after back (after front disk)
 after-append [] back disk = refl

@@ -1,17 +1,9 @@
 -- The sectors of the device in memory: what a loop over them leaves is what the disk says.
-use Rattle.std.proofs.Common.{◌≡◌, ℕ, ◌+◌, ◌-◌, ◌<◌, ◌≤◌, List, [], ◌∷◌, ◌++◌, length, take, drop, map, set, replicate, get_or, subst, refl, sym, ap, ◌∙◌, inl, inr, arith, Option, None, Some, Bor}
-use Rattle.std.specs.Option.{unwrap_or, option_copied}
-use Rattle.std.specs.List.{slice_get}
-use Rattle.std.proofs.lemmas.Bool.{cases_lt}
+use Rattle.std.proofs.Common.{◌≡◌, ℕ, ◌+◌, ◌-◌, ◌<◌, ◌≤◌, List, [], ◌∷◌, ◌++◌, length, take, drop, map, set, replicate, get_or, subst, refl, sym, ap, ◌∙◌, inl, inr, arith, Option, None}
+use Rattle.{std.proofs.Common.{Some, Bor}, std.specs.{Option.{unwrap_or, option_copied}, List.slice_get}, std.proofs.lemmas.Bool.cases_lt}
 use Rattle.std.proofs.lemmas.List.{get_or_past, get_or_push, get_or_append_left, length_push, replicate_more, take_all, drop_all, take-append-le, append-nil, length-map}
-use Rattle.std.proofs.lemmas.List.Edits.{map_over_more}
-use Rattle.std.proofs.Math.ListN.{get_or-map}
-use Rattle.std.proofs.Math.Seq.{take-nil}
-use Rattle.sector_disk.specs.Disk.{Disk, last_of, synced}
-use Rattle.sector_disk.specs.Image.{IsImage}
-use Rattle.sector_disk.specs.Memory.{SectorState, sector_of, nothing, disk_of, chosen, chosen_image, stopped_at}
-use Rattle.sector_disk.proofs.Images.{same_disks}
-use Rattle.sector_disk.proofs.Contents.{may_hold_chosen}
+use Rattle.{std.proofs.{lemmas.List.Edits.map_over_more, Math.ListN.get_or-map, Math.Seq.take-nil}, sector_disk.specs.{Disk.{Disk, last_of, synced}, Image.IsImage}}
+use Rattle.{sector_disk.specs.Memory.{SectorState, sector_of, nothing, disk_of, chosen, chosen_image, stopped_at}, sector_disk.proofs.{Images.same_disks, Contents.may_hold_chosen}}
 
 pub now_or : {X : Type 0} (found : Option (Bor X)) (default : Bor X) → (unwrap_or found default).now ≡ unwrap_or (option_copied found) default.now
 now_or None default = refl

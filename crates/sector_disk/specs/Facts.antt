@@ -1,6 +1,5 @@
 -- What contracts say of a device.
-use Rattle.std.specs.Prelude.{ℕ}
-use Rattle.sector_disk.specs.Disk.{Disk}
+use Rattle.{std.specs.Prelude.ℕ, sector_disk.specs.Disk.Disk}
 
 -- Of each device of a type: the number of its sectors, whether it keeps the laws of contents, what its sectors hold, and the number of
 -- faults that it has counted.

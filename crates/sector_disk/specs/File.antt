@@ -1,8 +1,5 @@
 -- The device over a file. No contract can say what a file holds, so none of its laws of contents is claimed.
-use Rattle.std.specs.Prelude.{ℕ, [], Result}
-use Rattle.sector_disk.specs.Disk.{Disk}
-use Rattle.sector_disk.specs.Facts.{DeviceFacts}
-use Rattle.sector_disk.specs.Served.{IsServed}
+use Rattle.{std.specs.Prelude.{ℕ, [], Result}, sector_disk.specs.{Disk.Disk, Facts.DeviceFacts, Served.IsServed}}
 
 -- a device over a file, without the file
 pub record FileState : Type 0 where

@@ -1,30 +1,22 @@
 -- What becomes of the calls of a device with a fuse.
 use Rattle.std.specs.Prelude.{◌≡◌, ℕ, ◌+◌, ◌-◌, ◌^◌, min, ◌==◌, if◌then◌else◌, List, Option, None, Some, Result, IsErr, OnOk}
-use Rattle.sector_disk.specs.declared.fuse.FuseKind.{FuseKind}
-use Rattle.sector_disk.specs.declared.fuse.FuseKind.TheVariants as kinds
-use Rattle.sector_disk.specs.declared.fuse.Fate.{Fate}
-use Rattle.sector_disk.specs.declared.fuse.Fate.TheVariants as fates
-use Rattle.sector_disk.specs.declared.fuse.Fuse.{Fuse}
-use Rattle.sector_disk.specs.declared.fuse_device.FuseDevice.{FuseDevice}
-use Rattle.sector_disk.specs.Disk.{Disk, current}
-use Rattle.sector_disk.specs.Changes.{Changes}
-use Rattle.sector_disk.specs.Facts.{DeviceFacts}
-use Rattle.sector_disk.specs.Served.{IsServed}
+use Rattle.sector_disk.specs.{declared.fuse.FuseKind.FuseKind, declared.fuse.Fate.Fate, declared.fuse.Fuse.Fuse, declared.fuse_device.FuseDevice.FuseDevice, Disk.{Disk, current}}
+use Rattle.sector_disk.specs.{Changes.Changes, Facts.DeviceFacts, Served.IsServed}
 
 -- the call at which a fuse burns
 abbrev pub burning : FuseKind → Fate
-burning kinds.Stop = fates.Lost
-burning kinds.FailLost = fates.Lost
-burning kinds.FailKept = fates.Kept
+burning FuseKind.Stop = Fate.Lost
+burning FuseKind.FailLost = Fate.Lost
+burning FuseKind.FailKept = Fate.Kept
 
 abbrev pub left_burning : FuseKind → Option ℕ
-left_burning kinds.Stop = Some 0
-left_burning kinds.FailLost = None
-left_burning kinds.FailKept = None
+left_burning FuseKind.Stop = Some 0
+left_burning FuseKind.FailLost = None
+left_burning FuseKind.FailKept = None
 
 abbrev pub fate_at : FuseKind → Option ℕ → Fate
-fate_at kind None = fates.Passes
-fate_at kind (Some left) = if left == 0 then burning kind else fates.Passes
+fate_at kind None = Fate.Passes
+fate_at kind (Some left) = if left == 0 then burning kind else Fate.Passes
 
 abbrev pub left_after : FuseKind → Option ℕ → Option ℕ
 left_after kind None = None
@@ -61,6 +53,6 @@ pub record IsRead {D T E : Type 0} (facts : DeviceFacts D) (n : ℕ) (content : 
 -- What a call made of the device within. A call that passes makes of it what such a call does at this answer, and one that is lost nothing.
 -- One that is kept makes of it what such a call does at an answer of its own, which an Err replaces.
 abbrev pub IsFused : {D T E : Type 0} → Fate → (Result T E → Type 0) → D → D → Result T E → Type 0
-IsFused fates.Passes call old new result = call result
-IsFused fates.Lost call old new result = IsErr result × (new ≡ old)
-IsFused {D} {T} {E} fates.Kept call old new result = IsErr result × ((answer : Result T E) × call answer)
+IsFused Fate.Passes call old new result = call result
+IsFused Fate.Lost call old new result = IsErr result × (new ≡ old)
+IsFused {D} {T} {E} Fate.Kept call old new result = IsErr result × ((answer : Result T E) × call answer)

@@ -1,7 +1,6 @@
 -- Laws of images, for every disk.
 use Rattle.std.specs.Prelude.{◌≡◌, ◌⊎◌, ℕ, List}
-use Rattle.sector_disk.specs.Disk.{Disk, current, wrote, synced, IsSettled}
-use Rattle.sector_disk.specs.Image.{IsImage, put, started}
+use Rattle.sector_disk.specs.{Disk.{Disk, current, wrote, synced, IsSettled}, Image.{IsImage, put, started}}
 
 -- the image has this content in this sector, and is in the others as some image of the disk
 abbrev pub HasPut : ℕ → List ℕ → Disk → (ℕ → List ℕ) → Type 0

@@ -1,9 +1,6 @@
 -- The device in memory.
 use Rattle.std.specs.Prelude.{◌≡◌, ℕ, ◌≤◌, List, [], length, take, replicate, slice_index, slice_index_or, slice_set, Result}
-use Rattle.sector_disk.specs.Facts.{DeviceFacts}
-use Rattle.sector_disk.specs.Served.{IsServed}
-use Rattle.sector_disk.specs.Disk.{Disk, last_of}
-use Rattle.sector_disk.specs.Image.{IsImage, started}
+use Rattle.sector_disk.specs.{Facts.DeviceFacts, Served.IsServed, Disk.{Disk, last_of}, Image.{IsImage, started}}
 
 -- a sector: its stable content, and the contents written since the last sync
 pub record SectorState : Type 0 where

@@ -1,10 +1,7 @@
 //! The trait of a sector device.
 
 ghost use Rattle.std.specs.Prelude.{◌≡◌, ◌<◌, [], ◌∷◌, OnOk};
-ghost use Rattle.sector_disk.specs.Disk.{current, wrote, synced};
-ghost use Rattle.sector_disk.specs.Facts.{DeviceFacts};
-ghost use Rattle.sector_disk.specs.Changes.{Changes};
-ghost use Rattle.sector_disk.specs.Served.{IsServed};
+ghost use Rattle.sector_disk.specs.{Disk.{current, wrote, synced}, Facts.DeviceFacts, Changes.Changes, Served.IsServed};
 
 use thiserror::Error;
 

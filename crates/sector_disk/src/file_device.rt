@@ -27,8 +27,7 @@ pub enum FileFault {
 }
 
 impl From<io::Error> for FileFault {
-    ghost use Rattle.std.specs.IoError.{error_kind};
-    ghost use Rattle.sector_disk.specs.FileFault.{fault_of};
+    ghost use Rattle.{std.specs.IoError.error_kind, sector_disk.specs.FileFault.fault_of};
 
     ghost from_gives = { λ error fault. fault ≡ fault_of (error_kind error) };
 

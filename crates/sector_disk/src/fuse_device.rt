@@ -1,10 +1,7 @@
 //! A device that fails after a number of calls.
 
 ghost use Rattle.std.specs.Prelude.{◌≡◌, ◌+◌, ◌-◌, ◌^◌, ◌<◌, min, [], ◌∷◌, OnOk, Some};
-ghost use Rattle.sector_disk.specs.Disk.{current, wrote, synced};
-ghost use Rattle.sector_disk.specs.Changes.{Changes};
-ghost use Rattle.sector_disk.specs.Served.{IsServed};
-ghost use Rattle.sector_disk.specs.Fuse.{fate_of, fuse_after, fuse_facts, IsChanged, IsRead, IsFused};
+ghost use Rattle.sector_disk.specs.{Disk.{current, wrote, synced}, Changes.Changes, Served.IsServed, Fuse.{fate_of, fuse_after, fuse_facts, IsChanged, IsRead, IsFused}};
 
 use crate::device::{Device, Fault};
 use crate::fuse::{Fate, Fuse, FuseKind};

@@ -1,7 +1,6 @@
 //! Laws of the definitions, each the contract of a function that does nothing.
 
-ghost use Rattle.sector_disk.specs.Memory.{EachImageIsChosen};
-ghost use Rattle.sector_disk.specs.Laws.{LawsOfImages};
+ghost use Rattle.sector_disk.specs.{Memory.EachImageIsChosen, Laws.LawsOfImages};
 
 use crate::memory_device::MemoryDevice;
 use std::alloc::Allocator;

@@ -1,10 +1,7 @@
 //! The device in memory, whose every image can be had.
 
 ghost use Rattle.std.specs.Prelude.{◌≡◌, ◌<◌, [], ◌∷◌, IfOk, IsOk, OnOk, OnErr};
-ghost use Rattle.sector_disk.specs.Disk.{current, wrote, synced};
-ghost use Rattle.sector_disk.specs.Changes.{Changes};
-ghost use Rattle.sector_disk.specs.Image.{IsImage};
-ghost use Rattle.sector_disk.specs.Memory.{blank, set_at, memory_disk, memory_size, stopped_at, IsMemoryServed};
+ghost use Rattle.sector_disk.specs.{Disk.{current, wrote, synced}, Changes.Changes, Image.IsImage, Memory.{blank, set_at, memory_disk, memory_size, stopped_at, IsMemoryServed}};
 
 use crate::device::{Device, Fault};
 use crate::sector::Sector;

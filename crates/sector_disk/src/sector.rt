@@ -1,8 +1,7 @@
 //! A sector of the device in memory.
 
 ghost use Rattle.std.specs.Prelude.{◌≡◌, ◌++◌, [], ◌∷◌, IfOk, OnErr, OnOk};
-ghost use Rattle.sector_disk.specs.Disk.{last_of};
-ghost use Rattle.sector_disk.specs.Memory.{SectorState, sector_of, chosen};
+ghost use Rattle.sector_disk.specs.{Disk.last_of, Memory.{SectorState, sector_of, chosen}};
 
 use std::alloc::{AllocError, Allocator};
 use std::marker::Model;

@@ -1,6 +1,4 @@
 -- `refuses` at a call: what it takes, and that a `bool` and the token come back. Assumes `Logic`.
-use Rattle.tests_fixtures.proofs.Shared.{◌≡◌, ℕ, Bool, List, [], ◌∷◌, refl, Ura, Val, vbool, vptr, ent, SProp, id⊢, Lft, Share, ftrue, fsep, flft, Memory, Routine, Logic, ‵, raw, ◌⊛◌, some, later, ◌$◌, ◌∵◌, !, qed, done, move, keep, use1, split, join, pick, fjoin, feq_i, await, Fun, nothing, triple_of}
-use Rattle.std.proofs.Common.{ap}
 use base.Logic.{ex, guard, sep}
 use types.Kit.{feq_l, check, show, updating, now as at_once}
 use types.Logic.{sem}
@@ -9,6 +7,9 @@ use denote.Memory.{hidden_shr}
 use denote.RattleType.{RattleType}
 use denote.Steps.{only}
 use denote.Triple.Statement.{Contract}
+use Rattle.std.proofs.Common.{ap}
+use Rattle.tests_fixtures.proofs.Shared.{◌≡◌, ℕ, Bool, List, [], ◌∷◌, refl, Ura, Val, vbool, vptr, ent, SProp, id⊢, Lft, Share, ftrue, fsep, flft, Memory, Routine, Logic, ‵, raw, ◌⊛◌, some}
+use Rattle.tests_fixtures.proofs.Shared.{later, ◌$◌, ◌∵◌, !, qed, done, move, keep, use1, split, join, pick, fjoin, feq_i, await, Fun, nothing, triple_of}
 use Rattle.std.specs.contracts.cell.Cell as Cells
 use Rattle.tests_fixtures.specs.contracts.plan.Plan as Plans
 use Rattle.tests_fixtures.specs.contracts.refuses as callee

@@ -1,7 +1,6 @@
 //! Settings, instructions and warriors.
 
-ghost use Rattle.std.specs.Prelude.{◌≡◌};
-ghost use Rattle.std.specs.Option.{IfSome};
+ghost use Rattle.std.specs.{Prelude.◌≡◌, Option.IfSome};
 ghost use Rattle.war_types.specs.Warrior.{Fits};
 
 use std::alloc::Global;

@@ -1,7 +1,5 @@
 ghost use Rattle.std.specs.Prelude.{◌≡◌, ◌+◌, ◌<◌, All};
-ghost use Rattle.koth_hill.specs.Hill.{last_entry};
-ghost use Rattle.koth_match.specs.Match.{rounds_in};
-ghost use Rattle.war_types.specs.Warrior.{Fits};
+ghost use Rattle.{war_types.specs.Warrior.Fits, koth_match.specs.Match.rounds_in, koth_hill.specs.Hill.last_entry};
 
 use crate::expecting::{expect, expect_same};
 use koth_hill::{Hill, Row, Verdict};

@@ -1,8 +1,7 @@
 -- Stored titles: the zeros after a title, and the index at which a title ends.
 use Rattle.std.proofs.Common.{◌≡◌, ℕ, ◌<◌, ◌≤◌, ◌+◌, ◌-◌, List, [], ◌∷◌, ◌++◌, length, get_or, take, drop, replicate, All, arith, refl, sym, ap, ◌∙◌, subst}
 use Rattle.std.proofs.lemmas.List.{length-append, length-replicate, length-take, get_or-take, get_or-append_right, get_or-replicate, take_at, drop_at}
-use Rattle.std.proofs.lemmas.List.Elements.{All-head, All-tail, All-replicate, All-same, All-get_or}
-use Rattle.war_types.specs.Title.{stored_title, IsPrintable, IsTitle}
+use Rattle.{std.proofs.lemmas.List.Elements.{All-head, All-tail, All-replicate, All-same, All-get_or}, war_types.specs.Title.{stored_title, IsPrintable, IsTitle}}
 
 -- bytes are zeros if each of them is one
 pub zeros_from_All : (xs : List ℕ) → All (λ x. x ≡ 0) xs → xs ≡ replicate (length xs) 0

@@ -1,9 +1,6 @@
 -- What titles keep: trimming at the end, byte by byte, and that what is shown can be printed.
-use Rattle.std.proofs.Common.{◌≡◌, ℕ, ◌≤◌, true, false, List, [], ◌∷◌, ◌++◌, ◌+◌, ◌-◌, length, get_or, map, take, All, min, eqb, arith, refl, sym, ap, ◌∙◌}
-use Rattle.std.proofs.lemmas.Bool.Decides.{nat_tests}
-use Rattle.std.proofs.lemmas.List.{length-map, take_all, take_more, take_min}
-use Rattle.std.proofs.Math.Nat.{min_comm}
-use Rattle.std.proofs.lemmas.List.Elements.{All-nil, All-cons}
+use Rattle.std.proofs.{Common.{◌≡◌, ℕ, ◌≤◌, true, false, List, [], ◌∷◌, ◌++◌, ◌+◌, ◌-◌, length, get_or, map, take, All, min, eqb, arith, refl, sym, ap, ◌∙◌}, lemmas.Bool.Decides.nat_tests}
+use Rattle.std.proofs.{lemmas.List.{length-map, take_all, take_more, take_min}, Math.Nat.min_comm, lemmas.List.Elements.{All-nil, All-cons}}
 use Rattle.war_types.specs.Title.{is_blank, onto_trimmed, before_blanks, shown, title_or, IsPrintable, IsTitle}
 
 onto_trimmed-push : (x : ℕ) (xs : List ℕ) (b : ℕ) → onto_trimmed x (xs ++ b ∷ []) ≡ x ∷ (xs ++ b ∷ [])
@@ -49,5 +46,4 @@ IsTitle-map-shown xs h k = record { not_empty = simp length-map h; short = simp 
 -- if something is left, the title is its first 48 bytes as they are shown
 pub title_or-some : (xs default : List ℕ) → eqb (length xs) 0 ≡ false → title_or xs default ≡ map shown (take (min (length xs) 48) xs)
 title_or-some [] default h = cc
-title_or-some (x ∷ xs) default h =
-    ap (map shown) (sym (ap (λ n. take n (x ∷ xs)) (min_comm (length (x ∷ xs)) 48) ∙ take_min 48 (x ∷ xs)))
+title_or-some (x ∷ xs) default h = ap (map shown) (sym (ap (λ n. take n (x ∷ xs)) (min_comm (length (x ∷ xs)) 48) ∙ take_min 48 (x ∷ xs)))

@@ -1,8 +1,6 @@
 -- Which settings a hill may have. The first five ranges are the ones that pMARS's options of these names have.
 use Rattle.std.specs.Prelude.{◌≡◌, ℕ, ◌*◌, ◌%◌, ◌≤◌, ◌==◌, Bool, ◌&&◌, ◌||◌, nat_le, if◌then◌else◌, Result, Ok, Err}
-use Rattle.war_types.specs.declared.settings.RawSettings.{RawSettings}
-use Rattle.war_types.specs.declared.settings.SettingsFault.{SettingsFault}
-use Rattle.war_types.specs.declared.settings.SettingsFault.TheVariants as faults
+use Rattle.war_types.specs.{declared.settings.RawSettings.RawSettings, declared.settings.SettingsFault.SettingsFault}
 
 -- a number from low to high
 abbrev pub is_from_to : ℕ → ℕ → ℕ → Bool
@@ -31,16 +29,16 @@ settings_of s =
     if is_from_to 1 20 s.capacity then (
     if is_limit s.core s.read_limit then (
     if is_limit s.core s.write_limit then Ok (with_limits s)
-    else Err faults.WriteLimit)
-    else Err faults.ReadLimit)
-    else Err faults.Capacity)
-    else Err faults.Seed)
-    else Err faults.Rounds)
-    else Err faults.Distance)
-    else Err faults.Length)
-    else Err faults.Processes)
-    else Err faults.Cycles)
-    else Err faults.Core
+    else Err SettingsFault.WriteLimit)
+    else Err SettingsFault.ReadLimit)
+    else Err SettingsFault.Capacity)
+    else Err SettingsFault.Seed)
+    else Err SettingsFault.Rounds)
+    else Err SettingsFault.Distance)
+    else Err SettingsFault.Length)
+    else Err SettingsFault.Processes)
+    else Err SettingsFault.Cycles)
+    else Err SettingsFault.Core
 
 -- each field is in its range
 pub record AreSettings (s : RawSettings) : Type 0 where

@@ -1,7 +1,6 @@
 -- What a warrior is, and which settings it fits.
 use Rattle.std.specs.Prelude.{ℕ, ◌<◌, ◌≤◌, List, length, All}
-use Rattle.war_types.specs.declared.instr.Instr.{Instr}
-use Rattle.war_types.specs.declared.settings.RawSettings.{RawSettings}
+use Rattle.war_types.specs.{declared.instr.Instr.Instr, declared.settings.RawSettings.RawSettings}
 
 -- a warrior without its place in memory
 pub record WarriorParts : Type 0 where

@@ -1,7 +1,6 @@
 //! One instruction of the machine, as the 1994 draft standard writes it.
 
-ghost use Rattle.std.specs.Prelude.{◌≡◌, IfSome};
-ghost use Rattle.std.specs.Int.{bytes_high_first};
+ghost use Rattle.std.specs.{Prelude.{◌≡◌, IfSome}, Int.bytes_high_first};
 
 /// The sixteen operations. `CMP` is another spelling of `Seq`, and `Mdl` is `MOD`.
 #[derive(Clone, Copy, Debug, PartialEq, Eq)]
@@ -25,8 +24,7 @@ pub enum Op {
 }
 
 impl Op {
-    ghost use Rattle.war_types.specs.declared.instr.Op.{Op};
-    ghost use Rattle.war_types.specs.Bytes.{op_code};
+    ghost use Rattle.war_types.specs.{declared.instr.Op.Op, Bytes.op_code};
 
     /// The operation's number, from 0 on in the order of the type.
     pub fn code(self) -> u8
@@ -91,8 +89,7 @@ pub enum Modifier {
 }
 
 impl Modifier {
-    ghost use Rattle.war_types.specs.declared.instr.Modifier.{Modifier};
-    ghost use Rattle.war_types.specs.Bytes.{modifier_code};
+    ghost use Rattle.war_types.specs.{declared.instr.Modifier.Modifier, Bytes.modifier_code};
 
     /// The modifier's number, from 0 on in the order of the type.
     pub fn code(self) -> u8
@@ -148,8 +145,7 @@ pub enum Mode {
 }
 
 impl Mode {
-    ghost use Rattle.war_types.specs.declared.instr.Mode.{Mode};
-    ghost use Rattle.war_types.specs.Bytes.{mode_code};
+    ghost use Rattle.war_types.specs.{declared.instr.Mode.Mode, Bytes.mode_code};
 
     /// The mode's number, from 0 on in the order of the type.
     pub fn code(self) -> u8
@@ -198,9 +194,7 @@ pub struct Instr {
 }
 
 impl Instr {
-    ghost use Rattle.war_types.specs.declared.instr.Instr.{Instr};
-    ghost use Rattle.war_types.specs.Bytes.{instr_bytes};
-    ghost use Rattle.war_types.specs.Warrior.{HasNumbersBelow};
+    ghost use Rattle.war_types.specs.{declared.instr.Instr.Instr, Bytes.instr_bytes, Warrior.HasNumbersBelow};
 
     /// The instruction as it is stored: the numbers of its operation, its modifier, its A mode and its B mode, a byte each, then its
     /// A number and its B number, two bytes each with the higher one first.

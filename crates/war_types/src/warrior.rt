@@ -1,7 +1,6 @@
 //! Warriors.
 
-ghost use Rattle.std.specs.Prelude.{◌≡◌, ◌↔◌, IsTrue};
-ghost use Rattle.std.specs.Option.{SomeIff};
+ghost use Rattle.std.specs.{Prelude.{◌≡◌, ◌↔◌, IsTrue}, Option.SomeIff};
 ghost use Rattle.war_types.specs.Warrior.{warrior_parts, Fits, IsWarrior};
 
 use crate::instr::Instr;

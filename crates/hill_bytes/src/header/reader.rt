@@ -1,7 +1,6 @@
 //! Numbers at a place of stored bytes: each is read back as it was written.
 
-ghost use Rattle.std.specs.Prelude.{◌≡◌, ◌+◌, ◌^◌, ◌≤◌, ◌<◌, ◌++◌, ◌∷◌, ℕ, List, length, drop};
-ghost use Rattle.std.specs.Int.{bytes_high_first};
+ghost use Rattle.std.specs.{Prelude.{◌≡◌, ◌+◌, ◌^◌, ◌≤◌, ◌<◌, ◌++◌, ◌∷◌, ℕ, List, length, drop}, Int.bytes_high_first};
 
 use byteorder::{BigEndian, ByteOrder};
 

@@ -1,7 +1,6 @@
 //! A sector that is written from its beginning on.
 
-ghost use Rattle.std.specs.Prelude.{◌≡◌, ◌+◌, ◌≤◌, ◌++◌, ◌∷◌, [], length, replicate};
-ghost use Rattle.std.specs.Int.{bytes_high_first};
+ghost use Rattle.std.specs.{Prelude.{◌≡◌, ◌+◌, ◌≤◌, ◌++◌, ◌∷◌, [], length, replicate}, Int.bytes_high_first};
 
 use byteorder::{BigEndian, ByteOrder};
 use std::marker::Model;

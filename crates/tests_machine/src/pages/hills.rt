@@ -1,8 +1,7 @@
 //! Hills whose results were made up.
 
 ghost use Rattle.std.specs.Prelude.{◌≡◌, ◌+◌};
-ghost use Rattle.koth_match.specs.Match.{rounds_in};
-ghost use Rattle.war_types.specs.Warrior.{Fits};
+ghost use Rattle.{war_types.specs.Warrior.Fits, koth_match.specs.Match.rounds_in};
 
 use koth_hill::Hill;
 use koth_match::Bout;

@@ -1,6 +1,4 @@
-use Rattle.std.proofs.Common.{length, replicate, ap, ◌∙◌}
-use Rattle.std.specs.Int.{bytes_high_first}
-use Rattle.hill_bytes.specs.Layout.{header_bytes, layout_of, settings_bytes, limit_bytes, entry_places}
+use Rattle.{std.proofs.Common.{length, replicate, ap, ◌∙◌}, std.specs.Int.bytes_high_first, hill_bytes.specs.Layout.{header_bytes, layout_of, settings_bytes, limit_bytes, entry_places}}
 use Rattle.hill_bytes.proofs.Writes.{renamed, rewritten, writes-all}
 use Rattle.hill_bytes.proofs.header.encode_in.Goals as goal
 

@@ -1,8 +1,7 @@
-use Rattle.std.proofs.Common.{◌≡◌, ◌<◌, ◌≤◌, ◌+◌, ◌-◌, ◌++◌, length, drop, get_or, replicate, arith, ap, ◌∙◌}
-use Rattle.hill_bytes.specs.Layout.{entry_bytes, entry_places}
+use Rattle.{std.proofs.Common.{◌≡◌, ◌<◌, ◌≤◌, ◌+◌, ◌-◌, ◌++◌, length, drop, get_or, replicate, arith, ap, ◌∙◌}, hill_bytes.specs.Layout.{entry_bytes, entry_places}}
 use Rattle.hill_bytes.proofs.HeaderBytes.{below-true, not_below-false, place-step, places-some, places-none}
-use Rattle.hill_bytes.proofs.header.put_entries.Goals as goal
 use Rattle.hill_bytes.proofs.header.put_entries.Goals.{in-Some, in-None}
+use Rattle.hill_bytes.proofs.header.put_entries.Goals as goal
 
 pub loop-place-preserved : goal.loop-place-preserved
 loop-place-preserved c =

@@ -1,6 +1,5 @@
 -- What is written and the places that are left are the whole.
-use Rattle.std.proofs.Common.{◌≡◌, ◌+◌, ◌-◌, ◌*◌, ◌++◌, length, drop}
-use Rattle.hill_bytes.specs.Layout.{entry_places}
+use Rattle.{std.proofs.Common.{◌≡◌, ◌+◌, ◌-◌, ◌*◌, ◌++◌, length, drop}, hill_bytes.specs.Layout.entry_places}
 use Rattle.hill_bytes.proofs.header.put_entries.Given as goal
 
 abbrev pub invariant-loop-place : goal.invariant-loop-place

@@ -1,6 +1,4 @@
-use Rattle.std.proofs.Common.{[], ◌∷◌}
-use Rattle.std.specs.Int.{bytes_high_first}
-use Rattle.hill_bytes.proofs.Writes.{writes-3}
+use Rattle.{std.proofs.Common.{[], ◌∷◌}, std.specs.Int.bytes_high_first, hill_bytes.proofs.Writes.writes-3}
 use Rattle.hill_bytes.proofs.header.put_entry.Goals as goal
 
 pub returns-clause-value : goal.returns-clause-value

@@ -1,5 +1,4 @@
-use Rattle.std.specs.Int.{bytes_high_first}
-use Rattle.hill_bytes.proofs.Writes.{renamed, writes-8}
+use Rattle.{std.specs.Int.bytes_high_first, hill_bytes.proofs.Writes.{renamed, writes-8}}
 use Rattle.hill_bytes.proofs.header.put_settings.Goals as goal
 
 pub returns-clause-value : goal.returns-clause-value

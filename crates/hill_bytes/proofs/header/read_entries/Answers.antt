@@ -1,9 +1,5 @@
-use Rattle.std.proofs.Common.{◌≡◌, ◌≤◌, ◌<◌, ◌^◌, ◌+◌, ◌*◌, ◌++◌, length, take, drop, get_or, arith, sym, ap, ◌∙◌}
-use Rattle.std.proofs.lemmas.List.{drop-drop, length-set, take_all}
-use Rattle.std.proofs.lemmas.List.Elements.{All-get_or}
-use Rattle.hill_bytes.specs.declared.header.HeaderEntry.{HeaderEntry}
-use Rattle.hill_bytes.specs.Layout.{entry_bytes}
-use Rattle.hill_bytes.proofs.HeaderBytes.{place-at, set-step}
+use Rattle.std.proofs.{Common.{◌≡◌, ◌≤◌, ◌<◌, ◌^◌, ◌+◌, ◌*◌, ◌++◌, length, take, drop, get_or, arith, sym, ap, ◌∙◌}, lemmas.List.{drop-drop, length-set, take_all}}
+use Rattle.{std.proofs.lemmas.List.Elements.All-get_or, hill_bytes.specs.{declared.header.HeaderEntry.HeaderEntry, Layout.entry_bytes}, hill_bytes.proofs.HeaderBytes.{place-at, set-step}}
 use Rattle.hill_bytes.proofs.header.read_entries.Goals as goal
 
 pub loop-i-preserved : goal.loop-i-preserved

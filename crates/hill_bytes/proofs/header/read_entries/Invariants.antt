@@ -1,7 +1,5 @@
 -- The entries so far are those that stand in the places.
-use Rattle.std.proofs.Common.{◌≡◌, ℕ, ◌^◌, ◌<◌, ◌++◌, List, length, take, drop, All}
-use Rattle.hill_bytes.specs.declared.header.HeaderEntry.{HeaderEntry}
-use Rattle.hill_bytes.specs.Layout.{entry_places}
+use Rattle.{std.proofs.Common.{◌≡◌, ℕ, ◌^◌, ◌<◌, ◌++◌, List, length, take, drop, All}, hill_bytes.specs.{declared.header.HeaderEntry.HeaderEntry, Layout.entry_places}}
 use Rattle.hill_bytes.proofs.header.read_entries.Given as goal
 
 abbrev pub invariant-loop-i : goal.invariant-loop-i

@@ -1,6 +1,4 @@
-use Rattle.std.proofs.Common.{◌≡◌, ◌∷◌, ◌++◌, drop, sym, ap, ◌∙◌}
-use Rattle.std.proofs.lemmas.List.{drop-drop}
-use Rattle.std.specs.Int.{bytes_high_first}
+use Rattle.{std.proofs.{Common.{◌≡◌, ◌∷◌, ◌++◌, drop, sym, ap, ◌∙◌}, lemmas.List.drop-drop}, std.specs.Int.bytes_high_first}
 use Rattle.hill_bytes.proofs.header.read_entry.Goals as goal
 
 pub returns : goal.returns

@@ -1,9 +1,5 @@
-use Rattle.std.proofs.Common.{◌≡◌, ◌+◌, ◌++◌, ℕ, List, drop, arith, sym, ap, ◌∙◌}
-use Rattle.std.proofs.lemmas.List.{drop-drop}
-use Rattle.std.specs.Result.{result_ok}
-use Rattle.war_types.specs.declared.settings.RawSettings.{RawSettings}
-use Rattle.war_types.specs.Settings.{settings_of}
-use Rattle.hill_bytes.specs.Layout.{settings_bytes, limit_bytes, stored_limit}
+use Rattle.{std.proofs.{Common.{◌≡◌, ◌+◌, ◌++◌, ℕ, List, drop, arith, sym, ap, ◌∙◌}, lemmas.List.drop-drop}, std.specs.Result.result_ok}
+use Rattle.{war_types.specs.{declared.settings.RawSettings.RawSettings, Settings.settings_of}, hill_bytes.specs.Layout.{settings_bytes, limit_bytes, stored_limit}}
 use Rattle.hill_bytes.proofs.Writes.{settings_of-stored, stored-most, limits-most, with_stored_limits}
 use Rattle.hill_bytes.proofs.header.read_settings.Goals as goal
 

@@ -1,6 +1,5 @@
 -- The slots differ if the slots of the entries that are left differ.
-use Rattle.std.proofs.Common.{◌↔◌, drop}
-use Rattle.hill_bytes.specs.Layout.{SlotsDiffer}
+use Rattle.{std.proofs.Common.{◌↔◌, drop}, hill_bytes.specs.Layout.SlotsDiffer}
 use Rattle.hill_bytes.proofs.header.slots_differ.Given as goal
 
 abbrev pub invariant-loop-i : goal.invariant-loop-i

@@ -1,5 +1,4 @@
-use Rattle.std.proofs.Common.{rules, ◌≡◌, ◌-◌, ◌++◌, length, take, drop, replicate, ap, ◌∙◌, arith}
-use Rattle.std.proofs.lemmas.List.{length-drop, take_all}
+use Rattle.std.proofs.{Common.{rules, ◌≡◌, ◌-◌, ◌++◌, length, take, drop, replicate, ap, ◌∙◌, arith}, lemmas.List.{length-drop, take_all}}
 use Rattle.hill_bytes.proofs.old_slot.fields_part.Goals as goal
 
 pub returns : goal.returns

@@ -1,6 +1,4 @@
-use Rattle.std.proofs.Common.{length, drop, replicate, ap, ◌∙◌}
-use Rattle.std.specs.Int.{bytes_high_first}
-use Rattle.hill_bytes.specs.Layout.{code_places, fields_bytes, filled, result_places}
+use Rattle.{std.proofs.Common.{length, drop, replicate, ap, ◌∙◌}, std.specs.Int.bytes_high_first, hill_bytes.specs.Layout.{code_places, fields_bytes, filled, result_places}}
 use Rattle.hill_bytes.proofs.Writes.{renamed, rewritten, writes-behind}
 use Rattle.hill_bytes.proofs.slot.last_sector.Goals as goal
 

@@ -1,10 +1,7 @@
-use Rattle.std.proofs.Common.{◌≡◌, ◌<◌, ◌≤◌, ◌+◌, ◌-◌, ◌++◌, length, drop, get_or, replicate, arith, ap, ◌∙◌}
-use Rattle.war_types.specs.Bytes.{instr_bytes}
-use Rattle.hill_bytes.specs.Layout.{code_places}
-use Rattle.hill_bytes.proofs.HeaderBytes.{below-true, not_below-false, place-step}
-use Rattle.hill_bytes.proofs.SlotBytes.{code-some, code-none}
-use Rattle.hill_bytes.proofs.slot.put_code.Goals as goal
+use Rattle.{std.proofs.Common.{◌≡◌, ◌<◌, ◌≤◌, ◌+◌, ◌-◌, ◌++◌, length, drop, get_or, replicate, arith, ap, ◌∙◌}, war_types.specs.Bytes.instr_bytes, hill_bytes.specs.Layout.code_places}
+use Rattle.hill_bytes.proofs.{HeaderBytes.{below-true, not_below-false, place-step}, SlotBytes.{code-some, code-none}}
 use Rattle.hill_bytes.proofs.slot.put_code.Goals.{in-Some, in-None}
+use Rattle.hill_bytes.proofs.slot.put_code.Goals as goal
 
 pub loop-place-preserved : goal.loop-place-preserved
 loop-place-preserved c =

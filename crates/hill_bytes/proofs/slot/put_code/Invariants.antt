@@ -1,6 +1,5 @@
 -- What is written and the places that are left are the whole.
-use Rattle.std.proofs.Common.{◌≡◌, ◌+◌, ◌-◌, ◌*◌, ◌++◌, length, drop}
-use Rattle.hill_bytes.specs.Layout.{code_places}
+use Rattle.{std.proofs.Common.{◌≡◌, ◌+◌, ◌-◌, ◌*◌, ◌++◌, length, drop}, hill_bytes.specs.Layout.code_places}
 use Rattle.hill_bytes.proofs.slot.put_code.Given as goal
 
 abbrev pub invariant-loop-place : goal.invariant-loop-place

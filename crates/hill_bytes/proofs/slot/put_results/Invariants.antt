@@ -1,6 +1,5 @@
 -- What is written and the results that are left are the whole.
-use Rattle.std.proofs.Common.{◌≡◌, ◌+◌, ◌*◌, ◌++◌, length, drop}
-use Rattle.hill_bytes.specs.Layout.{result_places}
+use Rattle.{std.proofs.Common.{◌≡◌, ◌+◌, ◌*◌, ◌++◌, length, drop}, hill_bytes.specs.Layout.result_places}
 use Rattle.hill_bytes.proofs.slot.put_results.Given as goal
 
 abbrev pub invariant-loop-wins : goal.invariant-loop-wins

@@ -1,6 +1,4 @@
-use Rattle.std.proofs.Common.{◌≡◌, ◌-◌, ◌++◌, length, replicate, sym, ap, ◌∙◌}
-use Rattle.std.proofs.lemmas.List.{append_assoc}
-use Rattle.hill_bytes.proofs.SlotBytes.{filled-zeros}
+use Rattle.{std.proofs.{Common.{◌≡◌, ◌-◌, ◌++◌, length, replicate, sym, ap, ◌∙◌}, lemmas.List.append_assoc}, hill_bytes.proofs.SlotBytes.filled-zeros}
 use Rattle.hill_bytes.proofs.slot.put_title.Goals as goal
 
 pub returns-clause-value : goal.returns-clause-value

@@ -1,7 +1,4 @@
-use Rattle.std.proofs.Common.{rules, ◌≡◌, take, drop, ap, ◌∙◌}
-use Rattle.std.proofs.lemmas.List.{take_at}
-use Rattle.hill_bytes.specs.Layout.{filled}
-use Rattle.hill_bytes.proofs.SlotBytes.{filled-zeros, length-filled}
+use Rattle.{std.proofs.{Common.{rules, ◌≡◌, take, drop, ap, ◌∙◌}, lemmas.List.take_at}, hill_bytes.specs.Layout.filled, hill_bytes.proofs.SlotBytes.{filled-zeros, length-filled}}
 use Rattle.hill_bytes.proofs.slot.title_at.Goals as goal
 
 pub returns : goal.returns

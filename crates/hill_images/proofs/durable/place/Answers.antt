@@ -1,12 +1,6 @@
-use Rattle.std.proofs.Common.{◌≡◌, [], ◌∷◌, List, ℕ, Result, IsErr, inr, sym, ap, subst, ◌∙◌}
-use Rattle.war_types.specs.Warrior.{WarriorParts}
-use Rattle.sector_disk.specs.Disk.{Disk, synced}
-use Rattle.sector_disk.specs.Changes.{after, Begun, Changes}
-use Rattle.sector_disk.proofs.Runs.{after-append, begun_front, begun_more}
-use Rattle.hill_bytes.specs.declared.wins.Wins.{Wins}
-use Rattle.hill_bytes.specs.Layout.{HeaderParts, new_layout, slot_at, slot_bytes}
-use Rattle.hill_images.specs.Places.{commits, places, slot_writes, writes_from}
-use Rattle.hill_images.proofs.Sectors.{changes_cut}
+use Rattle.{std.proofs.Common.{◌≡◌, [], ◌∷◌, List, ℕ, Result, IsErr, inr, sym, ap, subst, ◌∙◌}, war_types.specs.Warrior.WarriorParts}
+use Rattle.{sector_disk.specs.{Disk.{Disk, synced}, Changes.{after, Begun, Changes}}, sector_disk.proofs.Runs.{after-append, begun_front, begun_more}, hill_bytes.specs.declared.wins.Wins.Wins}
+use Rattle.{hill_bytes.specs.Layout.{HeaderParts, new_layout, slot_at, slot_bytes}, hill_images.specs.Places.{commits, places, slot_writes, writes_from}, hill_images.proofs.Sectors.changes_cut}
 use Rattle.hill_images.proofs.durable.place.Goals as goal
 
 module _ (h : HeaderParts) (slot : ℕ) (w : WarriorParts) (results : List Wins) (sectors : List (List ℕ)) (is : sectors ≡ slot_bytes new_layout w results) where

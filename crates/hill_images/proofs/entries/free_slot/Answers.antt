@@ -1,5 +1,4 @@
-use Rattle.std.proofs.Common.{arith}
-use Rattle.hill_images.proofs.FreeSlots.{slot_is_free, past_taken}
+use Rattle.{std.proofs.Common.arith, hill_images.proofs.FreeSlots.{slot_is_free, past_taken}}
 use Rattle.hill_images.proofs.entries.free_slot.Goals as goal
 
 pub returns-then-not-has_slot-clause-free : goal.returns-then-not-has_slot-clause-free

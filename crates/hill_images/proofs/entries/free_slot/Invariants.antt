@@ -1,5 +1,4 @@
-use Rattle.std.proofs.Common.{◌≡◌, ℕ, ◌<◌, true}
-use Rattle.hill_images.specs.Places.{has_slot}
+use Rattle.{std.proofs.Common.{◌≡◌, ℕ, ◌<◌, true}, hill_images.specs.Places.has_slot}
 use Rattle.hill_images.proofs.entries.free_slot.Given as goal
 
 abbrev pub invariant-loop-slot : goal.invariant-loop-slot

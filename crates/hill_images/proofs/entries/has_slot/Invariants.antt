@@ -1,5 +1,4 @@
-use Rattle.std.proofs.Common.{◌≡◌, drop}
-use Rattle.hill_images.specs.Places.{has_slot}
+use Rattle.{std.proofs.Common.{◌≡◌, drop}, hill_images.specs.Places.has_slot}
 use Rattle.hill_images.proofs.entries.has_slot.Given as goal
 
 abbrev pub invariant-loop-e : goal.invariant-loop-e

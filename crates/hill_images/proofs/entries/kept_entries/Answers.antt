@@ -1,7 +1,5 @@
-use Rattle.std.proofs.Common.{◌≡◌, ◌≤◌, ◌+◌, ◌++◌, List, length, take, get_or, [], ◌∷◌, ap, sym, ◌∙◌, subst}
-use Rattle.hill_bytes.specs.declared.header.HeaderEntry.{HeaderEntry}
-use Rattle.hill_images.specs.Places.{kept_entries, new_entry}
-use Rattle.hill_images.proofs.FreeSlots.{kept_more, kept_few_of}
+use Rattle.{std.proofs.Common.{◌≡◌, ◌≤◌, ◌+◌, ◌++◌, List, length, take, get_or, [], ◌∷◌, ap, sym, ◌∙◌, subst}, hill_bytes.specs.declared.header.HeaderEntry.HeaderEntry}
+use Rattle.{hill_images.specs.Places.{kept_entries, new_entry}, hill_images.proofs.FreeSlots.{kept_more, kept_few_of}}
 use Rattle.hill_images.proofs.entries.kept_entries.Goals as goal
 
 pub loop-e-preserved : goal.loop-e-preserved

@@ -1,5 +1,4 @@
-use Rattle.std.proofs.Common.{◌≡◌, ◌≤◌, length, take}
-use Rattle.hill_images.specs.Places.{kept_entries}
+use Rattle.{std.proofs.Common.{◌≡◌, ◌≤◌, length, take}, hill_images.specs.Places.kept_entries}
 use Rattle.hill_images.proofs.entries.kept_entries.Given as goal
 
 abbrev pub invariant-loop-e : goal.invariant-loop-e

@@ -1,6 +1,5 @@
 -- The results so far, with those that are left, are all.
-use Rattle.std.proofs.Common.{◌≡◌, drop, length}
-use Rattle.hill_images.specs.Places.{results_onto, results_by_slot}
+use Rattle.{std.proofs.Common.{◌≡◌, drop, length}, hill_images.specs.Places.{results_onto, results_by_slot}}
 use Rattle.hill_images.proofs.entries.results_by_slot.Given as goal
 
 abbrev pub invariant-loop-i : goal.invariant-loop-i

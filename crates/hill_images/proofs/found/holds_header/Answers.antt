@@ -1,7 +1,4 @@
-use Rattle.std.proofs.Common.{false, subst, rules}
-use Rattle.sector_disk.specs.Disk.{current}
-use Rattle.hill_images.specs.Found.{HoldsIf}
-use Rattle.hill_images.proofs.Finds.{holds_one}
+use Rattle.{std.proofs.Common.{false, subst, rules}, sector_disk.specs.Disk.current, hill_images.specs.Found.HoldsIf, hill_images.proofs.Finds.holds_one}
 use Rattle.hill_images.proofs.found.holds_header.Goals as goal
 
 pub returns-else-even-clause-found : goal.returns-else-even-clause-found

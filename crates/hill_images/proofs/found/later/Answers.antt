@@ -1,5 +1,4 @@
-use Rattle.std.proofs.Common.{arith}
-use Rattle.hill_images.proofs.Finds.{newest_even, newest_odd}
+use Rattle.{std.proofs.Common.arith, hill_images.proofs.Finds.{newest_even, newest_odd}}
 use Rattle.hill_images.proofs.found.later.Goals as goal
 
 pub returns-then-generation : goal.returns-then-generation

@@ -1,6 +1,4 @@
-use Rattle.std.proofs.Common.{subst}
-use Rattle.hill_images.specs.Found.{IsFoundIn}
-use Rattle.hill_images.proofs.Finds.{newest_even_alone, newest_odd_found}
+use Rattle.{std.proofs.Common.subst, hill_images.specs.Found.IsFoundIn, hill_images.proofs.Finds.{newest_even_alone, newest_odd_found}}
 use Rattle.hill_images.proofs.found.newer.Goals as goal
 
 pub returns-in-Some-Some : goal.returns-in-Some-Some

@@ -1,7 +1,4 @@
-use Rattle.std.proofs.Common.{subst, rules}
-use Rattle.sector_disk.specs.Disk.{current}
-use Rattle.hill_bytes.specs.Layout.{layout_of}
-use Rattle.hill_images.specs.Found.{IsFoundIn}
+use Rattle.{std.proofs.Common.{subst, rules}, sector_disk.specs.Disk.current, hill_bytes.specs.Layout.layout_of, hill_images.specs.Found.IsFoundIn}
 use Rattle.hill_images.proofs.found.newest_header.Goals as goal
 
 pub returns-clause-found : goal.returns-clause-found

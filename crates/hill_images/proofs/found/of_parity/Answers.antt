@@ -1,6 +1,4 @@
-use Rattle.std.proofs.Common.{◌≢◌, ◌%◌, arith}
-use Rattle.hill_bytes.specs.Layout.{layout_of}
-use Rattle.hill_images.proofs.Finds.{other_parity}
+use Rattle.{std.proofs.Common.{◌≢◌, ◌%◌, arith}, hill_bytes.specs.Layout.layout_of, hill_images.proofs.Finds.other_parity}
 use Rattle.hill_images.proofs.found.of_parity.Goals as goal
 
 pub returns-else-generation-from : goal.returns-else-generation-from

@@ -1,6 +1,4 @@
-use Rattle.hill_bytes.proofs.OneHeader.{same_header}
-use Rattle.hill_bytes.proofs.OneSlot.{same_warrior}
-use Rattle.hill_images.proofs.Newest.{reads_once, stands_once}
+use Rattle.{hill_bytes.proofs.{OneHeader.same_header, OneSlot.same_warrior}, hill_images.proofs.Newest.{reads_once, stands_once}}
 use Rattle.hill_images.proofs.laws.laws_of_storage.Goals as goal
 
 pub returns : goal.returns

@@ -1,11 +1,5 @@
-use Rattle.std.proofs.Common.{arith, subst}
-use Rattle.sector_disk.proofs.Kept.{kept_on}
-use Rattle.sector_disk.specs.Disk.{current}
-use Rattle.hill_bytes.specs.Layout.{layout_of}
-use Rattle.hill_images.specs.Found.{IsNewestFound}
-use Rattle.hill_images.specs.Stands.{IsNewestIn}
-use Rattle.hill_images.specs.Opening.{IsRecovered, IsNotOpenedIn}
-use Rattle.hill_images.specs.Reading.{HillRefused, IsHillFound}
+use Rattle.{std.proofs.Common.{arith, subst}, sector_disk.specs.Disk.current, sector_disk.proofs.Kept.kept_on, hill_bytes.specs.Layout.layout_of}
+use Rattle.hill_images.specs.{Found.IsNewestFound, Stands.IsNewestIn, Opening.{IsRecovered, IsNotOpenedIn}, Reading.{HillRefused, IsHillFound}}
 use Rattle.hill_images.proofs.Openings.{if_ok_map, if_err_map, recovered, not_recovered}
 use Rattle.hill_images.proofs.opening.recover.Goals as goal
 

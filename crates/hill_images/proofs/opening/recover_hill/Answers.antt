@@ -1,7 +1,4 @@
-use Rattle.std.proofs.Common.{refl, rules, subst, sym}
-use Rattle.sector_disk.proofs.Kept.{kept_same}
-use Rattle.hill_bytes.specs.Layout.{layout_of}
-use Rattle.hill_images.specs.Reading.{HillRefused}
+use Rattle.{std.proofs.Common.{refl, rules, subst, sym}, sector_disk.proofs.Kept.kept_same, hill_bytes.specs.Layout.layout_of, hill_images.specs.Reading.HillRefused}
 use Rattle.hill_images.proofs.Openings.{not_read}
 use Rattle.hill_images.proofs.opening.recover_hill.Goals as goal
 

@@ -1,6 +1,5 @@
 -- The results so far are those with the first of them.
-use Rattle.std.proofs.Common.{◌≡◌, get_or, length, map, take}
-use Rattle.hill_images.specs.Stands.{bout_of, no_wins}
+use Rattle.{std.proofs.Common.{◌≡◌, get_or, length, map, take}, hill_images.specs.Stands.{bout_of, no_wins}}
 use Rattle.hill_images.proofs.reading.bouts_with.Given as goal
 
 abbrev pub invariant-loop-i : goal.invariant-loop-i

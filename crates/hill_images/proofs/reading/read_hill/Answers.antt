@@ -1,11 +1,6 @@
-use Rattle.sector_disk.proofs.Kept.{kept_on, kept_same}
 use Rattle.std.proofs.Common.{◌≡◌, ◌<◌, ◌≤◌, List, length, min, take, All, arith, sym, ap, refl, subst, ◌∙◌, length-take}
-use Rattle.war_types.specs.declared.settings.RawSettings.{RawSettings}
-use Rattle.war_types.specs.Warrior.{Fits}
-use Rattle.koth_match.specs.Match.{rounds_in}
-use Rattle.hill_bytes.specs.declared.header.HeaderEntry.{HeaderEntry}
-use Rattle.hill_bytes.specs.Layout.{FitRounds, code_room, layout_of}
-use Rattle.hill_images.specs.Places.{new_entry}
+use Rattle.{war_types.specs.{declared.settings.RawSettings.RawSettings, Warrior.Fits}, koth_match.specs.Match.rounds_in, sector_disk.proofs.Kept.{kept_on, kept_same}}
+use Rattle.{hill_bytes.specs.{declared.header.HeaderEntry.HeaderEntry, Layout.{FitRounds, code_room, layout_of}}, hill_images.specs.Places.new_entry}
 use Rattle.hill_images.proofs.WarriorsRead.{next_read, none_read, read_next, read_failed, read_all, IsRowRead, row_rounds, low_before, within_of, members_read, slot_there}
 use Rattle.hill_images.proofs.reading.read_hill.Given.{Over}
 use Rattle.hill_images.proofs.reading.read_hill.Goals as goal

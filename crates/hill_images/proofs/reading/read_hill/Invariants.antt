@@ -1,5 +1,4 @@
-use Rattle.hill_bytes.specs.Layout.{layout_of}
-use Rattle.hill_images.proofs.WarriorsRead.{IsReadTo}
+use Rattle.{hill_bytes.specs.Layout.layout_of, hill_images.proofs.WarriorsRead.IsReadTo}
 use Rattle.hill_images.proofs.reading.read_hill.Given as goal
 
 abbrev pub invariant-loop-i : goal.invariant-loop-i

@@ -1,9 +1,5 @@
-use Rattle.std.proofs.Common.{◌∙◌, Some, refl, subst, sym}
-use Rattle.sector_disk.proofs.Kept.{kept_where_served}
-use Rattle.sector_disk.specs.Disk.{current}
-use Rattle.hill_bytes.specs.Layout.{FitRounds, IsSlotRead, layout_of, new_layout, slot_in}
-use Rattle.hill_images.proofs.Openings.{if_ok_map}
-use Rattle.hill_images.proofs.WarriorsRead.{decoded_some, not_decoded, same_read}
+use Rattle.{std.proofs.Common.{◌∙◌, Some, refl, subst, sym}, sector_disk.specs.Disk.current, sector_disk.proofs.Kept.kept_where_served}
+use Rattle.{hill_bytes.specs.Layout.{FitRounds, IsSlotRead, layout_of, new_layout, slot_in}, hill_images.proofs.{Openings.if_ok_map, WarriorsRead.{decoded_some, not_decoded, same_read}}}
 use Rattle.hill_images.proofs.reading.read_warrior.Goals as goal
 
 pub returns-in-Ok-decoded-clause-read : goal.returns-in-Ok-decoded-clause-read

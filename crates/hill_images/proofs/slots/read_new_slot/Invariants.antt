@@ -1,8 +1,5 @@
 -- The sectors so far are the slot's.
-use Rattle.std.proofs.Common.{◌≡◌, length, take}
-use Rattle.hill_bytes.specs.Layout.{new_layout, slot_in}
-use Rattle.sector_disk.specs.Disk.{current}
-use Rattle.sector_disk.specs.Served.{IsKept}
+use Rattle.{std.proofs.Common.{◌≡◌, length, take}, sector_disk.specs.{Disk.current, Served.IsKept}, hill_bytes.specs.Layout.{new_layout, slot_in}}
 use Rattle.hill_images.proofs.slots.read_new_slot.Given as goal
 
 abbrev pub invariant-loop-n : goal.invariant-loop-n

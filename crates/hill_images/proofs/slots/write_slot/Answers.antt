@@ -1,10 +1,5 @@
-use Rattle.std.proofs.Common.{◌≡◌, ◌∙◌, ◌+◌, [], ◌∷◌, get_or, arith, ap, refl, subst, suc, sym, take}
-use Rattle.std.proofs.lemmas.List.{take_all}
-use Rattle.sector_disk.specs.Disk.{wrote}
-use Rattle.sector_disk.specs.Changes.{after, Begun}
-use Rattle.sector_disk.proofs.Kept.{kept_on, kept_where_served}
-use Rattle.hill_bytes.specs.Layout.{new_layout, slot_at}
-use Rattle.hill_images.specs.Places.{writes_from}
+use Rattle.{std.proofs.{Common.{◌≡◌, ◌∙◌, ◌+◌, [], ◌∷◌, get_or, arith, ap, refl, subst, suc, sym, take}, lemmas.List.take_all}, sector_disk.specs.{Disk.wrote, Changes.{after, Begun}}}
+use Rattle.{sector_disk.proofs.Kept.{kept_on, kept_where_served}, hill_bytes.specs.Layout.{new_layout, slot_at}, hill_images.specs.Places.writes_from}
 use Rattle.hill_images.proofs.Sectors.{changes_cut, wrote_more, wrote_some}
 use Rattle.hill_images.proofs.slots.write_slot.Goals as goal
 

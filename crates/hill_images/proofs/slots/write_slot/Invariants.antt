@@ -1,9 +1,5 @@
 -- The sectors so far were written.
-use Rattle.std.proofs.Common.{◌≡◌, length, take}
-use Rattle.hill_bytes.specs.Layout.{new_layout, slot_at}
-use Rattle.sector_disk.specs.Changes.{after}
-use Rattle.sector_disk.specs.Served.{IsKept}
-use Rattle.hill_images.specs.Places.{writes_from}
+use Rattle.{std.proofs.Common.{◌≡◌, length, take}, sector_disk.specs.{Changes.after, Served.IsKept}, hill_bytes.specs.Layout.{new_layout, slot_at}, hill_images.specs.Places.writes_from}
 use Rattle.hill_images.proofs.slots.write_slot.Given as goal
 
 abbrev pub invariant-loop-n : goal.invariant-loop-n

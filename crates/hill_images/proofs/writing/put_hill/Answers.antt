@@ -1,6 +1,4 @@
-use Rattle.sector_disk.proofs.Images.{images_settled}
-use Rattle.hill_images.specs.Opening.{HoldsNone}
-use Rattle.hill_images.proofs.Puts.{none_synced, put_early, put_late, put_made}
+use Rattle.{sector_disk.proofs.Images.images_settled, hill_images.specs.Opening.HoldsNone, hill_images.proofs.Puts.{none_synced, put_early, put_late, put_made}}
 use Rattle.hill_images.proofs.writing.put_hill.Goals as goal
 
 pub returns-in_err-write_members-clause-put : goal.returns-in_err-write_members-clause-put

@@ -1,7 +1,4 @@
-use Rattle.std.proofs.Common.{refl, subst}
-use Rattle.sector_disk.specs.Disk.{current}
-use Rattle.koth_hill.specs.Kept.{new_kept}
-use Rattle.hill_images.specs.Opening.{HoldsOneIf, first_header}
+use Rattle.{std.proofs.Common.{refl, subst}, koth_hill.specs.Kept.new_kept, sector_disk.specs.Disk.current, hill_images.specs.Opening.{HoldsOneIf, first_header}}
 use Rattle.hill_images.proofs.Creations.{cut_early, written_or_not}
 use Rattle.hill_images.proofs.writing.write_first.Goals as goal
 

@@ -1,9 +1,5 @@
-use Rattle.std.proofs.Common.{◌≤◌, refl, subst}
-use Rattle.war_types.specs.declared.settings.RawSettings.{RawSettings}
-use Rattle.sector_disk.specs.Disk.{current}
-use Rattle.hill_bytes.specs.Layout.{sectors_for}
-use Rattle.hill_images.specs.Opening.{HoldsOneIf}
-use Rattle.hill_images.proofs.Creations.{cut_early, written_or_not}
+use Rattle.{std.proofs.Common.{◌≤◌, refl, subst}, war_types.specs.declared.settings.RawSettings.RawSettings, sector_disk.specs.Disk.current, hill_bytes.specs.Layout.sectors_for}
+use Rattle.{hill_images.specs.Opening.HoldsOneIf, hill_images.proofs.Creations.{cut_early, written_or_not}}
 use Rattle.hill_images.proofs.writing.write_hill.Goals as goal
 
 pub returns-in-Ok-false-clause-refused : goal.returns-in-Ok-false-clause-refused

@@ -1,12 +1,6 @@
-use Rattle.std.proofs.Common.{◌≡◌, length, take, min, get_or, List, ◌<◌, arith, length-take, refl, sym, ap, subst, ◌∙◌}
-use Rattle.koth_hill.specs.Hill.{Member}
-use Rattle.hill_bytes.specs.declared.header.HeaderEntry.{HeaderEntry}
-use Rattle.hill_bytes.specs.Layout.{IsTitled, new_layout, slot_at}
-use Rattle.hill_images.specs.Places.{new_entry, results_by_slot, writes_from}
-use Rattle.sector_disk.specs.Changes.{after}
-use Rattle.hill_images.proofs.Nexts.{agree_length}
-use Rattle.hill_images.proofs.WarriorsRead.{low_before, slot_there}
-use Rattle.hill_images.proofs.Stored.{below_entries, content_is, next_stored, none_cut, none_stored, row_long, stored_all, stored_next}
+use Rattle.{std.proofs.Common.{◌≡◌, length, take, min, get_or, List, ◌<◌, arith, length-take, refl, sym, ap, subst, ◌∙◌}, koth_hill.specs.Hill.Member, sector_disk.specs.Changes.after}
+use Rattle.{hill_bytes.specs.{declared.header.HeaderEntry.HeaderEntry, Layout.{IsTitled, new_layout, slot_at}}, hill_images.specs.Places.{new_entry, results_by_slot, writes_from}}
+use Rattle.hill_images.proofs.{Nexts.agree_length, WarriorsRead.{low_before, slot_there}, Stored.{below_entries, content_is, next_stored, none_cut, none_stored, row_long, stored_all, stored_next}}
 use Rattle.hill_images.proofs.writing.write_members.Goals as goal
 
 pub slice_bounds-results_by_slot-end : goal.slice_bounds-results_by_slot-end

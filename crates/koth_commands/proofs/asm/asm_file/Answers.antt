@@ -1,6 +1,5 @@
 -- What a file has is not what the input has.
-use Rattle.std.proofs.Common.{[]}
-use Rattle.koth_commands.proofs.Ends.{lost_ends}
+use Rattle.{std.proofs.Common.[], koth_commands.proofs.Ends.lost_ends}
 use Rattle.koth_commands.proofs.asm.asm_file.Goals as goal
 
 pub returns-in-Err : goal.returns-in-Err

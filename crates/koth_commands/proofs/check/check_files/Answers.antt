@@ -1,7 +1,5 @@
 -- One file more.
-use Rattle.std.proofs.Common.{rules, length, subst}
-use Rattle.koth_commands.specs.Check.{EndsCheckUnder}
-use Rattle.koth_commands.proofs.Checked.{all_checked, failed_check, one_checked}
+use Rattle.{std.proofs.Common.{rules, length, subst}, koth_commands.specs.Check.EndsCheckUnder, koth_commands.proofs.Checked.{all_checked, failed_check, one_checked}}
 use Rattle.koth_commands.proofs.check.check_files.Goals as goal
 
 pub returns-in-Err : goal.returns-in-Err

@@ -1,6 +1,5 @@
 -- What was found in the files so far; nothing is told yet.
-use Rattle.std.proofs.Common.{◌≡◌}
-use Rattle.koth_commands.proofs.Checked.{SoFar}
+use Rattle.{std.proofs.Common.◌≡◌, koth_commands.proofs.Checked.SoFar}
 use Rattle.koth_commands.proofs.check.check_files.Given as goal
 
 abbrev pub invariant-loop-path : goal.invariant-loop-path

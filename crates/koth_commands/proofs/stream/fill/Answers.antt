@@ -1,8 +1,5 @@
 -- What a read gives follows what came before.
-use Rattle.std.proofs.Common.{◌-◌, rules, length, sym, subst}
-use Rattle.std.specs.Io.KnownBytes.{Consumes}
-use Rattle.std.proofs.KnownBytes.{Consumes-trans}
-use Rattle.koth_commands.proofs.Parts.{take-put_mid_more}
+use Rattle.{std.proofs.Common.{◌-◌, rules, length, sym, subst}, std.specs.Io.KnownBytes.Consumes, std.proofs.KnownBytes.Consumes-trans, koth_commands.proofs.Parts.take-put_mid_more}
 use Rattle.koth_commands.proofs.stream.fill.Goals as goal
 
 pub loop-filled-preserved : goal.loop-filled-preserved

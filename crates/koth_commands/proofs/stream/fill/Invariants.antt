@@ -1,6 +1,5 @@
 -- What came so far fills the buffer up to here.
-use Rattle.std.proofs.Common.{length, ◌-◌, ◌≤◌, take}
-use Rattle.std.specs.Io.KnownBytes.{Consumes}
+use Rattle.{std.proofs.Common.{length, ◌-◌, ◌≤◌, take}, std.specs.Io.KnownBytes.Consumes}
 use Rattle.koth_commands.proofs.stream.fill.Given as goal
 
 abbrev pub invariant-loop-filled : goal.invariant-loop-filled

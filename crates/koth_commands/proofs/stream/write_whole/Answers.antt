@@ -1,7 +1,5 @@
 -- What a write takes goes from what is left to what is written.
-use Rattle.std.proofs.Common.{◌++◌, take}
-use Rattle.std.proofs.KnownBytes.{Appends-trans}
-use Rattle.koth_text.proofs.Parts.{moves_front}
+use Rattle.{std.proofs.{Common.{◌++◌, take}, KnownBytes.Appends-trans}, koth_text.proofs.Parts.moves_front}
 use Rattle.koth_commands.proofs.stream.write_whole.Goals as goal
 
 pub loop-rest-preserved : goal.loop-rest-preserved

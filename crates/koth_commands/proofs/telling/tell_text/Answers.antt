@@ -1,6 +1,5 @@
 -- Whole, or as far as standard error took it.
-use Rattle.std.proofs.Common.{refl}
-use Rattle.koth_commands.proofs.Told.{in_part}
+use Rattle.{std.proofs.Common.refl, koth_commands.proofs.Told.in_part}
 use Rattle.koth_commands.proofs.telling.tell_text.Goals as goal
 
 pub returns-clause-part : goal.returns-clause-part

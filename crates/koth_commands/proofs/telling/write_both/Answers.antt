@@ -1,6 +1,5 @@
 -- The second text follows the first.
-use Rattle.std.proofs.Common.{refl}
-use Rattle.koth_commands.proofs.Told.{both_err, first_err}
+use Rattle.{std.proofs.Common.refl, koth_commands.proofs.Told.{both_err, first_err}}
 use Rattle.koth_commands.proofs.telling.write_both.Goals as goal
 
 pub returns-in_err-write_whole-clause-part : goal.returns-in_err-write_whole-clause-part

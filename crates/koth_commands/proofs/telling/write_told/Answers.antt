@@ -1,6 +1,5 @@
 -- The text follows the word.
-use Rattle.std.proofs.Common.{ap, ◌++◌}
-use Rattle.koth_commands.proofs.Told.{both_err, first_err}
+use Rattle.{std.proofs.Common.{ap, ◌++◌}, koth_commands.proofs.Told.{both_err, first_err}}
 use Rattle.koth_commands.proofs.telling.write_told.Goals as goal
 
 pub returns-in_err-write_whole-clause-part : goal.returns-in_err-write_whole-clause-part

@@ -1,5 +1,4 @@
-use Rattle.std.proofs.Common.{◌^◌, arith, refl}
-use Rattle.koth_hill.proofs.Staying.{age-left, all-stayed, stayed-more}
+use Rattle.{std.proofs.Common.{◌^◌, arith, refl}, koth_hill.proofs.Staying.{age-left, all-stayed, stayed-more}}
 use Rattle.koth_hill.proofs.falls.stay_on.Goals as goal
 
 pub loop-member-preserved : goal.loop-member-preserved

@@ -1,6 +1,5 @@
 -- Those so far have stayed, and those that are left are as they were.
-use Rattle.std.proofs.Common.{◌≡◌, ◌++◌, map, take, drop}
-use Rattle.koth_hill.specs.Kept.{stayed}
+use Rattle.{std.proofs.Common.{◌≡◌, ◌++◌, map, take, drop}, koth_hill.specs.Kept.stayed}
 use Rattle.koth_hill.proofs.falls.stay_on.Given as goal
 
 abbrev pub invariant-loop-member : goal.invariant-loop-member

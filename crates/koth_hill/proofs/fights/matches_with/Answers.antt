@@ -1,7 +1,4 @@
-use Rattle.std.proofs.Common.{◌∙◌, ◌≡◌, All, List, arith, refl, subst, sym}
-use Rattle.std.proofs.lemmas.List.Elements.{All-nil}
-use Rattle.koth_match.specs.declared.bout.Bout.{Bout}
-use Rattle.koth_match.specs.Match.{rounds_in}
+use Rattle.{std.proofs.{Common.{◌∙◌, ◌≡◌, All, List, arith, refl, subst, sym}, lemmas.List.Elements.All-nil}, koth_match.specs.{declared.bout.Bout.Bout, Match.rounds_in}}
 use Rattle.koth_hill.proofs.Matches.{all-matched, fits-at, many-matches, matched-more, rounds-more}
 use Rattle.koth_hill.proofs.fights.matches_with.Goals as goal
 

@@ -1,8 +1,5 @@
 -- The matches so far are those with the ones before.
-use Rattle.std.proofs.Common.{◌≡◌, All, take}
-use Rattle.koth_match.specs.Match.{rounds_in}
-use Rattle.koth_hill.specs.Step.{matches_with}
-use Rattle.koth_hill.specs.Kept.{members_of}
+use Rattle.{std.proofs.Common.{◌≡◌, All, take}, koth_match.specs.Match.rounds_in, koth_hill.specs.{Step.matches_with, Kept.members_of}}
 use Rattle.koth_hill.proofs.fights.matches_with.Given as goal
 
 abbrev pub invariant-loop-member : goal.invariant-loop-member

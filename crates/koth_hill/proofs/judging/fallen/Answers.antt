@@ -1,6 +1,4 @@
-use Rattle.std.proofs.Common.{ℕ, ap₂, List}
-use Rattle.koth_match.specs.declared.bout.Bout.{Bout}
-use Rattle.std.proofs.Common.{Some, false}
+use Rattle.{std.proofs.Common.{ℕ, ap₂, List, Some, false}, koth_match.specs.declared.bout.Bout.Bout}
 use Rattle.koth_hill.proofs.judging.fallen.Goals as goal
 
 pub returns : goal.returns

@@ -1,6 +1,5 @@
 -- The sum so far and what is earned against those that are left are what is earned against all.
-use Rattle.std.proofs.Common.{◌≡◌, ◌+◌, ◌*◌, ◌≤◌, drop, map}
-use Rattle.koth_hill.specs.Standings.{standing_parts, entries_in, kept_in, points_among, left}
+use Rattle.{std.proofs.Common.{◌≡◌, ◌+◌, ◌*◌, ◌≤◌, drop, map}, koth_hill.specs.Standings.{standing_parts, entries_in, kept_in, points_among, left}}
 use Rattle.koth_hill.proofs.points.points.Given as goal
 
 abbrev pub invariant-loop-standing : goal.invariant-loop-standing

@@ -1,5 +1,4 @@
-use Rattle.std.proofs.Common.{◌∙◌, sym}
-use Rattle.koth_hill.proofs.Places.{no-older, no-younger, both-there}
+use Rattle.{std.proofs.Common.{◌∙◌, sym}, koth_hill.proofs.Places.{no-older, no-younger, both-there}}
 use Rattle.koth_hill.proofs.points.result_of.Goals as goal
 
 pub returns-in_err-older : goal.returns-in_err-older

@@ -1,6 +1,5 @@
 -- The scores so far and those of the ones that are left are those of all.
-use Rattle.std.proofs.Common.{◌≡◌, ◌≤◌, ◌++◌, length, map, drop}
-use Rattle.koth_hill.specs.Standings.{standing_parts, entries_in, kept_in, score_among, left}
+use Rattle.{std.proofs.Common.{◌≡◌, ◌≤◌, ◌++◌, length, map, drop}, koth_hill.specs.Standings.{standing_parts, entries_in, kept_in, score_among, left}}
 use Rattle.koth_hill.proofs.points.scores.Given as goal
 
 abbrev pub invariant-loop-standing : goal.invariant-loop-standing

@@ -1,6 +1,5 @@
 -- The scores that are left answer what all do.
-use Rattle.std.proofs.Common.{◌≡◌, drop}
-use Rattle.koth_hill.specs.Scores.{last_among}
+use Rattle.{std.proofs.Common.{◌≡◌, drop}, koth_hill.specs.Scores.last_among}
 use Rattle.koth_hill.proofs.score.last_among.Given as goal
 
 abbrev pub invariant-loop-score : goal.invariant-loop-score

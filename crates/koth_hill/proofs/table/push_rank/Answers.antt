@@ -1,7 +1,4 @@
-use Rattle.std.proofs.Common.{◌∙◌, ◌∷◌, [], ap, refl, sym, arith}
-use Rattle.std.proofs.lemmas.List.{map-append, length-map}
-use Rattle.koth_hill.specs.Rows.{row_parts, rows_parts}
-use Rattle.koth_hill.specs.Kept.{Entrant, members_of}
+use Rattle.{std.proofs.{Common.{◌∙◌, ◌∷◌, [], ap, refl, sym, arith}, lemmas.List.{map-append, length-map}}, koth_hill.specs.{Rows.{row_parts, rows_parts}, Kept.{Entrant, members_of}}}
 use Rattle.koth_hill.proofs.Tables.{member-at, row-pushed, row-passed, rows-last}
 use Rattle.koth_hill.proofs.table.push_rank.Goals.{then-rank_among-rank+in_ok-push, else-rank_among-rank}
 use Rattle.koth_hill.proofs.table.push_rank.Goals as goal

@@ -1,8 +1,5 @@
 -- The rows so far and those of the members that are left are all rows that are due.
-use Rattle.std.proofs.Common.{◌≡◌, ◌++◌, drop}
-use Rattle.koth_hill.specs.Rows.{rows_parts}
-use Rattle.koth_hill.specs.Table.{rows_of_rank}
-use Rattle.koth_hill.specs.Kept.{members_of}
+use Rattle.{std.proofs.Common.{◌≡◌, ◌++◌, drop}, koth_hill.specs.{Rows.rows_parts, Table.rows_of_rank, Kept.members_of}}
 use Rattle.koth_hill.proofs.table.push_rank.Given as goal
 
 abbrev pub invariant-loop-i : goal.invariant-loop-i

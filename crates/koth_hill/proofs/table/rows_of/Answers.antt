@@ -1,10 +1,5 @@
-use Rattle.std.proofs.Common.{◌≡◌, ◌∙◌, ◌+◌, ◌-◌, ◌++◌, List, ap, arith, length, map, subst, sym}
-use Rattle.koth_hill.specs.declared.score.Score.{Score}
-use Rattle.koth_hill.specs.Rows.{rows_parts}
-use Rattle.koth_hill.specs.Table.{rows_by_rank, rows_of_rank}
-use Rattle.koth_hill.specs.Kept.{members_of}
-use Rattle.koth_hill.specs.Standings.{HaveRounds, StandingParts, standing_parts}
-use Rattle.koth_hill.proofs.Tables.{scores-kept, scores-beside, table-kept, rank-more, rank-last}
+use Rattle.{std.proofs.Common.{◌≡◌, ◌∙◌, ◌+◌, ◌-◌, ◌++◌, List, ap, arith, length, map, subst, sym}, koth_hill.specs.{declared.score.Score.Score, Rows.rows_parts, Table.{rows_by_rank, rows_of_rank}}}
+use Rattle.{koth_hill.specs.{Kept.members_of, Standings.{HaveRounds, StandingParts, standing_parts}}, koth_hill.proofs.Tables.{scores-kept, scores-beside, table-kept, rank-more, rank-last}}
 use Rattle.koth_hill.proofs.table.rows_of.Goals as goal
 
 pub push_rank-requires-clause-beside : goal.push_rank-requires-clause-beside

@@ -1,8 +1,5 @@
 -- The rows so far and those of the ranks that are left are the table.
-use Rattle.std.proofs.Common.{◌≡◌, ◌+◌, ◌-◌, ◌++◌, length}
-use Rattle.koth_hill.specs.Rows.{rows_parts}
-use Rattle.koth_hill.specs.Table.{rows_by_rank}
-use Rattle.koth_hill.specs.Kept.{members_of}
+use Rattle.{std.proofs.Common.{◌≡◌, ◌+◌, ◌-◌, ◌++◌, length}, koth_hill.specs.{Rows.rows_parts, Table.rows_by_rank, Kept.members_of}}
 use Rattle.koth_hill.proofs.table.rows_of.Given as goal
 
 abbrev pub invariant-loop-place : goal.invariant-loop-place

@@ -1,6 +1,4 @@
-use Rattle.std.proofs.Common.{◌∙◌, codes, decimal}
-use Rattle.koth_http.specs.Response.{fields}
-use Rattle.koth_http.proofs.Parts.{part_named, three_parts}
+use Rattle.{std.proofs.Common.{◌∙◌, codes, decimal}, koth_http.specs.Response.fields, koth_http.proofs.Parts.{part_named, three_parts}}
 use Rattle.koth_http.proofs.response.put_fields.Goals as goal
 
 pub returns : goal.returns

@@ -1,6 +1,4 @@
-use Rattle.std.proofs.Common.{◌∙◌, ◌++◌, ap, codes}
-use Rattle.koth_http.specs.Response.{refusal_page, refusal_sentence}
-use Rattle.koth_http.proofs.Parts.{part_named, three_parts}
+use Rattle.{std.proofs.Common.{◌∙◌, ◌++◌, ap, codes}, koth_http.specs.Response.{refusal_page, refusal_sentence}, koth_http.proofs.Parts.{part_named, three_parts}}
 use Rattle.koth_http.proofs.response.refusal_page.Goals as goal
 
 pub returns : goal.returns

@@ -1,8 +1,4 @@
-use Rattle.std.specs.Str.{IsUtf8}
-use Rattle.std.specs.Result.{result_ok}
-use Rattle.std.proofs.Common.{◌∙◌, ap, sym, subst, decimal}
-use Rattle.std.proofs.lemmas.Fmt.{parse-decimal, IsAscii-decimal}
-use Rattle.std.proofs.lemmas.Str.{IsUtf8-from_ascii}
+use Rattle.{std.specs.{Str.IsUtf8, Result.result_ok}, std.proofs.{Common.{◌∙◌, ap, sym, subst, decimal}, lemmas.Fmt.{parse-decimal, IsAscii-decimal}, lemmas.Str.IsUtf8-from_ascii}}
 use Rattle.koth_http.proofs.target.number_read.Goals as goal
 
 pub returns-in-Ok : goal.returns-in-Ok

@@ -1,6 +1,4 @@
-use Rattle.std.proofs.Common.{◌∙◌, ap}
-use Rattle.koth_http.specs.Target.{page_of, path_of}
-use Rattle.koth_http.proofs.Targets.{answer-reads, page-found}
+use Rattle.{std.proofs.Common.{◌∙◌, ap}, koth_http.specs.Target.{page_of, path_of}, koth_http.proofs.Targets.{answer-reads, page-found}}
 use Rattle.koth_http.proofs.target.page_named.Goals as goal
 
 pub returns-clause-written : goal.returns-clause-written

@@ -1,5 +1,4 @@
-use Rattle.std.proofs.Common.{◌∙◌, sym, arith}
-use Rattle.koth_http.proofs.Numbers.{small-found, small-large, small-none}
+use Rattle.{std.proofs.Common.{◌∙◌, sym, arith}, koth_http.proofs.Numbers.{small-found, small-large, small-none}}
 use Rattle.koth_http.proofs.target.small_number.Goals as goal
 
 pub returns-in_err-number : goal.returns-in_err-number

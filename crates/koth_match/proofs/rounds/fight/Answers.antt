@@ -1,8 +1,6 @@
 -- Each round adds its outcome to the counts.
-use Rattle.std.proofs.Common.{◌≡◌, ◌∙◌, add-one, arith, subst, sym}
-use Rattle.koth_match.specs.Match.{match_of, round_outcomes, rounds_in, AreCounts}
-use Rattle.koth_match.proofs.Kept.{match_of-counts, one_more, so_many}
-use Rattle.koth_match.proofs.Sequence.{seed_of_round-next}
+use Rattle.{std.proofs.Common.{◌≡◌, ◌∙◌, add-one, arith, subst, sym}, koth_match.specs.Match.{match_of, round_outcomes, rounds_in, AreCounts}}
+use Rattle.koth_match.proofs.{Kept.{match_of-counts, one_more, so_many}, Sequence.seed_of_round-next}
 use Rattle.koth_match.proofs.rounds.fight.Goals as goal
 
 pub count-requires : goal.count-requires

@@ -1,7 +1,5 @@
 -- The counts are those of the rounds before this one, and the seed is this one's.
-use Rattle.std.proofs.Common.{◌≡◌}
-use Rattle.koth_match.specs.Match.{bout_before}
-use Rattle.koth_match.specs.Seeds.{seed_of_round, IsSeed}
+use Rattle.{std.proofs.Common.◌≡◌, koth_match.specs.{Match.bout_before, Seeds.{seed_of_round, IsSeed}}}
 use Rattle.koth_match.proofs.rounds.fight.Given as goal
 
 abbrev pub invariant-loop-round : goal.invariant-loop-round

@@ -1,7 +1,5 @@
 -- A round keeps the settings that it began with.
-use Rattle.std.proofs.Common.{◌∙◌, ap}
-use Rattle.mars_core.specs.Round.{Round}
-use Rattle.koth_match.proofs.Kept.{after_turns-settings}
+use Rattle.{std.proofs.Common.{◌∙◌, ap}, mars_core.specs.Round.Round, koth_match.proofs.Kept.after_turns-settings}
 use Rattle.koth_match.proofs.rounds.play_round.Goals as goal
 
 pub returns-clause-settings : goal.returns-clause-settings

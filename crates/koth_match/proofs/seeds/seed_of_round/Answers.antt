@@ -1,6 +1,5 @@
 -- Each round before it leads to the next seed.
-use Rattle.std.proofs.Common.{◌≡◌, add-one, arith}
-use Rattle.koth_match.proofs.Sequence.{seed_of_round-next}
+use Rattle.{std.proofs.Common.{◌≡◌, add-one, arith}, koth_match.proofs.Sequence.seed_of_round-next}
 use Rattle.koth_match.proofs.seeds.seed_of_round.Goals as goal
 
 pub loop-round-preserved : goal.loop-round-preserved

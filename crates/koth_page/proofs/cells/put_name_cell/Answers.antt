@@ -1,8 +1,5 @@
 -- The three parts of a cell.
-use Rattle.std.proofs.Common.{codes}
-use Rattle.koth_page.specs.Cells.{name_cell}
-use Rattle.koth_text.specs.Escape.{escaped}
-use Rattle.koth_text.proofs.Steps.{three_parts}
+use Rattle.{std.proofs.Common.codes, koth_text.specs.Escape.escaped, koth_text.proofs.Steps.three_parts, koth_page.specs.Cells.name_cell}
 use Rattle.koth_page.proofs.cells.put_name_cell.Goals as goal
 
 pub returns : goal.returns

@@ -1,6 +1,5 @@
 -- The cells so far are those of the numbers so far.
-use Rattle.std.proofs.Common.{◌≡◌, ◌++◌, take}
-use Rattle.koth_page.specs.Cells.{number_cells}
+use Rattle.{std.proofs.Common.{◌≡◌, ◌++◌, take}, koth_page.specs.Cells.number_cells}
 use Rattle.koth_page.proofs.cells.put_number_cells.Given as goal
 
 abbrev pub invariant-loop-number : goal.invariant-loop-number

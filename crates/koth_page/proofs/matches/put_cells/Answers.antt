@@ -1,8 +1,5 @@
 -- One cell more.
-use Rattle.koth_hill.specs.Rows.{row_parts, rows_parts}
-use Rattle.koth_page.specs.Matches.{match_cell}
-use Rattle.koth_text.proofs.Steps.{one_part_more}
-use Rattle.koth_views.proofs.Steps.{below_parts, row_at}
+use Rattle.{koth_hill.specs.Rows.{row_parts, rows_parts}, koth_text.proofs.Steps.one_part_more, koth_views.proofs.Steps.{below_parts, row_at}, koth_page.specs.Matches.match_cell}
 use Rattle.koth_page.proofs.matches.put_cells.Goals as goal
 
 pub loop-place-preserved : goal.loop-place-preserved

@@ -1,8 +1,5 @@
 -- The cells so far are those of the rows so far.
-use Rattle.std.proofs.Common.{◌≡◌, ◌++◌, take}
-use Rattle.std.specs.List.{flat_map}
-use Rattle.koth_hill.specs.Rows.{row_parts, rows_parts}
-use Rattle.koth_page.specs.Matches.{match_cell}
+use Rattle.{std.proofs.Common.{◌≡◌, ◌++◌, take}, std.specs.List.flat_map, koth_hill.specs.Rows.{row_parts, rows_parts}, koth_page.specs.Matches.match_cell}
 use Rattle.koth_page.proofs.matches.put_cells.Given as goal
 
 abbrev pub invariant-loop-place : goal.invariant-loop-place

@@ -1,8 +1,5 @@
 -- The five parts of a cell.
-use Rattle.std.proofs.Common.{codes}
-use Rattle.koth_hill.specs.Rows.{row_parts}
-use Rattle.koth_page.specs.Matches.{fought_cell, fought_text, sides_text}
-use Rattle.koth_text.proofs.Steps.{five_parts}
+use Rattle.{std.proofs.Common.codes, koth_hill.specs.Rows.row_parts, koth_text.proofs.Steps.five_parts, koth_page.specs.Matches.{fought_cell, fought_text, sides_text}}
 use Rattle.koth_page.proofs.matches.put_fought_cell.Goals as goal
 
 pub returns : goal.returns

@@ -1,10 +1,6 @@
 -- The headings between what begins and ends them.
-use Rattle.std.proofs.Common.{ℕ, codes}
-use Rattle.std.specs.List.{enumerate_from, flat_map}
-use Rattle.koth_hill.specs.Rows.{rows_parts}
-use Rattle.koth_hill.specs.Table.{RowParts}
+use Rattle.{std.proofs.Common.{ℕ, codes}, std.specs.List.{enumerate_from, flat_map}, koth_hill.specs.{Rows.rows_parts, Table.RowParts}, koth_text.proofs.Steps.three_parts}
 use Rattle.koth_page.specs.Matches.{matches_heading, rank_heading}
-use Rattle.koth_text.proofs.Steps.{three_parts}
 use Rattle.koth_page.proofs.matches.put_heading.Goals as goal
 
 pub returns : goal.returns

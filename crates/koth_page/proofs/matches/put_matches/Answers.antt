@@ -1,8 +1,6 @@
 -- Headings and rows, between what begins and ends the table.
-use Rattle.koth_hill.specs.Rows.{rows_parts}
-use Rattle.koth_page.specs.declared.parts.TheConstants.{MATCHES_START, TABLE_END}
-use Rattle.koth_page.specs.Matches.{matches_heading, matches_rows, matches_text}
-use Rattle.koth_text.proofs.Steps.{four_parts}
+use Rattle.{koth_hill.specs.Rows.rows_parts, koth_text.proofs.Steps.four_parts}
+use Rattle.koth_page.specs.{declared.parts.TheConstants.{MATCHES_START, TABLE_END}, Matches.{matches_heading, matches_rows, matches_text}}
 use Rattle.koth_page.proofs.matches.put_matches.Goals as goal
 
 pub returns : goal.returns

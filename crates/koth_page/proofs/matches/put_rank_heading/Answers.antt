@@ -1,8 +1,5 @@
 -- The five parts of a heading.
-use Rattle.std.proofs.Common.{codes, decimal}
-use Rattle.koth_text.specs.Escape.{escaped}
-use Rattle.koth_page.specs.Matches.{rank_heading}
-use Rattle.koth_text.proofs.Steps.{five_parts}
+use Rattle.{std.proofs.Common.{codes, decimal}, koth_text.specs.Escape.escaped, koth_text.proofs.Steps.five_parts, koth_page.specs.Matches.rank_heading}
 use Rattle.koth_page.proofs.matches.put_rank_heading.Goals as goal
 
 pub returns : goal.returns

@@ -1,8 +1,5 @@
 -- One heading more.
-use Rattle.std.proofs.Common.{ℕ}
-use Rattle.koth_hill.specs.Table.{RowParts}
-use Rattle.koth_page.specs.Matches.{rank_heading}
-use Rattle.koth_page.proofs.Steps.{one_row_more}
+use Rattle.{std.proofs.Common.ℕ, koth_hill.specs.Table.RowParts, koth_page.specs.Matches.rank_heading, koth_page.proofs.Steps.one_row_more}
 use Rattle.koth_page.proofs.matches.put_rank_headings.Goals as goal
 
 pub loop-place-preserved : goal.loop-place-preserved

@@ -1,8 +1,5 @@
 -- The headings so far are those of the rows so far.
-use Rattle.std.proofs.Common.{◌≡◌, ◌++◌, take}
-use Rattle.std.specs.List.{enumerate_from, flat_map}
-use Rattle.koth_hill.specs.Rows.{rows_parts}
-use Rattle.koth_page.specs.Matches.{rank_heading}
+use Rattle.{std.proofs.Common.{◌≡◌, ◌++◌, take}, std.specs.List.{enumerate_from, flat_map}, koth_hill.specs.Rows.rows_parts, koth_page.specs.Matches.rank_heading}
 use Rattle.koth_page.proofs.matches.put_rank_headings.Given as goal
 
 abbrev pub invariant-loop-place : goal.invariant-loop-place

@@ -1,9 +1,5 @@
 -- One row more.
-use Rattle.std.proofs.Common.{ℕ}
-use Rattle.koth_hill.specs.Rows.{rows_parts}
-use Rattle.koth_hill.specs.Table.{RowParts}
-use Rattle.koth_page.specs.Matches.{matches_row}
-use Rattle.koth_page.proofs.Steps.{one_row_more}
+use Rattle.{std.proofs.Common.ℕ, koth_hill.specs.{Rows.rows_parts, Table.RowParts}, koth_page.specs.Matches.matches_row, koth_page.proofs.Steps.one_row_more}
 use Rattle.koth_page.proofs.matches.put_rows.Goals as goal
 
 pub loop-place-preserved : goal.loop-place-preserved

@@ -1,7 +1,5 @@
 -- The rows so far are put.
-use Rattle.std.proofs.Common.{◌≡◌, ◌++◌, take}
-use Rattle.koth_hill.specs.Rows.{rows_parts}
-use Rattle.koth_page.specs.Matches.{matches_rows}
+use Rattle.{std.proofs.Common.{◌≡◌, ◌++◌, take}, koth_hill.specs.Rows.rows_parts, koth_page.specs.Matches.matches_rows}
 use Rattle.koth_page.proofs.matches.put_rows.Given as goal
 
 abbrev pub invariant-loop-place : goal.invariant-loop-place

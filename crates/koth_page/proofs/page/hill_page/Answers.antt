@@ -1,14 +1,6 @@
 -- What holds of every page holds of this one.
-use Rattle.std.proofs.Common.{◌≡◌, true, ap, ◌∙◌}
-use Rattle.std.specs.List.{list_all}
-use Rattle.std.proofs.lemmas.Result.{IfOk-weaker}
-use Rattle.koth_text.specs.Characters.{is_page_byte, markup_of}
-use Rattle.koth_text.proofs.Ascii.{harmless}
-use Rattle.koth_page.specs.Laws.{nameless, with_seed}
-use Rattle.koth_page.specs.Page.{hill_page}
-use Rattle.koth_page.proofs.Ascii.{ascii}
-use Rattle.koth_page.proofs.Markup.{markup}
-use Rattle.koth_page.proofs.Seed.{page-seed}
+use Rattle.{std.proofs.Common.{◌≡◌, true, ap, ◌∙◌}, std.specs.List.list_all, std.proofs.lemmas.Result.IfOk-weaker, koth_text.specs.Characters.{is_page_byte, markup_of}}
+use Rattle.{koth_text.proofs.Ascii.harmless, koth_page.specs.{Laws.{nameless, with_seed}, Page.hill_page}, koth_page.proofs.{Ascii.ascii, Markup.markup, Seed.page-seed}}
 use Rattle.koth_page.proofs.page.hill_page.Goals as goal
 
 pub returns-clause-harmless : goal.returns-clause-harmless

@@ -1,10 +1,6 @@
 -- The four parts of a page.
-use Rattle.std.proofs.Common.{◌++◌, ◌∙◌, ap}
-use Rattle.koth_hill.specs.Rows.{rows_parts}
-use Rattle.koth_text.proofs.Steps.{four_parts}
-use Rattle.koth_page.specs.declared.parts.TheConstants.{END, HEAD}
-use Rattle.koth_page.specs.Page.{page_of, tables_text}
-use Rattle.koth_page.specs.Settings.{settings_text}
+use Rattle.{std.proofs.Common.{◌++◌, ◌∙◌, ap}, koth_hill.specs.Rows.rows_parts, koth_text.proofs.Steps.four_parts}
+use Rattle.koth_page.specs.{declared.parts.TheConstants.{END, HEAD}, Page.{page_of, tables_text}, Settings.settings_text}
 use Rattle.koth_page.proofs.page.put_page.Goals as goal
 
 pub returns : goal.returns

@@ -1,11 +1,6 @@
 -- One row more.
-use Rattle.std.proofs.Common.{ℕ, ◌+◌, ◌++◌, ◌∙◌, ap}
-use Rattle.koth_hill.specs.Rows.{row_parts}
-use Rattle.koth_hill.specs.Table.{RowParts}
-use Rattle.koth_text.specs.declared.tally.Tally.{Tally}
-use Rattle.koth_views.specs.Tally.{against_all}
-use Rattle.koth_page.specs.Standing.{standing_row}
-use Rattle.koth_page.proofs.Steps.{one_row_more}
+use Rattle.{std.proofs.Common.{ℕ, ◌+◌, ◌++◌, ◌∙◌, ap}, koth_hill.specs.{Rows.row_parts, Table.RowParts}, koth_text.specs.declared.tally.Tally.Tally, koth_views.specs.Tally.against_all}
+use Rattle.{koth_page.specs.Standing.standing_row, koth_page.proofs.Steps.one_row_more}
 use Rattle.koth_page.proofs.standing.put_rows.Goals as goal
 
 pub loop-place-preserved : goal.loop-place-preserved

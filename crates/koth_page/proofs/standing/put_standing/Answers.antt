@@ -1,8 +1,6 @@
 -- Headings and rows, between what begins and ends the table.
-use Rattle.koth_hill.specs.Rows.{rows_parts}
-use Rattle.koth_page.specs.declared.parts.TheConstants.{STANDING_START, TABLE_END}
-use Rattle.koth_page.specs.Standing.{standing_heading, standing_rows, standing_text}
-use Rattle.koth_text.proofs.Steps.{four_parts}
+use Rattle.{koth_hill.specs.Rows.rows_parts, koth_text.proofs.Steps.four_parts}
+use Rattle.koth_page.specs.{declared.parts.TheConstants.{STANDING_START, TABLE_END}, Standing.{standing_heading, standing_rows, standing_text}}
 use Rattle.koth_page.proofs.standing.put_standing.Goals as goal
 
 pub returns : goal.returns

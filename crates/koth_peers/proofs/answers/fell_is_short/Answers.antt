@@ -1,5 +1,4 @@
-use Rattle.std.proofs.Common.{arith}
-use Rattle.koth_peers.proofs.Lengths.{fell}
+use Rattle.{std.proofs.Common.arith, koth_peers.proofs.Lengths.fell}
 use Rattle.koth_peers.proofs.answers.fell_is_short.Goals as goal
 
 pub returns : goal.returns

@@ -1,5 +1,4 @@
-use Rattle.std.proofs.Common.{arith}
-use Rattle.koth_peers.proofs.Lengths.{placed}
+use Rattle.{std.proofs.Common.arith, koth_peers.proofs.Lengths.placed}
 use Rattle.koth_peers.proofs.answers.placed_is_short.Goals as goal
 
 pub returns : goal.returns

@@ -1,5 +1,4 @@
-use Rattle.std.proofs.Common.{arith}
-use Rattle.koth_peers.proofs.Lengths.{refused}
+use Rattle.{std.proofs.Common.arith, koth_peers.proofs.Lengths.refused}
 use Rattle.koth_peers.proofs.answers.refused_is_short.Goals as goal
 
 pub returns : goal.returns

@@ -1,6 +1,5 @@
 -- The table is put in, or the session ends.
-use Rattle.std.proofs.Common.{◌∙◌}
-use Rattle.koth_peers.proofs.Answering.{table_said}
+use Rattle.{std.proofs.Common.◌∙◌, koth_peers.proofs.Answering.table_said}
 use Rattle.koth_peers.proofs.answers.show.Goals as goal
 
 pub returns-in-Ok : goal.returns-in-Ok

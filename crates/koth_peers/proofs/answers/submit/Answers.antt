@@ -1,7 +1,5 @@
 -- A submission is answered by the line of its reply.
-use Rattle.std.proofs.Common.{sym, ◌∙◌}
-use Rattle.koth_peers.proofs.Answering.{reply_said}
-use Rattle.koth_session.proofs.Submissions.{exchanged}
+use Rattle.{std.proofs.Common.{sym, ◌∙◌}, koth_session.proofs.Submissions.exchanged, koth_peers.proofs.Answering.reply_said}
 use Rattle.koth_peers.proofs.answers.submit.Goals as goal
 
 pub returns : goal.returns

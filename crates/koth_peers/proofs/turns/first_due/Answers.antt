@@ -1,6 +1,5 @@
 -- Slot by slot.
-use Rattle.std.proofs.Common.{◌∙◌, arith, sym}
-use Rattle.koth_peers.proofs.FirstDue.{due_here, none_more}
+use Rattle.{std.proofs.Common.{◌∙◌, arith, sym}, koth_peers.proofs.FirstDue.{due_here, none_more}}
 use Rattle.koth_peers.proofs.turns.first_due.Goals as goal
 
 pub returns-then-is_due : goal.returns-then-is_due

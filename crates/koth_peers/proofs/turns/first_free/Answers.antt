@@ -1,6 +1,5 @@
 -- Slot by slot.
-use Rattle.std.proofs.Common.{◌∙◌, ap, arith, not}
-use Rattle.koth_peers.proofs.FirstDue.{free_here, taken_more}
+use Rattle.{std.proofs.Common.{◌∙◌, ap, arith, not}, koth_peers.proofs.FirstDue.{free_here, taken_more}}
 use Rattle.koth_peers.proofs.turns.first_free.Goals as goal
 
 pub returns-then-is_none : goal.returns-then-is_none

@@ -1,6 +1,5 @@
 -- None before this one is free.
-use Rattle.std.proofs.Common.{ℕ, ◌<◌, IsSome}
-use Rattle.koth_peers.specs.Peers.{peer_at}
+use Rattle.{std.proofs.Common.{ℕ, ◌<◌, IsSome}, koth_peers.specs.Peers.peer_at}
 use Rattle.koth_peers.proofs.turns.first_free.Given as goal
 
 abbrev pub invariant-loop-number : goal.invariant-loop-number

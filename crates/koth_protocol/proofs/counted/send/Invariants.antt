@@ -1,6 +1,5 @@
 -- What is written and what is left are the text.
-use Rattle.std.proofs.Common.{◌≡◌, ◌++◌, List, ℕ, length}
-use Rattle.std.specs.Io.KnownBytes.{Appends}
+use Rattle.{std.proofs.Common.{◌≡◌, ◌++◌, List, ℕ, length}, std.specs.Io.KnownBytes.Appends}
 use Rattle.koth_protocol.proofs.counted.send.Given as goal
 
 abbrev pub invariant-loop-rest : goal.invariant-loop-rest

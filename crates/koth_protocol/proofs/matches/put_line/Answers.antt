@@ -1,8 +1,5 @@
 -- One cell more.
-use Rattle.std.proofs.Common.{ℕ, ◌+◌, decimal, get_or, take}
-use Rattle.std.specs.List.{flat_map}
-use Rattle.koth_hill.specs.Rows.{rows_parts}
-use Rattle.koth_protocol.specs.Matches.{cell, entries_shown, right, told_of}
+use Rattle.{std.proofs.Common.{ℕ, ◌+◌, decimal, get_or, take}, std.specs.List.flat_map, koth_hill.specs.Rows.rows_parts, koth_protocol.specs.Matches.{cell, entries_shown, right, told_of}}
 use Rattle.koth_protocol.proofs.MatchLines.{one-cell_more, put_behind}
 use Rattle.koth_protocol.proofs.matches.put_line.Goals as goal
 

@@ -1,8 +1,5 @@
 -- The cells so far are those of the rows so far.
-use Rattle.std.proofs.Common.{◌≡◌, ◌++◌, take, decimal}
-use Rattle.std.specs.List.{flat_map}
-use Rattle.koth_hill.specs.Rows.{rows_parts}
-use Rattle.koth_protocol.specs.Matches.{cell, entries_shown, right, told_of}
+use Rattle.{std.proofs.Common.{◌≡◌, ◌++◌, take, decimal}, std.specs.List.flat_map, koth_hill.specs.Rows.rows_parts, koth_protocol.specs.Matches.{cell, entries_shown, right, told_of}}
 use Rattle.koth_protocol.proofs.matches.put_line.Given as goal
 
 abbrev pub invariant-loop-place : goal.invariant-loop-place

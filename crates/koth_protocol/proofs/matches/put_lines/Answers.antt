@@ -1,8 +1,5 @@
 -- One line more.
-use Rattle.std.proofs.Common.{ℕ, [], ◌+◌, get_or, take}
-use Rattle.std.specs.List.{enumerate_from, flat_map}
-use Rattle.koth_hill.specs.Rows.{rows_parts}
-use Rattle.koth_protocol.specs.Matches.{entries_shown, entry_line}
+use Rattle.{std.proofs.Common.{ℕ, [], ◌+◌, get_or, take}, std.specs.List.{enumerate_from, flat_map}, koth_hill.specs.Rows.rows_parts, koth_protocol.specs.Matches.{entries_shown, entry_line}}
 use Rattle.koth_protocol.proofs.MatchLines.{one-line_more, put_behind}
 use Rattle.koth_protocol.proofs.matches.put_lines.Goals as goal
 

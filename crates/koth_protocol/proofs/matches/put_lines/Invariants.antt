@@ -1,8 +1,5 @@
 -- The lines so far are those of the rows so far.
-use Rattle.std.proofs.Common.{◌≡◌, ◌++◌, take}
-use Rattle.std.specs.List.{enumerate_from, flat_map}
-use Rattle.koth_hill.specs.Rows.{rows_parts}
-use Rattle.koth_protocol.specs.Matches.{entries_shown, entry_line}
+use Rattle.{std.proofs.Common.{◌≡◌, ◌++◌, take}, std.specs.List.{enumerate_from, flat_map}, koth_hill.specs.Rows.rows_parts, koth_protocol.specs.Matches.{entries_shown, entry_line}}
 use Rattle.koth_protocol.proofs.matches.put_lines.Given as goal
 
 abbrev pub invariant-loop-place : goal.invariant-loop-place

@@ -1,8 +1,5 @@
 -- One cell more.
-use Rattle.std.proofs.Common.{ℕ, ◌+◌, codes, decimal}
-use Rattle.std.specs.List.{flat_map, range_with_len}
-use Rattle.koth_protocol.specs.Matches.{cell}
-use Rattle.koth_protocol.proofs.MatchLines.{one-rank_more, put_behind}
+use Rattle.{std.proofs.Common.{ℕ, ◌+◌, codes, decimal}, std.specs.List.{flat_map, range_with_len}, koth_protocol.specs.Matches.cell, koth_protocol.proofs.MatchLines.{one-rank_more, put_behind}}
 use Rattle.koth_protocol.proofs.matches.put_ranks.Goals as goal
 
 pub loop-place-preserved : goal.loop-place-preserved

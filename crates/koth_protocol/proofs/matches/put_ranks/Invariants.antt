@@ -1,7 +1,5 @@
 -- The cells so far are those of the ranks so far.
-use Rattle.std.proofs.Common.{◌≡◌, ◌++◌, codes, decimal}
-use Rattle.std.specs.List.{flat_map, range_with_len}
-use Rattle.koth_protocol.specs.Matches.{cell}
+use Rattle.{std.proofs.Common.{◌≡◌, ◌++◌, codes, decimal}, std.specs.List.{flat_map, range_with_len}, koth_protocol.specs.Matches.cell}
 use Rattle.koth_protocol.proofs.matches.put_ranks.Given as goal
 
 abbrev pub invariant-loop-place : goal.invariant-loop-place

@@ -1,5 +1,4 @@
-use Rattle.std.proofs.Common.{rules}
-use Rattle.koth_protocol.proofs.Readings.{ends_return, ends_otherwise}
+use Rattle.{std.proofs.Common.rules, koth_protocol.proofs.Readings.{ends_return, ends_otherwise}}
 use Rattle.koth_protocol.proofs.script.without_return.Goals as goal
 
 pub returns-then-line-end-eq13 : goal.returns-then-line-end-eq13

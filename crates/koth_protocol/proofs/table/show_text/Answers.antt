@@ -1,7 +1,5 @@
 -- One row more.
-use Rattle.std.proofs.Common.{◌≡◌, ◌+◌, ◌++◌, ◌∙◌, ap, arith, rules, sym, take}
-use Rattle.koth_hill.specs.Rows.{row_parts, rows_parts}
-use Rattle.koth_protocol.specs.Table.{row_line, row_lines}
+use Rattle.{std.proofs.Common.{◌≡◌, ◌+◌, ◌++◌, ◌∙◌, ap, arith, rules, sym, take}, koth_hill.specs.Rows.{row_parts, rows_parts}, koth_protocol.specs.Table.{row_line, row_lines}}
 use Rattle.koth_protocol.proofs.RowLines.{one_more}
 use Rattle.koth_protocol.proofs.table.show_text.Goals as goal
 

@@ -1,6 +1,5 @@
 -- One cell more.
-use Rattle.std.proofs.Common.{refl}
-use Rattle.koth_replay.proofs.Untold.{held_more, now-found}
+use Rattle.{std.proofs.Common.refl, koth_replay.proofs.Untold.{held_more, now-found}}
 use Rattle.koth_replay.proofs.changes.held_at.Goals as goal
 
 pub loop-place-preserved : goal.loop-place-preserved

@@ -1,6 +1,5 @@
 -- What the cells before this one hold.
-use Rattle.std.proofs.Common.{◌≡◌, ◌++◌, map, take, drop, replicate}
-use Rattle.mars_core.specs.Cells.{blank, cell}
+use Rattle.{std.proofs.Common.{◌≡◌, ◌++◌, map, take, drop, replicate}, mars_core.specs.Cells.{blank, cell}}
 use Rattle.koth_replay.proofs.changes.held_at.Given as goal
 
 abbrev pub invariant-loop-place : goal.invariant-loop-place

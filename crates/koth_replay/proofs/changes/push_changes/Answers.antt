@@ -1,6 +1,5 @@
 -- The events of one cell more: no cell before it can have changed since the last one, and in the end no cell after it.
-use Rattle.std.proofs.Common.{ℕ, ◌<◌, ◌++◌, ◌∙◌, List, length, slice_index, sym, ap, arith}
-use Rattle.koth_replay.specs.declared.event.Event.{Event}
+use Rattle.{std.proofs.Common.{ℕ, ◌<◌, ◌++◌, ◌∙◌, List, length, slice_index, sym, ap, arith}, koth_replay.specs.declared.event.Event.Event}
 use Rattle.koth_replay.proofs.Untold.{change_told, held_there, none_before, none_behind, now-found}
 use Rattle.koth_replay.proofs.changes.push_changes.Goals as goal
 

@@ -1,9 +1,5 @@
 -- The events of the cells before this number.
-use Rattle.std.proofs.Common.{◌≡◌, ◌≤◌, ◌-◌, ◌++◌, List, map}
-use Rattle.war_types.specs.declared.instr.Instr.{Instr}
-use Rattle.mars_core.specs.Cells.{cell}
-use Rattle.mars_core.specs.Touched.{AreSameBut}
-use Rattle.koth_replay.specs.Turn.{core_events}
+use Rattle.{std.proofs.Common.{◌≡◌, ◌≤◌, ◌-◌, ◌++◌, List, map}, war_types.specs.declared.instr.Instr.Instr, mars_core.specs.{Cells.cell, Touched.AreSameBut}, koth_replay.specs.Turn.core_events}
 use Rattle.koth_replay.proofs.changes.push_changes.Given as goal
 
 abbrev pub invariant-loop-place : goal.invariant-loop-place

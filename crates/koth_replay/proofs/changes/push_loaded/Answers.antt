@@ -1,7 +1,5 @@
 -- One cell more.
-use Rattle.std.proofs.Common.{replicate}
-use Rattle.mars_core.specs.Cells.{blank}
-use Rattle.koth_replay.proofs.Untold.{blank-there, change_told, now-found}
+use Rattle.{std.proofs.Common.replicate, mars_core.specs.Cells.blank, koth_replay.proofs.Untold.{blank-there, change_told, now-found}}
 use Rattle.koth_replay.proofs.changes.push_loaded.Goals as goal
 
 pub loop-at-preserved : goal.loop-at-preserved

@@ -1,8 +1,5 @@
 -- The turns that are kept and those that are played after them are all of the round.
-use Rattle.std.proofs.Common.{◌∙◌, ap}
-use Rattle.mars_core.specs.Round.{Round}
-use Rattle.koth_match.proofs.Kept.{after_turn-settings, after_turns-settings}
-use Rattle.koth_replay.proofs.Histories.{kept-of}
+use Rattle.{std.proofs.Common.{◌∙◌, ap}, mars_core.specs.Round.Round, koth_match.proofs.Kept.{after_turn-settings, after_turns-settings}, koth_replay.proofs.Histories.kept-of}
 use Rattle.koth_replay.proofs.playing.played.Goals as goal
 
 pub returns-clause-replay : goal.returns-clause-replay

@@ -1,6 +1,5 @@
 -- The round begins as that of the match.
-use Rattle.std.proofs.Common.{◌+◌, ap}
-use Rattle.koth_replay.proofs.Histories.{replays}
+use Rattle.{std.proofs.Common.{◌+◌, ap}, koth_replay.proofs.Histories.replays}
 use Rattle.koth_replay.proofs.playing.replay.Goals as goal
 
 pub returns-clause-replay : goal.returns-clause-replay

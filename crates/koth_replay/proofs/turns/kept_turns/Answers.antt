@@ -1,12 +1,7 @@
 -- A turn adds its events to those so far; a round that is over stays as it is.
-use Rattle.std.proofs.Common.{◌≡◌, ◌+◌, length, true, false, ◌∙◌, sym, ap, refl, arith}
-use Rattle.war_types.specs.declared.settings.RawSettings.{RawSettings}
-use Rattle.mars_core.specs.Round.{Round, is_over, after_turn, after_turns}
-use Rattle.koth_replay.specs.Turn.{turn_events}
-use Rattle.koth_replay.proofs.Drawing.{side-next}
-use Rattle.koth_match.proofs.Kept.{after_turn-settings}
-use Rattle.koth_replay.proofs.Endings.{after_turn-used, stays-over}
-use Rattle.koth_replay.proofs.Histories.{no-turns, no-turns-yet, one_more, turns-more}
+use Rattle.{std.proofs.Common.{◌≡◌, ◌+◌, length, true, false, ◌∙◌, sym, ap, refl, arith}, war_types.specs.declared.settings.RawSettings.RawSettings}
+use Rattle.{mars_core.specs.Round.{Round, is_over, after_turn, after_turns}, koth_match.proofs.Kept.after_turn-settings, koth_replay.specs.Turn.turn_events}
+use Rattle.koth_replay.proofs.{Drawing.side-next, Endings.{after_turn-used, stays-over}, Histories.{no-turns, no-turns-yet, one_more, turns-more}}
 use Rattle.koth_replay.proofs.turns.kept_turns.Goals as goal
 
 pub loop-turn-init : goal.loop-turn-init

@@ -1,7 +1,5 @@
 -- Of each pass: the turns so far are those from the start on, and the cells and the side are those of the arena.
-use Rattle.std.proofs.Common.{◌≡◌, ◌+◌, length}
-use Rattle.mars_core.specs.Round.{after_turns, IsRound}
-use Rattle.koth_replay.specs.Code.{turns_of, AreTurns}
+use Rattle.{std.proofs.Common.{◌≡◌, ◌+◌, length}, mars_core.specs.Round.{after_turns, IsRound}, koth_replay.specs.Code.{turns_of, AreTurns}}
 use Rattle.koth_replay.proofs.turns.kept_turns.Given as goal
 
 abbrev pub invariant-loop-turn : goal.invariant-loop-turn

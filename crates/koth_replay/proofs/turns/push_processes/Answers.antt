@@ -1,7 +1,4 @@
-use Rattle.std.proofs.Common.{◌++◌, ◌∙◌, ap, sym, arith, take_all}
-use Rattle.mars_core.specs.Round.{queue_of}
-use Rattle.koth_replay.specs.Turn.{process_events}
-use Rattle.koth_replay.proofs.Steps.{no_process, process_more}
+use Rattle.{std.proofs.Common.{◌++◌, ◌∙◌, ap, sym, arith, take_all}, mars_core.specs.Round.queue_of, koth_replay.specs.Turn.process_events, koth_replay.proofs.Steps.{no_process, process_more}}
 use Rattle.koth_replay.proofs.turns.push_processes.Goals as goal
 
 pub loop-i-init : goal.loop-i-init

@@ -1,11 +1,6 @@
 -- If there is no turn, nothing changes; else what is put are the events of the turn.
-use Rattle.std.proofs.Common.{◌∙◌, refl, sym, ap, subst}
-use Rattle.war_types.specs.declared.settings.RawSettings.{RawSettings}
-use Rattle.mars_core.specs.Round.{Round, after_turn}
-use Rattle.mars_core.specs.Touched.{AreSameBut}
-use Rattle.koth_match.proofs.Kept.{after_turn-settings}
-use Rattle.koth_replay.proofs.Endings.{stays-over}
-use Rattle.koth_replay.proofs.Histories.{turn_told}
+use Rattle.{std.proofs.Common.{◌∙◌, refl, sym, ap, subst}, war_types.specs.declared.settings.RawSettings.RawSettings, mars_core.specs.{Round.{Round, after_turn}, Touched.AreSameBut}}
+use Rattle.{koth_match.proofs.Kept.after_turn-settings, koth_replay.proofs.{Endings.stays-over, Histories.turn_told}}
 use Rattle.koth_replay.proofs.turns.turn_events.Goals as goal
 
 pub returns-in_default-clause-after : goal.returns-in_default-clause-after

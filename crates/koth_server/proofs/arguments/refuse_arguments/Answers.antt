@@ -1,6 +1,5 @@
 -- A text that is written is some text.
-use Rattle.std.proofs.Common.{refl}
-use Rattle.koth_commands.proofs.Told.{in_part}
+use Rattle.{std.proofs.Common.refl, koth_commands.proofs.Told.in_part}
 use Rattle.koth_server.proofs.arguments.refuse_arguments.Goals as goal
 
 pub returns-in-Err-clause-told : goal.returns-in-Err-clause-told

@@ -1,8 +1,5 @@
 -- The hill that opens is some hill; if none opens, nothing is written.
-use Rattle.std.proofs.Common.{inr}
-use Rattle.koth_server.specs.Audit.{SaysAudit}
-use Rattle.koth_server.proofs.Audited.{some_audit}
-use Rattle.koth_server.proofs.Said.{nothing}
+use Rattle.{std.proofs.Common.inr, koth_server.specs.Audit.SaysAudit, koth_server.proofs.{Audited.some_audit, Said.nothing}}
 use Rattle.koth_server.proofs.audit.audit.Goals as goal
 
 pub returns-in-Ok-clause-ends : goal.returns-in-Ok-clause-ends

@@ -1,7 +1,4 @@
-use Rattle.std.proofs.Common.{refl, sym, subst}
-use Rattle.koth_commands.proofs.Told.{in_part}
-use Rattle.koth_protocol.specs.Written.{WritesPart}
-use Rattle.koth_server.specs.Audit.{told_of, untrue_text}
+use Rattle.{std.proofs.Common.{refl, sym, subst}, koth_protocol.specs.Written.WritesPart, koth_commands.proofs.Told.in_part, koth_server.specs.Audit.{told_of, untrue_text}}
 use Rattle.koth_server.proofs.audit.finish.Goals as goal
 
 pub returns-in-Some-clause-told : goal.returns-in-Some-clause-told

@@ -1,7 +1,5 @@
 -- Three lines, as far as standard error took them.
-use Rattle.std.proofs.Common.{◌∙◌, ◌++◌, List, ℕ, ap₂, codes}
-use Rattle.koth_commands.proofs.Told.{both_err, both_ok, first_err}
-use Rattle.koth_server.specs.Audit.{counts_line, pair_line}
+use Rattle.{std.proofs.Common.{◌∙◌, ◌++◌, List, ℕ, ap₂, codes}, koth_commands.proofs.Told.{both_err, both_ok, first_err}, koth_server.specs.Audit.{counts_line, pair_line}}
 use Rattle.koth_server.proofs.audit.write_untrue.Goals as goal
 
 pub returns-in_err-write_whole-clause-part : goal.returns-in_err-write_whole-clause-part

@@ -1,6 +1,5 @@
 -- What is said of two devices is said of those in the files.
-use Rattle.std.proofs.Common.{inl, inr}
-use Rattle.koth_server.proofs.Said.{says_migrated, says_refused}
+use Rattle.{std.proofs.Common.{inl, inr}, koth_server.proofs.Said.{says_migrated, says_refused}}
 use Rattle.koth_server.proofs.migrate.migrate_files.Goals as goal
 
 pub returns : goal.returns

@@ -1,5 +1,4 @@
-use Rattle.koth_server.proofs.Said.{of_some_hill}
-use Rattle.koth_server.specs.Page.{PagesOf}
+use Rattle.{koth_server.specs.Page.PagesOf, koth_server.proofs.Said.of_some_hill}
 use Rattle.koth_server.proofs.page.page_file.Goals as goal
 
 pub returns-in-Ok : goal.returns-in-Ok

@@ -1,7 +1,5 @@
 -- Nobody before this place entered as this one.
-use Rattle.std.proofs.Common.{◌≡◌, ℕ, ◌<◌}
-use Rattle.std.specs.Prelude.{Some, slice_get}
-use Rattle.koth_hill.specs.Hill.{Member}
+use Rattle.{std.proofs.Common.{◌≡◌, ℕ, ◌<◌}, std.specs.Prelude.{Some, slice_get}, koth_hill.specs.Hill.Member}
 use Rattle.koth_server.proofs.pages.warrior_of.Given as goal
 
 abbrev pub invariant-loop-place : goal.invariant-loop-place

@@ -1,7 +1,5 @@
 -- What a run promises for its arguments, from how its request ended, or from why there is none.
-use Rattle.std.proofs.Common.{None, codes, map, string_bytes}
-use Rattle.koth_words.specs.Words.{given_by}
-use Rattle.koth_server.proofs.Carried.{carried, fault_without, without, words_without, wrong_without}
+use Rattle.{std.proofs.Common.{None, codes, map, string_bytes}, koth_words.specs.Words.given_by, koth_server.proofs.Carried.{carried, fault_without, without, words_without, wrong_without}}
 use Rattle.koth_server.proofs.program.carry_out.Goals as goal
 
 pub returns-in-Ok : goal.returns-in-Ok

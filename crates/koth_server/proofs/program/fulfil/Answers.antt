@@ -1,7 +1,5 @@
 -- Each command ends as its request says, and none of them ends as at a fault of the arguments.
-use Rattle.std.proofs.Common.{length}
-use Rattle.war_types.specs.Settings.{settings_of}
-use Rattle.koth_commands.specs.Streams.{streams}
+use Rattle.{std.proofs.Common.length, war_types.specs.Settings.settings_of, koth_commands.specs.Streams.streams}
 use Rattle.koth_server.proofs.Carried.{asm_no_word, check_no_word, fight_no_word, replay_no_word, request_ends}
 use Rattle.koth_server.proofs.program.fulfil.Goals as goal
 

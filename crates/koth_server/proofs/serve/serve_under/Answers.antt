@@ -1,9 +1,6 @@
 -- A service ends after its line and its log, or with a fault.
-use Rattle.std.proofs.Common.{◌∙◌, inl, inr, refl, sym}
-use Rattle.koth_commands.proofs.Told.{whole_part, writes_more}
-use Rattle.koth_server.specs.Hills.{listening_line}
-use Rattle.koth_server.proofs.Logged.{is_log}
-use Rattle.koth_server.proofs.Statuses.{never-words}
+use Rattle.{std.proofs.Common.{◌∙◌, inl, inr, refl, sym}, koth_commands.proofs.Told.{whole_part, writes_more}, koth_server.specs.Hills.listening_line}
+use Rattle.koth_server.proofs.{Logged.is_log, Statuses.never-words}
 use Rattle.koth_server.proofs.serve.serve_under.Goals as goal
 
 pub returns-in-Err-clause-ends : goal.returns-in-Err-clause-ends

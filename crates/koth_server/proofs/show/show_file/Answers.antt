@@ -1,5 +1,4 @@
-use Rattle.koth_server.proofs.Said.{of_some_hill}
-use Rattle.koth_server.specs.Hills.{ShowsOf}
+use Rattle.{koth_server.specs.Hills.ShowsOf, koth_server.proofs.Said.of_some_hill}
 use Rattle.koth_server.proofs.show.show_file.Goals as goal
 
 pub returns-in-Ok : goal.returns-in-Ok

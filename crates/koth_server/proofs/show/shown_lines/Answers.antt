@@ -1,6 +1,4 @@
-use Rattle.std.proofs.Common.{◌∙◌, ap}
-use Rattle.koth_protocol.specs.Matches.{matches_text}
-use Rattle.koth_server.proofs.Shown.{shown_alone, shown_with}
+use Rattle.{std.proofs.Common.{◌∙◌, ap}, koth_protocol.specs.Matches.matches_text, koth_server.proofs.Shown.{shown_alone, shown_with}}
 use Rattle.koth_server.proofs.show.shown_lines.Goals.{then-matches+in_ok-matrix+in_ok-extend_from_slice, else-matches}
 use Rattle.koth_server.proofs.show.shown_lines.Goals as goal
 

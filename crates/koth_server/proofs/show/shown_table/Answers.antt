@@ -1,7 +1,5 @@
 -- The table alone.
-use Rattle.std.proofs.Common.{◌≡◌, IfOk, subst, sym}
-use Rattle.koth_views.specs.Standing.{hill_view}
-use Rattle.koth_server.specs.Hills.{shown_table}
+use Rattle.{std.proofs.Common.{◌≡◌, IfOk, subst, sym}, koth_views.specs.Standing.hill_view, koth_server.specs.Hills.shown_table}
 use Rattle.koth_server.proofs.show.shown_table.Goals as goal
 
 pub returns : goal.returns

@@ -1,8 +1,5 @@
 -- The table, an empty line and the matrix.
-use Rattle.std.proofs.Common.{◌∙◌, ap}
-use Rattle.koth_views.specs.Matrix.{matches_view}
-use Rattle.koth_views.specs.Standing.{hill_view}
-use Rattle.koth_server.proofs.Shown.{table_of_parts}
+use Rattle.{std.proofs.Common.{◌∙◌, ap}, koth_views.specs.{Matrix.matches_view, Standing.hill_view}, koth_server.proofs.Shown.table_of_parts}
 use Rattle.koth_server.proofs.show.table_with_matches.Goals as goal
 
 pub returns : goal.returns

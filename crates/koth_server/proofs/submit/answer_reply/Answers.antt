@@ -1,7 +1,5 @@
 -- The line of the reply and the text after it were written, or a part of them.
-use Rattle.std.proofs.Common.{◌∙◌, ◌++◌, inl, inr, subst}
-use Rattle.std.specs.Io.KnownBytes.{Appends}
-use Rattle.koth_protocol.specs.Written.{WritesPart}
+use Rattle.{std.proofs.Common.{◌∙◌, ◌++◌, inl, inr, subst}, std.specs.Io.KnownBytes.Appends, koth_protocol.specs.Written.WritesPart}
 use Rattle.koth_server.proofs.submit.answer_reply.Goals as goal
 
 pub returns-in-Ok-clause-ends : goal.returns-in-Ok-clause-ends

@@ -1,8 +1,5 @@
 -- What stands after the line is what became of the warrior between the hill before and the hill after.
-use Rattle.std.proofs.Common.{◌≡◌, ◌⊎◌, [], IfSome, subst, sym}
-use Rattle.koth_views.specs.Placing.{placing_view}
-use Rattle.koth_views.specs.Roster.{roster}
-use Rattle.koth_server.specs.Hills.{IsPlacing}
+use Rattle.{std.proofs.Common.{◌≡◌, ◌⊎◌, [], IfSome, subst, sym}, koth_views.specs.{Placing.placing_view, Roster.roster}, koth_server.specs.Hills.IsPlacing}
 use Rattle.koth_server.proofs.Replies.{is_placing, submitted}
 use Rattle.koth_server.proofs.submit.submit_source.Goals as goal
 

@@ -1,6 +1,5 @@
 -- One more that waited, or none.
-use Rattle.koth_service.proofs.Steps.{stays}
-use Rattle.koth_service.proofs.Told.{grows_on}
+use Rattle.koth_service.proofs.{Steps.stays, Told.grows_on}
 use Rattle.koth_service.proofs.arrivals.take_arrivals.Goals as goal
 
 pub returns-in-Nobody-clause-served : goal.returns-in-Nobody-clause-served

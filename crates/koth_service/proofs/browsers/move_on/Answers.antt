@@ -1,6 +1,4 @@
-use Rattle.std.proofs.Common.{sym}
-use Rattle.koth_service.specs.Connections.{stage_after}
-use Rattle.koth_service.proofs.Visits.{moved_on}
+use Rattle.{std.proofs.Common.sym, koth_service.specs.Connections.stage_after, koth_service.proofs.Visits.moved_on}
 use Rattle.koth_service.proofs.browsers.move_on.Goals as goal
 
 pub returns : goal.returns

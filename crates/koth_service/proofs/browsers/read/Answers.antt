@@ -1,7 +1,4 @@
-use Rattle.std.proofs.Common.{Some, take}
-use Rattle.koth_service.specs.Answering.{AnswersBytes}
-use Rattle.koth_service.specs.declared.connections.Stage.TheVariants as stages
-use Rattle.koth_service.proofs.Visits.{over, read_on, read_whole}
+use Rattle.{std.proofs.Common.{Some, take}, koth_service.specs.{Answering.AnswersBytes, declared.connections.Stage.Stage}, koth_service.proofs.Visits.{over, read_on, read_whole}}
 use Rattle.koth_service.proofs.browsers.read.Goals as goal
 
 pub returns-in-Ok-Some : goal.returns-in-Ok-Some
@@ -17,6 +14,6 @@ returns-in-Ok-None g c = λ start slots browsers on.
 
 pub returns-in-Err : goal.returns-in-Err
 returns-in-Err g c = λ start slots browsers on.
-    over g.S.Sockets.happened g.D.Device.facts (g.H.Host.shows c.args.host.now) start slots browsers c.args.store.now c.args.number c.read_browser.new.self (Some (stages.Asking c.take.new.self))
+    over g.S.Sockets.happened g.D.Device.facts (g.H.Host.shows c.args.host.now) start slots browsers c.args.store.now c.args.number c.read_browser.new.self (Some (Stage.Asking c.take.new.self))
     (read_on g.S.Sockets.happened g.D.Device.facts (g.H.Host.shows c.args.host.now) start slots browsers c.args.store.now c.args.number c.args.sockets.now c.read_browser.new.self c.args.visit
     (take c.in-Bytes.count c.read_browser.new.bytes) c.take.new.self c.in-Bytes.ensures.1 c.take.ensures on)

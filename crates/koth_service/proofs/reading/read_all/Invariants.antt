@@ -1,6 +1,5 @@
 -- It went on as it did, and what is reported stands on standard error.
-use Rattle.koth_service.specs.Told.{Grows}
-use Rattle.koth_service.specs.Standing.{KeepsOn}
+use Rattle.koth_service.specs.{Told.Grows, Standing.KeepsOn}
 use Rattle.koth_service.proofs.reading.read_all.Given as goal
 
 abbrev pub invariant-loop-number : goal.invariant-loop-number

@@ -1,6 +1,4 @@
-use Rattle.std.proofs.Common.{take}
-use Rattle.koth_service.proofs.Steps.{came, closed}
-use Rattle.koth_service.proofs.Told.{stays}
+use Rattle.{std.proofs.Common.take, koth_service.proofs.{Steps.{came, closed}, Told.stays}}
 use Rattle.koth_service.proofs.reading.read_from.Goals as goal
 
 pub returns-in-Bytes-clause-served : goal.returns-in-Bytes-clause-served

@@ -1,7 +1,4 @@
-use Rattle.std.proofs.Common.{ℕ, List, ◌∷◌, subst, take}
-use Rattle.koth_service.specs.Noted.{Noted}
-use Rattle.koth_service.proofs.Steps.{some_unsent, went}
-use Rattle.koth_service.proofs.Told.{stays}
+use Rattle.{std.proofs.Common.{ℕ, List, ◌∷◌, subst, take}, koth_service.specs.Noted.Noted, koth_service.proofs.{Steps.{some_unsent, went}, Told.stays}}
 use Rattle.koth_service.proofs.sending.send_to.Goals as goal
 
 pub returns-in-Bytes-clause-served : goal.returns-in-Bytes-clause-served

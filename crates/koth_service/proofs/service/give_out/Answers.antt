@@ -1,7 +1,5 @@
 -- The reports of parting stand after those of sending, and browsers go on after the peers.
-use Rattle.koth_service.specs.Connections.{stage_at}
-use Rattle.koth_service.proofs.Steps.{stays}
-use Rattle.koth_service.proofs.Told.{grows_on}
+use Rattle.{koth_service.specs.Connections.stage_at, koth_service.proofs.{Steps.stays, Told.grows_on}}
 use Rattle.koth_service.proofs.service.give_out.Goals as goal
 
 pub returns-clause-told : goal.returns-clause-told

@@ -1,7 +1,5 @@
 -- The desk has the store that was given.
-use Rattle.std.proofs.Common.{subst}
-use Rattle.koth_service.specs.Standing.{ServesPeers}
-use Rattle.koth_service.proofs.Told.{stays}
+use Rattle.{std.proofs.Common.subst, koth_service.specs.Standing.ServesPeers, koth_service.proofs.Told.stays}
 use Rattle.koth_service.proofs.service.serve_peers.Goals as goal
 
 pub returns-in-Ok-clause-served : goal.returns-in-Ok-clause-served

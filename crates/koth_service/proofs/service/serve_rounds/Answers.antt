@@ -1,8 +1,5 @@
 -- Round after round.
-use Rattle.std.proofs.Common.{refl}
-use Rattle.koth_service.specs.Connections.{stage_at}
-use Rattle.koth_service.proofs.Steps.{begun, so_far_after, so_far_on, sound_after}
-use Rattle.koth_service.proofs.Told.{grows_on, stays}
+use Rattle.{std.proofs.Common.refl, koth_service.specs.Connections.stage_at, koth_service.proofs.{Steps.{begun, so_far_after, so_far_on, sound_after}, Told.{grows_on, stays}}}
 use Rattle.koth_service.proofs.service.serve_rounds.Goals as goal
 
 pub loop-round-init : goal.loop-round-init

@@ -1,8 +1,5 @@
 -- The sessions and the connections went on, by some history.
-use Rattle.std.proofs.Common.{[]}
-use Rattle.koth_service.specs.Told.{Grows}
-use Rattle.koth_service.specs.Connections.{stage_at}
-use Rattle.koth_service.specs.Standing.{GoesOn}
+use Rattle.{std.proofs.Common.[], koth_service.specs.{Told.Grows, Connections.stage_at, Standing.GoesOn}}
 use Rattle.koth_service.proofs.service.serve_rounds.Given as goal
 
 abbrev pub invariant-loop-round : goal.invariant-loop-round

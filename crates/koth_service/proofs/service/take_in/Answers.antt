@@ -1,6 +1,5 @@
 -- One thing after the other.
-use Rattle.koth_service.proofs.Steps.{stays, stays_at}
-use Rattle.koth_service.proofs.Told.{grows_on}
+use Rattle.koth_service.proofs.{Steps.{stays, stays_at}, Told.grows_on}
 use Rattle.koth_service.proofs.service.take_in.Goals as goal
 
 pub returns-clause-served : goal.returns-clause-served

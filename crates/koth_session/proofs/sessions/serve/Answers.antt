@@ -1,9 +1,6 @@
 -- Chunk by chunk, and the ends.
-use Rattle.std.proofs.Common.{◌∙◌, ◌<◌, ◌++◌, None, Some, [], arith, length, refl, rules, subst, sym, take}
-use Rattle.std.proofs.lemmas.List.{length-take-le}
-use Rattle.std.proofs.KnownBytes.{Consumes-kept, Consumes-nil, Consumes-trans}
-use Rattle.koth_session.proofs.Endings.{answers_all, count_taken, end_taken, ends_by, kept_at, never_read}
-use Rattle.koth_session.proofs.Serving.{goes_on, rest_on, went_nowhere}
+use Rattle.std.proofs.{Common.{◌∙◌, ◌<◌, ◌++◌, None, Some, [], arith, length, refl, rules, subst, sym, take}, lemmas.List.length-take-le, KnownBytes.{Consumes-kept, Consumes-nil, Consumes-trans}}
+use Rattle.koth_session.proofs.{Endings.{answers_all, count_taken, end_taken, ends_by, kept_at, never_read}, Serving.{goes_on, rest_on, went_nowhere}}
 use Rattle.koth_session.proofs.sessions.serve.Goals as goal
 
 pub loop-taken-init : goal.loop-taken-init

@@ -1,7 +1,5 @@
 -- All bytes that were taken went on.
-use Rattle.std.proofs.Common.{◌≡◌, ◌≤◌, ◌+◌, ◌-◌, ℕ, List, [], None, length}
-use Rattle.std.specs.Io.KnownBytes.{Consumes}
-use Rattle.koth_session.specs.Sessions.{WentOn, scene}
+use Rattle.{std.proofs.Common.{◌≡◌, ◌≤◌, ◌+◌, ◌-◌, ℕ, List, [], None, length}, std.specs.Io.KnownBytes.Consumes, koth_session.specs.Sessions.{WentOn, scene}}
 use Rattle.koth_session.proofs.sessions.serve.Given as goal
 
 abbrev pub invariant-loop-taken : goal.invariant-loop-taken

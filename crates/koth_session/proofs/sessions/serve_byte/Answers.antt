@@ -1,13 +1,6 @@
 -- A command that a byte completes is answered.
-use Rattle.std.proofs.Common.{refl, subst}
-use Rattle.koth_protocol.specs.Commands.{Command, kept_source}
-use Rattle.koth_protocol.specs.Reading.{Reads}
-use Rattle.koth_session.specs.Sessions.{AnswersCommand, said, scene}
-use Rattle.koth_session.specs.Transcript.{Exchange}
-use Rattle.koth_protocol.specs.declared.script.Met.TheVariants as met
-use Rattle.koth_session.proofs.Exchanges.{served_same}
-use Rattle.koth_session.proofs.Serving.{command_met, nothing_met, quit_met}
-use Rattle.koth_session.proofs.Submissions.{answers_said}
+use Rattle.{std.proofs.Common.{refl, subst}, koth_protocol.specs.{Commands.{Command, kept_source}, Reading.Reads, declared.script.Met.Met}, koth_session.specs.Sessions.{AnswersCommand, said, scene}}
+use Rattle.{koth_session.specs.Transcript.Exchange, koth_session.proofs.{Exchanges.served_same, Serving.{command_met, nothing_met, quit_met}, Submissions.answers_said}}
 use Rattle.koth_session.proofs.sessions.serve_byte.Goals as goal
 
 pub returns-in-Nothing-clause-goes : goal.returns-in-Nothing-clause-goes
@@ -17,7 +10,7 @@ returns-in-Nothing-clause-goes g c = λ line source reading.
 
 pub returns-in-Submit-clause-goes : goal.returns-in-Submit-clause-goes
 returns-in-Submit-clause-goes g c = λ line source reading.
-    command_met g.D.Device.facts line source c.args.byte met.Submit c.take.new.self
+    command_met g.D.Device.facts line source c.args.byte Met.Submit c.take.new.self
     (Command.Submit (kept_source c.take.new.self.source)) c.submit.result _ _ (λ others. refl)
     (subst (λ m. Reads line source c.args.byte m c.take.new.self) c.in-Submit.is (c.take.ensures line source reading))
     (subst (λ s. AnswersCommand g.D.Device.facts (Command.Submit s) c.submit.result
@@ -26,7 +19,7 @@ returns-in-Submit-clause-goes g c = λ line source reading.
 
 pub returns-in-Show-clause-goes : goal.returns-in-Show-clause-goes
 returns-in-Show-clause-goes g c = λ line source reading.
-    command_met g.D.Device.facts line source c.args.byte met.Show c.take.new.self
+    command_met g.D.Device.facts line source c.args.byte Met.Show c.take.new.self
     Command.Show c.show.result _ _ (λ others. refl)
     (subst (λ m. Reads line source c.args.byte m c.take.new.self) c.in-Show.is (c.take.ensures line source reading)) c.show.ensures.answers
 
@@ -37,7 +30,7 @@ returns-in-Quit-clause-goes g c = λ line source reading.
 
 pub returns-in-Bad-clause-goes : goal.returns-in-Bad-clause-goes
 returns-in-Bad-clause-goes g c = λ line source reading.
-    rw c.said.ensures (command_met g.D.Device.facts line source c.args.byte met.Bad c.take.new.self
+    rw c.said.ensures (command_met g.D.Device.facts line source c.args.byte Met.Bad c.take.new.self
     Command.Bad (said c.send.result) _ _ (λ others. refl)
     (subst (λ m. Reads line source c.args.byte m c.take.new.self) c.in-Bad.is (c.take.ensures line source reading))
     (answers_said g.D.Device.facts Exchange.BadLine _ c.send.result _ _ refl

@@ -1,15 +1,9 @@
 -- Byte by byte.
-use Rattle.std.proofs.Common.{None, arith, refl, rules}
-use Rattle.std.proofs.lemmas.List.{take_more}
-use Rattle.koth_session.proofs.Endings.{all_bytes, last_byte, one_byte}
-use Rattle.koth_session.proofs.Serving.{went_nowhere}
+use Rattle.{std.proofs.{Common.{None, arith, refl, rules}, lemmas.List.take_more}, koth_session.proofs.{Endings.{all_bytes, last_byte, one_byte}, Serving.went_nowhere}}
 use Rattle.koth_session.proofs.sessions.serve_bytes.Goals as goal
 
 pub loop-byte-init : goal.loop-byte-init
-loop-byte-init g c = record {
-  went = λ line source reading. went_nowhere g.D.Device.facts line source c.args.script.now _ reading;
-  faults = refl;
-}
+loop-byte-init g c = record { went = λ line source reading. went_nowhere g.D.Device.facts line source c.args.script.now _ reading; faults = refl }
 
 pub loop-byte-preserved : goal.loop-byte-preserved
 loop-byte-preserved g c = record {

@@ -1,7 +1,5 @@
 -- The bytes so far went on.
-use Rattle.std.proofs.Common.{◌≡◌, ℕ, List, Option, take}
-use Rattle.koth_protocol.specs.Reading.{IsReading}
-use Rattle.koth_session.specs.Sessions.{WentOn, scene}
+use Rattle.{std.proofs.Common.{◌≡◌, ℕ, List, Option, take}, koth_protocol.specs.Reading.IsReading, koth_session.specs.Sessions.{WentOn, scene}}
 use Rattle.koth_session.proofs.sessions.serve_bytes.Given as goal
 
 abbrev pub invariant-loop-byte : goal.invariant-loop-byte

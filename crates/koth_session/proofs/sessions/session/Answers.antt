@@ -1,7 +1,5 @@
 -- Without memory nothing is taken.
-use Rattle.std.proofs.Common.{[], arith, inl, refl}
-use Rattle.std.proofs.KnownBytes.{Consumes-nil, Keeps-refl}
-use Rattle.sector_disk.proofs.Kept.{kept_same}
+use Rattle.{std.proofs.{Common.{[], arith, inl, refl}, KnownBytes.{Consumes-nil, Keeps-refl}}, sector_disk.proofs.Kept.kept_same}
 use Rattle.koth_session.proofs.sessions.session.Goals as goal
 
 pub returns-in-Err-clause-ends : goal.returns-in-Err-clause-ends

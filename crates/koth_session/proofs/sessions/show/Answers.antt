@@ -1,8 +1,5 @@
 -- The table is answered, whole or in part.
-use Rattle.std.proofs.Common.{refl, ◌∙◌}
-use Rattle.koth_session.specs.Transcript.{Exchange}
-use Rattle.koth_session.proofs.Exchanges.{served_same}
-use Rattle.koth_session.proofs.Submissions.{answers_said}
+use Rattle.{std.proofs.Common.{refl, ◌∙◌}, koth_session.specs.Transcript.Exchange, koth_session.proofs.{Exchanges.served_same, Submissions.answers_said}}
 use Rattle.koth_session.proofs.sessions.show.Goals as goal
 
 pub returns-in-Ok-clause-answers : goal.returns-in-Ok-clause-answers

@@ -1,6 +1,5 @@
 -- A submission is answered, whole or in part, by the line of its reply.
-use Rattle.std.proofs.Common.{sym, ◌∙◌}
-use Rattle.koth_session.proofs.Submissions.{exchanged, submission_said}
+use Rattle.{std.proofs.Common.{sym, ◌∙◌}, koth_session.proofs.Submissions.{exchanged, submission_said}}
 use Rattle.koth_session.proofs.sessions.submit.Goals as goal
 
 pub returns-clause-answers : goal.returns-clause-answers

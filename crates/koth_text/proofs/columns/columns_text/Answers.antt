@@ -1,9 +1,5 @@
 -- One line more, and all of them at the end.
-use Rattle.std.proofs.Common.{ℕ, List, [], ap, ◌∙◌}
-use Rattle.std.specs.List.{flat_map}
-use Rattle.std.proofs.lemmas.List.{take_all}
-use Rattle.koth_text.specs.Columns.{row_text}
-use Rattle.koth_text.proofs.Steps.{one_part_more}
+use Rattle.{std.proofs.Common.{ℕ, List, [], ap, ◌∙◌}, std.specs.List.flat_map, std.proofs.lemmas.List.take_all, koth_text.specs.Columns.row_text, koth_text.proofs.Steps.one_part_more}
 use Rattle.koth_text.proofs.columns.columns_text.Goals as goal
 
 pub loop-place-preserved : goal.loop-place-preserved

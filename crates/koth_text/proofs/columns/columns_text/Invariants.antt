@@ -1,7 +1,5 @@
 -- The lines so far are those of the rows so far.
-use Rattle.std.proofs.Common.{◌≡◌, take}
-use Rattle.std.specs.List.{flat_map}
-use Rattle.koth_text.specs.Columns.{row_text}
+use Rattle.{std.proofs.Common.{◌≡◌, take}, std.specs.List.flat_map, koth_text.specs.Columns.row_text}
 use Rattle.koth_text.proofs.columns.columns_text.Given as goal
 
 abbrev pub invariant-loop-place : goal.invariant-loop-place

@@ -1,8 +1,5 @@
 -- One cell more.
-use Rattle.std.proofs.Common.{◌+◌}
-use Rattle.std.specs.List.{flat_map, range_with_len}
-use Rattle.koth_text.specs.Columns.{cell_text}
-use Rattle.koth_text.proofs.Steps.{one_number_more, put_behind}
+use Rattle.{std.proofs.Common.◌+◌, std.specs.List.{flat_map, range_with_len}, koth_text.specs.Columns.cell_text, koth_text.proofs.Steps.{one_number_more, put_behind}}
 use Rattle.koth_text.proofs.columns.put_cells.Goals as goal
 
 pub loop-column-preserved : goal.loop-column-preserved

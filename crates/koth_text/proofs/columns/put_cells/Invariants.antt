@@ -1,7 +1,5 @@
 -- The cells so far are those of the columns so far.
-use Rattle.std.proofs.Common.{◌≡◌, ◌++◌}
-use Rattle.std.specs.List.{flat_map, range_with_len}
-use Rattle.koth_text.specs.Columns.{cell_text}
+use Rattle.{std.proofs.Common.{◌≡◌, ◌++◌}, std.specs.List.{flat_map, range_with_len}, koth_text.specs.Columns.cell_text}
 use Rattle.koth_text.proofs.columns.put_cells.Given as goal
 
 abbrev pub invariant-loop-column : goal.invariant-loop-column

@@ -1,7 +1,5 @@
 -- One row more.
-use Rattle.std.proofs.Common.{ℕ, List, ◌∙◌, ap, length, max, sym}
-use Rattle.koth_text.specs.Columns.{cell_at}
-use Rattle.koth_text.proofs.Steps.{one_width_more}
+use Rattle.{std.proofs.Common.{ℕ, List, ◌∙◌, ap, length, max, sym}, koth_text.specs.Columns.cell_at, koth_text.proofs.Steps.one_width_more}
 use Rattle.koth_text.proofs.columns.width.Goals as goal
 
 pub loop-place-preserved : goal.loop-place-preserved

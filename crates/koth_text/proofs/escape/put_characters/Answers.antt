@@ -1,11 +1,6 @@
 -- One character more, and all of them at the end.
-use Rattle.std.proofs.Common.{[], ◌∷◌, ◌++◌, sym, ap, ◌∙◌, append-nil, map-id}
-use Rattle.std.specs.List.{flat_map}
-use Rattle.std.proofs.lemmas.Iterator.{YieldsList-from_chars}
-use Rattle.std.proofs.lemmas.Iterator.Consumers.{YieldsList-end}
-use Rattle.std.proofs.lemmas.List.Concat.{flat_map-append}
-use Rattle.koth_text.specs.Escape.{character_text}
-use Rattle.koth_text.proofs.Steps.{put_behind}
+use Rattle.{std.proofs.Common.{[], ◌∷◌, ◌++◌, sym, ap, ◌∙◌, append-nil, map-id}, std.specs.List.flat_map, std.proofs.lemmas.Iterator.YieldsList-from_chars}
+use Rattle.{std.proofs.{lemmas.Iterator.Consumers.YieldsList-end, lemmas.List.Concat.flat_map-append}, koth_text.specs.Escape.character_text, koth_text.proofs.Steps.put_behind}
 use Rattle.koth_text.proofs.escape.put_characters.Goals as goal
 
 pub loop-character-preserved : goal.loop-character-preserved

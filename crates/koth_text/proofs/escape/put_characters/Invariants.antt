@@ -1,7 +1,5 @@
 -- The characters so far are put.
-use Rattle.std.proofs.Common.{◌≡◌, ◌++◌}
-use Rattle.std.specs.List.{flat_map}
-use Rattle.koth_text.specs.Escape.{character_text}
+use Rattle.{std.proofs.Common.{◌≡◌, ◌++◌}, std.specs.List.flat_map, koth_text.specs.Escape.character_text}
 use Rattle.koth_text.proofs.escape.put_characters.Given as goal
 
 abbrev pub invariant-loop-character : goal.invariant-loop-character

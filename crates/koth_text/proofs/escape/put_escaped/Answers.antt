@@ -1,6 +1,5 @@
 -- One chunk more, and none at the end.
-use Rattle.std.proofs.Common.{sym, ◌∙◌, append_assoc, append-nil}
-use Rattle.koth_text.proofs.Escapes.{escaped-chunk, escaped-none}
+use Rattle.{std.proofs.Common.{sym, ◌∙◌, append_assoc, append-nil}, koth_text.proofs.Escapes.{escaped-chunk, escaped-none}}
 use Rattle.koth_text.proofs.escape.put_escaped.Goals as goal
 
 pub loop-chunk-preserved : goal.loop-chunk-preserved

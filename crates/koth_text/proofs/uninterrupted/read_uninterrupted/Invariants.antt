@@ -1,6 +1,5 @@
 -- A read that was interrupted took nothing.
-use Rattle.std.proofs.Common.{◌≡◌, length}
-use Rattle.std.specs.Io.KnownBytes.{Keeps}
+use Rattle.{std.proofs.Common.{◌≡◌, length}, std.specs.Io.KnownBytes.Keeps}
 use Rattle.koth_text.proofs.uninterrupted.read_uninterrupted.Given as goal
 
 abbrev pub invariant-loop : goal.invariant-loop

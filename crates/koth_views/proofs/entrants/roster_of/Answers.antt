@@ -1,8 +1,5 @@
 -- One more.
-use Rattle.std.proofs.Common.{[], ◌∷◌, ◌++◌, ◌∙◌, ap}
-use Rattle.koth_views.specs.declared.entrants.Entered.{Entered}
-use Rattle.koth_views.specs.Roster.{entered_of}
-use Rattle.koth_views.proofs.Steps.{one_cell_more}
+use Rattle.{std.proofs.Common.{[], ◌∷◌, ◌++◌, ◌∙◌, ap}, koth_views.specs.{declared.entrants.Entered.Entered, Roster.entered_of}, koth_views.proofs.Steps.one_cell_more}
 use Rattle.koth_views.proofs.entrants.roster_of.Goals as goal
 
 pub loop-place-preserved : goal.loop-place-preserved

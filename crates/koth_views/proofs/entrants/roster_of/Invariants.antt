@@ -1,7 +1,5 @@
 -- The warriors so far are those of the rows so far.
-use Rattle.std.proofs.Common.{◌≡◌, take}
-use Rattle.koth_hill.specs.Rows.{rows_parts}
-use Rattle.koth_views.specs.Roster.{roster_of}
+use Rattle.{std.proofs.Common.{◌≡◌, take}, koth_hill.specs.Rows.rows_parts, koth_views.specs.Roster.roster_of}
 use Rattle.koth_views.proofs.entrants.roster_of.Given as goal
 
 abbrev pub invariant-loop-place : goal.invariant-loop-place

@@ -1,8 +1,5 @@
 -- One cell more.
-use Rattle.std.proofs.Common.{ℕ, List, [], ◌∷◌, ◌++◌, ◌∙◌, ap, decimal, sym}
-use Rattle.koth_hill.specs.declared.row.Row.{Row}
-use Rattle.koth_hill.specs.Table.{RowParts}
-use Rattle.koth_views.specs.Matrix.{told_of}
+use Rattle.{std.proofs.Common.{ℕ, List, [], ◌∷◌, ◌++◌, ◌∙◌, ap, decimal, sym}, koth_hill.specs.{declared.row.Row.Row, Table.RowParts}, koth_views.specs.Matrix.told_of}
 use Rattle.koth_views.proofs.Steps.{one_cell_more}
 use Rattle.koth_views.proofs.matrix.cells_of.Goals as goal
 

@@ -1,7 +1,5 @@
 -- The cells so far are those of the rows so far.
-use Rattle.std.proofs.Common.{◌≡◌, take}
-use Rattle.koth_hill.specs.Rows.{row_parts, rows_parts}
-use Rattle.koth_views.specs.Matrix.{matrix_cells}
+use Rattle.{std.proofs.Common.{◌≡◌, take}, koth_hill.specs.Rows.{row_parts, rows_parts}, koth_views.specs.Matrix.matrix_cells}
 use Rattle.koth_views.proofs.matrix.cells_of.Given as goal
 
 abbrev pub invariant-loop-place : goal.invariant-loop-place

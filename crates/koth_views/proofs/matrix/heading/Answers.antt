@@ -1,6 +1,5 @@
 -- One heading more.
-use Rattle.std.proofs.Common.{ℕ, List, [], ◌∷◌, ◌++◌, ◌∙◌, ap, codes, decimal}
-use Rattle.koth_views.proofs.Steps.{one_heading_more}
+use Rattle.{std.proofs.Common.{ℕ, List, [], ◌∷◌, ◌++◌, ◌∙◌, ap, codes, decimal}, koth_views.proofs.Steps.one_heading_more}
 use Rattle.koth_views.proofs.matrix.heading.Goals as goal
 
 pub loop-place-preserved : goal.loop-place-preserved

@@ -1,10 +1,6 @@
 -- The lines are the headings and the rows.
-use Rattle.std.proofs.Common.{◌≡◌, ◌∙◌, [], ◌∷◌, ◌++◌, length, IfOk, ap, subst, sym}
-use Rattle.std.proofs.lemmas.List.{length-map}
-use Rattle.koth_hill.specs.Rows.{row_parts, rows_parts}
-use Rattle.koth_text.specs.Columns.{columns_text}
-use Rattle.koth_views.specs.Matrix.{matrix_heading, matrix_rows, matrix_sides}
-use Rattle.koth_views.specs.Standing.{note_of_none}
+use Rattle.{std.proofs.{Common.{◌≡◌, ◌∙◌, [], ◌∷◌, ◌++◌, length, IfOk, ap, subst, sym}, lemmas.List.length-map}, koth_hill.specs.Rows.{row_parts, rows_parts}}
+use Rattle.{koth_text.specs.Columns.columns_text, koth_views.specs.{Matrix.{matrix_heading, matrix_rows, matrix_sides}, Standing.note_of_none}}
 use Rattle.koth_views.proofs.matrix.matrix_text.Goals as goal
 
 pub returns : goal.returns

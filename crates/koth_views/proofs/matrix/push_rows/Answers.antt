@@ -1,9 +1,5 @@
 -- One line more.
-use Rattle.std.proofs.Common.{ℕ, List, [], ◌∷◌, ◌++◌, ◌∙◌, ap}
-use Rattle.koth_hill.specs.Rows.{rows_parts}
-use Rattle.koth_hill.specs.Table.{RowParts}
-use Rattle.koth_views.specs.Matrix.{matrix_cells}
-use Rattle.koth_views.proofs.Steps.{one_line_more}
+use Rattle.{std.proofs.Common.{ℕ, List, [], ◌∷◌, ◌++◌, ◌∙◌, ap}, koth_hill.specs.{Rows.rows_parts, Table.RowParts}, koth_views.specs.Matrix.matrix_cells, koth_views.proofs.Steps.one_line_more}
 use Rattle.koth_views.proofs.matrix.push_rows.Goals as goal
 
 pub loop-place-preserved : goal.loop-place-preserved

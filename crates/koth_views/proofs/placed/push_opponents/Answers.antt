@@ -1,8 +1,5 @@
 -- One row more.
-use Rattle.koth_hill.specs.Rows.{row_parts, rows_parts}
-use Rattle.koth_views.specs.Placed.{opponent_cells}
-use Rattle.koth_text.proofs.Steps.{one_part_more}
-use Rattle.koth_views.proofs.Steps.{below_parts, row_at}
+use Rattle.{koth_hill.specs.Rows.{row_parts, rows_parts}, koth_text.proofs.Steps.one_part_more, koth_views.specs.Placed.opponent_cells, koth_views.proofs.Steps.{below_parts, row_at}}
 use Rattle.koth_views.proofs.placed.push_opponents.Goals as goal
 
 pub loop-i-preserved : goal.loop-i-preserved

@@ -1,8 +1,5 @@
 -- The lines so far are those of the rows so far.
-use Rattle.std.proofs.Common.{◌≡◌, ◌++◌, take}
-use Rattle.std.specs.List.{flat_map}
-use Rattle.koth_hill.specs.Rows.{rows_parts}
-use Rattle.koth_views.specs.Placed.{opponent_cells}
+use Rattle.{std.proofs.Common.{◌≡◌, ◌++◌, take}, std.specs.List.flat_map, koth_hill.specs.Rows.rows_parts, koth_views.specs.Placed.opponent_cells}
 use Rattle.koth_views.proofs.placed.push_opponents.Given as goal
 
 abbrev pub invariant-loop-i : goal.invariant-loop-i

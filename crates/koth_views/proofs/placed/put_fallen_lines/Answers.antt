@@ -1,7 +1,5 @@
 -- One more.
-use Rattle.koth_hill.specs.Rows.{rows_parts}
-use Rattle.koth_views.specs.Placed.{fallen_line}
-use Rattle.koth_text.proofs.Steps.{one_part_more}
+use Rattle.{koth_hill.specs.Rows.rows_parts, koth_text.proofs.Steps.one_part_more, koth_views.specs.Placed.fallen_line}
 use Rattle.koth_views.proofs.placed.put_fallen_lines.Goals as goal
 
 pub loop-i-preserved : goal.loop-i-preserved

@@ -1,8 +1,5 @@
 -- The lines so far are those of the warriors so far.
-use Rattle.std.proofs.Common.{◌≡◌, ◌++◌, take}
-use Rattle.std.specs.List.{flat_map}
-use Rattle.koth_hill.specs.Rows.{rows_parts}
-use Rattle.koth_views.specs.Placed.{fallen_line}
+use Rattle.{std.proofs.Common.{◌≡◌, ◌++◌, take}, std.specs.List.flat_map, koth_hill.specs.Rows.rows_parts, koth_views.specs.Placed.fallen_line}
 use Rattle.koth_views.proofs.placed.put_fallen_lines.Given as goal
 
 abbrev pub invariant-loop-i : goal.invariant-loop-i

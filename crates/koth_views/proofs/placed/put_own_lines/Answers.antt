@@ -1,10 +1,6 @@
 -- One row more.
-use Rattle.std.proofs.Common.{length, ◌∙◌, ◌++◌, ap, sym}
-use Rattle.std.proofs.lemmas.List.{length-map}
-use Rattle.koth_hill.specs.Rows.{row_parts, rows_parts}
-use Rattle.koth_views.specs.Placed.{own_line}
-use Rattle.koth_text.proofs.Steps.{one_part_more}
-use Rattle.koth_views.proofs.Steps.{below_parts, row_at}
+use Rattle.{std.proofs.{Common.{length, ◌∙◌, ◌++◌, ap, sym}, lemmas.List.length-map}, koth_hill.specs.Rows.{row_parts, rows_parts}, koth_text.proofs.Steps.one_part_more}
+use Rattle.{koth_views.specs.Placed.own_line, koth_views.proofs.Steps.{below_parts, row_at}}
 use Rattle.koth_views.proofs.placed.put_own_lines.Goals as goal
 
 pub loop-i-preserved : goal.loop-i-preserved

@@ -1,8 +1,5 @@
 -- The lines so far are those of the rows so far.
-use Rattle.std.proofs.Common.{◌≡◌, ◌++◌, length, take}
-use Rattle.std.specs.List.{flat_map}
-use Rattle.koth_hill.specs.Rows.{rows_parts}
-use Rattle.koth_views.specs.Placed.{own_line}
+use Rattle.{std.proofs.Common.{◌≡◌, ◌++◌, length, take}, std.specs.List.flat_map, koth_hill.specs.Rows.rows_parts, koth_views.specs.Placed.own_line}
 use Rattle.koth_views.proofs.placed.put_own_lines.Given as goal
 
 abbrev pub invariant-loop-i : goal.invariant-loop-i

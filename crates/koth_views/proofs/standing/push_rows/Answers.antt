@@ -1,9 +1,5 @@
 -- One line more.
-use Rattle.std.proofs.Common.{ℕ, List, [], ◌∷◌, ◌++◌, ◌∙◌, ap}
-use Rattle.koth_hill.specs.Table.{RowParts}
-use Rattle.koth_views.specs.Standing.{hill_cells}
-use Rattle.koth_views.specs.Tally.{against_all}
-use Rattle.koth_views.proofs.Steps.{one_line_more}
+use Rattle.{std.proofs.Common.{ℕ, List, [], ◌∷◌, ◌++◌, ◌∙◌, ap}, koth_hill.specs.Table.RowParts, koth_views.specs.{Standing.hill_cells, Tally.against_all}, koth_views.proofs.Steps.one_line_more}
 use Rattle.koth_views.proofs.standing.push_rows.Goals as goal
 
 pub loop-place-preserved : goal.loop-place-preserved

@@ -1,7 +1,5 @@
 -- The cells of the rows so far are pushed.
-use Rattle.std.proofs.Common.{◌≡◌, ◌++◌, take}
-use Rattle.koth_hill.specs.Rows.{rows_parts}
-use Rattle.koth_views.specs.Standing.{hill_rows}
+use Rattle.{std.proofs.Common.{◌≡◌, ◌++◌, take}, koth_hill.specs.Rows.rows_parts, koth_views.specs.Standing.hill_rows}
 use Rattle.koth_views.proofs.standing.push_rows.Given as goal
 
 abbrev pub invariant-loop-place : goal.invariant-loop-place

@@ -1,7 +1,5 @@
 -- The lines are the headings and the rows.
-use Rattle.std.proofs.Common.{◌≡◌, ◌∙◌, ◌∷◌, ◌++◌, IfOk, ap, subst}
-use Rattle.koth_hill.specs.Rows.{rows_parts}
-use Rattle.koth_text.specs.Columns.{columns_text}
+use Rattle.{std.proofs.Common.{◌≡◌, ◌∙◌, ◌∷◌, ◌++◌, IfOk, ap, subst}, koth_hill.specs.Rows.rows_parts, koth_text.specs.Columns.columns_text}
 use Rattle.koth_views.specs.Standing.{hill_heading, hill_rows, hill_sides, note_of_none}
 use Rattle.koth_views.proofs.standing.standing_text.Goals as goal
 

@@ -1,8 +1,5 @@
 -- The rounds so far are those against the entries so far.
-use Rattle.std.proofs.Common.{◌≡◌, ◌≤◌, ◌*◌, take}
-use Rattle.std.specs.List.{sum_by}
-use Rattle.koth_hill.specs.Kept.{entries_of}
-use Rattle.koth_views.specs.Tally.{between}
+use Rattle.{std.proofs.Common.{◌≡◌, ◌≤◌, ◌*◌, take}, std.specs.List.sum_by, koth_hill.specs.Kept.entries_of, koth_views.specs.Tally.between}
 use Rattle.koth_views.proofs.tally.against_all.Given as goal
 
 abbrev pub invariant-loop-place : goal.invariant-loop-place

@@ -1,8 +1,5 @@
 -- One event more.
-use Rattle.std.proofs.Common.{ℕ}
-use Rattle.koth_replay.specs.declared.event.Event.{Event}
-use Rattle.koth_watch.specs.Data.{event_at}
-use Rattle.koth_watch.proofs.Steps.{all_put, one_more}
+use Rattle.{std.proofs.Common.ℕ, koth_replay.specs.declared.event.Event.Event, koth_watch.specs.Data.event_at, koth_watch.proofs.Steps.{all_put, one_more}}
 use Rattle.koth_watch.proofs.data.put_each.Goals as goal
 
 pub loop-place-preserved : goal.loop-place-preserved

@@ -1,7 +1,5 @@
 -- The events so far are put.
-use Rattle.std.proofs.Common.{◌≡◌, ◌++◌, take}
-use Rattle.std.specs.List.{enumerate_from, flat_map}
-use Rattle.koth_watch.specs.Data.{event_at}
+use Rattle.{std.proofs.Common.{◌≡◌, ◌++◌, take}, std.specs.List.{enumerate_from, flat_map}, koth_watch.specs.Data.event_at}
 use Rattle.koth_watch.proofs.data.put_each.Given as goal
 
 abbrev pub invariant-loop-place : goal.invariant-loop-place

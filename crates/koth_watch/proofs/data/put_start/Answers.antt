@@ -1,7 +1,5 @@
 -- The four parts before the turns.
-use Rattle.std.proofs.Common.{codes}
-use Rattle.koth_text.proofs.Steps.{four_parts}
-use Rattle.koth_watch.specs.Data.{events_text, opening_text, start_text}
+use Rattle.{std.proofs.Common.codes, koth_text.proofs.Steps.four_parts, koth_watch.specs.Data.{events_text, opening_text, start_text}}
 use Rattle.koth_watch.proofs.data.put_start.Goals as goal
 
 pub returns : goal.returns

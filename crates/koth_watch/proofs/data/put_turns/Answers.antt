@@ -1,8 +1,5 @@
 -- One turn more.
-use Rattle.std.proofs.Common.{ℕ, List, [], ◌<◌, length, arith, rules}
-use Rattle.koth_replay.specs.declared.event.Event.{Event}
-use Rattle.koth_watch.specs.Data.{turn_at}
-use Rattle.koth_watch.proofs.Steps.{all_put, one_more}
+use Rattle.{std.proofs.Common.{ℕ, List, [], ◌<◌, length, arith, rules}, koth_replay.specs.declared.event.Event.Event, koth_watch.specs.Data.turn_at, koth_watch.proofs.Steps.{all_put, one_more}}
 use Rattle.koth_watch.proofs.data.put_turns.Goals as goal
 
 pub loop-place-preserved : goal.loop-place-preserved

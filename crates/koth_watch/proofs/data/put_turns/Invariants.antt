@@ -1,6 +1,5 @@
 -- The turns so far are put.
-use Rattle.std.proofs.Common.{◌≡◌, ◌++◌, take}
-use Rattle.koth_watch.specs.Data.{turns_text}
+use Rattle.{std.proofs.Common.{◌≡◌, ◌++◌, take}, koth_watch.specs.Data.turns_text}
 use Rattle.koth_watch.proofs.data.put_turns.Given as goal
 
 abbrev pub invariant-loop-place : goal.invariant-loop-place

@@ -1,10 +1,6 @@
 -- The six parts of what stands above the controls.
-use Rattle.std.proofs.Common.{◌++◌, codes, refl}
-use Rattle.std.proofs.lemmas.Result.{on_ok_weaker}
-use Rattle.koth_text.proofs.Steps.{five_parts, put_behind}
-use Rattle.koth_watch.specs.declared.parts.TheConstants.{HEAD, STYLE}
-use Rattle.koth_watch.specs.Heading.{ending_text, sides_text}
-use Rattle.koth_watch.specs.Page.{heading_text}
+use Rattle.{std.proofs.{Common.{◌++◌, codes, refl}, lemmas.Result.on_ok_weaker}, koth_text.proofs.Steps.{five_parts, put_behind}}
+use Rattle.koth_watch.specs.{declared.parts.TheConstants.{HEAD, STYLE}, Heading.{ending_text, sides_text}, Page.heading_text}
 use Rattle.koth_watch.proofs.page.put_heading.Goals as goal
 
 pub returns : goal.returns

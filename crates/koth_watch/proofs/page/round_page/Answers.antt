@@ -1,12 +1,6 @@
 -- What holds of every page of a round holds of this one.
-use Rattle.std.proofs.Common.{◌≡◌, true, ap, ◌∙◌}
-use Rattle.std.specs.List.{list_all}
-use Rattle.std.proofs.lemmas.Result.{IfOk-weaker}
-use Rattle.koth_text.specs.Characters.{is_page_byte, markup_of}
-use Rattle.koth_watch.specs.Laws.{unnamed}
-use Rattle.koth_watch.specs.Page.{round_page}
-use Rattle.koth_watch.proofs.Bytes.{ascii, contained}
-use Rattle.koth_watch.proofs.Markup.{markup}
+use Rattle.{std.proofs.Common.{◌≡◌, true, ap, ◌∙◌}, std.specs.List.list_all, std.proofs.lemmas.Result.IfOk-weaker, koth_text.specs.Characters.{is_page_byte, markup_of}}
+use Rattle.{koth_watch.specs.{Laws.unnamed, Page.round_page}, koth_watch.proofs.{Bytes.{ascii, contained}, Markup.markup}}
 use Rattle.koth_watch.proofs.page.round_page.Goals as goal
 
 pub returns-clause-contained : goal.returns-clause-contained

@@ -1,8 +1,5 @@
 -- The command is built field by field.
-use Rattle.std.proofs.Common.{ap, true}
-use Rattle.clap.specs.declared.builder.command.Command.TheViews.{out-Command}
-use Rattle.koth_words.specs.Commands.{wants_subcommand, with_version}
-use Rattle.koth_words.proofs.Build.{changed}
+use Rattle.{std.proofs.Common.{ap, true}, clap.specs.declared.builder.command.Command.TheViews.out-Command, koth_words.specs.Commands.{wants_subcommand, with_version}, koth_words.proofs.Build.changed}
 use Rattle.koth_words.proofs.commands.program.Goals as goal
 
 pub returns : goal.returns

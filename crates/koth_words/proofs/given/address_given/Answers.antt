@@ -1,8 +1,5 @@
 -- The address is read from the text that the matches have, or from the default.
-use Rattle.std.proofs.Common.{refl, subst}
-use Rattle.std.specs.Net.Grammar.{IsIpText, Parses}
-use Rattle.koth_words.proofs.Addresses.{reads_address}
-use Rattle.koth_words.proofs.Texts.{file_text}
+use Rattle.{std.proofs.Common.{refl, subst}, std.specs.Net.Grammar.{IsIpText, Parses}, koth_words.proofs.{Addresses.reads_address, Texts.file_text}}
 use Rattle.koth_words.proofs.given.address_given.Goals as goal
 
 pub unwrap-requires : goal.unwrap-requires

@@ -1,9 +1,5 @@
 -- The names of the files are the texts that the matches have.
-use Rattle.std.proofs.Common.{◌∙◌, ◌++◌, List, Bor, ap, codes, map, refl}
-use Rattle.clap.proofs.WalkLemmas.{raw_values-rows}
-use Rattle.clap.specs.Matches.{found_of}
-use Rattle.clap.specs.Walk.{Text}
-use Rattle.koth_words.proofs.Texts.{file_texts}
+use Rattle.{std.proofs.Common.{◌∙◌, ◌++◌, List, Bor, ap, codes, map, refl}, clap.proofs.WalkLemmas.raw_values-rows, clap.specs.{Matches.found_of, Walk.Text}, koth_words.proofs.Texts.file_texts}
 use Rattle.koth_words.proofs.given.checked_named.Goals as goal
 
 pub returns-clause-files : goal.returns-clause-files

@@ -1,6 +1,5 @@
 -- A file's name is the text that the matches have.
-use Rattle.std.proofs.Common.{refl}
-use Rattle.koth_words.proofs.Texts.{file_text}
+use Rattle.{std.proofs.Common.refl, koth_words.proofs.Texts.file_text}
 use Rattle.koth_words.proofs.given.file_named.Goals as goal
 
 pub returns : goal.returns

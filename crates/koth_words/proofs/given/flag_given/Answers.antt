@@ -1,9 +1,5 @@
 -- The flag is read from the text that the matches have.
-use Rattle.std.proofs.Common.{◌∙◌, ap}
-use Rattle.std.specs.Str.Parse.{ParsesBool}
-use Rattle.clap.proofs.WalkLemmas.{one_text-rows}
-use Rattle.clap.specs.Matches.{found_of, one_text}
-use Rattle.koth_words.specs.Words.{is_true}
+use Rattle.{std.proofs.Common.{◌∙◌, ap}, std.specs.Str.Parse.ParsesBool, clap.proofs.WalkLemmas.one_text-rows, clap.specs.Matches.{found_of, one_text}, koth_words.specs.Words.is_true}
 use Rattle.koth_words.proofs.Flags.{reads_flag}
 use Rattle.koth_words.proofs.given.flag_given.Goals as goal
 

@@ -1,11 +1,6 @@
 -- The port is read from the text that the matches have.
-use Rattle.std.proofs.Common.{◌∙◌, ℕ, Option, ap, refl, codes}
-use Rattle.std.specs.Prelude.{unwrap_or}
-use Rattle.std.specs.Str.Parse.{ExplainsUnsignedError, HasUnsignedDigitsIfOk, ParsesUnsigned}
-use Rattle.clap.proofs.WalkLemmas.{one_text-rows}
-use Rattle.clap.specs.Matches.{found_of, one_text}
-use Rattle.koth_words.specs.Options.{number_below}
-use Rattle.koth_words.proofs.Numbers.{reads_number}
+use Rattle.{std.proofs.Common.{◌∙◌, ℕ, Option, ap, refl, codes}, std.specs.{Prelude.unwrap_or, Str.Parse.{ExplainsUnsignedError, HasUnsignedDigitsIfOk, ParsesUnsigned}}}
+use Rattle.{clap.proofs.WalkLemmas.one_text-rows, clap.specs.Matches.{found_of, one_text}, koth_words.specs.Options.number_below, koth_words.proofs.Numbers.reads_number}
 use Rattle.koth_words.proofs.given.port_given.Goals as goal
 
 pub returns : goal.returns

@@ -1,7 +1,5 @@
 -- A text is what the matches have first.
-use Rattle.std.proofs.Common.{◌∙◌}
-use Rattle.clap.proofs.WalkLemmas.{first_value-rows}
-use Rattle.clap.specs.Matches.{found_of}
+use Rattle.{std.proofs.Common.◌∙◌, clap.proofs.WalkLemmas.first_value-rows, clap.specs.Matches.found_of}
 use Rattle.koth_words.proofs.given.text_given.Goals as goal
 
 pub returns : goal.returns

@@ -1,6 +1,5 @@
 -- The number that is given, or the default.
-use Rattle.std.proofs.Common.{◌∙◌, ℕ, Option, ap}
-use Rattle.std.specs.Prelude.{unwrap_or}
+use Rattle.{std.proofs.Common.{◌∙◌, ℕ, Option, ap}, std.specs.Prelude.unwrap_or}
 use Rattle.koth_words.proofs.options.number_given.Goals as goal
 
 pub returns : goal.returns

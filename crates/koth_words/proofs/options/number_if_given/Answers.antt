@@ -1,10 +1,6 @@
 -- The number is read from the text that the matches have.
-use Rattle.std.proofs.Common.{◌∙◌, ap, refl}
-use Rattle.std.specs.Str.Parse.{ExplainsUnsignedError, HasUnsignedDigitsIfOk, ParsesUnsigned}
-use Rattle.clap.proofs.WalkLemmas.{one_text-rows}
-use Rattle.clap.specs.Matches.{found_of, one_text}
-use Rattle.koth_words.specs.Options.{number_given}
-use Rattle.koth_words.proofs.Numbers.{reads_number}
+use Rattle.{std.proofs.Common.{◌∙◌, ap, refl}, std.specs.Str.Parse.{ExplainsUnsignedError, HasUnsignedDigitsIfOk, ParsesUnsigned}, clap.proofs.WalkLemmas.one_text-rows}
+use Rattle.{clap.specs.Matches.{found_of, one_text}, koth_words.specs.Options.number_given, koth_words.proofs.Numbers.reads_number}
 use Rattle.koth_words.proofs.options.number_if_given.Goals as goal
 
 pub returns : goal.returns

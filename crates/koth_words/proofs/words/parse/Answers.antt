@@ -1,6 +1,5 @@
 -- What clap says of its commands holds of the program's words.
-use Rattle.std.proofs.Common.{IfOk, inl, inr, subst}
-use Rattle.koth_words.specs.Words.{AreClear, AsksBy}
+use Rattle.{std.proofs.Common.{IfOk, inl, inr, subst}, koth_words.specs.Words.{AreClear, AsksBy}}
 use Rattle.koth_words.proofs.Named.{found, given_found, given_named, gives_command, memory_kind, not_wrong, wrong_kind}
 use Rattle.koth_words.proofs.words.parse.Goals as goal
 

@@ -1,9 +1,5 @@
-use Rattle.std.proofs.Common.{◌≡◌, ℕ, List, slice_set, ap, ap₂, ◌∙◌}
-use Rattle.war_types.specs.declared.instr.Instr.{Instr}
-use Rattle.mars_core.specs.Cells.{cell, number, with_number}
-use Rattle.mars_core.specs.Pairs.{Pair}
-use Rattle.mars_core.specs.Effect.{moved}
-use Rattle.mars_core.specs.Code.{field_of}
+use Rattle.{std.proofs.Common.{◌≡◌, ℕ, List, slice_set, ap, ap₂, ◌∙◌}, war_types.specs.declared.instr.Instr.Instr}
+use Rattle.mars_core.specs.{Cells.{cell, number, with_number}, Pairs.Pair, Effect.moved, Code.field_of}
 use Rattle.mars_core.proofs.copying.move_to.Goals as goal
 
 -- each number that is put is one of the A register's

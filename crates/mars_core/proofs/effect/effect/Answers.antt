@@ -1,11 +1,5 @@
-use Rattle.std.proofs.Common.{◌≡◌, ◌∙◌, ℕ, ◌<◌, Bool, not, List, [], ◌∷◌, slice_set, refl, sym, ap, ap₂, arith}
-use Rattle.std.proofs.lemmas.List.Elements.{All-cons, All-nil}
-use Rattle.war_types.specs.declared.instr.Op.{Op}
-use Rattle.war_types.specs.declared.instr.Modifier.{Modifier}
-use Rattle.war_types.specs.declared.instr.Instr.{Instr}
-use Rattle.mars_core.specs.Cells.{cell}
-use Rattle.mars_core.specs.Operand.{Operand}
-use Rattle.mars_core.specs.Code.{operand_of}
+use Rattle.std.proofs.{Common.{◌≡◌, ◌∙◌, ℕ, ◌<◌, Bool, not, List, [], ◌∷◌, slice_set, refl, sym, ap, ap₂, arith}, lemmas.List.Elements.{All-cons, All-nil}}
+use Rattle.{war_types.specs.{declared.instr.Op.Op, declared.instr.Modifier.Modifier, declared.instr.Instr.Instr}, mars_core.specs.{Cells.cell, Operand.Operand, Code.operand_of}}
 use Rattle.mars_core.specs.Effect.{Effect, Arithmetic, queues, skip_where, jump_where, calculates, copied, are_zero, are_equal, are_less, all_lowered, put, target, by_op, effect}
 use Rattle.mars_core.proofs.effect.effect.Goals as goal
 

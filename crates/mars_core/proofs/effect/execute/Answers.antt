@@ -1,10 +1,5 @@
-use Rattle.std.proofs.Common.{◌≡◌, ℕ, List, sym, ap, ap₂, ◌∙◌}
-use Rattle.war_types.specs.declared.instr.Instr.{Instr}
-use Rattle.mars_core.specs.Cells.{cell}
-use Rattle.mars_core.specs.Operand.{Reach, Operand}
-use Rattle.mars_core.specs.Effect.{Effect, effect}
-use Rattle.mars_core.specs.Round.{executed}
-use Rattle.mars_core.specs.Code.{Operands, evaluated_both, operands}
+use Rattle.{std.proofs.Common.{◌≡◌, ℕ, List, sym, ap, ap₂, ◌∙◌}, war_types.specs.declared.instr.Instr.Instr}
+use Rattle.mars_core.specs.{Cells.cell, Operand.{Reach, Operand}, Effect.{Effect, effect}, Round.executed, Code.{Operands, evaluated_both, operands}}
 use Rattle.mars_core.proofs.effect.execute.Goals as goal
 
 -- an instruction is executed by its operands and its effect

@@ -1,6 +1,5 @@
-use Rattle.std.proofs.Common.{◌≡◌}
 use lib.Seq.{paste}
-use Rattle.mars_core.specs.Cells.{IsCore}
+use Rattle.{std.proofs.Common.◌≡◌, mars_core.specs.Cells.IsCore}
 use Rattle.mars_core.proofs.load.put_code.Given as goal
 
 abbrev pub invariant-loop-place : goal.invariant-loop-place

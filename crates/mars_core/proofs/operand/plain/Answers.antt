@@ -1,31 +1,25 @@
-use Rattle.std.proofs.Common.{◌≡◌, ℕ, ◌+◌, ◌%◌, ◌<◌, true, List, ap, refl, sym, ◌∙◌, arith, mod-eq_of_lt}
-use Rattle.war_types.specs.declared.instr.Instr.{Instr}
-use Rattle.war_types.specs.declared.instr.Mode.{Mode}
-use Rattle.war_types.specs.declared.instr.Mode.TheVariants as modes
-use Rattle.mars_core.specs.Cells.{plus}
-use Rattle.mars_core.specs.Operand.{Operand, evaluated}
-use Rattle.mars_core.specs.Whole.{found, operand}
-use Rattle.mars_core.specs.Words.{is_plain}
-use Rattle.mars_core.proofs.operand.plain.Goals as goal
+use Rattle.{std.proofs.Common.{◌≡◌, ℕ, ◌+◌, ◌%◌, ◌<◌, true, List, ap, refl, sym, ◌∙◌, arith, mod-eq_of_lt}, war_types.specs.{declared.instr.Instr.Instr, declared.instr.Mode.Mode}}
+use Rattle.mars_core.specs.{Cells.plus, Operand.{Operand, evaluated}, Whole.{found, operand}, Words.is_plain}
 use Rattle.mars_core.proofs.operand.plain.Goals.{in-Immediate, in_default}
+use Rattle.mars_core.proofs.operand.plain.Goals as goal
 
-immediate : (size pc number offset : ℕ) (core : List Instr) (mode : Mode) → pc < size → mode ≡ modes.Immediate → offset ≡ 0 → operand size core pc mode number ≡ evaluated (found core (plus size pc offset)) core
+immediate : (size pc number offset : ℕ) (core : List Instr) (mode : Mode) → pc < size → mode ≡ Mode.Immediate → offset ≡ 0 → operand size core pc mode number ≡ evaluated (found core (plus size pc offset)) core
 unfolding operand
 immediate size pc number offset core mode inside is e =
     let sum : pc + offset ≡ pc = omega arith in
     let at : plus size pc offset ≡ pc = ap (λ (n : ℕ). n % size) sum ∙ mod-eq_of_lt inside in
     ap (λ (mode : Mode). operand size core pc mode number) is ∙ ap (λ (n : ℕ). evaluated (found core n) core) (sym at)
 
-direct : (size pc number offset : ℕ) (core : List Instr) (mode : Mode) → is_plain mode ≡ true → (mode ≡ modes.Immediate → ⊥) → offset ≡ number → operand size core pc mode number ≡ evaluated (found core (plus size pc offset)) core
+direct : (size pc number offset : ℕ) (core : List Instr) (mode : Mode) → is_plain mode ≡ true → (mode ≡ Mode.Immediate → ⊥) → offset ≡ number → operand size core pc mode number ≡ evaluated (found core (plus size pc offset)) core
 unfolding operand
-direct size pc number offset core modes.Immediate plain not e = absurd (not refl)
-direct size pc number offset core modes.Direct plain not e = ap (λ (n : ℕ). evaluated (found core (plus size pc n)) core) (sym e)
-direct size pc number offset core modes.AIndirect plain not e = cc
-direct size pc number offset core modes.BIndirect plain not e = cc
-direct size pc number offset core modes.APre plain not e = cc
-direct size pc number offset core modes.BPre plain not e = cc
-direct size pc number offset core modes.APost plain not e = cc
-direct size pc number offset core modes.BPost plain not e = cc
+direct size pc number offset core Mode.Immediate plain not e = absurd (not refl)
+direct size pc number offset core Mode.Direct plain not e = ap (λ (n : ℕ). evaluated (found core (plus size pc n)) core) (sym e)
+direct size pc number offset core Mode.AIndirect plain not e = cc
+direct size pc number offset core Mode.BIndirect plain not e = cc
+direct size pc number offset core Mode.APre plain not e = cc
+direct size pc number offset core Mode.BPre plain not e = cc
+direct size pc number offset core Mode.APost plain not e = cc
+direct size pc number offset core Mode.BPost plain not e = cc
 
 pub returns-clause-value : goal.returns-clause-value
 returns-clause-value g c =

@@ -1,8 +1,5 @@
-use Rattle.std.proofs.Common.{◌≡◌, ℕ, slice_set, sym, ap, ap₂, ◌∙◌}
-use Rattle.war_types.specs.declared.instr.Instr.{Instr}
-use Rattle.mars_core.specs.Cells.{cell, number, with_number, plus}
-use Rattle.mars_core.specs.Operand.{evaluated, raised_at}
-use Rattle.mars_core.specs.Code.{field_of}
+use Rattle.{std.proofs.Common.{◌≡◌, ℕ, slice_set, sym, ap, ap₂, ◌∙◌}, war_types.specs.declared.instr.Instr.Instr}
+use Rattle.mars_core.specs.{Cells.{cell, number, with_number, plus}, Operand.{evaluated, raised_at}, Code.field_of}
 use Rattle.mars_core.proofs.operand.postincremented.Goals as goal
 
 pub returns-clause-value : goal.returns-clause-value

@@ -1,9 +1,5 @@
-use Rattle.std.proofs.Common.{◌≡◌, ℕ, List, ap, ap₂, ◌∙◌, sym, Bool, true, false, ◌&&◌, refl}
-use Rattle.war_types.specs.declared.instr.Instr.{Instr}
-use Rattle.mars_core.specs.Operand.{Operand, Evaluated, evaluated}
-use Rattle.mars_core.specs.Whole.{operand}
-use Rattle.mars_core.specs.Code.{Operands, evaluated_both, operand_of, whole_operands}
-use Rattle.mars_core.specs.Words.{is_plain}
+use Rattle.{std.proofs.Common.{◌≡◌, ℕ, List, ap, ap₂, ◌∙◌, sym, Bool, true, false, ◌&&◌, refl}, war_types.specs.declared.instr.Instr.Instr}
+use Rattle.mars_core.specs.{Operand.{Operand, Evaluated, evaluated}, Whole.operand, Code.{Operands, evaluated_both, operand_of, whole_operands}, Words.is_plain}
 use Rattle.mars_core.proofs.operand.whole_operands.Goals as goal
 
 -- of two tests that both hold each one holds

@@ -1,18 +1,14 @@
-use Rattle.std.proofs.Common.{◌≡◌, ◌∙◌, refl, sym, ap}
-use Rattle.war_types.specs.declared.instr.Modifier.{Modifier}
-use Rattle.war_types.specs.declared.instr.Modifier.TheVariants as modifiers
-use Rattle.war_types.specs.declared.instr.Instr.{Instr}
-use Rattle.mars_core.specs.Effect.{are_equal, numbers_equal}
+use Rattle.{std.proofs.Common.{◌≡◌, ◌∙◌, refl, sym, ap}, war_types.specs.{declared.instr.Modifier.Modifier, declared.instr.Instr.Instr}, mars_core.specs.Effect.{are_equal, numbers_equal}}
 use Rattle.mars_core.proofs.registers.are_equal.Goals as goal
 
-by_numbers : (modifier : Modifier) (a b : Instr) → (modifier ≡ modifiers.I → ⊥) → numbers_equal modifier a b ≡ are_equal modifier a b
-by_numbers modifiers.I a b not = absurd (not refl)
-by_numbers modifiers.A a b not = refl
-by_numbers modifiers.B a b not = refl
-by_numbers modifiers.AB a b not = refl
-by_numbers modifiers.BA a b not = refl
-by_numbers modifiers.F a b not = refl
-by_numbers modifiers.X a b not = refl
+by_numbers : (modifier : Modifier) (a b : Instr) → (modifier ≡ Modifier.I → ⊥) → numbers_equal modifier a b ≡ are_equal modifier a b
+by_numbers Modifier.I a b not = absurd (not refl)
+by_numbers Modifier.A a b not = refl
+by_numbers Modifier.B a b not = refl
+by_numbers Modifier.AB a b not = refl
+by_numbers Modifier.BA a b not = refl
+by_numbers Modifier.F a b not = refl
+by_numbers Modifier.X a b not = refl
 
 pub returns-in-I : goal.returns-in-I
 returns-in-I c = c.equals.ensures ∙ ap (λ (m : Modifier). are_equal m c.args.a.instr c.args.b.instr) (sym c.in-I.is)

@@ -1,12 +1,7 @@
-use Rattle.std.proofs.Common.{◌≡◌, ℕ, Bool, List, Option, sym, ap, ap₂, ◌∙◌}
-use Rattle.std.specs.Option.{is_some}
-use Rattle.war_types.specs.declared.instr.Instr.{Instr}
-use Rattle.mars_core.specs.Pairs.{Pair}
-use Rattle.mars_core.specs.Effect.{value, with_value, calculated}
-use Rattle.mars_core.specs.Code.{arithmetic_of, field_of, pair_of}
-use Rattle.mars_core.proofs.Pairs.{all-one, all-then, all-else}
-use Rattle.mars_core.proofs.registers.calculated.Goals as goal
+use Rattle.{std.proofs.Common.{◌≡◌, ℕ, Bool, List, Option, sym, ap, ap₂, ◌∙◌}, std.specs.Option.is_some, war_types.specs.declared.instr.Instr.Instr}
+use Rattle.{mars_core.specs.{Pairs.Pair, Effect.{value, with_value, calculated}, Code.{arithmetic_of, field_of, pair_of}}, mars_core.proofs.Pairs.{all-one, all-then, all-else}}
 use Rattle.mars_core.proofs.registers.calculated.Goals.{then-is_some, else-is_some}
+use Rattle.mars_core.proofs.registers.calculated.Goals as goal
 
 pub returns-after-is_some-clause-all : goal.returns-after-is_some-clause-all
 returns-after-is_some-clause-all c =

@@ -1,6 +1,4 @@
-use Rattle.std.proofs.Common.{ℕ, ap, ◌∙◌}
-use Rattle.mars_core.specs.Cells.{with_number, minus}
-use Rattle.mars_core.specs.Code.{field_of}
+use Rattle.{std.proofs.Common.{ℕ, ap, ◌∙◌}, mars_core.specs.{Cells.{with_number, minus}, Code.field_of}}
 use Rattle.mars_core.proofs.registers.lowered.Goals as goal
 
 pub returns-clause-value : goal.returns-clause-value

@@ -1,8 +1,4 @@
-use Rattle.std.proofs.Common.{◌∙◌, ℕ, ◌==◌, sym, ap₂, ne_eqb}
-use Rattle.mars_core.specs.Cells.{number}
-use Rattle.mars_core.specs.Pairs.{Pair}
-use Rattle.mars_core.specs.Code.{pair_of}
-use Rattle.mars_core.proofs.Pairs.{all-one, equal-then, equal-else}
+use Rattle.{std.proofs.Common.{◌∙◌, ℕ, ◌==◌, sym, ap₂, ne_eqb}, mars_core.specs.{Cells.number, Pairs.Pair, Code.pair_of}, mars_core.proofs.Pairs.{all-one, equal-then, equal-else}}
 use Rattle.mars_core.proofs.registers.numbers_equal.Goals as goal
 
 pub returns-in-One : goal.returns-in-One

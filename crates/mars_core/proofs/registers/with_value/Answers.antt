@@ -1,7 +1,4 @@
-use Rattle.std.proofs.Common.{ℕ, ◌<◌, Option, sym, ap, subst, ◌∙◌, arith}
-use Rattle.std.specs.Prelude.{IfSome}
-use Rattle.mars_core.specs.Effect.{with_value}
-use Rattle.mars_core.specs.Code.{field_of}
+use Rattle.{std.proofs.Common.{ℕ, ◌<◌, Option, sym, ap, subst, ◌∙◌, arith}, std.specs.Prelude.IfSome, mars_core.specs.{Effect.with_value, Code.field_of}}
 use Rattle.mars_core.proofs.registers.with_value.Goals as goal
 
 pub with_number-requires : goal.with_number-requires

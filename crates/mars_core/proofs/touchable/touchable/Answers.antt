@@ -1,11 +1,6 @@
 -- The addresses are those that the instruction may write.
-use Rattle.std.proofs.Common.{◌≡◌, ℕ, ◌+◌, ◌%◌, ◌<◌, [], ◌∷◌, List, All, sym, ap, ap₂, ◌∙◌, arith, mod-eq_of_lt}
-use Rattle.std.proofs.lemmas.List.Elements.{All-cons, All-nil}
-use Rattle.war_types.specs.declared.instr.Instr.{Instr}
-use Rattle.mars_core.specs.Cells.{cell, number, plus, minus}
-use Rattle.mars_core.specs.Operand.{folded}
-use Rattle.mars_core.specs.Code.{field_of, led_by}
-use Rattle.mars_core.proofs.Touched.{on_by, executed-same}
+use Rattle.std.proofs.{Common.{◌≡◌, ℕ, ◌+◌, ◌%◌, ◌<◌, [], ◌∷◌, List, All, sym, ap, ap₂, ◌∙◌, arith, mod-eq_of_lt}, lemmas.List.Elements.{All-cons, All-nil}}
+use Rattle.{war_types.specs.declared.instr.Instr.Instr, mars_core.specs.{Cells.{cell, number, plus, minus}, Operand.folded, Code.{field_of, led_by}}, mars_core.proofs.Touched.{on_by, executed-same}}
 use Rattle.mars_core.proofs.touchable.touchable.Goals as goal
 
 -- what holds of each of eight numbers holds of their list

@@ -1,14 +1,11 @@
-use Rattle.std.proofs.Common.{◌≡◌, ℕ, ◌+◌, ◌-◌, true, false, Some, ap, sym, ◌∙◌, arith, ◌<◌, subst}
-use Rattle.mars_core.specs.declared.round.Side.{Side}
-use Rattle.mars_core.specs.declared.effect.Queued.{Queued}
-use Rattle.mars_core.specs.Queue.{front, queued}
-use Rattle.mars_core.specs.Round.{Round, after_turns, turned, turned_by}
-use Rattle.mars_core.specs.Arena.{round_in}
-use Rattle.mars_core.specs.Code.{addresses, other}
-use Rattle.mars_core.proofs.Turns.{Moved, queue_at, without_front, first_moves, second_moves, first_front, second_front, front_inside, queued_nothing, queues_kept, limits_kept, both_live, over-empty, turned-made, after_turns-made, after_turns-none, after_turns-over, same_round}
+use Rattle.{std.proofs.Common.{◌≡◌, ℕ, ◌+◌, ◌-◌, true, false, Some, ap, sym, ◌∙◌, arith, ◌<◌, subst}, mars_core.specs.{declared.round.Side.Side, declared.effect.Queued.Queued}}
+use Rattle.mars_core.specs.{Queue.{front, queued}, Round.{Round, after_turns, turned, turned_by}, Arena.round_in, Code.{addresses, other}}
+use Rattle.mars_core.proofs.Turns.{Moved, queue_at, without_front, first_moves, second_moves, first_front, second_front, front_inside, queued_nothing, queues_kept, limits_kept, both_live}
+use Rattle.mars_core.proofs.Turns.{over-empty, turned-made, after_turns-made, after_turns-none, after_turns-over, same_round}
 use Rattle.mars_core.proofs.turn.turns.Given.{Over}
+use Rattle.mars_core.proofs.turn.turns.Goals.{in-First, in-Second, in-Nothing+else-is_empty, in-First-to_move, in-Second-to_move, in-One+in-First-to_move-2, in-One+in-Second-to_move-2}
+use Rattle.mars_core.proofs.turn.turns.Goals.{in-Two+in-First-to_move-3, in-Two+in-Second-to_move-3}
 use Rattle.mars_core.proofs.turn.turns.Goals as goal
-use Rattle.mars_core.proofs.turn.turns.Goals.{in-First, in-Second, in-Nothing+else-is_empty, in-First-to_move, in-Second-to_move, in-One+in-First-to_move-2, in-One+in-Second-to_move-2, in-Two+in-First-to_move-3, in-Two+in-Second-to_move-3}
 
 pub loop-left-preserved : goal.loop-left-preserved
 loop-left-preserved g c =

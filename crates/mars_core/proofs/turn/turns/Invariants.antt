@@ -1,9 +1,6 @@
 -- Of each pass: both sides have a process, and the turns that are left make of the round what all make of the first one.
-use Rattle.std.proofs.Common.{◌≡◌, ℕ, ◌+◌, ◌-◌, ◌*◌, ◌≤◌, false}
-use Rattle.war_types.specs.declared.settings.RawSettings.{RawSettings}
-use Rattle.mars_core.specs.Cells.{IsCore}
-use Rattle.mars_core.specs.Round.{after_turns, is_empty, reach_of, turned, IsQueue}
-use Rattle.mars_core.specs.Arena.{round_in}
+use Rattle.{std.proofs.Common.{◌≡◌, ℕ, ◌+◌, ◌-◌, ◌*◌, ◌≤◌, false}, war_types.specs.declared.settings.RawSettings.RawSettings}
+use Rattle.mars_core.specs.{Cells.IsCore, Round.{after_turns, is_empty, reach_of, turned, IsQueue}, Arena.round_in}
 use Rattle.mars_core.proofs.turn.turns.Given as goal
 
 abbrev pub invariant-loop-left : goal.invariant-loop-left

@@ -1,8 +1,5 @@
 -- What the lines so far say, and what the lines left say, is what all say.
-use Rattle.std.proofs.Common.{◌≡◌, ◌++◌, List, Result, Ok, drop}
-use Rattle.war_types.specs.declared.fault.AsmFault.{AsmFault}
-use Rattle.redcode_statement.specs.Chain.{◌>>=◌}
-use Rattle.redcode_asm.specs.Assembly.{Placed, all_said}
+use Rattle.{std.proofs.Common.{◌≡◌, ◌++◌, List, Result, Ok, drop}, war_types.specs.declared.fault.AsmFault.AsmFault, redcode_statement.specs.Chain.◌>>=◌, redcode_asm.specs.Assembly.{Placed, all_said}}
 use Rattle.redcode_asm.proofs.assembler.all_said.Given as goal
 
 -- what was said before, and what is still said

@@ -1,6 +1,5 @@
 -- All assertions so far hold.
-use Rattle.std.proofs.Common.{◌≡◌, drop}
-use Rattle.redcode_asm.specs.Assembly.{all_hold}
+use Rattle.{std.proofs.Common.{◌≡◌, drop}, redcode_asm.specs.Assembly.all_hold}
 use Rattle.redcode_asm.proofs.assembler.check_assertions.Given as goal
 
 abbrev pub invariant-loop-line : goal.invariant-loop-line

@@ -1,6 +1,5 @@
 -- The code so far and that of the lines left are the code of all.
-use Rattle.std.proofs.Common.{◌≡◌, ◌++◌, drop}
-use Rattle.redcode_asm.specs.Assembly.{code_of}
+use Rattle.{std.proofs.Common.{◌≡◌, ◌++◌, drop}, redcode_asm.specs.Assembly.code_of}
 use Rattle.redcode_asm.proofs.assembler.code_of.Given as goal
 
 abbrev pub invariant-loop-statement : goal.invariant-loop-statement

@@ -1,7 +1,5 @@
 -- The last texts so far are those of all lines, unless a line left gives another.
-use Rattle.std.proofs.Common.{◌≡◌, drop, []}
-use Rattle.std.specs.Option.{unwrap_or}
-use Rattle.redcode_asm.specs.Assembly.{last_text, is_name, is_author}
+use Rattle.{std.proofs.Common.{◌≡◌, drop, []}, std.specs.Option.unwrap_or, redcode_asm.specs.Assembly.{last_text, is_name, is_author}}
 use Rattle.redcode_asm.proofs.assembler.last_texts.Given as goal
 
 abbrev pub invariant-loop-entry : goal.invariant-loop-entry

@@ -1,7 +1,5 @@
 -- The last start so far is the one of all lines, unless a line left gives another.
-use Rattle.std.proofs.Common.{◌≡◌, drop}
-use Rattle.std.specs.Option.{option_or}
-use Rattle.redcode_asm.specs.Assembly.{last_of, org_of, end_of}
+use Rattle.{std.proofs.Common.{◌≡◌, drop}, std.specs.Option.option_or, redcode_asm.specs.Assembly.{last_of, org_of, end_of}}
 use Rattle.redcode_asm.proofs.assembler.start_of.Given as goal
 
 abbrev pub invariant-loop-line : goal.invariant-loop-line

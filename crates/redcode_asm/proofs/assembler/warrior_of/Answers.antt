@@ -1,6 +1,4 @@
-use Rattle.std.proofs.Common.{◌≡◌, sym}
-use Rattle.redcode_asm.specs.Assembly.{code_of}
-use Rattle.redcode_asm.proofs.Fitting.{Fits-said, IsSome-from_iff}
+use Rattle.{std.proofs.Common.{◌≡◌, sym}, redcode_asm.specs.Assembly.code_of, redcode_asm.proofs.Fitting.{Fits-said, IsSome-from_iff}}
 use Rattle.redcode_asm.proofs.assembler.warrior_of.Goals as goal
 
 pub unwrap-requires : goal.unwrap-requires

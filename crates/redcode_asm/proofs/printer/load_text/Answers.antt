@@ -1,7 +1,4 @@
-use Rattle.std.proofs.Common.{arith}
-use Rattle.std.proofs.lemmas.Grind.{common_steps}
-use Rattle.redcode_asm.specs.LoadText.{load_text}
-use Rattle.redcode_asm.proofs.RoundTrip.{AssemblesTo-load_text}
+use Rattle.{std.proofs.{Common.arith, lemmas.Grind.common_steps}, redcode_asm.specs.LoadText.load_text, redcode_asm.proofs.RoundTrip.AssemblesTo-load_text}
 use Rattle.redcode_asm.proofs.printer.load_text.Goals as goal
 
 pub returns-clause-reads_back : goal.returns-clause-reads_back

@@ -1,8 +1,5 @@
 -- So far the text has the start and the lines of the instructions that the loop has passed.
-use Rattle.std.proofs.Common.{◌≡◌, ◌++◌, codes, take}
-use Rattle.std.specs.List.{flat_map}
-use Rattle.std.specs.Fmt.{decimal}
-use Rattle.redcode_statement.specs.InstrLine.{instr_line}
+use Rattle.{std.proofs.Common.{◌≡◌, ◌++◌, codes, take}, std.specs.{List.flat_map, Fmt.decimal}, redcode_statement.specs.InstrLine.instr_line}
 use Rattle.redcode_asm.proofs.printer.load_text.Given as goal
 
 abbrev pub invariant-loop-instr : goal.invariant-loop-instr

@@ -1,5 +1,4 @@
-use Rattle.std.proofs.lemmas.Grind.{common_steps}
-use Rattle.std.proofs.Common.{arith}
+use Rattle.std.proofs.{lemmas.Grind.common_steps, Common.arith}
 use Rattle.redcode_copies.proofs.copying.append_kept.Goals as goal
 
 pub loop-joined-preserved : goal.loop-joined-preserved

@@ -1,7 +1,5 @@
 -- The tokens so far.
-use Rattle.std.proofs.Common.{◌≡◌, ◌++◌, take}
-use Rattle.redcode_text.specs.Tokens.{pieces}
-use Rattle.redcode_copies.specs.Counter.{kept}
+use Rattle.{std.proofs.Common.{◌≡◌, ◌++◌, take}, redcode_text.specs.Tokens.pieces, redcode_copies.specs.Counter.kept}
 use Rattle.redcode_copies.proofs.copying.append_kept.Given as goal
 
 abbrev pub invariant-loop-joined : goal.invariant-loop-joined

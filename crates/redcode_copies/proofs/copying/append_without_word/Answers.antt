@@ -1,6 +1,4 @@
-use Rattle.std.proofs.Common.{◌≡◌, List, OnOk, subst, ◌∙◌}
-use Rattle.redcode_text.specs.Tokens.{Piece, pieces}
-use Rattle.redcode_copies.proofs.Joining.{wordless-written}
+use Rattle.{std.proofs.Common.{◌≡◌, List, OnOk, subst, ◌∙◌}, redcode_text.specs.Tokens.{Piece, pieces}, redcode_copies.proofs.Joining.wordless-written}
 use Rattle.redcode_copies.proofs.copying.append_without_word.Goals as goal
 
 pub returns : goal.returns

@@ -1,7 +1,5 @@
 -- What follows the names of what is left follows those of the line.
-use Rattle.std.proofs.Common.{◌≡◌, ◌≤◌, length}
-use Rattle.redcode_lines.specs.Line.{dropped_while}
-use Rattle.redcode_copies.specs.Counter.{is_label}
+use Rattle.{std.proofs.Common.{◌≡◌, ◌≤◌, length}, redcode_lines.specs.Line.dropped_while, redcode_copies.specs.Counter.is_label}
 use Rattle.redcode_copies.proofs.copying.behind_names.Given as goal
 
 abbrev pub invariant-loop-rest : goal.invariant-loop-rest

@@ -1,7 +1,4 @@
-use Rattle.std.proofs.lemmas.Grind.{common_steps}
-use Rattle.std.proofs.Common.{arith, sym, ◌∙◌}
-use Rattle.redcode_text.specs.Tokens.{piece_of}
-use Rattle.redcode_copies.proofs.Joining.{join-kept, token-kept}
+use Rattle.{std.proofs.{lemmas.Grind.common_steps, Common.{arith, sym, ◌∙◌}}, redcode_text.specs.Tokens.piece_of, redcode_copies.proofs.Joining.{join-kept, token-kept}}
 use Rattle.redcode_copies.proofs.copying.joined_tokens.Goals as goal
 
 pub loop-rest-preserved-then-joins : goal.loop-rest-preserved-then-joins

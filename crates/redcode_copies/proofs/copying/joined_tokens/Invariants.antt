@@ -1,7 +1,5 @@
 -- What was joined, and what the last token and those that are left become.
-use Rattle.std.proofs.Common.{◌≡◌, ◌++◌, length}
-use Rattle.redcode_text.specs.Tokens.{piece_of, pieces}
-use Rattle.redcode_copies.specs.Counter.{joined, joined_from}
+use Rattle.{std.proofs.Common.{◌≡◌, ◌++◌, length}, redcode_text.specs.Tokens.{piece_of, pieces}, redcode_copies.specs.Counter.{joined, joined_from}}
 use Rattle.redcode_copies.proofs.copying.joined_tokens.Given as goal
 
 abbrev pub invariant-loop-rest : goal.invariant-loop-rest

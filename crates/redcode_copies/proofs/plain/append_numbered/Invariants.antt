@@ -1,7 +1,5 @@
 -- The tokens so far.
-use Rattle.std.proofs.Common.{◌≡◌, ◌++◌, map, take}
-use Rattle.redcode_text.specs.Tokens.{pieces}
-use Rattle.redcode_copies.specs.Plain.{number_by}
+use Rattle.{std.proofs.Common.{◌≡◌, ◌++◌, map, take}, redcode_text.specs.Tokens.pieces, redcode_copies.specs.Plain.number_by}
 use Rattle.redcode_copies.proofs.plain.append_numbered.Given as goal
 
 abbrev pub invariant-loop-token : goal.invariant-loop-token

@@ -1,7 +1,5 @@
 -- A counter is among the tokens that are left if and only if one is among all.
-use Rattle.std.proofs.Common.{◌≡◌, length}
-use Rattle.redcode_text.specs.Tokens.{pieces}
-use Rattle.redcode_copies.specs.Plain.{has_number}
+use Rattle.{std.proofs.Common.{◌≡◌, length}, redcode_text.specs.Tokens.pieces, redcode_copies.specs.Plain.has_number}
 use Rattle.redcode_copies.proofs.plain.has_counter.Given as goal
 
 abbrev pub invariant-loop-rest : goal.invariant-loop-rest

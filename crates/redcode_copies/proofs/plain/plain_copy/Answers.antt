@@ -1,9 +1,5 @@
-use Rattle.std.proofs.Common.{List, ◌++◌, map, refl, sym, ap, ◌∙◌}
-use Rattle.redcode_text.specs.declared.token.Token.{Token}
-use Rattle.redcode_text.specs.Tokens.{pieces}
-use Rattle.redcode_lines.specs.Views.{line_read}
-use Rattle.redcode_copies.specs.Plain.{number_by}
-use Rattle.redcode_copies.proofs.WrittenLines.{plain-unchanged, plain-written}
+use Rattle.{std.proofs.Common.{List, ◌++◌, map, refl, sym, ap, ◌∙◌}, redcode_text.specs.{declared.token.Token.Token, Tokens.pieces}, redcode_lines.specs.Views.line_read}
+use Rattle.{redcode_copies.specs.Plain.number_by, redcode_copies.proofs.WrittenLines.{plain-unchanged, plain-written}}
 use Rattle.redcode_copies.proofs.plain.plain_copy.Goals as goal
 
 pub returns-then-not-has_counter : goal.returns-then-not-has_counter

@@ -1,6 +1,5 @@
 -- The faults so far stay told, and one more is.
-use Rattle.redcode_diagnosis.proofs.Pushed.{mapped-more, all-more}
-use Rattle.redcode_lines.specs.Place.{IsPlaceIn, line_text}
+use Rattle.{redcode_lines.specs.Place.{IsPlaceIn, line_text}, redcode_diagnosis.proofs.Pushed.{mapped-more, all-more}}
 use Rattle.redcode_diagnosis.proofs.diagnosis.told_all.Goals as goal
 
 pub loop-fault-preserved : goal.loop-fault-preserved

@@ -1,6 +1,5 @@
 -- The faults so far are told, each at a place in its line.
-use Rattle.std.proofs.Common.{◌≡◌, All, map, take}
-use Rattle.redcode_lines.specs.Place.{IsPlaceIn, line_text}
+use Rattle.{std.proofs.Common.{◌≡◌, All, map, take}, redcode_lines.specs.Place.{IsPlaceIn, line_text}}
 use Rattle.redcode_diagnosis.proofs.diagnosis.told_all.Given as goal
 
 abbrev pub invariant-loop-fault : goal.invariant-loop-fault

@@ -1,10 +1,5 @@
-use Rattle.std.proofs.lemmas.Grind.{common_steps}
-use Rattle.std.proofs.Common.{arith}
-use Rattle.redcode_lines.specs.Views.{line_read}
-use Rattle.redcode_expand.specs.Rest.{counters_of}
-use Rattle.redcode_expand.specs.Walk.{begun_as}
-use Rattle.redcode_expand.proofs.AddedEqus.{begun-equs}
-use Rattle.redcode_expand.proofs.Keeping.{all-same}
+use Rattle.{std.proofs.{lemmas.Grind.common_steps, Common.arith}, redcode_lines.specs.Views.line_read, redcode_expand.specs.{Rest.counters_of, Walk.begun_as}}
+use Rattle.redcode_expand.proofs.{AddedEqus.begun-equs, Keeping.all-same}
 use Rattle.redcode_expand.proofs.beginning.begun_at.Goals as goal
 
 pub returns-then-not-is_bare-clause-kept : goal.returns-then-not-is_bare-clause-kept

@@ -1,17 +1,6 @@
-use Rattle.std.proofs.lemmas.Grind.{common_steps}
-use Rattle.std.proofs.Common.{ℕ, [], Ok, refl, sym, ap, ◌∙◌, arith}
-use Rattle.std.proofs.lemmas.List.{length-map}
-use Rattle.redcode_text.specs.Tokens.{piece_of, pieces}
-use Rattle.redcode_text.specs.Value.{value_of}
-use Rattle.redcode_lines.specs.Views.{line_read}
-use Rattle.redcode_names.specs.Name.{predefined}
-use Rattle.redcode_expand.specs.Rest.{counters_of}
-use Rattle.redcode_expand.specs.Values.{counter_values}
-use Rattle.redcode_expand.specs.Walk.{begun_as, count_by}
-use Rattle.redcode_expand.proofs.AddedEqus.{begun-equs}
-use Rattle.redcode_expand.proofs.Keeping.{begun-done, begun-refused}
-use Rattle.redcode_expand.proofs.Marks.{bare-front, bare-plain}
-use Rattle.redcode_expand.proofs.PlainCounts.{begun-values}
+use Rattle.{std.proofs.{lemmas.Grind.common_steps, Common.{ℕ, [], Ok, refl, sym, ap, ◌∙◌, arith}, lemmas.List.length-map}, redcode_text.specs.{Tokens.{piece_of, pieces}, Value.value_of}}
+use Rattle.{redcode_lines.specs.Views.line_read, redcode_names.specs.Name.predefined, redcode_expand.specs.{Rest.counters_of, Values.counter_values, Walk.{begun_as, count_by}}}
+use Rattle.redcode_expand.proofs.{AddedEqus.begun-equs, Keeping.{begun-done, begun-refused}, Marks.{bare-front, bare-plain}, PlainCounts.begun-values}
 use Rattle.redcode_expand.proofs.beginning.begun_within.Goals as goal
 
 pub returns-then-is_empty-clause-equs : goal.returns-then-is_empty-clause-equs

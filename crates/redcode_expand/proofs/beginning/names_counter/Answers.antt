@@ -1,7 +1,4 @@
-use Rattle.std.proofs.Common.{sym, ◌∙◌, drop}
-use Rattle.redcode_expand.specs.Marks.{line_in}
-use Rattle.redcode_expand.specs.Rest.{counters_of}
-use Rattle.redcode_expand.proofs.Marks.{unnamed}
+use Rattle.{std.proofs.Common.{sym, ◌∙◌, drop}, redcode_expand.specs.{Marks.line_in, Rest.counters_of}, redcode_expand.proofs.Marks.unnamed}
 use Rattle.redcode_expand.proofs.beginning.names_counter.Goals as goal
 
 pub returns-else-has_names : goal.returns-else-has_names

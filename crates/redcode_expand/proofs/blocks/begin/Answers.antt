@@ -1,10 +1,5 @@
-use Rattle.std.proofs.Common.{arith, ◌-◌, ◌+◌, subst, ℕ, Bool, List, ◌∷◌, sym, ap, ◌∙◌, drop}
-use Rattle.redcode_lines.specs.Block.{parsed}
-use Rattle.redcode_expand.specs.Marks.{line_in}
-use Rattle.redcode_copies.specs.Counter.{counter_of}
-use Rattle.redcode_expand.specs.Rest.{OpenBlock, open_block, rest_of, steps_left, GoesOn, IsUnmatched}
-use Rattle.redcode_expand.proofs.GoingOn.{block-goes-on}
-use Rattle.redcode_expand.proofs.Keeping.{all-same}
+use Rattle.{std.proofs.Common.{arith, ◌-◌, ◌+◌, subst, ℕ, Bool, List, ◌∷◌, sym, ap, ◌∙◌, drop}, redcode_lines.specs.Block.parsed, redcode_copies.specs.Counter.counter_of}
+use Rattle.{redcode_expand.specs.{Marks.line_in, Rest.{OpenBlock, open_block, rest_of, steps_left, GoesOn, IsUnmatched}}, redcode_expand.proofs.{GoingOn.block-goes-on, Keeping.all-same}}
 use Rattle.redcode_expand.proofs.blocks.begin.Goals as goal
 
 pub returns-clause-goes_on : goal.returns-clause-goes_on

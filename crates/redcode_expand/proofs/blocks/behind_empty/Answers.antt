@@ -1,6 +1,4 @@
-use Rattle.std.proofs.Common.{arith, sym, ◌∙◌}
-use Rattle.redcode_expand.specs.Rest.{counters_of}
-use Rattle.redcode_expand.proofs.Marks.{begun-empty, empty-goes-on}
+use Rattle.{std.proofs.Common.{arith, sym, ◌∙◌}, redcode_expand.specs.Rest.counters_of, redcode_expand.proofs.Marks.{begun-empty, empty-goes-on}}
 use Rattle.redcode_expand.proofs.blocks.behind_empty.Goals as goal
 
 pub returns : goal.returns

@@ -1,7 +1,4 @@
-use Rattle.std.proofs.Common.{sym, ◌∙◌}
-use Rattle.redcode_expand.specs.Marks.{line_in}
-use Rattle.redcode_expand.specs.Rest.{counters_of}
-use Rattle.redcode_expand.proofs.Marks.{closed-bare}
+use Rattle.{std.proofs.Common.{sym, ◌∙◌}, redcode_expand.specs.{Marks.line_in, Rest.counters_of}, redcode_expand.proofs.Marks.closed-bare}
 use Rattle.redcode_expand.proofs.blocks.close.Goals as goal
 
 pub returns-then-is_bare-clause-closed : goal.returns-then-is_bare-clause-closed

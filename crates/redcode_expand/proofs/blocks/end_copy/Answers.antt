@@ -1,8 +1,4 @@
-use Rattle.std.proofs.Common.{◌∙◌, arith}
-use Rattle.redcode_expand.specs.Marks.{line_in}
-use Rattle.redcode_expand.specs.Rest.{counters_of}
-use Rattle.redcode_expand.proofs.GoingOn.{next-copied}
-use Rattle.redcode_expand.proofs.AddedEqus.{closed-equs, copied-equs}
+use Rattle.{std.proofs.Common.{◌∙◌, arith}, redcode_expand.specs.{Marks.line_in, Rest.counters_of}, redcode_expand.proofs.{GoingOn.next-copied, AddedEqus.{closed-equs, copied-equs}}}
 use Rattle.redcode_expand.proofs.blocks.end_copy.Goals as goal
 
 pub returns-clause-goes_on : goal.returns-clause-goes_on

@@ -1,6 +1,4 @@
-use Rattle.std.proofs.Common.{arith}
-use Rattle.std.proofs.lemmas.Grind.{common_steps}
-use Rattle.redcode_expand.proofs.GoingOn.{unmatched-told}
+use Rattle.{std.proofs.{Common.arith, lemmas.Grind.common_steps}, redcode_expand.proofs.GoingOn.unmatched-told}
 use Rattle.redcode_expand.proofs.blocks.is_unmatched.Goals as goal
 
 pub returns-then-is_empty : goal.returns-then-is_empty

@@ -1,9 +1,4 @@
-use Rattle.std.proofs.lemmas.Grind.{common_steps}
-use Rattle.std.proofs.Common.{arith}
-use Rattle.redcode_expand.specs.Marks.{line_in}
-use Rattle.redcode_expand.specs.Rest.{counters_of}
-use Rattle.redcode_expand.proofs.AddedEqus.{closed-equs}
-use Rattle.redcode_expand.proofs.Marks.{rof-word}
+use Rattle.{std.proofs.{lemmas.Grind.common_steps, Common.arith}, redcode_expand.specs.{Marks.line_in, Rest.counters_of}, redcode_expand.proofs.{AddedEqus.closed-equs, Marks.rof-word}}
 use Rattle.redcode_expand.proofs.blocks.pass.Goals as goal
 
 pub close-requires-clause-word : goal.close-requires-clause-word

@@ -1,10 +1,5 @@
-use Rattle.std.proofs.lemmas.Grind.{common_steps}
-use Rattle.std.proofs.Common.{arith, sym, ◌∙◌}
-use Rattle.redcode_lines.specs.Views.{line_read}
-use Rattle.redcode_expand.specs.Rest.{counters_of}
-use Rattle.redcode_expand.proofs.AddedEqus.{step-keeps}
-use Rattle.redcode_expand.proofs.Keeping.{all-later}
-use Rattle.redcode_expand.proofs.Marks.{line-drop, word-for, word-rof}
+use Rattle.{std.proofs.{lemmas.Grind.common_steps, Common.{arith, sym, ◌∙◌}}, redcode_lines.specs.Views.line_read, redcode_expand.specs.Rest.counters_of}
+use Rattle.redcode_expand.proofs.{AddedEqus.step-keeps, Keeping.all-later, Marks.{line-drop, word-for, word-rof}}
 use Rattle.redcode_expand.proofs.blocks.step.Goals as goal
 
 pub returns-in_ok-step-in-Neither-clause-kept : goal.returns-in_ok-step-in-Neither-clause-kept

@@ -1,7 +1,4 @@
-use Rattle.std.proofs.Common.{[], ap, sym, ◌∙◌, List, length, replicate, subst, ◌≤◌}
-use Rattle.std.specs.Prelude.{None}
-use Rattle.redcode_lines.specs.Line.{SourceLine}
-use Rattle.redcode_expand.proofs.Keeping.{none-kept}
+use Rattle.{std.proofs.Common.{[], ap, sym, ◌∙◌, List, length, replicate, subst, ◌≤◌}, std.specs.Prelude.None, redcode_lines.specs.Line.SourceLine, redcode_expand.proofs.Keeping.none-kept}
 use Rattle.redcode_expand.proofs.blocks.walk_all.Goals as goal
 
 pub walk_marked-requires-clause-kept : goal.walk_marked-requires-clause-kept

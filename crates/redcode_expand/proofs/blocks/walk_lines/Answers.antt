@@ -1,6 +1,4 @@
-use Rattle.std.proofs.lemmas.Grind.{common_steps}
-use Rattle.std.proofs.Common.{arith}
-use Rattle.redcode_expand.proofs.GoingOn.{rest-ended, rest-done}
+use Rattle.{std.proofs.{lemmas.Grind.common_steps, Common.arith}, redcode_expand.proofs.GoingOn.{rest-ended, rest-done}}
 use Rattle.redcode_expand.proofs.blocks.walk_lines.Goals as goal
 
 pub returns-else-not-walk : goal.returns-else-not-walk

@@ -1,9 +1,5 @@
 -- What is left is due, and each step leaves fewer.
-use Rattle.std.proofs.Common.{◌≡◌, drop}
-use Rattle.redcode_lines.specs.Block.{parsed}
-use Rattle.redcode_expand.specs.Walk.{walk_all, walk_begin}
-use Rattle.redcode_expand.specs.Rest.{rest_of, steps_left, AreOpen}
-use Rattle.redcode_expand.specs.Kept.{AreKept}
+use Rattle.{std.proofs.Common.{◌≡◌, drop}, redcode_lines.specs.Block.parsed, redcode_expand.specs.{Walk.{walk_all, walk_begin}, Rest.{rest_of, steps_left, AreOpen}, Kept.AreKept}}
 use Rattle.redcode_expand.proofs.blocks.walk_lines.Given as goal
 
 abbrev pub invariant-loop-at : goal.invariant-loop-at

@@ -1,8 +1,4 @@
-use Rattle.std.proofs.Common.{List, ap}
-use Rattle.std.specs.Cow.{cow_slice_items}
-use Rattle.redcode_text.specs.declared.token.Token.{Token}
-use Rattle.redcode_text.specs.Tokens.{pieces}
-use Rattle.redcode_expand.proofs.Keeping.{count-fixed}
+use Rattle.{std.proofs.Common.{List, ap}, std.specs.Cow.cow_slice_items, redcode_text.specs.{declared.token.Token.Token, Tokens.pieces}, redcode_expand.proofs.Keeping.count-fixed}
 use Rattle.redcode_expand.proofs.count.copies_of.Goals as goal
 
 pub returns-clause-fixed : goal.returns-clause-fixed

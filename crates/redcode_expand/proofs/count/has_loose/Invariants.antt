@@ -1,7 +1,5 @@
 -- A loose name of what is left is one of the whole.
-use Rattle.std.proofs.Common.{◌≡◌, length}
-use Rattle.redcode_text.specs.Tokens.{pieces}
-use Rattle.redcode_expand.specs.Kept.{has_loose}
+use Rattle.{std.proofs.Common.{◌≡◌, length}, redcode_text.specs.Tokens.pieces, redcode_expand.specs.Kept.has_loose}
 use Rattle.redcode_expand.proofs.count.has_loose.Given as goal
 
 abbrev pub invariant-loop-rest : goal.invariant-loop-rest

@@ -1,15 +1,6 @@
-use Rattle.std.proofs.Common.{◌≡◌, ℕ, ◌≤◌, List, Result, length, map, le-ltb, sym, ap, subst, ◌∙◌}
-use Rattle.war_types.specs.declared.settings.RawSettings.{RawSettings}
-use Rattle.redcode_lines.specs.Source.{NumberedLine, lines_of, numbered_from, live_lines}
-use Rattle.redcode_lines.specs.Capped.{capped}
-use Rattle.redcode_lines.specs.Line.{SourceLine}
-use Rattle.redcode_lines.specs.Block.{parsed, source_lines}
-use Rattle.war_types.specs.declared.fault.AsmFault.{AsmFault}
-use Rattle.redcode_names.specs.Gives.{Gives}
-use Rattle.redcode_expand.specs.Expansion.{Expansion, expansion, expansion_of_blocks}
-use Rattle.redcode_expand.proofs.Capped.{capped-same}
-use Rattle.redcode_expand.proofs.Counted.{if-counted}
-use Rattle.redcode_expand.proofs.WrittenOut.{blocks-written}
+use Rattle.{std.proofs.Common.{◌≡◌, ℕ, ◌≤◌, List, Result, length, map, le-ltb, sym, ap, subst, ◌∙◌}, war_types.specs.{declared.settings.RawSettings.RawSettings, declared.fault.AsmFault.AsmFault}}
+use Rattle.{redcode_lines.specs.{Source.{NumberedLine, lines_of, numbered_from, live_lines}, Capped.capped, Line.SourceLine, Block.{parsed, source_lines}}, redcode_names.specs.Gives.Gives}
+use Rattle.{redcode_expand.specs.Expansion.{Expansion, expansion, expansion_of_blocks}, redcode_expand.proofs.{Capped.capped-same, Counted.if-counted, WrittenOut.blocks-written}}
 use Rattle.redcode_expand.proofs.expanded.expand.Goals as goal
 
 -- the result of the walk over all lines is due

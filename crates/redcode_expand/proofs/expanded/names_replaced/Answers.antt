@@ -1,7 +1,5 @@
 -- Without EQUs no name is replaced.
-use Rattle.std.proofs.lemmas.Grind.{common_steps}
-use Rattle.std.proofs.Common.{arith, ◌≡◌, length}
-use Rattle.redcode_expand.proofs.Unchanged.{no-equs}
+use Rattle.{std.proofs.{lemmas.Grind.common_steps, Common.{arith, ◌≡◌, length}}, redcode_expand.proofs.Unchanged.no-equs}
 use Rattle.redcode_expand.proofs.expanded.names_replaced.Goals as goal
 
 pub returns-then-has_no_equs : goal.returns-then-has_no_equs

@@ -1,6 +1,4 @@
-use Rattle.std.proofs.lemmas.Grind.{common_steps}
-use Rattle.std.proofs.Common.{length, ap, arith}
-use Rattle.redcode_expand.proofs.Unchanged.{line-kept}
+use Rattle.{std.proofs.{lemmas.Grind.common_steps, Common.{length, ap, arith}}, redcode_expand.proofs.Unchanged.line-kept}
 use Rattle.redcode_expand.proofs.expanded.replace_each.Goals as goal
 
 pub loop-entry-preserved : goal.loop-entry-preserved

@@ -1,8 +1,5 @@
 -- The lines so far, and what those left become, are what all become.
-use Rattle.std.proofs.Common.{◌≡◌, length}
-use Rattle.std.specs.Vec.Iter.{into_iter_items, into_iter_len}
-use Rattle.redcode_expand.specs.Expansion.{all_replaced}
-use Rattle.redcode_expand.proofs.Unchanged.{with_front}
+use Rattle.{std.proofs.Common.{◌≡◌, length}, std.specs.Vec.Iter.{into_iter_items, into_iter_len}, redcode_expand.specs.Expansion.all_replaced, redcode_expand.proofs.Unchanged.with_front}
 use Rattle.redcode_expand.proofs.expanded.replace_each.Given as goal
 
 abbrev pub invariant-loop-entry : goal.invariant-loop-entry

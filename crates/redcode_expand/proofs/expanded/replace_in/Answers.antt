@@ -1,7 +1,4 @@
-use Rattle.std.proofs.lemmas.Grind.{common_steps}
-use Rattle.std.proofs.Common.{arith}
-use Rattle.std.proofs.lemmas.List.{length-map}
-use Rattle.redcode_expand.proofs.Unchanged.{line-same, line-over}
+use Rattle.{std.proofs.{lemmas.Grind.common_steps, Common.arith, lemmas.List.length-map}, redcode_expand.proofs.Unchanged.{line-same, line-over}}
 use Rattle.redcode_expand.proofs.expanded.replace_in.Goals as goal
 
 pub returns-then-operands-gt-TOKEN_LIMIT : goal.returns-then-operands-gt-TOKEN_LIMIT

@@ -1,9 +1,7 @@
-use Rattle.std.proofs.lemmas.Grind.{common_steps}
-use Rattle.std.proofs.Common.{arith, ◌<◌, length}
-use Rattle.std.proofs.lemmas.List.{length-map}
-use Rattle.redcode_lines.specs.Operand.{operands_of}
+use Rattle.{std.proofs.{lemmas.Grind.common_steps, Common.{arith, ◌<◌, length}, lemmas.List.length-map}, redcode_lines.specs.Operand.operands_of}
 use Rattle.redcode_expand.proofs.Unchanged.{none-over, operands-short, over-next, over-told}
-use Rattle.redcode_expand.proofs.expanded.unchanged.Goals.{else-tokens-gt-TOKEN_LIMIT-via-then-tokens-gt-TOKEN_LIMIT+else-operands_of-gt-TOKEN_LIMIT, else-tokens-gt-TOKEN_LIMIT-via-else-tokens-gt-TOKEN_LIMIT}
+use Rattle.redcode_expand.proofs.expanded.unchanged.Goals.{else-tokens-gt-TOKEN_LIMIT-via-then-tokens-gt-TOKEN_LIMIT+else-operands_of-gt-TOKEN_LIMIT}
+use Rattle.redcode_expand.proofs.expanded.unchanged.Goals.{else-tokens-gt-TOKEN_LIMIT-via-else-tokens-gt-TOKEN_LIMIT}
 use Rattle.redcode_expand.proofs.expanded.unchanged.Goals as goal
 
 pub returns-then-operands_of-gt-TOKEN_LIMIT : goal.returns-then-operands_of-gt-TOKEN_LIMIT

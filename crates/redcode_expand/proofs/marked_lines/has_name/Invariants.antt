@@ -1,7 +1,5 @@
 -- A name of what is left is one of the whole.
-use Rattle.std.proofs.Common.{◌≡◌, length}
-use Rattle.redcode_text.specs.Tokens.{pieces}
-use Rattle.redcode_expand.specs.Marks.{has_name}
+use Rattle.{std.proofs.Common.{◌≡◌, length}, redcode_text.specs.Tokens.pieces, redcode_expand.specs.Marks.has_name}
 use Rattle.redcode_expand.proofs.marked_lines.has_name.Given as goal
 
 abbrev pub invariant-loop-rest : goal.invariant-loop-rest

@@ -1,8 +1,5 @@
-use Rattle.std.proofs.lemmas.Grind.{common_steps}
-use Rattle.std.proofs.Common.{◌≡◌, ◌+◌, ◌-◌, ◌<◌, ℕ, length, sym, subst, arith}
-use Rattle.redcode_lines.specs.Views.{line_read}
-use Rattle.redcode_expand.specs.Marks.{AreMarked, IsNextRof}
-use Rattle.redcode_expand.proofs.Marks.{marked-is, one-marked}
+use Rattle.{std.proofs.{lemmas.Grind.common_steps, Common.{◌≡◌, ◌+◌, ◌-◌, ◌<◌, ℕ, length, sym, subst, arith}}, redcode_lines.specs.Views.line_read}
+use Rattle.{redcode_expand.specs.Marks.{AreMarked, IsNextRof}, redcode_expand.proofs.Marks.{marked-is, one-marked}}
 use Rattle.redcode_expand.proofs.marked_lines.mark_all.Goals as goal
 
 pub rof_from-rof-requires-clause-marked : goal.rof_from-rof-requires-clause-marked

@@ -1,6 +1,5 @@
 -- All lines from one on are marked, and the first ROF from there on is known.
-use Rattle.std.proofs.Common.{◌≤◌, length}
-use Rattle.redcode_expand.specs.Marks.{AreMarked, IsNextRof}
+use Rattle.{std.proofs.Common.{◌≤◌, length}, redcode_expand.specs.Marks.{AreMarked, IsNextRof}}
 use Rattle.redcode_expand.proofs.marked_lines.mark_all.Given as goal
 
 abbrev pub invariant-loop-at : goal.invariant-loop-at

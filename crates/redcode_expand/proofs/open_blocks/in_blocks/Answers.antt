@@ -1,11 +1,5 @@
-use Rattle.std.proofs.lemmas.Grind.{common_steps}
-use Rattle.std.proofs.Common.{arith, sym, ap, ◌∙◌}
-use Rattle.redcode_lines.specs.Line.{SourceLine}
-use Rattle.redcode_lines.specs.Views.{line_read}
-use Rattle.redcode_copies.specs.Counter.{in_copy}
-use Rattle.redcode_copies.specs.Views.{with_tokens}
-use Rattle.redcode_expand.specs.Rest.{OpenBlock}
-use Rattle.redcode_expand.proofs.PlacedNames.{copied-more}
+use Rattle.{std.proofs.{lemmas.Grind.common_steps, Common.{arith, sym, ap, ◌∙◌}}, redcode_lines.specs.{Line.SourceLine, Views.line_read}}
+use Rattle.{redcode_copies.specs.{Counter.in_copy, Views.with_tokens}, redcode_expand.specs.Rest.OpenBlock, redcode_expand.proofs.PlacedNames.copied-more}
 use Rattle.redcode_expand.proofs.open_blocks.in_blocks.Goals as goal
 
 pub loop-block-preserved : goal.loop-block-preserved

@@ -1,9 +1,5 @@
 -- The line under the counters of the blocks so far.
-use Rattle.std.proofs.Common.{◌≡◌, take}
-use Rattle.redcode_lines.specs.Views.{line_read}
-use Rattle.redcode_copies.specs.Counter.{in_copies}
-use Rattle.redcode_copies.specs.Views.{with_tokens}
-use Rattle.redcode_expand.specs.Rest.{counters_in}
+use Rattle.{std.proofs.Common.{◌≡◌, take}, redcode_lines.specs.Views.line_read, redcode_copies.specs.{Counter.in_copies, Views.with_tokens}, redcode_expand.specs.Rest.counters_in}
 use Rattle.redcode_expand.proofs.open_blocks.in_blocks.Given as goal
 
 abbrev pub invariant-loop-block : goal.invariant-loop-block

@@ -1,7 +1,5 @@
 -- What the blocks that are left give is what all give.
-use Rattle.std.proofs.Common.{◌≡◌, length}
-use Rattle.redcode_copies.specs.Plain.{number_of}
-use Rattle.redcode_expand.specs.Rest.{counters_in}
+use Rattle.{std.proofs.Common.{◌≡◌, length}, redcode_copies.specs.Plain.number_of, redcode_expand.specs.Rest.counters_in}
 use Rattle.redcode_expand.proofs.open_blocks.number_among.Given as goal
 
 abbrev pub invariant-loop-rest : goal.invariant-loop-rest

@@ -1,6 +1,4 @@
-use Rattle.std.proofs.lemmas.Grind.{common_steps}
-use Rattle.std.proofs.Common.{arith, sym, ◌∙◌}
-use Rattle.redcode_expand.proofs.PlacedNames.{number-none, number-past, number-there, number-other}
+use Rattle.{std.proofs.{lemmas.Grind.common_steps, Common.{arith, sym, ◌∙◌}}, redcode_expand.proofs.PlacedNames.{number-none, number-past, number-there, number-other}}
 use Rattle.redcode_expand.proofs.open_blocks.number_of.Goals as goal
 
 pub returns-in_err-place-clause-number : goal.returns-in_err-place-clause-number

@@ -1,8 +1,4 @@
-use Rattle.std.proofs.lemmas.Grind.{common_steps}
-use Rattle.std.proofs.Common.{arith, sym, ap, subst, ◌∙◌}
-use Rattle.std.specs.Option.{is_some}
-use Rattle.redcode_names.specs.Name.{LabelList}
-use Rattle.redcode_expand.specs.Rest.{ArePlaced}
+use Rattle.{std.proofs.{lemmas.Grind.common_steps, Common.{arith, sym, ap, subst, ◌∙◌}}, std.specs.Option.is_some, redcode_names.specs.Name.LabelList, redcode_expand.specs.Rest.ArePlaced}
 use Rattle.redcode_expand.proofs.PlacedNames.{placed-set, placed-next, unnumbered, numbered-place}
 use Rattle.redcode_expand.proofs.open_blocks.place_next.Goals as goal
 

@@ -1,7 +1,5 @@
 -- The line after `left` others in the rest is the line after `count` others in the source.
-use Rattle.std.proofs.Common.{◌≡◌, length}
-use Rattle.redcode_lines.specs.Source.{lines_of}
-use Rattle.redcode_lines.specs.Place.{line_behind}
+use Rattle.{std.proofs.Common.{◌≡◌, length}, redcode_lines.specs.{Source.lines_of, Place.line_behind}}
 use Rattle.redcode_lines.proofs.line.line_behind.Given as goal
 
 abbrev pub invariant-loop-rest : goal.invariant-loop-rest

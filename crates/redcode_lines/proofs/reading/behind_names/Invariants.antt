@@ -1,7 +1,5 @@
 -- The tokens that are left have the same tokens after their names as the line.
-use Rattle.std.proofs.Common.{◌≡◌, ◌≤◌, length}
-use Rattle.redcode_text.specs.Tokens.{pieces}
-use Rattle.redcode_lines.specs.Line.{dropped_while, is_name_token}
+use Rattle.{std.proofs.Common.{◌≡◌, ◌≤◌, length}, redcode_text.specs.Tokens.pieces, redcode_lines.specs.Line.{dropped_while, is_name_token}}
 use Rattle.redcode_lines.proofs.reading.behind_names.Given as goal
 
 abbrev pub invariant-loop-rest : goal.invariant-loop-rest

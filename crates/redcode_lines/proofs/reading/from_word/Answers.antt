@@ -1,5 +1,4 @@
-use Rattle.std.proofs.Common.{sym, ◌∙◌}
-use Rattle.redcode_lines.proofs.Readings.{word-found-at}
+use Rattle.{std.proofs.Common.{sym, ◌∙◌}, redcode_lines.proofs.Readings.word-found-at}
 use Rattle.redcode_lines.proofs.reading.from_word.Goals as goal
 
 pub returns-in-Some-clause-word : goal.returns-in-Some-clause-word

@@ -1,7 +1,5 @@
 -- What is left from its word on is the line from its word on.
-use Rattle.std.proofs.Common.{◌≡◌, ◌≤◌, length}
-use Rattle.redcode_text.specs.Tokens.{pieces}
-use Rattle.redcode_lines.specs.Line.{dropped_while, is_front}
+use Rattle.{std.proofs.Common.{◌≡◌, ◌≤◌, length}, redcode_text.specs.Tokens.pieces, redcode_lines.specs.Line.{dropped_while, is_front}}
 use Rattle.redcode_lines.proofs.reading.from_word.Given as goal
 
 abbrev pub invariant-loop-rest : goal.invariant-loop-rest

@@ -1,6 +1,5 @@
 -- The directive of what is left is that of the line.
-use Rattle.std.proofs.Common.{◌≡◌, ◌≤◌, length}
-use Rattle.redcode_lines.specs.Source.{directive_of}
+use Rattle.{std.proofs.Common.{◌≡◌, ◌≤◌, length}, redcode_lines.specs.Source.directive_of}
 use Rattle.redcode_lines.proofs.source.directive_of.Given as goal
 
 abbrev pub invariant-loop-rest : goal.invariant-loop-rest

@@ -1,6 +1,4 @@
-use Rattle.std.proofs.Common.{◌+◌, length, arith, add-one}
-use Rattle.std.proofs.lemmas.List.{take_all, take_rest, drop_all}
-use Rattle.redcode_lines.proofs.Lines.{lines_of-last, lines_of-cut}
+use Rattle.{std.proofs.{Common.{◌+◌, length, arith, add-one}, lemmas.List.{take_all, take_rest, drop_all}}, redcode_lines.proofs.Lines.{lines_of-last, lines_of-cut}}
 use Rattle.redcode_lines.proofs.source.first_line.Goals as goal
 
 pub returns-then-byte-eq10-clause-lines : goal.returns-then-byte-eq10-clause-lines

@@ -1,6 +1,5 @@
 -- The first ;redcode line of what is left is that of the source.
-use Rattle.std.proofs.Common.{◌≡◌, ◌+◌, ◌≤◌, length}
-use Rattle.redcode_lines.specs.Source.{lines_of, numbered_from, redcode_on}
+use Rattle.{std.proofs.Common.{◌≡◌, ◌+◌, ◌≤◌, length}, redcode_lines.specs.Source.{lines_of, numbered_from, redcode_on}}
 use Rattle.redcode_lines.proofs.source.live_source.Given as goal
 
 abbrev pub invariant-loop-rest : goal.invariant-loop-rest

@@ -1,6 +1,4 @@
-use Rattle.std.proofs.Common.{sym, ap, ◌∙◌}
-use Rattle.redcode_lines.specs.Capped.{capped}
-use Rattle.redcode_lines.proofs.SourceLines.{one-statement}
+use Rattle.{std.proofs.Common.{sym, ap, ◌∙◌}, redcode_lines.specs.Capped.capped, redcode_lines.proofs.SourceLines.one-statement}
 use Rattle.redcode_lines.proofs.source_line.append_line.Goals as goal
 
 pub returns-in_ok-push-in-None : goal.returns-in_ok-push-in-None

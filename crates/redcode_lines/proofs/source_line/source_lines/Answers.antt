@@ -1,5 +1,4 @@
-use Rattle.std.proofs.Common.{arith}
-use Rattle.redcode_lines.proofs.SourceLines.{line-read}
+use Rattle.{std.proofs.Common.arith, redcode_lines.proofs.SourceLines.line-read}
 use Rattle.redcode_lines.proofs.source_line.source_lines.Goals as goal
 
 pub loop-rest-preserved : goal.loop-rest-preserved

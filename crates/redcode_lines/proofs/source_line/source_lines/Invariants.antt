@@ -1,8 +1,5 @@
 -- The lines so far, and those of what is left.
-use Rattle.std.proofs.Common.{◌≡◌, ◌≤◌, ◌+◌, ◌++◌, length, map}
-use Rattle.redcode_lines.specs.Source.{lines_of, numbered_from}
-use Rattle.redcode_lines.specs.Capped.{capped}
-use Rattle.redcode_lines.specs.Block.{source_lines}
+use Rattle.{std.proofs.Common.{◌≡◌, ◌≤◌, ◌+◌, ◌++◌, length, map}, redcode_lines.specs.{Source.{lines_of, numbered_from}, Capped.capped, Block.source_lines}}
 use Rattle.redcode_lines.proofs.source_line.source_lines.Given as goal
 
 abbrev pub invariant-loop-rest : goal.invariant-loop-rest

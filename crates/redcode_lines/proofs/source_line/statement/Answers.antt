@@ -1,7 +1,4 @@
-use Rattle.std.proofs.Common.{List, ap, ◌∙◌}
-use Rattle.redcode_text.specs.declared.token.Token.{Token}
-use Rattle.redcode_text.specs.Tokens.{pieces}
-use Rattle.redcode_lines.specs.Line.{line_word, tokens_from_word}
+use Rattle.{std.proofs.Common.{List, ap, ◌∙◌}, redcode_text.specs.{declared.token.Token.Token, Tokens.pieces}, redcode_lines.specs.Line.{line_word, tokens_from_word}}
 use Rattle.redcode_lines.proofs.Readings.{statement-cut}
 use Rattle.redcode_lines.proofs.source_line.statement.Goals as goal
 

@@ -1,8 +1,6 @@
-use Rattle.std.proofs.Common.{◌≡◌, ◌-◌, ◌<◌, List, get_or, length, subst, sym, ◌∙◌}
-use Rattle.redcode_text.specs.declared.token.Token.{Token}
-use Rattle.redcode_lines.proofs.Comments.{comment-off, no-comment-left}
-use Rattle.redcode_lines.proofs.source_line.statement_tokens.Goals as goal
+use Rattle.{std.proofs.Common.{◌≡◌, ◌-◌, ◌<◌, List, get_or, length, subst, sym, ◌∙◌}, redcode_text.specs.declared.token.Token.Token, redcode_lines.proofs.Comments.{comment-off, no-comment-left}}
 use Rattle.redcode_lines.proofs.source_line.statement_tokens.Goals.{then-matches, else-matches, in-Comment, in_default-matches}
+use Rattle.redcode_lines.proofs.source_line.statement_tokens.Goals as goal
 
 pub returns : goal.returns
 returns g c =

@@ -1,7 +1,5 @@
 -- The tokens so far are linked.
-use Rattle.std.proofs.Common.{◌≡◌, take}
-use Rattle.redcode_text.specs.Tokens.{pieces}
-use Rattle.redcode_names.specs.Link.{AreLinked, tokens_of}
+use Rattle.{std.proofs.Common.{◌≡◌, take}, redcode_text.specs.Tokens.pieces, redcode_names.specs.Link.{AreLinked, tokens_of}}
 use Rattle.redcode_names.proofs.link.linked.Given as goal
 
 abbrev pub invariant-loop-token : goal.invariant-loop-token

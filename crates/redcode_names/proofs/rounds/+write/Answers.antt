@@ -1,6 +1,5 @@
 -- What a token becomes is written, or refused; the others are left.
-use Rattle.std.proofs.Common.{arith}
-use Rattle.redcode_names.proofs.Replacing.{further}
+use Rattle.{std.proofs.Common.arith, redcode_names.proofs.Replacing.further}
 use Rattle.redcode_names.proofs.rounds.+write.Goals as goal
 
 pub returns-then-rounds-eq0 : goal.returns-then-rounds-eq0

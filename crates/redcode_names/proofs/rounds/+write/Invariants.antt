@@ -1,7 +1,5 @@
 -- What was written, and the tokens left.
-use Rattle.std.proofs.Common.{◌≡◌, suc, drop}
-use Rattle.redcode_text.specs.Tokens.{pieces}
-use Rattle.redcode_names.specs.Link.{tokens_of, written}
+use Rattle.{std.proofs.Common.{◌≡◌, suc, drop}, redcode_text.specs.Tokens.pieces, redcode_names.specs.Link.{tokens_of, written}}
 use Rattle.redcode_names.proofs.rounds.+write.Given as goal
 
 abbrev pub invariant-loop-token : goal.invariant-loop-token

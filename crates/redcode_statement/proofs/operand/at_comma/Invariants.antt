@@ -1,7 +1,5 @@
 -- No comma so far.
-use Rattle.std.proofs.Common.{◌≡◌, ◌++◌, take, drop}
-use Rattle.redcode_text.specs.Tokens.{pieces}
-use Rattle.redcode_statement.specs.Sides.{before_comma, behind_comma}
+use Rattle.{std.proofs.Common.{◌≡◌, ◌++◌, take, drop}, redcode_text.specs.Tokens.pieces, redcode_statement.specs.Sides.{before_comma, behind_comma}}
 use Rattle.redcode_statement.proofs.operand.at_comma.Given as goal
 
 abbrev pub invariant-loop-i : goal.invariant-loop-i

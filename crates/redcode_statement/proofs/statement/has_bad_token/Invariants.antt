@@ -1,8 +1,5 @@
 -- No bad token so far.
-use Rattle.std.proofs.Common.{◌≡◌, drop}
-use Rattle.std.specs.List.{list_any}
-use Rattle.redcode_text.specs.Tokens.{pieces}
-use Rattle.redcode_statement.specs.Statement.{is_bad}
+use Rattle.{std.proofs.Common.{◌≡◌, drop}, std.specs.List.list_any, redcode_text.specs.Tokens.pieces, redcode_statement.specs.Statement.is_bad}
 use Rattle.redcode_statement.proofs.statement.has_bad_token.Given as goal
 
 abbrev pub invariant-loop-token : goal.invariant-loop-token

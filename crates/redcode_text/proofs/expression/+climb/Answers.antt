@@ -1,8 +1,6 @@
-use Rattle.std.proofs.Common.{◌≡◌, sym, suc, drop, arith, add-one}
-use Rattle.std.proofs.lemmas.Grind.{common_steps}
-use Rattle.redcode_text.specs.Climbing.{parts_of}
-use Rattle.redcode_text.specs.Climbing as climbs
+use Rattle.{std.proofs.{Common.{◌≡◌, sym, suc, drop, arith, add-one}, lemmas.Grind.common_steps}, redcode_text.specs.Climbing.parts_of}
 use Rattle.redcode_text.proofs.ClimbSteps.{empty_at, refused_at, part_at, inner_at, refused_on, ended_at}
+use Rattle.redcode_text.specs.Climbing as climbs
 use Rattle.redcode_text.proofs.expression.+climb.Goals.{climb-then-loop-climbed-test+else-not-is_empty, climb-else-loop-climbed-test}
 use Rattle.redcode_text.proofs.expression.+climb.Goals as goal
 

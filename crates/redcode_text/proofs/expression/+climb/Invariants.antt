@@ -1,6 +1,5 @@
 -- What is climbed from here on is climbed from the beginning.
-use Rattle.std.proofs.Common.{suc, ◌+◌, ◌-◌, ◌*◌, ◌≤◌, length, Some}
-use Rattle.redcode_text.specs.Climbing.{Found, Climbs, Begin, Continue, parts_of}
+use Rattle.{std.proofs.Common.{suc, ◌+◌, ◌-◌, ◌*◌, ◌≤◌, length, Some}, redcode_text.specs.Climbing.{Found, Climbs, Begin, Continue, parts_of}}
 use Rattle.redcode_text.proofs.expression.+climb.Given as goal
 
 abbrev pub decreases-climb : goal.decreases-climb

@@ -1,5 +1,4 @@
-use Rattle.std.proofs.Common.{sym, arith}
-use Rattle.redcode_text.proofs.Numbers.{number_value-overflow}
+use Rattle.{std.proofs.Common.{sym, arith}, redcode_text.proofs.Numbers.number_value-overflow}
 use Rattle.redcode_text.proofs.expression.number_value.Goals as goal
 
 pub returns-then-number-unit : goal.returns-then-number-unit

@@ -1,5 +1,4 @@
-use Rattle.std.proofs.Common.{sym, arith}
-use Rattle.redcode_text.proofs.Climbed.{value_is, value_with}
+use Rattle.{std.proofs.Common.{sym, arith}, redcode_text.proofs.Climbed.{value_is, value_with}}
 use Rattle.redcode_text.proofs.expression.value.Goals as goal
 
 pub returns-in_default : goal.returns-in_default

@@ -1,6 +1,4 @@
-use Rattle.std.proofs.Common.{sym, ap, ◌∙◌, length, arith, length-drop}
-use Rattle.std.proofs.lemmas.Grind.{common_steps}
-use Rattle.redcode_text.proofs.Scanning.{first_token_at}
+use Rattle.{std.proofs.{Common.{sym, ap, ◌∙◌, length, arith, length-drop}, lemmas.Grind.common_steps}, redcode_text.proofs.Scanning.first_token_at}
 use Rattle.redcode_text.proofs.scanner.first_token.Goals as goal
 
 pub returns-then-not-is_blank : goal.returns-then-not-is_blank

@@ -1,6 +1,5 @@
 -- Blanks fall, and no token does.
-use Rattle.std.proofs.Common.{◌≡◌, ◌≤◌, length}
-use Rattle.redcode_text.specs.Tokens.{tokens_after}
+use Rattle.{std.proofs.Common.{◌≡◌, ◌≤◌, length}, redcode_text.specs.Tokens.tokens_after}
 use Rattle.redcode_text.proofs.scanner.first_token.Given as goal
 
 abbrev pub invariant-loop-text : goal.invariant-loop-text

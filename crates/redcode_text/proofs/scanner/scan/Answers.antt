@@ -1,7 +1,4 @@
-use Rattle.std.proofs.Common.{append-nil, refl}
-use Rattle.redcode_text.proofs.Scanning.{without_places}
-use Rattle.redcode_text.proofs.TokenLists.{one_list}
-use Rattle.redcode_text.proofs.Longest.{are_tokens_of}
+use Rattle.{std.proofs.Common.{append-nil, refl}, redcode_text.proofs.{Scanning.without_places, TokenLists.one_list, Longest.are_tokens_of}}
 use Rattle.redcode_text.proofs.scanner.scan.Goals as goal
 
 pub returns-in_err-push-clause-only : goal.returns-in_err-push-clause-only

@@ -1,6 +1,5 @@
 -- The tokens so far and those of what is left are those of the line.
-use Rattle.std.proofs.Common.{◌≡◌, ◌≤◌, ◌++◌, length}
-use Rattle.redcode_text.specs.Tokens.{scanned_pieces, tokens_after, tokens_of}
+use Rattle.{std.proofs.Common.{◌≡◌, ◌≤◌, ◌++◌, length}, redcode_text.specs.Tokens.{scanned_pieces, tokens_after, tokens_of}}
 use Rattle.redcode_text.proofs.scanner.scan.Given as goal
 
 abbrev pub invariant-loop-token : goal.invariant-loop-token

@@ -1,7 +1,5 @@
 -- Each byte so far belongs to the token.
-use Rattle.std.proofs.Common.{◌≡◌, ◌+◌, drop}
-use Rattle.std.specs.List.{prefix_len}
-use Rattle.redcode_text.specs.Bytes.{goes_on}
+use Rattle.{std.proofs.Common.{◌≡◌, ◌+◌, drop}, std.specs.List.prefix_len, redcode_text.specs.Bytes.goes_on}
 use Rattle.redcode_text.proofs.scanner.word_length.Given as goal
 
 abbrev pub invariant-loop-i : goal.invariant-loop-i

@@ -1,6 +1,4 @@
-use Rattle.std.proofs.Common.{ap, ◌∙◌, Option, Bor, List, ℕ}
-use Rattle.std.specs.Option.{unwrap_or}
-use Rattle.sector_disk.proofs.Sectors.{now_or, last_of-get}
+use Rattle.{std.proofs.Common.{ap, ◌∙◌, Option, Bor, List, ℕ}, std.specs.Option.unwrap_or, sector_disk.proofs.Sectors.{now_or, last_of-get}}
 use Rattle.sector_disk.proofs.sector.last_of.Goals as goal
 
 pub returns : goal.returns

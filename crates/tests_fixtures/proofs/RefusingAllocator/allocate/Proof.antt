@@ -1,9 +1,13 @@
 -- It asks the plan, and answers `Err` or what the inner allocator answers. Assumes `Logic`.
-use Rattle.tests_fixtures.proofs.Shared.{◌≡◌, ℕ, ◌^◌, ◌<◌, Bool, true, false, List, [], ◌∷◌, Ok, Err, refl, w64, Bor, Al, seen, Ura, Ty, Fn, inst_fn, Val, vbool, vint, vptr, SProp, ent, id⊢, Lft, Share, ftrue, flft, Memory, size, align, capped, Routine, WpFn, Tables, Logic, ‵, raw, ◌⊛◌, some, later, given, prop, at_ret, Sq, ◌$◌, ◌∵◌, !, qed, done, move, keep, use0, use1, use2, split, join, learn, pick, fsplit, fjoin, suffices, await, agg, stop, fld, addr, lit, no_more, and_then, first, branches, skips, exec, returns, returns_within, enter, alloc_all, pass_all, free_all, look_at, get, through, sets, lands_as, env, ◌⊑◌, ⊑_trans, Fun, fact, tables, fm_of, WpFn-mono, usize, yes, unhide, uint_vals, uint_Tells, owns, block_ptr, shr_vals, plain, types_at, heard, nothing, calls_at, Ended, Clauses, triple_of, Triple, entered, cited, Stays, stay_dropped, walk_of, ends_at, walked, Goes-dropped, walk_Meets, given_by, by_ref, inner_at, plan_at}
 use contract.Running.{tables_of}
-use Rattle.std.proofs.alloc.Calls.{Answer, answer_val, Answer-typed, Answer-Ok, Answer-err, takes_key, Takes, at_takes, Answered, Takes-goes, Takes-gives, answers}
-use Rattle.std.proofs.alloc.Shapes.{after}
-use Rattle.tests_fixtures.proofs.Asks.{Asks, at_asks, Asks-goes, Asks-gives}
+use Rattle.std.proofs.{alloc.Calls.{Answer, answer_val, Answer-typed, Answer-Ok, Answer-err, takes_key, Takes, at_takes, Answered, Takes-goes, Takes-gives, answers}, alloc.Shapes.after}
+use Rattle.tests_fixtures.proofs.Shared.{◌≡◌, ℕ, ◌^◌, ◌<◌, Bool, true, false, List, [], ◌∷◌, Ok, Err, refl, w64, Bor, Al, seen, Ura, Ty, Fn, inst_fn, Val, vbool, vint, vptr, SProp, ent, id⊢}
+use Rattle.tests_fixtures.proofs.Shared.{Lft, Share, ftrue, flft, Memory, size, align, capped, Routine, WpFn, Tables, Logic, ‵, raw, ◌⊛◌, some, later, given, prop, at_ret, Sq, ◌$◌, ◌∵◌, ! }
+use Rattle.tests_fixtures.proofs.Shared.{qed, done, move, keep, use0, use1, use2, split, join, learn, pick, fsplit, fjoin, suffices, await, agg, stop, fld, addr, lit, no_more, and_then}
+use Rattle.tests_fixtures.proofs.Shared.{first, branches, skips, exec, returns, returns_within, enter, alloc_all, pass_all, free_all, look_at, get, through, sets, lands_as, env, ◌⊑◌}
+use Rattle.tests_fixtures.proofs.Shared.{⊑_trans, Fun, fact, tables, fm_of, WpFn-mono, usize, yes, unhide, uint_vals, uint_Tells, owns, block_ptr, shr_vals, plain, types_at, heard, nothing}
+use Rattle.tests_fixtures.proofs.Shared.{calls_at, Ended, Clauses, triple_of, Triple, entered, cited, Stays, stay_dropped, walk_of, ends_at, walked, Goes-dropped, walk_Meets, given_by}
+use Rattle.tests_fixtures.proofs.{Shared.{by_ref, inner_at, plan_at}, Asks.{Asks, at_asks, Asks-goes, Asks-gives}}
 use Rattle.tests_fixtures.proofs.refuses.Symbol as asked
 use Rattle.tests_fixtures.proofs.refuses.Met as asked_met
 use Rattle.tests_fixtures.specs.contracts.Refusing as wrapper

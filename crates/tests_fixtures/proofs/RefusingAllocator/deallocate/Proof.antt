@@ -1,9 +1,14 @@
 -- It gives the block back to the inner allocator, whatever the plan says. Assumes `Logic`.
-use Rattle.tests_fixtures.proofs.Shared.{◌≡◌, ℕ, ◌^◌, ◌<◌, List, [], ◌∷◌, refl, w64, Bor, Al, seen, Ura, Ty, Fn, inst_fn, Val, vunit, vint, vptr, SProp, ent, id⊢, Lft, Share, ftrue, ffalse, fsep, flft, Memory, size, align, capped, Routine, WpFn, Tables, Logic, ‵, raw, ◌⊛◌, later, given, Item, ◌$◌, ◌∵◌, !, qed, by, done, move, keep, use1, split, split3, join, learn, fsplit, fjoin, feq_i, suffices, await, stop, fld, addr, unit_lit, of_opd, no_more, and_then, returns, enter, alloc_all, pass_all, free_all, look_at, get, through, sets, lands_as, ◌⊑◌, ⊑_trans, Fun, fact, tables, fm_of, WpFn-mono, usize, RawPtr, yes, unhide, uint_vals, uint_Tells, owns, Ptr, block_ptr, null_ptr, ptr_val, rawptr_vals, rawptr_Tells, shr_vals, plain, types_at, heard, nothing, calls_at, Ended, Clauses, triple_of, Triple, entered, Stays, stay_dropped, walk_of, ends_at, walked, Goes-dropped, walk_Meets, given_by, by_ref, inner_at}
 use contract.Running.{tables_of}
 use base.Logic.{never_e}
 use base.Fml.{froom}
 use Rattle.std.proofs.alloc.Calls.{token, gives_key, Gives, at_gives, Gives-goes, Gives-Gives}
+use Rattle.tests_fixtures.proofs.Shared.{◌≡◌, ℕ, ◌^◌, ◌<◌, List, [], ◌∷◌, refl, w64, Bor, Al, seen, Ura, Ty, Fn, inst_fn, Val, vunit, vint, vptr, SProp, ent, id⊢, Lft, Share, ftrue, ffalse}
+use Rattle.tests_fixtures.proofs.Shared.{fsep, flft, Memory, size, align, capped, Routine, WpFn, Tables, Logic, ‵, raw, ◌⊛◌, later, given, Item, ◌$◌, ◌∵◌, !, qed, by, done, move, keep, use1}
+use Rattle.tests_fixtures.proofs.Shared.{split, split3, join, learn, fsplit, fjoin, feq_i, suffices, await, stop, fld, addr, unit_lit, of_opd, no_more, and_then, returns, enter, alloc_all}
+use Rattle.tests_fixtures.proofs.Shared.{pass_all, free_all, look_at, get, through, sets, lands_as, ◌⊑◌, ⊑_trans, Fun, fact, tables, fm_of, WpFn-mono, usize, RawPtr, yes, unhide, uint_vals}
+use Rattle.tests_fixtures.proofs.Shared.{uint_Tells, owns, Ptr, block_ptr, null_ptr, ptr_val, rawptr_vals, rawptr_Tells, shr_vals, plain, types_at, heard, nothing, calls_at, Ended, Clauses}
+use Rattle.tests_fixtures.proofs.Shared.{triple_of, Triple, entered, Stays, stay_dropped, walk_of, ends_at, walked, Goes-dropped, walk_Meets, given_by, by_ref, inner_at}
 use Rattle.tests_fixtures.specs.contracts.Refusing as wrapper
 use Rattle.tests_fixtures.specs.contracts.RefusingAllocator.deallocate as F
 use Rattle.tests_fixtures.specs.contracts.RefusingAllocator.deallocate.Key as key

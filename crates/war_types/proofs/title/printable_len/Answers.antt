@@ -1,5 +1,4 @@
-use Rattle.std.proofs.lemmas.List.Elements.{All-more}
-use Rattle.war_types.specs.Title.{IsPrintable}
+use Rattle.{std.proofs.lemmas.List.Elements.All-more, war_types.specs.Title.IsPrintable}
 use Rattle.war_types.proofs.title.printable_len.Goals as goal
 
 pub loop-i-preserved : goal.loop-i-preserved

@@ -1,6 +1,5 @@
 -- The bytes so far can be printed.
-use Rattle.std.proofs.Common.{All, take}
-use Rattle.war_types.specs.Title.{IsPrintable}
+use Rattle.{std.proofs.Common.{All, take}, war_types.specs.Title.IsPrintable}
 use Rattle.war_types.proofs.title.printable_len.Given as goal
 
 abbrev pub invariant-loop-i : goal.invariant-loop-i

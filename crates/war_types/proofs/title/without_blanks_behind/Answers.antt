@@ -1,6 +1,5 @@
 -- Each turn drops the last byte, a blank; the first that is none ends the loop.
-use Rattle.std.proofs.Common.{sym, ◌∙◌}
-use Rattle.war_types.proofs.Titles.{before_blanks-last_blank, before_blanks-last_other}
+use Rattle.{std.proofs.Common.{sym, ◌∙◌}, war_types.proofs.Titles.{before_blanks-last_blank, before_blanks-last_other}}
 use Rattle.war_types.proofs.title.without_blanks_behind.Goals as goal
 
 pub loop-rest-preserved : goal.loop-rest-preserved

@@ -1,6 +1,5 @@
 -- What is left has the same text without blanks after it, and each iteration leaves less.
-use Rattle.std.proofs.Common.{◌≡◌, length}
-use Rattle.war_types.specs.Title.{before_blanks}
+use Rattle.{std.proofs.Common.{◌≡◌, length}, war_types.specs.Title.before_blanks}
 use Rattle.war_types.proofs.title.without_blanks_behind.Given as goal
 
 abbrev pub invariant-loop-rest : goal.invariant-loop-rest

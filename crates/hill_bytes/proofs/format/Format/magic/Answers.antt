@@ -1,5 +1,4 @@
-use Rattle.std.proofs.Common.{sym, ap}
-use Rattle.hill_bytes.specs.Layout.{layout_of, old_magic, new_magic}
+use Rattle.{std.proofs.Common.{sym, ap}, hill_bytes.specs.Layout.{layout_of, old_magic, new_magic}}
 use Rattle.hill_bytes.proofs.format.Format.magic.Goals as goal
 
 pub returns-in-Old : goal.returns-in-Old

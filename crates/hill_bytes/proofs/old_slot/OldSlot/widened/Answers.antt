@@ -1,5 +1,4 @@
-use Rattle.std.proofs.Common.{rules, ◌≡◌, length}
-use Rattle.hill_bytes.proofs.Widened.{widened}
+use Rattle.{std.proofs.Common.{rules, ◌≡◌, length}, hill_bytes.proofs.Widened.widened}
 use Rattle.hill_bytes.proofs.old_slot.OldSlot.widened.Goals as goal
 
 pub returns : goal.returns

@@ -1,8 +1,5 @@
-use Rattle.std.proofs.Common.{◌≡◌, Some, IfSome, true≢false, subst, sym, ap, ◌∙◌}
-use Rattle.std.specs.Cmp.Lexicographic.{bytes_decides}
-use Rattle.std.proofs.lemmas.Slice.Eq.{slice_eq-Decides}
-use Rattle.war_types.specs.Warrior.{Fits}
-use Rattle.hill_bytes.specs.Layout.{FitRounds, new_layout, results_in, slot_bytes}
+use Rattle.{std.proofs.Common.{◌≡◌, Some, IfSome, true≢false, subst, sym, ap, ◌∙◌}, std.specs.Cmp.Lexicographic.bytes_decides, std.proofs.lemmas.Slice.Eq.slice_eq-Decides}
+use Rattle.{war_types.specs.Warrior.Fits, hill_bytes.specs.Layout.{FitRounds, new_layout, results_in, slot_bytes}}
 use Rattle.hill_bytes.proofs.slot.Slot.decode.Goals as goal
 
 pub returns-then-eq : goal.returns-then-eq

@@ -1,8 +1,5 @@
-use Rattle.std.proofs.Common.{◌≡◌, ◌<◌, List, length, take, get_or, set, arith, sym, ap, ◌∙◌}
-use Rattle.std.proofs.lemmas.List.{length-set, take_all}
-use Rattle.hill_bytes.specs.Layout.{new_layout, slot_bytes}
-use Rattle.hill_bytes.proofs.HeaderBytes.{set-step}
-use Rattle.hill_bytes.proofs.SlotBytes.{full-is, last-at, length-slot}
+use Rattle.{std.proofs.{Common.{◌≡◌, ◌<◌, List, length, take, get_or, set, arith, sym, ap, ◌∙◌}, lemmas.List.{length-set, take_all}}, hill_bytes.specs.Layout.{new_layout, slot_bytes}}
+use Rattle.hill_bytes.proofs.{HeaderBytes.set-step, SlotBytes.{full-is, last-at, length-slot}}
 use Rattle.hill_bytes.proofs.slot.Slot.encode.Goals as goal
 
 pub loop-n-preserved : goal.loop-n-preserved

@@ -1,6 +1,5 @@
 -- The sectors so far are the slot's.
-use Rattle.std.proofs.Common.{◌≡◌, length, take}
-use Rattle.hill_bytes.specs.Layout.{new_layout, slot_bytes}
+use Rattle.{std.proofs.Common.{◌≡◌, length, take}, hill_bytes.specs.Layout.{new_layout, slot_bytes}}
 use Rattle.hill_bytes.proofs.slot.Slot.encode.Given as goal
 
 abbrev pub invariant-loop-n : goal.invariant-loop-n

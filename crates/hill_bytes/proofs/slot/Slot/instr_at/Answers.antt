@@ -1,5 +1,4 @@
-use Rattle.std.proofs.Common.{◌<◌, ◌*◌, ◌/◌, ◌%◌, [], drop, get_or, arith, ap, ◌∙◌}
-use Rattle.hill_bytes.proofs.SlotBytes.{code-in}
+use Rattle.{std.proofs.Common.{◌<◌, ◌*◌, ◌/◌, ◌%◌, [], drop, get_or, arith, ap, ◌∙◌}, hill_bytes.proofs.SlotBytes.code-in}
 use Rattle.hill_bytes.proofs.slot.Slot.instr_at.Goals as goal
 
 pub returns : goal.returns

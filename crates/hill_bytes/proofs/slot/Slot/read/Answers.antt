@@ -1,5 +1,4 @@
-use Rattle.std.proofs.Common.{◌≡◌, ◌++◌, Some, length, drop, replicate, arith, subst, All, sym}
-use Rattle.war_types.specs.Warrior.{HasNumbersBelow}
+use Rattle.{std.proofs.Common.{◌≡◌, ◌++◌, Some, length, drop, replicate, arith, subst, All, sym}, war_types.specs.Warrior.HasNumbersBelow}
 use Rattle.hill_bytes.specs.Layout.{new_layout, fields_bytes, filled, result_places, results_in}
 use Rattle.hill_bytes.proofs.SlotBytes.{fields_rest, code-stands, len-at, start-at, name-at, author-at, warrior-made}
 use Rattle.hill_bytes.proofs.slot.Slot.read.Goals as goal

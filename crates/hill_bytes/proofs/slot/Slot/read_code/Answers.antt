@@ -1,9 +1,5 @@
-use Rattle.std.proofs.Common.{◌≡◌, ◌<◌, None, Some, ◌∷◌, [], ◌++◌, length, take, get_or, arith, sym, ap, ◌∙◌}
-use Rattle.std.proofs.lemmas.List.{take_more, take_all}
-use Rattle.std.proofs.lemmas.List.Elements.{All-get_or}
-use Rattle.war_types.specs.declared.instr.Instr.{Instr}
-use Rattle.war_types.specs.Warrior.{HasNumbersBelow}
-use Rattle.hill_bytes.proofs.SlotBytes.{any-instr}
+use Rattle.std.proofs.{Common.{◌≡◌, ◌<◌, None, Some, ◌∷◌, [], ◌++◌, length, take, get_or, arith, sym, ap, ◌∙◌}, lemmas.List.{take_more, take_all}, lemmas.List.Elements.All-get_or}
+use Rattle.{war_types.specs.{declared.instr.Instr.Instr, Warrior.HasNumbersBelow}, hill_bytes.proofs.SlotBytes.any-instr}
 use Rattle.hill_bytes.proofs.slot.Slot.read_code.Goals as goal
 
 pub returns-in-None : goal.returns-in-None

@@ -1,8 +1,5 @@
 -- The instructions so far are those that stand in the places.
-use Rattle.std.proofs.Common.{◌≡◌, ℕ, List, All, length, take}
-use Rattle.war_types.specs.declared.instr.Instr.{Instr}
-use Rattle.war_types.specs.Warrior.{HasNumbersBelow}
-use Rattle.hill_bytes.specs.Layout.{new_layout, with_code}
+use Rattle.{std.proofs.Common.{◌≡◌, ℕ, List, All, length, take}, war_types.specs.{declared.instr.Instr.Instr, Warrior.HasNumbersBelow}, hill_bytes.specs.Layout.{new_layout, with_code}}
 use Rattle.hill_bytes.proofs.slot.Slot.read_code.Given as goal
 
 abbrev pub invariant-loop-place : goal.invariant-loop-place

@@ -1,8 +1,5 @@
-use Rattle.std.proofs.Common.{◌≡◌, ◌<◌, ◌≤◌, length, get_or, arith, sym, ◌∙◌}
-use Rattle.std.proofs.lemmas.List.{length-set, take_all}
-use Rattle.hill_bytes.specs.Layout.{new_layout, results_in}
-use Rattle.hill_bytes.proofs.HeaderBytes.{set-step}
-use Rattle.hill_bytes.proofs.Results.{length-results, result-at}
+use Rattle.{std.proofs.{Common.{◌≡◌, ◌<◌, ◌≤◌, length, get_or, arith, sym, ◌∙◌}, lemmas.List.{length-set, take_all}}, hill_bytes.specs.Layout.{new_layout, results_in}}
+use Rattle.hill_bytes.proofs.{HeaderBytes.set-step, Results.{length-results, result-at}}
 use Rattle.hill_bytes.proofs.slot.Slot.results.Goals as goal
 
 pub loop-place-preserved : goal.loop-place-preserved

@@ -1,6 +1,5 @@
 -- The results so far are the first of them.
-use Rattle.std.proofs.Common.{◌≡◌, length, take}
-use Rattle.hill_bytes.specs.Layout.{new_layout, results_in}
+use Rattle.{std.proofs.Common.{◌≡◌, length, take}, hill_bytes.specs.Layout.{new_layout, results_in}}
 use Rattle.hill_bytes.proofs.slot.Slot.results.Given as goal
 
 abbrev pub invariant-loop-place : goal.invariant-loop-place

@@ -1,21 +1,8 @@
-use Rattle.std.proofs.Common.{◌≡◌, ◌<◌, ◌⊎◌, ◌+◌, ◌-◌, ◌^◌, ◌≤◌, All, List, length, arith, refl, sym, ap, ◌∙◌, subst}
-use Rattle.war_types.specs.declared.settings.RawSettings.{RawSettings}
-use Rattle.war_types.specs.Warrior.{Fits}
-use Rattle.sector_disk.specs.Changes.{after, Begun}
-use Rattle.sector_disk.specs.Image.{Images}
-use Rattle.sector_disk.specs.Served.{IsKept}
-use Rattle.sector_disk.proofs.Kept.{kept_where_served}
-use Rattle.koth_hill.specs.Kept.{IsKept as IsKeptHill, step_kept, verdict_kept}
-use Rattle.hill_bytes.specs.declared.header.HeaderEntry.{HeaderEntry}
-use Rattle.hill_bytes.specs.Layout.{HeaderParts}
-use Rattle.hill_images.specs.Stands.{Reads}
-use Rattle.hill_images.specs.Named.{IsSound}
-use Rattle.hill_images.specs.Places.{header_placed}
-use Rattle.hill_images.proofs.Nexts.{slots_low}
-use Rattle.hill_images.proofs.Exits.{admit_header, admit_sound, admit_cut, admit_reads}
-use Rattle.hill_store.specs.Seen.{Seen, seen, Challenges}
-use Rattle.hill_store.proofs.Replies.{answers}
-use Rattle.hill_store.proofs.Written.{may_admit, places_are, results_are, results_each}
+use Rattle.{std.proofs.Common.{◌≡◌, ◌<◌, ◌⊎◌, ◌+◌, ◌-◌, ◌^◌, ◌≤◌, All, List, length, arith, refl, sym, ap, ◌∙◌, subst}, war_types.specs.declared.settings.RawSettings.RawSettings}
+use Rattle.{war_types.specs.Warrior.Fits, koth_hill.specs.Kept.{IsKept as IsKeptHill, step_kept, verdict_kept}, sector_disk.specs.{Changes.{after, Begun}, Image.Images, Served.IsKept}}
+use Rattle.{sector_disk.proofs.Kept.kept_where_served, hill_bytes.specs.{declared.header.HeaderEntry.HeaderEntry, Layout.HeaderParts}}
+use Rattle.{hill_images.specs.{Stands.Reads, Named.IsSound, Places.header_placed}, hill_images.proofs.{Nexts.slots_low, Exits.{admit_header, admit_sound, admit_cut, admit_reads}}}
+use Rattle.{hill_store.specs.Seen.{Seen, seen, Challenges}, hill_store.proofs.{Replies.answers, Written.{may_admit, places_are, results_are, results_each}}}
 use Rattle.hill_store.proofs.store.Store.admit.Goals as goal
 
 pub header_placed-header-requires : goal.header_placed-header-requires

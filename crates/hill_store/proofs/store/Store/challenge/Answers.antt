@@ -1,9 +1,5 @@
-use Rattle.std.proofs.Common.{◌+◌, ap, subst, sym, ◌∙◌}
-use Rattle.war_types.specs.Warrior.{Fits}
-use Rattle.koth_hill.specs.Kept.{Kept}
-use Rattle.koth_hill.specs.declared.verdict.Verdict.{Verdict}
-use Rattle.hill_images.proofs.Submitted.{verdict_is}
-use Rattle.hill_store.specs.Seen.{Seen}
+use Rattle.{std.proofs.Common.{◌+◌, ap, subst, sym, ◌∙◌}, war_types.specs.Warrior.Fits, koth_hill.specs.{Kept.Kept, declared.verdict.Verdict.Verdict}}
+use Rattle.{hill_images.proofs.Submitted.verdict_is, hill_store.specs.Seen.Seen}
 use Rattle.hill_store.proofs.store.Store.challenge.Goals as goal
 
 pub pass-requires-clause-entry : goal.pass-requires-clause-entry

@@ -1,9 +1,5 @@
-use Rattle.std.proofs.Common.{◌≤◌, arith, refl, sym, ap, subst}
-use Rattle.mars_core.specs.Round.{Round}
-use Rattle.hill_bytes.specs.Layout.{HeaderParts, sectors_for}
-use Rattle.koth_hill.specs.Kept.{new_kept}
-use Rattle.hill_images.proofs.Submitted.{ready_reads}
-use Rattle.hill_store.proofs.Decided.{created_holds, first_sound}
+use Rattle.{std.proofs.Common.{◌≤◌, arith, refl, sym, ap, subst}, mars_core.specs.Round.Round, koth_hill.specs.Kept.new_kept, hill_bytes.specs.Layout.{HeaderParts, sectors_for}}
+use Rattle.{hill_images.proofs.Submitted.ready_reads, hill_store.proofs.Decided.{created_holds, first_sound}}
 use Rattle.hill_store.proofs.store.Store.create.Goals as goal
 
 pub returns-in-Ok-write_first-clause-created : goal.returns-in-Ok-write_first-clause-created

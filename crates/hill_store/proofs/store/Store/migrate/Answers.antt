@@ -1,16 +1,11 @@
-use Rattle.std.proofs.Common.{◌<◌, ◌≤◌, ap, arith, refl, sym, subst}
-use Rattle.war_types.specs.declared.settings.RawSettings.{RawSettings}
-use Rattle.hill_bytes.specs.Layout.{sectors_for}
-use Rattle.hill_images.specs.declared.refusal.Refusal.TheVariants as refusals
-use Rattle.hill_images.proofs.Submitted.{ready_reads}
-use Rattle.hill_store.specs.declared.migration.MigrateSide.TheVariants as sides
-use Rattle.hill_store.specs.Opened.{IsReadOf}
+use Rattle.{std.proofs.Common.{◌<◌, ◌≤◌, ap, arith, refl, sym, subst}, war_types.specs.declared.settings.RawSettings.RawSettings, hill_bytes.specs.Layout.sectors_for}
+use Rattle.{hill_images.specs.declared.refusal.Refusal.Refusal, hill_images.proofs.Submitted.ready_reads, hill_store.specs.{Opened.IsReadOf, declared.migration.MigrateSide.MigrateSide}}
 use Rattle.hill_store.proofs.Moving.{moved, not_migrated_by, taken_or_not, too_small, unmoved}
 use Rattle.hill_store.proofs.store.Store.migrate.Goals as goal
 
 pub returns-in-Err-clause-refused : goal.returns-in-Err-clause-refused
 returns-in-Err-clause-refused g c =
-    not_migrated_by g.O.Device.facts g.D.Device.facts c.args.old c.recover.new.device c.args.new c.args.new c.in-Err.refusal sides.Old c.fault_of.result c.fault_of.ensures.side c.fault_of.ensures.refusal (c.in-Err.ensures.refused, refl)
+    not_migrated_by g.O.Device.facts g.D.Device.facts c.args.old c.recover.new.device c.args.new c.args.new c.in-Err.refusal MigrateSide.Old c.fault_of.result c.fault_of.ensures.side c.fault_of.ensures.refusal (c.in-Err.ensures.refused, refl)
 
 pub returns-in-Err-clause-holds : goal.returns-in-Err-clause-holds
 returns-in-Err-clause-holds g c = λ s. λ sources. λ more. λ lawful_old. λ lawful_new. λ holds.
@@ -25,7 +20,7 @@ returns-then-sectors-sectors_for-clause-refused g c =
       synced_now = c.in-Ok.ensures.found.synced_now;
       reads_as = λ lawful. record { header = c.in-Ok.found.header; shows = c.in-Ok.ensures.found.shows lawful; room = c.in-Ok.ensures.found.room };
     } in
-    not_migrated_by g.O.Device.facts g.D.Device.facts c.args.old c.recover.new.device c.args.new c.args.new refusals.TooSmall sides.New c.fault_of-fault.result c.fault_of-fault.ensures.side c.fault_of-fault.ensures.refusal
+    not_migrated_by g.O.Device.facts g.D.Device.facts c.args.old c.recover.new.device c.args.new c.args.new Refusal.TooSmall MigrateSide.New c.fault_of-fault.result c.fault_of-fault.ensures.side c.fault_of-fault.ensures.refusal
     (c.in-Ok.found.hill, read, too_small g.D.Device.facts c.args.new c.in-Ok.found.header c.in-Ok.found.hill c.in-Ok.ensures.found.sound.named.settings few)
 
 pub returns-then-sectors-sectors_for-clause-holds : goal.returns-then-sectors-sectors_for-clause-holds
@@ -39,7 +34,7 @@ returns-in-Err-write_hill-clause-refused g c =
       synced_now = c.in-Ok.ensures.found.synced_now;
       reads_as = λ lawful. record { header = c.in-Ok.found.header; shows = c.in-Ok.ensures.found.shows lawful; room = c.in-Ok.ensures.found.room };
     } in
-    not_migrated_by g.O.Device.facts g.D.Device.facts c.args.old c.recover.new.device c.args.new c.write_hill.new.device c.in-Err-write_hill.refusal sides.New c.fault_of-in-Err-write_hill.result c.fault_of-in-Err-write_hill.ensures.side c.fault_of-in-Err-write_hill.ensures.refusal
+    not_migrated_by g.O.Device.facts g.D.Device.facts c.args.old c.recover.new.device c.args.new c.write_hill.new.device c.in-Err-write_hill.refusal MigrateSide.New c.fault_of-in-Err-write_hill.result c.fault_of-in-Err-write_hill.ensures.side c.fault_of-in-Err-write_hill.ensures.refusal
     (c.in-Ok.found.hill, read, taken_or_not g.D.Device.facts c.args.new c.write_hill.new.device c.in-Ok.found.hill c.in-Err-write_hill.refusal c.in-Err-write_hill.ensures.refused)
 
 pub returns-in-Err-write_hill-clause-holds : goal.returns-in-Err-write_hill-clause-holds

@@ -1,6 +1,4 @@
-use Rattle.std.proofs.Common.{refl}
-use Rattle.hill_images.proofs.Exits.{sound_reads}
-use Rattle.hill_store.proofs.Decided.{decided, undecided}
+use Rattle.{std.proofs.Common.refl, hill_images.proofs.Exits.sound_reads, hill_store.proofs.Decided.{decided, undecided}}
 use Rattle.hill_store.proofs.store.Store.open.Goals as goal
 
 pub returns-in-Ok-clause-opened : goal.returns-in-Ok-clause-opened
@@ -9,11 +7,7 @@ returns-in-Ok-clause-opened g c = record {
   generation = λ lawful. (c.in-Ok.found.header, (c.in-Ok.ensures.found.shows lawful).newest, refl);
   faultless = c.in-Ok.ensures.faultless;
   synced_now = c.in-Ok.ensures.found.synced_now;
-  reads_as = λ lawful. record {
-    header = c.in-Ok.found.header;
-    shows = c.in-Ok.ensures.found.shows lawful;
-    room = c.in-Ok.ensures.found.room;
-  };
+  reads_as = λ lawful. record { header = c.in-Ok.found.header; shows = c.in-Ok.ensures.found.shows lawful; room = c.in-Ok.ensures.found.room };
   reads = λ lawful. sound_reads g.D.Device.facts c.recover.new.device c.in-Ok.found.header c.in-Ok.found.hill c.in-Ok.found.arena.settings _ c.in-Ok.ensures.found.sound refl (c.in-Ok.ensures.kept.same_laws.1 lawful);
 }
 

@@ -1,18 +1,7 @@
-use Rattle.std.proofs.Common.{◌≡◌, ◌<◌, ◌⊎◌, ◌+◌, ◌-◌, ◌^◌, refl, sym, ap, ◌∙◌, subst}
-use Rattle.koth_hill.specs.Kept.{IsKept as IsKeptHill, hill_in, kept_fall, step_kept}
-use Rattle.koth_hill.proofs.RowsKept.{IsKept-fall}
-use Rattle.hill_images.proofs.Submitted.{hill_passed}
-use Rattle.sector_disk.specs.Changes.{after, Begun}
-use Rattle.sector_disk.specs.Image.{Images}
-use Rattle.hill_images.specs.Stands.{Reads}
-use Rattle.hill_bytes.specs.Layout.{HeaderParts, new_layout}
-use Rattle.sector_disk.specs.Served.{IsKept}
-use Rattle.sector_disk.proofs.Kept.{kept_where_served}
-use Rattle.hill_store.specs.Seen.{Seen, seen, Challenges}
-use Rattle.hill_images.specs.Named.{IsSound}
-use Rattle.hill_images.specs.Places.{header_passed, commits}
-use Rattle.hill_images.proofs.Exits.{pass_header, pass_sound, pass_reads, pass_step, pass_cut}
-use Rattle.hill_store.proofs.Replies.{answers}
+use Rattle.{std.proofs.Common.{◌≡◌, ◌<◌, ◌⊎◌, ◌+◌, ◌-◌, ◌^◌, refl, sym, ap, ◌∙◌, subst}, koth_hill.specs.Kept.{IsKept as IsKeptHill, hill_in, kept_fall, step_kept}}
+use Rattle.{koth_hill.proofs.RowsKept.IsKept-fall, sector_disk.specs.{Changes.{after, Begun}, Image.Images, Served.IsKept}, sector_disk.proofs.Kept.kept_where_served}
+use Rattle.{hill_bytes.specs.Layout.{HeaderParts, new_layout}, hill_images.specs.{Stands.Reads, Named.IsSound, Places.{header_passed, commits}}, hill_images.proofs.Submitted.hill_passed}
+use Rattle.{hill_images.proofs.Exits.{pass_header, pass_sound, pass_reads, pass_step, pass_cut}, hill_store.specs.Seen.{Seen, seen, Challenges}, hill_store.proofs.Replies.answers}
 use Rattle.hill_store.proofs.store.Store.pass.Goals as goal
 
 pub header_passed-header-requires : goal.header_passed-header-requires

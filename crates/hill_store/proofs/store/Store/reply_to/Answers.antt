@@ -1,7 +1,4 @@
-use Rattle.std.proofs.Common.{refl, subst}
-use Rattle.sector_disk.proofs.Kept.{kept_same}
-use Rattle.koth_hill.specs.Kept.{IsKept as IsKeptHill}
-use Rattle.hill_store.specs.Seen.{Seen}
+use Rattle.{std.proofs.Common.{refl, subst}, koth_hill.specs.Kept.IsKept as IsKeptHill, sector_disk.proofs.Kept.kept_same, hill_store.specs.Seen.Seen}
 use Rattle.hill_store.proofs.store.Store.reply_to.Goals as goal
 
 pub returns-in-Ok-clause-hill : goal.returns-in-Ok-clause-hill

@@ -1,7 +1,4 @@
-use Rattle.std.proofs.Common.{◌≡◌, IfOk, subst}
-use Rattle.koth_hill.specs.Kept.{table_kept}
-use Rattle.koth_hill.specs.Rows.{rows_parts}
-use Rattle.hill_store.specs.Seen.{Seen}
+use Rattle.{std.proofs.Common.{◌≡◌, IfOk, subst}, koth_hill.specs.{Kept.table_kept, Rows.rows_parts}, hill_store.specs.Seen.Seen}
 use Rattle.hill_store.proofs.store.Store.rows.Goals as goal
 
 pub returns-clause-kept : goal.returns-clause-kept

@@ -1,5 +1,4 @@
-use Rattle.hill_store.proofs.Fought.{anew}
-use Rattle.hill_store.proofs.Holdings.{holds_one}
+use Rattle.hill_store.proofs.{Fought.anew, Holdings.holds_one}
 use Rattle.hill_store.proofs.store.Store.submit.Goals as goal
 
 pub returns-clause-holds : goal.returns-clause-holds

@@ -1,10 +1,5 @@
-use Rattle.std.proofs.Common.{◌≡◌, ◌+◌, ◌++◌, ◌∷◌, [], arith, refl, subst, sym, ap, length, ◌∙◌}
-use Rattle.std.proofs.lemmas.List.{length_push}
-use Rattle.hill_store.specs.Runs.{texts}
-use Rattle.hill_store.specs.Seen.{Seen}
-use Rattle.hill_store.proofs.Holdings.{holds_runs}
-use Rattle.sector_disk.proofs.Kept.{kept_on, kept_same}
-use Rattle.hill_store.proofs.Lists.{RunsOpen, all_next, cut_next, open_next, texts_length, text_at, pushed}
+use Rattle.{std.proofs.{Common.{◌≡◌, ◌+◌, ◌++◌, ◌∷◌, [], arith, refl, subst, sym, ap, length, ◌∙◌}, lemmas.List.length_push}, sector_disk.proofs.Kept.{kept_on, kept_same}}
+use Rattle.{hill_store.specs.{Runs.texts, Seen.Seen}, hill_store.proofs.{Holdings.holds_runs, Lists.{RunsOpen, all_next, cut_next, open_next, texts_length, text_at, pushed}}}
 use Rattle.hill_store.proofs.store.Store.submit_all.Goals as goal
 
 pub returns-clause-runs : goal.returns-clause-runs

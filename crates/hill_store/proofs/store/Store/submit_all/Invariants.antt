@@ -1,7 +1,4 @@
-use Rattle.std.proofs.Common.{◌≡◌, ◌-◌, ◌^◌, ◌≤◌, length, take, vec_capacity}
-use Rattle.sector_disk.specs.Served.{IsKept}
-use Rattle.hill_store.specs.Runs.{texts}
-use Rattle.hill_store.proofs.Lists.{RunsOpen}
+use Rattle.{std.proofs.Common.{◌≡◌, ◌-◌, ◌^◌, ◌≤◌, length, take, vec_capacity}, sector_disk.specs.Served.IsKept, hill_store.specs.Runs.texts, hill_store.proofs.Lists.RunsOpen}
 use Rattle.hill_store.proofs.store.Store.submit_all.Given as goal
 
 abbrev pub invariant-loop-source : goal.invariant-loop-source

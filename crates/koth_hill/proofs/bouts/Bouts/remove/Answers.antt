@@ -1,7 +1,4 @@
-use Rattle.std.proofs.Common.{◌∙◌, List, ap, arith}
-use Rattle.std.specs.List.{remove}
-use Rattle.koth_match.specs.declared.bout.Bout.{Bout}
-use Rattle.koth_hill.proofs.Places.{moved-up}
+use Rattle.{std.proofs.Common.{◌∙◌, List, ap, arith}, std.specs.List.remove, koth_match.specs.declared.bout.Bout.Bout, koth_hill.proofs.Places.moved-up}
 use Rattle.koth_hill.proofs.bouts.Bouts.remove.Goals as goal
 
 pub returns-then-place-self : goal.returns-then-place-self

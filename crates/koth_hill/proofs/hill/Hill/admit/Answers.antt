@@ -1,10 +1,6 @@
-use Rattle.std.proofs.Common.{◌≡◌, ◌+◌, ◌<◌, ◌≤◌, ◌^◌, ◌++◌, ◌∷◌, [], ◌∙◌, List, All, length, map, ap, subst, sym, arith, vec_capacity}
-use Rattle.std.specs.Vec.{with_items}
-use Rattle.std.proofs.lemmas.List.{length-map, with_items_is}
-use Rattle.koth_hill.specs.Kept.{Kept, Entrant, IsKept, fresh, hill_in, kept_of, known, members_of, rows_of, stayed, without_place}
-use Rattle.koth_hill.proofs.Verdicts.{judged-entry}
-use Rattle.koth_hill.proofs.Admitting.{few-fresh, place-shown, place-within, entry-seen, few-left, ages-left, IsTakenIn, taken-in}
-use Rattle.koth_hill.proofs.Hills.{pushed-entrant}
+use Rattle.{std.proofs.Common.{◌≡◌, ◌+◌, ◌<◌, ◌≤◌, ◌^◌, ◌++◌, ◌∷◌, [], ◌∙◌, List, All, length, map, ap, subst, sym, arith, vec_capacity}, std.specs.Vec.with_items}
+use Rattle.{std.proofs.lemmas.List.{length-map, with_items_is}, koth_hill.specs.Kept.{Kept, Entrant, IsKept, fresh, hill_in, kept_of, known, members_of, rows_of, stayed, without_place}}
+use Rattle.koth_hill.proofs.{Verdicts.judged-entry, Admitting.{few-fresh, place-shown, place-within, entry-seen, few-left, ages-left, IsTakenIn, taken-in}, Hills.pushed-entrant}
 use Rattle.koth_hill.proofs.hill.Hill.admit.Given.{Over}
 use Rattle.koth_hill.proofs.hill.Hill.admit.Goals as goal
 

@@ -1,7 +1,4 @@
-use Rattle.std.proofs.Common.{◌∙◌, ap, map}
-use Rattle.koth_hill.specs.Kept.{kept_of, members_of, rows_of}
-use Rattle.koth_hill.specs.Standings.{standing_parts}
-use Rattle.koth_hill.proofs.Hills.{bout-kept, few-entrants}
+use Rattle.{std.proofs.Common.{◌∙◌, ap, map}, koth_hill.specs.{Kept.{kept_of, members_of, rows_of}, Standings.standing_parts}, koth_hill.proofs.Hills.{bout-kept, few-entrants}}
 use Rattle.koth_hill.proofs.hill.Hill.bout.Goals as goal
 
 pub returns : goal.returns

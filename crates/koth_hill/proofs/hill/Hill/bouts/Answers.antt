@@ -1,7 +1,4 @@
-use Rattle.std.proofs.Common.{◌∙◌, Some, length, ap, arith, refl, slice_get, subst, sym}
-use Rattle.std.proofs.lemmas.List.{length-map}
-use Rattle.koth_hill.specs.Kept.{Entrant, IsKept, Kept}
-use Rattle.koth_hill.proofs.Shown.{shown-at}
+use Rattle.{std.proofs.{Common.{◌∙◌, Some, length, ap, arith, refl, slice_get, subst, sym}, lemmas.List.length-map}, koth_hill.specs.Kept.{Entrant, IsKept, Kept}, koth_hill.proofs.Shown.shown-at}
 use Rattle.koth_hill.proofs.hill.Hill.bouts.Goals as goal
 
 pub index-requires : goal.index-requires

@@ -1,9 +1,5 @@
-use Rattle.std.proofs.Common.{◌∙◌, ap, arith, length-take, refl, sym}
-use Rattle.koth_match.specs.Match.{no_rounds}
-use Rattle.koth_hill.specs.Kept.{Kept, kept_of, members_of, rows_of}
-use Rattle.koth_hill.proofs.Hills.{few-entrants}
-use Rattle.koth_hill.proofs.Matches.{fits-at, many-matches}
-use Rattle.koth_hill.proofs.Audits.{all-entrants-fit, fit-before, true-all, true-more}
+use Rattle.{std.proofs.Common.{◌∙◌, ap, arith, length-take, refl, sym}, koth_match.specs.Match.no_rounds, koth_hill.specs.Kept.{Kept, kept_of, members_of, rows_of}}
+use Rattle.koth_hill.proofs.{Hills.few-entrants, Matches.{fits-at, many-matches}, Audits.{all-entrants-fit, fit-before, true-all, true-more}}
 use Rattle.koth_hill.proofs.Untruths.{at-member, first-before, first-untrue, older-at, same-long, same-so_far}
 use Rattle.koth_hill.proofs.hill.Hill.first_untrue.Goals as goal
 

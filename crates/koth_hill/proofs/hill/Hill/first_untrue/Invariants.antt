@@ -1,6 +1,5 @@
 -- The rows before this one are true.
-use Rattle.std.proofs.Common.{◌≡◌, [], take}
-use Rattle.koth_hill.specs.Kept.{fought_from, members_of, rows_of}
+use Rattle.{std.proofs.Common.{◌≡◌, [], take}, koth_hill.specs.Kept.{fought_from, members_of, rows_of}}
 use Rattle.koth_hill.proofs.hill.Hill.first_untrue.Given as goal
 
 abbrev pub invariant-loop-i : goal.invariant-loop-i

@@ -1,14 +1,6 @@
-use Rattle.std.proofs.Common.{◌+◌, ◌∙◌, List, ap, arith, map, subst, refl, sym}
-use Rattle.war_types.specs.Warrior.{Fits}
-use Rattle.koth_match.specs.declared.bout.Bout.{Bout}
-use Rattle.koth_hill.specs.declared.verdict.Verdict.{Verdict}
-use Rattle.koth_hill.specs.Kept.{Kept, IsKept, kept_of, members_of, rows_of, fresh, hill_in, known, verdict_kept}
-use Rattle.koth_hill.specs.Standings.{standing_parts}
-use Rattle.koth_hill.proofs.Verdicts.{verdict-entry, verdict-bouts}
-use Rattle.koth_hill.proofs.Hills.{few-entrants, judged-kept, rounds-judged, fresh-found}
-use Rattle.koth_hill.proofs.Audits.{all-entrants-fit}
-use Rattle.koth_hill.proofs.HillLaws.{least-falls}
-use Rattle.koth_hill.proofs.Truths.{true-verdict}
+use Rattle.{std.proofs.Common.{◌+◌, ◌∙◌, List, ap, arith, map, subst, refl, sym}, war_types.specs.Warrior.Fits, koth_match.specs.declared.bout.Bout.Bout}
+use Rattle.koth_hill.specs.{declared.verdict.Verdict.Verdict, Kept.{Kept, IsKept, kept_of, members_of, rows_of, fresh, hill_in, known, verdict_kept}, Standings.standing_parts}
+use Rattle.koth_hill.proofs.{Verdicts.{verdict-entry, verdict-bouts}, Hills.{few-entrants, judged-kept, rounds-judged, fresh-found}, Audits.all-entrants-fit, HillLaws.least-falls, Truths.true-verdict}
 use Rattle.koth_hill.proofs.hill.Hill.judge.Goals as goal
 
 pub judged-requires-clause-rounds : goal.judged-requires-clause-rounds

@@ -1,6 +1,4 @@
-use Rattle.std.proofs.Common.{refl, subst}
-use Rattle.koth_hill.specs.Kept.{IsKept, kept_of, members_of, rows_of}
-use Rattle.koth_hill.proofs.Shown.{member-shown, no-member}
+use Rattle.{std.proofs.Common.{refl, subst}, koth_hill.specs.Kept.{IsKept, kept_of, members_of, rows_of}, koth_hill.proofs.Shown.{member-shown, no-member}}
 use Rattle.koth_hill.proofs.hill.Hill.member.Goals as goal
 
 pub returns-in-Some-clause-value : goal.returns-in-Some-clause-value

@@ -1,7 +1,5 @@
-use Rattle.std.proofs.Common.{◌∙◌, ap, sym, subst}
-use Rattle.koth_hill.specs.Kept.{AreTrue, IsKept, kept_of, members_of, rows_of, hill_in}
-use Rattle.koth_hill.proofs.Hills.{passed-kept}
-use Rattle.koth_hill.proofs.Truths.{still-true, true-step}
+use Rattle.{std.proofs.Common.{◌∙◌, ap, sym, subst}, koth_hill.specs.Kept.{AreTrue, IsKept, kept_of, members_of, rows_of, hill_in}}
+use Rattle.koth_hill.proofs.{Hills.passed-kept, Truths.{still-true, true-step}}
 use Rattle.koth_hill.proofs.hill.Hill.pass.Goals as goal
 
 pub returns-clause-kept : goal.returns-clause-kept

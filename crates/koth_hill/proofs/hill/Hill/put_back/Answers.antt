@@ -1,8 +1,5 @@
-use Rattle.std.proofs.Common.{◌≡◌, ◌∙◌, ◌++◌, ◌∷◌, [], List, arith, ap, sym, refl, subst}
-use Rattle.koth_match.specs.declared.bout.Bout.{Bout}
-use Rattle.koth_hill.specs.Hill.{member_of}
-use Rattle.koth_hill.specs.Kept.{IsKept, kept_of, members_of, rows_of, entrant_of}
-use Rattle.koth_hill.proofs.Hills.{IsKept-put_back, few-members, put_back-is, pushed-entrant, room-left_for}
+use Rattle.{std.proofs.Common.{◌≡◌, ◌∙◌, ◌++◌, ◌∷◌, [], List, arith, ap, sym, refl, subst}, koth_match.specs.declared.bout.Bout.Bout, koth_hill.specs.Hill.member_of}
+use Rattle.{koth_hill.specs.Kept.{IsKept, kept_of, members_of, rows_of, entrant_of}, koth_hill.proofs.Hills.{IsKept-put_back, few-members, put_back-is, pushed-entrant, room-left_for}}
 use Rattle.koth_hill.proofs.hill.Hill.put_back.Given.{Over}
 use Rattle.koth_hill.proofs.hill.Hill.put_back.Goals as goal
 

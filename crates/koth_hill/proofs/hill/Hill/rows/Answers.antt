@@ -1,13 +1,6 @@
-use Rattle.std.proofs.Common.{◌≡◌, ◌∙◌, List, Result, Ok, Err, ap, ap₂, refl, subst, IfOk}
-use Rattle.koth_match.specs.declared.bout.Bout.{Bout}
-use Rattle.koth_hill.specs.Hill.{Member}
-use Rattle.koth_hill.specs.Kept.{IsKept, kept_of, members_of, rows_of, entries_of, hill_in, kept_results, table_kept}
-use Rattle.koth_hill.specs.Laws.{IsRanking}
-use Rattle.koth_hill.specs.Rows.{rows_parts}
-use Rattle.koth_hill.specs.Table.{RowParts, table, table_by}
-use Rattle.koth_hill.proofs.HillLaws.{ranking}
-use Rattle.koth_hill.proofs.Hills.{few-entrants, rounds-members}
-use Rattle.koth_hill.proofs.Truths.{true-table}
+use Rattle.{std.proofs.Common.{◌≡◌, ◌∙◌, List, Result, Ok, Err, ap, ap₂, refl, subst, IfOk}, koth_match.specs.declared.bout.Bout.Bout, koth_hill.specs.Hill.Member}
+use Rattle.koth_hill.specs.{Kept.{IsKept, kept_of, members_of, rows_of, entries_of, hill_in, kept_results, table_kept}, Laws.IsRanking, Rows.rows_parts, Table.{RowParts, table, table_by}}
+use Rattle.koth_hill.proofs.{HillLaws.ranking, Hills.{few-entrants, rounds-members}, Truths.true-table}
 use Rattle.koth_hill.proofs.hill.Hill.rows.Goals as goal
 
 pub rows_of-requires-clause-rounds : goal.rows_of-requires-clause-rounds

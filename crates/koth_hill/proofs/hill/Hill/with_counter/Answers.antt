@@ -1,6 +1,4 @@
-use Rattle.std.proofs.Common.{List, ap, arith}
-use Rattle.koth_hill.specs.Kept.{Entrant, kept_of, members_of, rows_of}
-use Rattle.koth_hill.proofs.Hills.{IsKept-none}
+use Rattle.{std.proofs.Common.{List, ap, arith}, koth_hill.specs.Kept.{Entrant, kept_of, members_of, rows_of}, koth_hill.proofs.Hills.IsKept-none}
 use Rattle.koth_hill.proofs.hill.Hill.with_counter.Goals as goal
 
 pub invariant_of-result : goal.invariant_of-result

@@ -1,6 +1,4 @@
-use Rattle.std.proofs.Common.{◌+◌, ◌∙◌, ap, arith, length, map}
-use Rattle.std.proofs.lemmas.List.{length_push}
-use Rattle.koth_hill.specs.Standings.{standing_parts}
+use Rattle.{std.proofs.{Common.{◌+◌, ◌∙◌, ap, arith, length, map}, lemmas.List.length_push}, koth_hill.specs.Standings.standing_parts}
 use Rattle.koth_hill.proofs.ByEntry.{all-standings, many-standings, standing-more}
 use Rattle.koth_hill.proofs.standings.Standings.of.Goals as goal
 

@@ -1,6 +1,4 @@
-use Rattle.std.proofs.Common.{◌∙◌, ◌++◌, ◌∷◌, [], List, ap, arith, map}
-use Rattle.std.proofs.lemmas.List.{map-append}
-use Rattle.koth_hill.specs.Standings.{StandingParts, standing_parts}
+use Rattle.{std.proofs.{Common.{◌∙◌, ◌++◌, ◌∷◌, [], List, ap, arith, map}, lemmas.List.map-append}, koth_hill.specs.Standings.{StandingParts, standing_parts}}
 use Rattle.koth_hill.proofs.standings.Standings.with.Goals as goal
 
 pub push-requires : goal.push-requires

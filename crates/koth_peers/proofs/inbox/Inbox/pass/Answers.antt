@@ -1,5 +1,4 @@
-use Rattle.std.proofs.Common.{[], ◌∷◌, ◌++◌, refl}
-use Rattle.koth_peers.proofs.Readings.{passed}
+use Rattle.{std.proofs.Common.{[], ◌∷◌, ◌++◌, refl}, koth_peers.proofs.Readings.passed}
 use Rattle.koth_peers.proofs.inbox.Inbox.pass.Goals as goal
 
 pub returns : goal.returns

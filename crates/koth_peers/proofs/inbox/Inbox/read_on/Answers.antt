@@ -1,6 +1,5 @@
 -- Byte by byte.
-use Rattle.std.proofs.Common.{inl, refl, sym, ◌∙◌}
-use Rattle.koth_peers.proofs.Readings.{byte_read, emptied, read_to, unmet}
+use Rattle.{std.proofs.Common.{inl, refl, sym, ◌∙◌}, koth_peers.proofs.Readings.{byte_read, emptied, read_to, unmet}}
 use Rattle.koth_peers.proofs.inbox.Inbox.read_on.Goals as goal
 
 pub bytes-preserved : goal.bytes-preserved

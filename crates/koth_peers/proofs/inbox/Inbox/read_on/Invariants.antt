@@ -1,7 +1,5 @@
 -- What was read so far is followed.
-use Rattle.std.proofs.Common.{ℕ, List, length}
-use Rattle.koth_protocol.specs.Commands.{Command}
-use Rattle.koth_peers.specs.Inbox.{IsFollowed}
+use Rattle.{std.proofs.Common.{ℕ, List, length}, koth_protocol.specs.Commands.Command, koth_peers.specs.Inbox.IsFollowed}
 use Rattle.koth_peers.proofs.inbox.Inbox.read_on.Given as goal
 
 abbrev pub invariant-bytes : goal.invariant-bytes

@@ -1,5 +1,4 @@
-use Rattle.std.proofs.Common.{◌++◌, arith, refl}
-use Rattle.koth_peers.proofs.Readings.{more_came}
+use Rattle.{std.proofs.Common.{◌++◌, arith, refl}, koth_peers.proofs.Readings.more_came}
 use Rattle.koth_peers.proofs.inbox.Inbox.take.Goals as goal
 
 pub returns : goal.returns

@@ -1,5 +1,4 @@
-use Rattle.std.proofs.Common.{refl, sym, ◌∙◌}
-use Rattle.koth_peers.proofs.Standing.{closed_now, none_of}
+use Rattle.{std.proofs.Common.{refl, sym, ◌∙◌}, koth_peers.proofs.Standing.{closed_now, none_of}}
 use Rattle.koth_peers.proofs.peer.Peer.close.Goals as goal
 
 pub returns : goal.returns

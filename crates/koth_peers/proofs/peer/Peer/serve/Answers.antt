@@ -1,7 +1,5 @@
 -- A command is carried out, or it ends the session.
-use Rattle.std.proofs.Common.{◌≡◌, None, Some, ap₂, refl, subst}
-use Rattle.koth_peers.specs.Peer.{AnswersPeer, command_due, command_of}
-use Rattle.koth_peers.proofs.Standing.{answered_now, ended_now}
+use Rattle.{std.proofs.Common.{◌≡◌, None, Some, ap₂, refl, subst}, koth_peers.specs.Peer.{AnswersPeer, command_due, command_of}, koth_peers.proofs.Standing.{answered_now, ended_now}}
 use Rattle.koth_peers.proofs.peer.Peer.serve.Goals as goal
 
 pub returns-in-None : goal.returns-in-None

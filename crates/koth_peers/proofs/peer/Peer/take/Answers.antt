@@ -1,5 +1,4 @@
-use Rattle.std.proofs.Common.{refl, sym, ◌∙◌}
-use Rattle.koth_peers.proofs.Standing.{none_of, took}
+use Rattle.{std.proofs.Common.{refl, sym, ◌∙◌}, koth_peers.proofs.Standing.{none_of, took}}
 use Rattle.koth_peers.proofs.peer.Peer.take.Goals as goal
 
 pub returns : goal.returns

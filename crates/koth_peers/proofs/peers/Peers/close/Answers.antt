@@ -1,6 +1,4 @@
-use Rattle.std.proofs.Common.{arith, set}
-use Rattle.koth_peers.specs.Peer.{Closes}
-use Rattle.koth_peers.proofs.Slots.{moves_written, serving_closed}
+use Rattle.{std.proofs.Common.{arith, set}, koth_peers.specs.Peer.Closes, koth_peers.proofs.Slots.{moves_written, serving_closed}}
 use Rattle.koth_peers.proofs.peers.Peers.close.Goals as goal
 
 pub returns-then-number-len-clause-serving : goal.returns-then-number-len-clause-serving

@@ -1,8 +1,5 @@
 -- The number was free, and its peer begins.
-use Rattle.std.proofs.Common.{None, Some, set, subst}
-use Rattle.std.proofs.lemmas.List.{get_or-set_same}
-use Rattle.koth_peers.specs.Peers.{IsFirstFree}
-use Rattle.koth_peers.proofs.Slots.{only_set, serving_connected}
+use Rattle.{std.proofs.{Common.{None, Some, set, subst}, lemmas.List.get_or-set_same}, koth_peers.specs.Peers.IsFirstFree, koth_peers.proofs.Slots.{only_set, serving_connected}}
 use Rattle.koth_peers.proofs.peers.Peers.connect.Goals as goal
 
 pub returns-in-Ok-clause-connects : goal.returns-in-Ok-clause-connects

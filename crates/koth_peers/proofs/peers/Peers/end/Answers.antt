@@ -1,6 +1,5 @@
 -- The end of the peer's session, if it has one.
-use Rattle.std.proofs.Common.{◌∙◌, ap}
-use Rattle.koth_peers.specs.Peers.{end_in, peer_at}
+use Rattle.{std.proofs.Common.{◌∙◌, ap}, koth_peers.specs.Peers.{end_in, peer_at}}
 use Rattle.koth_peers.proofs.peers.Peers.end.Goals as goal
 
 pub returns-in-Some : goal.returns-in-Some

@@ -1,6 +1,4 @@
-use Rattle.std.proofs.Common.{None, arith, set}
-use Rattle.std.proofs.lemmas.List.{get_or-set_same, get_or_past}
-use Rattle.koth_peers.proofs.Slots.{only_same, only_set, serving_left}
+use Rattle.{std.proofs.{Common.{None, arith, set}, lemmas.List.{get_or-set_same, get_or_past}}, koth_peers.proofs.Slots.{only_same, only_set, serving_left}}
 use Rattle.koth_peers.proofs.peers.Peers.leave.Goals as goal
 
 pub returns-then-number-len-clause-serving : goal.returns-then-number-len-clause-serving

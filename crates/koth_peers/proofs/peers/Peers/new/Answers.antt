@@ -1,8 +1,5 @@
 -- One slot more, which is free.
-use Rattle.std.proofs.Common.{◌+◌, None, ap, refl, subst, sym, ◌∙◌}
-use Rattle.std.proofs.lemmas.List.{length_push}
-use Rattle.koth_peers.specs.Peers.{StandsAt, nothing_yet}
-use Rattle.koth_peers.proofs.Slots.{free_push}
+use Rattle.{std.proofs.{Common.{◌+◌, None, ap, refl, subst, sym, ◌∙◌}, lemmas.List.length_push}, koth_peers.specs.Peers.{StandsAt, nothing_yet}, koth_peers.proofs.Slots.free_push}
 use Rattle.koth_peers.proofs.peers.Peers.new.Goals as goal
 
 pub slots-preserved : goal.slots-preserved

@@ -1,6 +1,5 @@
 -- As many free numbers as there are slots.
-use Rattle.std.proofs.Common.{◌≡◌, ℕ, length, None}
-use Rattle.koth_peers.specs.Peers.{peer_at}
+use Rattle.{std.proofs.Common.{◌≡◌, ℕ, length, None}, koth_peers.specs.Peers.peer_at}
 use Rattle.koth_peers.proofs.peers.Peers.new.Given as goal
 
 abbrev pub invariant-slots : goal.invariant-slots

@@ -1,6 +1,5 @@
 -- The room of the peer, or none.
-use Rattle.std.proofs.Common.{◌∙◌, ap, arith}
-use Rattle.koth_peers.specs.Peers.{may_come_at, may_come_in}
+use Rattle.{std.proofs.Common.{◌∙◌, ap, arith}, koth_peers.specs.Peers.{may_come_at, may_come_in}}
 use Rattle.koth_peers.proofs.peers.Peers.room.Goals as goal
 
 pub returns-in-Some-clause-room : goal.returns-in-Some-clause-room

@@ -1,6 +1,4 @@
-use Rattle.std.proofs.Common.{arith, set}
-use Rattle.koth_peers.specs.Peer.{Sends}
-use Rattle.koth_peers.proofs.Slots.{moves_written, serving_sent}
+use Rattle.{std.proofs.Common.{arith, set}, koth_peers.specs.Peer.Sends, koth_peers.proofs.Slots.{moves_written, serving_sent}}
 use Rattle.koth_peers.proofs.peers.Peers.sent.Goals as goal
 
 pub returns-then-number-len-clause-serving : goal.returns-then-number-len-clause-serving

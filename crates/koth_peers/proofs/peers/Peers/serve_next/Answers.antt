@@ -1,10 +1,6 @@
 -- One peer is served, or nobody is.
-use Rattle.std.proofs.Common.{◌≡◌, ◌+◌, None, refl, set, subst, sym, true}
-use Rattle.std.proofs.lemmas.List.{get_or_read}
-use Rattle.koth_peers.specs.Peer.{Serves}
-use Rattle.koth_peers.specs.Peers.{IsFirstDue, is_due_in}
-use Rattle.koth_peers.proofs.Serving.{goes_on, serves_next}
-use Rattle.koth_peers.proofs.Slots.{moves_written}
+use Rattle.{std.proofs.{Common.{◌≡◌, ◌+◌, None, refl, set, subst, sym, true}, lemmas.List.get_or_read}, koth_peers.specs.{Peer.Serves, Peers.{IsFirstDue, is_due_in}}}
+use Rattle.koth_peers.proofs.{Serving.{goes_on, serves_next}, Slots.moves_written}
 use Rattle.koth_peers.proofs.peers.Peers.serve_next.Goals as goal
 
 pub returns-in_default-clause-goes_on : goal.returns-in_default-clause-goes_on

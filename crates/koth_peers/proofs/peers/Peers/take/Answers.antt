@@ -1,6 +1,4 @@
-use Rattle.std.proofs.Common.{arith, set}
-use Rattle.koth_peers.specs.Peer.{Takes}
-use Rattle.koth_peers.proofs.Slots.{moves_written, serving_came}
+use Rattle.{std.proofs.Common.{arith, set}, koth_peers.specs.Peer.Takes, koth_peers.proofs.Slots.{moves_written, serving_came}}
 use Rattle.koth_peers.proofs.peers.Peers.take.Goals as goal
 
 pub returns-then-number-len-clause-serving : goal.returns-then-number-len-clause-serving

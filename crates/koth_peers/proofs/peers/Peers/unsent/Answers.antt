@@ -1,6 +1,5 @@
 -- The answers to the peer, or none.
-use Rattle.std.proofs.Common.{◌∙◌, ap}
-use Rattle.koth_peers.specs.Peers.{unsent_at, unsent_in}
+use Rattle.{std.proofs.Common.{◌∙◌, ap}, koth_peers.specs.Peers.{unsent_at, unsent_in}}
 use Rattle.koth_peers.proofs.peers.Peers.unsent.Goals as goal
 
 pub returns-in-Some-clause-value : goal.returns-in-Some-clause-value

@@ -1,5 +1,4 @@
-use Rattle.std.proofs.Common.{rules}
-use Rattle.koth_protocol.proofs.Cuts.{put_in}
+use Rattle.{std.proofs.Common.rules, koth_protocol.proofs.Cuts.put_in}
 use Rattle.koth_protocol.proofs.kept.Kept.put.Goals as goal
 
 pub returns : goal.returns

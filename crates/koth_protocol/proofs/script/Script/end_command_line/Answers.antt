@@ -1,6 +1,4 @@
-use Rattle.std.proofs.Common.{◌∙◌, ap}
-use Rattle.koth_protocol.specs.Lines.{without_return}
-use Rattle.koth_protocol.proofs.Readings.{command_ends}
+use Rattle.{std.proofs.Common.{◌∙◌, ap}, koth_protocol.specs.Lines.without_return, koth_protocol.proofs.Readings.command_ends}
 use Rattle.koth_protocol.proofs.script.Script.end_command_line.Goals as goal
 
 pub returns : goal.returns

@@ -1,5 +1,4 @@
-use Rattle.std.proofs.Common.{refl}
-use Rattle.koth_protocol.proofs.Readings.{byte_comes}
+use Rattle.{std.proofs.Common.refl, koth_protocol.proofs.Readings.byte_comes}
 use Rattle.koth_protocol.proofs.script.Script.take.Goals as goal
 
 pub returns-else-byte-eq10 : goal.returns-else-byte-eq10

@@ -1,6 +1,5 @@
 -- One number more, which is free.
-use Rattle.std.proofs.Common.{◌≡◌, ℕ, zero, suc, [], ◌∷◌, ◌++◌, None, refl}
-use Rattle.koth_service.specs.Connections.{Connections, stage_at}
+use Rattle.{std.proofs.Common.{◌≡◌, ℕ, zero, suc, [], ◌∷◌, ◌++◌, None, refl}, koth_service.specs.Connections.{Connections, stage_at}}
 use Rattle.koth_service.proofs.connections.Browsers.new.Goals as goal
 
 nobody_more : {A : Type 0} (places : Connections A) → ((p : ℕ) → stage_at places p ≡ None) → (p : ℕ) → stage_at (places ++ None ∷ []) p ≡ None

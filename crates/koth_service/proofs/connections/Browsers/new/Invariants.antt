@@ -1,6 +1,5 @@
 -- None of them has a connection yet.
-use Rattle.std.proofs.Common.{◌≡◌, ℕ, None}
-use Rattle.koth_service.specs.Connections.{stage_at}
+use Rattle.{std.proofs.Common.{◌≡◌, ℕ, None}, koth_service.specs.Connections.stage_at}
 use Rattle.koth_service.proofs.connections.Browsers.new.Given as goal
 
 abbrev pub invariant-loop-number : goal.invariant-loop-number

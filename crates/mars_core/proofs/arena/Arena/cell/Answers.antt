@@ -1,8 +1,5 @@
-use Rattle.std.proofs.Common.{ℕ, ◌<◌, ◌≤◌, length, Some, sym, ap, subst, ◌∙◌, arith}
-use Rattle.std.specs.Prelude.{slice_get}
-use Rattle.std.proofs.lemmas.Option.{slice_get-get_or, slice_get_past}
-use Rattle.mars_core.specs.Cells.{cell, blank, IsCore}
-use Rattle.mars_core.specs.Round.{Round}
+use Rattle.{std.proofs.Common.{ℕ, ◌<◌, ◌≤◌, length, Some, sym, ap, subst, ◌∙◌, arith}, std.specs.Prelude.slice_get, std.proofs.lemmas.Option.{slice_get-get_or, slice_get_past}}
+use Rattle.mars_core.specs.{Cells.{cell, blank, IsCore}, Round.Round}
 use Rattle.mars_core.proofs.arena.Arena.cell.Goals as goal
 
 pub cell-requires-clause-core : goal.cell-requires-clause-core

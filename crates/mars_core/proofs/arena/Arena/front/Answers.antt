@@ -1,8 +1,4 @@
-use Rattle.std.proofs.Common.{◌≡◌, ◌<◌, false, ap, sym, subst, ◌∙◌}
-use Rattle.mars_core.specs.declared.round.Side.{Side}
-use Rattle.mars_core.specs.Queue.{front}
-use Rattle.mars_core.specs.Round.{Round, is_over, queue_of}
-use Rattle.mars_core.specs.Arena.{round_in}
+use Rattle.{std.proofs.Common.{◌≡◌, ◌<◌, false, ap, sym, subst, ◌∙◌}, mars_core.specs.{declared.round.Side.Side, Queue.front, Round.{Round, is_over, queue_of}, Arena.round_in}}
 use Rattle.mars_core.proofs.Turns.{both_sides_live, front_inside}
 use Rattle.mars_core.proofs.arena.Arena.front.Goals as goal
 

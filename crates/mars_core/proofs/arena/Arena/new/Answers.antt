@@ -1,11 +1,5 @@
-use Rattle.std.proofs.Common.{◌≡◌, ℕ, ◌<◌, List, [], replicate, sym, ap, subst, ◌∙◌, arith}
-use Rattle.std.proofs.lemmas.List.Elements.{All-nil}
-use Rattle.mars_core.specs.declared.round.Side.TheVariants as sides
-use Rattle.mars_core.specs.Cells.{blank}
-use Rattle.mars_core.specs.Queue.{Processes, processes}
-use Rattle.mars_core.specs.Round.{IsQueue}
-use Rattle.mars_core.specs.Arena.{round_in}
-use Rattle.mars_core.proofs.Loads.{IsCore-replicate}
+use Rattle.std.proofs.{Common.{◌≡◌, ℕ, ◌<◌, List, [], replicate, sym, ap, subst, ◌∙◌, arith}, lemmas.List.Elements.All-nil}
+use Rattle.{mars_core.specs.{Cells.blank, Queue.{Processes, processes}, Round.IsQueue, Arena.round_in, declared.round.Side.Side}, mars_core.proofs.Loads.IsCore-replicate}
 use Rattle.mars_core.proofs.arena.Arena.new.Goals as goal
 
 pub returns : goal.returns
@@ -13,7 +7,7 @@ returns g c =
     let core : c.in_ok-core.core ≡ replicate c.args.settings.now.core blank = c.in_ok-core.ensures ∙ ap (λ (n : ℕ). replicate n blank) c.core.ensures.value in
     let first : c.in_ok-first.first.addresses ≡ [] = ap (λ (p : Processes). p.addresses) c.in_ok-first.ensures in
     let second : c.in_ok-second.second.addresses ≡ [] = ap (λ (p : Processes). p.addresses) c.in_ok-second.ensures in
-    λ t. round_in c.args.settings.now (core t) (first t) (second t) sides.First 0
+    λ t. round_in c.args.settings.now (core t) (first t) (second t) Side.First 0
 
 IsQueue-none : (size limit : ℕ) (queue : List ℕ) → queue ≡ [] → IsQueue size limit queue
 IsQueue-none size limit queue is = subst (IsQueue size limit) (sym is) (record { room = omega arith; addresses = All-nil (λ a. a < size) })

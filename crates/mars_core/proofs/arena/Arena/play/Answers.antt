@@ -1,8 +1,6 @@
-use Rattle.std.proofs.Common.{◌≡◌, ℕ, ◌-◌, ◌*◌, ◌≤◌, true, ap, sym, ◌∙◌, arith}
-use Rattle.mars_core.specs.Round.{Round, after_turns, is_over}
-use Rattle.mars_core.proofs.Turns.{after_turns-over, after_turns-end}
-use Rattle.mars_core.proofs.arena.Arena.play.Goals as goal
+use Rattle.{std.proofs.Common.{◌≡◌, ℕ, ◌-◌, ◌*◌, ◌≤◌, true, ap, sym, ◌∙◌, arith}, mars_core.specs.Round.{Round, after_turns, is_over}, mars_core.proofs.Turns.{after_turns-over, after_turns-end}}
 use Rattle.mars_core.proofs.arena.Arena.play.Goals.{then-not-is_over, else-not-is_over}
+use Rattle.mars_core.proofs.arena.Arena.play.Goals as goal
 
 pub returns-clause-after : goal.returns-clause-after
 returns-clause-after g c =

@@ -1,10 +1,6 @@
 -- The next turn executes the process at the front.
-use Rattle.std.proofs.Common.{◌≡◌, ◌∙◌, false, sym, subst, ℕ, ◌≤◌, subst₂, arith}
-use Rattle.mars_core.specs.Cells.{IsCore}
-use Rattle.mars_core.specs.Round.{Round, executed, is_over, reach_of}
-use Rattle.mars_core.specs.Touched.{AreSameBut}
-use Rattle.mars_core.proofs.Divisors.{divisor-most}
-use Rattle.mars_core.proofs.Touched.{turn-same}
+use Rattle.{std.proofs.Common.{◌≡◌, ◌∙◌, false, sym, subst, ℕ, ◌≤◌, subst₂, arith}, mars_core.specs.{Cells.IsCore, Round.{Round, executed, is_over, reach_of}, Touched.AreSameBut}}
+use Rattle.mars_core.proofs.{Divisors.divisor-most, Touched.turn-same}
 use Rattle.mars_core.proofs.arena.Arena.touchable.Goals as goal
 
 pub returns-clause-same : goal.returns-clause-same

@@ -1,5 +1,4 @@
-use Rattle.std.proofs.Common.{◌∙◌}
-use Rattle.mars_core.proofs.Turns.{turned-over, after_turn-over, after_turns-one}
+use Rattle.{std.proofs.Common.◌∙◌, mars_core.proofs.Turns.{turned-over, after_turn-over, after_turns-one}}
 use Rattle.mars_core.proofs.arena.Arena.turn.Goals as goal
 
 pub returns-then-is_over-clause-turned : goal.returns-then-is_over-clause-turned

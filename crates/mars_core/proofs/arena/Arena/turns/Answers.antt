@@ -1,6 +1,4 @@
-use Rattle.std.proofs.Common.{◌≡◌, ℕ, ◌≤◌, sym, ap, subst, subst₂, ◌∙◌, arith}
-use Rattle.mars_core.specs.Round.{Round, reach_of}
-use Rattle.mars_core.proofs.Divisors.{divisor-most}
+use Rattle.{std.proofs.Common.{◌≡◌, ℕ, ◌≤◌, sym, ap, subst, subst₂, ◌∙◌, arith}, mars_core.specs.Round.{Round, reach_of}, mars_core.proofs.Divisors.divisor-most}
 use Rattle.mars_core.proofs.arena.Arena.turns.Goals as goal
 
 pub turns_under-requires-clause-limits : goal.turns_under-requires-clause-limits

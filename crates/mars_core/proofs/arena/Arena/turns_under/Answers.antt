@@ -1,8 +1,4 @@
-use Rattle.std.proofs.Common.{◌≡◌, false, sym, subst, ℕ, ◌≤◌, ap, subst₂, ◌∙◌, arith}
-use Rattle.mars_core.specs.Cells.{IsCore}
-use Rattle.mars_core.specs.Operand.{Reach}
-use Rattle.mars_core.specs.Round.{Round, is_over, IsQueue}
-use Rattle.mars_core.specs.Arena.{round_in}
+use Rattle.{std.proofs.Common.{◌≡◌, false, sym, subst, ℕ, ◌≤◌, ap, subst₂, ◌∙◌, arith}, mars_core.specs.{Cells.IsCore, Operand.Reach, Round.{Round, is_over, IsQueue}, Arena.round_in}}
 use Rattle.mars_core.proofs.Turns.{both_sides_live}
 use Rattle.mars_core.proofs.arena.Arena.turns_under.Goals as goal
 

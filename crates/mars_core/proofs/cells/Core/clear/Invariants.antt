@@ -1,5 +1,4 @@
-use Rattle.std.proofs.Common.{◌≡◌, ◌≤◌, length}
-use Rattle.mars_core.proofs.Marks.{AreLeft}
+use Rattle.{std.proofs.Common.{◌≡◌, ◌≤◌, length}, mars_core.proofs.Marks.AreLeft}
 use Rattle.mars_core.proofs.cells.Core.clear.Given as goal
 
 abbrev pub invariant-loop-place : goal.invariant-loop-place

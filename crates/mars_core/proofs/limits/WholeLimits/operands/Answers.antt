@@ -1,7 +1,4 @@
-use Rattle.std.proofs.Common.{ℕ, ap, ◌∙◌}
-use Rattle.mars_core.specs.Whole.{whole}
-use Rattle.mars_core.specs.Code.{operands}
-use Rattle.mars_core.proofs.Reaches.{operands-whole}
+use Rattle.{std.proofs.Common.{ℕ, ap, ◌∙◌}, mars_core.specs.{Whole.whole, Code.operands}, mars_core.proofs.Reaches.operands-whole}
 use Rattle.mars_core.proofs.limits.WholeLimits.operands.Goals as goal
 
 pub returns-clause-value : goal.returns-clause-value

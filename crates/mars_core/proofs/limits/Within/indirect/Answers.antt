@@ -1,7 +1,4 @@
-use Rattle.std.proofs.Common.{◌≡◌, ℕ, ◌+◌, sym, ap, ap₂, ◌∙◌, ◌≤◌, subst, arith}
-use Rattle.mars_core.specs.Cells.{cell, number, plus}
-use Rattle.mars_core.specs.Operand.{Reach, folded, pointers, found_from}
-use Rattle.mars_core.specs.Code.{field_of}
+use Rattle.{std.proofs.Common.{◌≡◌, ℕ, ◌+◌, sym, ap, ap₂, ◌∙◌, ◌≤◌, subst, arith}, mars_core.specs.{Cells.{cell, number, plus}, Operand.{Reach, folded, pointers, found_from}, Code.field_of}}
 use Rattle.mars_core.proofs.limits.Within.indirect.Goals as goal
 
 pub returns-clause-value : goal.returns-clause-value

@@ -1,7 +1,5 @@
-use Rattle.std.proofs.Common.{◌≡◌, ℕ, List, sym, ap, ap₂, ◌∙◌}
-use Rattle.war_types.specs.declared.instr.Instr.{Instr}
-use Rattle.mars_core.specs.Operand.{Reach, Operand, Evaluated, evaluated, operand}
-use Rattle.mars_core.specs.Code.{Operands, evaluated_both, operand_of, operands}
+use Rattle.{std.proofs.Common.{◌≡◌, ℕ, List, sym, ap, ap₂, ◌∙◌}, war_types.specs.declared.instr.Instr.Instr}
+use Rattle.mars_core.specs.{Operand.{Reach, Operand, Evaluated, evaluated, operand}, Code.{Operands, evaluated_both, operand_of, operands}}
 use Rattle.mars_core.proofs.limits.WithinLimits.operands.Goals as goal
 
 -- both operands, by the one after the other

@@ -1,6 +1,4 @@
-use Rattle.std.proofs.Common.{◌/◌, ◌^◌, ap, ◌∙◌}
-use Rattle.std.proofs.lemmas.Nat.{and_mask}
-use Rattle.mars_core.specs.Words.{Word, mode_at}
+use Rattle.{std.proofs.{Common.{◌/◌, ◌^◌, ap, ◌∙◌}, lemmas.Nat.and_mask}, mars_core.specs.Words.{Word, mode_at}}
 use Rattle.mars_core.proofs.word.Word.b_mode.Goals as goal
 
 pub returns : goal.returns

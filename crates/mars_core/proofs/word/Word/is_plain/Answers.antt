@@ -1,5 +1,4 @@
-use Rattle.std.proofs.Common.{◌/◌, ◌^◌, ◌==◌, Bool, ◌&&◌, bit_and, sym, ap, ◌∙◌, eq-eqb, ne_eqb}
-use Rattle.mars_core.proofs.Words.{are_plain-shifted}
+use Rattle.{std.proofs.Common.{◌/◌, ◌^◌, ◌==◌, Bool, ◌&&◌, bit_and, sym, ap, ◌∙◌, eq-eqb, ne_eqb}, mars_core.proofs.Words.are_plain-shifted}
 use Rattle.mars_core.proofs.word.Word.is_plain.Goals as goal
 
 pub returns-then-self-eq0 : goal.returns-then-self-eq0

@@ -1,6 +1,4 @@
-use Rattle.std.proofs.Common.{ap}
-use Rattle.mars_core.specs.Words.{Word}
-use Rattle.mars_core.proofs.Words.{IsWordOf-mark}
+use Rattle.{std.proofs.Common.ap, mars_core.specs.Words.Word, mars_core.proofs.Words.IsWordOf-mark}
 use Rattle.mars_core.proofs.word.Word.marked.Goals as goal
 
 pub invariant_of-result : goal.invariant_of-result

@@ -1,6 +1,4 @@
-use Rattle.std.proofs.Common.{◌/◌, ◌^◌, ap, ◌∙◌}
-use Rattle.std.proofs.lemmas.Nat.{and_mask}
-use Rattle.mars_core.specs.Words.{Word, modifier_at}
+use Rattle.{std.proofs.{Common.{◌/◌, ◌^◌, ap, ◌∙◌}, lemmas.Nat.and_mask}, mars_core.specs.Words.{Word, modifier_at}}
 use Rattle.mars_core.proofs.word.Word.modifier.Goals as goal
 
 pub returns : goal.returns

@@ -1,6 +1,4 @@
-use Rattle.std.proofs.Common.{ℕ, ◌/◌, ◌^◌, ◌<◌, sym, ap, subst, ◌∙◌}
-use Rattle.std.proofs.lemmas.Nat.{and_mask}
-use Rattle.mars_core.specs.Words.{Word}
+use Rattle.{std.proofs.{Common.{ℕ, ◌/◌, ◌^◌, ◌<◌, sym, ap, subst, ◌∙◌}, lemmas.Nat.and_mask}, mars_core.specs.Words.Word}
 use Rattle.mars_core.proofs.word.Word.number.Goals as goal
 
 pub returns-in-A-clause-value : goal.returns-in-A-clause-value

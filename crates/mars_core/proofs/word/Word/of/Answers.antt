@@ -1,6 +1,4 @@
-use Rattle.std.proofs.Common.{ap, ◌∙◌}
-use Rattle.mars_core.specs.Words.{Word}
-use Rattle.mars_core.proofs.Words.{IsWordOf, unmarked, packed, IsWordOf-packed}
+use Rattle.{std.proofs.Common.{ap, ◌∙◌}, mars_core.specs.Words.Word, mars_core.proofs.Words.{IsWordOf, unmarked, packed, IsWordOf-packed}}
 use Rattle.mars_core.proofs.word.Word.of.Goals as goal
 
 packed_word : (c : goal.After-from-4) → IsWordOf (unmarked c.args.i) (packed c.wide.result c.wide-2.result c.from.result c.from-2.result c.from-3.result c.from-4.result)

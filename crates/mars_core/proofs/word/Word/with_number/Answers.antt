@@ -1,7 +1,4 @@
-use Rattle.std.proofs.Common.{sym, ap, subst, ◌∙◌}
-use Rattle.war_types.specs.Warrior.{HasNumbersBelow}
-use Rattle.mars_core.specs.Words.{Word}
-use Rattle.mars_core.proofs.Words.{IsWordOf-another_a, IsWordOf-another_b}
+use Rattle.{std.proofs.Common.{sym, ap, subst, ◌∙◌}, war_types.specs.Warrior.HasNumbersBelow, mars_core.specs.Words.Word, mars_core.proofs.Words.{IsWordOf-another_a, IsWordOf-another_b}}
 use Rattle.mars_core.proofs.word.Word.with_number.Goals as goal
 
 pub in_bits-requires : goal.in_bits-requires

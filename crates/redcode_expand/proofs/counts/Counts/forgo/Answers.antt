@@ -1,5 +1,4 @@
-use Rattle.std.proofs.Common.{sym, ◌∙◌}
-use Rattle.redcode_expand.proofs.Keeping.{changing-kept}
+use Rattle.{std.proofs.Common.{sym, ◌∙◌}, redcode_expand.proofs.Keeping.changing-kept}
 use Rattle.redcode_expand.proofs.counts.Counts.forgo.Goals as goal
 
 pub returns-in-Nothing : goal.returns-in-Nothing

@@ -1,5 +1,4 @@
-use Rattle.std.proofs.Common.{arith}
-use Rattle.redcode_expand.proofs.Keeping.{nothing-kept}
+use Rattle.{std.proofs.Common.arith, redcode_expand.proofs.Keeping.nothing-kept}
 use Rattle.redcode_expand.proofs.counts.Counts.new.Goals as goal
 
 pub returns : goal.returns

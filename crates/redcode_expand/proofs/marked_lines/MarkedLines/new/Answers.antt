@@ -1,5 +1,4 @@
-use Rattle.std.proofs.lemmas.Grind.{common_steps}
-use Rattle.std.proofs.Common.{arith}
+use Rattle.std.proofs.{lemmas.Grind.common_steps, Common.arith}
 use Rattle.redcode_expand.proofs.marked_lines.MarkedLines.new.Goals as goal
 
 pub mark_all-requires : goal.mark_all-requires

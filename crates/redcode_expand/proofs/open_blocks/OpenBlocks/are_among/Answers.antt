@@ -1,6 +1,4 @@
-use Rattle.std.proofs.Common.{sym, ◌∙◌}
-use Rattle.redcode_text.specs.Tokens.{pieces}
-use Rattle.redcode_expand.proofs.PlacedNames.{nothing-named}
+use Rattle.{std.proofs.Common.{sym, ◌∙◌}, redcode_text.specs.Tokens.pieces, redcode_expand.proofs.PlacedNames.nothing-named}
 use Rattle.redcode_expand.proofs.open_blocks.OpenBlocks.are_among.Goals as goal
 
 pub returns-then-is_empty : goal.returns-then-is_empty

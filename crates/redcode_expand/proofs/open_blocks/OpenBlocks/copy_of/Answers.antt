@@ -1,6 +1,4 @@
-use Rattle.std.proofs.lemmas.Grind.{common_steps}
-use Rattle.std.proofs.Common.{arith}
-use Rattle.redcode_expand.proofs.PlacedNames.{counters-reverse}
+use Rattle.{std.proofs.{lemmas.Grind.common_steps, Common.arith}, redcode_expand.proofs.PlacedNames.counters-reverse}
 use Rattle.redcode_expand.proofs.open_blocks.OpenBlocks.copy_of.Goals as goal
 
 pub returns-then-has_and : goal.returns-then-has_and

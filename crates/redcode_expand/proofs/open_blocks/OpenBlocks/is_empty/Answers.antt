@@ -1,6 +1,4 @@
-use Rattle.std.proofs.Common.{sym, ap, subst, ◌∙◌}
-use Rattle.redcode_expand.specs.Rest.{AreFew, counters_of}
-use Rattle.redcode_expand.proofs.PlacedNames.{counters-reverse}
+use Rattle.{std.proofs.Common.{sym, ap, subst, ◌∙◌}, redcode_expand.specs.Rest.{AreFew, counters_of}, redcode_expand.proofs.PlacedNames.counters-reverse}
 use Rattle.redcode_expand.proofs.open_blocks.OpenBlocks.is_empty.Goals as goal
 
 pub returns-clause-few : goal.returns-clause-few

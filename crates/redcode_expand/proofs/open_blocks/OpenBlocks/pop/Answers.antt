@@ -1,6 +1,4 @@
-use Rattle.std.proofs.Common.{List, subst}
-use Rattle.redcode_expand.specs.Rest.{OpenBlock, ArePlaced, AreFew, counters_in}
-use Rattle.redcode_expand.proofs.PlacedNames.{placed-front, few-front}
+use Rattle.{std.proofs.Common.{List, subst}, redcode_expand.specs.Rest.{OpenBlock, ArePlaced, AreFew, counters_in}, redcode_expand.proofs.PlacedNames.{placed-front, few-front}}
 use Rattle.redcode_expand.proofs.open_blocks.OpenBlocks.pop.Goals as goal
 
 pub invariant_of-self : goal.invariant_of-self

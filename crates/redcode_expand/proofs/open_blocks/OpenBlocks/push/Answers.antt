@@ -1,6 +1,4 @@
-use Rattle.std.proofs.lemmas.Grind.{common_steps}
-use Rattle.std.proofs.Common.{arith}
-use Rattle.redcode_expand.proofs.PlacedNames.{placed-behind, few-behind}
+use Rattle.{std.proofs.{lemmas.Grind.common_steps, Common.arith}, redcode_expand.proofs.PlacedNames.{placed-behind, few-behind}}
 use Rattle.redcode_expand.proofs.open_blocks.OpenBlocks.push.Goals as goal
 
 pub invariant_of-self-2 : goal.invariant_of-self-2

@@ -1,12 +1,5 @@
-use Rattle.std.proofs.lemmas.Grind.{common_steps}
-use Rattle.std.proofs.Common.{arith, subst}
-use Rattle.redcode_expand.specs.declared.walk.Walk.TheInside.{Inside}
-use Rattle.redcode_text.specs.Tokens.{pieces}
-use Rattle.redcode_lines.specs.Line.{names_among}
-use Rattle.redcode_lines.specs.Views.{line_read}
-use Rattle.redcode_names.specs.Gives.{Fails}
-use Rattle.redcode_expand.specs.Walk.{copies_of}
-use Rattle.redcode_expand.proofs.Keeping.{begun-due, begun-refused}
+use Rattle.{std.proofs.{lemmas.Grind.common_steps, Common.{arith, subst}}, redcode_text.specs.Tokens.pieces, redcode_lines.specs.{Line.names_among, Views.line_read}}
+use Rattle.{redcode_names.specs.Gives.Fails, redcode_expand.specs.{declared.walk.Walk.TheInside.Inside, Walk.copies_of}, redcode_expand.proofs.Keeping.{begun-due, begun-refused}}
 use Rattle.redcode_expand.proofs.walk.Walk.begin_as.Goals as goal
 
 pub returns-in-Err-clause-begun : goal.returns-in-Err-clause-begun

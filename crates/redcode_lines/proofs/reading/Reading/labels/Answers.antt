@@ -1,7 +1,4 @@
-use Rattle.std.proofs.Common.{Option, sym, ap, ◌∙◌}
-use Rattle.redcode_text.specs.declared.vocabulary.Word.{Word}
-use Rattle.redcode_text.specs.Tokens.{pieces}
-use Rattle.redcode_lines.specs.Line.{is_name_token, label_tokens, names_among}
+use Rattle.{std.proofs.Common.{Option, sym, ap, ◌∙◌}, redcode_text.specs.{declared.vocabulary.Word.Word, Tokens.pieces}, redcode_lines.specs.Line.{is_name_token, label_tokens, names_among}}
 use Rattle.redcode_lines.proofs.Readings.{cut-pieces}
 use Rattle.redcode_lines.proofs.reading.Reading.labels.Goals as goal
 

@@ -1,11 +1,7 @@
-use Rattle.std.proofs.Common.{◌≡◌, ◌+◌, ◌≤◌, drop, length, length-drop, sym, ap, subst, ◌∙◌, arith}
-use Rattle.std.proofs.lemmas.List.{length-map}
-use Rattle.redcode_text.specs.Tokens.{piece_of}
-use Rattle.redcode_lines.specs.Line.{SourceLine}
-use Rattle.redcode_lines.specs.Capped.{capped, is_capped}
-use Rattle.redcode_lines.proofs.SourceLines.{cut-capped, capped-short, capped-no}
-use Rattle.redcode_lines.proofs.source_line.SourceLine.capped.Goals as goal
+use Rattle.{std.proofs.{Common.{◌≡◌, ◌+◌, ◌≤◌, drop, length, length-drop, sym, ap, subst, ◌∙◌, arith}, lemmas.List.length-map}, redcode_text.specs.Tokens.piece_of}
+use Rattle.{redcode_lines.specs.{Line.SourceLine, Capped.{capped, is_capped}}, redcode_lines.proofs.SourceLines.{cut-capped, capped-short, capped-no}}
 use Rattle.redcode_lines.proofs.source_line.SourceLine.capped.Goals.{else-len-most-via-then-len-most+else-is_capped, else-len-most-via-else-len-most}
+use Rattle.redcode_lines.proofs.source_line.SourceLine.capped.Goals as goal
 
 pub returns-then-is_capped : goal.returns-then-is_capped
 returns-then-is_capped g c =

@@ -1,6 +1,5 @@
 -- A further body is linked.
-use Rattle.std.proofs.Common.{arith}
-use Rattle.redcode_names.proofs.Lookups.{linking}
+use Rattle.{std.proofs.Common.arith, redcode_names.proofs.Lookups.linking}
 use Rattle.redcode_names.proofs.link.LinkedEqus.new.Goals as goal
 
 pub loop-body-preserved : goal.loop-body-preserved

@@ -1,7 +1,5 @@
 -- The bodies so far are linked.
-use Rattle.std.proofs.Common.{◌≡◌, map, take, All}
-use Rattle.redcode_text.specs.Tokens.{pieces}
-use Rattle.redcode_names.specs.Link.{AreLinked, tokens_of}
+use Rattle.{std.proofs.Common.{◌≡◌, map, take, All}, redcode_text.specs.Tokens.pieces, redcode_names.specs.Link.{AreLinked, tokens_of}}
 use Rattle.redcode_names.proofs.link.LinkedEqus.new.Given as goal
 
 abbrev pub invariant-loop-body : goal.invariant-loop-body

@@ -1,8 +1,5 @@
 -- The names so far, and the labels of what is left.
-use Rattle.std.proofs.Common.{◌≡◌, drop}
-use Rattle.redcode_text.specs.Tokens.{pieces}
-use Rattle.redcode_lines.specs.Line.{names_among}
-use Rattle.redcode_names.specs.Name.{all_defined}
+use Rattle.{std.proofs.Common.{◌≡◌, drop}, redcode_text.specs.Tokens.pieces, redcode_lines.specs.Line.names_among, redcode_names.specs.Name.all_defined}
 use Rattle.redcode_names.proofs.names.Names.define_all.Given as goal
 
 abbrev pub invariant-loop-label : goal.invariant-loop-label

@@ -1,8 +1,5 @@
 -- The names so far, and what the name that was found last and those of what is left make of them.
-use Rattle.std.proofs.Common.{◌≡◌, ◌++◌, drop, option_map, option_to_list}
-use Rattle.redcode_text.specs.Tokens.{pieces}
-use Rattle.redcode_lines.specs.Line.{names_among}
-use Rattle.redcode_names.specs.Name.{but_last}
+use Rattle.{std.proofs.Common.{◌≡◌, ◌++◌, drop, option_map, option_to_list}, redcode_text.specs.Tokens.pieces, redcode_lines.specs.Line.names_among, redcode_names.specs.Name.but_last}
 use Rattle.redcode_names.proofs.names.Names.define_but_last.Given as goal
 
 abbrev pub invariant-loop-label : goal.invariant-loop-label

@@ -1,6 +1,5 @@
 -- The sectors made so far are blank.
-use Rattle.std.proofs.Common.{◌≡◌, [], replicate}
-use Rattle.sector_disk.specs.Memory.{sector_of, zeros}
+use Rattle.{std.proofs.Common.{◌≡◌, [], replicate}, sector_disk.specs.Memory.{sector_of, zeros}}
 use Rattle.sector_disk.proofs.memory_device.MemoryDevice.new.Given as goal
 
 abbrev pub invariant-loop-i : goal.invariant-loop-i

@@ -1,12 +1,8 @@
-use Rattle.std.proofs.Common.{◌≡◌, length, ap, ◌∙◌, arith}
-use Rattle.std.proofs.lemmas.Grind.{common_steps}
-use Rattle.sector_disk.specs.Memory.{memory_size}
-use Rattle.sector_disk.proofs.Sectors.{disk-stopped, image-stopped, stopped_more}
+use Rattle.{std.proofs.{Common.{◌≡◌, length, ap, ◌∙◌, arith}, lemmas.Grind.common_steps}, sector_disk.specs.Memory.memory_size, sector_disk.proofs.Sectors.{disk-stopped, image-stopped, stopped_more}}
 use Rattle.sector_disk.proofs.memory_device.MemoryDevice.stopped.Goals as goal
 
 pub loop-n-preserved : goal.loop-n-preserved
-loop-n-preserved g c =
-    rw c.in_ok-push.ensures.items (stopped_more _ _ _ _ _ c.loop-n.invariant (grind (arith, common_steps)))
+loop-n-preserved g c = rw c.in_ok-push.ensures.items (stopped_more _ _ _ _ _ c.loop-n.invariant (grind (arith, common_steps)))
 
 pub returns-clause-image : goal.returns-clause-image
 returns-clause-image g c =

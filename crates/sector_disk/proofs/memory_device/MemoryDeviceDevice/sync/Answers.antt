@@ -1,5 +1,4 @@
-use Rattle.std.proofs.Common.{sym}
-use Rattle.sector_disk.proofs.Sectors.{settled_more, settled_all}
+use Rattle.{std.proofs.Common.sym, sector_disk.proofs.Sectors.{settled_more, settled_all}}
 use Rattle.sector_disk.proofs.memory_device.MemoryDeviceDevice.sync.Goals as goal
 
 pub loop-sector-preserved : goal.loop-sector-preserved

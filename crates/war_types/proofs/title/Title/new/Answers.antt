@@ -1,6 +1,5 @@
 -- What is left between the blanks is cut, then shown.
-use Rattle.std.proofs.Common.{sym}
-use Rattle.war_types.proofs.Titles.{title_or-some}
+use Rattle.{std.proofs.Common.sym, war_types.proofs.Titles.title_or-some}
 use Rattle.war_types.proofs.title.Title.new.Goals as goal
 
 pub returns : goal.returns

@@ -1,8 +1,5 @@
 -- After the loop the array begins with the whole text as it is shown.
-use Rattle.std.proofs.Common.{◌≡◌, length, map, take, arith, sym, ap, ◌∙◌}
-use Rattle.std.proofs.lemmas.List.{take_all}
-use Rattle.war_types.specs.Title.{shown}
-use Rattle.war_types.proofs.Titles.{IsTitle-map-shown}
+use Rattle.{std.proofs.{Common.{◌≡◌, length, map, take, arith, sym, ap, ◌∙◌}, lemmas.List.take_all}, war_types.specs.Title.shown, war_types.proofs.Titles.IsTitle-map-shown}
 use Rattle.war_types.proofs.title.Title.of_shown.Goals as goal
 
 pub invariant_of-result : goal.invariant_of-result

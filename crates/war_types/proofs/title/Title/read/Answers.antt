@@ -1,5 +1,4 @@
-use Rattle.std.proofs.Common.{Some, ap}
-use Rattle.war_types.proofs.Stored.{stored-parts, IsFront}
+use Rattle.{std.proofs.Common.{Some, ap}, war_types.proofs.Stored.{stored-parts, IsFront}}
 use Rattle.war_types.proofs.title.Title.read.Goals as goal
 
 pub returns-clause-every : goal.returns-clause-every

@@ -1,5 +1,4 @@
-use Rattle.std.proofs.Common.{◌++◌, ap, ◌∙◌}
-use Rattle.std.proofs.lemmas.List.{take-replicate}
+use Rattle.std.proofs.{Common.{◌++◌, ap, ◌∙◌}, lemmas.List.take-replicate}
 use Rattle.hill_bytes.proofs.header.writer.SectorWriter.put_zeros.Goals as goal
 
 pub returns-clause-value : goal.returns-clause-value
