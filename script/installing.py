@@ -1,0 +1,251 @@
+"""Installs the program below a folder, compares what is installed there with its record, and takes it away again."""
+
+import contextlib
+import os
+import shlex
+import time
+
+from calling import HERE, LEAST_MEMORY, MEMORY, PROGRAM, WRONG, Fault, kit_id, put
+from sources import checksum, is_current, of_all, read, stamp, sum_of, tree
+
+PLACE, RECORD = "libexec/koth/koth", "libexec/koth/koth.txt"
+TEXTS = {"koth.1": "share/man/man1/koth.1", "koth.bash": "share/bash-completion/completions/koth", "_koth": "share/zsh/site-functions/_koth"}
+UNITS = (".service", ".socket", ".timer")
+EXPECTED = b"/usr/local/"  # where the units of the repository have the program
+WRAPPER = """#!/bin/sh
+# Runs koth in 1 GiB of address space, or in as many KiB as KOTH_MEMORY says. A growth past that is refused, and koth answers MEMORY and goes on.
+memory=${KOTH_MEMORY-%(most)d}
+if case $memory in '' | *[!0-9]* | ?????????????*) false ;; esac && [ "$memory" -ge %(least)d ]; then
+    ulimit -S -v "$memory" 2>/dev/null
+    trap '' XFSZ # a write past a limit on the size of files fails, as on a full disk
+    exec %(program)s "$@"
+fi
+printf '%%s\\n' "koth: KOTH_MEMORY is a number of KiB, at least %(least)d, and not '$memory'" >&2
+exit 2
+"""
+DIFFERS, USAGE = 1, "usage: koth --install [PREFIX], koth --install --check [PREFIX] or koth --uninstall [PREFIX]"
+
+
+class Record:
+    """What an install put below a folder: the files with their checksums, the folders that it made, and what it tells of the program."""
+
+    def __init__(self, text=""):
+        self.files, self.folders, self.told = {}, [], {}
+        for line in text.split("\n"):
+            word, _, rest = line.partition(" ")
+            if word == "file":
+                of_file, _, place = rest.partition(" ")
+                self.files[place] = of_file
+            elif word == "folder":
+                self.folders.append(rest)
+            elif word:
+                self.told[word] = rest
+
+    def bytes(self):
+        lines = [*(f"{word} {rest}" for word, rest in self.told.items()), *(f"folder {it}" for it in self.folders)]
+        return os.fsencode("\n".join([*lines, *(f"file {of_file} {place}" for place, of_file in self.files.items()), ""]))
+
+
+def record_of(prefix):
+    """The record of what is installed there, or nothing."""
+    with contextlib.suppress(FileNotFoundError, NotADirectoryError):
+        return Record(os.fsdecode(read(f"{prefix}/{RECORD}")))
+    return None
+
+
+def is_as(path, of_file):
+    """Whether this is a file of this checksum."""
+    return os.path.isfile(path) and not os.path.islink(path) and sum_of(path) == of_file
+
+
+def texts(prefix):
+    """What is to stand below the prefix beside the program: for each place the bytes, and the mode."""
+    wrapper = WRAPPER % {"most": MEMORY, "least": LEAST_MEMORY, "program": shlex.quote(f"{prefix}/{PLACE}")}
+    found = {"bin/koth": (os.fsencode(wrapper), 0o755)}
+    for name, place in TEXTS.items():
+        found[place] = read(f"{HERE}/share/{name}"), 0o644
+    for name in sorted(it for it in os.listdir(f"{HERE}/warriors") if it.endswith(".red")):
+        found[f"share/koth/warriors/{name}"] = read(f"{HERE}/warriors/{name}"), 0o644
+    for name in sorted(it for it in os.listdir(f"{HERE}/share") if it.endswith(UNITS)):
+        found[f"share/koth/systemd/{name}"] = read(f"{HERE}/share/{name}").replace(EXPECTED, os.fsencode(f"{prefix}/")), 0o644
+    return found
+
+
+def said_by_git(*words):
+    """What git says of this clone, or nothing if it can't say it."""
+    import subprocess
+
+    # a clone may be another user's, and a folder that is no clone may stand in one
+    command = ["git", "--no-optional-locks", "-c", f"safe.directory={HERE}", "-C", HERE, *words]
+    environment = dict(os.environ, GIT_CEILING_DIRECTORIES=os.path.dirname(HERE))
+    with contextlib.suppress(OSError):
+        ran = subprocess.run(command, stdin=subprocess.DEVNULL, capture_output=True, text=True, errors="replace", env=environment, check=False)
+        return "" if ran.returncode else ran.stdout.strip()
+    return ""
+
+
+def commit():
+    found = said_by_git("rev-parse", "HEAD")
+    is_changed = said_by_git("status", "--porcelain", "--", "crates", "crates.txt", "koth", "script", "share", "warriors")
+    return f"{found}, with changes that are not committed" if found and is_changed else found or "unknown"
+
+
+def look_first(prefix, places):
+    """Ends the call if the folders of these places can't be written: the program may take half an hour to prove."""
+    for at in {os.path.dirname(f"{prefix}/{it}") for it in places}:
+        while not os.path.lexists(at):
+            at = os.path.dirname(at)
+        if not os.path.isdir(at):
+            raise Fault(f"nothing can be installed below {prefix}: {at} is no folder")
+        if not os.access(at, os.W_OK | os.X_OK):
+            raise Fault(f"nothing can be installed below {prefix}: you may not write to {at}")
+
+
+def make_folders(prefix, places):
+    """Makes the folders of these places that are not there, and returns them."""
+    made = []
+
+    def make(folder):
+        if not os.path.isdir(folder):
+            make(os.path.dirname(folder))
+            os.mkdir(folder)
+            os.chmod(folder, 0o755)
+            made.append(os.path.relpath(folder, prefix))
+
+    try:
+        for place in places:
+            make(os.path.dirname(f"{prefix}/{place}"))
+    except OSError:
+        remove_folders(prefix, made)
+        raise
+    return made
+
+
+def remove_folders(prefix, folders):
+    """Removes those of these folders that are empty, the lowest first."""
+    for folder in sorted((os.path.normpath(f"{prefix}/{it}") for it in folders), key=len, reverse=True):
+        with contextlib.suppress(OSError):
+            os.rmdir(folder)
+
+
+def write_all(prefix, files):
+    """Writes all files beside their places, and only then gives each its own."""
+    beside = {place: f"{prefix}/{os.path.dirname(place)}/.{os.path.basename(place)}.{os.getpid()}" for place in files}
+    try:
+        for place, (data, mode) in files.items():
+            with open(beside[place], "xb") as file:
+                file.write(data)
+                os.fchmod(file.fileno(), mode)
+                file.flush()
+                os.fsync(file.fileno())
+        for place in files:
+            os.replace(beside[place], f"{prefix}/{place}")
+            put(f"put {prefix}/{place}")
+    finally:
+        for it in beside.values():
+            with contextlib.suppress(OSError):
+                os.remove(it)
+
+
+def take_away(prefix, files):
+    """Removes those of these files that are as they were installed."""
+    for place, of_file in files.items():
+        path = f"{prefix}/{place}"
+        if ".." in place.split("/") or not os.path.lexists(path):
+            continue
+        if is_as(path, of_file):
+            os.remove(path)
+            put(f"took away {path}")
+        else:
+            put(f"left {path}, which was changed")
+
+
+def new_record(prefix, files):
+    """The record of an install of these files."""
+    by = kit_id() or "unknown"
+    kit, of_sources, program = stamp() or [by, of_all(by, tree()), sum_of(PROGRAM)]
+    found = Record()
+    found.files = {place: checksum(data) for place, (data, _) in files.items()}
+    if found.files[PLACE] != program:
+        raise Fault("another call has built the program meanwhile: call again")
+    date = time.strftime("%Y-%m-%dT%H:%M:%SZ", time.gmtime())
+    found.told = {"koth": f"below {prefix}", "commit": commit(), "kit": kit, "date": date, "program": program, "sources": of_sources}
+    return found
+
+
+def refuse_strangers(prefix, files):
+    """Ends the call if a file is in the way that no install has put there so."""
+    before = record_of(prefix) or Record()
+    for place, (data, _) in files.items():
+        path = f"{prefix}/{place}"
+        if os.path.lexists(path) and not is_as(path, before.files.get(place)) and not is_as(path, checksum(data)):
+            raise Fault(f"{path} is not as an install left it: move it away, and call again")
+    return before
+
+
+def install(prefix):
+    """Proves and builds the program if need be, and puts it below the prefix with what belongs to it."""
+    import building
+
+    look_first(prefix, [PLACE, *texts(prefix)])
+    refuse_strangers(prefix, texts(prefix))
+    if not is_current():
+        building.bring_up_to_date()
+    files = {PLACE: (read(PROGRAM), 0o755), **texts(prefix)}
+    before, now = refuse_strangers(prefix, files), new_record(prefix, files)
+    building.heed_no_signals()
+    made = make_folders(prefix, files)
+    now.folders = [it for it in [*before.folders, *made] if os.path.isdir(f"{prefix}/{it}")]
+    try:
+        write_all(prefix, {**files, RECORD: (now.bytes(), 0o644)})
+    except OSError:
+        remove_folders(prefix, made)
+        raise
+    gone = {place: of_file for place, of_file in before.files.items() if place not in files}
+    take_away(prefix, gone)
+    remove_folders(prefix, {*before.folders} & {os.path.dirname(it) for it in gone})
+    if f"{prefix}/bin" not in os.get_exec_path():
+        put(f"{prefix}/bin is not on the path")
+    return 0
+
+
+def found_record(prefix):
+    found = record_of(prefix)
+    if not found:
+        raise Fault(f"nothing is installed below {prefix}: there is no {prefix}/{RECORD}", DIFFERS)
+    return found
+
+
+def check(prefix):
+    """Compares what is installed with its record, and the record with the sources of this clone."""
+    record = found_record(prefix)
+    changed = [f"{prefix}/{place}" for place, of_file in record.files.items() if not is_as(f"{prefix}/{place}", of_file)]
+    for it in changed:
+        put(f"{it} is not as it was installed" if os.path.lexists(it) else f"{it} is gone")
+    if not changed:
+        put(f"the program and all else below {prefix} are as they were installed, from commit {record.told.get('commit')}")
+    is_same = of_all(record.told.get("kit"), tree()) == record.told.get("sources")
+    put(f"the program is proved from {'the sources that stand' if is_same else 'other sources than those that stand'} in {HERE}")
+    return DIFFERS if changed or not is_same else 0
+
+
+def uninstall(prefix):
+    """Takes away what was installed below the prefix, and nothing else."""
+    record = found_record(prefix)
+    take_away(prefix, record.files)
+    os.remove(f"{prefix}/{RECORD}")
+    put(f"took away {prefix}/{RECORD}")
+    remove_folders(prefix, record.folders)
+    return 0
+
+
+def call(words):
+    """Does what these arguments say, and returns the status."""
+    what, given = words[0], words[1:]
+    is_check = what == "--install" and "--check" in given
+    if is_check:
+        given.remove("--check")
+    if len(given) > 1 or any(not it or it.startswith("-") for it in given):
+        raise Fault(USAGE, WRONG)
+    prefix = os.path.abspath(given[0] if given else "/usr/local" if os.geteuid() == 0 else os.path.expanduser("~/.local"))
+    return (check if is_check else install if what == "--install" else uninstall)(prefix)
