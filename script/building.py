@@ -21,10 +21,10 @@ MORE_JOBS, MOST_JOBS = 0.6, 4  # of that for each further job of a check; more t
 # processor seconds of each crate's proof at one job, on a processor of 2.5 GHz, as bench/gate prints them; by the clock four jobs take about half
 SECONDS = {
     "war_types": 83, "redcode_text": 88, "redcode_lines": 88, "redcode_statement": 51, "redcode_copies": 102, "redcode_names": 142,
-    "redcode_expand": 285, "redcode_asm": 131, "redcode_blame": 266, "redcode_diagnosis": 102, "mars_core": 175, "koth_match": 27, "koth_hill": 93,
+    "redcode_expand": 285, "redcode_asm": 111, "redcode_blame": 261, "redcode_diagnosis": 77, "mars_core": 175, "koth_match": 27, "koth_hill": 93,
     "koth_replay": 69, "koth_protocol": 83, "koth_text": 74, "sector_disk": 82, "hill_file": 73, "hill_bytes": 89, "hill_images": 112,
-    "hill_store": 80, "koth_session": 54, "koth_peers": 110, "koth_http": 42, "koth_service": 230, "koth_sockets": 102, "koth_words": 228,
-    "koth_views": 106, "koth_page": 107, "koth_watch": 98, "koth_commands": 195, "koth_server": 359, "koth": 107,
+    "hill_store": 88, "koth_session": 52, "koth_peers": 107, "koth_http": 42, "koth_service": 184, "koth_sockets": 95, "koth_words": 228,
+    "koth_views": 105, "koth_page": 83, "koth_watch": 98, "koth_commands": 179, "koth_server": 351, "koth": 98,
 }
 READING = 10  # seconds in which a check reads what was proved below
 SPEED = 1000  # bytes of a crate that was never measured, a second
@@ -123,7 +123,7 @@ class Proof(Run):
     """A crate's proof from nothing, which makes its library: what other crates may read of it, without its proofs."""
 
     def __init__(self, name, sum_of_it, jobs, gives_way, lock):
-        self.sum, self.kept, library = sum_of_it, f"{LIBRARIES}/{name}.sum", f"{LIBRARIES}/{name}.rlib"
+        self.sum, self.jobs, self.kept, library = sum_of_it, jobs, f"{LIBRARIES}/{name}.sum", f"{LIBRARIES}/{name}.rlib"
         with contextlib.suppress(FileNotFoundError):
             os.remove(self.kept)
         shutil.rmtree(library, ignore_errors=True)
@@ -179,11 +179,14 @@ def prove_libraries(stands_on, wanted, lock):
     most = max(1, min(processors, int(most_by_memory() / (1 + MORE_JOBS * (jobs - 1)))))
     try:
         while left or running:
-            for name in [it for it in left if proved.issuperset(stands_on[it])][: most - len(running)]:
-                # much of a check is done by one job, so each crate has several; one that begins no chain of the longest gives way, and has fewer
+            ready = [it for it in left if proved.issuperset(stands_on[it])][: most - len(running)]
+            for at, name in enumerate(ready):
+                # a crate off the longest chain gives way; a further job costs a tenth of a proof, so it has one more only if a processor is idle
                 gives_way = chain[name] < max(chain[it] for it in [*left, *(it.name for it in running)])
+                idle = processors - sum(it.jobs for it in running) - len(ready[at + 1 :])
+                least, top = (1, 2) if gives_way else (3, MOST_JOBS)
                 left.remove(name)
-                running.append(Proof(name, wanted[name], max(1, min(jobs, processors // 2)) if gives_way else jobs, gives_way, lock))
+                running.append(Proof(name, wanted[name], min(jobs, max(least, min(top, idle))), gives_way, lock))
                 say(f"{len(proved)} of {total} proved; {name} begins")
             pause()
             for it in [it for it in running if it.has_ended()]:
