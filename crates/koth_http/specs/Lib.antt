@@ -1,5 +1,7 @@
 -- Which page the target of a request names.
 pub mod Target
+-- Which host a request is for, and which hosts are answered.
+pub mod Host
 -- What a browser asks, by the bytes that came from it.
 pub mod Asked
 -- What a browser is answered.

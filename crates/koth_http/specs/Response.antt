@@ -11,6 +11,7 @@ abbrev pub refusal_line : Refusal → List ℕ
 refusal_line Refusal.BadRequest = codes "HTTP/1.1 400 Bad Request\r\n"
 refusal_line Refusal.NotFound = codes "HTTP/1.1 404 Not Found\r\n"
 refusal_line Refusal.MethodNotAllowed = codes "HTTP/1.1 405 Method Not Allowed\r\nAllow: GET, HEAD\r\n"
+refusal_line Refusal.Misdirected = codes "HTTP/1.1 421 Misdirected Request\r\n"
 refusal_line Refusal.HeadTooLarge = codes "HTTP/1.1 431 Request Header Fields Too Large\r\n"
 refusal_line Refusal.Unavailable = codes "HTTP/1.1 503 Service Unavailable\r\n"
 
@@ -19,6 +20,7 @@ abbrev pub refusal_sentence : Refusal → List ℕ
 refusal_sentence Refusal.BadRequest = codes "This is no request of HTTP."
 refusal_sentence Refusal.NotFound = codes "There is no such page."
 refusal_sentence Refusal.MethodNotAllowed = codes "A page can only be read."
+refusal_sentence Refusal.Misdirected = codes "This hill is not served under that name: ask for its address, or have it served with --host and the name."
 refusal_sentence Refusal.HeadTooLarge = codes "The head of this request is too large."
 refusal_sentence Refusal.Unavailable = codes "There is no memory for this page now."
 

@@ -6,12 +6,14 @@ ghost use Rattle.koth_http.specs.Response.{refusal_line, refusal_sentence};
 /// Why a browser gets no page.
 #[derive(Clone, Copy, PartialEq, Eq)]
 pub enum Refusal {
-    /// What came is no request.
+    /// What came is no request, or it has two fields `Host`, or none though it is one of HTTP/1.1.
     BadRequest,
     /// The target names no page, or one that the hill doesn't have.
     NotFound,
     /// The target names a page, but the method is neither `GET` nor `HEAD`.
     MethodNotAllowed,
+    /// The host that the request is for is not this machine's.
+    Misdirected,
     /// The head has more than 8,192 bytes or more than 64 fields.
     HeadTooLarge,
     /// There is no memory for the page. The caller finds this.
@@ -29,6 +31,7 @@ impl Refusal {
             Refusal::MethodNotAllowed => {
                 b"HTTP/1.1 405 Method Not Allowed\r\nAllow: GET, HEAD\r\n"
             }
+            Refusal::Misdirected => b"HTTP/1.1 421 Misdirected Request\r\n",
             Refusal::HeadTooLarge => b"HTTP/1.1 431 Request Header Fields Too Large\r\n",
             Refusal::Unavailable => b"HTTP/1.1 503 Service Unavailable\r\n",
         }
@@ -42,6 +45,9 @@ impl Refusal {
             Refusal::BadRequest => b"This is no request of HTTP.",
             Refusal::NotFound => b"There is no such page.",
             Refusal::MethodNotAllowed => b"A page can only be read.",
+            Refusal::Misdirected => {
+                b"This hill is not served under that name: ask for its address, or have it served with --host and the name."
+            }
             Refusal::HeadTooLarge => b"The head of this request is too large.",
             Refusal::Unavailable => b"There is no memory for this page now.",
         }

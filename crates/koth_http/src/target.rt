@@ -66,7 +66,7 @@ fn round_of(text: &[u8]) -> Option<Page>
 }
 
 /// The bytes before the first separator, and the bytes after it.
-fn cut(text: &[u8], separator: u8) -> (&[u8], &[u8])
+pub(crate) fn cut(text: &[u8], separator: u8) -> (&[u8], &[u8])
     ensures before { result.0.now ≡ before_first (λ b. b == separator) text.now }
     ensures after { result.1.now ≡ after_first (λ b. b == separator) text.now }
 {

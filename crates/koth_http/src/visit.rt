@@ -1,6 +1,6 @@
 //! The bytes of one connection, until what they ask is known.
 
-ghost use Rattle.std.specs.Prelude.{◌≡◌, ◌+◌, ◌≤◌, ◌++◌, [], length, IfOk};
+ghost use Rattle.std.specs.Prelude.{◌≡◌, ◌+◌, ◌≤◌, ◌++◌, [], length, map, IfOk};
 ghost use Rattle.koth_http.specs.Asked.{FindsAsked, IsAsked, most_bytes};
 
 use crate::asked::{Asked, MOST_BYTES, asked_in};
@@ -49,11 +49,12 @@ impl<A: Allocator> Visit<A> {
         let _ = self.bytes.extend_from_slice(bytes);
     }
 
-    /// What the bytes so far ask, or nothing while they may become a request. Whatever follows the head of a request is left alone.
-    pub fn asked(&self) -> Option<Asked>
-        ensures found { FindsAsked self.now result }
-        ensures said { IsAsked self.now result }
+    /// What the bytes so far ask of a hill with these names beside its addresses and `localhost`, or nothing while they may become a request.
+    /// Whatever follows the head of a request is left alone.
+    pub fn asked(&self, names: &[&str]) -> Option<Asked>
+        ensures found { FindsAsked (map (λ name. name.now) names.now) self.now result }
+        ensures said { IsAsked (map (λ name. name.now) names.now) self.now result }
     {
-        asked_in(self.bytes.as_slice())
+        asked_in(names, self.bytes.as_slice())
     }
 }

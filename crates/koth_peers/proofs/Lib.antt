@@ -4,6 +4,6 @@ mod Lengths
 mod Past
 mod PeerRows
 mod Readings
-mod Serving
+pub mod Serving
 mod Slots
-mod Standing
+pub mod Standing

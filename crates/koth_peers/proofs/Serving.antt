@@ -1,6 +1,6 @@
 -- How many peers are served one after another, for `serve_next`.
 use Rattle.{std.proofs.Common.{◌≡◌, inl, inr, ℕ, true, true≢false, List, [], ◌∷◌, ◌++◌, Option, None, Some, refl, sym, ap, subst, ◌∙◌, append_assoc}, koth_hill.specs.Kept.Kept}
-use Rattle.{sector_disk.specs.Facts.DeviceFacts, hill_store.specs.Seen.Seen, koth_protocol.specs.Commands.Command}
+use Rattle.{sector_disk.specs.Facts.DeviceFacts, hill_store.specs.Seen.Seen, koth_protocol.specs.Commands.{Command, Reader}}
 use Rattle.koth_session.specs.{Sessions.AreServed, Transcript.{Exchange, Mark, answer, commands_in, hill_after}}
 use Rattle.{koth_session.proofs.{Exchanges.{hill_append, served_none, served_on}, Holding.{keeps_cut, keeps_list}}, koth_peers.specs.Peer.{AnswersPeer, IsPeer, Serves, command_of}}
 use Rattle.koth_peers.specs.Peers.{AreCutOff, AreServing, AreServingOn, GoesOn, History, LawsOfPeers, Moves, MovesAt, Past, ServesNext, ServesOne, Slots, StandsAt, answered, exchanges, goes_by}
@@ -10,7 +10,7 @@ use Rattle.koth_peers.proofs.{Slots.serving_at, Past.{commands_append, exchanges
 module _ {D : Type 0} (facts : DeviceFacts D) where
   -- ---- a session that ended by its command
 
-  same_unsent : (end : PeerEnd) (command : Command) (unsent new : List ℕ) (store now : Seen D) → AnswersPeer facts command (Some end) unsent store new now → new ≡ unsent
+  pub same_unsent : (end : PeerEnd) (command : Command) (unsent new : List ℕ) (store now : Seen D) → AnswersPeer facts command (Some end) unsent store new now → new ≡ unsent
   same_unsent PeerEnd.Quit command unsent new store now is = is.2
   same_unsent PeerEnd.EndOfInput command unsent new store now is = absurd is
   same_unsent PeerEnd.Limit command unsent new store now is = absurd is
@@ -19,7 +19,7 @@ module _ {D : Type 0} (facts : DeviceFacts D) where
   same_unsent PeerEnd.Memory command unsent new store now is = is.1
 
   -- a session that ended without a change of the store
-  same_store : (end : PeerEnd) (command : Command) (unsent new : List ℕ) (store now : Seen D) → step_after (Some end) 0 ≡ step_after None 0
+  pub same_store : (end : PeerEnd) (command : Command) (unsent new : List ℕ) (store now : Seen D) → step_after (Some end) 0 ≡ step_after None 0
       → AnswersPeer facts command (Some end) unsent store new now → now ≡ store
   same_store PeerEnd.Quit command unsent new store now sound is = is.1
   same_store PeerEnd.EndOfInput command unsent new store now sound is = absurd is
@@ -35,7 +35,7 @@ module _ {D A : Type 0} (facts : DeviceFacts D) where
   ended_at hill past n end (Some peer) new store now moves stands =
       let serves = moves.2 in
       subst (λ slot. StandsAt hill past n slot) (sym moves.1) (
-        serves.reads (past.came n) (commands_in (own n past.turns)) stands.0,
+        serves.reads Reader.Session (past.came n) (commands_in (own n past.turns)) tt stands.0,
         ap (λ l. past.sent n ++ l) (same_unsent facts end (command_of peer) peer.outbox.unsent moves.0.outbox.unsent store now serves.answers) ∙ stands.1,
       )
 
@@ -58,7 +58,7 @@ module _ {D A : Type 0} (facts : DeviceFacts D) where
       let all : past.sent n ++ new.outbox.unsent ≡ written n hill (past.turns ++ turn_of n e ∷ []) =
       ap (λ l. past.sent n ++ l) serves.answers.3 ∙ sym (append_assoc (past.sent n) peer.outbox.unsent more) ∙ ap (λ l. l ++ more) stands.1
       ∙ ap (λ (k : Kept). written n hill past.turns ++ answer k e) stood ∙ sym (written_one n hill past.turns e) in
-      (subst (λ l. IsPeer new (past.came n) l) commands (serves.reads (past.came n) done stands.0), all)
+      (subst (λ l. IsPeer Reader.Session new (past.came n) l) commands (serves.reads Reader.Session (past.came n) done tt stands.0), all)
 
   -- one peer's command was answered
   record WasAnswered (n : ℕ) (new : Slots A) (hill : Kept) (past : Past) (store now : Seen D) : Type 0 where

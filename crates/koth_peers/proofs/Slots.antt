@@ -1,7 +1,7 @@
 -- How the peers stand after a call of `Peers`.
 use Rattle.std.proofs.Common.{◌≡◌, ◌≢◌, inl, inr, ℕ, ◌<◌, zero, suc, List, [], ◌∷◌, ◌++◌, length, get_or, set, take, drop, Option, None, Some, refl, sym, ap, subst, ◌∙◌, append_assoc}
 use Rattle.{std.proofs.{Common.take-append-drop, lemmas.Bool.cases_eq, lemmas.List.{get_or-set_other, get_or-set_same, get_or_read, length-set}}, koth_hill.specs.Kept.Kept}
-use Rattle.{koth_session.specs.Transcript.commands_in, koth_peers.specs.Peer.{Closes, IsNew, IsPeer, Sends, Takes}}
+use Rattle.{koth_protocol.specs.Commands.Reader, koth_session.specs.Transcript.commands_in, koth_peers.specs.Peer.{Closes, IsNew, IsPeer, Sends, Takes}}
 use Rattle.koth_peers.specs.Peers.{AreServing, Moves, MovesAt, OnlyAt, Past, Slots, StandsAt, came_to, connected, instead, left, own, peer_at, sent_to, unsent_at, unsent_in, written}
 use Rattle.{koth_peers.specs.declared.peer.Peer.Peer, koth_peers.proofs.Past.{instead_other, instead_same, own_forgotten, own_kept, written_kept, written_none}}
 
@@ -71,8 +71,8 @@ module _ {A : Type 0} where
   came_at hill past n bytes None new moves stands = subst (λ slot. StandsAt hill (came_to n bytes past) n slot) (sym moves) stands
   came_at hill past n bytes (Some peer) new moves stands =
       let takes = moves.2 in
-      let now : IsPeer moves.0 (instead past.came n (past.came n ++ bytes) n) (commands_in (own n past.turns)) =
-      subst (λ l. IsPeer moves.0 l (commands_in (own n past.turns))) (sym (instead_same past.came n (past.came n ++ bytes))) (takes.reads (past.came n) (commands_in (own n past.turns)) stands.0) in
+      let now : IsPeer Reader.Session moves.0 (instead past.came n (past.came n ++ bytes) n) (commands_in (own n past.turns)) =
+      subst (λ l. IsPeer Reader.Session moves.0 l (commands_in (own n past.turns))) (sym (instead_same past.came n (past.came n ++ bytes))) (takes.reads Reader.Session (past.came n) (commands_in (own n past.turns)) stands.0) in
       subst (λ slot. StandsAt hill (came_to n bytes past) n slot) (sym moves.1) (now, ap (λ l. past.sent n ++ l) takes.unsent ∙ stands.1)
 
   pub serving_came : (old new : Slots A) (n : ℕ) (bytes : List ℕ) → MovesAt (λ p q. Takes p bytes q) n old new
@@ -86,7 +86,7 @@ module _ {A : Type 0} where
   closes_at hill past n None new moves stands = subst (λ slot. StandsAt hill past n slot) (sym moves) stands
   closes_at hill past n (Some peer) new moves stands =
       let closes = moves.2 in
-      subst (λ slot. StandsAt hill past n slot) (sym moves.1) (closes.reads (past.came n) (commands_in (own n past.turns)) stands.0, ap (λ l. past.sent n ++ l) closes.unsent ∙ stands.1)
+      subst (λ slot. StandsAt hill past n slot) (sym moves.1) (closes.reads Reader.Session (past.came n) (commands_in (own n past.turns)) stands.0, ap (λ l. past.sent n ++ l) closes.unsent ∙ stands.1)
 
   pub serving_closed : (old new : Slots A) (n : ℕ) → MovesAt Closes n old new → (hill : Kept) (past : Past) → AreServing old hill past → AreServing new hill past
   serving_closed old new n moves hill past serving =
@@ -95,7 +95,7 @@ module _ {A : Type 0} where
 
   -- ---- answers were sent
 
-  same_peer : (old new : Peer A) (count : ℕ) (came : List ℕ) → Sends old count new → {done : _} → IsPeer old came done → IsPeer new came done
+  same_peer : (old new : Peer A) (count : ℕ) (came : List ℕ) → Sends old count new → {done : _} → IsPeer Reader.Session old came done → IsPeer Reader.Session new came done
   same_peer old new count came sends is = record { has_read = rw (sends.end, sends.inbox, sends.closed) is.has_read; few = is.few }
 
   sent_at : (hill : Kept) (past : Past) (n count : ℕ) (old new : Option (Peer A)) → Moves (λ p q. Sends p count q) old new
@@ -130,7 +130,7 @@ module _ {A : Type 0} where
   connected_at : (hill : Kept) (past : Past) (n : ℕ) (peer : Peer A) → IsNew peer → own n past.turns ≡ []
       → StandsAt hill (connected n past) n (Some peer)
   connected_at hill past n peer new none = (
-    rw (instead_same past.came n [], none) new.begins,
+    rw (instead_same past.came n [], none) (new.begins Reader.Session),
     ap (λ l. l ++ peer.outbox.unsent) (instead_same past.sent n []) ∙ new.unsent ∙ sym (written_none n hill past.turns none),
   )
 

@@ -1,9 +1,9 @@
 -- How a session stands after a call of `Peer`.
 use Rattle.std.proofs.Common.{◌≡◌, ℕ, ◌<◌, ◌≤◌, arith, nat_le, Bool, true, false, true≢false, if◌then◌else◌, List, [], ◌∷◌, ◌++◌, length, Option, None, Some, is_some, refl, sym, ap, subst}
 use Rattle.{std.proofs.{Common.{◌∙◌, append-nil}, lemmas.Bool.{leb-false, leb-true}}, sector_disk.specs.Facts.DeviceFacts, hill_store.specs.Seen.Seen}
-use Rattle.koth_protocol.specs.{Commands.{Command, commands_from, commands_of, kept_source}, Lines.lines_from, Reading.commands_met, declared.script.Met.Met}
+use Rattle.koth_protocol.specs.{Commands.{Command, Reader, commands_read, kept_source, read_from}, Lines.lines_from, Reading.commands_met, declared.script.Met.Met}
 use Rattle.koth_session.specs.Transcript.{Exchange, command_in}
-use Rattle.koth_peers.specs.{Inbox.{IsNext, IsReadTo, is_met}, Peer.{AnswersPeer, Closes, HasRead, Serves, Takes, command_due, command_of, is_due, is_due_now, settled, settled_now}}
+use Rattle.koth_peers.specs.{Inbox.{IsNext, IsReadTo, IsTaken, is_met}, Peer.{AnswersPeer, Closes, HasRead, Serves, Takes, command_due, command_of, is_due, is_due_now, settled, settled_now}}
 use Rattle.{koth_peers.specs.{declared.end.PeerEnd.PeerEnd, declared.inbox.Inbox.Inbox, declared.peer.Peer.Peer}, koth_peers.proofs.Readings.unmet}
 use Rattle.koth_protocol.specs.declared.script.Met.TheVariants as met
 
@@ -21,17 +21,18 @@ is_met_then (Some end) met is = absurd (true≢false (sym is))
 
 module _ {A : Type 0} where
   -- all commands of what came were carried out
-  all_done : (inbox : Inbox A) (came : List ℕ) (done : List Command) → is_met inbox.due ≡ false → IsReadTo inbox came done → commands_of came ≡ done
-  all_done inbox came done none r =
+  all_done : (reader : Reader) (inbox : Inbox A) (came : List ℕ) (done : List Command) → is_met inbox.due ≡ false → IsReadTo reader inbox came done
+      → commands_read reader came ≡ done
+  all_done reader inbox came done none r =
       let f = r.followed in
-      let those : commands_of (came ++ []) ≡ done ++ commands_met met.Nothing inbox.script.source (commands_from f.source (lines_from f.line ([] ++ []))) =
+      let those : commands_read reader (came ++ []) ≡ done ++ commands_met reader met.Nothing inbox.script.source (read_from reader f.source (lines_from f.line ([] ++ []))) =
       rw (unmet inbox.due none, r.read none) at (f.commands []) in
-      ap (λ l. commands_of l) (sym (append-nil came)) ∙ those ∙ append-nil done
+      ap (λ l. commands_read reader l) (sym (append-nil came)) ∙ those ∙ append-nil done
 
   -- a session that goes on, or is at its end
-  pub settles : (inbox : Inbox A) (closed : Bool) (came : List ℕ) (done : List Command) → IsReadTo inbox came done
-      → HasRead (settled None (is_met inbox.due) inbox.taken closed) inbox closed came done
-  settles inbox closed came done r = at (is_met inbox.due) refl
+  pub settles : (reader : Reader) (inbox : Inbox A) (closed : Bool) (came : List ℕ) (done : List Command) → IsReadTo reader inbox came done
+      → HasRead reader (settled None (is_met inbox.due) inbox.taken closed) inbox closed came done
+  settles reader inbox closed came done r = at (is_met inbox.due) refl
     where
       counts : inbox.taken ≡ length came
       counts = r.followed.taken
@@ -39,30 +40,30 @@ module _ {A : Type 0} where
       few : length came ≤ 16777216
       few = r.followed.few
 
-      open_or_not : (c : Bool) → closed ≡ c → is_met inbox.due ≡ false → length came < 16777216 → HasRead (if c then Some PeerEnd.EndOfInput else None) inbox closed came done
-      open_or_not true is none below = (all_done inbox came done none r, is)
+      open_or_not : (c : Bool) → closed ≡ c → is_met inbox.due ≡ false → length came < 16777216 → HasRead reader (if c then Some PeerEnd.EndOfInput else None) inbox closed came done
+      open_or_not true is none below = (all_done reader inbox came done none r, is)
       open_or_not false is none below = (r, λ again. (is, below))
 
       limit : (l : Bool) → nat_le 16777216 inbox.taken ≡ l → is_met inbox.due ≡ false
-          → HasRead (if l then Some PeerEnd.Limit else (if closed then Some PeerEnd.EndOfInput else None)) inbox closed came done
-      limit true is none = (all_done inbox came done none r, omega (arith, leb-true 16777216 inbox.taken is, counts, few))
+          → HasRead reader (if l then Some PeerEnd.Limit else (if closed then Some PeerEnd.EndOfInput else None)) inbox closed came done
+      limit true is none = (all_done reader inbox came done none r, omega (arith, leb-true 16777216 inbox.taken is, counts, few))
       limit false is none = open_or_not closed refl none (omega (arith, leb-false 16777216 inbox.taken is, counts))
 
-      at : (m : Bool) → is_met inbox.due ≡ m → HasRead (settled None m inbox.taken closed) inbox closed came done
+      at : (m : Bool) → is_met inbox.due ≡ m → HasRead reader (settled None m inbox.taken closed) inbox closed came done
       at true is = (r, λ none. absurd (true≢false (sym is ∙ none)))
       at false is = limit (nat_le 16777216 inbox.taken) refl is
 
   -- ---- bytes come
 
   pub took : (old new : Peer A) (bytes : List ℕ) → old.end ≡ None → new.end ≡ settled_now None new → new.closed ≡ old.closed
-      → new.outbox.unsent ≡ old.outbox.unsent → ((came : List ℕ) (done : List Command) → IsReadTo old.inbox came done → IsReadTo new.inbox (came ++ bytes) done)
+      → new.outbox.unsent ≡ old.outbox.unsent → ((reader : Reader) (came : List ℕ) (done : List Command) → IsReadTo reader old.inbox came done → IsReadTo reader new.inbox (came ++ bytes) done)
       → Takes old bytes new
   took old new bytes none stands same_closed same_unsent reads = record {
-    reads = λ came done is.
-        let was : HasRead None old.inbox old.closed came done = subst (λ e. HasRead e old.inbox old.closed came done) none is.has_read in
-        let r = reads came done was.0 in
+    reads = λ reader came done is.
+        let was : HasRead reader None old.inbox old.closed came done = subst (λ e. HasRead reader e old.inbox old.closed came done) none is.has_read in
+        let r = reads reader came done was.0 in
         record {
-          has_read = subst (λ e. HasRead e new.inbox new.closed (came ++ bytes) done) (sym stands) (settles new.inbox new.closed (came ++ bytes) done r);
+          has_read = subst (λ e. HasRead reader e new.inbox new.closed (came ++ bytes) done) (sym stands) (settles reader new.inbox new.closed (came ++ bytes) done r);
           few = r.followed.few;
         };
     unsent = same_unsent;
@@ -75,11 +76,11 @@ module _ {A : Type 0} where
   pub closed_now : (old new : Peer A) → old.end ≡ None → new.end ≡ settled_now None new → new.closed ≡ true → new.inbox ≡ old.inbox
       → new.outbox.unsent ≡ old.outbox.unsent → Closes old new
   closed_now old new none stands now_closed same_inbox same_unsent = record {
-    reads = λ came done is.
-        let was : HasRead None old.inbox old.closed came done = subst (λ e. HasRead e old.inbox old.closed came done) none is.has_read in
-        let r : IsReadTo new.inbox came done = subst (λ (i : Inbox A). IsReadTo i came done) (sym same_inbox) was.0 in
+    reads = λ reader came done is.
+        let was : HasRead reader None old.inbox old.closed came done = subst (λ e. HasRead reader e old.inbox old.closed came done) none is.has_read in
+        let r : IsReadTo reader new.inbox came done = subst (λ (i : Inbox A). IsReadTo reader i came done) (sym same_inbox) was.0 in
         record {
-          has_read = subst (λ e. HasRead e new.inbox new.closed came done) (sym stands) (settles new.inbox new.closed came done r);
+          has_read = subst (λ e. HasRead reader e new.inbox new.closed came done) (sym stands) (settles reader new.inbox new.closed came done r);
           few = is.few;
         };
     unsent = same_unsent;
@@ -90,46 +91,51 @@ module _ {A : Type 0} where
 
 -- ---- a command is carried out
 
-next_is : (m : Met) (bytes : List ℕ) (e : Exchange) → is_met m ≡ true → command_due m (kept_source bytes) ≡ command_in e
-    → IsNext m bytes (command_due m (kept_source bytes))
-next_is met.Nothing bytes e is same = absurd (true≢false (sym is))
-next_is met.Submit bytes e is same = λ others. refl
-next_is met.Show bytes e is same = λ others. refl
-next_is met.Bad bytes e is same = λ others. refl
-next_is met.Quit bytes (Exchange.Submission source mark) is same = absurd (cc)
-next_is met.Quit bytes Exchange.Table is same = absurd (cc)
-next_is met.Quit bytes Exchange.BadLine is same = absurd (cc)
+next_is : (reader : Reader) (m : Met) (bytes : List ℕ) (e : Exchange) → is_met m ≡ true → IsTaken reader m → command_due m (kept_source bytes) ≡ command_in e
+    → IsNext reader m bytes (command_due m (kept_source bytes))
+next_is reader met.Nothing bytes e is taken same = absurd (true≢false (sym is))
+next_is reader met.Submit bytes e is taken same = λ others. refl
+next_is reader met.Show bytes e is taken same = λ others. refl
+next_is reader met.Bad bytes e is taken same = λ others. refl
+next_is Reader.Session met.Request bytes e is taken same = λ others. refl
+next_is Reader.Service met.Request bytes e is taken same = absurd (true≢false taken)
+next_is reader met.Quit bytes (Exchange.Submission source mark) is taken same = absurd (cc)
+next_is reader met.Quit bytes Exchange.Table is taken same = absurd (cc)
+next_is reader met.Quit bytes Exchange.BadLine is taken same = absurd (cc)
 
 -- what comes after the command that was met
-behind_met : (m : Met) (bytes : List ℕ) (others : List Command) → is_met m ≡ true
-    → (behind : List Command) × (commands_met m bytes others ≡ command_due m (kept_source bytes) ∷ behind)
-behind_met met.Nothing bytes others is = absurd (true≢false (sym is))
-behind_met met.Submit bytes others is = (others, refl)
-behind_met met.Show bytes others is = (others, refl)
-behind_met met.Quit bytes others is = ([], refl)
-behind_met met.Bad bytes others is = (others, refl)
+pub behind_met : (reader : Reader) (m : Met) (bytes : List ℕ) (others : List Command) → is_met m ≡ true → IsTaken reader m
+    → (behind : List Command) × (commands_met reader m bytes others ≡ command_due m (kept_source bytes) ∷ behind)
+behind_met reader met.Nothing bytes others is taken = absurd (true≢false (sym is))
+behind_met reader met.Submit bytes others is taken = (others, refl)
+behind_met reader met.Show bytes others is taken = (others, refl)
+behind_met reader met.Quit bytes others is taken = ([], refl)
+behind_met Reader.Session met.Request bytes others is taken = (others, refl)
+behind_met Reader.Service met.Request bytes others is taken = absurd (true≢false taken)
+behind_met reader met.Bad bytes others is taken = (others, refl)
 
-quits : (m : Met) (bytes : List ℕ) (others : List Command) → is_met m ≡ true → command_due m (kept_source bytes) ≡ Command.Quit
-    → commands_met m bytes others ≡ Command.Quit ∷ []
-quits met.Nothing bytes others is same = absurd (true≢false (sym is))
-quits met.Submit bytes others is same = absurd (cc)
-quits met.Show bytes others is same = absurd (cc)
-quits met.Quit bytes others is same = refl
-quits met.Bad bytes others is same = absurd (cc)
+quits : (reader : Reader) (m : Met) (bytes : List ℕ) (others : List Command) → is_met m ≡ true → command_due m (kept_source bytes) ≡ Command.Quit
+    → commands_met reader m bytes others ≡ Command.Quit ∷ []
+quits reader met.Nothing bytes others is same = absurd (true≢false (sym is))
+quits reader met.Submit bytes others is same = absurd (cc)
+quits reader met.Show bytes others is same = absurd (cc)
+quits reader met.Quit bytes others is same = refl
+quits reader met.Request bytes others is same = absurd (cc)
+quits reader met.Bad bytes others is same = absurd (cc)
 
 module _ {D A : Type 0} (facts : DeviceFacts D) where
   pub answered_now : (old new : Peer A) (store now : Seen D) → is_due_now old ≡ true → new.closed ≡ old.closed → new.end ≡ settled_now None new
-      → ((came : List ℕ) (done : List Command) (command : Command) → IsReadTo old.inbox came done → IsNext old.inbox.due old.inbox.script.source command
-      → IsReadTo new.inbox came (done ++ command ∷ []))
+      → ((reader : Reader) (came : List ℕ) (done : List Command) (command : Command) → IsReadTo reader old.inbox came done → IsNext reader old.inbox.due old.inbox.script.source command
+      → IsReadTo reader new.inbox came (done ++ command ∷ []))
       → AnswersPeer facts (command_of old) None old.outbox.unsent store new.outbox.unsent now → Serves facts None old store new now
   answered_now old new store now due same_closed stands passes answers = record {
     answers = answers;
-    reads = λ came done is.
+    reads = λ reader came done taken is.
         let none = goes_on_still old.end _ due in
-        let was : HasRead None old.inbox old.closed came done = subst (λ e. HasRead e old.inbox old.closed came done) none is.has_read in
-        let r = passes came done (command_of old) was.0 (next_is old.inbox.due old.inbox.script.source answers.0 (is_met_then old.end _ due) answers.1) in
+        let was : HasRead reader None old.inbox old.closed came done = subst (λ e. HasRead reader e old.inbox old.closed came done) none is.has_read in
+        let r = passes reader came done (command_of old) was.0 (next_is reader old.inbox.due old.inbox.script.source answers.0 (is_met_then old.end _ due) taken answers.1) in
         record {
-          has_read = subst (λ e. HasRead e new.inbox new.closed came (done ++ command_of old ∷ [])) (sym stands) (settles new.inbox new.closed came (done ++ command_of old ∷ []) r);
+          has_read = subst (λ e. HasRead reader e new.inbox new.closed came (done ++ command_of old ∷ [])) (sym stands) (settles reader new.inbox new.closed came (done ++ command_of old ∷ []) r);
           few = is.few;
         };
     closed = same_closed;
@@ -137,38 +143,39 @@ module _ {D A : Type 0} (facts : DeviceFacts D) where
   }
 
   -- the commands of what came, if one is due
-  those_came : (inbox : Inbox A) (came : List ℕ) (done : List Command) → IsReadTo inbox came done
-      → (others : List Command) × (commands_of came ≡ done ++ commands_met inbox.due inbox.script.source others)
-  those_came inbox came done r =
-      let f = r.followed in (commands_from f.source (lines_from f.line (inbox.waiting ++ [])), ap (λ l. commands_of l) (sym (append-nil came)) ∙ f.commands [])
+  those_came : (reader : Reader) (inbox : Inbox A) (came : List ℕ) (done : List Command) → IsReadTo reader inbox came done
+      → (others : List Command) × (commands_read reader came ≡ done ++ commands_met reader inbox.due inbox.script.source others)
+  those_came reader inbox came done r =
+      let f = r.followed in (read_from reader f.source (lines_from f.line (inbox.waiting ++ [])), ap (λ l. commands_read reader l) (sym (append-nil came)) ∙ f.commands [])
 
-  left_by : (end : PeerEnd) (old new : Peer A) (store now : Seen D) (came : List ℕ) (done : List Command) → is_met old.inbox.due ≡ true → IsReadTo old.inbox came done
-      → AnswersPeer facts (command_of old) (Some end) old.outbox.unsent store new.outbox.unsent now → HasRead (Some end) new.inbox new.closed came done
-  left_by PeerEnd.Quit old new store now came done is r answers =
-      let those = those_came old.inbox came done r in
-      those.1 ∙ ap (λ l. done ++ l) (quits old.inbox.due old.inbox.script.source those.0 is answers.0)
-  left_by PeerEnd.EndOfInput old new store now came done is r answers = absurd answers
-  left_by PeerEnd.Limit old new store now came done is r answers = absurd answers
-  left_by PeerEnd.Unread old new store now came done is r answers =
-      let those = those_came old.inbox came done r in
-      let b = behind_met old.inbox.due old.inbox.script.source those.0 is in (command_of old, b.0, those.1 ∙ ap (λ l. done ++ l) b.1)
-  left_by PeerEnd.StoreFailed old new store now came done is r answers =
-      let those = those_came old.inbox came done r in
-      let b = behind_met old.inbox.due old.inbox.script.source those.0 is in
+  left_by : (reader : Reader) (end : PeerEnd) (old new : Peer A) (store now : Seen D) (came : List ℕ) (done : List Command) → is_met old.inbox.due ≡ true
+      → IsTaken reader old.inbox.due → IsReadTo reader old.inbox came done
+      → AnswersPeer facts (command_of old) (Some end) old.outbox.unsent store new.outbox.unsent now → HasRead reader (Some end) new.inbox new.closed came done
+  left_by reader PeerEnd.Quit old new store now came done is taken r answers =
+      let those = those_came reader old.inbox came done r in
+      those.1 ∙ ap (λ l. done ++ l) (quits reader old.inbox.due old.inbox.script.source those.0 is answers.0)
+  left_by reader PeerEnd.EndOfInput old new store now came done is taken r answers = absurd answers
+  left_by reader PeerEnd.Limit old new store now came done is taken r answers = absurd answers
+  left_by reader PeerEnd.Unread old new store now came done is taken r answers =
+      let those = those_came reader old.inbox came done r in
+      let b = behind_met reader old.inbox.due old.inbox.script.source those.0 is taken in (command_of old, b.0, those.1 ∙ ap (λ l. done ++ l) b.1)
+  left_by reader PeerEnd.StoreFailed old new store now came done is taken r answers =
+      let those = those_came reader old.inbox came done r in
+      let b = behind_met reader old.inbox.due old.inbox.script.source those.0 is taken in
       (answers.0, b.0, those.1 ∙ ap (λ l. done ++ l) b.1 ∙ ap (λ (k : Command). done ++ k ∷ b.0) answers.1)
-  left_by PeerEnd.Memory old new store now came done is r answers =
-      let those = those_came old.inbox came done r in
-      let b = behind_met old.inbox.due old.inbox.script.source those.0 is in (command_of old, b.0, those.1 ∙ ap (λ l. done ++ l) b.1)
+  left_by reader PeerEnd.Memory old new store now came done is taken r answers =
+      let those = those_came reader old.inbox came done r in
+      let b = behind_met reader old.inbox.due old.inbox.script.source those.0 is taken in (command_of old, b.0, those.1 ∙ ap (λ l. done ++ l) b.1)
 
   pub ended_now : (end : PeerEnd) (old new : Peer A) (store now : Seen D) → is_due_now old ≡ true → new.closed ≡ old.closed → new.end ≡ Some end
       → AnswersPeer facts (command_of old) (Some end) old.outbox.unsent store new.outbox.unsent now → Serves facts (Some end) old store new now
   ended_now end old new store now due same_closed ended answers = record {
     answers = answers;
-    reads = λ came done is.
+    reads = λ reader came done taken is.
         let none = goes_on_still old.end _ due in
-        let was : HasRead None old.inbox old.closed came done = subst (λ e. HasRead e old.inbox old.closed came done) none is.has_read in
+        let was : HasRead reader None old.inbox old.closed came done = subst (λ e. HasRead reader e old.inbox old.closed came done) none is.has_read in
         record {
-          has_read = subst (λ e. HasRead e new.inbox new.closed came done) (sym ended) (left_by end old new store now came done (is_met_then old.end _ due) was.0 answers);
+          has_read = subst (λ e. HasRead reader e new.inbox new.closed came done) (sym ended) (left_by reader end old new store now came done (is_met_then old.end _ due) taken was.0 answers);
           few = is.few;
         };
     closed = same_closed;

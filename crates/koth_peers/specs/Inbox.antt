@@ -1,6 +1,6 @@
 -- What came from a peer, and which commands of it are due.
-use Rattle.std.specs.Prelude.{◌≡◌, ℕ, ◌-◌, ◌≤◌, min, Bool, true, false, List, [], ◌∷◌, ◌++◌, length, Option}
-use Rattle.koth_protocol.specs.{Commands.{Command, commands_from, commands_of}, Lines.lines_from, Reading.{IsReading, commands_met}, declared.script.Met.Met}
+use Rattle.std.specs.Prelude.{◌≡◌, ⊤, ℕ, ◌-◌, ◌≤◌, min, Bool, true, false, List, [], ◌∷◌, ◌++◌, length, Option}
+use Rattle.koth_protocol.specs.{Commands.{Command, Reader, commands_read, read_from}, Lines.lines_from, Reading.{IsReading, commands_met}, declared.script.Met.Met}
 use Rattle.koth_peers.specs.declared.inbox.Inbox.{Inbox}
 use Rattle.koth_protocol.specs.declared.script.Met.TheVariants as met
 
@@ -10,28 +10,43 @@ is_met met.Nothing = false
 is_met met.Submit = true
 is_met met.Show = true
 is_met met.Quit = true
+is_met met.Request = true
 is_met met.Bad = true
+
+-- a browser's request was met
+abbrev pub is_request : Met → Bool
+is_request met.Nothing = false
+is_request met.Submit = false
+is_request met.Show = false
+is_request met.Quit = false
+is_request met.Request = true
+is_request met.Bad = false
+
+-- what was met is a command for this reader
+abbrev pub IsTaken : Reader → Met → Type 0
+IsTaken Reader.Session m = ⊤
+IsTaken Reader.Service m = is_request m ≡ false
 
 -- bytes that may come now
 abbrev pub room_of : {A : Type 0} → Inbox A → ℕ
 room_of inbox = min (4096 - length inbox.waiting) (16777216 - inbox.taken)
 
--- These bytes came, and these commands in them were carried out. With whatever comes next their commands are those, the one that was met,
+-- These bytes came, and these commands that a reader finds in them were carried out. With whatever comes next their commands are those, the one that was met,
 -- and the commands of the bytes that wait.
-pub record IsFollowed {A : Type 0} (inbox : Inbox A) (came : List ℕ) (done : List Command) : Type 0 where
+pub record IsFollowed {A : Type 0} (reader : Reader) (inbox : Inbox A) (came : List ℕ) (done : List Command) : Type 0 where
   pub line : List ℕ
   pub source : Option (List ℕ)
   pub reading : IsReading inbox.script line source
-  pub commands : (more : List ℕ) → commands_of (came ++ more)
-      ≡ done ++ commands_met inbox.due inbox.script.source (commands_from source (lines_from line (inbox.waiting ++ more)))
+  pub commands : (more : List ℕ) → commands_read reader (came ++ more)
+      ≡ done ++ commands_met reader inbox.due inbox.script.source (read_from reader source (lines_from line (inbox.waiting ++ more)))
   pub taken : inbox.taken ≡ length came
   pub few : length came ≤ 16777216
 
 -- and the bytes were read up to the next command: if none was met, no byte waits
-pub record IsReadTo {A : Type 0} (inbox : Inbox A) (came : List ℕ) (done : List Command) : Type 0 where
-  pub followed : IsFollowed inbox came done
+pub record IsReadTo {A : Type 0} (reader : Reader) (inbox : Inbox A) (came : List ℕ) (done : List Command) : Type 0 where
+  pub followed : IsFollowed reader inbox came done
   pub read : is_met inbox.due ≡ false → inbox.waiting ≡ []
 
 -- what was met is this command, whatever comes after it
-abbrev pub IsNext : Met → List ℕ → Command → Type 0
-IsNext met bytes command = (others : List Command) → commands_met met bytes others ≡ command ∷ others
+abbrev pub IsNext : Reader → Met → List ℕ → Command → Type 0
+IsNext reader met bytes command = (others : List Command) → commands_met reader met bytes others ≡ command ∷ others

@@ -1,8 +1,8 @@
 -- One session as a value: what came of it, what was carried out, and what is to be sent.
 use Rattle.std.specs.Prelude.{◌≡◌, ℕ, ◌+◌, ◌<◌, ◌≤◌, nat_le, Bool, true, false, if◌then◌else◌, List, [], ◌∷◌, ◌++◌, drop, length, Option, None, Some}
-use Rattle.{koth_hill.specs.Kept.{Kept, table_kept}, sector_disk.specs.Facts.DeviceFacts, hill_store.specs.Seen.Seen, koth_protocol.specs.Commands.{Command, commands_of, kept_source}}
+use Rattle.{koth_hill.specs.Kept.{Kept, table_kept}, sector_disk.specs.Facts.DeviceFacts, hill_store.specs.Seen.Seen, koth_protocol.specs.Commands.{Command, Reader, commands_read, kept_source}}
 use Rattle.{koth_protocol.specs.{Table.show_text, declared.script.Met.Met}, koth_session.specs.{Sessions.{AreServed, IsLeftOff}, Transcript.{Exchange, answer, command_in}}}
-use Rattle.koth_peers.specs.{Inbox.{IsReadTo, is_met, room_of}, declared.end.PeerEnd.PeerEnd, declared.inbox.Inbox.Inbox, declared.peer.Peer.Peer}
+use Rattle.koth_peers.specs.{Inbox.{IsReadTo, IsTaken, is_met, is_request, room_of}, declared.end.PeerEnd.PeerEnd, declared.inbox.Inbox.Inbox, declared.peer.Peer.Peer}
 use Rattle.koth_protocol.specs.declared.script.Met.TheVariants as met
 
 -- ---- how a session stands
@@ -24,6 +24,10 @@ is_due (Some end) met = false
 abbrev pub is_due_now : {A : Type 0} → Peer A → Bool
 is_due_now peer = is_due peer.end (is_met peer.inbox.due)
 
+-- and what is due is a browser's request
+abbrev pub asks_now : {A : Type 0} → Peer A → Bool
+asks_now peer = is_request peer.inbox.due
+
 -- bytes that may come: none once the peer's bytes are at their end, or the session has ended
 abbrev pub may_come : Option PeerEnd → Bool → ℕ → ℕ
 may_come (Some end) closed room = 0
@@ -35,23 +39,23 @@ may_come_now peer = may_come peer.end peer.closed (room_of peer.inbox)
 
 -- What a session that stands so made of what came: these commands were carried out and answered. As long as the session goes on, the next
 -- one is due, or more bytes may come.
-abbrev pub HasRead : {A : Type 0} → Option PeerEnd → Inbox A → Bool → List ℕ → List Command → Type 0
-HasRead None inbox closed came done = IsReadTo inbox came done × (is_met inbox.due ≡ false → (closed ≡ false) × (length came < 16777216))
-HasRead (Some PeerEnd.Quit) inbox closed came done = commands_of came ≡ done ++ Command.Quit ∷ []
-HasRead (Some PeerEnd.EndOfInput) inbox closed came done = (commands_of came ≡ done) × (closed ≡ true)
-HasRead (Some PeerEnd.Limit) inbox closed came done = (commands_of came ≡ done) × (length came ≡ 16777216)
-HasRead (Some PeerEnd.Unread) inbox closed came done = (command : Command) × (behind : List Command) × (commands_of came ≡ done ++ command ∷ behind)
-HasRead (Some PeerEnd.StoreFailed) inbox closed came done = (source : List ℕ) × (behind : List Command) × (commands_of came ≡ done ++ Command.Submit source ∷ behind)
-HasRead (Some PeerEnd.Memory) inbox closed came done = (command : Command) × (behind : List Command) × (commands_of came ≡ done ++ command ∷ behind)
+abbrev pub HasRead : {A : Type 0} → Reader → Option PeerEnd → Inbox A → Bool → List ℕ → List Command → Type 0
+HasRead reader None inbox closed came done = IsReadTo reader inbox came done × (is_met inbox.due ≡ false → (closed ≡ false) × (length came < 16777216))
+HasRead reader (Some PeerEnd.Quit) inbox closed came done = commands_read reader came ≡ done ++ Command.Quit ∷ []
+HasRead reader (Some PeerEnd.EndOfInput) inbox closed came done = (commands_read reader came ≡ done) × (closed ≡ true)
+HasRead reader (Some PeerEnd.Limit) inbox closed came done = (commands_read reader came ≡ done) × (length came ≡ 16777216)
+HasRead reader (Some PeerEnd.Unread) inbox closed came done = (command : Command) × (behind : List Command) × (commands_read reader came ≡ done ++ command ∷ behind)
+HasRead reader (Some PeerEnd.StoreFailed) inbox closed came done = (source : List ℕ) × (behind : List Command) × (commands_read reader came ≡ done ++ Command.Submit source ∷ behind)
+HasRead reader (Some PeerEnd.Memory) inbox closed came done = (command : Command) × (behind : List Command) × (commands_read reader came ≡ done ++ command ∷ behind)
 
--- these bytes came, and these commands of theirs were carried out and answered
-pub record IsPeer {A : Type 0} (peer : Peer A) (came : List ℕ) (done : List Command) : Type 0 where
-  pub has_read : HasRead peer.end peer.inbox peer.closed came done
+-- these bytes came, and these commands that the reader finds in them were carried out and answered
+pub record IsPeer {A : Type 0} (reader : Reader) (peer : Peer A) (came : List ℕ) (done : List Command) : Type 0 where
+  pub has_read : HasRead reader peer.end peer.inbox peer.closed came done
   pub few : length came ≤ 16777216
 
 -- a session of which nothing came yet
 pub record IsNew {A : Type 0} (peer : Peer A) : Type 0 where
-  pub begins : IsPeer peer [] []
+  pub begins : (reader : Reader) → IsPeer reader peer [] []
   pub unsent : peer.outbox.unsent ≡ []
   pub open_still : peer.closed ≡ false
   pub goes_on : peer.end ≡ None
@@ -60,14 +64,14 @@ pub record IsNew {A : Type 0} (peer : Peer A) : Type 0 where
 
 -- these bytes came
 pub record Takes {A : Type 0} (old : Peer A) (bytes : List ℕ) (new : Peer A) : Type 0 where
-  pub reads : (came : List ℕ) (done : List Command) → IsPeer old came done → IsPeer new (came ++ bytes) done
+  pub reads : (reader : Reader) (came : List ℕ) (done : List Command) → IsPeer reader old came done → IsPeer reader new (came ++ bytes) done
   pub unsent : new.outbox.unsent ≡ old.outbox.unsent
   pub closed : new.closed ≡ old.closed
   pub end : new.end ≡ settled_now old.end new
 
 -- no more bytes come
 pub record Closes {A : Type 0} (old new : Peer A) : Type 0 where
-  pub reads : (came : List ℕ) (done : List Command) → IsPeer old came done → IsPeer new came done
+  pub reads : (reader : Reader) (came : List ℕ) (done : List Command) → IsPeer reader old came done → IsPeer reader new came done
   pub unsent : new.outbox.unsent ≡ old.outbox.unsent
   pub closed : new.closed ≡ true
   pub end : new.end ≡ settled_now old.end new
@@ -86,6 +90,7 @@ command_due met.Nothing bytes = Command.Bad
 command_due met.Submit bytes = Command.Submit bytes
 command_due met.Show bytes = Command.Show
 command_due met.Quit bytes = Command.Quit
+command_due met.Request bytes = Command.Bad
 command_due met.Bad bytes = Command.Bad
 
 -- the answer to this command has no room after the answers that are unsent; a reply takes 96 bytes at most
@@ -132,6 +137,7 @@ command_of peer = command_due peer.inbox.due (kept_source peer.inbox.script.sour
 -- the command that was due was carried out, or it ended the session
 pub record Serves {D A : Type 0} (facts : DeviceFacts D) (outcome : Option PeerEnd) (old_peer : Peer A) (old : Seen D) (new_peer : Peer A) (new : Seen D) : Type 0 where
   pub answers : AnswersPeer facts (command_of old_peer) outcome old_peer.outbox.unsent old new_peer.outbox.unsent new
-  pub reads : (came : List ℕ) (done : List Command) → IsPeer old_peer came done → IsPeer new_peer came (done_after outcome done (command_of old_peer))
+  pub reads : (reader : Reader) (came : List ℕ) (done : List Command) → IsTaken reader old_peer.inbox.due → IsPeer reader old_peer came done
+      → IsPeer reader new_peer came (done_after outcome done (command_of old_peer))
   pub closed : new_peer.closed ≡ old_peer.closed
   pub end : new_peer.end ≡ end_after outcome (settled_now None new_peer)

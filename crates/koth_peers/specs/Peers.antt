@@ -1,8 +1,8 @@
 -- Many sessions on one store: what each was answered, and on which hill.
 use Rattle.std.specs.Prelude.{◌≡◌, ◌≢◌, ◌⊎◌, ℕ, ◌+◌, ◌<◌, ◌≤◌, ◌==◌, ◌&&◌, Bool, true, false, if◌then◌else◌, List, [], ◌∷◌, ◌++◌, length, Option, None, Some, IsSome, is_some, Result, Ok, Err}
 use Rattle.std.specs.Prelude.{slice_index_or}
-use Rattle.{koth_hill.specs.Kept.Kept, sector_disk.specs.Facts.DeviceFacts, hill_store.specs.{Earned.kept_next, Seen.Seen}, koth_session.specs.Sessions.{AreServed, IsLeftOff, KeepsCut, KeepsList}}
-use Rattle.{koth_session.specs.Transcript.{Exchange, Mark, answer, commands_in, hill_after, hill_next}, koth_peers.specs.Peer.{IsNew, IsPeer, Serves, is_due_now, may_come_now}}
+use Rattle.{koth_hill.specs.Kept.Kept, sector_disk.specs.Facts.DeviceFacts, hill_store.specs.{Earned.kept_next, Seen.Seen}, koth_protocol.specs.Commands.Reader, koth_session.specs.Sessions.{AreServed, IsLeftOff, KeepsCut, KeepsList}}
+use Rattle.{koth_session.specs.Transcript.{Exchange, Mark, answer, commands_in, hill_after, hill_next}, koth_peers.specs.Peer.{IsNew, IsPeer, Serves, asks_now, is_due_now, may_come_now}}
 use Rattle.koth_peers.specs.{declared.end.PeerEnd.PeerEnd, declared.peers.NotConnected.NotConnected, declared.peers.Step.Step, declared.peer.Peer.Peer}
 
 -- ---- peers by their numbers
@@ -34,6 +34,14 @@ is_due_in (Some peer) = is_due_now peer
 
 abbrev pub is_due_at : {A : Type 0} → Slots A → ℕ → Bool
 is_due_at slots n = is_due_in (peer_at slots n)
+
+-- a browser's request is due
+abbrev pub asks_in : {A : Type 0} → Option (Peer A) → Bool
+asks_in None = false
+asks_in (Some peer) = asks_now peer
+
+abbrev pub asks_at : {A : Type 0} → Slots A → ℕ → Bool
+asks_at slots n = asks_in (peer_at slots n)
 
 abbrev pub may_come_in : {A : Type 0} → Option (Peer A) → ℕ
 may_come_in None = 0
@@ -151,16 +159,17 @@ answered n e past = record { turns = past.turns ++ turn_of n e ∷ []; came = pa
 -- on the hill that stood then. Nothing is said of a number that is free.
 abbrev pub StandsAt : {A : Type 0} → Kept → Past → ℕ → Option (Peer A) → Type 0
 StandsAt hill past p None = own p past.turns ≡ []
-StandsAt hill past p (Some peer) = IsPeer peer (past.came p) (commands_in (own p past.turns)) × (past.sent p ++ peer.outbox.unsent ≡ written p hill past.turns)
+StandsAt hill past p (Some peer) = IsPeer Reader.Session peer (past.came p) (commands_in (own p past.turns)) × (past.sent p ++ peer.outbox.unsent ≡ written p hill past.turns)
 
 abbrev pub AreServing : {A : Type 0} → Slots A → Kept → Past → Type 0
 AreServing slots hill past = (p : ℕ) → StandsAt hill past p (peer_at slots p)
 
 -- ---- what a step makes of them
 
--- One peer's turn: the command that is due of the first peer from there on was carried out, or ended its session.
+-- One peer's turn: the command that is due of the first peer from there on was carried out, or ended its session. It is no browser's request.
 pub record ServesOne {D A : Type 0} (facts : DeviceFacts D) (outcome : Option PeerEnd) (n : ℕ) (old : Slots A) (start : ℕ) (old_store : Seen D) (new : Slots A) (next : ℕ) (new_store : Seen D) : Type 0 where
   pub first : IsFirstDue old start n
+  pub taken : asks_at old n ≡ false
   pub moves : MovesAt (λ p q. Serves facts outcome p old_store q new_store) n old new
   pub next_is : next ≡ n + 1
 
@@ -178,6 +187,8 @@ abbrev pub ServesNext : {D A : Type 0} → DeviceFacts D → Step → Slots A �
 ServesNext facts Step.Nobody old start old_store new next new_store = ((p : ℕ) → is_due_at old p ≡ false) × (new ≡ old) × (next ≡ start) × (new_store ≡ old_store)
 ServesNext facts (Step.Served n) old start old_store new next new_store =
     (outcome : Option PeerEnd) × (step_after outcome n ≡ Step.Served n) × ServesOne facts outcome n old start old_store new next new_store
+ServesNext facts (Step.Asked n) old start old_store new next new_store =
+    IsFirstDue old start n × (asks_at old n ≡ true) × (new ≡ old) × (next ≡ start) × (new_store ≡ old_store)
 ServesNext facts (Step.StoreFailed n) old start old_store new next new_store = ServesOne facts (Some PeerEnd.StoreFailed) n old start old_store new next new_store
 
 -- ---- on a store
@@ -213,6 +224,7 @@ abbrev pub GoesOn : {D A : Type 0} → DeviceFacts D → Step → Slots A → Se
 GoesOn facts Step.Nobody slots old now history = AreServingOn facts slots now history
 GoesOn facts (Step.Served n) slots old now history =
     AreServingOn facts slots now history ⊎ ((e : Exchange) × AreServingOn facts slots now (goes_by n e history))
+GoesOn facts (Step.Asked n) slots old now history = AreServingOn facts slots now history
 GoesOn facts (Step.StoreFailed n) slots old now history = AreCutOff facts slots old now history
 
 -- a submission that stands, and was answered to nobody

@@ -30,7 +30,7 @@ pub(crate) fn answer<D: Device, A: Allocator + Copy>(
         Met::Submit => submit(source, outbox, store),
         Met::Show => show(alloc, outbox, store),
         Met::Quit => Some(PeerEnd::Quit),
-        Met::Bad => say(outbox, b"BAD\n"),
+        Met::Request | Met::Bad => say(outbox, b"BAD\n"),
         Met::Nothing => unreachable!(),
     }
 }

@@ -1,7 +1,7 @@
 //! What came from a peer, and the command that is due.
 
 ghost use Rattle.std.specs.Prelude.{◌≡◌, ℕ, ◌+◌, ◌≤◌, [], ◌∷◌, ◌++◌, List, length, IfOk};
-ghost use Rattle.{koth_protocol.specs.Commands.{Command, kept_source}, koth_peers.specs.Inbox.{is_met, room_of, IsFollowed, IsNext, IsReadTo}};
+ghost use Rattle.{koth_protocol.specs.Commands.{Command, Reader, kept_source}, koth_peers.specs.Inbox.{is_met, room_of, IsFollowed, IsNext, IsReadTo}};
 
 use crate::waiting::Waiting;
 use koth_protocol::{Met, Script};
@@ -22,7 +22,7 @@ pub(crate) struct Inbox<A: Allocator> {
 impl<A: Allocator + Copy> Inbox<A> {
     /// The beginning of a session. All its memory is taken here.
     pub(crate) fn new(alloc: A) -> Result<Inbox<A>, AllocError>
-        ensures { IfOk result (λ inbox. IsReadTo inbox [] []) }
+        ensures { IfOk result (λ inbox. (reader : Reader) → IsReadTo reader inbox [] []) }
     {
         Ok(Inbox {
             script: Script::new(alloc)?,
@@ -66,7 +66,7 @@ impl<A: Allocator> Inbox<A> {
     /// Bytes came: they are read up to the next command, and the others wait.
     pub(crate) fn take(&mut self, bytes: &[u8])
         requires { length bytes.now ≤ room_of self.old }
-        ensures { (came : List ℕ) (done : List Command) → IsReadTo self.old came done → IsReadTo self.new (came ++ bytes.now) done }
+        ensures { (reader : Reader) (came : List ℕ) (done : List Command) → IsReadTo reader self.old came done → IsReadTo reader self.new (came ++ bytes.now) done }
     {
         self.waiting.put(bytes);
         self.taken += bytes.len();
@@ -75,8 +75,8 @@ impl<A: Allocator> Inbox<A> {
 
     /// The command that was due was carried out, and the next one is looked for.
     pub(crate) fn pass(&mut self)
-        ensures { (came : List ℕ) (done : List Command) (command : Command) → IsReadTo self.old came done → IsNext self.old.due self.old.script.source command
-            → IsReadTo self.new came (done ++ command ∷ []) }
+        ensures { (reader : Reader) (came : List ℕ) (done : List Command) (command : Command) → IsReadTo reader self.old came done
+            → IsNext reader self.old.due self.old.script.source command → IsReadTo reader self.new came (done ++ command ∷ []) }
     {
         self.due = Met::Nothing;
         self.read_on();
@@ -84,7 +84,7 @@ impl<A: Allocator> Inbox<A> {
 
     /// Reads until a command is due, or no byte waits.
     fn read_on(&mut self)
-        ensures { (came : List ℕ) (done : List Command) → IsFollowed self.old came done → IsReadTo self.new came done }
+        ensures { (reader : Reader) (came : List ℕ) (done : List Command) → IsFollowed reader self.old came done → IsReadTo reader self.new came done }
     {
         'bytes: while !is_met(self.due) {
             match self.waiting.next() {
@@ -101,6 +101,6 @@ pub(crate) fn is_met(met: Met) -> bool
 {
     match met {
         Met::Nothing => false,
-        Met::Submit | Met::Show | Met::Quit | Met::Bad => true,
+        Met::Submit | Met::Show | Met::Quit | Met::Request | Met::Bad => true,
     }
 }

@@ -1,13 +1,14 @@
 //! One session as a value: bytes come in, commands are carried out one at a time, and answers wait until they are sent.
 
 ghost use Rattle.std.specs.Prelude.{◌≡◌, ◌+◌, ◌≤◌, true, length, None, IfOk};
-ghost use Rattle.koth_peers.specs.Peer.{is_due_now, may_come_now, settled_now, Closes, IsNew, Sends, Serves, Takes};
+ghost use Rattle.koth_peers.specs.Peer.{asks_now, is_due_now, may_come_now, settled_now, Closes, IsNew, Sends, Serves, Takes};
 
 use crate::answers::answer;
 use crate::end::PeerEnd;
 use crate::inbox::{Inbox, LIMIT, is_met};
 use crate::outbox::Outbox;
 use hill_store::Store;
+use koth_protocol::Met;
 use sector_disk::Device;
 use std::alloc::{AllocError, Allocator};
 
@@ -102,6 +103,13 @@ impl<A: Allocator> Peer<A> {
         ensures { result ≡ is_due_now self.now }
     {
         self.end.is_none() && is_met(self.inbox.due())
+    }
+
+    /// Whether the command that is due is a line that a browser sends: a request of HTTP.
+    pub fn asks(&self) -> bool
+        ensures { result ≡ asks_now self.now }
+    {
+        matches!(self.inbox.due(), Met::Request)
     }
 
     /// The answers that are to be sent, 1,048,576 bytes at most.

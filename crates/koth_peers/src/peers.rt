@@ -6,6 +6,7 @@ ghost use Rattle.koth_peers.specs.Peers.{
   came_to,
   connected,
   end_in,
+  is_due_at,
   is_due_in,
   is_finished_in,
   left,
@@ -31,7 +32,7 @@ ghost use Rattle.koth_peers.specs.Peers.{
 
 use crate::end::PeerEnd;
 use crate::peer::Peer;
-use crate::turns::{first_free, next_due};
+use crate::turns::{asks, first_free, next_due};
 use hill_store::Store;
 use sector_disk::Device;
 use std::alloc::{AllocError, Allocator};
@@ -52,6 +53,8 @@ pub enum Step {
     Nobody,
     /// A command of this peer was carried out, or ended its session.
     Served(usize),
+    /// The turn is this peer's, and a browser's request is due of it, which was not carried out: have it leave.
+    Asked(usize),
     /// The device failed in a submission of this peer, whose session has ended: close the store, and open it again.
     StoreFailed(usize),
 }
@@ -104,7 +107,7 @@ impl<A: Allocator + Copy> Peers<A> {
     }
 
     /// Carries out one command at most: that of the first peer that has one due, beginning after the peer served last and going
-    /// round.
+    /// round. A browser's request is not carried out, and the turn stays where it is until that peer has left.
     pub fn serve_next<D: Device>(&mut self, store: &mut Store<D, A>) -> Step
         ensures serves { ServesNext D.facts result self.old.slots.items self.old.next store.old self.new.slots.items self.new.next store.new }
         ensures goes_on { (history : History D) → AreServingOn D.facts self.old.slots.items store.old history
@@ -113,6 +116,9 @@ impl<A: Allocator + Copy> Peers<A> {
         let Some(number) = next_due(self.slots.as_slice(), self.next) else {
             return Step::Nobody;
         };
+        if asks(&self.slots[number]) {
+            return Step::Asked(number);
+        }
         self.next = number + 1;
         let outcome = serve_at(self.alloc, &mut self.slots[number], store);
         step_after(outcome, number)
@@ -176,6 +182,16 @@ impl<A: Allocator> Peers<A> {
     {
         if number < self.slots.len() {
             pass_at(&mut self.slots[number], count);
+        }
+    }
+
+    /// Whether a whole command of this peer came that is to be carried out.
+    pub fn is_due(&self, number: usize) -> bool
+        ensures { result ≡ is_due_at self.now.slots.items number }
+    {
+        match peer_of(self.slots.as_slice(), number) {
+            Some(peer) => peer.is_due(),
+            None => false,
         }
     }
 

@@ -1,7 +1,7 @@
 //! Whose turn it is.
 
 ghost use Rattle.std.specs.Prelude.{◌≡◌, ℕ, ◌<◌, ◌≤◌, true, false, length, None, IsSome, MatchOption};
-ghost use Rattle.koth_peers.specs.Peers.{is_due_at, is_due_in, peer_at, IsFirstDue, IsFirstDueWithin, IsFirstFree, NoneIsDueWithin};
+ghost use Rattle.koth_peers.specs.Peers.{asks_in, is_due_at, is_due_in, peer_at, IsFirstDue, IsFirstDueWithin, IsFirstFree, NoneIsDueWithin};
 
 use crate::peer::Peer;
 use std::alloc::Allocator;
@@ -35,6 +35,16 @@ fn is_due<A: Allocator>(slot: &Option<Peer<A>>) -> bool
 {
     match slot {
         Some(peer) => peer.is_due(),
+        None => false,
+    }
+}
+
+/// Whether the command that is due of a peer is a browser's request.
+pub(crate) fn asks<A: Allocator>(slot: &Option<Peer<A>>) -> bool
+    ensures { result ≡ asks_in slot.now }
+{
+    match slot {
+        Some(peer) => peer.asks(),
         None => false,
     }
 }

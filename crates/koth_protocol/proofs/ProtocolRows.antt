@@ -1,6 +1,6 @@
 -- Tables, matches and commands, computed.
-use Rattle.{std.proofs.Common.{◌≡◌, ℕ, [], ◌∷◌, codes, refl}, std.specs.Fmt.digits, war_types.specs.{declared.settings.RawSettings.RawSettings, Warrior.warrior_parts}}
-use Rattle.{koth_hill.specs.{Hill.{Member, member_of}, Kept.{Kept, kept_of}}, koth_protocol.specs.{Commands.{Command, commands_of}, Matches.matches_text, Table.show_text}}
+use Rattle.{std.proofs.Common.{◌≡◌, ℕ, true, false, [], ◌∷◌, codes, refl}, std.specs.Fmt.digits, war_types.specs.{declared.settings.RawSettings.RawSettings, Warrior.warrior_parts}}
+use Rattle.{koth_hill.specs.{Hill.{Member, member_of}, Kept.{Kept, kept_of}}, koth_protocol.specs.{Commands.{Command, commands_of, commands_served}, Matches.matches_text, Request.is_request, Table.show_text}}
 
 table_of_two : show_text (record { entry = 1; name = codes "Imp"; author = codes "A. K. Dewdney"; score = 2; age = 1 } ∷ record { entry = 2; name = codes "Unnamed"; author = codes "Anonymous"; score = 2; age = 0 } ∷ [])
     ≡ codes "1 1 2 1 Imp by A. K. Dewdney\n2 2 2 0 Unnamed by Anonymous\n.\n"
@@ -52,3 +52,16 @@ commands : (commands_of (codes "SUBMIT\nMOV 0,1\n.\nBOGUS\nQUIT\n") ≡ Command.
     × (commands_of (codes "\nQUIT") ≡ Command.Bad ∷ [])
     × (commands_of (codes "QUIT\nSHOW\n") ≡ Command.Quit ∷ [])
 commands = (refl, refl, refl, refl, refl, refl, refl, refl, refl, refl)
+
+-- a method and a blank, `Host:` in any letter case; a method without a blank, in small letters, or longer by a letter; a blank before it
+requests : (is_request (codes "POST / HTTP/1.1") ≡ true) × (is_request (codes "OPTIONS *") ≡ true) × (is_request (codes "hOST:127.0.0.1") ≡ true)
+    × (is_request (codes "GET") ≡ false) × (is_request (codes "get /") ≡ false) × (is_request (codes "GETS /") ≡ false) × (is_request (codes " GET /") ≡ false)
+    × (is_request (codes "SHOW") ≡ false) × (is_request [] ≡ false)
+requests = (refl, refl, refl, refl, refl, refl, refl, refl, refl)
+
+-- a warrior that a page posts: a session reads it, and a service doesn't; a request within a source is a line of it
+posted : (commands_of (codes "SHOW\nPOST / HTTP/1.1\r\nSUBMIT\nMOV 0,1\n.\n") ≡ Command.Show ∷ Command.Bad ∷ Command.Submit (codes "MOV 0,1\n") ∷ [])
+    × (commands_served (codes "SHOW\nPOST / HTTP/1.1\r\nSUBMIT\nMOV 0,1\n.\n") ≡ Command.Show ∷ [])
+    × (commands_served (codes "SUBMIT\nGET /\n.\nQUIT\n") ≡ Command.Submit (codes "GET /\n") ∷ Command.Quit ∷ [])
+    × (commands_served (codes "QUIT\nGET /\n") ≡ Command.Quit ∷ [])
+posted = (refl, refl, refl, refl)

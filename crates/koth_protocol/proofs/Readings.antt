@@ -1,9 +1,9 @@
 -- What a line does to a reading, if only its beginning is kept.
-use Rattle.std.proofs.Common.{◌≡◌, ◌≢◌, ◌⊎◌, inl, inr, ℕ, ◌+◌, ◌-◌, ◌<◌, ◌≤◌, ◌==◌, ◌&&◌, Bool, true, false, if◌then◌else◌, suc, List, [], ◌∷◌, ◌++◌, length, take, get_or, eqb-true, Option}
-use Rattle.{std.proofs.Common.{None, Some, refl, sym, ap, append_assoc, subst, ◌∙◌, arith, codes}, std.specs.Str.bytes_eq, std.proofs.lemmas.List.{take-take, take_all, length-take-le}}
-use Rattle.{std.proofs.{lemmas.Bool.cases_lt, lemmas.Bool.Decides.eqb_tells}, koth_protocol.specs.Lines.{lines_from, without_dot, without_return}}
-use Rattle.koth_protocol.specs.{Commands.{commands_from, kept_source, with_line, word_of}, Kept.kept, Reading.{IsReading, IsSourceKept, Reads, TakesCommand, TakesSourceLine, commands_met}}
-use Rattle.{koth_protocol.specs.{declared.script.Met.Met, declared.script.Script.Script, declared.script.Word.Word}, koth_protocol.proofs.Cuts.{Same, same_append, same_dot, same_entry}}
+use Rattle.std.proofs.Common.{◌≡◌, ◌≢◌, ◌⊎◌, inl, inr, ℕ, ◌+◌, ◌-◌, ◌<◌, ◌≤◌, ◌==◌, ◌&&◌, ◌||◌, Bool, true, false, if◌then◌else◌, suc, List, [], ◌∷◌, ◌++◌, length, take, get_or, eqb-true, Option}
+use Rattle.{std.proofs.Common.{None, Some, refl, sym, ap, append-nil, append_assoc, subst, ◌∙◌, arith, codes}, std.specs.Str.bytes_eq, std.proofs.lemmas.List.{take-take, take_all, length-take-le}}
+use Rattle.{std.proofs.{lemmas.Bool.cases_lt, lemmas.Bool.Decides.eqb_tells}, koth_protocol.specs.{Lines.{lines_from, without_dot, without_return}, Request.{is_request, names_host, names_method}}}
+use Rattle.koth_protocol.specs.{Commands.{Reader, kept_source, read_from, with_line, word_of}, Kept.kept, Reading.{IsReading, IsSourceKept, Reads, TakesCommand, TakesSourceLine, commands_met}}
+use Rattle.{koth_protocol.specs.{declared.script.Met.Met, declared.script.Script.Script, declared.script.Word.Word}, koth_protocol.proofs.Cuts.{Same, same_append, same_dot, same_entry, same_return}}
 
 -- ---- the code's line without its carriage return
 
@@ -48,7 +48,11 @@ long_return [] = omega arith
 long_return (b ∷ []) = omega arith
 long_return (b ∷ c ∷ cs) = omega (arith, long_return (c ∷ cs))
 
-long_word : (xs : List ℕ) → 100 < length xs → word_of (without_return xs) ≡ Word.Other
+-- a line that is none of the three words
+abbrev other_word : List ℕ → Word
+other_word line = if is_request line then Word.Request else Word.Other
+
+long_word : (xs : List ℕ) → 100 < length xs → word_of (without_return xs) ≡ other_word (without_return xs)
 long_word xs long =
     let longer = long_return xs in
     rw (
@@ -68,10 +72,20 @@ whole_or_long line =
       | inr short ↦ inl (take_all 65540 line short)
     ]
 
+-- the beginning of a line stays if its end is cut off far after it
+long_start : (line : List ℕ) → 65540 < length line → take 8 (without_return (kept line)) ≡ take 8 (without_return line)
+long_start line long =
+    let cut : length (kept line) ≡ 65540 = length-take-le 65540 line (omega (arith, long)) in
+    ap (take 8) (sym (append-nil (without_return (kept line)))) ∙ same_return 8 (kept line) [] (omega (arith, cut)) ∙ take-take 8 65540 line (omega arith)
+    ∙ sym (same_return 8 line [] (omega (arith, long))) ∙ ap (take 8) (append-nil (without_return line))
+
+abbrev word_by_start : List ℕ → Word
+word_by_start start = if names_method start || names_host start then Word.Request else Word.Other
+
 pub word_kept : (line : List ℕ) → word_of (without_return (kept line)) ≡ word_of (without_return line)
 word_kept line = elim (whole_or_long line) [
   | inl whole ↦ ap (λ l. word_of (without_return l)) whole
-  | inr long ↦ long_word (kept line) (omega (arith, long.1)) ∙ sym (long_word line (omega (arith, long.0)))
+  | inr long ↦ long_word (kept line) (omega (arith, long.1)) ∙ ap word_by_start (long_start line long.0) ∙ sym (long_word line (omega (arith, long.0)))
 ]
 
 pub end_kept : (line : List ℕ) → bytes_eq (without_return (kept line)) (codes ".") ≡ bytes_eq (without_return line) (codes ".")
@@ -113,7 +127,8 @@ not_equal a b other = elim (eqb_tells a b) [ inl same ↦ absurd (other same.1) 
 module _ {A : Type 0} where
   -- a line that leaves no source under way
   no_source : (script : Script A) (line : List ℕ) (source : Option (List ℕ)) (m : Met) → script.line ≡ [] → script.in_source ≡ false
-      → ((more : List ℕ) → commands_from source (lines_from line (10 ∷ more)) ≡ commands_met m script.source (commands_from None (lines_from [] more)))
+      → ((reader : Reader) (more : List ℕ) → read_from reader source (lines_from line (10 ∷ more))
+      ≡ commands_met reader m script.source (read_from reader None (lines_from [] more)))
       → Reads line source 10 m script
   no_source script line source m empty out commands = record {
     new_line = [];
@@ -128,12 +143,13 @@ module _ {A : Type 0} where
     new_line = [];
     new_source = Some [];
     reading = record { line_kept = empty; source_kept = rw (takes.1, takes.2) refl };
-    commands = λ more. rw (sym (word_kept line) ∙ takes.0) refl;
+    commands = λ reader more. rw (sym (word_kept line) ∙ takes.0) refl;
   }
   command_line script line Met.Submit empty takes = absurd takes
-  command_line script line Met.Show empty takes = no_source script line None Met.Show empty takes.1 (λ more. rw (sym (word_kept line) ∙ takes.0) refl)
-  command_line script line Met.Quit empty takes = no_source script line None Met.Quit empty takes.1 (λ more. rw (sym (word_kept line) ∙ takes.0) refl)
-  command_line script line Met.Bad empty takes = no_source script line None Met.Bad empty takes.1 (λ more. rw (sym (word_kept line) ∙ takes.0) refl)
+  command_line script line Met.Show empty takes = no_source script line None Met.Show empty takes.1 (λ reader more. rw (sym (word_kept line) ∙ takes.0) refl)
+  command_line script line Met.Quit empty takes = no_source script line None Met.Quit empty takes.1 (λ reader more. rw (sym (word_kept line) ∙ takes.0) refl)
+  command_line script line Met.Request empty takes = no_source script line None Met.Request empty takes.1 (λ reader more. rw (sym (word_kept line) ∙ takes.0) refl)
+  command_line script line Met.Bad empty takes = no_source script line None Met.Bad empty takes.1 (λ reader more. rw (sym (word_kept line) ∙ takes.0) refl)
 
   source_line : (script : Script A) (bytes line source : List ℕ) (m : Met) → script.line ≡ [] → kept_source bytes ≡ kept_source source
       → TakesSourceLine (without_return (kept line)) bytes m script.in_source script.source → Reads line (Some source) 10 m script
@@ -141,12 +157,13 @@ module _ {A : Type 0} where
     new_line = [];
     new_source = Some (with_line source (without_return line));
     reading = record { line_kept = empty; source_kept = rw (takes.1, takes.2) (grown_kept bytes source line is) };
-    commands = λ more. rw (sym (end_kept line) ∙ takes.0) refl;
+    commands = λ reader more. rw (sym (end_kept line) ∙ takes.0) refl;
   }
   source_line script bytes line source Met.Submit empty is takes =
-      no_source script line (Some source) Met.Submit empty takes.1 (λ more. rw (sym (end_kept line) ∙ takes.0, takes.2, is) refl)
+      no_source script line (Some source) Met.Submit empty takes.1 (λ reader more. rw (sym (end_kept line) ∙ takes.0, takes.2, is) refl)
   source_line script bytes line source Met.Show empty is takes = absurd takes
   source_line script bytes line source Met.Quit empty is takes = absurd takes
+  source_line script bytes line source Met.Request empty is takes = absurd takes
   source_line script bytes line source Met.Bad empty is takes = absurd takes
 
   -- the end of a line while a command is due
@@ -191,5 +208,5 @@ module _ {A : Type 0} where
           ∙ same_append 65540 (kept line) line (byte ∷ []) (byte ∷ []) (take-take 65540 65540 line (omega arith)) refl;
       source_kept = rw (same_source, same_state) reading.source_kept;
     };
-    commands = λ more. rw (not_equal byte 10 other) refl;
+    commands = λ reader more. rw (not_equal byte 10 other) refl;
   }

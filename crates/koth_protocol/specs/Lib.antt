@@ -4,6 +4,8 @@ pub use Rattle.koth_text.specs.Written
 -- From bytes to lines, and from lines to commands.
 pub mod Lines
 pub mod Commands
+-- The lines that a browser sends in place of commands.
+pub mod Request
 -- What is kept of a line and of a source, and how the commands are found as bytes come.
 pub mod Kept
 pub mod Reading

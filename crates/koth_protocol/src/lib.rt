@@ -4,7 +4,8 @@
 //! the data pass:
 //!
 //! - `counted`: a stream that counts its faults, and a text that is written whole over it;
-//! - `kept` and `script`: what is kept of a line and of a source, and which command each byte brings to its end;
+//! - `kept`, `request` and `script`: what is kept of a line and of a source, which line a browser sends, and which command each byte brings
+//!   to its end;
 //! - `table` and `matches`: the table of a hill, and who won how many rounds against whom.
 //!
 //! The line of a source that is refused, and the reads and writes that no signal ends, are `koth_text`'s. This crate passes
@@ -20,6 +21,7 @@
 mod counted;
 mod kept;
 mod matches;
+mod request;
 mod script;
 mod table;
 

@@ -4,6 +4,7 @@ ghost use Rattle.std.specs.{Prelude.{◌≡◌, ℕ, true, false, [], ◌∷◌,
 ghost use Rattle.koth_protocol.specs.{Commands.{kept_source, word_of}, Lines.{without_dot, without_return}, Reading.{IsReading, Reads, TakesCommand, TakesSourceLine}};
 
 use crate::kept::Kept;
+use crate::request::is_request;
 use std::alloc::{AllocError, Allocator};
 
 /// Bytes of a source that are passed on at most: one more than a source may have.
@@ -15,6 +16,8 @@ pub(crate) enum Word {
     Submit,
     Show,
     Quit,
+    /// Nothing: it is a request of HTTP.
+    Request,
     Other,
 }
 
@@ -29,7 +32,9 @@ pub enum Met {
     Show,
     /// A line `QUIT`.
     Quit,
-    /// A line that is no command.
+    /// A line that is no command, and begins as a request of HTTP does: a browser sent it.
+    Request,
+    /// Another line that is no command.
     Bad,
 }
 
@@ -119,6 +124,7 @@ fn take_command_line<A: Allocator>(source: &mut Kept<A>, in_source: &mut bool, l
         }
         Word::Show => Met::Show,
         Word::Quit => Met::Quit,
+        Word::Request => Met::Request,
         Word::Other => Met::Bad,
     }
 }
@@ -146,6 +152,8 @@ fn word_of(line: &[u8]) -> Word
         Word::Show
     } else if line == b"QUIT".as_slice() {
         Word::Quit
+    } else if is_request(line) {
+        Word::Request
     } else {
         Word::Other
     }

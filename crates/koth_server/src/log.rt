@@ -46,7 +46,7 @@ impl<'r, R: Clock> Log<'r, R> {
     pub(crate) fn tell_created<A: Allocator, E: Write>(
         &self,
         alloc: A,
-        service: Service<'_>,
+        service: &Service<'_>,
         errors: &mut E,
     )
         ensures { WritesSome (E.contents errors.old) (E.contents errors.new) }
@@ -95,7 +95,7 @@ impl<'r, R: Clock> Log<'r, R> {
     fn created_line<A: Allocator>(
         &self,
         alloc: A,
-        service: Service<'_>,
+        service: &Service<'_>,
     ) -> Result<String<A>, AllocError> {
         let hint = match service.http {
             Some(_) => "",
@@ -135,6 +135,7 @@ fn end_text(how: HowEnded) -> &'static str {
         HowEnded::By(PeerEnd::StoreFailed) => "DISK the device failed: the hill was opened again",
         HowEnded::By(PeerEnd::Memory) => "ended: memory ran out",
         HowEnded::Silent => "ended: the peer was silent for too long",
+        HowEnded::Browser => "ended: a browser, and not an author",
         HowEnded::Gone => "ended: the peer is gone",
     }
 }

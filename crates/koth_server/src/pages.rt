@@ -1,6 +1,7 @@
 //! The pages that browsers ask for: the hill's page, and pages of rounds on it.
 
-ghost use Rattle.{std.specs.Prelude.{IfOk, IfNone, IfSome, MatchOption}, war_types.specs.Warrior.Fits, koth_server.specs.Pages.{HasPage, HasRound, HasWarrior, IsOnHill, IsRoundOf, IsShown}};
+ghost use Rattle.std.specs.Prelude.{◌≡◌, IfOk, IfNone, IfSome, MatchOption};
+ghost use Rattle.{war_types.specs.Warrior.Fits, koth_server.specs.Pages.{links_for, HasPage, HasRound, HasWarrior, IsOnHill, IsRoundOf, IsShown}};
 
 use hill_store::Store;
 use koth_commands::replay::{has_round, round_text};
@@ -11,21 +12,34 @@ use sector_disk::Device;
 use std::alloc::{AllocError, Allocator};
 use war_types::Warrior;
 
-/// The text of a page of a store's hill, or none if the hill has no such page. `AllocError` comes if memory ran out.
+/// What the page of a hill leads to in a service that serves replays, or doesn't.
+pub(crate) fn links_for(replays: bool) -> Links
+    ensures { result ≡ links_for replays }
+{
+    if replays { Links::Rounds } else { Links::None }
+}
+
+/// The text of a page of a store's hill, or none if the hill has no such page. Without links to rounds it has no page of a round. `AllocError`
+/// comes if memory ran out.
 pub(crate) fn page_shown<D: Device, A: Allocator + Copy>(
     alloc: A,
     store: &Store<D, A>,
     page: Page,
+    links: Links,
 ) -> Result<Option<Vec<u8, A>>, AllocError>
-    ensures { IfOk result (λ found. MatchOption found (¬ (HasPage store.now.hill page)) (λ text. IsShown store.now.hill page text.items)) }
+    ensures { IfOk result (λ found. MatchOption found (¬ (HasPage links store.now.hill page)) (λ text. IsShown links store.now.hill page text.items)) }
 {
-    match page {
-        Page::Hill => Ok(Some(hill_page(alloc, store.hill(), Links::Rounds)?)),
-        Page::Round {
-            older,
-            younger,
-            round,
-        } => round_shown(alloc, store.hill(), older, younger, round),
+    match (page, links) {
+        (Page::Hill, _) => Ok(Some(hill_page(alloc, store.hill(), links)?)),
+        (Page::Round { .. }, Links::None) => Ok(None),
+        (
+            Page::Round {
+                older,
+                younger,
+                round,
+            },
+            Links::Rounds,
+        ) => round_shown(alloc, store.hill(), older, younger, round),
     }
 }
 

@@ -107,7 +107,7 @@ where
         Request::Audit(file) => audit(rt, alloc, file, output, errors),
         Request::Migrate(files) => migrate(rt, alloc, files, output, errors),
         Request::Page(file) => page(rt, alloc, file, output, errors),
-        Request::Serve(given, service) => serve(rt, alloc, given, service, output, errors),
+        Request::Serve(given, ref service) => serve(rt, alloc, given, service, output, errors),
         Request::Replay(given, watched) => replay(
             rt,
             alloc,

@@ -1,6 +1,6 @@
 //! The command `serve`: sessions of many peers over sockets on the hill in a file.
 
-ghost use Rattle.std.specs.Prelude.{◌≡◌, ◌≢◌, None, false, IfOk, MatchResult};
+ghost use Rattle.std.specs.Prelude.{◌≡◌, ◌≢◌, None, map, false, IfOk, MatchResult};
 ghost use Rattle.{war_types.specs.Settings.settings_of, koth_commands.specs.{Streams.streams, Told.WritesSome}};
 ghost use Rattle.koth_server.specs.{Hills.{listening_line, Announces, AnnouncesPart, EndsServe, EndsService}, Pages.IsShown};
 
@@ -8,11 +8,12 @@ use crate::create::create_hill;
 use crate::files::{HillStore, open_hill};
 use crate::hill_fault::HillFault;
 use crate::log::Log;
-use crate::pages::page_shown;
+use crate::pages::{links_for, page_shown};
 use crate::trouble::HillTrouble;
 use hill_file::{Existing, HillFile, Sharing, TryLock};
 use koth_commands::{Cause, Status, Subject, reason_of, refuse_settings, write_whole};
 use koth_http::Page;
+use koth_page::Links;
 use koth_protocol::Line;
 use koth_service::{Event, Host, ServiceFault, serve_peers};
 use koth_sockets::PolledSockets;
@@ -34,6 +35,8 @@ struct Hosting<'f, R, A> {
     alloc: A,
     path: &'f str,
     log: Log<'f, R>,
+    links: Links,
+    names: &'f [&'f str],
 }
 
 impl<'f, R: Files + Clock, A: Allocator + Copy> Host<HillFile<'f, R>, A> for Hosting<'f, R, A>
@@ -42,7 +45,7 @@ where
 {
     type Fault = HillFault;
 
-    ghost shows = { λ _ store page text. IsShown store.hill page text };
+    ghost shows = { λ host store. record { names = map (λ name. name.now) host.names.now; pages = λ page text. IsShown host.links store.hill page text } };
 
     fn reopen(&self) -> Result<HillStore<'f, R, A>, HillFault> {
         match open_hill(self.rt, self.alloc, self.path, Sharing::Alone) {
@@ -51,12 +54,16 @@ where
         }
     }
 
+    fn names(&self) -> &[&str] {
+        self.names
+    }
+
     fn page(
         &self,
         store: &HillStore<'f, R, A>,
         page: Page,
     ) -> Result<Option<Vec<u8, A>>, AllocError> {
-        page_shown(self.alloc, store, page)
+        page_shown(self.alloc, store, page, self.links)
     }
 
     fn tell<E: Write>(&self, peer: SocketAddr, event: Event<'_>, errors: &mut E) {
@@ -74,7 +81,7 @@ pub(crate) fn serve<'f, R: Files + Net + Clock, A: Allocator + Copy, O: Write, E
     rt: &'f R,
     alloc: A,
     given: RawSettings,
-    service: Service<'f>,
+    service: &'f Service<'f>,
     output: &mut O,
     errors: &mut E,
 ) -> Status
@@ -95,7 +102,7 @@ fn serve_under<'f, R: Files + Net + Clock, A: Allocator + Copy, O: Write, E: Wri
     rt: &'f R,
     alloc: A,
     settings: Settings,
-    service: Service<'f>,
+    service: &'f Service<'f>,
     output: &mut O,
     errors: &mut E,
 ) -> Status
@@ -111,6 +118,8 @@ where
         alloc,
         path: service.hill,
         log: Log::new(rt, service.quiet),
+        links: links_for(service.replays),
+        names: service.hosts.as_slice(),
     };
     let (store, mut sockets) = match begin(&host, settings, service, output, errors) {
         Ok(begun) => begun,
@@ -137,7 +146,7 @@ where
 fn begin<'f, R: Files + Net + Clock, A: Allocator + Copy, O: Write, E: Write>(
     host: &Hosting<'f, R, A>,
     settings: Settings,
-    service: Service<'f>,
+    service: &'f Service<'f>,
     output: &mut O,
     errors: &mut E,
 ) -> Result<(HillStore<'f, R, A>, PolledSockets<'f, R, A>), HillTrouble<'f>>
@@ -162,7 +171,7 @@ where
 fn hill_served<'f, R: Files + Clock, A: Allocator + Copy, E: Write>(
     host: &Hosting<'f, R, A>,
     settings: Settings,
-    service: Service<'f>,
+    service: &'f Service<'f>,
     errors: &mut E,
 ) -> Result<HillStore<'f, R, A>, HillTrouble<'f>>
 where
@@ -189,7 +198,7 @@ where
 fn announced<'r, 't, R: Net + Clock, A: Allocator + Copy, O: Write>(
     rt: &'r R,
     alloc: A,
-    service: Service<'_>,
+    service: &Service<'_>,
     output: &mut O,
 ) -> Result<PolledSockets<'r, R, A>, HillTrouble<'t>>
     ensures { MatchResult result (λ _. Announces (O.contents output.old) (O.contents output.new))
@@ -208,7 +217,7 @@ fn announced<'r, 't, R: Net + Clock, A: Allocator + Copy, O: Write>(
 fn bound<'r, 't, R: Net + Clock, A: Allocator + Copy>(
     rt: &'r R,
     alloc: A,
-    service: Service<'_>,
+    service: &Service<'_>,
 ) -> Result<PolledSockets<'r, R, A>, HillTrouble<'t>> {
     let address = SocketAddr::new(service.listen, service.port);
     let mut sockets = match PolledSockets::bind(rt, alloc, address, service.peers as usize) {

@@ -1,6 +1,6 @@
 -- How the peers stand at a moment, for each happening.
 use Rattle.std.proofs.Common.{◌≡◌, ◌≢◌, inl, inr, ℕ, ◌==◌, true, false, List, [], ◌++◌, take, drop, Option, None, Some, refl, sym, ap, subst, ◌∙◌, append_assoc, take-append-drop}
-use Rattle.{std.proofs.{lemmas.Bool.cases_eq, lemmas.Bool.Decides.eqb_tells}, koth_protocol.specs.Commands.Command}
+use Rattle.{std.proofs.{lemmas.Bool.cases_eq, lemmas.Bool.Decides.eqb_tells}, koth_protocol.specs.Commands.{Command, Reader}}
 use Rattle.koth_peers.specs.{Peer.{Closes, IsNew, IsPeer, Sends, Takes}, Peers.{Moves, MovesAt, OnlyAt, Slots, peer_at, unsent_at, unsent_in}, declared.peer.Peer.Peer}
 use Rattle.koth_service.specs.{History.{Begins, Session, instead, session_anew, session_came, session_went}, Standing.{AreStanding, StandsAt}}
 
@@ -45,7 +45,7 @@ module _ {A : Type 0} where
   came_at bytes s None new moves stands = subst (λ slot. StandsAt (session_came bytes s) slot) (sym moves) stands
   came_at bytes s (Some peer) new moves stands =
       let takes = moves.2 in
-      subst (λ slot. StandsAt (session_came bytes s) slot) (sym moves.1) (takes.reads s.came s.done stands.0, ap (λ l. s.went ++ l) takes.unsent ∙ stands.1)
+      subst (λ slot. StandsAt (session_came bytes s) slot) (sym moves.1) (λ reader. takes.reads reader s.came s.done (stands.0 reader), ap (λ l. s.went ++ l) takes.unsent ∙ stands.1)
 
   pub standing_came : (sessions : ℕ → Session) (n : ℕ) (bytes : List ℕ) (old new : Slots A) → MovesAt (λ p q. Takes p bytes q) n old new
       → AreStanding sessions old → AreStanding (instead sessions n (session_came bytes (sessions n))) new
@@ -59,7 +59,7 @@ module _ {A : Type 0} where
   closes_at s None new moves stands = subst (λ slot. StandsAt s slot) (sym moves) stands
   closes_at s (Some peer) new moves stands =
       let closes = moves.2 in
-      subst (λ slot. StandsAt s slot) (sym moves.1) (closes.reads s.came s.done stands.0, ap (λ l. s.went ++ l) closes.unsent ∙ stands.1)
+      subst (λ slot. StandsAt s slot) (sym moves.1) (λ reader. closes.reads reader s.came s.done (stands.0 reader), ap (λ l. s.went ++ l) closes.unsent ∙ stands.1)
 
   pub standing_closed : (sessions : ℕ → Session) (n : ℕ) (old new : Slots A) → MovesAt Closes n old new → AreStanding sessions old → AreStanding sessions new
   standing_closed sessions n old new moves standing =
@@ -68,8 +68,8 @@ module _ {A : Type 0} where
   -- ---- answers went out
 
   -- what went out of its answers changes nothing of what a session read
-  same_peer : (old new : Peer A) (count : ℕ) (came : List ℕ) (done : List Command) → Sends old count new → IsPeer old came done → IsPeer new came done
-  same_peer old new count came done sends is = record { has_read = rw (sends.end, sends.inbox, sends.closed) is.has_read; few = is.few }
+  same_peer : (old new : Peer A) (count : ℕ) (came : List ℕ) (done : List Command) → Sends old count new → (reader : Reader) → IsPeer reader old came done → IsPeer reader new came done
+  same_peer old new count came done sends reader is = record { has_read = rw (sends.end, sends.inbox, sends.closed) is.has_read; few = is.few }
 
   went_at : (count : ℕ) (s : Session) (old new : Option (Peer A)) → Moves (λ p q. Sends p count q) old new
       → StandsAt s old → StandsAt (session_went (take count (unsent_in old)) s) new
@@ -81,7 +81,7 @@ module _ {A : Type 0} where
       let all : more ++ moves.0.outbox.unsent ≡ s.owed =
       ap (λ l. more ++ l) sends.unsent ∙ append_assoc s.went (take count unsent) (drop count unsent)
       ∙ ap (λ l. s.went ++ l) (take-append-drop count unsent) ∙ stands.1 in
-      subst (λ slot. StandsAt (session_went (take count unsent) s) slot) (sym moves.1) (same_peer peer moves.0 count s.came s.done sends stands.0, all)
+      subst (λ slot. StandsAt (session_went (take count unsent) s) slot) (sym moves.1) (λ reader. same_peer peer moves.0 count s.came s.done sends reader (stands.0 reader), all)
 
   pub standing_went : (sessions : ℕ → Session) (n count : ℕ) (old new : Slots A) → MovesAt (λ p q. Sends p count q) n old new
       → AreStanding sessions old → AreStanding (instead sessions n (session_went (take count (unsent_at old n)) (sessions n))) new

@@ -1,39 +1,37 @@
 -- How a history goes on by a command.
-use Rattle.{std.proofs.Common.{◌≡◌, ◌≢◌, ℕ, Bool, true, true≢false, List, [], ◌∷◌, ◌++◌, Option, None, Some, refl, sym, ap, subst, ◌∙◌, append_assoc, append-nil}, koth_hill.specs.Kept.Kept}
-use Rattle.{sector_disk.specs.Facts.DeviceFacts, hill_store.specs.Seen.Seen, koth_protocol.specs.{Commands.{Command, commands_from, commands_of, kept_source}, Lines.lines_from}}
-use Rattle.{koth_protocol.specs.{Reading.commands_met, declared.script.Met.Met}, koth_session.specs.{Sessions.{AreServed, IsLeftOff}, Transcript.{Exchange, answer, command_in, hill_after}}}
-use Rattle.{koth_session.proofs.Exchanges.hill_append, koth_peers.specs.{Inbox.is_met, Peer.{AnswersPeer, HasRead, IsPeer, Serves, command_due, command_of, is_due}}}
-use Rattle.koth_peers.specs.{Peers.{Moves, MovesAt, ServesNext, Slots, is_due_in, peer_at, step_after}, declared.end.PeerEnd.PeerEnd, declared.inbox.Inbox.Inbox, declared.peer.Peer.Peer}
-use Rattle.koth_peers.specs.declared.peers.Step.{Step}
+use Rattle.{std.proofs.Common.{◌≡◌, ◌≢◌, ℕ, Bool, true, false, true≢false, List, [], ◌∷◌, ◌++◌, Option, None, Some, refl, sym, ap, subst, ◌∙◌, append_assoc, append-nil}, koth_hill.specs.Kept.Kept}
+use Rattle.{sector_disk.specs.Facts.DeviceFacts, hill_store.specs.Seen.Seen, koth_protocol.specs.{Commands.{Command, Reader, commands_read, kept_source, read_from}, Lines.lines_from}}
+use Rattle.{koth_protocol.specs.declared.script.Met.Met, koth_session.specs.{Sessions.{AreServed, IsLeftOff}, Transcript.{Exchange, answer, command_in, hill_after}}}
+use Rattle.{koth_session.proofs.Exchanges.hill_append, koth_peers.specs.{Inbox.{IsTaken, is_met, is_request}, Peer.{HasRead, IsPeer, Serves, command_due, command_of, is_due}}}
+use Rattle.koth_peers.specs.{Peers.{Moves, MovesAt, ServesNext, Slots, asks_in, is_due_in, peer_at, step_after}, declared.end.PeerEnd.PeerEnd, declared.inbox.Inbox.Inbox, declared.peer.Peer.Peer}
+use Rattle.{koth_peers.specs.declared.peers.Step.Step, koth_peers.proofs.{Serving.{same_store, same_unsent}, Standing.behind_met}}
 use Rattle.koth_service.specs.{Noted.{Noted, Stays}, History.{Answers, Begins, Breaks, Happening, IsSafe, Moment, Session, Shows, answered, moment, noted, session_answered}}
 use Rattle.koth_service.specs.{Standing.{AreStanding, GoesOn, IsCutOff, StandsAfter, StandsAt}, declared.connections.Stage.Stage}
 use Rattle.koth_service.proofs.{Steps.stays, Moments.{standing_moved, standing_with}}
 
--- ---- the command that is due is the next one in what came
+-- ---- the command that is due is the next one in what came, if it is no browser's request
 
-next_of : (m : Met) (bytes : List ℕ) (others : List Command) → is_met m ≡ true → Begins (command_due m (kept_source bytes) ∷ []) (commands_met m bytes others)
-next_of Met.Nothing bytes others is = absurd (true≢false (sym is))
-next_of Met.Submit bytes others is = (others, refl)
-next_of Met.Show bytes others is = (others, refl)
-next_of Met.Quit bytes others is = ([], refl)
-next_of Met.Bad bytes others is = (others, refl)
+taken_by : (reader : Reader) (m : Met) → is_request m ≡ false → IsTaken reader m
+taken_by Reader.Session m other = tt
+taken_by Reader.Service m other = other
 
 module _ {A : Type 0} where
   in_turn_at : (end : Option PeerEnd) (inbox : Inbox A) (closed : Bool) (came : List ℕ) (done : List Command) → is_due end (is_met inbox.due) ≡ true
-      → HasRead end inbox closed came done → Begins (done ++ command_due inbox.due (kept_source inbox.script.source) ∷ []) (commands_of came)
-  in_turn_at (Some end) inbox closed came done due read = absurd (true≢false (sym due))
-  in_turn_at None inbox closed came done due read =
+      → is_request inbox.due ≡ false → (reader : Reader) → HasRead reader end inbox closed came done
+      → Begins (done ++ command_due inbox.due (kept_source inbox.script.source) ∷ []) (commands_read reader came)
+  in_turn_at (Some end) inbox closed came done due other reader read = absurd (true≢false (sym due))
+  in_turn_at None inbox closed came done due other reader read =
       let f = read.0.followed in
-      let others = commands_from f.source (lines_from f.line (inbox.waiting ++ [])) in
-      let here = next_of inbox.due inbox.script.source others due in
+      let others = read_from reader f.source (lines_from f.line (inbox.waiting ++ [])) in
+      let here = behind_met reader inbox.due inbox.script.source others due (taken_by reader inbox.due other) in
       let command = command_due inbox.due (kept_source inbox.script.source) in (
         here.0,
-        ap (λ l. commands_of l) (sym (append-nil came)) ∙ f.commands [] ∙ ap (λ l. done ++ l) here.1 ∙ sym (append_assoc done (command ∷ []) here.0),
+        ap (λ l. commands_read reader l) (sym (append-nil came)) ∙ f.commands [] ∙ ap (λ l. done ++ l) here.1 ∙ sym (append_assoc done (command ∷ []) here.0),
       )
 
-  in_turn : (peer : Peer A) (came : List ℕ) (done : List Command) → is_due_in (Some peer) ≡ true → IsPeer peer came done
-      → Begins (done ++ command_of peer ∷ []) (commands_of came)
-  in_turn peer came done due is = in_turn_at peer.end peer.inbox peer.closed came done due is.has_read
+  in_turn : (peer : Peer A) (came : List ℕ) (done : List Command) → is_due_in (Some peer) ≡ true → asks_in (Some peer) ≡ false
+      → (reader : Reader) → IsPeer reader peer came done → Begins (done ++ command_of peer ∷ []) (commands_read reader came)
+  in_turn peer came done due other reader is = in_turn_at peer.end peer.inbox peer.closed came done due other reader is.has_read
 
 module _ {D : Type 0} (facts : DeviceFacts D) where
   -- ---- what a command makes of a moment
@@ -47,59 +45,41 @@ module _ {D : Type 0} (facts : DeviceFacts D) where
     reads = λ is open_still reads. served.reads (safe.lawful is) (safe.still ∙ open_still) (safe.reads is open_still reads);
   }
 
-  -- a session that ended by its command
-  same_unsent : (end : PeerEnd) (command : Command) (unsent new : List ℕ) (store now : Seen D) → AnswersPeer facts command (Some end) unsent store new now → new ≡ unsent
-  same_unsent PeerEnd.Quit command unsent new store now is = is.2
-  same_unsent PeerEnd.EndOfInput command unsent new store now is = absurd is
-  same_unsent PeerEnd.Limit command unsent new store now is = absurd is
-  same_unsent PeerEnd.Unread command unsent new store now is = is.2
-  same_unsent PeerEnd.StoreFailed command unsent new store now is = is.3
-  same_unsent PeerEnd.Memory command unsent new store now is = is.1
-
-  same_store : (end : PeerEnd) (command : Command) (unsent new : List ℕ) (store now : Seen D) → step_after (Some end) 0 ≡ step_after None 0
-      → AnswersPeer facts command (Some end) unsent store new now → now ≡ store
-  same_store PeerEnd.Quit command unsent new store now sound is = is.1
-  same_store PeerEnd.EndOfInput command unsent new store now sound is = absurd is
-  same_store PeerEnd.Limit command unsent new store now sound is = absurd is
-  same_store PeerEnd.Unread command unsent new store now sound is = is.1
-  same_store PeerEnd.StoreFailed command unsent new store now sound is = absurd (cc)
-  same_store PeerEnd.Memory command unsent new store now sound is = is.0
-
 module _ {D A : Type 0} (facts : DeviceFacts D) where
   -- a session that ended by its command
   ended_at : (end : PeerEnd) (s : Session) (old new : Option (Peer A)) (store now : Seen D) → Moves (λ p q. Serves facts (Some end) p store q now) old new
-      → StandsAt s old → StandsAt s new
-  ended_at end s None new store now moves stands = subst (λ slot. StandsAt s slot) (sym moves) stands
-  ended_at end s (Some peer) new store now moves stands =
+      → asks_in old ≡ false → StandsAt s old → StandsAt s new
+  ended_at end s None new store now moves other stands = subst (λ slot. StandsAt s slot) (sym moves) stands
+  ended_at end s (Some peer) new store now moves other stands =
       let serves = moves.2 in
       subst (λ slot. StandsAt s slot) (sym moves.1) (
-        serves.reads s.came s.done stands.0,
+        λ reader. serves.reads reader s.came s.done (taken_by reader peer.inbox.due other) (stands.0 reader),
         ap (λ l. s.went ++ l) (same_unsent facts end (command_of peer) peer.outbox.unsent moves.0.outbox.unsent store now serves.answers) ∙ stands.1,
       )
 
   standing_ended : (sessions : ℕ → Session) (n : ℕ) (end : PeerEnd) (old new : Slots A) (store now : Seen D)
-      → MovesAt (λ p q. Serves facts (Some end) p store q now) n old new → AreStanding sessions old → AreStanding sessions new
-  standing_ended sessions n end old new store now moves standing =
-      standing_moved sessions n old new moves.only (ended_at end (sessions n) (peer_at old n) (peer_at new n) store now moves.at (standing n)) standing
+      → MovesAt (λ p q. Serves facts (Some end) p store q now) n old new → asks_in (peer_at old n) ≡ false → AreStanding sessions old → AreStanding sessions new
+  standing_ended sessions n end old new store now moves other standing =
+      standing_moved sessions n old new moves.only (ended_at end (sessions n) (peer_at old n) (peer_at new n) store now moves.at other (standing n)) standing
 
   -- a command that was answered
   answered_at : (s : Session) (peer new : Peer A) (before store now : Seen D) → before ≡ store → (serves : Serves facts None peer store new now)
-      → StandsAt s (Some peer) → StandsAt (session_answered (command_in serves.answers.0) (answer before.hill serves.answers.0) s) (Some new)
-  answered_at s peer new before store now is serves stands =
+      → asks_in (Some peer) ≡ false → StandsAt s (Some peer) → StandsAt (session_answered (command_in serves.answers.0) (answer before.hill serves.answers.0) s) (Some new)
+  answered_at s peer new before store now is serves other stands =
       let e = serves.answers.0 in
       let done : s.done ++ command_of peer ∷ [] ≡ s.done ++ command_in e ∷ [] = ap (λ (k : Command). s.done ++ k ∷ []) serves.answers.1 in
       let more = answer store.hill e in
       let all : s.went ++ new.outbox.unsent ≡ s.owed ++ answer before.hill e =
       ap (λ l. s.went ++ l) serves.answers.3 ∙ sym (append_assoc s.went peer.outbox.unsent more) ∙ ap (λ l. l ++ more) stands.1
       ∙ ap (λ (k : Seen D). s.owed ++ answer k.hill e) (sym is) in
-      (subst (λ l. IsPeer new s.came l) done (serves.reads s.came s.done stands.0), all)
+      (λ reader. subst (λ l. IsPeer reader new s.came l) done (serves.reads reader s.came s.done (taken_by reader peer.inbox.due other) (stands.0 reader)), all)
 
 module _ {S D A : Type 0} (happened : S → List Noted → Type 0) (facts : DeviceFacts D) (shows : Shows D) (start : Seen D) (browsers : ℕ → Option (Stage A)) where
-  answered_by : (old_sockets sockets : S) (n : ℕ) (old new : Slots A) (store now : Seen D) (slot : Option (Peer A)) → peer_at old n ≡ slot → is_due_in slot ≡ true
+  answered_by : (old_sockets sockets : S) (n : ℕ) (old new : Slots A) (store now : Seen D) (slot : Option (Peer A)) → peer_at old n ≡ slot → is_due_in slot ≡ true → asks_in slot ≡ false
       → MovesAt (λ p q. Serves facts None p store q now) n old new → Stays happened old_sockets sockets
       → GoesOn happened facts shows start old_sockets old browsers store → GoesOn happened facts shows start sockets new browsers now
-  answered_by old_sockets sockets n old new store now None is due moves kept on = absurd (true≢false (sym due))
-  answered_by old_sockets sockets n old new store now (Some peer) is due moves kept on =
+  answered_by old_sockets sockets n old new store now None is due other moves kept on = absurd (true≢false (sym due))
+  answered_by old_sockets sockets n old new store now (Some peer) is due other moves kept on =
       let before = on.1 in
       let m = moment start on.0 in
       let moved : Moves (λ p q. Serves facts None p store q now) (Some peer) (peer_at new n) =
@@ -111,9 +91,10 @@ module _ {S D A : Type 0} (happened : S → List Noted → Type 0) (facts : Devi
       let safe = safe_answered facts n e now m served on.2 in
       let after = session_answered (command_in e) (answer m.now.hill e) s in
       let here : StandsAt after (peer_at new n) =
-      subst (λ slot. StandsAt after slot) (sym moved.1) (answered_at facts s peer moved.0 m.now store now before.now_is moved.2 at) in
+      subst (λ slot. StandsAt after slot) (sym moved.1) (answered_at facts s peer moved.0 m.now store now before.now_is moved.2 other at) in
       let answers : Answers facts n e now m = record {
-        in_turn = subst (λ (k : Command). Begins (s.done ++ k ∷ []) (commands_of s.came)) moved.2.answers.1 (in_turn peer s.came s.done due at.0);
+        in_turn = λ reader. subst (λ (k : Command). Begins (s.done ++ k ∷ []) (commands_read reader s.came)) moved.2.answers.1
+            (in_turn peer s.came s.done due other reader (at.0 reader));
         served = served;
         safe = safe;
       } in (
@@ -129,10 +110,10 @@ module _ {S D A : Type 0} (happened : S → List Noted → Type 0) (facts : Devi
       )
 
   ended_by : (old_sockets sockets : S) (end : PeerEnd) (n : ℕ) (old new : Slots A) (store now : Seen D) (slot : Option (Peer A)) → step_after (Some end) 0 ≡ step_after None 0
-      → peer_at old n ≡ slot → is_due_in slot ≡ true → MovesAt (λ p q. Serves facts (Some end) p store q now) n old new → Stays happened old_sockets sockets
+      → peer_at old n ≡ slot → is_due_in slot ≡ true → asks_in slot ≡ false → MovesAt (λ p q. Serves facts (Some end) p store q now) n old new → Stays happened old_sockets sockets
       → GoesOn happened facts shows start old_sockets old browsers store → GoesOn happened facts shows start sockets new browsers now
-  ended_by old_sockets sockets end n old new store now None sound is due moves kept on = absurd (true≢false (sym due))
-  ended_by old_sockets sockets end n old new store now (Some peer) sound is due moves kept on =
+  ended_by old_sockets sockets end n old new store now None sound is due other moves kept on = absurd (true≢false (sym due))
+  ended_by old_sockets sockets end n old new store now (Some peer) sound is due other moves kept on =
       let before = on.1 in
       let m = moment start on.0 in
       let moved : Moves (λ p q. Serves facts (Some end) p store q now) (Some peer) (peer_at new n) =
@@ -141,18 +122,18 @@ module _ {S D A : Type 0} (happened : S → List Noted → Type 0) (facts : Devi
         record {
           logged = kept (noted on.0) before.logged;
           follows = before.follows;
-          standing = standing_ended facts m.sessions n end old new store now moves before.standing;
+          standing = standing_ended facts m.sessions n end old new store now moves (subst (λ slot. asks_in slot ≡ false) (sym is) other) before.standing;
           visiting = before.visiting;
           now_is = before.now_is ∙ sym (same_store facts end (command_of peer) peer.outbox.unsent moved.0.outbox.unsent store now sound moved.2.answers);
         },
         on.2,
       )
 
-  cut_by : (old_sockets sockets : S) (n : ℕ) (old new : Slots A) (store now : Seen D) (slot : Option (Peer A)) → peer_at old n ≡ slot → is_due_in slot ≡ true
+  cut_by : (old_sockets sockets : S) (n : ℕ) (old new : Slots A) (store now : Seen D) (slot : Option (Peer A)) → peer_at old n ≡ slot → is_due_in slot ≡ true → asks_in slot ≡ false
       → MovesAt (λ p q. Serves facts (Some PeerEnd.StoreFailed) p store q now) n old new → Stays happened old_sockets sockets
       → GoesOn happened facts shows start old_sockets old browsers store → IsCutOff happened facts shows start sockets new browsers now
-  cut_by old_sockets sockets n old new store now None is due moves kept on = absurd (true≢false (sym due))
-  cut_by old_sockets sockets n old new store now (Some peer) is due moves kept on =
+  cut_by old_sockets sockets n old new store now None is due other moves kept on = absurd (true≢false (sym due))
+  cut_by old_sockets sockets n old new store now (Some peer) is due other moves kept on =
       let before = on.1 in
       let m = moment start on.0 in
       let moved : Moves (λ p q. Serves facts (Some PeerEnd.StoreFailed) p store q now) (Some peer) (peer_at new n) =
@@ -161,7 +142,8 @@ module _ {S D A : Type 0} (happened : S → List Noted → Type 0) (facts : Devi
       let s = m.sessions n in
       let at : StandsAt s (Some peer) = subst (λ slot. StandsAt s slot) is (before.standing n) in
       let breaks : Breaks facts n source now m = record {
-        in_turn = subst (λ (k : Command). Begins (s.done ++ k ∷ []) (commands_of s.came)) moved.2.answers.1 (in_turn peer s.came s.done due at.0);
+        in_turn = λ reader. subst (λ (k : Command). Begins (s.done ++ k ∷ []) (commands_read reader s.came)) moved.2.answers.1
+            (in_turn peer s.came s.done due other reader (at.0 reader));
         left_off = subst (λ (s : Seen D). IsLeftOff facts s now source) (sym before.now_is) moved.2.answers.2;
         safe = on.2;
       } in (
@@ -169,27 +151,27 @@ module _ {S D A : Type 0} (happened : S → List Noted → Type 0) (facts : Devi
         record {
           logged = kept (noted on.0) before.logged;
           follows = (breaks, before.follows);
-          standing = standing_ended facts m.sessions n PeerEnd.StoreFailed old new store now moves before.standing;
+          standing = standing_ended facts m.sessions n PeerEnd.StoreFailed old new store now moves (subst (λ slot. asks_in slot ≡ false) (sym is) other) before.standing;
           visiting = before.visiting;
           now_is = refl;
         },
       )
 
   served_by : (old_sockets sockets : S) (outcome : Option PeerEnd) (n : ℕ) (old new : Slots A) (store now : Seen D) → step_after outcome n ≡ Step.Served n
-      → is_due_in (peer_at old n) ≡ true → MovesAt (λ p q. Serves facts outcome p store q now) n old new → Stays happened old_sockets sockets
+      → is_due_in (peer_at old n) ≡ true → asks_in (peer_at old n) ≡ false → MovesAt (λ p q. Serves facts outcome p store q now) n old new → Stays happened old_sockets sockets
       → GoesOn happened facts shows start old_sockets old browsers store → GoesOn happened facts shows start sockets new browsers now
-  served_by old_sockets sockets None n old new store now sound due moves kept on = answered_by old_sockets sockets n old new store now (peer_at old n) refl due moves kept on
-  served_by old_sockets sockets (Some PeerEnd.Quit) n old new store now sound due moves kept on =
-      ended_by old_sockets sockets PeerEnd.Quit n old new store now (peer_at old n) refl refl due moves kept on
-  served_by old_sockets sockets (Some PeerEnd.EndOfInput) n old new store now sound due moves kept on =
-      ended_by old_sockets sockets PeerEnd.EndOfInput n old new store now (peer_at old n) refl refl due moves kept on
-  served_by old_sockets sockets (Some PeerEnd.Limit) n old new store now sound due moves kept on =
-      ended_by old_sockets sockets PeerEnd.Limit n old new store now (peer_at old n) refl refl due moves kept on
-  served_by old_sockets sockets (Some PeerEnd.Unread) n old new store now sound due moves kept on =
-      ended_by old_sockets sockets PeerEnd.Unread n old new store now (peer_at old n) refl refl due moves kept on
-  served_by old_sockets sockets (Some PeerEnd.StoreFailed) n old new store now sound due moves kept on = absurd (cc)
-  served_by old_sockets sockets (Some PeerEnd.Memory) n old new store now sound due moves kept on =
-      ended_by old_sockets sockets PeerEnd.Memory n old new store now (peer_at old n) refl refl due moves kept on
+  served_by old_sockets sockets None n old new store now sound due other moves kept on = answered_by old_sockets sockets n old new store now (peer_at old n) refl due other moves kept on
+  served_by old_sockets sockets (Some PeerEnd.Quit) n old new store now sound due other moves kept on =
+      ended_by old_sockets sockets PeerEnd.Quit n old new store now (peer_at old n) refl refl due other moves kept on
+  served_by old_sockets sockets (Some PeerEnd.EndOfInput) n old new store now sound due other moves kept on =
+      ended_by old_sockets sockets PeerEnd.EndOfInput n old new store now (peer_at old n) refl refl due other moves kept on
+  served_by old_sockets sockets (Some PeerEnd.Limit) n old new store now sound due other moves kept on =
+      ended_by old_sockets sockets PeerEnd.Limit n old new store now (peer_at old n) refl refl due other moves kept on
+  served_by old_sockets sockets (Some PeerEnd.Unread) n old new store now sound due other moves kept on =
+      ended_by old_sockets sockets PeerEnd.Unread n old new store now (peer_at old n) refl refl due other moves kept on
+  served_by old_sockets sockets (Some PeerEnd.StoreFailed) n old new store now sound due other moves kept on = absurd (cc)
+  served_by old_sockets sockets (Some PeerEnd.Memory) n old new store now sound due other moves kept on =
+      ended_by old_sockets sockets PeerEnd.Memory n old new store now (peer_at old n) refl refl due other moves kept on
 
   pub served : (old_sockets sockets : S) (step : Step) (old new : Slots A) (from to : ℕ) (store now : Seen D) → ServesNext facts step old from store new to now
       → Stays happened old_sockets sockets → GoesOn happened facts shows start old_sockets old browsers store → StandsAfter happened facts shows step start sockets new browsers now
@@ -197,6 +179,9 @@ module _ {S D A : Type 0} (happened : S → List Noted → Type 0) (facts : Devi
       subst (λ (s : Seen D). GoesOn happened facts shows start sockets new browsers s) (sym serves.3)
       (subst (λ (slots : Slots A). GoesOn happened facts shows start sockets slots browsers store) (sym serves.1) (stays happened facts shows start browsers old_sockets sockets old store kept on))
   served old_sockets sockets (Step.Served n) old new from to store now serves kept on =
-      served_by old_sockets sockets serves.0 n old new store now serves.1 serves.2.first.due serves.2.moves kept on
+      served_by old_sockets sockets serves.0 n old new store now serves.1 serves.2.first.due serves.2.taken serves.2.moves kept on
+  served old_sockets sockets (Step.Asked n) old new from to store now serves kept on =
+      subst (λ (s : Seen D). GoesOn happened facts shows start sockets new browsers s) (sym serves.4)
+      (subst (λ (slots : Slots A). GoesOn happened facts shows start sockets slots browsers store) (sym serves.2) (stays happened facts shows start browsers old_sockets sockets old store kept on))
   served old_sockets sockets (Step.StoreFailed n) old new from to store now serves kept on =
-      cut_by old_sockets sockets n old new store now (peer_at old n) refl serves.first.due serves.moves kept on
+      cut_by old_sockets sockets n old new store now (peer_at old n) refl serves.first.due serves.taken serves.moves kept on

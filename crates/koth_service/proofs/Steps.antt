@@ -142,6 +142,7 @@ module _ {S D A : Type 0} (happened : S → List Noted → Type 0) (facts : Devi
       → StandsAfter happened facts shows step start sockets old.peers.slots.items browsers old.store → GoesOn happened facts shows start sockets new.peers.slots.items browsers new.store
   sound_after Step.Nobody old new sockets same on = subst (λ (desk : Desk D A). GoesOn happened facts shows start sockets desk.peers.slots.items browsers desk.store) (sym same) on
   sound_after (Step.Served n) old new sockets same on = subst (λ (desk : Desk D A). GoesOn happened facts shows start sockets desk.peers.slots.items browsers desk.store) (sym same) on
+  sound_after (Step.Asked n) old new sockets same on = subst (λ (desk : Desk D A). GoesOn happened facts shows start sockets desk.peers.slots.items browsers desk.store) (sym same) on
   sound_after (Step.StoreFailed n) old new sockets (same, sound) on =
       subst (λ (peers : Peers A). GoesOn happened facts shows start sockets peers.slots.items browsers new.store) (sym same) (opened_again sockets old.peers.slots.items old.store new.store sound on)
 
@@ -159,4 +160,5 @@ module _ {S D A : Type 0} (happened : S → List Noted → Type 0) (facts : Devi
       → (history : List (Happening D)) × happened sockets (noted history) × IsHistory facts shows start history
   so_far_after Step.Nobody sockets slots store on = so_far_on sockets slots store on
   so_far_after (Step.Served n) sockets slots store on = so_far_on sockets slots store on
+  so_far_after (Step.Asked n) sockets slots store on = so_far_on sockets slots store on
   so_far_after (Step.StoreFailed n) sockets slots store cut = so_far sockets slots store cut

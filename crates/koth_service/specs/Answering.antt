@@ -2,6 +2,11 @@
 use Rattle.std.specs.Prelude.{◌≡◌, ◌⊎◌, ℕ, Bool, List, Option, Some, Result, Ok, Err, MatchOption, Vec}
 use Rattle.koth_http.specs.{Asked.{FindsAsked, IsAsked}, declared.asked.Asked.Asked, declared.refusal.Refusal.Refusal, declared.target.Page.Page, Response.{page_response, refusal_response}}
 
+-- what browsers see of a hill: the names that its machine has beside its addresses and `localhost`, and the texts of its pages
+pub record Site : Type 1 where
+  pub names : List (List ℕ)
+  pub pages : Page → List ℕ → Type 0
+
 -- no text is shown
 abbrev pub ShowsNothing : (List ℕ → Type 0) → Type 0
 ShowsNothing shows = (text : List ℕ) → ¬ (shows text)
@@ -19,9 +24,10 @@ IsAnswerTo shows (Ok page) with_body answer =
     ⊎ (answer ≡ refusal_response Refusal.Unavailable with_body))
 IsAnswerTo shows (Err refusal) with_body answer = answer ≡ refusal_response refusal with_body
 
-abbrev pub IsAnswer : (Page → List ℕ → Type 0) → Asked → List ℕ → Type 0
-IsAnswer shows asked answer = IsAnswerTo shows asked.page asked.with_body answer
+abbrev pub IsAnswer : Site → Asked → List ℕ → Type 0
+IsAnswer site asked answer = IsAnswerTo site.pages asked.page asked.with_body answer
 
 -- the bytes that came of a browser are answered by what they ask
-abbrev pub AnswersBytes : (Page → List ℕ → Type 0) → List ℕ → List ℕ → Type 0
-AnswersBytes shows bytes answer = (asked : Asked) × IsAsked bytes (Some asked) × FindsAsked bytes (Some asked) × IsAnswer shows asked answer
+abbrev pub AnswersBytes : Site → List ℕ → List ℕ → Type 0
+AnswersBytes site bytes answer =
+    (asked : Asked) × IsAsked site.names bytes (Some asked) × FindsAsked site.names bytes (Some asked) × IsAnswer site asked answer

@@ -1,8 +1,8 @@
 -- Of private contracts alone: connections of browsers by their numbers, and how they go on.
 use Rattle.std.specs.{Prelude.{◌≡◌, ⊤, ℕ, ◌<◌, Bool, List, length, Option, None, Some, Result, Ok, Err, Vec, slice_index_or}, declared.alloc.AllocError.AllocError}
 use Rattle.{sector_disk.specs.Facts.DeviceFacts, hill_store.specs.Seen.Seen, koth_peers.specs.Peers.Slots}
-use Rattle.koth_http.specs.{Asked.IsAsked, Response.{page_response, refusal_response}, declared.target.Page.Page, declared.refusal.Refusal.Refusal}
-use Rattle.koth_service.specs.{Noted.{Adds, Noted, Stays}, Answering.AnswersBytes, History.{Shows, instead}, Standing.GoesOn, declared.browsers.Moved.Moved}
+use Rattle.koth_http.specs.{Asked.IsAsked, Response.{page_response, refusal_response}, declared.refusal.Refusal.Refusal}
+use Rattle.koth_service.specs.{Noted.{Adds, Noted, Stays}, Answering.{AnswersBytes, Site}, History.{Shows, instead}, Standing.GoesOn, declared.browsers.Moved.Moved}
 use Rattle.koth_service.specs.{declared.connections.Browsers.Browsers, declared.connections.Connection.Connection, declared.connections.Stage.Stage, declared.desk.Desk.Desk}
 use Rattle.koth_service.specs.declared.connections.Stage.TheVariants as stages
 
@@ -53,9 +53,9 @@ found_response (Ok None) with_body = refusal_response Refusal.NotFound with_body
 found_response (Err memory) with_body = refusal_response Refusal.Unavailable with_body
 
 -- the bytes that came are answered by what they ask, once that is known
-abbrev pub AnswersOnceKnown : {A : Type 0} → (Page → List ℕ → Type 0) → List ℕ → Option (Vec ℕ A) → Type 0
-AnswersOnceKnown shows bytes None = IsAsked bytes None
-AnswersOnceKnown shows bytes (Some answer) = AnswersBytes shows bytes answer.items
+abbrev pub AnswersOnceKnown : {A : Type 0} → Site → List ℕ → Option (Vec ℕ A) → Type 0
+AnswersOnceKnown site bytes None = IsAsked site.names bytes None
+AnswersOnceKnown site bytes (Some answer) = AnswersBytes site bytes answer.items
 
 -- ---- how connections go on
 

@@ -1,7 +1,7 @@
 -- What happens in a service: on the sockets, and the commands and answers to browsers in between.
 use Rattle.std.specs.Prelude.{◌≡◌, ⊤, ℕ, ◌==◌, Bool, true, false, if◌then◌else◌, List, [], ◌∷◌, ◌++◌, Option, None, Some}
-use Rattle.{sector_disk.specs.Facts.DeviceFacts, hill_store.specs.Seen.Seen, koth_protocol.specs.Commands.{Command, commands_of}, koth_session.specs.Sessions.{AreServed, IsLeftOff, ReadsNow}}
-use Rattle.{koth_session.specs.Transcript.{Exchange, answer, command_in, hill_after}, koth_http.specs.declared.target.Page.Page, koth_service.specs.{Answering.AnswersBytes, Noted.Noted}}
+use Rattle.{sector_disk.specs.Facts.DeviceFacts, hill_store.specs.Seen.Seen, koth_protocol.specs.Commands.{Command, Reader, commands_read}, koth_session.specs.Sessions.{AreServed, IsLeftOff, ReadsNow}}
+use Rattle.{koth_session.specs.Transcript.{Exchange, answer, command_in, hill_after}, koth_service.specs.{Answering.{AnswersBytes, Site}, Noted.Noted}}
 
 -- Something happened on the sockets. A command of a peer was carried out, and this is the store then. The device failed in a submission of a
 -- peer. The hill was opened again. Or a browser was given this answer.
@@ -135,15 +135,15 @@ pub record IsSafe {D : Type 0} (facts : DeviceFacts D) (m : Moment D) : Type 0 w
   pub lawful : facts.lawful m.first.device → facts.lawful m.now.device
   pub reads : facts.lawful m.first.device → m.first.reopen ≡ false → ReadsNow facts m.first → ReadsNow facts m.now
 
--- a command of this peer was carried out: it is the next one in what came, and no stop loses it
+-- A command of this peer was carried out: it is the next one in what came, and came before any request of a browser. No stop loses it.
 pub record Answers {D : Type 0} (facts : DeviceFacts D) (n : ℕ) (e : Exchange) (new : Seen D) (m : Moment D) : Type 0 where
-  pub in_turn : Begins ((m.sessions n).done ++ command_in e ∷ []) (commands_of (m.sessions n).came)
+  pub in_turn : (reader : Reader) → Begins ((m.sessions n).done ++ command_in e ∷ []) (commands_read reader (m.sessions n).came)
   pub served : AreServed facts m.now new (e ∷ [])
   pub safe : IsSafe facts (answered n e new m)
 
 -- the device failed in a submission of this peer: each image has what was answered, with this submission or without it
 pub record Breaks {D : Type 0} (facts : DeviceFacts D) (n : ℕ) (source : List ℕ) (new : Seen D) (m : Moment D) : Type 0 where
-  pub in_turn : Begins ((m.sessions n).done ++ Command.Submit source ∷ []) (commands_of (m.sessions n).came)
+  pub in_turn : (reader : Reader) → Begins ((m.sessions n).done ++ Command.Submit source ∷ []) (commands_read reader (m.sessions n).came)
   pub left_off : IsLeftOff facts m.now new source
   pub safe : IsSafe facts m
 
@@ -152,9 +152,9 @@ abbrev pub owed_by : Option (List ℕ) → List ℕ
 owed_by None = []
 owed_by (Some reply) = reply
 
--- the text of a page of a store
+-- what browsers see of a store
 abbrev pub Shows : Type 0 → Type 1
-Shows D = Seen D → Page → List ℕ → Type 0
+Shows D = Seen D → Site
 
 -- a browser that is there, and had no answer, is given one: it answers what came from the browser, by what is shown of the store as it is
 pub record Replies {D : Type 0} (shows : Shows D) (n : ℕ) (reply : List ℕ) (m : Moment D) : Type 0 where

@@ -1,12 +1,12 @@
 -- How the sessions of peers, the connections of browsers and the store stand by a history.
 use Rattle.std.specs.Prelude.{◌≡◌, ⊤, ℕ, true, false, List, [], ◌++◌, Option, None, Some}
-use Rattle.{sector_disk.specs.Facts.DeviceFacts, hill_store.specs.Seen.Seen, koth_peers.specs.{Peer.IsPeer, Peers.{Slots, peer_at}, declared.peer.Peer.Peer, declared.peers.Step.Step}}
+use Rattle.{sector_disk.specs.Facts.DeviceFacts, hill_store.specs.Seen.Seen, koth_protocol.specs.Commands.Reader, koth_peers.specs.{Peer.IsPeer, Peers.{Slots, peer_at}, declared.peer.Peer.Peer, declared.peers.Step.Step}}
 use Rattle.koth_service.specs.{Noted.Noted, History.{Browser, Happening, IsHistory, IsSafe, Session, Shows, moment, noted, owed_by}, declared.connections.Stage.Stage, declared.desk.Desk.Desk}
 
--- a peer's session read what came, and has what is owed and did not go out
+-- a peer's session read what came, as a session or a service reads it, and has what is owed and did not go out
 abbrev pub StandsAt : {A : Type 0} → Session → Option (Peer A) → Type 0
 StandsAt s None = s.there ≡ false
-StandsAt s (Some peer) = IsPeer peer s.came s.done × (s.went ++ peer.outbox.unsent ≡ s.owed)
+StandsAt s (Some peer) = ((reader : Reader) → IsPeer reader peer s.came s.done) × (s.went ++ peer.outbox.unsent ≡ s.owed)
 
 abbrev pub AreStanding : {A : Type 0} → (ℕ → Session) → Slots A → Type 0
 AreStanding sessions slots = (p : ℕ) → StandsAt (sessions p) (peer_at slots p)
@@ -49,6 +49,7 @@ KeepsOn {S} {D} {A} happened facts shows sockets desk new_sockets new_desk =
 abbrev pub StandsAfter : {S D A : Type 0} → (S → List Noted → Type 0) → DeviceFacts D → Shows D → Step → Seen D → S → Slots A → (ℕ → Option (Stage A)) → Seen D → Type 0
 StandsAfter happened facts shows Step.Nobody start sockets slots browsers store = GoesOn happened facts shows start sockets slots browsers store
 StandsAfter happened facts shows (Step.Served n) start sockets slots browsers store = GoesOn happened facts shows start sockets slots browsers store
+StandsAfter happened facts shows (Step.Asked n) start sockets slots browsers store = GoesOn happened facts shows start sockets slots browsers store
 StandsAfter happened facts shows (Step.StoreFailed n) start sockets slots browsers store = IsCutOff happened facts shows start sockets slots browsers store
 
 -- the service goes on as it did, however the browsers stand, unless the device failed in this step
@@ -61,6 +62,7 @@ KeepsOnBy {S} {D} {A} happened facts shows step sockets desk new_sockets new_des
 abbrev pub IsSoundAfter : {D A : Type 0} → Step → Desk D A → Desk D A → Type 0
 IsSoundAfter Step.Nobody old new = new ≡ old
 IsSoundAfter (Step.Served n) old new = new ≡ old
+IsSoundAfter (Step.Asked n) old new = new ≡ old
 IsSoundAfter (Step.StoreFailed n) old new = (new.peers ≡ old.peers) × (new.store.reopen ≡ false)
 
 -- If nothing had happened on the sockets before, what happened since, the commands that were carried out and the answers to browsers are a

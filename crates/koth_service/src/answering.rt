@@ -18,7 +18,7 @@ pub(crate) fn answer_visit<D: Device, A: Allocator + Copy, H: Host<D, A>>(
 ) -> Result<Option<Vec<u8, A>>, AllocError>
     ensures { IfOk result (AnswersOnceKnown (H.shows host.now store.now) visit.now) }
 {
-    match visit.asked() {
+    match visit.asked(host.names()) {
         Some(asked) => Ok(Some(answer(alloc, store, host, asked)?)),
         None => Ok(None),
     }

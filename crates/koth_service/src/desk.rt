@@ -24,6 +24,8 @@ pub(crate) struct Desk<D: Device, A: Allocator + Copy> {
     pub(crate) is_busy: bool,
     /// Whether an accept failed in this round, of a peer or of a browser.
     pub(crate) retries: bool,
+    /// When the bytes that had come from the peers were read last, in milliseconds.
+    pub(crate) read_at: u64,
 }
 
 /// How many sessions there were.
@@ -116,6 +118,7 @@ impl<D: Device, A: Allocator + Copy> Desk<D, A> {
                 sessions: Sessions::new(sessions),
                 is_busy: false,
                 retries: false,
+                read_at: 0,
             }),
             Err(error) => Err(error),
         }

@@ -1,7 +1,7 @@
 //! The host of a service: it reports what happens, and opens the hill again.
 
-ghost use Rattle.std.specs.Prelude.{◌≡◌, ℕ, List, false, IfOk};
-ghost use Rattle.{hill_store.specs.Seen.Seen, koth_http.specs.declared.target.Page.Page, koth_service.specs.{Answering.IsFound, Told.Grows}};
+ghost use Rattle.std.specs.Prelude.{◌≡◌, map, false, IfOk};
+ghost use Rattle.{hill_store.specs.Seen.Seen, koth_service.specs.{Answering.{IsFound, Site}, Told.Grows}};
 
 use hill_store::Store;
 use koth_http::Page;
@@ -16,8 +16,10 @@ use std::net::SocketAddr;
 pub enum HowEnded {
     /// By itself, and all its answers went out; or with `Unread`, and the peer was disconnected.
     By(PeerEnd),
-    /// No byte came from the peer for 60 seconds, and none of its answers went out.
+    /// No byte came from the peer for 60 seconds, none of its answers went out, and no command of it was due.
     Silent,
+    /// The peer sent a request of HTTP in place of a command.
+    Browser,
     /// The peer is gone.
     Gone,
 }
@@ -38,16 +40,20 @@ pub trait Host<D: Device, A: Allocator> {
     /// Why the hill can't be opened again.
     type Fault;
 
-    // The text of a page of a store.
-    ghost shows: { Self → Seen D → Page → List ℕ → Type 0 };
+    // What browsers see of a store.
+    ghost shows: { Self → Seen D → Site };
 
     /// Opens the hill again, after its device failed and the store was closed.
     fn reopen(&self) -> Result<Store<D, A>, Self::Fault>
         ensures { IfOk result (λ store. store.reopen ≡ false) };
 
+    /// The names of the hill's machine that requests of browsers may be for, beside its addresses and `localhost`.
+    fn names(&self) -> &[&str]
+        ensures { (store : Seen D) → map (λ name. name.now) result.now ≡ (Self.shows self.now store).names };
+
     /// The text of a page of the store's hill, HTML in ASCII, or none if there is no such page. `AllocError` comes if memory ran out.
     fn page(&self, store: &Store<D, A>, page: Page) -> Result<Option<Vec<u8, A>>, AllocError>
-        ensures { IfOk result (IsFound (Self.shows self.now store.now page)) };
+        ensures { IfOk result (IsFound ((Self.shows self.now store.now).pages page)) };
 
     /// Reports what happened with the peer of this address, as far as it is to be reported.
     fn tell<E: Write>(&self, peer: SocketAddr, event: Event<'_>, errors: &mut E)

@@ -12,8 +12,8 @@
 //! - `service`: round after round of them, until as many sessions as are asked for have ended.
 //!
 //! The main clause: whatever the sockets say, there is a history (`IsHistory`) of what happened on them, of the commands that were carried
-//! out in between, and of the answers to browsers. In it each peer's commands are carried out in the order in which they came, and each is
-//! answered on the hill that stood then. What goes out to a peer is the next of what it was answered. At each answer every image that a stop
+//! out in between, and of the answers to browsers. In it each peer's commands are carried out in the order in which they came, and none that
+//! came after a browser's request; each is answered on the hill that stood then. What goes out to a peer is the next of what it was answered. At each answer every image that a stop
 //! may leave of the device has the hill with all submissions that were answered since it was opened. Each browser is answered at most once,
 //! as the bytes that came from it ask, by what the host shows of the hill that stood then. What goes out to it is the next of that answer.
 //!

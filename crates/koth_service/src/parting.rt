@@ -1,14 +1,14 @@
 //! Peers whose sessions have ended, or that were silent for too long.
 #![tactic(auto, using(crate::proofs::Told::stays))]
 
-ghost use Rattle.std.specs.Prelude.{◌≡◌};
-ghost use Rattle.koth_service.specs.{Noted.Stays, Standing.KeepsOn, Told.Grows};
+ghost use Rattle.std.specs.Prelude.{◌≡◌, ◌↔◌, ◌-◌, ◌≤◌, IsTrue, false};
+ghost use Rattle.{koth_peers.specs.Peers.is_due_at, koth_service.specs.{Noted.Stays, Standing.KeepsOn, Told.Grows}};
 
 use crate::desk::{Desk, let_go};
 use crate::host::{Host, HowEnded};
 use crate::seats::Seat;
 use crate::sockets::{Drained, Sockets};
-use crate::times::{DRAIN, DRAINED_MOST};
+use crate::times::{DRAIN, DRAINED_MOST, PATIENCE};
 use koth_peers::PeerEnd;
 use sector_disk::Device;
 use std::alloc::Allocator;
@@ -61,11 +61,19 @@ fn part<S: Sockets, D: Device, A: Allocator + Copy, H: Host<D, A>, E: Write>(
                 sockets.shut(number);
                 desk.seats.shut(number, now);
                 desk.is_busy = true;
-            } else if seat.is_silent(now) {
+            } else if is_silent(desk, number, seat) {
                 let_go(desk, sockets, host, errors, number, HowEnded::Silent);
             }
         }
     }
+}
+
+/// Whether a peer was silent for too long by the time when what had come was read last. While a command of it is due it is not silent:
+/// its turn comes.
+fn is_silent<D: Device, A: Allocator + Copy>(desk: &Desk<D, A>, number: usize, seat: Seat) -> bool
+    ensures { IsTrue result ↔ ((is_due_at desk.now.peers.slots.items number ≡ false) × (PATIENCE ≤ desk.now.read_at - seat.since)) }
+{
+    !desk.peers.is_due(number) && seat.has_passed(desk.read_at, PATIENCE)
 }
 
 /// Throws away what still comes from a peer that was shut; `count` bytes of it were thrown away before. It returns whether the peer's bytes

@@ -1,6 +1,7 @@
 //! Bytes that come.
 #![tactic(auto, using(crate::proofs::Told::stays))]
 
+ghost use Rattle.std.specs.Prelude.{◌≡◌};
 ghost use Rattle.koth_service.specs.{Standing.KeepsOn, Told.Grows};
 
 use crate::desk::{Desk, let_go};
@@ -13,7 +14,7 @@ use std::io::Write;
 /// The most bytes that one read takes.
 const CHUNK: usize = 4096;
 
-/// Reads what each peer has room for, once from each.
+/// Reads what each peer has room for, once from each. `now` is a moment before that.
 pub(crate) fn read_all<S: Sockets, D: Device, A: Allocator + Copy, H: Host<D, A>, E: Write>(
     desk: &mut Desk<D, A>,
     sockets: &mut S,
@@ -23,10 +24,12 @@ pub(crate) fn read_all<S: Sockets, D: Device, A: Allocator + Copy, H: Host<D, A>
 )
     ensures served { KeepsOn S.happened D.facts (H.shows host.now) sockets.old desk.old sockets.new desk.new }
     ensures told { Grows (E.contents errors.old) (E.contents errors.new) }
+    ensures read { desk.new.read_at ≡ now }
 {
     for number in 0..desk.seats.len() {
         read_from(desk, sockets, host, errors, number, now);
     }
+    desk.read_at = now;
 }
 
 /// Reads what a peer has room for.
@@ -50,7 +53,7 @@ fn read_from<S: Sockets, D: Device, A: Allocator + Copy, H: Host<D, A>, E: Write
     match sockets.read(number, bytes) {
         Came::Bytes(count) => {
             desk.peers.take(number, &bytes[..count]);
-            desk.seats.heard(number, now);
+            desk.seats.stir(number, now);
             desk.is_busy = true;
         }
         Came::End => {

@@ -1,9 +1,8 @@
 //! What is kept of each peer beside its session.
 
-ghost use Rattle.std.specs.Prelude.{◌≡◌, ◌↔◌, ◌-◌, ◌≤◌, IsTrue, false};
+ghost use Rattle.std.specs.Prelude.{◌≡◌, ◌↔◌, ◌-◌, ◌≤◌, IsTrue};
 
 use crate::times::{DRAIN, PATIENCE};
-use koth_peers::Step;
 use std::alloc::{AllocError, Allocator};
 use std::net::SocketAddr;
 
@@ -11,22 +10,13 @@ use std::net::SocketAddr;
 #[derive(Clone, Copy)]
 pub(crate) struct Seat {
     pub(crate) address: SocketAddr,
-    /// When something came or went last, or the writing side was shut, in milliseconds.
+    /// When something came or went last, or a command was carried out, or the writing side was shut, in milliseconds.
     pub(crate) since: u64,
-    /// Whether bytes came, and the turn has not passed the peer since: a command of it may be due.
-    pub(crate) waits: bool,
     /// The number of bytes that were thrown away since the writing side was shut, if it was.
     pub(crate) drained: Option<usize>,
 }
 
 impl Seat {
-    /// Whether the peer was silent for too long: while it waits for its turn it is not silent.
-    pub(crate) fn is_silent(&self, now: u64) -> bool
-        ensures { IsTrue result ↔ ((self.now.waits ≡ false) × (PATIENCE ≤ now - self.now.since)) }
-    {
-        !self.waits && self.has_passed(now, PATIENCE)
-    }
-
     /// Whether at least `milliseconds` have passed since something came or went.
     pub(crate) fn has_passed(&self, now: u64, milliseconds: u64) -> bool
         ensures { IsTrue result ↔ (milliseconds ≤ now - self.now.since) }
@@ -48,8 +38,6 @@ impl Seat {
 #[derive(Drop)]
 pub(crate) struct Seats<A: Allocator> {
     seats: Vec<Option<Seat>, A>,
-    /// The number after the one that was served last.
-    turn: usize,
 }
 
 impl<A: Allocator> Seats<A> {
@@ -57,7 +45,6 @@ impl<A: Allocator> Seats<A> {
     pub(crate) fn new(alloc: A, most: usize) -> Result<Seats<A>, AllocError> {
         Ok(Seats {
             seats: Vec::from_elem(alloc, None, most)?,
-            turn: 0,
         })
     }
 
@@ -78,7 +65,6 @@ impl<A: Allocator> Seats<A> {
             Some(Seat {
                 address,
                 since: now,
-                waits: false,
                 drained: None,
             }),
         );
@@ -89,22 +75,8 @@ impl<A: Allocator> Seats<A> {
         self.put(number, None);
     }
 
-    /// Bytes of this peer came.
-    pub(crate) fn heard(&mut self, number: usize, now: u64) {
-        if let Some(seat) = self.at(number) {
-            self.put(
-                number,
-                Some(Seat {
-                    since: now,
-                    waits: true,
-                    ..seat
-                }),
-            );
-        }
-    }
-
-    /// Bytes went out to this peer.
-    pub(crate) fn told(&mut self, number: usize, now: u64) {
+    /// Bytes of this peer came or went, or a command of it was carried out.
+    pub(crate) fn stir(&mut self, number: usize, now: u64) {
         if let Some(seat) = self.at(number) {
             self.put(number, Some(Seat { since: now, ..seat }));
         }
@@ -117,7 +89,6 @@ impl<A: Allocator> Seats<A> {
                 number,
                 Some(Seat {
                     since: now,
-                    waits: false,
                     drained: Some(0),
                     ..seat
                 }),
@@ -138,34 +109,6 @@ impl<A: Allocator> Seats<A> {
         }
     }
 
-    /// Takes note of a step that was made now.
-    pub(crate) fn note(&mut self, step: Step, now: u64) {
-        match step {
-            Step::Nobody => self.passed_all(),
-            Step::Served(number) | Step::StoreFailed(number) => self.served(number, now),
-        }
-    }
-
-    /// This peer was served: those that the turn passed before it have no command that is due.
-    fn served(&mut self, number: usize, now: u64) {
-        let turn = self.turn;
-        let count = self.seats.len();
-        if number < turn {
-            self.pass(turn, count);
-            self.pass(0, number);
-        } else {
-            self.pass(turn, number);
-        }
-        self.turn = number.saturating_add(1);
-        self.told(number, now);
-    }
-
-    /// Nobody was served: no peer has a command that is due.
-    fn passed_all(&mut self) {
-        let count = self.seats.len();
-        self.pass(0, count);
-    }
-
     /// Milliseconds until the first peer has been waited for as long as it may be, and no more than a peer may be silent.
     pub(crate) fn until(&self, now: u64) -> u64 {
         let mut least = PATIENCE;
@@ -175,21 +118,6 @@ impl<A: Allocator> Seats<A> {
             }
         }
         least
-    }
-
-    /// The turn passed these numbers.
-    fn pass(&mut self, from: usize, to: usize) {
-        for number in from..to {
-            if let Some(seat) = self.at(number) {
-                self.put(
-                    number,
-                    Some(Seat {
-                        waits: false,
-                        ..seat
-                    }),
-                );
-            }
-        }
     }
 
     fn put(&mut self, number: usize, seat: Option<Seat>) {

@@ -45,7 +45,7 @@ fn send_to<S: Sockets, D: Device, A: Allocator + Copy, H: Host<D, A>, E: Write>(
     match sockets.write(number, unsent) {
         Went::Bytes(count) => {
             desk.peers.sent(number, count);
-            desk.seats.told(number, now);
+            desk.seats.stir(number, now);
             desk.is_busy = true;
         }
         Went::Nothing => {}

@@ -33,8 +33,9 @@ pub enum ServiceFault<F> {
 /// Serves up to `most` peers at once on a hill; returns after `connections` sessions if that is given.
 ///
 /// A peer that connects while there are `most` waits until one of them is disconnected. A peer is disconnected when its session has ended
-/// and its answers went out, 60 seconds after the last byte in or out, or as soon as its answers have no room. If the device fails in a
-/// submission, the store is closed, and the host opens the hill again. Beside the peers up to `browsers` browsers are served at once: each is
+/// and its answers went out, 60 seconds after the last byte in or out unless a command of it is due, as soon as its answers have no room, or
+/// at a request of HTTP in place of a command: no command after that is carried out. If the device fails in a submission, the store is
+/// closed, and the host opens the hill again. Beside the peers up to `browsers` browsers are served at once: each is
 /// answered one request, with a page of the hill that stands then. `served` speaks of peers and of browsers.
 pub fn serve_peers<S: Sockets, D: Device + Drop, A: Allocator + Copy, H: Host<D, A>, E: Write>(
     alloc: A,
@@ -176,6 +177,7 @@ fn sound<D: Device + Drop, A: Allocator + Copy, H: Host<D, A>>(
     match step {
         Step::Nobody => Ok(desk),
         Step::Served(_) => Ok(desk),
+        Step::Asked(_) => Ok(desk),
         Step::StoreFailed(_) => reopened(desk, host),
     }
 }

@@ -3,8 +3,8 @@
 
 ghost use Rattle.koth_service.specs.{Standing.KeepsOnBy, Told.Grows};
 
-use crate::desk::Desk;
-use crate::host::{Event, Host};
+use crate::desk::{Desk, let_go};
+use crate::host::{Event, Host, HowEnded};
 use crate::seats::Seats;
 use crate::sockets::Sockets;
 use koth_peers::{PeerEnd, Peers, Step};
@@ -12,7 +12,8 @@ use sector_disk::Device;
 use std::alloc::Allocator;
 use std::io::Write;
 
-/// Carries out one command at most, and has the host report what a submission was answered.
+/// Carries out one command at most, and has the host report what a submission was answered. A peer that sent a request in place of a command
+/// is disconnected.
 pub(crate) fn serve_one<S: Sockets, D: Device, A: Allocator + Copy, H: Host<D, A>, E: Write>(
     desk: &mut Desk<D, A>,
     sockets: &mut S,
@@ -25,24 +26,28 @@ pub(crate) fn serve_one<S: Sockets, D: Device, A: Allocator + Copy, H: Host<D, A
     let step = desk.peers.serve_next(&mut desk.store);
     let now = sockets.now();
     desk.is_busy |= !matches!(step, Step::Nobody);
-    desk.seats.note(step, now);
-    tell_reply::<D, A, H, E>(&desk.peers, &desk.seats, step, host, errors);
+    match step {
+        Step::Nobody => {}
+        Step::Asked(number) => let_go(desk, sockets, host, errors, number, HowEnded::Browser),
+        Step::Served(number) => {
+            desk.seats.stir(number, now);
+            tell_reply::<D, A, H, E>(&desk.peers, &desk.seats, number, host, errors);
+        }
+        Step::StoreFailed(number) => desk.seats.stir(number, now),
+    }
     step
 }
 
-/// Has the host report what a submission was answered in this step, if one was.
+/// Has the host report what a submission of this peer was answered, if its command that was carried out last was one.
 fn tell_reply<D: Device, A: Allocator + Copy, H: Host<D, A>, E: Write>(
     peers: &Peers<A>,
     seats: &Seats<A>,
-    step: Step,
+    number: usize,
     host: &H,
     errors: &mut E,
 )
     ensures { Grows (E.contents errors.old) (E.contents errors.new) }
 {
-    let Step::Served(number) = step else {
-        return;
-    };
     if !is_answered(peers.end(number)) {
         return;
     }

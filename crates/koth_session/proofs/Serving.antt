@@ -1,7 +1,7 @@
 -- Commands that are served one after another.
 use Rattle.std.proofs.{Common.{◌≡◌, ℕ, ◌<◌, length, arith, List, [], ◌∷◌, ◌++◌, Option, None, Some, refl, sym, ap, subst, ◌∙◌, append_assoc, append-nil}, lemmas.List.length-append}
 use Rattle.{std.specs.Io.KnownBytes.Appends, std.proofs.KnownBytes.{Appends-nil, Appends-trans, Keeps-refl}, sector_disk.specs.Facts.DeviceFacts}
-use Rattle.koth_protocol.specs.{Commands.{Command, commands_from}, Lines.lines_from, Reading.{IsReading, Reads, commands_met}, declared.script.Met.Met, declared.script.Script.Script}
+use Rattle.koth_protocol.specs.{Commands.{Command, Reader, commands_from}, Lines.lines_from, Reading.{IsReading, Reads, commands_met}, declared.script.Met.Met, declared.script.Script.Script}
 use Rattle.koth_session.specs.{Sessions.{AnswersCommand, Goes, IsAnsweredTo, Scene, Stopped, WentOn}, Transcript.{Exchange, answer, command_in, commands_in, transcript}}
 use Rattle.{koth_session.specs.declared.sessions.SessionEnd.SessionEnd, koth_session.proofs.Exchanges.{transcript_append, served_none, served_on}}
 
@@ -116,7 +116,7 @@ module _ {D : Type 0} (facts : DeviceFacts D) where
       new_line = reads.new_line;
       new_source = reads.new_source;
       reading = reads.reading;
-      commands = reads.commands;
+      commands = reads.commands Reader.Session;
     }
 
     pub quit_met : (line : List ℕ) (source : Option (List ℕ)) (byte : ℕ) (script : Script A) (s : Scene D)
@@ -127,17 +127,17 @@ module _ {D : Type 0} (facts : DeviceFacts D) where
       answered = answered_none s;
       command = Command.Quit;
       behind = λ more. [];
-      commands = reads.commands;
+      commands = reads.commands Reader.Session;
       upto = byte ∷ [];
       rest = [];
       split = refl;
       few = omega arith;
-      last_of_them = reads.commands [];
+      last_of_them = reads.commands Reader.Session [];
       ended = (refl, refl, Keeps-refl s.output);
     }
 
     pub command_met : (line : List ℕ) (source : Option (List ℕ)) (byte : ℕ) (m : Met) (script : Script A) (command : Command) (r : Option SessionEnd) (a c : Scene D)
-        → ((others : List Command) → commands_met m script.source others ≡ command ∷ others) → Reads line source byte m script
+        → ((others : List Command) → commands_met Reader.Session m script.source others ≡ command ∷ others) → Reads line source byte m script
         → AnswersCommand facts command r a c → Goes facts line source (byte ∷ []) r script a c
     command_met line source byte m script command None a c is reads answers = record {
       es = answers.0 ∷ [];
@@ -145,7 +145,7 @@ module _ {D : Type 0} (facts : DeviceFacts D) where
       new_line = reads.new_line;
       new_source = reads.new_source;
       reading = reads.reading;
-      commands = λ more. reads.commands more ∙ is _ ∙ ap (λ (k : Command). k ∷ commands_from reads.new_source (lines_from reads.new_line more)) answers.1;
+      commands = λ more. reads.commands Reader.Session more ∙ is _ ∙ ap (λ (k : Command). k ∷ commands_from reads.new_source (lines_from reads.new_line more)) answers.1;
     }
     command_met line source byte m script command (Some end) a c is reads answers = record {
       es = [];
@@ -153,11 +153,11 @@ module _ {D : Type 0} (facts : DeviceFacts D) where
       answered = answered_none a;
       command = command;
       behind = λ more. commands_from reads.new_source (lines_from reads.new_line more);
-      commands = λ more. reads.commands more ∙ is _;
+      commands = λ more. reads.commands Reader.Session more ∙ is _;
       upto = byte ∷ [];
       rest = [];
       split = refl;
       few = omega arith;
-      last_of_them = reads.commands [] ∙ is _;
+      last_of_them = reads.commands Reader.Session [] ∙ is _;
       ended = answers;
     }

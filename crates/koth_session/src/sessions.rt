@@ -155,7 +155,7 @@ fn serve_byte<W: Write, D: Device, A: Allocator + Copy>(
         Met::Submit => submit(script.source(), output, store),
         Met::Show => show(alloc, output, store),
         Met::Quit => Some(SessionEnd::Quit),
-        Met::Bad => said(send(output, b"BAD\n")),
+        Met::Request | Met::Bad => said(send(output, b"BAD\n")),
     }
 }
 

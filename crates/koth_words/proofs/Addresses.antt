@@ -1,8 +1,8 @@
 -- The texts of addresses. For `address_given` and `has_address`.
-use Rattle.std.proofs.Common.{◌≡◌, ◌∙◌, ◌↔◌, ℕ, Bool, List, [], ◌∷◌, Option, None, Some, Result, Ok, Err, Bor, option_map, codes, refl, sym, inr, lit≤, true≢false}
-use Rattle.std.specs.{Prelude.{unwrap_or, is_ok, IsOk, IsTrue}, Fmt.digits, Net.Grammar.{IsIpText, Parses}, Net.Reader.{read_ipv4, read_ipv6, read_number, read_octet, read_segment, read_segments}}
+use Rattle.std.proofs.Common.{◌≡◌, ◌∙◌, ◌↔◌, ℕ, Bool, true, false, not, List, [], ◌∷◌, Option, None, Some, Result, Ok, Err, Bor, option_map, codes, ap, refl, subst, sym, inl, inr, arith, lit≤, true≢false}
+use Rattle.std.specs.{Prelude.{unwrap_or, IsOk, IsTrue}, Fmt.digits, Net.Grammar.{IsIpText, Parses}, Net.Reader.{read_ipv4, read_ipv6, read_number, read_octet, read_segment, read_segments}}
 use Rattle.{std.specs.declared.net.ip_addr.IpAddr.IpAddr, std.proofs.{lemmas.Option.none-some, NetLemmas.Ipv4.read_ipv4_complete, NetLemmas.Ipv6.{EndsGroups-nil, read_ipv6_complete}}}
-use Rattle.{std.proofs.NetLemmas.Options.same_parts, clap.specs.Walk.Text, koth_words.specs.Words.WritesAddress}
+use Rattle.{std.proofs.{NetLemmas.Options.same_parts, NetLemmas.Theorems.IsIpText_unique}, clap.specs.Walk.Text, koth_words.specs.Words.{IsOfMany, WritesAddress}}
 
 -- the address of four numbers
 abbrev pub four : List ℕ → IpAddr
@@ -19,12 +19,27 @@ module _ {E : Type 0} where
   reads_address None (Err e) writes parsed = absurd (parsed (four (127 ∷ 0 ∷ 0 ∷ 1 ∷ [])) this_machine)
   reads_address (Some text) (Err e) writes parsed = absurd (parsed writes.0 writes.1)
 
-  -- whether it is read is whether it writes an address
-  pub is_address : (given : Option (Bor Text)) (text : Bor Text) (written : Option Text) (r : Result IpAddr E) (b : Bool)
-      → option_map (λ s. s.now) given ≡ written → given ≡ Some text → Parses IsIpText text.now r → b ≡ is_ok r → IsTrue b ↔ WritesAddress written
-  is_address given text written (Ok address) b named is parsed e = rw (← named, is) (λ _. (address, parsed), λ _. e)
-  is_address given text written (Err error) b named is parsed e =
-      rw (← named, is) (λ yes. absurd (true≢false (sym yes ∙ e)), λ writes. absurd (parsed writes.0 writes.1))
+  -- a text that is read writes an address of one machine if what is read is one
+  pub writes_one : (text : Text) (r : Result IpAddr E) (address : IpAddr) (many : Bool) → r ≡ Ok address → Parses IsIpText text r → (IsTrue many ↔ IsOfMany address)
+      → IsTrue (not many) ↔ WritesAddress (Some text)
+  writes_one text r address many is parsed tells = by many tells (subst (Parses IsIpText text) is parsed)
+    where
+      by : (many : Bool) → (IsTrue many ↔ IsOfMany address) → IsIpText text address → IsTrue (not many) ↔ WritesAddress (Some text)
+      by true tells writes = (
+        λ one. absurd (true≢false (sym one)),
+        λ one. absurd (one.2 (subst IsOfMany (IsIpText_unique text address one.0 writes one.1) (tells.0 refl))),
+      )
+      by false tells writes = (λ one. (address, writes, λ of_many. true≢false (sym (tells.1 of_many))), λ one. refl)
+
+  -- and one that isn't read writes none
+  pub writes_none : (text : Text) (r : Result IpAddr E) (error : E) → r ≡ Err error → Parses IsIpText text r → IsTrue false ↔ WritesAddress (Some text)
+  writes_none text r error is parsed =
+      let unread : Parses IsIpText text (Err error) = subst (Parses IsIpText text) is parsed in
+      (λ yes. absurd (true≢false (sym yes)), λ one. absurd (unread one.0 one.1))
+
+-- the text that is given is what the matches have
+pub given_is : (given : Option (Bor Text)) (text : Bor Text) (written : Option Text) → option_map (λ s. s.now) given ≡ written → given ≡ Some text → Some text.now ≡ written
+given_is given text written named is = ap (option_map (λ (s : Bor Text). s.now)) (sym is) ∙ named
 
 -- ---- texts that write an address, and texts that write none. For the rows of `Rows`.
 
@@ -53,3 +68,30 @@ pub not_with_port : (address : IpAddr) → IsIpText (codes "0.0.0.0:80") address
 unfolding read_ipv4 read_octet read_number read_ipv6 read_segments read_segment
 not_with_port (IpAddr.V4 a) writes = some_left _ _ _ _ (read_ipv4_complete (codes "0.0.0.0:80") _ [] writes (lit≤ tt))
 not_with_port (IpAddr.V6 a) writes = none-some _ (read_ipv6_complete (codes "0.0.0.0:80") _ [] writes EndsGroups-nil)
+
+-- ---- addresses of one machine, and of many
+
+pub every_address_is_one : ¬ IsOfMany (four (0 ∷ 0 ∷ 0 ∷ 0 ∷ []))
+every_address_is_one (inl within) = absurd (omega (arith, within.0))
+every_address_is_one (inr same) = absurd (cc)
+
+pub every_long_address_is_one : ¬ IsOfMany any_address
+every_long_address_is_one within = absurd (omega (arith, within.0))
+
+all_of_a_network : IsIpText (codes "255.255.255.255") (four (255 ∷ 255 ∷ 255 ∷ 255 ∷ []))
+unfolding digits
+all_of_a_network = record { a = 255; b = 255; c = 255; d = 255; fit = (lit≤ tt, lit≤ tt, lit≤ tt, lit≤ tt); value = refl; spelled = refl }
+
+a_group : IsIpText (codes "224.0.0.1") (four (224 ∷ 0 ∷ 0 ∷ 1 ∷ []))
+unfolding digits
+a_group = record { a = 224; b = 0; c = 0; d = 1; fit = (lit≤ tt, lit≤ tt, lit≤ tt, lit≤ tt); value = refl; spelled = refl }
+
+pub not_to_all : ¬ WritesAddress (Some (codes "255.255.255.255"))
+not_to_all one =
+    let many : IsOfMany (four (255 ∷ 255 ∷ 255 ∷ 255 ∷ [])) = inr refl in
+    one.2 (subst IsOfMany (IsIpText_unique (codes "255.255.255.255") (four (255 ∷ 255 ∷ 255 ∷ 255 ∷ [])) one.0 all_of_a_network one.1) many)
+
+pub not_to_a_group : ¬ WritesAddress (Some (codes "224.0.0.1"))
+not_to_a_group one =
+    let many : IsOfMany (four (224 ∷ 0 ∷ 0 ∷ 1 ∷ [])) = inl (lit≤ tt, lit≤ tt) in
+    one.2 (subst IsOfMany (IsIpText_unique (codes "224.0.0.1") (four (224 ∷ 0 ∷ 0 ∷ 1 ∷ [])) one.0 a_group one.1) many)

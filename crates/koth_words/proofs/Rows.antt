@@ -2,8 +2,8 @@
 use Rattle.{std.proofs.Common.{◌≡◌, true, false, true≢false, List, [], ◌∷◌, Some, None, Ok, codes, refl, sym, inr}, clap.specs.Words.{Row, all_of, fault_of, first_of, one_of, subcommand_of, takes}}
 use Rattle.{clap.proofs.OnLiterals.clap_on_literals, clap.specs.declared.error.kind.ErrorKind.ErrorKind, war_types.specs.Settings.settings_of}
 use Rattle.koth_words.specs.Options.{default_settings, number_given, number_or}
-use Rattle.koth_words.specs.Words.{AreTaken, AreWrong, AsksFor, IsAddress, create_named, form_named, given_by, given_in, koth_app, matches_named, overwrite_named, reads_input, settings_named}
-use Rattle.{koth_words.specs.{Words.view_named, declared.words.{Form.Form, View.View}}, koth_words.proofs.Addresses.{any_address, every_address, every_long_address, four, not_here, not_with_port, this_machine}}
+use Rattle.koth_words.specs.Words.{AreTaken, AreWrong, AsksFor, IsAddress, create_named, form_named, given_by, given_in, koth_app, matches_named, overwrite_named, reads_input, replays_named, settings_named}
+use Rattle.{koth_words.specs.{Words.view_named, declared.words.{Form.Form, View.View}}, koth_words.proofs.Addresses.{any_address, every_address, every_address_is_one, every_long_address, every_long_address_is_one, four, not_here, not_to_a_group, not_to_all, not_with_port, this_machine}}
 
 -- the premise of `asm` is met by these words
 asm_asks : AsksFor (codes "asm") (codes "koth" ∷ codes "asm" ∷ [])
@@ -168,21 +168,29 @@ services : (number_or 64 (one_of (codes "peers") many_given) ≡ 1024)
     × (number_or 64 (one_of (codes "peers") plain_given) ≡ 64)
     × (first_of (codes "listen") plain_given ≡ None)
     × (number_given 4294967296 (one_of (codes "http") plain_given) ≡ None)
+    × (replays_named (codes "koth" ∷ codes "serve" ∷ codes "a.hill" ∷ codes "--port=0" ∷ codes "--http=8080" ∷ codes "--replays" ∷ []) ≡ true)
+    × (replays_named (codes "koth" ∷ codes "serve" ∷ codes "a.hill" ∷ codes "--port=0" ∷ codes "--http=8080" ∷ []) ≡ false)
 unfolding clap_on_literals koth_app
-services = (refl, refl, refl, refl, refl, refl)
+services = (refl, refl, refl, refl, refl, refl, refl, refl)
 
 -- an address of either kind is given, and 127.0.0.1 is the one if the option is left out
 addresses_ask : AsksFor (codes "serve") (codes "koth" ∷ codes "serve" ∷ codes "a.hill" ∷ codes "--port=0" ∷ codes "--listen=0.0.0.0" ∷ [])
     × AsksFor (codes "serve") (codes "koth" ∷ codes "serve" ∷ codes "a.hill" ∷ codes "--port=0" ∷ codes "--listen" ∷ codes "::" ∷ [])
     × IsAddress None (four (127 ∷ 0 ∷ 0 ∷ 1 ∷ []))
 unfolding clap_on_literals koth_app
-addresses_ask = (((refl, (refl, refl, refl, (four (0 ∷ 0 ∷ 0 ∷ 0 ∷ []), every_address))), refl), ((refl, (refl, refl, refl, (any_address, every_long_address))), refl), this_machine)
+addresses_ask = (((refl, (refl, refl, refl, (four (0 ∷ 0 ∷ 0 ∷ 0 ∷ []), every_address, every_address_is_one))), refl), ((refl, (refl, refl, refl, (any_address, every_long_address, every_long_address_is_one))), refl), this_machine)
 
 -- no name of a machine, and no address with a port
 names_wrong : AreWrong (codes "koth" ∷ codes "serve" ∷ codes "a.hill" ∷ codes "--port=0" ∷ codes "--listen=here" ∷ [])
     × AreWrong (codes "koth" ∷ codes "serve" ∷ codes "a.hill" ∷ codes "--port=0" ∷ codes "--listen=0.0.0.0:80" ∷ [])
 unfolding clap_on_literals koth_app
 names_wrong = (inr (refl, λ clear. not_here _ clear.3.1), inr (refl, λ clear. not_with_port _ clear.3.1))
+
+-- no address of all machines in a network, and none of a group of them
+groups_wrong : AreWrong (codes "koth" ∷ codes "serve" ∷ codes "a.hill" ∷ codes "--port=0" ∷ codes "--listen=255.255.255.255" ∷ [])
+    × AreWrong (codes "koth" ∷ codes "serve" ∷ codes "a.hill" ∷ codes "--port=0" ∷ codes "--listen=224.0.0.1" ∷ [])
+unfolding clap_on_literals koth_app
+groups_wrong = (inr (refl, λ clear. not_to_all clear.3), inr (refl, λ clear. not_to_a_group clear.3))
 
 -- the round that is shown, and the rounds of its match
 rounds : (number_or 1 (one_of (codes "round") (given_by (codes "koth" ∷ codes "replay" ∷ codes "a" ∷ codes "b" ∷ codes "--round" ∷ codes "7" ∷ []))) ≡ 7)

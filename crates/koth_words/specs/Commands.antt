@@ -27,6 +27,10 @@ files_rule name = record (file_rule name) { action = Some ArgAction.Append }
 abbrev pub text_rule : Text → Rule
 text_rule name = record (new_rule name) { long = Some name; value_names = 1 }
 
+-- an option with a text, which may be given more than once
+abbrev pub texts_rule : Text → Rule
+texts_rule name = record (text_rule name) { action = Some ArgAction.Append }
+
 -- a flag, which takes no value
 abbrev pub flag_rule : Text → Rule
 flag_rule name = record (new_rule name) { long = Some name; action = Some ArgAction.SetTrue }
@@ -60,9 +64,9 @@ abbrev pub show_app : App
 show_app = with_view (with_flag (with_file (new_app (codes "show")) (codes "FILE")) (codes "matches"))
 
 abbrev pub serve_app : App
-serve_app = with_settings (with_flag (with_flag (with_ranged (with_option (with_rule (with_ranged (with_rule (with_file (new_app (codes "serve")) (codes "FILE"))
-    (required_rule (codes "port") 65535)) (codes "peers") 1 1024) (text_rule (codes "listen"))) (codes "connections")) (codes "http") 0 65535) (codes "quiet"))
-    (codes "create"))
+serve_app = with_settings (with_flag (with_flag (with_flag (with_rule (with_ranged (with_option (with_rule (with_ranged (with_rule (with_file (new_app (codes "serve")) (codes "FILE"))
+    (required_rule (codes "port") 65535)) (codes "peers") 1 1024) (text_rule (codes "listen"))) (codes "connections")) (codes "http") 0 65535)
+    (texts_rule (codes "host"))) (codes "replays")) (codes "quiet")) (codes "create"))
 
 abbrev pub audit_app : App
 audit_app = with_file (new_app (codes "audit")) (codes "FILE")

@@ -1,6 +1,6 @@
 -- What a command line asks for. `words` are its arguments, of which the first is the program's name.
-use Rattle.std.specs.Prelude.{◌≡◌, ◌≢◌, ◌⊎◌, ◌&&◌, ◌||◌, ⊤, ℕ, Bool, true, false, not, List, [], codes, map, Option, None, Some, IfSome, is_some, option_map, unwrap_or, if◌then◌else◌}
-use Rattle.std.specs.{Option.option_map_or, Net.Grammar.IsIpText, Str.bytes_eq, declared.net.ip_addr.IpAddr.IpAddr}
+use Rattle.std.specs.Prelude.{◌≡◌, ◌≢◌, ◌⊎◌, ◌&&◌, ◌||◌, ⊤, ℕ, Bool, true, false, not, List, [], ◌∷◌, codes, map, Option, None, Some, IfSome, is_some, option_map, unwrap_or, if◌then◌else◌}
+use Rattle.std.specs.{Option.option_map_or, Net.{Addr.{IsMulticastV4, IsMulticastV6, MatchIp, ipv4_octets}, Grammar.IsIpText}, Str.bytes_eq, declared.net.ip_addr.IpAddr.IpAddr}
 use Rattle.clap.specs.{Words.{IsAmong, Row, Text, all_of, fault_of, first_of, one_of, subcommand_of, takes}, declared.error.kind.ErrorKind.ErrorKind}
 use Rattle.war_types.specs.declared.settings.RawSettings.{RawSettings}
 use Rattle.koth_words.specs.{Options.{number_below, number_given, number_or, settings_in}, declared.words.Form.Form, declared.words.NoRequest.NoRequest, declared.words.Request.Request}
@@ -42,6 +42,10 @@ matches_named words = matches_in (given_by words)
 -- whether `--overwrite` is given, of `create`
 abbrev pub overwrite_named : List (List ℕ) → Bool
 overwrite_named words = has_flag (codes "overwrite") (given_by words)
+
+-- whether `--replays` is given, of `serve`
+abbrev pub replays_named : List (List ℕ) → Bool
+replays_named words = has_flag (codes "replays") (given_by words)
 
 -- whether `--create` is given, of `serve`
 abbrev pub create_named : List (List ℕ) → Bool
@@ -103,9 +107,13 @@ has_known_form given = is_form (first_of (codes "format") given)
 abbrev pub IsAddress : Option Text → IpAddr → Type 0
 IsAddress text address = IsIpText (unwrap_or text (codes "127.0.0.1")) address
 
--- the text, if it is given, writes an address without a port
+-- an address of many machines at once: of a group, or of all in a network
+abbrev pub IsOfMany : IpAddr → Type 0
+IsOfMany address = MatchIp address (λ a. IsMulticastV4 a ⊎ (ipv4_octets a ≡ 255 ∷ 255 ∷ 255 ∷ 255 ∷ [])) IsMulticastV6
+
+-- the text, if it is given, writes an address of one machine, without a port
 abbrev pub WritesAddress : Option Text → Type 0
-WritesAddress text = IfSome text (λ text. (address : IpAddr) × IsIpText text address)
+WritesAddress text = IfSome text (λ text. (address : IpAddr) × IsIpText text address × ¬ IsOfMany address)
 
 abbrev pub HasAddress : List Row → Type 0
 HasAddress given = WritesAddress (first_of (codes "listen") given)
@@ -128,7 +136,7 @@ uses_settings given = has_flag (codes "create") given || not (has_option (codes 
 
 -- ---- words that are taken, and words that are wrong
 
--- nothing that the program refuses beside `clap`: two layouts, an unknown form, settings without a use, or a text in place of an address
+-- nothing that the program refuses beside `clap`: two layouts, an unknown form, settings without a use, or a text in place of an address of one machine
 abbrev pub AreClear : List Row → Type 0
 AreClear given = (has_one_view given ≡ true) × (has_known_form given ≡ true) × (uses_settings given ≡ true) × HasAddress given
 
@@ -186,6 +194,8 @@ Asks entered (Serve settings service) = (entered.0 ≡ codes "serve") × (settin
     × IsAddress (first_of (codes "listen") entered.1) service.listen
     × (service.connections ≡ number_given 4294967296 (one_of (codes "connections") entered.1))
     × (service.http ≡ number_given 4294967296 (one_of (codes "http") entered.1))
+    × (map (λ host. host.now) service.hosts.items ≡ unwrap_or (all_of (codes "host") entered.1) [])
+    × (service.replays ≡ has_flag (codes "replays") entered.1)
     × (service.quiet ≡ has_flag (codes "quiet") entered.1)
     × (service.create ≡ has_flag (codes "create") entered.1)
 Asks entered (Audit file) = (entered.0 ≡ codes "audit")

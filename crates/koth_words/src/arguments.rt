@@ -1,7 +1,7 @@
 //! The files, options and flags of the commands, one by one.
 
 ghost use Rattle.std.specs.Prelude.{◌≡◌, codes, false, pos};
-ghost use Rattle.{clap.specs.Words.{new_rule, rule_of}, koth_words.specs.{Commands.{file_rule, files_rule, flag_rule, text_rule}, Options.{ranged_rule, required_rule}}};
+ghost use Rattle.{clap.specs.Words.{new_rule, rule_of}, koth_words.specs.{Commands.{file_rule, files_rule, flag_rule, text_rule, texts_rule}, Options.{ranged_rule, required_rule}}};
 
 use crate::options::option;
 use clap::builder::ValueParser;
@@ -35,6 +35,14 @@ pub(crate) fn text<'a>(heap: Global, name: &'a str, value: &'a str, help: &'a st
     ensures global { result.global ≡ false }
 {
     Arg::new(heap, name).long(name).value_name(value).help(help)
+}
+
+/// An option with a text, which may be given more than once.
+pub(crate) fn texts<'a>(heap: Global, name: &'a str, value: &'a str, help: &'a str) -> Arg<'a>
+    ensures rule { rule_of result ≡ texts_rule name.entry.now }
+    ensures global { result.global ≡ false }
+{
+    text(heap, name, value, help).action(ArgAction::Append)
 }
 
 pub(crate) fn port<'a>(heap: Global) -> Arg<'a>

@@ -5,7 +5,7 @@ ghost use Rattle.clap.specs.Words.{App, Rule, new_app, rule_of, with_rule, with_
 ghost use Rattle.koth_words.specs.Commands.{asm_app, audit_app, check_app, create_app, fight_app, koth_app, migrate_app, page_app, replay_app, serve_app, show_app, submit_app};
 ghost use Rattle.koth_words.specs.Commands.{wants_subcommand, with_version, with_view, IsReadAs};
 
-use crate::arguments::{file, files, flag, port, ranged, source, text};
+use crate::arguments::{file, files, flag, port, ranged, source, text, texts};
 use crate::options::{option, with_settings};
 use clap::{Arg, Command};
 use std::alloc::{AllocError, Global};
@@ -111,6 +111,13 @@ fn serve_command<'a>(heap: Global) -> Result<Command<'a>, AllocError>
     let command = with_arg(command, option(heap, "connections", help));
     let help = "Port at which browsers see the hill, 0 to 65535; at 0 the system chooses one";
     let command = with_arg(command, ranged(heap, "http", 0, 65535, help));
+    let help =
+        "Name of this machine that requests of browsers may be for, beside its addresses and localhost; may be given more than once";
+    let hosts = texts(heap, "host", "NAME", help);
+    let command = with_arg(command, hosts);
+    let help = "Show browsers replays of rounds too, which publish both warriors whole";
+    let replays = flag(heap, "replays", help);
+    let command = with_arg(command, replays);
     let quiet = flag(heap, "quiet", "Write no line for each connection");
     let command = with_arg(command, quiet);
     let help =

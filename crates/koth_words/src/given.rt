@@ -1,8 +1,8 @@
 //! What the arguments that `clap` took give a command.
 
-ghost use Rattle.std.specs.Prelude.{◌≡◌, ◌↔◌, [], codes, map, option_map, unwrap_or, IfOk, IsTrue};
+ghost use Rattle.std.specs.Prelude.{◌≡◌, ◌↔◌, [], Some, codes, map, option_map, unwrap_or, IfOk, IsTrue};
 ghost use Rattle.{clap.specs.Words.{all_of, first_of, found_of, one_of, rows_of}, koth_words.specs.Options.{number_below, number_given, number_or}};
-ghost use Rattle.koth_words.specs.Words.{form_in, has_flag, has_known_form, has_one_view, has_option, has_setting, matches_in, text_or_none, uses_settings, view_in, HasAddress, IsAddress, IsSource};
+ghost use Rattle.koth_words.specs.Words.{form_in, has_flag, has_known_form, has_one_view, has_option, has_setting, matches_in, text_or_none, uses_settings, view_in, HasAddress, IsAddress, IsOfMany, IsSource, WritesAddress};
 
 use crate::options::{number_given, number_if_given};
 use crate::words::{
@@ -37,12 +37,23 @@ pub(crate) fn checked_named<'w>(
         ≡ unwrap_or (all_of (codes "FILE") (rows_of (found_of matches.now))) []) }
     ensures form { IfOk result (λ checked. checked.form ≡ form_in (rows_of (found_of matches.now))) }
 {
-    let mut files = Vec::new(heap);
-    files.extend_from_slice(matches.get_strs("FILE").unwrap_or(&[]))?;
     Ok(Checked {
-        files,
+        files: texts_given(heap, matches, "FILE")?,
         form: form_given(matches),
     })
+}
+
+/// The texts that are given under this name, in their order.
+fn texts_given<'w>(
+    heap: Global,
+    matches: &ArgMatches<'w>,
+    name: &str,
+) -> Result<Vec<&'w str>, AllocError>
+    ensures { IfOk result (λ texts. map (λ text. text.now) texts.items ≡ unwrap_or (all_of name.now (rows_of (found_of matches.now))) []) }
+{
+    let mut texts = Vec::new(heap);
+    texts.extend_from_slice(matches.get_strs(name).unwrap_or(&[]))?;
+    Ok(texts)
 }
 
 fn form_given(matches: &ArgMatches<'_>) -> Form
@@ -130,28 +141,36 @@ pub(crate) fn shown_named<'w>(matches: &ArgMatches<'w>) -> Shown<'w>
     }
 }
 
-pub(crate) fn service_named<'w>(matches: &ArgMatches<'w>) -> Service<'w>
+pub(crate) fn service_named<'w>(
+    heap: Global,
+    matches: &ArgMatches<'w>,
+) -> Result<Service<'w>, AllocError>
     requires { HasAddress (rows_of (found_of matches.now)) }
-    ensures hill { result.hill.now ≡ text_or_none (first_of (codes "FILE") (rows_of (found_of matches.now))) }
-    ensures port { result.port ≡ number_below 65536 0 (one_of (codes "port") (rows_of (found_of matches.now))) }
-    ensures peers { result.peers ≡ number_or 64 (one_of (codes "peers") (rows_of (found_of matches.now))) }
-    ensures listen { IsAddress (first_of (codes "listen") (rows_of (found_of matches.now))) result.listen }
-    ensures connections { result.connections
-        ≡ number_given 4294967296 (one_of (codes "connections") (rows_of (found_of matches.now))) }
-    ensures http { result.http ≡ number_given 4294967296 (one_of (codes "http") (rows_of (found_of matches.now))) }
-    ensures quiet { result.quiet ≡ has_flag (codes "quiet") (rows_of (found_of matches.now)) }
-    ensures create { result.create ≡ has_flag (codes "create") (rows_of (found_of matches.now)) }
+    ensures hill { IfOk result (λ service. service.hill.now ≡ text_or_none (first_of (codes "FILE") (rows_of (found_of matches.now)))) }
+    ensures port { IfOk result (λ service. service.port ≡ number_below 65536 0 (one_of (codes "port") (rows_of (found_of matches.now)))) }
+    ensures peers { IfOk result (λ service. service.peers ≡ number_or 64 (one_of (codes "peers") (rows_of (found_of matches.now)))) }
+    ensures listen { IfOk result (λ service. IsAddress (first_of (codes "listen") (rows_of (found_of matches.now))) service.listen) }
+    ensures connections { IfOk result (λ service. service.connections
+        ≡ number_given 4294967296 (one_of (codes "connections") (rows_of (found_of matches.now)))) }
+    ensures http { IfOk result (λ service. service.http ≡ number_given 4294967296 (one_of (codes "http") (rows_of (found_of matches.now)))) }
+    ensures hosts { IfOk result (λ service. map (λ host. host.now) service.hosts.items
+        ≡ unwrap_or (all_of (codes "host") (rows_of (found_of matches.now))) []) }
+    ensures replays { IfOk result (λ service. service.replays ≡ has_flag (codes "replays") (rows_of (found_of matches.now))) }
+    ensures quiet { IfOk result (λ service. service.quiet ≡ has_flag (codes "quiet") (rows_of (found_of matches.now))) }
+    ensures create { IfOk result (λ service. service.create ≡ has_flag (codes "create") (rows_of (found_of matches.now))) }
 {
-    Service {
+    Ok(Service {
         hill: file_named(matches, "FILE"),
         port: port_given(matches),
         peers: number_given(matches, "peers", PEERS),
         listen: address_given(matches),
         connections: number_if_given(matches, "connections"),
         http: number_if_given(matches, "http"),
+        hosts: texts_given(heap, matches, "host")?,
+        replays: flag_given(matches, "replays"),
         quiet: flag_given(matches, "quiet"),
         create: flag_given(matches, "create"),
-    }
+    })
 }
 
 /// Whether each setting that is given is used. `serve`, which alone takes a port, uses them with `--create` alone.
@@ -186,13 +205,33 @@ fn address_given(matches: &ArgMatches<'_>) -> IpAddr
     text.parse().unwrap()
 }
 
-/// Whether the address to listen at is one, if it is given.
+/// Whether the address to listen at is one of one machine, if it is given.
 pub(crate) fn has_address(matches: &ArgMatches<'_>) -> bool
     ensures { IsTrue result ↔ HasAddress (rows_of (found_of matches.now)) }
 {
     match text_given(matches, "listen") {
-        Some(text) => text.parse::<IpAddr>().is_ok(),
+        Some(text) => writes_address(text),
         None => true,
+    }
+}
+
+/// Whether a text writes an address of one machine.
+fn writes_address(text: &str) -> bool
+    ensures { IsTrue result ↔ WritesAddress (Some text.now) }
+{
+    match text.parse::<IpAddr>() {
+        Ok(address) => !is_of_many(address),
+        Err(_) => false,
+    }
+}
+
+/// Whether an address is one of many machines at once, to which nobody can connect: 224.0.0.0/4, 255.255.255.255 or ff00::/8.
+fn is_of_many(address: IpAddr) -> bool
+    ensures { IsTrue result ↔ IsOfMany address }
+{
+    match address {
+        IpAddr::V4(address) => address.is_multicast() || address.is_broadcast(),
+        IpAddr::V6(address) => address.is_multicast(),
     }
 }
 

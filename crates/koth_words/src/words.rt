@@ -118,7 +118,7 @@ pub struct Shown<'w> {
 }
 
 /// The file of a hill, and how it is served.
-#[derive(Clone, Copy, PartialEq, Eq)]
+#[derive(Drop)]
 pub struct Service<'w> {
     pub hill: &'w str,
     /// 0 to 65,535; with 0 the system finds one.
@@ -131,6 +131,10 @@ pub struct Service<'w> {
     pub connections: Option<u32>,
     /// The port for browsers, 0 to 65,535; with 0 the system finds one. `None` for no pages.
     pub http: Option<u32>,
+    /// The names of this machine that requests of browsers may be for, in the order of the command line.
+    pub hosts: Vec<&'w str>,
+    /// Whether browsers see rounds too: their pages have both warriors whole.
+    pub replays: bool,
     /// Whether no line is written for a connection.
     pub quiet: bool,
     /// Whether the hill is created first if there is no file.
@@ -183,7 +187,7 @@ For more information, try '--help'.
 ";
 
 const NO_ADDRESS: &str =
-    "error: the argument '--listen <ADDRESS>' takes an IPv4 or IPv6 address without a port
+    "error: the argument '--listen <ADDRESS>' takes an IPv4 or IPv6 address of one machine, without a port
 
 For more information, try '--help'.
 ";
@@ -191,7 +195,7 @@ For more information, try '--help'.
 /// What a command line asks for. The first of `words` is the program's name.
 ///
 /// Words that are taken (`AreTaken`) give the request of their command: words that `koth_app` takes by `clap`'s own definition, with at most one
-/// of `--plain` and `--table`, with no format but `text` and `json`, with an address if one to listen at is given, and with settings for `serve` only
+/// of `--plain` and `--table`, with no format but `text` and `json`, with an address of one machine if one to listen at is given, and with settings for `serve` only
 /// if it may create the hill. All others give a text, as do those that ask for help or for the version. Without memory for any of these the
 /// answer is `NoRequest::Memory`.
 pub fn parse(heap: Global, words: &[String]) -> Result<Request<'_>, NoRequest>
@@ -256,7 +260,10 @@ fn asked<'w>(heap: Global, name: &str, given: &ArgMatches<'w>) -> Result<Request
         "create" => Ok(Request::Create(settings, creation_named(given))),
         "submit" => Ok(Request::Submit(submission_named(given))),
         "show" => Ok(Request::Show(shown_named(given))),
-        "serve" => Ok(Request::Serve(settings, service_named(given))),
+        "serve" => match service_named(heap, given) {
+            Ok(service) => Ok(Request::Serve(settings, service)),
+            Err(error) => Err(error),
+        },
         "audit" => Ok(Request::Audit(file_named(given, "FILE"))),
         "migrate" => Ok(Request::Migrate(migration_named(given))),
         "page" => Ok(Request::Page(file_named(given, "FILE"))),

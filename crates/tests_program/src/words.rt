@@ -22,7 +22,7 @@ fn expect_fault(rt: &impl Abort, ran: &Ran, part: &str) {
 }
 
 /// Words with a fault, and a part of what is told of it.
-const FAULTS: [Step; 43] = steps! {
+const FAULTS: [Step; 45] = steps! {
     Fault("koth", "requires a subcommand");
     Fault("koth fly", "unrecognized subcommand 'fly'");
     Fault("koth ASM", "unrecognized subcommand 'ASM'");
@@ -56,6 +56,8 @@ const FAULTS: [Step; 43] = steps! {
     Fault("koth serve f --port 0 --http 65536", "65536 is not in 0..=65535");
     Fault("koth serve f --port 0 --listen here", "'--listen <ADDRESS>' takes an IPv4 or IPv6 address");
     Fault("koth serve f --port 0 --listen 0.0.0.0:80", "without a port");
+    Fault("koth serve f --port 0 --listen 255.255.255.255", "of one machine");
+    Fault("koth serve f --port 0 --listen ff02::1", "of one machine");
     Fault("koth serve f --port 0 --listen", "a value is required for '--listen <ADDRESS>'");
     Fault("koth serve f --create", "--port <NUMBER>");
     Fault("koth serve f --port 0 --core 64", "error: options that give settings need '--create': a hill that is there keeps its own\n");
@@ -83,7 +85,7 @@ pub(crate) fn check_help(rt: &(impl Abort + Host), line: &str, part: &str) {
 }
 
 /// Words that ask for help, and a part of it.
-const HELPS: [Step; 25] = steps! {
+const HELPS: [Step; 27] = steps! {
     Help("koth --help", "Usage: koth <COMMAND>");
     Help("koth -h", "Usage: koth <COMMAND>");
     Help("koth help", "Usage: koth <COMMAND>");
@@ -104,6 +106,8 @@ const HELPS: [Step; 25] = steps! {
     Help("koth serve -h", "--listen <ADDRESS>");
     Help("koth help serve", "--peers <NUMBER>");
     Help("koth help serve", "--http <NUMBER>");
+    Help("koth help serve", "--replays");
+    Help("koth help serve", "--host <NAME>");
     Help("koth serve --help", "a hill that is there keeps its own");
     Help("koth serve --help", "1 to 20 [default: 20]");
     Help("koth replay --help", "Usage: koth replay [OPTIONS] <A> <B>");

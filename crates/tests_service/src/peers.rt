@@ -71,6 +71,7 @@ enum Script {
     InTurn,
     OneHill,
     Unread,
+    Asked,
 }
 
 /// Peers, for `most` of whom there is room, do this on an empty hill.
@@ -84,6 +85,7 @@ fn follow(rt: &(impl Abort + AllocGlobal), most: usize, script: Script) {
             end_each(rt, &mut peers, &mut store);
         }
         Script::Unread => leave_unread(rt, &mut peers, &mut store),
+        Script::Asked => ask(rt, &mut peers, &mut store),
     }
     drop(peers);
     drop(store);
@@ -206,6 +208,34 @@ fn leave_unread<D: Device>(
     waits(rt, peers, 0, 1_048_576);
     expect(rt, !peers.is_finished(0), "it is not finished");
     send(rt, peers, 1, "BAD\n");
+}
+
+/// A browser's request is not carried out, and the turn waits for its peer to leave.
+#[test]
+fn asked(rt: HostRuntime) {
+    follow(&rt, 2, Script::Asked);
+}
+
+fn ask<D: Device>(rt: &impl Abort, peers: &mut Peers<Global>, store: &mut Store<D, Global>) {
+    connect_two(rt, peers);
+    come(rt, peers, 0, "a\nGET / HTTP/1.1\nb\n");
+    come(rt, peers, 1, "\n");
+    for (number, due) in [(0, true), (1, true), (2, false)] {
+        expect(rt, peers.is_due(number) == due, "whether a command is due");
+    }
+    for step in [
+        Step::Served(0),
+        Step::Served(1),
+        Step::Asked(0),
+        Step::Asked(0),
+    ] {
+        serve(rt, peers, store, step);
+    }
+    ended(rt, peers, 0, None);
+    send(rt, peers, 0, "BAD\n");
+    peers.leave(0);
+    serve(rt, peers, store, Step::Nobody);
+    expect(rt, !peers.is_due(0) & !peers.is_due(1), "no command is due");
 }
 
 /// The device fails at the header of a submission, after ten calls: five make the hill, and five write a slot and sync. Nothing is answered to

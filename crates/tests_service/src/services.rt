@@ -68,6 +68,71 @@ fn a_silent_peer(rt: HostRuntime) {
     act_out(&rt, &A_SILENT_PEER, 2, &A_SILENT_PEER_DUE);
 }
 
+/// What is done in `a_long_submission`.
+const A_LONG_SUBMISSION: [Cue; 10] = [
+    (0, Deed::Calls(2)),
+    (0, Deed::Takes(2, ALL)),
+    (0, Deed::Calls(1)),
+    (0, Deed::Takes(1, ALL)),
+    (1, Deed::Lasts(70_000)),
+    (1, Deed::Says(1, "SUBMIT\nMOV 0,1\n.\n")),
+    (10_000, Deed::Says(2, "SHOW\n")),
+    (80_000, Deed::Says(1, "SHOW\n")),
+    (90_000, Deed::Ends(1)),
+    (90_000, Deed::Ends(2)),
+];
+
+const A_LONG_SUBMISSION_DUE: [Due; 4] = [
+    Due::Heard(1, "PLACED 1 1 0\n1 1 0 0 Unnamed by Anonymous\n.\n"),
+    Due::Heard(2, "1 1 0 0 Unnamed by Anonymous\n.\n"),
+    Due::Closed(2, Some(90_000)),
+    Due::Told("2 ", &["connected", "By(EndOfInput)"]),
+];
+
+/// A peer that speaks during a submission of 70 seconds is not silent, and is answered.
+#[test]
+fn a_long_submission(rt: HostRuntime) {
+    act_out(&rt, &A_LONG_SUBMISSION, 2, &A_LONG_SUBMISSION_DUE);
+}
+
+/// What is done in `a_page_that_posts`.
+const A_PAGE_THAT_POSTS: [Cue; 10] = [
+    (0, Deed::Calls(1)),
+    (0, Deed::Takes(1, ALL)),
+    (0, Deed::Says(1, POSTED)),
+    (1, Deed::Calls(2)),
+    (1, Deed::Takes(2, ALL)),
+    (
+        1,
+        Deed::Says(2, "BOGUS\n hOsT: here\nhOsT: here\nSUBMIT\nMOV 0,1\n.\n"),
+    ),
+    (2, Deed::Calls(3)),
+    (2, Deed::Takes(3, ALL)),
+    (2, Deed::Says(3, "SHOW\nSUBMIT\nGET MOV 0,1\n.\n")),
+    (3, Deed::Ends(3)),
+];
+
+/// A warrior in the body of a request.
+const POSTED: &str =
+    "POST / HTTP/1.1\r\nHost: 127.0.0.1\r\nContent-Length: 17\r\n\r\nSUBMIT\nMOV 0,1\n.\n";
+
+const A_PAGE_THAT_POSTS_DUE: [Due; 7] = [
+    Due::Heard(1, ""),
+    Due::Closed(1, Some(0)),
+    Due::Told("1 ", &["connected", "Browser"]),
+    Due::Heard(2, "BAD\nBAD\n"),
+    Due::Closed(2, Some(1)),
+    Due::Told("2 ", &["connected", "Browser"]),
+    Due::Heard(3, ".\nPLACED 1 1 0\n"),
+];
+
+/// A page in a browser that sends a warrior is disconnected at the first line, and what stands in a source is no request. Nothing that came after
+/// it is carried out.
+#[test]
+fn a_page_that_posts(rt: HostRuntime) {
+    act_out(&rt, &A_PAGE_THAT_POSTS, 3, &A_PAGE_THAT_POSTS_DUE);
+}
+
 /// What is done in `an_endless_line`.
 const AN_ENDLESS_LINE: [Cue; 7] = [
     (0, Deed::Calls(1)),

@@ -22,11 +22,12 @@ pub(crate) const TABLE_ANSWERS: &str = "PLACED 1 1 0\n1 1 0 0 Imp by A. K. Dewdn
 pub(crate) const THREE: &str = "SUBMIT\nMOV 0,1\n.\nSUBMIT\nJMP 0\n.\nSUBMIT\nDAT 0,0\n.\nSHOW\n";
 
 /// Lines of a session, its answers, and whether it ends with `QUIT` or with its input.
-const ROWS: [(&str, &str, SessionEnd); 8] = rows! {
+const ROWS: [(&str, &str, SessionEnd); 9] = rows! {
     "SUBMIT\nMOV 0,1\n.\nBOGUS\nQUIT\n" => "PLACED 1 1 0\nBAD\n", SessionEnd::Quit;
     "SUBMIT\nMOV 0,1\n" => "", SessionEnd::EndOfInput;
     "SHOW\r\n" => ".\n", SessionEnd::EndOfInput;
     "SHOW \nQUIT\n" => "BAD\n", SessionEnd::Quit;
+    "POST / HTTP/1.1\r\nHost: here\r\n\r\nSHOW\n" => "BAD\nBAD\nBAD\n.\n", SessionEnd::EndOfInput;
     "SUBMIT\n.\nQUIT\n" => "REFUSED 0 Empty\n", SessionEnd::Quit;
     "SUBMIT\n..\n.\nQUIT\n" => "REFUSED 1 BadOperation\n", SessionEnd::Quit;
     TABLE => TABLE_ANSWERS, SessionEnd::Quit;

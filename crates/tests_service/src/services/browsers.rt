@@ -5,7 +5,7 @@ use crate::services::callers::{Cue, Deed};
 use crate::services::serving::{ALL, Due, act_out, serve};
 use std::process::Abort;
 
-const HILL: &str = "GET / HTTP/1.1\r\nHost: here\r\n\r\n";
+const HILL: &str = "GET / HTTP/1.1\r\nHost: 127.0.0.1:80\r\n\r\n";
 
 // A page of seven bytes, as the host writes it, with this as its body.
 macro_rules! page {
@@ -27,7 +27,7 @@ const THE_HILL_THAT_STANDS: [Cue; 13] = [
     (0, Deed::Visits(7)),
     (0, Deed::Takes(7, ALL)),
     (0, Deed::Says(7, "GET / HT")),
-    (1, Deed::Says(7, "TP/1.1\r\nHost: here\r\n\r\n")),
+    (1, Deed::Says(7, "TP/1.1\r\nhost:LocalHost\r\n\r\n")),
     (2, Deed::Calls(1)),
     (2, Deed::Takes(1, ALL)),
     (2, Deed::Says(1, "SUBMIT\nMOV 0,1\n.\n")),
@@ -77,17 +77,53 @@ macro_rules! refused {
 /// A request, what is done if a browser asks so, and what it hears first.
 type Row = (&'static str, [Cue; 6], &'static str);
 
-const REFUSED: [Row; 4] = [
-    refused!("GET /x HTTP/1.1\r\n\r\n", "HTTP/1.1 404 Not Found\r\n"),
+const REFUSED: [Row; 13] = [
     refused!(
-        "GET /replay/1/2/1 HTTP/1.1\r\n\r\n",
+        "GET /x HTTP/1.1\r\nHost: [::1]\r\n\r\n",
         "HTTP/1.1 404 Not Found\r\n"
     ),
     refused!(
-        "POST / HTTP/1.1\r\n\r\n",
+        "GET /replay/1/2/1 HTTP/1.1\r\nHost: [::1]:80\r\n\r\n",
+        "HTTP/1.1 404 Not Found\r\n"
+    ),
+    refused!(
+        "POST / HTTP/1.1\r\nHost: 10.0.0.1\r\n\r\n",
         "HTTP/1.1 405 Method Not Allowed\r\n"
     ),
     refused!("SUBMIT\n\n", "HTTP/1.1 400 Bad Request\r\n"),
+    refused!("GET / HTTP/1.1\r\n\r\n", "HTTP/1.1 400 Bad Request\r\n"),
+    refused!(
+        "GET / HTTP/1.1\r\nHost: localhost\r\nhost: localhost\r\n\r\n",
+        "HTTP/1.1 400 Bad Request\r\n"
+    ),
+    refused!(
+        "GET / HTTP/1.0\r\n\r\n",
+        "HTTP/1.1 421 Misdirected Request\r\n"
+    ),
+    refused!(
+        "GET / HTTP/1.1\r\nHost: evil.example\r\n\r\n",
+        "HTTP/1.1 421 Misdirected Request\r\n"
+    ),
+    refused!(
+        "GET / HTTP/1.1\r\nHost: 127.0.0.1.evil.example:80\r\n\r\n",
+        "HTTP/1.1 421 Misdirected Request\r\n"
+    ),
+    refused!(
+        "GET http://evil.example/ HTTP/1.1\r\nHost: localhost\r\n\r\n",
+        "HTTP/1.1 421 Misdirected Request\r\n"
+    ),
+    refused!(
+        "GET HTTP://127.0.0.1:80 HTTP/1.1\r\nHost: evil.example\r\n\r\n",
+        "HTTP/1.1 200 OK\r\n"
+    ),
+    refused!(
+        "GET http://localhost/x HTTP/1.1\r\nHost: localhost\r\n\r\n",
+        "HTTP/1.1 404 Not Found\r\n"
+    ),
+    refused!(
+        "GET / HTTP/1.1\r\nHost: here.example\r\n\r\n",
+        "HTTP/1.1 200 OK\r\n"
+    ),
 ];
 
 /// What the browser that asks so hears begins with this.
@@ -113,7 +149,7 @@ fn refusals(rt: HostRuntime) {
 }
 
 /// What is done in `a_head`.
-const A_HEAD: [Cue; 6] = asking!("HEAD / HTTP/1.1\r\n\r\n");
+const A_HEAD: [Cue; 6] = asking!("HEAD / HTTP/1.1\r\nHost: localhost\r\n\r\n");
 
 const A_HEAD_DUE: [Due; 1] = [Due::Heard(7, page!(""))];
 

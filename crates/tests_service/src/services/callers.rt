@@ -25,6 +25,8 @@ pub(crate) enum Deed {
     Resets(u16),
     /// It takes this number of bytes more of its answers.
     Takes(u16, usize),
+    /// The work on what is read next takes this number of milliseconds.
+    Lasts(u64),
     /// The next accept of a peer fails.
     Fails,
     /// The next accept of a browser fails.
@@ -80,7 +82,8 @@ impl Caller {
             Deed::Ends(_) => self.has_ended = true,
             Deed::Resets(_) => self.is_gone = true,
             Deed::Takes(_, count) => self.takes = self.takes.saturating_add(count),
-            Deed::Calls(_) | Deed::Visits(_) | Deed::Fails | Deed::FailsBrowser => {}
+            Deed::Calls(_) | Deed::Visits(_) | Deed::Lasts(_) | Deed::Fails | Deed::FailsBrowser =>
+                {}
         }
     }
 

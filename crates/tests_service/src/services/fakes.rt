@@ -13,6 +13,8 @@ pub(crate) struct Fakes<'c> {
     alloc: Global,
     time: u64,
     cues: &'c [Cue],
+    /// How long the work on what is read next takes.
+    lasts: u64,
     fails: usize,
     browser_fails: usize,
     accepted: usize,
@@ -25,6 +27,7 @@ impl<'c> Fakes<'c> {
             alloc,
             time: 0,
             cues,
+            lasts: 0,
             fails: 0,
             browser_fails: 0,
             accepted: 0,
@@ -71,6 +74,7 @@ impl<'c> Fakes<'c> {
         match deed {
             Deed::Calls(port) => self.call(port, false),
             Deed::Visits(port) => self.call(port, true),
+            Deed::Lasts(time) => self.lasts = time,
             Deed::Fails => self.fails = self.fails.saturating_add(1),
             Deed::FailsBrowser => self.browser_fails = self.browser_fails.saturating_add(1),
             Deed::Says(port, _)
@@ -79,6 +83,13 @@ impl<'c> Fakes<'c> {
             | Deed::Resets(port)
             | Deed::Takes(port, _) => self.act_as(port, deed),
         }
+    }
+
+    /// The work on what was read is done, and what is due by then happens.
+    fn work(&mut self) {
+        self.time = self.time.saturating_add(self.lasts);
+        self.lasts = 0;
+        self.happen();
     }
 
     /// The caller from this port does this.
@@ -153,10 +164,14 @@ impl Sockets for Fakes<'_> {
     }
 
     fn read(&mut self, number: usize, bytes: &mut [u8]) -> Came {
-        match self.seated(false, number) {
+        let came = match self.seated(false, number) {
             Some(caller) => caller.give(bytes),
             None => Came::Gone,
+        };
+        if let Came::Bytes(_) = came {
+            self.work();
         }
+        came
     }
 
     fn write(&mut self, number: usize, bytes: &[u8]) -> Went {

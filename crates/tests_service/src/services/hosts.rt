@@ -1,6 +1,6 @@
 //! A host that writes what it is told, and hills in memory.
 
-ghost use Rattle.std.specs.Prelude.{◌≡◌, false, IfOk, IfSome};
+ghost use Rattle.std.specs.Prelude.{◌≡◌, [], ◌∷◌, codes, false, IfOk, IfSome};
 ghost use Rattle.koth_http.specs.declared.target.Page.TheVariants as pages;
 
 use hill_store::Store;
@@ -54,7 +54,7 @@ pub(crate) struct Shut;
 impl Host<Fuse, Global> for Clerk {
     type Fault = Shut;
 
-    ghost shows = { λ _ _ page _. page ≡ pages.Hill };
+    ghost shows = { λ _ _. record { names = codes "here.example" ∷ []; pages = λ page _. page ≡ pages.Hill } };
 
     fn reopen(&self) -> Result<Store<Fuse, Global>, Shut>
         ensures { IfOk result (λ store. store.reopen ≡ false) }
@@ -65,6 +65,10 @@ impl Host<Fuse, Global> for Clerk {
         }
         self.openings.set(openings.saturating_sub(1));
         hill(self.alloc, u64::MAX).ok_or(Shut)
+    }
+
+    fn names(&self) -> &[&str] {
+        &["here.example"]
     }
 
     /// The page of the hill says how many are on it. No round has one.

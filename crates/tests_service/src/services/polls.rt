@@ -87,7 +87,7 @@ fn a_browser_over_sockets(rt: HostRuntime) {
         .listen_to_browsers(&rt, rt.alloc(), here, 1)
         .expect(&rt, "they listen to browsers");
     let pages = sockets.pages_addr().expect(&rt, "browsers have an address");
-    let browser = say(&rt, pages, b"GET / HTTP/1.0\r\n\r\n");
+    let browser = say(&rt, pages, b"GET / HTTP/1.0\r\nHost: 127.0.0.1\r\n\r\n");
     let address = sockets.local_addr().expect(&rt, "peers have an address");
     let peer = say(&rt, address, b"BOGUS\n");
     serve(&rt, &mut sockets, 1, 1);

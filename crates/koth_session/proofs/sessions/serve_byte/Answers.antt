@@ -1,5 +1,5 @@
 -- A command that a byte completes is answered.
-use Rattle.{std.proofs.Common.{refl, subst}, koth_protocol.specs.{Commands.{Command, kept_source}, Reading.Reads, declared.script.Met.Met}, koth_session.specs.Sessions.{AnswersCommand, said, scene}}
+use Rattle.{std.proofs.Common.{◌≡◌, ◌⊎◌, inl, inr, ℕ, List, ◌∷◌, refl, subst}, koth_protocol.specs.{Commands.{Command, Reader, kept_source}, Reading.{Reads, commands_met}, declared.script.Met.Met}, koth_session.specs.Sessions.{AnswersCommand, said, scene}}
 use Rattle.{koth_session.specs.Transcript.Exchange, koth_session.proofs.{Exchanges.served_same, Serving.{command_met, nothing_met, quit_met}, Submissions.answers_said}}
 use Rattle.koth_session.proofs.sessions.serve_byte.Goals as goal
 
@@ -28,11 +28,15 @@ returns-in-Quit-clause-goes g c = λ line source reading.
     quit_met g.D.Device.facts line source c.args.byte c.take.new.self _
     (subst (λ m. Reads line source c.args.byte m c.take.new.self) c.in-Quit.is (c.take.ensures line source reading))
 
-pub returns-in-Bad-clause-goes : goal.returns-in-Bad-clause-goes
-returns-in-Bad-clause-goes g c = λ line source reading.
-    rw c.said.ensures (command_met g.D.Device.facts line source c.args.byte Met.Bad c.take.new.self
-    Command.Bad (said c.send.result) _ _ (λ others. refl)
-    (subst (λ m. Reads line source c.args.byte m c.take.new.self) c.in-Bad.is (c.take.ensures line source reading))
+either_bad : (m : Met) (bytes : List ℕ) → (m ≡ Met.Request) ⊎ (m ≡ Met.Bad) → (others : List Command) → commands_met Reader.Session m bytes others ≡ Command.Bad ∷ others
+either_bad m bytes (inl is) = λ others. rw is refl
+either_bad m bytes (inr is) = λ others. rw is refl
+
+pub returns-in-Request-clause-goes : goal.returns-in-Request-clause-goes
+returns-in-Request-clause-goes g c = λ line source reading.
+    rw c.said.ensures (command_met g.D.Device.facts line source c.args.byte c.take.result c.take.new.self
+    Command.Bad (said c.send.result) _ _ (either_bad c.take.result c.take.new.self.source c.in-Request.is)
+    (c.take.ensures line source reading)
     (answers_said g.D.Device.facts Exchange.BadLine _ c.send.result _ _ refl
     (served_same g.D.Device.facts c.args.store.now Exchange.BadLine refl (λ worn. absurd worn) (λ has. absurd has))
     c.send.ensures.whole c.send.ensures.part))

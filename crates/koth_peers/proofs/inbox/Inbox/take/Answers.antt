@@ -2,6 +2,6 @@ use Rattle.{std.proofs.Common.{◌++◌, arith, refl}, koth_peers.proofs.Reading
 use Rattle.koth_peers.proofs.inbox.Inbox.take.Goals as goal
 
 pub returns : goal.returns
-returns g c = λ came done reading.
-    c.read_on.ensures (came ++ c.args.bytes.now) done
-    (more_came c.args.self.now _ c.args.bytes.now refl refl c.put.ensures refl (omega arith) came done reading.followed)
+returns g c = λ reader came done reading.
+    c.read_on.ensures reader (came ++ c.args.bytes.now) done
+    (more_came c.args.self.now _ c.args.bytes.now refl refl c.put.ensures refl (omega arith) reader came done reading.followed)
