@@ -39,9 +39,10 @@ pub enum Existing {
 /// A device over the file at a path, sector by sector as `FileDevice` has them. It keeps the file's lock, if it took it, until it is
 /// dropped.
 ///
-/// Before each sync it looks whether the path still leads to the file that is open and the file still has each of the device's sectors,
-/// and again after it, as a sync takes its time. If not, or if the system doesn't say, the sync is a fault. So a hill whose file was
-/// removed, replaced or cut is never said to be synced. It is lawful in no contract, as `FileDevice`.
+/// Before each write and each sync it looks whether the path still leads to the file that is open and the file still has each of the
+/// device's sectors, and again after a sync, which takes its time. If not, or if the system doesn't say, the call is a fault. So a hill
+/// whose file was removed, replaced or cut is never said to be synced, and no write makes a file that was cut as long as it was. It is
+/// lawful in no contract, as `FileDevice`.
 #[derive(Drop)]
 pub struct HillFile<'f, R: Files> {
     rt: &'f R,
@@ -188,7 +189,9 @@ impl<R: Files> Device for HillFile<'_, R> {
         self.device.read(n, to)
     }
 
+    /// Nothing is written to a file that the path doesn't lead to, or that was cut: a write at its end would make it as long as it was.
     fn write(&mut self, n: u32, from: &[u8; 512]) -> Result<(), Fault> {
+        self.look()?;
         self.device.write(n, from)
     }
 

@@ -55,6 +55,14 @@ fn expect_refused<D: Device>(rt: &impl Abort, device: &mut D, faults: u64) {
     expect_faults(rt, device, faults.saturating_add(1));
 }
 
+/// A write to a sector that fails, and counts one more than `faults`.
+fn expect_unwritten<D: Device>(rt: &impl Abort, device: &mut D, n: u32, faults: u64) {
+    expect_faults(rt, device, faults);
+    assert!(rt; n < device.sectors());
+    expect_same(rt, &device.write(n, &[7; 512]), &Err(Fault), "a write");
+    expect_faults(rt, device, faults.saturating_add(1));
+}
+
 /// What a sector holds, which a test never fills with 255.
 pub(crate) fn read<D: Device>(rt: &impl Abort, device: &mut D, n: u32) -> [u8; 512] {
     let mut content = [255; 512];
@@ -119,6 +127,8 @@ pub(crate) enum Step {
     Read(u32, u8),
     /// A sector can't be read, and that is the first fault.
     Unread(u32),
+    /// A sector can't be written after this number of faults.
+    Unwritten(u32, u64),
     /// A sync is done.
     Sync,
     /// A sync that fails after this number of faults.
@@ -133,6 +143,7 @@ pub(crate) fn take<D: Device>(rt: &impl Abort, device: &mut D, step: Step) {
         Step::Write(n, byte) => write(rt, device, n, byte),
         Step::Read(n, byte) => expect_read(rt, device, n, byte),
         Step::Unread(n) => expect_unread(rt, device, n),
+        Step::Unwritten(n, faults) => expect_unwritten(rt, device, n, faults),
         Step::Sync => sync(rt, device),
         Step::Refused(faults) => expect_refused(rt, device, faults),
     }

@@ -216,7 +216,7 @@ fn expect_unsynced<D: Device>(rt: &impl Abort, calls: &Cell<Calls>, hill: &mut D
     expect_calls(rt, calls, b"mym".get(..fails_at.saturating_add(1)));
 }
 
-/// A sync is a look, a sync and a look, and a fault if one of them fails. A read and a write need no look.
+/// A write is a look and a write, a sync is a look, a sync and a look, and each is a fault if one of them fails. A read needs no look.
 fn expect_each<D: Device + Drop, E: Debug>(
     rt: &impl Abort,
     calls: &Cell<Calls>,
@@ -228,7 +228,7 @@ fn expect_each<D: Device + Drop, E: Debug>(
     write(rt, &mut hill, 2, 7);
     expect_read(rt, &mut hill, 2, 7);
     sync(rt, &mut hill);
-    expect_calls(rt, calls, Some(b"swsrmym"));
+    expect_calls(rt, calls, Some(b"mswsrmym"));
     expect_unsynced(rt, calls, &mut hill, 0);
     expect_unsynced(rt, calls, &mut hill, 1);
     expect_unsynced(rt, calls, &mut hill, 2);

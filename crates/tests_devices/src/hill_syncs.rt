@@ -1,4 +1,4 @@
-//! The syncs of the device over a hill's file: none is done if the path leads elsewhere, or the file is too short.
+//! The writes and syncs of the device over a hill's file: none is done if the path leads elsewhere, or the file is too short.
 
 use crate::calls::{Step, expect_faults};
 use crate::deeds::Deed;
@@ -11,14 +11,15 @@ use std::fs::File;
 use std::process::Abort;
 use std::rt::Files;
 
-/// The file of a device of three sectors is removed: reads and writes go on, and each of two syncs fails.
-const REMOVED: [Turn<'static>; 7] = [
+/// The file of a device of three sectors is removed: reads go on, and a write and each of two syncs fails.
+const REMOVED: [Turn<'static>; 8] = [
     Turn::On(Step::Sectors(3)),
     Turn::On(Step::Sync),
     Turn::At(Deed::Remove("")),
-    Turn::On(Step::Write(1, 7)),
-    Turn::On(Step::Refused(0)),
+    Turn::On(Step::Unwritten(1, 0)),
+    Turn::On(Step::Read(1, 0)),
     Turn::On(Step::Refused(1)),
+    Turn::On(Step::Refused(2)),
     Turn::On(Step::Sectors(3)),
 ];
 
@@ -45,17 +46,18 @@ fn a_replaced_file(rt: HostRuntime) {
     on_hill(&rt, rt.process(), "hill-one", &[], &REPLACED, &[]);
 }
 
-/// One byte is missing of the last sector of three. When that is written again, a sync is done.
-const CUT: [Turn<'static>; 9] = [
+/// One byte is missing of the last sector of three: that isn't written, and no sync is done.
+const CUT: [Turn<'static>; 10] = [
     Turn::On(Step::Sectors(3)),
     Turn::At(Deed::SetLength(1535)),
     Turn::On(Step::Refused(0)),
-    Turn::On(Step::Write(2, 7)),
-    Turn::On(Step::Sync),
-    Turn::On(Step::Faults(1)),
+    Turn::On(Step::Unwritten(2, 1)),
     // A file that others made longer holds its sectors.
     Turn::At(Deed::SetLength(2000)),
+    Turn::On(Step::Write(2, 7)),
     Turn::On(Step::Sync),
+    Turn::On(Step::Faults(2)),
+    Turn::On(Step::Read(2, 7)),
     Turn::At(Deed::Remove("")),
 ];
 
