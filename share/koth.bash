@@ -25,7 +25,7 @@ _koth_takes() {
             kinds=('source' 'source')
             ;;
         'create')
-            options='--overwrite -h --help -s --core -p --processes -l --length -d --distance -c --cycles -r --rounds --read-limit --write-limit --seed --capacity'
+            options='--overwrite --draw-seed -h --help -s --core -p --processes -l --length -d --distance -c --cycles -r --rounds --read-limit --write-limit --seed --capacity'
             valued='-s --core -p --processes -l --length -d --distance -c --cycles -r --rounds --read-limit --write-limit --seed --capacity'
             kinds=('file')
             ;;

@@ -2,14 +2,14 @@
 use Rattle.std.proofs.Common.{◌≡◌, ◌≢◌, ◌⊎◌, ℕ, Bool, true, false, ap, List, [], Option, None, Some, Result, Ok, Err, inl, inr, ◌∙◌, refl, sym, subst, codes, length, option_map}
 use Rattle.{std.specs.{Prelude.{⊤, unwrap_or}, Str.bytes_eq}, std.proofs.{lemmas.List.length-map, KnownBytes.Keeps-refl}, std.specs.Io.KnownBytes.Keeps, clap.specs.Walk.{Row, Text}}
 use Rattle.{clap.specs.Words.{all_of, first_of, one_of}, war_types.specs.{declared.settings.RawSettings.RawSettings, declared.settings.SettingsFault.SettingsFault, Settings.settings_of}}
-use Rattle.koth_words.specs.{Options.{number_or, settings_in}, Words.{AsksBy, IsRefusal, IsSource, given_in, is_input, matches_in, view_in}, declared.words.NoRequest.NoRequest}
+use Rattle.koth_words.specs.{Options.{number_or, settings_in}, Words.{AsksBy, IsRefusal, IsSource, given_in, has_flag, is_input, matches_in, view_in}, declared.words.NoRequest.NoRequest}
 use Rattle.koth_words.specs.{declared.words.Request.Request, declared.words.Request.TheVariants.{Asm, Check, Fight, Create, Submit, Show, Serve, Audit, Migrate, Page, Replay}}
 use Rattle.{koth_words.specs.{declared.words.Source.Source, declared.words.View.View}, koth_commands.specs.{Answer.EndsGiven, Asm.{EndsAsmFrom, EndsAsmOf, EndsUnder, is_of_input}}}
 use Rattle.koth_commands.specs.{Check.{EndsCheck, EndsCheckUnder}, Failure.failure_word, Fight.{EndsFight, EndsFightUnder}, Replay.{EndsReplay, EndsReplayUnder, with_round}}
 use Rattle.koth_commands.specs.{Streams.{Streams, streams, unread}, Told.TellsWord, declared.status.Status.Status, declared.status.Status.TheVariants.{NoMemory, WordFault}}
 use Rattle.{koth_commands.specs.declared.failure.Failure.Failure, koth_commands.proofs.Told.{kept_part, keeps_some, writes_nothing}}
-use Rattle.koth_server.specs.{Hills.{EndsCreate, EndsHill, EndsServe, EndsService, EndsSubmit, Said, SaysCreated, SaysShown, listening_line}, Audit.EndsAudit, Migration.SaysMigrated}
-use Rattle.koth_server.specs.{Page.SaysPage, Run.{CommandEnds, EndsRequest, EndsWithout, viewed}, declared.hill_fault.HillFault.TheVariants.Failed}
+use Rattle.koth_server.specs.{Hills.{EndsCreate, EndsHill, EndsMade, EndsServe, EndsService, EndsSubmit, Said, SaysCreated, SaysShown, TellsFault, listening_line}, Audit.EndsAudit}
+use Rattle.koth_server.specs.{Migration.SaysMigrated, Page.SaysPage, Run.{CommandEnds, EndsRequest, EndsWithout, viewed}, Seed.seed_hint, declared.hill_fault.HillFault.TheVariants.Failed}
 
 -- one fact or the other
 abbrev Either : Bool → Type 0 → Type 0 → Type 0
@@ -30,7 +30,7 @@ EndsNamed name view given status before after =
     Either (bytes_eq name (codes "asm")) (EndsAsmOf (is_input (first_of (codes "FILE") given)) settings status before after)
     (Either (bytes_eq name (codes "check")) (EndsCheck (length (unwrap_or (all_of (codes "FILE") given) [])) settings status u v)
     (Either (bytes_eq name (codes "fight")) (EndsFight shown settings status u v)
-    (Either (bytes_eq name (codes "create")) (EndsCreate settings status u v)
+    (Either (bytes_eq name (codes "create")) (EndsCreate (has_flag (codes "draw-seed") given) (settings_in given) status u v)
     (Either (bytes_eq name (codes "submit")) (EndsSubmit shown status u v)
     (Either (bytes_eq name (codes "show")) (EndsHill (SaysShown shown (matches_in given)) status u v)
     (Either (bytes_eq name (codes "audit")) (EndsAudit status u v)
@@ -61,8 +61,9 @@ module _ (view : View) (e : Text × List Row) (status : Status) (before after : 
   named (Fight given files) asks ends = subst Ends (sym asks.0)
       (subst (λ v. EndsFight (viewed v view) (settings_of (settings_in e.1)) status (unread before) (unread after)) asks.4
       (subst (λ s. EndsFight (viewed files.view view) (settings_of s) status (unread before) (unread after)) asks.1 ends.0))
-  named (Create given creation) asks ends =
-      subst Ends (sym asks.0) (subst (λ s. EndsCreate (settings_of s) status (unread before) (unread after)) asks.1 ends.0)
+  named (Create given creation) asks ends = subst Ends (sym asks.0)
+      (subst (λ d. EndsCreate d (settings_in e.1) status (unread before) (unread after)) asks.4
+      (subst (λ s. EndsCreate creation.draw_seed s status (unread before) (unread after)) asks.1 ends.0))
   named (Submit files) asks ends = subst Ends (sym asks.0) (subst (λ v. EndsSubmit (viewed v view) status (unread before) (unread after)) asks.3 ends.0)
   named (Show shown) asks ends = subst Ends (sym asks.0)
       (subst (λ v. EndsHill (SaysShown (viewed v view) (matches_in e.1)) status (unread before) (unread after)) asks.3
@@ -135,8 +136,11 @@ module _ (i o p e f : Option (List ℕ)) (kept : Keeps o p) (told : TellsWord (f
   given_no_memory ends (Ok s) no_memory = no_memory s
   given_no_memory ends (Err fault) no_memory = (record { input = Keeps-refl i; output = kept }, told)
 
+  fault_no_memory : (said : Said) → TellsFault said NoMemory (streams i o e) (streams i p f)
+  fault_no_memory said = record { fault = Failed Failure.Memory; ends = refl; output = kept; told = told }
+
   hill_no_memory : (said : Said) → EndsHill said NoMemory (streams i o e) (streams i p f)
-  hill_no_memory said = inr (record { fault = Failed Failure.Memory; ends = refl; output = kept; told = told })
+  hill_no_memory said = inr (fault_no_memory said)
 
   audit_no_memory : EndsAudit NoMemory (streams i o e) (streams i p f)
   audit_no_memory = inr (record { fault = Failed Failure.Memory; ends = refl; output = kept; told = told })
@@ -172,8 +176,10 @@ module _ (i o p e f : Option (List ℕ)) (kept : Keeps o p) (told : TellsWord (f
   replay_no_memory round r = given_no_memory None o p e f kept told (λ s end u v. EndsReplayUnder s round end u.output v.output u.errors v.errors) (with_round round r)
       (λ s. (kept, told))
 
-  create_no_memory : (r : Result RawSettings SettingsFault) → EndsCreate r NoMemory (streams None o e) (streams None p f)
-  create_no_memory r = given_no_memory None o p e f kept told (λ s. EndsHill SaysCreated) r (λ s. hill_no_memory None o p e f kept told SaysCreated)
+  create_no_memory : (drawn : Bool) (given : RawSettings) → EndsCreate drawn given NoMemory (streams None o e) (streams None p f)
+  create_no_memory false given = given_no_memory None o p e f kept told (λ s. EndsMade (seed_hint given.seed)) (settings_of given)
+      (λ s. inr (fault_no_memory None o p e f kept told SaysCreated))
+  create_no_memory true given = inr (fault_no_memory None o p e f kept told SaysCreated)
 
   serve_no_memory : (r : Result RawSettings SettingsFault) → EndsServe r NoMemory (streams None o e) (streams None p f)
   serve_no_memory r = given_no_memory None o p e f kept told (λ s. EndsService) r (λ s. service_no_memory None o p e f kept told)
@@ -185,7 +191,7 @@ module _ (i o p e f : Option (List ℕ)) (kept : Keeps o p) (told : TellsWord (f
       either (bytes_eq name (codes "asm")) _ _ (asm_no_memory (is_input (first_of (codes "FILE") given)) settings)
       (either (bytes_eq name (codes "check")) _ _ (check_no_memory (length (unwrap_or (all_of (codes "FILE") given) [])) settings)
       (either (bytes_eq name (codes "fight")) _ _ (fight_no_memory shown settings)
-      (either (bytes_eq name (codes "create")) _ _ (create_no_memory settings)
+      (either (bytes_eq name (codes "create")) _ _ (create_no_memory (has_flag (codes "draw-seed") given) (settings_in given))
       (either (bytes_eq name (codes "submit")) _ _ (submit_no_memory None o p e f kept told shown)
       (either (bytes_eq name (codes "show")) _ _ (hill_no_memory None o p e f kept told (SaysShown shown (matches_in given)))
       (either (bytes_eq name (codes "audit")) _ _ (audit_no_memory None o p e f kept told)

@@ -1,10 +1,11 @@
 -- What the commands on a hill in a file write, and how they end.
-use Rattle.std.specs.{Prelude.{◌≡◌, ◌≢◌, ◌⊎◌, ℕ, Bool, if◌then◌else◌, List, [], Option, ◌++◌, Result, Ok, Err, codes, decimal}, Io.KnownBytes.{Appends, Keeps}}
-use Rattle.{war_types.specs.{declared.settings.RawSettings.RawSettings, declared.settings.SettingsFault.SettingsFault}, koth_hill.specs.Kept.{Kept, table_kept}, sector_disk.specs.Facts.DeviceFacts}
+use Rattle.std.specs.{Prelude.{◌≡◌, ◌≢◌, ◌⊎◌, ℕ, Bool, true, false, if◌then◌else◌, List, [], Option, ◌++◌, Result, Ok, Err, codes, decimal}, Io.KnownBytes.{Appends, Keeps}}
+use Rattle.war_types.specs.{Settings.settings_of, declared.settings.RawSettings.RawSettings, declared.settings.SettingsFault.SettingsFault}
+use Rattle.{koth_match.specs.Seeds.IsSeed, koth_hill.specs.Kept.{Kept, table_kept}, sector_disk.specs.Facts.DeviceFacts}
 use Rattle.{hill_store.specs.{Seen.{Seen, Submits}, declared.reply.Reply.Reply}, koth_protocol.specs.{Matches.matches_text, Table.show_text, Written.WritesPart}, koth_session.specs.Reply.reply_line}
 use Rattle.{koth_words.specs.declared.words.View.View, koth_views.specs.{Standing.hill_view, Matrix.matches_view, Placing.placing_view, Roster.roster}}
 use Rattle.koth_commands.specs.{Answer.{EndsGiven, Tells}, Failure.failure_word, Told.{TellsWord, WritesSome}, Streams.Streams, declared.status.Status.Status, declared.failure.Failure.Failure}
-use Rattle.koth_server.specs.{HillFault.{fault_status, fault_word}, ReplyStatus.reply_status, declared.hill_fault.HillFault.HillFault, declared.trouble.HillTrouble.HillTrouble}
+use Rattle.koth_server.specs.{HillFault.{fault_status, fault_word}, ReplyStatus.reply_status, Seed.seed_hint, declared.hill_fault.HillFault.HillFault, declared.trouble.HillTrouble.HillTrouble}
 
 -- the line that names the port
 abbrev pub listening_line : ℕ → List ℕ
@@ -106,9 +107,22 @@ abbrev pub EndsHill : Said → Status → Streams → Streams → Type 0
 EndsHill said status before after =
     (SaysWhole said status before.output after.output × Keeps before.errors after.errors) ⊎ TellsFault said status before after
 
--- how `create` ends: as such a command under the settings that are given, with their refusal, or out of memory
-abbrev pub EndsCreate : Result RawSettings SettingsFault → Status → Streams → Streams → Type 0
-EndsCreate settings status before after = EndsGiven (λ s. EndsHill SaysCreated) settings status before after
+-- how making a hill ends: with its line, and then a hint on standard error, or a part of the hint if that failed; or with a fault. If there
+-- is no hint, nothing is on standard error but a fault.
+abbrev pub EndsMade : List ℕ → Status → Streams → Streams → Type 0
+EndsMade hint status before after =
+    (SaysWhole SaysCreated status before.output after.output × WritesPart before.errors after.errors hint) ⊎ TellsFault SaysCreated status before after
+
+-- the same under the settings that are given, or with their refusal, or out of memory
+abbrev pub EndsMadeBy : List ℕ → RawSettings → Status → Streams → Streams → Type 0
+EndsMadeBy hint given status before after = EndsGiven (λ s. EndsMade hint) (settings_of given) status before after
+
+-- How `create` ends: with a hint if the settings that are given have the default seed. If the seed is drawn, in place of theirs, there is no
+-- hint, and the source of random numbers may fail.
+abbrev pub EndsCreate : Bool → RawSettings → Status → Streams → Streams → Type 0
+EndsCreate false given status before after = EndsMadeBy (seed_hint given.seed) given status before after
+EndsCreate true given status before after =
+    ((seed : ℕ) × IsSeed seed × EndsMadeBy [] (record given { seed = seed }) status before after) ⊎ TellsFault SaysCreated status before after
 
 -- a submission that a store answered, which turned the old hill into the new one: the text of the reply was written, and a refusal was
 -- explained

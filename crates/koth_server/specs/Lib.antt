@@ -3,6 +3,8 @@ pub mod HillFault
 pub mod ReplyStatus
 -- What is reported of a device whose hill is not opened, and of a hill of the old format.
 pub mod OldHill
+-- The seed that is drawn for a hill, and what is told of the default one.
+pub mod Seed
 -- What each command on a hill writes and how it ends.
 pub mod Hills
 pub mod Audit

@@ -1,7 +1,7 @@
 -- How a run ends.
 use Rattle.std.specs.{Prelude.{◌≡◌, ◌≢◌, ◌⊎◌, ℕ, List, [], length, Option, codes, unwrap_or}, Io.KnownBytes.Keeps}
-use Rattle.{clap.specs.Words.{Text, all_of, one_of}, war_types.specs.Settings.settings_of}
-use Rattle.koth_words.specs.{Options.number_or, Words.{given_by, matches_named, reads_input, settings_named, view_named, AreTaken, AreWrong, AsksFor}, declared.words.NoRequest.NoRequest}
+use Rattle.{clap.specs.Words.{Text, all_of, one_of}, war_types.specs.Settings.settings_of, koth_words.specs.Options.number_or}
+use Rattle.koth_words.specs.{Words.{draw_seed_named, given_by, matches_named, reads_input, settings_named, view_named, AreTaken, AreWrong, AsksFor}, declared.words.NoRequest.NoRequest}
 use Rattle.koth_words.specs.{declared.words.Request.Request, declared.words.Request.TheVariants.{Asm, Check, Fight, Create, Submit, Show, Serve, Audit, Migrate, Page, Replay}}
 use Rattle.{koth_words.specs.declared.words.View.View, koth_commands.specs.{Answer.Tells, Asm.{EndsAsmFrom, EndsAsmOf}, Check.EndsCheck, Fight.EndsFight, Replay.EndsReplay}}
 use Rattle.koth_commands.specs.{Status.status_code, Streams.{Streams, unread}, declared.status.Status.Status, declared.failure.Failure.Failure}
@@ -22,7 +22,7 @@ CommandEnds view (Check given checked) status before after =
     EndsCheck (length checked.files.items) (settings_of given) status (unread before) (unread after)
 CommandEnds view (Fight given files) status before after =
     EndsFight (viewed files.view view) (settings_of given) status (unread before) (unread after)
-CommandEnds view (Create given creation) status before after = EndsCreate (settings_of given) status (unread before) (unread after)
+CommandEnds view (Create given creation) status before after = EndsCreate creation.draw_seed given status (unread before) (unread after)
 CommandEnds view (Submit files) status before after = EndsSubmit (viewed files.view view) status (unread before) (unread after)
 CommandEnds view (Show shown) status before after = EndsHill (SaysShown (viewed shown.view view) shown.matches) status (unread before) (unread after)
 CommandEnds view (Audit file) status before after = EndsAudit status (unread before) (unread after)
@@ -58,7 +58,7 @@ pub record EndsRun (view : View) (given : List (List ℕ)) (status : Status) (be
       → EndsCheck (length (files_named given)) (settings_of (settings_named given)) status (unread before) (unread after)
   pub fight : AsksFor (codes "fight") given
       → EndsFight (viewed (view_named given) view) (settings_of (settings_named given)) status (unread before) (unread after)
-  pub create : AsksFor (codes "create") given → EndsCreate (settings_of (settings_named given)) status (unread before) (unread after)
+  pub create : AsksFor (codes "create") given → EndsCreate (draw_seed_named given) (settings_named given) status (unread before) (unread after)
   pub submit : AsksFor (codes "submit") given → EndsSubmit (viewed (view_named given) view) status (unread before) (unread after)
   pub show : AsksFor (codes "show") given
       → EndsHill (SaysShown (viewed (view_named given) view) (matches_named given)) status (unread before) (unread after)

@@ -1,25 +1,28 @@
 //! The command `create`: a hill without warriors in a file.
 
-ghost use Rattle.std.specs.Prelude.{◌≡◌, ◌≢◌, None, false, IfOk};
-ghost use Rattle.{war_types.specs.Settings.settings_of, hill_store.specs.Opened.IsCreated, koth_commands.specs.Streams.streams, koth_server.specs.Hills.{EndsCreate, EndsHill, SaysCreated, Tries}};
+ghost use Rattle.std.specs.Prelude.{◌≡◌, ◌≢◌, None, false, true, IfOk};
+ghost use Rattle.{hill_store.specs.Opened.IsCreated, koth_commands.specs.Streams.streams, koth_server.specs.Hills.{EndsCreate, EndsMade, EndsMadeBy, SaysCreated, Tries}};
 
 use crate::files::HillStore;
 use crate::hill_fault::HillFault;
+use crate::seed::{drawn_seed, seed_hint};
 use crate::trouble::{HillTrouble, fault_of_refusal};
 use hill_file::{Existing, HillFile, TryLock};
 use hill_store::{Store, sectors_for};
-use koth_commands::{Status, refuse_settings, write_whole};
+use koth_commands::{Status, reason_of, refuse_settings, write_whole};
 use koth_words::Creation;
 use sector_disk::Device;
 use std::alloc::Allocator;
 use std::io::Write;
+use std::random::RandomSource;
 use std::rt::Files;
 use war_types::{RawSettings, Settings};
 
 /// Makes the file if it is missing, just large enough for the hill, and creates the hill in it. Settings that are out of
 /// their ranges are refused before the file is touched. A file that holds anything but zeros is refused as `Occupied` and stays as it is,
-/// unless the arguments say that it is to be overwritten.
-pub(crate) fn create<R: Files, A: Allocator + Copy, O: Write, E: Write>(
+/// unless the arguments say that it is to be overwritten. What the default seed means is written on standard error after the hill was made,
+/// and a seed that is drawn, if they say so, nowhere but in the file.
+pub(crate) fn create<R: Files + RandomSource, A: Allocator + Copy, O: Write, E: Write>(
     rt: &R,
     alloc: A,
     given: RawSettings,
@@ -29,13 +32,65 @@ pub(crate) fn create<R: Files, A: Allocator + Copy, O: Write, E: Write>(
 ) -> Status
 where
     R::File: TryLock,
-    ensures ends { EndsCreate (settings_of given) result
+    ensures ends { EndsCreate creation.entry.draw_seed given result
+        (streams None (O.contents output.old) (E.contents errors.old))
+        (streams None (O.contents output.new) (E.contents errors.new)) }
+    ensures words { result ≢ Status.WordFault }
+{
+    if creation.draw_seed {
+        return create_drawn(rt, alloc, given, creation, output, errors);
+    }
+    let hint = seed_hint(given.seed);
+    create_by(rt, alloc, given, creation, hint, output, errors)
+}
+
+/// The same at a seed that is drawn.
+fn create_drawn<R: Files + RandomSource, A: Allocator + Copy, O: Write, E: Write>(
+    rt: &R,
+    alloc: A,
+    given: RawSettings,
+    creation: Creation<'_>,
+    output: &mut O,
+    errors: &mut E,
+) -> Status
+where
+    R::File: TryLock,
+    ensures ends { EndsCreate true given result
+        (streams None (O.contents output.old) (E.contents errors.old))
+        (streams None (O.contents output.new) (E.contents errors.new)) }
+    ensures words { result ≢ Status.WordFault }
+{
+    match drawn_seed(rt) {
+        Ok(seed) => {
+            let drawn = RawSettings { seed, ..given };
+            create_by(rt, alloc, drawn, creation, "", output, errors)
+        }
+        Err(error) => {
+            let reason = reason_of(error.kind());
+            HillTrouble::file("random numbers", reason).tell(alloc, errors)
+        }
+    }
+}
+
+/// The same with this hint after the hill was made.
+fn create_by<R: Files, A: Allocator + Copy, O: Write, E: Write>(
+    rt: &R,
+    alloc: A,
+    given: RawSettings,
+    creation: Creation<'_>,
+    hint: &str,
+    output: &mut O,
+    errors: &mut E,
+) -> Status
+where
+    R::File: TryLock,
+    ensures ends { EndsMadeBy hint.now given result
         (streams None (O.contents output.old) (E.contents errors.old))
         (streams None (O.contents output.new) (E.contents errors.new)) }
     ensures words { result ≢ Status.WordFault }
 {
     match Settings::new(given) {
-        Ok(settings) => create_under(rt, alloc, settings, creation, output, errors),
+        Ok(settings) => create_under(rt, alloc, settings, creation, hint, output, errors),
         Err(fault) => refuse_settings(alloc, given, fault, errors),
     }
 }
@@ -45,18 +100,22 @@ fn create_under<R: Files, A: Allocator + Copy, O: Write, E: Write>(
     alloc: A,
     settings: Settings,
     creation: Creation<'_>,
+    hint: &str,
     output: &mut O,
     errors: &mut E,
 ) -> Status
 where
     R::File: TryLock,
-    ensures ends { EndsHill SaysCreated result
+    ensures ends { EndsMade hint.now result
         (streams None (O.contents output.old) (E.contents errors.old))
         (streams None (O.contents output.new) (E.contents errors.new)) }
     ensures words { result ≢ Status.WordFault }
 {
     match create_file(rt, alloc, settings, creation, output) {
-        Ok(status) => status,
+        Ok(status) => {
+            let _ = write_whole(errors, hint.as_bytes());
+            status
+        }
         Err(trouble) => trouble.tell(alloc, errors),
     }
 }

@@ -8,6 +8,7 @@
 //! - `create`, `submit`, `show`, `page`, `audit`, `migrate`, `serve`: a command on a hill each, and `log`: what a service reports;
 //! - `pages`: the pages that browsers of a service ask for;
 //! - `files`: the hill in a file, opened, `old_hill`: how one of the old format is known, and `damage`: which warrior can't be read;
+//! - `seed`: the seed that `create` draws, and what is told of the default one;
 //! - `hill_fault`, `trouble`, `reply_status`: what is reported of a hill that can't be worked on, and how the program ends then, and with
 //!   a reply.
 //!
@@ -32,6 +33,7 @@ mod page;
 mod pages;
 mod program;
 mod reply_status;
+mod seed;
 mod serve;
 mod show;
 mod submit;
@@ -45,5 +47,6 @@ pub use koth_protocol::{Counted, ReadFault, WriteFault};
 pub use koth_session::{SessionEnd, session, write_reply};
 pub use koth_words::View;
 pub use program::run;
+pub use seed::drawn_seed;
 pub use trouble::HillTrouble;
 pub use typed::Typed;

@@ -20,12 +20,13 @@ use koth_words::{NoRequest, Request, View, parse};
 use std::alloc::{Allocator, Global};
 use std::io::{Read, Write};
 use std::net::Net;
+use std::random::RandomSource;
 use std::rt::{Clock, Files};
 
 /// Does what the arguments ask for, and returns the exit status: 0 done, 1 refused, 2 wrong arguments, 3 a stream or a file failed, 4 out of
 /// memory. The first of `words` is the program's name. They are parsed on `heap`, and all other memory comes from `alloc`. If the arguments
 /// don't say how tables are laid out, they are in `view`: columns for a terminal, and else lines for programs.
-pub fn run<R: Files + Net + Clock, A: Allocator + Copy, I: Read, O: Write, E: Write>(
+pub fn run<R: Files + Net + Clock + RandomSource, A: Allocator + Copy, I: Read, O: Write, E: Write>(
     rt: &R,
     heap: Global,
     alloc: A,
@@ -44,7 +45,13 @@ where
     carry_out(rt, heap, alloc, words, view, input, output, errors).code()
 }
 
-fn carry_out<R: Files + Net + Clock, A: Allocator + Copy, I: Read, O: Write, E: Write>(
+fn carry_out<
+    R: Files + Net + Clock + RandomSource,
+    A: Allocator + Copy,
+    I: Read,
+    O: Write,
+    E: Write,
+>(
     rt: &R,
     heap: Global,
     alloc: A,
@@ -67,7 +74,7 @@ where
 }
 
 /// Carries out a request.
-fn fulfil<R: Files + Net + Clock, A: Allocator + Copy, I: Read, O: Write, E: Write>(
+fn fulfil<R: Files + Net + Clock + RandomSource, A: Allocator + Copy, I: Read, O: Write, E: Write>(
     rt: &R,
     alloc: A,
     request: &Request<'_>,

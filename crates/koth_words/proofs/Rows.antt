@@ -2,17 +2,18 @@
 use Rattle.{std.proofs.Common.{◌≡◌, true, false, true≢false, List, [], ◌∷◌, Some, None, Ok, codes, refl, sym, inr}, clap.specs.Words.{Row, all_of, fault_of, first_of, one_of, subcommand_of, takes}}
 use Rattle.{clap.proofs.OnLiterals.clap_on_literals, clap.specs.declared.error.kind.ErrorKind.ErrorKind, war_types.specs.Settings.settings_of}
 use Rattle.koth_words.specs.Options.{default_settings, number_given, number_or}
-use Rattle.koth_words.specs.Words.{AreTaken, AreWrong, AsksFor, IsAddress, create_named, form_named, given_by, given_in, koth_app, matches_named, overwrite_named, reads_input, replays_named, settings_named}
+use Rattle.koth_words.specs.Words.{AreTaken, AreWrong, AsksFor, IsAddress}
+use Rattle.koth_words.specs.Words.{create_named, draw_seed_named, form_named, given_by, given_in, koth_app, matches_named, overwrite_named, reads_input, replays_named, settings_named}
 use Rattle.{koth_words.specs.{Words.view_named, declared.words.{Form.Form, View.View}}, koth_words.proofs.Addresses.{any_address, every_address, every_address_is_one, every_long_address, every_long_address_is_one, four, not_here, not_to_a_group, not_to_all, not_with_port, this_machine}}
 
 -- the premise of `asm` is met by these words
 asm_asks : AsksFor (codes "asm") (codes "koth" ∷ codes "asm" ∷ [])
 unfolding clap_on_literals koth_app
-asm_asks = ((refl, (refl, refl, refl, tt)), refl)
+asm_asks = ((refl, (refl, refl, refl, tt, refl)), refl)
 
 fight_asks : AsksFor (codes "fight") (codes "koth" ∷ codes "fight" ∷ codes "a.red" ∷ codes "b.red" ∷ codes "--rounds=3" ∷ [])
 unfolding clap_on_literals koth_app
-fight_asks = ((refl, (refl, refl, refl, tt)), refl)
+fight_asks = ((refl, (refl, refl, refl, tt, refl)), refl)
 
 hills_ask : AsksFor (codes "create") (codes "koth" ∷ codes "create" ∷ codes "a.hill" ∷ codes "--seed=7" ∷ [])
     × AsksFor (codes "submit") (codes "koth" ∷ codes "submit" ∷ codes "a.hill" ∷ codes "a.red" ∷ [])
@@ -24,7 +25,7 @@ hills_ask : AsksFor (codes "create") (codes "koth" ∷ codes "create" ∷ codes 
     × AsksFor (codes "page") (codes "koth" ∷ codes "page" ∷ codes "a.hill" ∷ [])
     × AsksFor (codes "replay") (codes "koth" ∷ codes "replay" ∷ codes "a.red" ∷ codes "b.red" ∷ codes "--round=1000" ∷ codes "-r5" ∷ [])
 unfolding clap_on_literals koth_app
-hills_ask = (((refl, (refl, refl, refl, tt)), refl), ((refl, (refl, refl, refl, tt)), refl), ((refl, (refl, refl, refl, tt)), refl), ((refl, (refl, refl, refl, tt)), refl), ((refl, (refl, refl, refl, tt)), refl), ((refl, (refl, refl, refl, tt)), refl), ((refl, (refl, refl, refl, tt)), refl), ((refl, (refl, refl, refl, tt)), refl), ((refl, (refl, refl, refl, tt)), refl))
+hills_ask = (((refl, (refl, refl, refl, tt, refl)), refl), ((refl, (refl, refl, refl, tt, refl)), refl), ((refl, (refl, refl, refl, tt, refl)), refl), ((refl, (refl, refl, refl, tt, refl)), refl), ((refl, (refl, refl, refl, tt, refl)), refl), ((refl, (refl, refl, refl, tt, refl)), refl), ((refl, (refl, refl, refl, tt, refl)), refl), ((refl, (refl, refl, refl, tt, refl)), refl), ((refl, (refl, refl, refl, tt, refl)), refl))
 
 -- the flag is given if the words have it, after the file or before it, and else not
 matches_given : (matches_named (codes "koth" ∷ codes "show" ∷ codes "h.hill" ∷ codes "--matches" ∷ []) ≡ true)
@@ -100,7 +101,7 @@ checks_ask : AsksFor (codes "check") (codes "koth" ∷ codes "check" ∷ codes "
     × AsksFor (codes "create") (codes "koth" ∷ codes "create" ∷ codes "a.hill" ∷ codes "--overwrite" ∷ [])
     × AsksFor (codes "serve") (codes "koth" ∷ codes "serve" ∷ codes "a.hill" ∷ codes "--port=0" ∷ codes "--quiet" ∷ [])
 unfolding clap_on_literals koth_app
-checks_ask = (((refl, (refl, refl, refl, tt)), refl), ((refl, (refl, refl, refl, tt)), refl), ((refl, (refl, refl, refl, tt)), refl), ((refl, (refl, refl, refl, tt)), refl))
+checks_ask = (((refl, (refl, refl, refl, tt, refl)), refl), ((refl, (refl, refl, refl, tt, refl)), refl), ((refl, (refl, refl, refl, tt, refl)), refl), ((refl, (refl, refl, refl, tt, refl)), refl))
 
 -- the files in their order, and the form and the setting among them
 checked_files : (all_of (codes "FILE") (given_by (codes "koth" ∷ codes "check" ∷ codes "a.red" ∷ codes "-s64" ∷ codes "b.red" ∷ codes "--format=json" ∷ [])) ≡ Some (codes "a.red" ∷ codes "b.red" ∷ []))
@@ -129,9 +130,11 @@ layouts = (refl, refl, refl)
 
 flags : (overwrite_named (codes "koth" ∷ codes "create" ∷ codes "h.hill" ∷ codes "--overwrite" ∷ []) ≡ true)
     × (overwrite_named (codes "koth" ∷ codes "create" ∷ codes "h.hill" ∷ []) ≡ false)
+    × (draw_seed_named (codes "koth" ∷ codes "create" ∷ codes "h.hill" ∷ codes "--draw-seed" ∷ []) ≡ true)
+    × (draw_seed_named (codes "koth" ∷ codes "create" ∷ codes "h.hill" ∷ codes "--overwrite" ∷ []) ≡ false)
     × (number_given 4294967296 (one_of (codes "connections") (given_by (codes "koth" ∷ codes "serve" ∷ codes "h.hill" ∷ codes "--port=0" ∷ []))) ≡ None)
 unfolding clap_on_literals koth_app
-flags = (refl, refl, refl)
+flags = (refl, refl, refl, refl, refl)
 
 -- two layouts, an unknown format and no file to check are not taken
 unclear : ¬ AreTaken (codes "koth" ∷ codes "show" ∷ codes "h.hill" ∷ codes "--plain" ∷ codes "--table" ∷ [])
@@ -178,7 +181,7 @@ addresses_ask : AsksFor (codes "serve") (codes "koth" ∷ codes "serve" ∷ code
     × AsksFor (codes "serve") (codes "koth" ∷ codes "serve" ∷ codes "a.hill" ∷ codes "--port=0" ∷ codes "--listen" ∷ codes "::" ∷ [])
     × IsAddress None (four (127 ∷ 0 ∷ 0 ∷ 1 ∷ []))
 unfolding clap_on_literals koth_app
-addresses_ask = (((refl, (refl, refl, refl, (four (0 ∷ 0 ∷ 0 ∷ 0 ∷ []), every_address, every_address_is_one))), refl), ((refl, (refl, refl, refl, (any_address, every_long_address, every_long_address_is_one))), refl), this_machine)
+addresses_ask = (((refl, (refl, refl, refl, (four (0 ∷ 0 ∷ 0 ∷ 0 ∷ []), every_address, every_address_is_one), refl)), refl), ((refl, (refl, refl, refl, (any_address, every_long_address, every_long_address_is_one), refl)), refl), this_machine)
 
 -- no name of a machine, and no address with a port
 names_wrong : AreWrong (codes "koth" ∷ codes "serve" ∷ codes "a.hill" ∷ codes "--port=0" ∷ codes "--listen=here" ∷ [])
@@ -215,10 +218,17 @@ creations : AsksFor (codes "serve") (codes "koth" ∷ codes "serve" ∷ codes "a
     × (create_named (codes "koth" ∷ codes "serve" ∷ codes "a.hill" ∷ codes "--port=0" ∷ codes "--core=64" ∷ codes "--create" ∷ codes "-r5" ∷ []) ≡ true)
     × (create_named (codes "koth" ∷ codes "serve" ∷ codes "a.hill" ∷ codes "--port=0" ∷ []) ≡ false)
 unfolding clap_on_literals koth_app
-creations = (((refl, (refl, refl, refl, tt)), refl), refl, refl, refl)
+creations = (((refl, (refl, refl, refl, tt, refl)), refl), refl, refl, refl)
 
 -- settings for a hill that is there are wrong, the default ones too
 unused_settings : AreWrong (codes "koth" ∷ codes "serve" ∷ codes "a.hill" ∷ codes "--port=0" ∷ codes "--core=64" ∷ [])
     × AreWrong (codes "koth" ∷ codes "serve" ∷ codes "a.hill" ∷ codes "--port=0" ∷ codes "--seed=1" ∷ [])
 unfolding clap_on_literals koth_app
 unused_settings = (inr (refl, λ clear. true≢false (sym clear.2)), inr (refl, λ clear. true≢false (sym clear.2)))
+
+-- a seed is drawn or given, and not both
+drawn_seeds : AsksFor (codes "create") (codes "koth" ∷ codes "create" ∷ codes "h.hill" ∷ codes "--draw-seed" ∷ codes "--capacity=5" ∷ [])
+    × AreWrong (codes "koth" ∷ codes "create" ∷ codes "h.hill" ∷ codes "--draw-seed" ∷ codes "--seed=1" ∷ [])
+    × (takes koth_app (codes "koth" ∷ codes "fight" ∷ codes "a" ∷ codes "b" ∷ codes "--draw-seed" ∷ []) ≡ false)
+unfolding clap_on_literals koth_app
+drawn_seeds = (((refl, (refl, refl, refl, tt, refl)), refl), inr (refl, λ clear. true≢false (sym clear.4)), refl)

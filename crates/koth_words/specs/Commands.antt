@@ -55,7 +55,7 @@ abbrev pub fight_app : App
 fight_app = with_settings (with_view (with_file (with_file (new_app (codes "fight")) (codes "A")) (codes "B")))
 
 abbrev pub create_app : App
-create_app = with_settings (with_flag (with_file (new_app (codes "create")) (codes "FILE")) (codes "overwrite"))
+create_app = with_settings (with_flag (with_flag (with_file (new_app (codes "create")) (codes "FILE")) (codes "overwrite")) (codes "draw-seed"))
 
 abbrev pub submit_app : App
 submit_app = with_view (with_file (with_file (new_app (codes "submit")) (codes "FILE")) (codes "SOURCE"))

@@ -43,6 +43,10 @@ matches_named words = matches_in (given_by words)
 abbrev pub overwrite_named : List (List ℕ) → Bool
 overwrite_named words = has_flag (codes "overwrite") (given_by words)
 
+-- whether `--draw-seed` is given, of `create`
+abbrev pub draw_seed_named : List (List ℕ) → Bool
+draw_seed_named words = has_flag (codes "draw-seed") (given_by words)
+
 -- whether `--replays` is given, of `serve`
 abbrev pub replays_named : List (List ℕ) → Bool
 replays_named words = has_flag (codes "replays") (given_by words)
@@ -134,11 +138,16 @@ has_setting given = has_option (codes "core") given || has_option (codes "cycles
 abbrev pub uses_settings : List Row → Bool
 uses_settings given = has_flag (codes "create") given || not (has_option (codes "port") given) || not (has_setting given)
 
+-- `--draw-seed` and `--seed` are not both given
+abbrev pub has_one_seed : List Row → Bool
+has_one_seed given = not (has_flag (codes "draw-seed") given && has_option (codes "seed") given)
+
 -- ---- words that are taken, and words that are wrong
 
--- nothing that the program refuses beside `clap`: two layouts, an unknown form, settings without a use, or a text in place of an address of one machine
+-- nothing that the program refuses beside `clap`: two layouts, an unknown form, settings without a use, a text in place of an address of one machine, or a seed that is
+-- both drawn and given
 abbrev pub AreClear : List Row → Type 0
-AreClear given = (has_one_view given ≡ true) × (has_known_form given ≡ true) × (uses_settings given ≡ true) × HasAddress given
+AreClear given = (has_one_view given ≡ true) × (has_known_form given ≡ true) × (uses_settings given ≡ true) × HasAddress given × (has_one_seed given ≡ true)
 
 -- the words are taken, by `clap`'s own definition and by `AreClear`
 abbrev pub AreTaken : List (List ℕ) → Type 0
@@ -179,6 +188,7 @@ Asks entered (Fight settings files) = (entered.0 ≡ codes "fight") × (settings
 Asks entered (Create settings creation) = (entered.0 ≡ codes "create") × (settings ≡ settings_in entered.1)
     × (creation.hill.now ≡ text_or_none (first_of (codes "FILE") entered.1))
     × (creation.overwrite ≡ has_flag (codes "overwrite") entered.1)
+    × (creation.draw_seed ≡ has_flag (codes "draw-seed") entered.1)
 Asks entered (Submit files) = (entered.0 ≡ codes "submit")
     × (files.hill.now ≡ text_or_none (first_of (codes "FILE") entered.1))
     × (files.source.now ≡ text_or_none (first_of (codes "SOURCE") entered.1))

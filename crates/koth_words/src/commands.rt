@@ -71,7 +71,10 @@ fn create_command<'a>(heap: Global) -> Result<Command<'a>, AllocError>
     let hill = file(heap, "FILE", "Hill file; created if missing");
     let command = with_arg(Ok(described(heap, "create", about)), hill);
     let overwrite = flag(heap, "overwrite", "Replace what is in the file");
-    with_settings(heap, with_arg(command, overwrite))
+    let command = with_arg(command, overwrite);
+    let help = "Draw the seed at random, and never print it; not with --seed";
+    let draw_seed = flag(heap, "draw-seed", help);
+    with_settings(heap, with_arg(command, draw_seed))
 }
 
 fn submit_command<'a>(heap: Global) -> Result<Command<'a>, AllocError>

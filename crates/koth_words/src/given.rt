@@ -2,7 +2,8 @@
 
 ghost use Rattle.std.specs.Prelude.{◌≡◌, ◌↔◌, [], Some, codes, map, option_map, unwrap_or, IfOk, IsTrue};
 ghost use Rattle.{clap.specs.Words.{all_of, first_of, found_of, one_of, rows_of}, koth_words.specs.Options.{number_below, number_given, number_or}};
-ghost use Rattle.koth_words.specs.Words.{form_in, has_flag, has_known_form, has_one_view, has_option, has_setting, matches_in, text_or_none, uses_settings, view_in, HasAddress, IsAddress, IsOfMany, IsSource, WritesAddress};
+ghost use Rattle.koth_words.specs.Words.{form_in, has_flag, has_known_form, has_one_seed, has_one_view, has_option, has_setting, matches_in, text_or_none};
+ghost use Rattle.koth_words.specs.Words.{uses_settings, view_in, HasAddress, IsAddress, IsOfMany, IsSource, WritesAddress};
 
 use crate::options::{number_given, number_if_given};
 use crate::words::{
@@ -110,11 +111,20 @@ pub(crate) fn fighters_named<'w>(matches: &ArgMatches<'w>) -> Fighters<'w>
 pub(crate) fn creation_named<'w>(matches: &ArgMatches<'w>) -> Creation<'w>
     ensures hill { result.hill.now ≡ text_or_none (first_of (codes "FILE") (rows_of (found_of matches.now))) }
     ensures overwrite { result.overwrite ≡ has_flag (codes "overwrite") (rows_of (found_of matches.now)) }
+    ensures draw_seed { result.draw_seed ≡ has_flag (codes "draw-seed") (rows_of (found_of matches.now)) }
 {
     Creation {
         hill: file_named(matches, "FILE"),
         overwrite: flag_given(matches, "overwrite"),
+        draw_seed: flag_given(matches, "draw-seed"),
     }
+}
+
+/// Whether the seed is not both given and drawn.
+pub(crate) fn has_one_seed(matches: &ArgMatches<'_>) -> bool
+    ensures { result ≡ has_one_seed (rows_of (found_of matches.now)) }
+{
+    !(flag_given(matches, "draw-seed") && option_given(matches, "seed"))
 }
 
 pub(crate) fn submission_named<'w>(matches: &ArgMatches<'w>) -> Submission<'w>

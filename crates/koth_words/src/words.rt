@@ -7,8 +7,8 @@ ghost use Rattle.koth_words.specs.Words.{given_in, koth_app, AreClear, AreTaken,
 use crate::commands::koth_command;
 use crate::given::{
     checked_named, creation_named, fighters_named, file_named, has_address, has_known_form,
-    has_one_view, migration_named, service_named, shown_named, source_named, submission_named,
-    uses_settings, watched_named,
+    has_one_seed, has_one_view, migration_named, service_named, shown_named, source_named,
+    submission_named, uses_settings, watched_named,
 };
 use crate::options::settings_given;
 use clap::error::ErrorKind;
@@ -96,6 +96,8 @@ pub struct Creation<'w> {
     pub hill: &'w str,
     /// Whether what the file has is replaced.
     pub overwrite: bool,
+    /// Whether its seed is drawn, in place of that of the settings.
+    pub draw_seed: bool,
 }
 
 /// The files of a hill and of a source for it.
@@ -192,11 +194,16 @@ const NO_ADDRESS: &str =
 For more information, try '--help'.
 ";
 
+const TWO_SEEDS: &str = "error: the argument '--draw-seed' cannot be used with '--seed <NUMBER>'
+
+For more information, try '--help'.
+";
+
 /// What a command line asks for. The first of `words` is the program's name.
 ///
 /// Words that are taken (`AreTaken`) give the request of their command: words that `koth_app` takes by `clap`'s own definition, with at most one
-/// of `--plain` and `--table`, with no format but `text` and `json`, with an address of one machine if one to listen at is given, and with settings for `serve` only
-/// if it may create the hill. All others give a text, as do those that ask for help or for the version. Without memory for any of these the
+/// of `--plain` and `--table`, and of `--draw-seed` and `--seed`, with no format but `text` and `json`, with an address of one machine if one to listen at is given, and
+/// with settings for `serve` only if it may create the hill. All others give a text, as do those that ask for help or for the version. Without memory for any of these the
 /// answer is `NoRequest::Memory`.
 pub fn parse(heap: Global, words: &[String]) -> Result<Request<'_>, NoRequest>
     ensures request { IfOk result (λ request.
@@ -236,6 +243,9 @@ fn request_of<'w>(heap: Global, matches: &ArgMatches<'w>) -> Result<Request<'w>,
     }
     if !has_address(given) {
         return Err(word_fault(heap, NO_ADDRESS));
+    }
+    if !has_one_seed(given) {
+        return Err(word_fault(heap, TWO_SEEDS));
     }
     match asked(heap, name, given) {
         Ok(request) => Ok(request),

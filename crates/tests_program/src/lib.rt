@@ -7,6 +7,7 @@
 //!
 //! - `words`: which words are faults, ask for help, or give settings;
 //! - `assembling`, `fights` and `hills`: what the commands write, how they end, and what they do to files;
+//! - `seeds`: the seed that is drawn, and what is told of the default one;
 //! - `audits`: the results that a hill keeps, shown, audited, and changed in its file;
 //! - `pages`: the page of a hill;
 //! - `migrations`: a hill of the old format, which `tests_fixtures` has, and how it is moved to the new one;
@@ -36,6 +37,8 @@ mod migrations;
 mod pages;
 #[cfg(test)]
 mod program;
+#[cfg(test)]
+mod seeds;
 #[cfg(test)]
 mod steps;
 #[cfg(test)]

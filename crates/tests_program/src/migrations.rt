@@ -122,7 +122,7 @@ fn check_harmed(rt: &(impl Abort + Host)) {
 
 /// A hill of the new format.
 fn check_newer(rt: &(impl Abort + Host)) {
-    check(rt, "koth create newer.hill", "CREATED\n", "", 0);
+    check(rt, "koth create newer.hill --seed 7", "CREATED\n", "", 0);
     let newer = read(rt, "newer.hill");
     check_unmoved(rt, newer.as_slice(), "NotAHill\n");
     drop(newer);
@@ -164,7 +164,7 @@ fn files_that_hold_a_hill_already(rt: HostRuntime) {
 }
 
 fn check_holding(rt: &(impl Abort + Host)) {
-    check(rt, "koth create holding.hill", "CREATED\n", "", 0);
+    check(rt, "koth create holding.hill --seed 7", "CREATED\n", "", 0);
     let holding = read(rt, "holding.hill");
     check_occupied(rt, holding.as_slice());
     drop(holding);

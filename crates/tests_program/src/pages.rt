@@ -2,7 +2,7 @@ use crate::steps::{Step, play, steps};
 
 /// What is done in `the_page_of_a_hill`.
 const THE_PAGE_OF_A_HILL: [Step; 8] = steps! {
-    Run("koth create paged.hill --rounds=2 --capacity=2", "CREATED\n", "", 0);
+    Run("koth create paged.hill --rounds=2 --capacity=2 --seed=7", "CREATED\n", "", 0);
     Page("koth page paged.hill", "<p>No warrior stands on this hill yet.</p>\n");
     Put("paged.red", ";name <i>Imp\n;author \"A\" & B\nMOV 0, 1\n");
     Run("koth submit paged.hill paged.red", "PLACED 1 1 0\n", "", 0);

@@ -5,10 +5,11 @@ use std::fs::File;
 use std::io::{Read, Write};
 use std::net::Net;
 use std::process::Abort;
+use std::random::RandomSource;
 use std::rt::{Clock, Files};
 
 /// What the program takes of its host, and the tests too.
-pub(crate) trait Host: Files<File = File> + Net + Clock + AllocGlobal {}
+pub(crate) trait Host: Files<File = File> + Net + Clock + RandomSource + AllocGlobal {}
 
 impl Host for HostRuntime {}
 
@@ -36,7 +37,7 @@ fn add_word(rt: &(impl Abort + AllocGlobal), words: &mut Vec<String>, word: &str
 
 /// What a run of the program with these words leaves with.
 fn status_of<A: Allocator + Copy>(
-    rt: &(impl Files<File = File> + Net + Clock),
+    rt: &(impl Files<File = File> + Net + Clock + RandomSource),
     heap: Global,
     alloc: A,
     words: &[String],

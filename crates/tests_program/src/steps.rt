@@ -51,12 +51,12 @@ macro_rules! steps {
 
 pub(crate) use steps;
 
-/// These words with the settings of a small hill of two.
+/// These words with the settings of a small hill of two, with another seed than the default one.
 macro_rules! small {
     ($words:literal) => {
         concat!(
             $words,
-            " --core=64 --cycles=100 --processes=8 --length=10 --distance=10 --rounds=2 --capacity=2"
+            " --core=64 --cycles=100 --processes=8 --length=10 --distance=10 --rounds=2 --seed=7 --capacity=2"
         )
     };
 }

@@ -36,9 +36,9 @@ const FILES_THAT_HOLD_SOMETHING_ELSE: [Step; 9] = steps! {
         "Occupied told.red: it isn't empty; --overwrite makes a hill of it all the same\n", 1);
     Text("told.red", TEXT);
     Tell("koth show told.red", View::Table, "", "TooSmall told.red: it is too short for its hill\n", 1);
-    Run("koth create told.red --overwrite --capacity 1", "CREATED\n", "", 0);
+    Run("koth create told.red --overwrite --capacity 1 --seed 7", "CREATED\n", "", 0);
     Run("koth show told.red", ".\n", "", 0);
-    Run("koth create told.red --overwrite --capacity 2", "CREATED\n", "", 0);
+    Run("koth create told.red --overwrite --capacity 2 --seed 7", "CREATED\n", "", 0);
     Length("told.red", 14 * 512);
     Remove("told.red");
 };
@@ -120,7 +120,7 @@ fn columns_for_people(rt: HostRuntime) {
 
 /// A hill is made.
 const MADE: [Step; 1] = steps! {
-    Run("koth create told_lock.hill --capacity 1", "CREATED\n", "", 0);
+    Run("koth create told_lock.hill --capacity 1 --seed 7", "CREATED\n", "", 0);
 };
 
 /// What is told of a hill that another program uses.

@@ -22,7 +22,7 @@ fn expect_fault(rt: &impl Abort, ran: &Ran, part: &str) {
 }
 
 /// Words with a fault, and a part of what is told of it.
-const FAULTS: [Step; 45] = steps! {
+const FAULTS: [Step; 47] = steps! {
     Fault("koth", "requires a subcommand");
     Fault("koth fly", "unrecognized subcommand 'fly'");
     Fault("koth ASM", "unrecognized subcommand 'ASM'");
@@ -63,6 +63,8 @@ const FAULTS: [Step; 45] = steps! {
     Fault("koth serve f --port 0 --core 64", "error: options that give settings need '--create': a hill that is there keeps its own\n");
     Fault("koth serve f --port 0 --seed 1 --quiet", "need '--create'");
     Fault("koth create f --create", "unexpected argument '--create'");
+    Fault("koth create f --draw-seed --seed 7", "'--draw-seed' cannot be used with '--seed <NUMBER>'");
+    Fault("koth fight a b --draw-seed", "unexpected argument '--draw-seed'");
     Fault("koth replay a", "<B>");
     Fault("koth replay a b --round 0", "0 is not in 1..=1000");
     Fault("koth replay a b --round 1001", "1001 is not in 1..=1000");
@@ -85,7 +87,7 @@ pub(crate) fn check_help(rt: &(impl Abort + Host), line: &str, part: &str) {
 }
 
 /// Words that ask for help, and a part of it.
-const HELPS: [Step; 27] = steps! {
+const HELPS: [Step; 28] = steps! {
     Help("koth --help", "Usage: koth <COMMAND>");
     Help("koth -h", "Usage: koth <COMMAND>");
     Help("koth help", "Usage: koth <COMMAND>");
@@ -95,6 +97,7 @@ const HELPS: [Step; 27] = steps! {
     Help("koth fight --help", "1 to 1000000 [default: 80000]");
     Help("koth create --help", "FILE");
     Help("koth create --help", "--write-limit");
+    Help("koth create --help", "--draw-seed");
     Help("koth submit --help", "<FILE> <SOURCE>");
     Help("koth help show", "Usage: koth show [OPTIONS] <FILE>");
     Help("koth show -h", "--matches");
