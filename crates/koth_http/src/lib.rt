@@ -13,6 +13,8 @@
 //! has its reason; bytes with two reasons may be refused for either. A page has one target, but for the query, and the page of a target is
 //! read back from it. An answer is exactly its definition in `specs`, with the length of its body.
 //!
+//! `Visit::line` and `status_of` are for a log, and no clause speaks of them.
+//!
 //! Only the room of a visit and an answer take memory.
 #![tactic(auto)]
 
@@ -25,6 +27,6 @@ mod visit;
 
 pub use asked::Asked;
 pub use refusal::Refusal;
-pub use response::{page_response, refusal_response};
+pub use response::{page_response, refusal_response, status_of};
 pub use target::{Page, page_named};
 pub use visit::Visit;

@@ -31,6 +31,11 @@ pub fn refusal_response<A: Allocator + Copy>(
     response(alloc, refusal.line(), page.as_slice(), with_body)
 }
 
+/// The three digits of the status of an answer.
+pub fn status_of(response: &[u8]) -> &[u8] {
+    response.get(9..12).unwrap_or(&[])
+}
+
 #[tactic(auto, unfolding(crate::specs::Response::refusal_page))]
 fn refusal_page<A: Allocator>(alloc: A, refusal: Refusal) -> Result<Vec<u8, A>, AllocError>
     ensures { IfOk result (λ page. page.items ≡ refusal_page refusal) }

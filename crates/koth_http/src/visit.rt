@@ -4,6 +4,7 @@ ghost use Rattle.std.specs.Prelude.{◌≡◌, ◌+◌, ◌≤◌, ◌++◌, [],
 ghost use Rattle.koth_http.specs.Asked.{FindsAsked, IsAsked, most_bytes};
 
 use crate::asked::{Asked, MOST_BYTES, asked_in};
+use crate::target::cut;
 use std::alloc::{AllocError, Allocator};
 use std::marker::Model;
 
@@ -47,6 +48,12 @@ impl<A: Allocator> Visit<A> {
         ensures { self.new ≡ self.old ++ bytes.now }
     {
         let _ = self.bytes.extend_from_slice(bytes);
+    }
+
+    /// The first line of them that isn't blank, without white space around it: of a request its method, its target and its version.
+    pub fn line(&self) -> &[u8] {
+        let (line, _) = cut(self.bytes.as_slice().trim_ascii_start(), b'\n');
+        line.trim_ascii_end()
     }
 
     /// What the bytes so far ask of a hill with these names beside its addresses and `localhost`, or nothing while they may become a request.

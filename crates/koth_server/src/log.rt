@@ -1,7 +1,8 @@
-//! What a service reports while it runs: its connections, its submissions and its faults, each with the time.
+//! What a service reports while it runs: its connections, its submissions, requests of browsers and its faults, each with the time.
 
 ghost use Rattle.koth_commands.specs.Told.{WritesSome};
 
+use crate::seed::seed_hint;
 use jiff::Timestamp;
 use koth_commands::write_whole;
 use koth_service::{Event, HowEnded, PeerEnd};
@@ -10,6 +11,9 @@ use std::alloc::{AllocError, Allocator};
 use std::io::Write;
 use std::net::SocketAddr;
 use std::rt::Clock;
+
+/// Bytes of the first line of a request that a line of the log has at most.
+const SHOWN: usize = 200;
 
 /// The log of a service.
 #[derive(Clone, Copy)]
@@ -24,7 +28,7 @@ impl<'r, R: Clock> Log<'r, R> {
         Log { clock, quiet }
     }
 
-    /// Reports what happened with a peer, unless the log is quiet.
+    /// Reports what happened with a peer or a browser, unless the log is quiet.
     pub(crate) fn tell<A: Allocator, E: Write>(
         &self,
         alloc: A,
@@ -42,11 +46,12 @@ impl<'r, R: Clock> Log<'r, R> {
         }
     }
 
-    /// Reports that the hill of a service was created, unless the log is quiet.
+    /// Reports that the hill of a service was created, and what its seed means if everybody knows that, unless the log is quiet.
     pub(crate) fn tell_created<A: Allocator, E: Write>(
         &self,
         alloc: A,
         service: &Service<'_>,
+        seed: u32,
         errors: &mut E,
     )
         ensures { WritesSome (E.contents errors.old) (E.contents errors.new) }
@@ -54,8 +59,8 @@ impl<'r, R: Clock> Log<'r, R> {
         if self.quiet {
             return;
         }
-        if let Ok(line) = self.created_line(alloc, service) {
-            let _ = write_whole(errors, line.as_bytes());
+        if let Ok(lines) = self.created_lines(alloc, service, seed) {
+            let _ = write_whole(errors, lines.as_bytes());
         }
     }
 
@@ -76,7 +81,7 @@ impl<'r, R: Clock> Log<'r, R> {
         }
     }
 
-    /// The line of what happened: the time by the clock, the peer, and the event.
+    /// The line of what happened: the time by the clock, the peer or the browser, and the event.
     fn line<A: Allocator>(
         &self,
         alloc: A,
@@ -87,21 +92,57 @@ impl<'r, R: Clock> Log<'r, R> {
             Event::Connected => "connected",
             Event::Answered(line) => str::from_utf8(line).unwrap_or("answered"),
             Event::Ended(how) => end_text(how),
+            Event::Asked {
+                line,
+                status,
+                bytes,
+            } => return self.request_line(alloc, peer, line, status, bytes),
         };
         format!(in alloc; "{} {}: {}\n", self.seconds(), peer, what)
     }
 
-    /// The line of a hill that was created: its file, and what shows it to browsers if nothing does.
-    fn created_line<A: Allocator>(
+    /// The line of a browser's request, whose own first line is cut and escaped, and of its answer.
+    fn request_line<A: Allocator>(
+        &self,
+        alloc: A,
+        browser: SocketAddr,
+        line: &[u8],
+        status: &[u8],
+        bytes: usize,
+    ) -> Result<String<A>, AllocError> {
+        let shown = &line[..line.len().min(SHOWN)];
+        let rest = if line.len() > SHOWN { ".." } else { "" };
+        format!(in alloc;
+            "{} {}: asked \"{}\"{}: {}, {} bytes\n",
+            self.seconds(),
+            browser,
+            shown.escape_ascii(),
+            rest,
+            status.escape_ascii(),
+            bytes
+        )
+    }
+
+    /// The line of a hill that was created: its file, and what shows it to browsers if nothing does. A second one has the hint about its seed,
+    /// if there is one.
+    fn created_lines<A: Allocator>(
         &self,
         alloc: A,
         service: &Service<'_>,
+        seed: u32,
     ) -> Result<String<A>, AllocError> {
-        let hint = match service.http {
+        let now = self.seconds();
+        let pages = match service.http {
             Some(_) => "",
             None => "; --http PORT shows it to browsers",
         };
-        format!(in alloc; "{} created {}{}\n", self.seconds(), service.hill, hint)
+        match seed_hint(seed) {
+            "" => format!(in alloc; "{} created {}{}\n", now, service.hill, pages),
+            hint => format!(in alloc;
+                "{} created {}{}\n{} {}",
+                now, service.hill, pages, now, hint
+            ),
+        }
     }
 
     fn address_line<A: Allocator>(

@@ -13,8 +13,9 @@ use std::net::{Net, SocketAddr};
 use std::rt::Clock;
 use std::time::{Duration, Instant};
 
-/// Most events that one wait gives.
-const EVENTS: usize = 256;
+/// Most events that one wait gives, one a socket at most. They are more than the program's sockets: 1,024 peers, 16 browsers and two listeners.
+/// A peer of which a wait didn't tell would count as silent.
+const EVENTS: usize = 2_048;
 
 /// The token of the listener. The tokens of peers are their numbers, and the tokens of browsers follow them.
 const LISTENER: Token = Token(usize::MAX);
@@ -101,6 +102,12 @@ impl<'r, R, A: Allocator> PolledSockets<'r, R, A> {
         }
     }
 
+    /// Waits for events for at most this many milliseconds. There are none if that fails.
+    fn poll_for(&mut self, most: u64) {
+        let most = Duration::from_millis(most);
+        let _ = self.poll.poll(&mut self.events, Some(most));
+    }
+
     /// Takes note of the events of the last wait.
     fn take_events(&mut self) {
         for event in self.events.iter() {
@@ -165,13 +172,13 @@ impl<'r, R: Clock, A: Allocator> Sockets for PolledSockets<'r, R, A> {
         self.latest
     }
 
+    /// A signal ends a poll without events, though bytes may have come while it stopped the program. So they are looked for once more.
     fn wait(&mut self, most: u64) {
-        let waited = self
-            .poll
-            .poll(&mut self.events, Some(Duration::from_millis(most)));
-        if waited.is_ok() {
-            self.take_events();
+        self.poll_for(most);
+        if self.events.is_empty() {
+            self.poll_for(0);
         }
+        self.take_events();
     }
 
     fn accept(&mut self) -> Arrival {
