@@ -11,7 +11,7 @@ use crate::log::Log;
 use crate::pages::{links_for, page_shown};
 use crate::trouble::HillTrouble;
 use hill_file::{Existing, HillFile, Sharing, TryLock};
-use koth_commands::{Cause, Status, Subject, reason_of, refuse_settings, write_whole};
+use koth_commands::{Cause, Failure, Status, Subject, reason_of, refuse_settings, write_whole};
 use koth_http::Page;
 use koth_page::Links;
 use koth_protocol::Line;
@@ -47,7 +47,9 @@ where
 
     ghost shows = { λ host store. record { names = map (λ name. name.now) host.names.now; pages = λ page text. IsShown host.links store.hill page text } };
 
-    fn reopen(&self) -> Result<HillStore<'f, R, A>, HillFault> {
+    /// The file is closed first, since it is locked while it is open.
+    fn reopen(&self, device: HillFile<'f, R>) -> Result<HillStore<'f, R, A>, HillFault> {
+        drop(device);
         match open_hill(self.rt, self.alloc, self.path, Sharing::Alone) {
             Ok(store) => Ok(store),
             Err(trouble) => Err(trouble.fault),
@@ -167,7 +169,8 @@ where
     }
 }
 
-/// The hill in the file. If that is asked for and the file holds nothing, the hill is created there, and that is reported.
+/// The hill in the file. If that is asked for and the file holds nothing, the hill is created there, and that is reported, with what the
+/// default seed means.
 fn hill_served<'f, R: Files + Clock, A: Allocator + Copy, E: Write>(
     host: &Hosting<'f, R, A>,
     settings: Settings,
@@ -184,7 +187,8 @@ where
     }
     match create_hill(host.rt, host.alloc, settings, host.path, Existing::Kept) {
         Ok(store) => {
-            host.log.tell_created(host.alloc, service, errors);
+            host.log
+                .tell_created(host.alloc, service, settings.seed(), errors);
             Ok(store)
         }
         Err(trouble) if matches!(trouble.fault, HillFault::Occupied) => {
@@ -275,6 +279,10 @@ where
     match fault {
         ServiceFault::Memory => HillTrouble::memory(),
         ServiceFault::Reopening(fault) => trouble_at(host, fault),
+        ServiceFault::Rounds => HillTrouble {
+            fault: HillFault::Failed(Failure::Stream),
+            cause: None,
+        },
     }
 }
 

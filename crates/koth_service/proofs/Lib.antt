@@ -1,4 +1,6 @@
 mod Moments
+mod Holdings
+mod Living
 mod Steps
 mod Servings
 mod Stages

@@ -1,8 +1,10 @@
 -- How the peers stand at a moment, for each happening.
-use Rattle.std.proofs.Common.{◌≡◌, ◌≢◌, inl, inr, ℕ, ◌==◌, true, false, List, [], ◌++◌, take, drop, Option, None, Some, refl, sym, ap, subst, ◌∙◌, append_assoc, take-append-drop}
+use Rattle.std.proofs.Common.{◌≡◌, ◌≢◌, inl, inr, ℕ, ◌≤◌, ◌==◌, true, true≢false, false, length, List, [], ◌++◌, take}
+use Rattle.std.proofs.Common.{drop, Option, None, Some, refl, sym, ap, subst, ◌∙◌, append_assoc, take-append-drop}
 use Rattle.{std.proofs.{lemmas.Bool.cases_eq, lemmas.Bool.Decides.eqb_tells}, koth_protocol.specs.Commands.{Command, Reader}}
-use Rattle.koth_peers.specs.{Peer.{Closes, IsNew, IsPeer, Sends, Takes}, Peers.{Moves, MovesAt, OnlyAt, Slots, peer_at, unsent_at, unsent_in}, declared.peer.Peer.Peer}
-use Rattle.koth_service.specs.{History.{Begins, Session, instead, session_anew, session_came, session_went}, Standing.{AreStanding, StandsAt}}
+use Rattle.koth_peers.specs.Peer.{Closes, IsNew, IsPeer, Sends, Takes, settled_now}
+use Rattle.koth_peers.specs.{Peers.{Moves, MovesAt, OnlyAt, Slots, peer_at, unsent_at, unsent_in}, declared.end.PeerEnd.PeerEnd, declared.peer.Peer.Peer}
+use Rattle.koth_service.specs.{History.{Begins, Session, instead, session_anew, session_came, session_went}, Standing.{AreStanding, Stands, StandsAt}}
 
 not_equal : (a b : ℕ) → a ≢ b → (a == b) ≡ false
 not_equal a b other = elim (eqb_tells a b) [ inl same ↦ absurd (other same.1) | inr differ ↦ differ.0 ]
@@ -45,7 +47,12 @@ module _ {A : Type 0} where
   came_at bytes s None new moves stands = subst (λ slot. StandsAt (session_came bytes s) slot) (sym moves) stands
   came_at bytes s (Some peer) new moves stands =
       let takes = moves.2 in
-      subst (λ slot. StandsAt (session_came bytes s) slot) (sym moves.1) (λ reader. takes.reads reader s.came s.done (stands.0 reader), ap (λ l. s.went ++ l) takes.unsent ∙ stands.1)
+      subst (λ slot. StandsAt (session_came bytes s) slot) (sym moves.1) (record {
+        reads = λ reader. takes.reads reader s.came s.done (stands.reads reader);
+        owed = ap (λ l. s.went ++ l) takes.unsent ∙ stands.owed;
+        there = stands.there;
+        over = λ is. takes.end ∙ ap (λ (end : Option PeerEnd). settled_now end moves.0) (stands.over is);
+      })
 
   pub standing_came : (sessions : ℕ → Session) (n : ℕ) (bytes : List ℕ) (old new : Slots A) → MovesAt (λ p q. Takes p bytes q) n old new
       → AreStanding sessions old → AreStanding (instead sessions n (session_came bytes (sessions n))) new
@@ -59,7 +66,12 @@ module _ {A : Type 0} where
   closes_at s None new moves stands = subst (λ slot. StandsAt s slot) (sym moves) stands
   closes_at s (Some peer) new moves stands =
       let closes = moves.2 in
-      subst (λ slot. StandsAt s slot) (sym moves.1) (λ reader. closes.reads reader s.came s.done (stands.0 reader), ap (λ l. s.went ++ l) closes.unsent ∙ stands.1)
+      subst (λ slot. StandsAt s slot) (sym moves.1) (record {
+        reads = λ reader. closes.reads reader s.came s.done (stands.reads reader);
+        owed = ap (λ l. s.went ++ l) closes.unsent ∙ stands.owed;
+        there = stands.there;
+        over = λ is. closes.end ∙ ap (λ (end : Option PeerEnd). settled_now end moves.0) (stands.over is);
+      })
 
   pub standing_closed : (sessions : ℕ → Session) (n : ℕ) (old new : Slots A) → MovesAt Closes n old new → AreStanding sessions old → AreStanding sessions new
   standing_closed sessions n old new moves standing =
@@ -80,8 +92,13 @@ module _ {A : Type 0} where
       let more = s.went ++ take count unsent in
       let all : more ++ moves.0.outbox.unsent ≡ s.owed =
       ap (λ l. more ++ l) sends.unsent ∙ append_assoc s.went (take count unsent) (drop count unsent)
-      ∙ ap (λ l. s.went ++ l) (take-append-drop count unsent) ∙ stands.1 in
-      subst (λ slot. StandsAt (session_went (take count unsent) s) slot) (sym moves.1) (λ reader. same_peer peer moves.0 count s.came s.done sends reader (stands.0 reader), all)
+      ∙ ap (λ l. s.went ++ l) (take-append-drop count unsent) ∙ stands.owed in
+      subst (λ slot. StandsAt (session_went (take count unsent) s) slot) (sym moves.1) (record {
+        reads = λ reader. same_peer peer moves.0 count s.came s.done sends reader (stands.reads reader);
+        owed = all;
+        there = stands.there;
+        over = λ is. sends.end ∙ stands.over is;
+      })
 
   pub standing_went : (sessions : ℕ → Session) (n count : ℕ) (old new : Slots A) → MovesAt (λ p q. Sends p count q) n old new
       → AreStanding sessions old → AreStanding (instead sessions n (session_went (take count (unsent_at old n)) (sessions n))) new
@@ -95,7 +112,7 @@ module _ {A : Type 0} where
   owed_next count s (Some peer) there stands =
       let unsent = peer.outbox.unsent in (
         drop count unsent,
-        sym stands.1 ∙ ap (λ l. s.went ++ l) (sym (take-append-drop count unsent)) ∙ sym (append_assoc s.went (take count unsent) (drop count unsent)),
+        sym stands.owed ∙ ap (λ l. s.went ++ l) (sym (take-append-drop count unsent)) ∙ sym (append_assoc s.went (take count unsent) (drop count unsent)),
       )
 
   pub owed_to : (sessions : ℕ → Session) (n count : ℕ) (slots : Slots A) → unsent_at slots n ≢ [] → AreStanding sessions slots
@@ -104,10 +121,13 @@ module _ {A : Type 0} where
 
   -- ---- a peer comes, and leaves
 
+  new_stands : (peer : Peer A) → IsNew peer → Stands (session_anew true) peer
+  new_stands peer fresh = record { reads = fresh.begins; owed = fresh.unsent; there = refl; over = λ is. absurd (true≢false (sym is)) }
+
   pub standing_new : (sessions : ℕ → Session) (n : ℕ) (peer : Peer A) (old new : Slots A) → OnlyAt n old new → peer_at new n ≡ Some peer → IsNew peer
       → AreStanding sessions old → AreStanding (instead sessions n (session_anew true)) new
   standing_new sessions n peer old new only there fresh standing =
-      standing_with sessions n (session_anew true) old new only (subst (λ slot. StandsAt (session_anew true) slot) (sym there) (fresh.begins, fresh.unsent)) standing
+      standing_with sessions n (session_anew true) old new only (subst (λ slot. StandsAt (session_anew true) slot) (sym there) (new_stands peer fresh)) standing
 
   pub free_at : (sessions : ℕ → Session) (n : ℕ) (slots : Slots A) → peer_at slots n ≡ None → AreStanding sessions slots → (sessions n).there ≡ false
   free_at sessions n slots free standing =
@@ -117,3 +137,21 @@ module _ {A : Type 0} where
       → AreStanding sessions old → AreStanding (instead sessions n (session_anew false)) new
   standing_left sessions n old new only free standing =
       standing_with sessions n (session_anew false) old new only (subst (λ slot. StandsAt (session_anew false) slot) (sym free) refl) standing
+
+  -- ---- a peer that is there
+
+  there_in : (s : Session) (slot : Option (Peer A)) → slot ≢ None → StandsAt s slot → s.there ≡ true
+  there_in s None there stands = absurd (there refl)
+  there_in s (Some peer) there stands = stands.there
+
+  pub there_at : (sessions : ℕ → Session) (n : ℕ) (slots : Slots A) → peer_at slots n ≢ None → AreStanding sessions slots → (sessions n).there ≡ true
+  there_at sessions n slots there standing = there_in (sessions n) (peer_at slots n) there (standing n)
+
+  few_in : (s : Session) (bytes : List ℕ) (old new : Option (Peer A)) → old ≢ None → Moves (λ p q. Takes p bytes q) old new → StandsAt s old → length (s.came ++ bytes) ≤ 16777216
+  few_in s bytes None new there moves stands = absurd (there refl)
+  few_in s bytes (Some peer) new there moves stands = let after = moves.2.reads Reader.Service s.came s.done (stands.reads Reader.Service) in after.few
+
+  -- no more bytes came from it than may
+  pub few_from : (sessions : ℕ → Session) (n : ℕ) (bytes : List ℕ) (old new : Slots A) → peer_at old n ≢ None → MovesAt (λ p q. Takes p bytes q) n old new
+      → AreStanding sessions old → length ((sessions n).came ++ bytes) ≤ 16777216
+  few_from sessions n bytes old new there moves standing = few_in (sessions n) bytes (peer_at old n) (peer_at new n) there moves.at (standing n)

@@ -1,34 +1,32 @@
 -- How a history goes on by what happens with browsers.
 use Rattle.std.proofs.Common.{◌≡◌, ◌∙◌, ℕ, true, false, ap, List, [], ◌∷◌, ◌++◌, take, drop, Option, None, Some, refl, sym, subst, append_assoc, take-append-drop}
-use Rattle.{sector_disk.specs.Facts.DeviceFacts, hill_store.specs.Seen.Seen, koth_peers.specs.Peers.Slots, koth_service.specs.{Noted.{Adds, Noted, Reads, Stays}, Answering.AnswersBytes}}
-use Rattle.koth_service.specs.{History.{Browser, Happening, Replies, Shows, browser_anew, browser_came, browser_replied, browser_went, instead, moment, noted, owed_by}, Standing.{GoesOn, IsAtStage}}
+use Rattle.{sector_disk.specs.Facts.DeviceFacts, hill_store.specs.Seen.Seen, koth_service.specs.{Noted.{Adds, Noted, Reads, Stays}, Answering.AnswersBytes}}
+use Rattle.koth_service.specs.History.{Browser, Happening, Replies, Shows, Start, browser_anew, browser_came, browser_replied, browser_went, instead, moment, noted, owed_by}
+use Rattle.koth_service.specs.Standing.{GoesOn, IsAtStage, PeersNow}
 use Rattle.koth_service.specs.{Connections.{ClosesUnless, ComesTo, Connections, IsFree, MovesOn, StaysAt, stage_at, stage_in}, declared.sockets.Came.Came, declared.connections.Connection.Connection}
-use Rattle.{koth_service.specs.declared.connections.Stage.Stage, koth_service.proofs.{Stages.{instead_kept, instead_twice, safe_browser, stage_here, stages_over, stages_with}, Steps.stays}}
+use Rattle.koth_service.specs.declared.connections.Stage.{Stage}
+use Rattle.koth_service.proofs.{Stages.{came_to_be, instead_kept, instead_twice, safe_browser, stage_here, stages_over, stages_with}, Steps.stays}
 use Rattle.koth_service.specs.declared.sockets.Came.TheVariants as came
 
 -- ---- what happens with the connection of one number
 
-module _ {S D A : Type 0} (happened : S → List Noted → Type 0) (facts : DeviceFacts D) (shows : Shows D) (start : Seen D) (slots : Slots A) (browsers : ℕ → Option (Stage A)) (store : Seen D) (n : ℕ) where
+module _ {S D A : Type 0} (happened : S → List Noted → Type 0) (facts : DeviceFacts D) (shows : Shows D) (start : Start D) (peers : PeersNow A)
+    (browsers : ℕ → Option (Stage A)) (store : Seen D) (n : ℕ) where
   -- it is at this stage
   abbrev Is : S → Option (Stage A) → Type 0
-  Is sockets stage = GoesOn happened facts shows start sockets slots (instead browsers n stage) store
+  Is sockets stage = GoesOn happened facts shows start sockets peers (instead browsers n stage) store
 
   -- nothing happened
   pub still : (old new : S) (stage : Option (Stage A)) → Stays happened old new → Is old stage → Is new stage
-  still old new stage same on = stays happened facts shows start (instead browsers n stage) old new slots store same on
+  still old new stage same on = stays happened facts shows start (instead browsers n stage) old new peers store same on
 
   -- nothing more goes out to it
   pub over : (sockets : S) (stage : Option (Stage A)) → Is sockets stage → Is sockets (Some Stage.Parting)
   over sockets stage on =
       let before = on.1 in (
         on.0,
-        record {
-          logged = before.logged;
-          follows = before.follows;
-          standing = before.standing;
-          visiting = stages_over (moment start on.0).browsers browsers n stage before.visiting;
-          now_is = before.now_is;
-        },
+        came_to_be before.logged before.follows before.standing
+            (stages_over (moment start on.0).browsers browsers n stage before.visiting) before.now_is before.seats before.ended,
         on.2,
       )
 
@@ -39,13 +37,8 @@ module _ {S D A : Type 0} (happened : S → List Noted → Type 0) (facts : Devi
       let m = moment start on.0 in
       let b = browser_anew true in (
         Happening.On (Noted.Admitted n) ∷ on.0,
-        record {
-          logged = adds (noted on.0) before.logged;
-          follows = (stage_here m.browsers browsers n None before.visiting, before.follows);
-          standing = before.standing;
-          visiting = stages_with m.browsers browsers n b None (Some (Stage.Asking [])) refl before.visiting;
-          now_is = before.now_is;
-        },
+        came_to_be (adds (noted on.0) before.logged) (stage_here m.browsers browsers n None before.visiting, before.follows) before.standing
+            (stages_with m.browsers browsers n b None (Some (Stage.Asking [])) refl before.visiting) before.now_is before.seats before.ended,
         safe_browser facts m n b on.2,
       )
 
@@ -58,13 +51,9 @@ module _ {S D A : Type 0} (happened : S → List Noted → Type 0) (facts : Devi
       let b = browser_came bytes (m.browsers n) in
       let here = stage_here m.browsers browsers n (Some (Stage.Asking visit)) before.visiting in (
         Happening.On (Noted.Requested n bytes) ∷ on.0,
-        record {
-          logged = adds (noted on.0) before.logged;
-          follows = (tt, before.follows);
-          standing = before.standing;
-          visiting = stages_with m.browsers browsers n b (Some (Stage.Asking visit)) (Some (Stage.Asking (visit ++ bytes))) (ap (λ (x : Browser). browser_came bytes x) here) before.visiting;
-          now_is = before.now_is;
-        },
+        came_to_be (adds (noted on.0) before.logged) (tt, before.follows) before.standing
+            (stages_with m.browsers browsers n b (Some (Stage.Asking visit)) (Some (Stage.Asking (visit ++ bytes))) (ap (λ (x : Browser). browser_came bytes x) here) before.visiting)
+            before.now_is before.seats before.ended,
         safe_browser facts m n b on.2,
       )
 
@@ -75,13 +64,8 @@ module _ {S D A : Type 0} (happened : S → List Noted → Type 0) (facts : Devi
       let m = moment start on.0 in
       let b = browser_came bytes (m.browsers n) in (
         Happening.On (Noted.Requested n bytes) ∷ on.0,
-        record {
-          logged = adds (noted on.0) before.logged;
-          follows = (tt, before.follows);
-          standing = before.standing;
-          visiting = stages_with m.browsers browsers n b (Some Stage.Parting) (Some Stage.Parting) tt before.visiting;
-          now_is = before.now_is;
-        },
+        came_to_be (adds (noted on.0) before.logged) (tt, before.follows) before.standing
+            (stages_with m.browsers browsers n b (Some Stage.Parting) (Some Stage.Parting) tt before.visiting) before.now_is before.seats before.ended,
         safe_browser facts m n b on.2,
       )
 
@@ -98,16 +82,13 @@ module _ {S D A : Type 0} (happened : S → List Noted → Type 0) (facts : Devi
       let replies : Replies shows n reply m = record {
         there = ap (λ (x : Browser). x.there) here;
         first = ap (λ (x : Browser). x.reply) here;
+        sound = on.2.open_now;
         as_asked = subst (λ (l : List ℕ). AnswersBytes (shows m.now) l reply) (sym came) of_store;
       } in (
         Happening.Replied n reply ∷ on.0,
-        record {
-          logged = before.logged;
-          follows = (replies, before.follows);
-          standing = before.standing;
-          visiting = stages_with m.browsers browsers n b (Some (Stage.Asking visit)) (Some (Stage.Answering reply)) (ap (λ (x : Browser). x.went ++ reply) here) before.visiting;
-          now_is = before.now_is;
-        },
+        came_to_be before.logged (replies, before.follows) before.standing
+            (stages_with m.browsers browsers n b (Some (Stage.Asking visit)) (Some (Stage.Answering reply)) (ap (λ (x : Browser). x.went ++ reply) here) before.visiting)
+            before.now_is before.seats before.ended,
         safe_browser facts m n b on.2,
       )
 
@@ -123,13 +104,8 @@ module _ {S D A : Type 0} (happened : S → List Noted → Type 0) (facts : Devi
       let all : (now.went ++ take count unsent) ++ drop count unsent ≡ owed_by now.reply =
       append_assoc now.went (take count unsent) (drop count unsent) ∙ ap (λ l. now.went ++ l) (take-append-drop count unsent) ∙ here in (
         Happening.On (Noted.Shown n (take count unsent)) ∷ on.0,
-        record {
-          logged = adds (noted on.0) before.logged;
-          follows = ((drop count unsent, sym all), before.follows);
-          standing = before.standing;
-          visiting = stages_with m.browsers browsers n b (Some (Stage.Answering unsent)) (Some (Stage.Answering (drop count unsent))) all before.visiting;
-          now_is = before.now_is;
-        },
+        came_to_be (adds (noted on.0) before.logged) ((drop count unsent, sym all), before.follows) before.standing
+            (stages_with m.browsers browsers n b (Some (Stage.Answering unsent)) (Some (Stage.Answering (drop count unsent))) all before.visiting) before.now_is before.seats before.ended,
         safe_browser facts m n b on.2,
       )
 
@@ -140,13 +116,8 @@ module _ {S D A : Type 0} (happened : S → List Noted → Type 0) (facts : Devi
       let m = moment start on.0 in
       let b = browser_anew false in (
         Happening.On (Noted.Left n) ∷ on.0,
-        record {
-          logged = adds (noted on.0) before.logged;
-          follows = (tt, before.follows);
-          standing = before.standing;
-          visiting = stages_with m.browsers browsers n b stage None refl before.visiting;
-          now_is = before.now_is;
-        },
+        came_to_be (adds (noted on.0) before.logged) (tt, before.follows) before.standing
+            (stages_with m.browsers browsers n b stage None refl before.visiting) before.now_is before.seats before.ended,
         safe_browser facts m n b on.2,
       )
 
@@ -184,43 +155,38 @@ module _ {S D A : Type 0} (happened : S → List Noted → Type 0) (facts : Devi
 
 -- ---- what happens with the connections by their numbers
 
-module _ {S D A : Type 0} (happened : S → List Noted → Type 0) (facts : DeviceFacts D) (shows : Shows D) (start : Seen D) (slots : Slots A) (store : Seen D) where
+module _ {S D A : Type 0} (happened : S → List Noted → Type 0) (facts : DeviceFacts D) (shows : Shows D) (start : Start D) (peers : PeersNow A) (store : Seen D) where
   -- the same stages
   pub same_stages : (sockets : S) (old new : ℕ → Option (Stage A)) → ((p : ℕ) → new p ≡ old p)
-      → GoesOn happened facts shows start sockets slots old store → GoesOn happened facts shows start sockets slots new store
+      → GoesOn happened facts shows start sockets peers old store → GoesOn happened facts shows start sockets peers new store
   same_stages sockets old new is on =
       let before = on.1 in
       let m = moment start on.0 in (
         on.0,
-        record {
-          logged = before.logged;
-          follows = before.follows;
-          standing = before.standing;
-          visiting = λ p. subst (λ (stage : Option (Stage A)). IsAtStage (m.browsers p) stage) (sym (is p)) (before.visiting p);
-          now_is = before.now_is;
-        },
+        came_to_be before.logged before.follows before.standing
+            (λ p. subst (λ (stage : Option (Stage A)). IsAtStage (m.browsers p) stage) (sym (is p)) (before.visiting p)) before.now_is before.seats before.ended,
         on.2,
       )
 
   -- a browser came to a number that was free
   pub taken_in : (old_sockets then_sockets sockets : S) (n : ℕ) (old new : Connections A) (kept : Option (Connection A)) → IsFree old n
       → Adds happened (Noted.Admitted n) old_sockets then_sockets → StaysAt (Stage.Asking []) kept → ClosesUnless happened n kept then_sockets sockets
-      → ComesTo n (stage_in kept) old new → GoesOn happened facts shows start old_sockets slots (stage_at old) store
-      → GoesOn happened facts shows start sockets slots (stage_at new) store
+      → ComesTo n (stage_in kept) old new → GoesOn happened facts shows start old_sockets peers (stage_at old) store
+      → GoesOn happened facts shows start sockets peers (stage_at new) store
   taken_in old_sockets then_sockets sockets n old new kept free adds is closes comes on =
       same_stages sockets (instead (stage_at old) n (stage_in kept)) (stage_at new) comes.stages
-      (settled happened facts shows start slots (stage_at old) store n then_sockets sockets (Stage.Asking []) kept is closes
-      (admitted happened facts shows start slots (stage_at old) store n old_sockets then_sockets adds
+      (settled happened facts shows start peers (stage_at old) store n then_sockets sockets (Stage.Asking []) kept is closes
+      (admitted happened facts shows start peers (stage_at old) store n old_sockets then_sockets adds
       (same_stages old_sockets (stage_at old) (instead (stage_at old) n None) (instead_kept (stage_at old) n None free.1) on)))
 
   -- a connection was moved on
   pub moved_on : (old_sockets then_sockets sockets : S) (n : ℕ) (old taken new : Connections A) (stage after : Stage A) (kept : Option (Connection A))
       → stage_at old n ≡ Some stage → ComesTo n None old taken → MovesOn happened facts shows store n old_sockets (Some stage) then_sockets (Some after)
       → StaysAt after kept → ClosesUnless happened n kept then_sockets sockets → ComesTo n (stage_in kept) taken new
-      → GoesOn happened facts shows start old_sockets slots (stage_at old) store → GoesOn happened facts shows start sockets slots (stage_at new) store
+      → GoesOn happened facts shows start old_sockets peers (stage_at old) store → GoesOn happened facts shows start sockets peers (stage_at new) store
   moved_on old_sockets then_sockets sockets n old taken new stage after kept is takes moves keeps closes comes on =
       same_stages sockets (instead (stage_at old) n (stage_in kept)) (stage_at new)
       (λ p. comes.stages p ∙ instead_twice (stage_at old) n (stage_at taken) None (stage_in kept) takes.stages p)
-      (settled happened facts shows start slots (stage_at old) store n then_sockets sockets after kept keeps closes
-      (moves start slots (stage_at old)
+      (settled happened facts shows start peers (stage_at old) store n then_sockets sockets after kept keeps closes
+      (moves start peers (stage_at old)
       (same_stages old_sockets (stage_at old) (instead (stage_at old) n (Some stage)) (instead_kept (stage_at old) n (Some stage) is) on)))

@@ -4,6 +4,8 @@ pub mod Noted
 pub mod Answering
 -- What happens in a service: on the sockets, and the commands and answers to browsers in between.
 pub mod History
+-- What the device holds during a service, in words of the sources that earn its hill, and what a service is in the life of its device.
+pub mod Held
 -- How the sessions of peers, the connections of browsers and the store stand by a history.
 pub mod Standing
 -- What a host writes of what happens.

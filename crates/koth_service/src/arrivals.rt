@@ -22,13 +22,14 @@ pub(crate) fn take_arrivals<S: Sockets, D: Device, A: Allocator + Copy, H: Host<
     sockets: &mut S,
     host: &H,
     errors: &mut E,
+    connections: Option<u32>,
     now: u64,
 )
     ensures served { KeepsOn S.happened D.facts (H.shows host.now) sockets.old desk.old sockets.new desk.new }
     ensures told { Grows (E.contents errors.old) (E.contents errors.new) }
 {
     for _arrival in 0..ARRIVALS {
-        if !desk.sessions.may_begin(desk.seats.len()) {
+        if !desk.sessions.may_begin(desk.seats.len(), connections) {
             return;
         }
         match sockets.accept() {

@@ -1,5 +1,6 @@
 //! What each browser asks, and the answer to it. Whatever the sockets say of a browser, it goes on as `served` says of the whole service.
 //! Each function says so of the connections that it moves, however the peers and the other browsers stand.
+#![tactic(auto, using(crate::proofs::Told::stays))]
 
 ghost use Rattle.{std.specs.Prelude.{[], None, Some}, hill_store.specs.Seen.Seen};
 ghost use Rattle.koth_service.specs.Connections.{
@@ -12,17 +13,20 @@ ghost use Rattle.koth_service.specs.Connections.{
   stage_after,
   stage_in,
 };
+ghost use Rattle.koth_service.specs.Told.{Grows};
 ghost use Rattle.koth_service.specs.declared.connections.Stage.TheVariants as stages;
 
 use crate::answering::answer_visit;
 use crate::connections::{Browsers, Connection, Stage};
-use crate::host::Host;
+use crate::host::{Event, Host};
 use crate::sockets::{Arrival, Came, Sockets, Went};
 use crate::unsent::Unsent;
 use hill_store::Store;
-use koth_http::Visit;
+use koth_http::{Visit, status_of};
 use sector_disk::Device;
 use std::alloc::{AllocError, Allocator};
+use std::io::Write;
+use std::net::SocketAddr;
 
 /// The most bytes that one read takes.
 const CHUNK: usize = 4096;
@@ -30,6 +34,8 @@ const CHUNK: usize = 4096;
 /// What became of a connection.
 #[derive(Drop)]
 pub(crate) enum Moved<A: Allocator> {
+    /// What came is answered so, and none of that went out yet.
+    Answered(Visit<A>, Unsent<A>),
     /// It went on to its next stage.
     Next(Stage<A>),
     /// It is at the same stage, and something came or went.
@@ -50,15 +56,17 @@ pub(crate) struct BrowsersRound {
 }
 
 /// Takes a connection of a browser that waits, and moves each connection on. One request is answered at most: the others wait for their
-/// turn, since a page takes time in which no peer is served.
-pub(crate) fn serve_browsers<S: Sockets, D: Device, A: Allocator + Copy, H: Host<D, A>>(
+/// turn, since a page takes time in which no peer is served. The host reports that request.
+pub(crate) fn serve_browsers<S: Sockets, D: Device, A: Allocator + Copy, H: Host<D, A>, E: Write>(
     browsers: &mut Browsers<A>,
     sockets: &mut S,
     store: &Store<D, A>,
     host: &H,
+    errors: &mut E,
     now: u64,
 ) -> BrowsersRound
-    ensures { BrowsersGoOn S.happened D.facts (H.shows host.now) store.now sockets.old browsers.old sockets.new browsers.new }
+    ensures served { BrowsersGoOn S.happened D.facts (H.shows host.now) store.now sockets.old browsers.old sockets.new browsers.new }
+    ensures told { Grows (E.contents errors.old) (E.contents errors.new) }
 {
     let mut round = admit::<S, D, A, H>(browsers, sockets, now);
     let mut has_answered = false;
@@ -68,7 +76,7 @@ pub(crate) fn serve_browsers<S: Sockets, D: Device, A: Allocator + Copy, H: Host
         if asks && has_answered {
             continue;
         }
-        let has_moved = move_on(browsers, sockets, store, host, number, now);
+        let has_moved = move_on(browsers, sockets, store, host, errors, number, now);
         round.moved |= has_moved;
         has_answered |= asks && !browsers.is_asking(number);
     }
@@ -94,8 +102,8 @@ fn admit<S: Sockets, D: Device, A: Allocator + Copy, H: Host<D, A>>(
         return still;
     };
     match sockets.admit_browser(number) {
-        Arrival::Peer(_) => {
-            let connection = begun(browsers.alloc, now);
+        Arrival::Peer(address) => {
+            let connection = begun(browsers.alloc, address, now);
             settle(browsers, sockets, number, connection);
             BrowsersRound {
                 moved: true,
@@ -111,11 +119,12 @@ fn admit<S: Sockets, D: Device, A: Allocator + Copy, H: Host<D, A>>(
 }
 
 /// A connection from which nothing came yet, or none if there is no memory for its request.
-fn begun<A: Allocator + Copy>(alloc: A, now: u64) -> Option<Connection<A>>
+fn begun<A: Allocator + Copy>(alloc: A, address: SocketAddr, now: u64) -> Option<Connection<A>>
     ensures { StaysAt (stages.Asking []) result }
 {
     match Visit::new(alloc) {
         Ok(visit) => Some(Connection {
+            address,
             stage: Stage::Asking(visit),
             since: now,
         }),
@@ -141,36 +150,87 @@ fn settle<S: Sockets, A: Allocator>(
 }
 
 /// Moves the connection of this number on, if there is one, and returns whether anything came or went.
-fn move_on<S: Sockets, D: Device, A: Allocator + Copy, H: Host<D, A>>(
+fn move_on<S: Sockets, D: Device, A: Allocator + Copy, H: Host<D, A>, E: Write>(
     browsers: &mut Browsers<A>,
     sockets: &mut S,
     store: &Store<D, A>,
     host: &H,
+    errors: &mut E,
     number: usize,
     now: u64,
 ) -> bool
-    ensures { BrowsersGoOn S.happened D.facts (H.shows host.now) store.now sockets.old browsers.old sockets.new browsers.new }
+    ensures served { BrowsersGoOn S.happened D.facts (H.shows host.now) store.now sockets.old browsers.old sockets.new browsers.new }
+    ensures told { Grows (E.contents errors.old) (E.contents errors.new) }
 {
     let Some(connection) = browsers.take(number) else {
         return false;
     };
-    let Connection { stage, since } = connection;
+    let Connection {
+        address,
+        stage,
+        since,
+    } = connection;
     let moved = after_stage(browsers.alloc, sockets, store, host, number, stage);
+    tell_request::<D, A, H, E>(&moved, address, host, errors);
     let is_still = matches!(moved, Moved::Still(_));
-    let kept = kept_after(moved, since, now);
+    let kept = kept_after(moved, address, since, now);
     let is_kept = kept.is_some();
     settle(browsers, sockets, number, kept);
     !(is_still && is_kept)
 }
 
+/// Has the host report the request that was answered in this move, if one was.
+fn tell_request<D: Device, A: Allocator + Copy, H: Host<D, A>, E: Write>(
+    moved: &Moved<A>,
+    address: SocketAddr,
+    host: &H,
+    errors: &mut E,
+)
+    ensures { Grows (E.contents errors.old) (E.contents errors.new) }
+{
+    if let Moved::Answered(visit, unsent) = moved {
+        let answer = unsent.as_slice();
+        let event = Event::Asked {
+            line: visit.line(),
+            status: status_of(answer),
+            bytes: answer.len(),
+        };
+        host.tell(address, event, errors);
+    }
+}
+
 /// The connection at the stage that it has now, unless it has ended, or has been at that stage for too long.
-fn kept_after<A: Allocator>(moved: Moved<A>, since: u64, now: u64) -> Option<Connection<A>>
+fn kept_after<A: Allocator>(
+    moved: Moved<A>,
+    address: SocketAddr,
+    since: u64,
+    now: u64,
+) -> Option<Connection<A>>
     ensures { StaysAt (stage_after moved) result }
 {
     match moved {
-        Moved::Next(stage) => Some(Connection { stage, since: now }),
-        Moved::On(stage) => Connection { stage, since }.in_time(now),
-        Moved::Still(stage) => Connection { stage, since }.in_time(now),
+        Moved::Answered(_visit, unsent) => Some(Connection {
+            address,
+            stage: Stage::Answering(unsent),
+            since: now,
+        }),
+        Moved::Next(stage) => Some(Connection {
+            address,
+            stage,
+            since: now,
+        }),
+        Moved::On(stage) => Connection {
+            address,
+            stage,
+            since,
+        }
+        .in_time(now),
+        Moved::Still(stage) => Connection {
+            address,
+            stage,
+            since,
+        }
+        .in_time(now),
         Moved::Over => None,
     }
 }
@@ -211,7 +271,7 @@ fn read<S: Sockets, D: Device, A: Allocator + Copy, H: Host<D, A>>(
         Came::Bytes(count) => {
             visit.take(&bytes[..count]);
             match answer_visit(alloc, store, host, &visit) {
-                Ok(Some(answer)) => Moved::Next(Stage::Answering(Unsent::new(answer))),
+                Ok(Some(answer)) => Moved::Answered(visit, Unsent::new(answer)),
                 Ok(None) => Moved::On(Stage::Asking(visit)),
                 Err(AllocError) => Moved::Over,
             }

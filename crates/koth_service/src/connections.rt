@@ -7,10 +7,12 @@ use crate::times::{ANSWERING, ASKING, DRAIN};
 use crate::unsent::Unsent;
 use koth_http::Visit;
 use std::alloc::{AllocError, Allocator};
+use std::net::SocketAddr;
 
 /// A connection of a browser.
 #[derive(Drop)]
 pub(crate) struct Connection<A: Allocator> {
+    pub(crate) address: SocketAddr,
     pub(crate) stage: Stage<A>,
     /// When it began this stage, in milliseconds.
     pub(crate) since: u64,

@@ -1,8 +1,8 @@
 //! The peers, the store and the seats together, and how a peer is disconnected.
 #![tactic(auto, using(crate::proofs::Told::stays))]
 
-ghost use Rattle.std.specs.Prelude.{◌≡◌, ℕ, None, IfOk};
-ghost use Rattle.{koth_peers.specs.Peers.peer_at, koth_service.specs.{Standing.KeepsOn, Told.Grows}};
+ghost use Rattle.std.specs.Prelude.{◌≡◌, ◌≢◌, ℕ, ◌+◌, ◌≤◌, length, true, false, None, IfOk};
+ghost use Rattle.{koth_peers.specs.Peers.peer_at, koth_service.specs.{Standing.{HasEnded, IsBegun, KeepsOn, start_at, start_of}, Told.Grows}};
 
 use crate::host::{Event, Host, HowEnded};
 use crate::seats::Seats;
@@ -31,67 +31,52 @@ pub(crate) struct Desk<D: Device, A: Allocator + Copy> {
 /// How many sessions there were.
 #[derive(Clone, Copy, Drop)]
 pub(crate) struct Sessions {
-    most: Option<u64>,
     begun: u64,
-    ended: u64,
+    pub(crate) ended: u64,
 }
 
 impl Sessions {
-    fn new(most: Option<u64>) -> Sessions {
-        Sessions {
-            most,
-            begun: 0,
-            ended: 0,
-        }
-    }
-
-    /// Whether another session may begin, if `at_once` may be at once.
-    pub(crate) fn may_begin(&self, at_once: usize) -> bool {
+    /// Whether another session may begin, if `at_once` may be at once, and `connections` are asked for in all.
+    pub(crate) fn may_begin(&self, at_once: usize, connections: Option<u32>) -> bool {
         let there = self.begun.saturating_sub(self.ended);
         let has_room = usize::try_from(there).is_ok_and(|there| there < at_once);
-        has_room && self.is_asked_for()
-    }
-
-    /// Whether fewer have begun than are asked for.
-    fn is_asked_for(&self) -> bool {
-        match self.most {
-            Some(most) => self.begun < most,
-            None => true,
-        }
+        has_room && connections.is_none_or(|connections| self.begun < u64::from(connections))
     }
 
     /// Whether as many have ended as are asked for.
-    pub(crate) fn are_done(&self) -> bool {
-        match self.most {
-            Some(most) => self.ended >= most,
+    pub(crate) fn are_done(&self, connections: Option<u32>) -> bool
+        ensures { result ≡ true → HasEnded connections self.now.ended }
+    {
+        match connections {
+            Some(connections) => self.ended >= u64::from(connections),
             None => false,
         }
     }
 
-    pub(crate) fn begin(&mut self) {
+    pub(crate) fn begin(&mut self)
+        ensures { self.new.ended ≡ self.old.ended }
+    {
         self.begun = self.begun.saturating_add(1);
     }
 
-    pub(crate) fn end(&mut self) {
+    pub(crate) fn end(&mut self)
+        ensures { self.new.ended ≤ self.old.ended + 1 }
+    {
         self.ended = self.ended.saturating_add(1);
     }
 }
 
 impl<D: Device, A: Allocator + Copy> Desk<D, A> {
     /// No peers yet, and room for `most` at once. `AllocError` comes if a growth of memory is refused.
-    pub(crate) fn new(
-        alloc: A,
-        most: usize,
-        sessions: Option<u64>,
-        store: Store<D, A>,
-    ) -> Result<Desk<D, A>, AllocError>
+    pub(crate) fn new(alloc: A, most: usize, store: Store<D, A>) -> Result<Desk<D, A>, AllocError>
     where
         D: Drop,
-        ensures nobody { IfOk result (λ desk. (p : ℕ) → peer_at desk.peers.slots.items p ≡ None) }
-        ensures store { IfOk result (λ desk. desk.store ≡ store) }
+        requires { store.reopen ≡ false }
+        ensures begun { IfOk result IsBegun }
+        ensures start { IfOk result (λ desk. start_at desk ≡ start_of store most) }
     {
         match Peers::new(alloc, most) {
-            Ok(peers) => Desk::seated(alloc, most, sessions, peers, store),
+            Ok(peers) => Desk::seated(alloc, most, peers, store),
             Err(error) => Err(error),
         }
     }
@@ -100,22 +85,22 @@ impl<D: Device, A: Allocator + Copy> Desk<D, A> {
     fn seated(
         alloc: A,
         most: usize,
-        sessions: Option<u64>,
         peers: Peers<A>,
         store: Store<D, A>,
     ) -> Result<Desk<D, A>, AllocError>
     where
         D: Drop,
-        requires { (p : ℕ) → peer_at peers.slots.items p ≡ None }
-        ensures nobody { IfOk result (λ desk. (p : ℕ) → peer_at desk.peers.slots.items p ≡ None) }
-        ensures store { IfOk result (λ desk. desk.store ≡ store) }
+        requires nobody { (p : ℕ) → peer_at peers.slots.items p ≡ None }
+        requires sound { store.reopen ≡ false }
+        ensures begun { IfOk result IsBegun }
+        ensures start { IfOk result (λ desk. start_at desk ≡ start_of store (length peers.slots.items)) }
     {
         match Seats::new(alloc, most) {
             Ok(seats) => Ok(Desk {
                 peers,
                 store,
                 seats,
-                sessions: Sessions::new(sessions),
+                sessions: Sessions { begun: 0, ended: 0 },
                 is_busy: false,
                 retries: false,
                 read_at: 0,
@@ -134,6 +119,7 @@ pub(crate) fn let_go<S: Sockets, D: Device, A: Allocator + Copy, H: Host<D, A>, 
     number: usize,
     how: HowEnded,
 )
+    requires { peer_at desk.old.peers.slots.items number ≢ None }
     ensures served { KeepsOn S.happened D.facts (H.shows host.now) sockets.old desk.old sockets.new desk.new }
     ensures told { Grows (E.contents errors.old) (E.contents errors.new) }
 {

@@ -1,7 +1,7 @@
 //! The host of a service: it reports what happens, and opens the hill again.
 
 ghost use Rattle.std.specs.Prelude.{◌≡◌, map, false, IfOk};
-ghost use Rattle.{hill_store.specs.Seen.Seen, koth_service.specs.{Answering.{IsFound, Site}, Told.Grows}};
+ghost use Rattle.{hill_store.specs.Seen.Seen, koth_service.specs.{Answering.{IsFound, Site}, History.OpensAgain, Told.Grows}};
 
 use hill_store::Store;
 use koth_http::Page;
@@ -24,7 +24,7 @@ pub enum HowEnded {
     Gone,
 }
 
-/// What happens with a peer.
+/// What happens with a peer or a browser.
 #[derive(Clone, Copy)]
 pub enum Event<'t> {
     /// It has connected.
@@ -33,6 +33,15 @@ pub enum Event<'t> {
     Answered(&'t [u8]),
     /// Its session has ended, and its socket is closed.
     Ended(HowEnded),
+    /// It is a browser, and its request is answered so. None of the answer went out yet.
+    Asked {
+        /// The first line of the request, without its end.
+        line: &'t [u8],
+        /// The three digits of the answer's status.
+        status: &'t [u8],
+        /// How many bytes the answer has, its head among them.
+        bytes: usize,
+    },
 }
 
 /// The host of a service.
@@ -43,9 +52,10 @@ pub trait Host<D: Device, A: Allocator> {
     // What browsers see of a store.
     ghost shows: { Self → Seen D → Site };
 
-    /// Opens the hill again, after its device failed and the store was closed.
-    fn reopen(&self) -> Result<Store<D, A>, Self::Fault>
-        ensures { IfOk result (λ store. store.reopen ≡ false) };
+    /// Opens the hill of this device again, after the device failed in a submission and the store was closed.
+    fn reopen(&self, device: D) -> Result<Store<D, A>, Self::Fault>
+        ensures open_now { IfOk result (λ store. store.reopen ≡ false) }
+        ensures again { IfOk result (OpensAgain D.facts device) };
 
     /// The names of the hill's machine that requests of browsers may be for, beside its addresses and `localhost`.
     fn names(&self) -> &[&str]
@@ -55,7 +65,7 @@ pub trait Host<D: Device, A: Allocator> {
     fn page(&self, store: &Store<D, A>, page: Page) -> Result<Option<Vec<u8, A>>, AllocError>
         ensures { IfOk result (IsFound ((Self.shows self.now store.now).pages page)) };
 
-    /// Reports what happened with the peer of this address, as far as it is to be reported.
+    /// Reports what happened with the peer or the browser of this address, as far as it is to be reported.
     fn tell<E: Write>(&self, peer: SocketAddr, event: Event<'_>, errors: &mut E)
         ensures { Grows (E.contents errors.old) (E.contents errors.new) };
 }

@@ -13,9 +13,11 @@
 //!
 //! The main clause: whatever the sockets say, there is a history (`IsHistory`) of what happened on them, of the commands that were carried
 //! out in between, and of the answers to browsers. In it each peer's commands are carried out in the order in which they came, and none that
-//! came after a browser's request; each is answered on the hill that stood then. What goes out to a peer is the next of what it was answered. At each answer every image that a stop
-//! may leave of the device has the hill with all submissions that were answered since it was opened. Each browser is answered at most once,
-//! as the bytes that came from it ask, by what the host shows of the hill that stood then. What goes out to it is the next of that answer.
+//! came after a browser's request; each is answered on the hill that stood then. What goes out to a peer is the next of what it was answered.
+//! The hill is opened again only after the device failed in a submission, from that device, and nothing more of that peer is carried out. At
+//! each moment every image that a stop may leave of the device stands for what the submissions that were answered earn (`AreHeld`). Each
+//! browser is answered at most once, as the bytes that came from it ask, by what the host shows of the hill that stood then. What goes out to it
+//! is the next of that answer. `laws` says what a service is in the life of its device.
 //!
 //! A peer must not wait for another peer's bytes, nor for room for another peer's answers. Each peer takes a seat of some tens of bytes,
 //! beside what its session takes, and no round takes memory of its own.
@@ -27,6 +29,7 @@ mod browsers;
 mod connections;
 mod desk;
 mod host;
+mod laws;
 mod parting;
 mod reading;
 mod seats;
@@ -39,6 +42,7 @@ mod unsent;
 
 pub use host::{Event, Host, HowEnded};
 pub use koth_peers::PeerEnd;
+pub use laws::services_in_lives;
 pub use service::{ServiceFault, serve_peers};
 pub use sockets::{Arrival, Came, Drained, Sockets, Went};
 pub use times::{ANSWERING, ASKING, DRAIN, DRAINED_MOST, PATIENCE, RETRY};

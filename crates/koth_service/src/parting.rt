@@ -2,7 +2,7 @@
 #![tactic(auto, using(crate::proofs::Told::stays))]
 
 ghost use Rattle.std.specs.Prelude.{◌≡◌, ◌↔◌, ◌-◌, ◌≤◌, IsTrue, false};
-ghost use Rattle.{koth_peers.specs.Peers.is_due_at, koth_service.specs.{Noted.Stays, Standing.KeepsOn, Told.Grows}};
+ghost use Rattle.{koth_peers.specs.Peers.is_due_at, koth_service.specs.{Noted.Stays, Standing.{KeepsOn, peers_of}, Told.Grows}};
 
 use crate::desk::{Desk, let_go};
 use crate::host::{Host, HowEnded};
@@ -87,7 +87,7 @@ fn has_drained<S: Sockets, D: Device, A: Allocator + Copy>(
     now: u64,
 ) -> bool
     ensures stays { Stays S.happened sockets.old sockets.new }
-    ensures peers { desk.new.peers ≡ desk.old.peers }
+    ensures peers { peers_of desk.new ≡ peers_of desk.old }
     ensures store { desk.new.store ≡ desk.old.store }
 {
     let count = match sockets.drain(number) {

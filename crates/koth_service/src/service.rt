@@ -2,7 +2,7 @@
 #![tactic(auto, using(crate::proofs::Told::stays))]
 
 ghost use Rattle.std.specs.Prelude.{◌≡◌, ℕ, None, false, IfOk};
-ghost use Rattle.{koth_peers.specs.Peers.peer_at, koth_service.specs.{Noted.Stays, Connections.{stage_at, AllGoOn}, Standing.{IsSoundAfter, KeepsOnBy, ServesPeers}, Told.Grows}};
+ghost use Rattle.koth_service.specs.{Noted.Stays, Connections.{stage_at, AllGoOn}, Standing.{IsBegun, IsReopened, IsSoundAfter, KeepsOnBy, ServesPeers, peers_of, start_at, start_of}, Told.Grows};
 
 use crate::arrivals::take_arrivals;
 use crate::browsers::serve_browsers;
@@ -28,6 +28,8 @@ pub enum ServiceFault<F> {
     Memory,
     /// The device failed, and the hill can't be opened again.
     Reopening(F),
+    /// 2^64 - 1 rounds were made, and fewer sessions have ended than were asked for.
+    Rounds,
 }
 
 /// Serves up to `most` peers at once on a hill; returns after `connections` sessions if that is given.
@@ -48,11 +50,11 @@ pub fn serve_peers<S: Sockets, D: Device + Drop, A: Allocator + Copy, H: Host<D,
     errors: &mut E,
 ) -> Result<(), ServiceFault<H::Fault>>
     requires { store.reopen ≡ false }
-    ensures served { ServesPeers S.happened D.facts (H.shows host.now) store sockets.old sockets.new }
+    ensures served { ServesPeers S.happened D.facts (H.shows host.now) (start_of store most) connections result sockets.old sockets.new }
     ensures told { Grows (E.contents errors.old) (E.contents errors.new) }
 {
-    match Desk::new(alloc, most, connections.map(u64::from), store) {
-        Ok(desk) => serve_at(alloc, sockets, desk, browsers, host, errors),
+    match Desk::new(alloc, most, store) {
+        Ok(desk) => serve_at(alloc, sockets, desk, browsers, connections, host, errors),
         Err(AllocError) => Err(ServiceFault::Memory),
     }
 }
@@ -63,15 +65,18 @@ fn serve_at<S: Sockets, D: Device + Drop, A: Allocator + Copy, H: Host<D, A>, E:
     sockets: &mut S,
     desk: Desk<D, A>,
     most: usize,
+    connections: Option<u32>,
     host: &H,
     errors: &mut E,
 ) -> Result<(), ServiceFault<H::Fault>>
-    requires { (p : ℕ) → peer_at desk.peers.slots.items p ≡ None }
-    ensures served { ServesPeers S.happened D.facts (H.shows host.now) desk.store sockets.old sockets.new }
+    requires { IsBegun desk }
+    ensures served { ServesPeers S.happened D.facts (H.shows host.now) (start_at desk) connections result sockets.old sockets.new }
     ensures told { Grows (E.contents errors.old) (E.contents errors.new) }
 {
     match Browsers::new(alloc, most) {
-        Ok(mut browsers) => serve_rounds(sockets, desk, &mut browsers, host, errors),
+        Ok(mut browsers) => {
+            serve_rounds(sockets, desk, &mut browsers, connections, host, errors)
+        }
         Err(AllocError) => Err(ServiceFault::Memory),
     }
 }
@@ -81,27 +86,28 @@ fn serve_rounds<S: Sockets, D: Device + Drop, A: Allocator + Copy, H: Host<D, A>
     sockets: &mut S,
     desk: Desk<D, A>,
     browsers: &mut Browsers<A>,
+    connections: Option<u32>,
     host: &H,
     errors: &mut E,
 ) -> Result<(), ServiceFault<H::Fault>>
-    requires peers { (p : ℕ) → peer_at desk.peers.slots.items p ≡ None }
+    requires peers { IsBegun desk }
     requires browsers { (p : ℕ) → stage_at browsers.old.connections.items p ≡ None }
-    ensures served { ServesPeers S.happened D.facts (H.shows host.now) desk.store sockets.old sockets.new }
+    ensures served { ServesPeers S.happened D.facts (H.shows host.now) (start_at desk) connections result sockets.old sockets.new }
     ensures told { Grows (E.contents errors.old) (E.contents errors.new) }
 {
     let mut desk = desk;
     for _round in 0..u64::MAX {
         give_out(&mut desk, browsers, sockets, host, errors);
-        if desk.sessions.are_done() {
+        if desk.sessions.are_done(connections) {
             return Ok(());
         }
-        let step = take_in(&mut desk, browsers, sockets, host, errors);
+        let step = take_in(&mut desk, browsers, sockets, connections, host, errors);
         desk = match sound(desk, step, host) {
             Ok(desk) => desk,
             Err(fault) => return Err(ServiceFault::Reopening(fault)),
         };
     }
-    Ok(())
+    Err(ServiceFault::Rounds)
 }
 
 /// Sends answers, disconnects peers, and serves browsers.
@@ -118,7 +124,7 @@ fn give_out<S: Sockets, D: Device, A: Allocator + Copy, H: Host<D, A>, E: Write>
     let now = sockets.now();
     send_all(desk, sockets, host, errors, now);
     part_all(desk, sockets, host, errors, now);
-    let round = serve_browsers(browsers, sockets, &desk.store, host, now);
+    let round = serve_browsers(browsers, sockets, &desk.store, host, errors, now);
     desk.is_busy |= round.moved;
     desk.retries |= round.retries;
 }
@@ -128,6 +134,7 @@ fn take_in<S: Sockets, D: Device, A: Allocator + Copy, H: Host<D, A>, E: Write>(
     desk: &mut Desk<D, A>,
     browsers: &Browsers<A>,
     sockets: &mut S,
+    connections: Option<u32>,
     host: &H,
     errors: &mut E,
 ) -> Step
@@ -136,7 +143,7 @@ fn take_in<S: Sockets, D: Device, A: Allocator + Copy, H: Host<D, A>, E: Write>(
 {
     wait(desk, browsers, sockets);
     let now = sockets.now();
-    take_arrivals(desk, sockets, host, errors, now);
+    take_arrivals(desk, sockets, host, errors, connections, now);
     read_all(desk, sockets, host, errors, now);
     serve_one(desk, sockets, host, errors)
 }
@@ -149,7 +156,7 @@ fn wait<S: Sockets, D: Device, A: Allocator + Copy>(
     sockets: &mut S,
 )
     ensures stays { Stays S.happened sockets.old sockets.new }
-    ensures peers { desk.new.peers ≡ desk.old.peers }
+    ensures peers { peers_of desk.new ≡ peers_of desk.old }
     ensures store { desk.new.store ≡ desk.old.store }
 {
     let now = sockets.now();
@@ -172,7 +179,7 @@ fn sound<D: Device + Drop, A: Allocator + Copy, H: Host<D, A>>(
     step: Step,
     host: &H,
 ) -> Result<Desk<D, A>, H::Fault>
-    ensures { IfOk result (IsSoundAfter step desk) }
+    ensures { IfOk result (IsSoundAfter D.facts step desk) }
 {
     match step {
         Step::Nobody => Ok(desk),
@@ -182,16 +189,15 @@ fn sound<D: Device + Drop, A: Allocator + Copy, H: Host<D, A>>(
     }
 }
 
-/// The same desk, on the hill opened again. The store is closed first.
+/// The same desk, on the hill of its device opened again. The store is closed first.
 fn reopened<D: Device + Drop, A: Allocator + Copy, H: Host<D, A>>(
     desk: Desk<D, A>,
     host: &H,
 ) -> Result<Desk<D, A>, H::Fault>
-    ensures { IfOk result (λ new. (new.peers ≡ desk.peers) × (new.store.reopen ≡ false)) }
+    ensures { IfOk result (IsReopened D.facts desk) }
 {
     let mut desk = desk;
-    drop(desk.store.close());
-    match host.reopen() {
+    match host.reopen(desk.store.close()) {
         Ok(store) => {
             desk.store = store;
             Ok(desk)

@@ -1,7 +1,7 @@
 mod Endings
 pub mod Exchanges
 pub mod Holding
-mod Living
+pub mod Living
 mod Serving
 mod SessionRows
 pub mod Submissions

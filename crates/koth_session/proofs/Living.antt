@@ -6,7 +6,7 @@ use Rattle.{koth_session.specs.declared.sessions.SessionEnd.SessionEnd, koth_ses
 
 module _ {D : Type 0} (facts : DeviceFacts D) where
   -- commands were answered
-  moves_by : (old new : Seen D) (es : List Exchange) → facts.lawful old.device → IsStanding facts old → AreServed facts old new es
+  pub moves_by : (old new : Seen D) (es : List Exchange) → facts.lawful old.device → IsStanding facts old → AreServed facts old new es
       → MovesOn (facts.size old.device) (submitted es) (facts.disk old.device) (facts.disk new.device)
   moves_by old new es lawful standing is =
       let now = is.reads lawful standing.is_open standing.reads in

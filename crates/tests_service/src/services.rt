@@ -1,16 +1,15 @@
 //! Services whose peers act by a script.
 //!
 //! `callers`, `fakes` and `hosts` have sockets of no system, those who call at them, and the host of a service. `serving` says what has to
-//! come of a service over these, which `browsers` tries with browsers. `polls` tries sockets of the system.
+//! come of a service over these, which `browsers` tries with browsers, and `failures` with a device that fails. `polls` tries sockets of the
+//! system.
 
 use callers::{Cue, Deed};
-use hosts::Shut;
-use koth_service::ServiceFault;
-use serving::{ALL, Due, act_out, check_served, serve};
-use std::process::Abort;
+use serving::{ALL, Due, act_out};
 
 mod browsers;
 mod callers;
+mod failures;
 mod fakes;
 mod hosts;
 mod polls;
@@ -254,45 +253,4 @@ const ARRIVALS_DUE: [Due; 7] = [
 #[test]
 fn arrivals(rt: HostRuntime) {
     act_out(&rt, &ARRIVALS, 3, &ARRIVALS_DUE);
-}
-
-/// What is done in `a_device_that_fails`.
-const A_DEVICE_THAT_FAILS: [Cue; 8] = [
-    (0, Deed::Calls(1)),
-    (0, Deed::Takes(1, ALL)),
-    (0, Deed::Calls(2)),
-    (0, Deed::Takes(2, ALL)),
-    (0, Deed::Says(1, "BOGUS\nSUBMIT\nMOV 0,1\n.\nSHOW\n")),
-    (0, Deed::Ends(1)),
-    (1, Deed::Says(2, "SUBMIT\nMOV 0,1\n.\n")),
-    (2, Deed::Ends(2)),
-];
-
-const A_DEVICE_THAT_FAILS_DUE: [Due; 3] = [
-    Due::Heard(1, "BAD\n"),
-    Due::Heard(2, "PLACED 1 1 0\n"),
-    Due::Told("1 ", &["connected", "By(StoreFailed)"]),
-];
-
-/// What comes of it if the hill can't be opened again.
-const A_HILL_THAT_IS_GONE_DUE: [Due; 1] = [Due::Heard(2, "")];
-
-/// The device fails in the first submission, which isn't answered. The hill is opened again, and the other peer is served on it.
-#[test]
-fn a_device_that_fails(rt: HostRuntime) {
-    act_on_a_fault(&rt, 1, None, &A_DEVICE_THAT_FAILS_DUE);
-    let fault = ServiceFault::Reopening(Shut);
-    act_on_a_fault(&rt, 0, Some(fault), &A_HILL_THAT_IS_GONE_DUE);
-}
-
-/// The hill may be opened again `openings` times.
-fn act_on_a_fault(
-    rt: &(impl Abort + AllocGlobal),
-    openings: u32,
-    fault: Option<ServiceFault<Shut>>,
-    dues: &[Due],
-) {
-    let served = serve(rt, &A_DEVICE_THAT_FAILS, 2, 8, openings);
-    check_served(rt, &served, fault, dues);
-    drop(served);
 }

@@ -39,15 +39,18 @@ const THE_HILL_THAT_STANDS: [Cue; 13] = [
     (6, Deed::Ends(1)),
 ];
 
-const THE_HILL_THAT_STANDS_DUE: [Due; 5] = [
+const THE_HILL_THAT_STANDS_DUE: [Due; 7] = [
     Due::Heard(7, NOBODY),
     Due::Heard(8, ONE),
     Due::Heard(1, "PLACED 1 1 0\n"),
     Due::Closed(7, Some(4)),
     Due::Closed(8, Some(5)),
+    Due::Told("7 ", &["GET / HTTP/1.1: 200 265"]),
+    Due::Told("8 ", &["GET / HTTP/1.1: 200 265"]),
 ];
 
-/// Browsers see the hill as it is when they ask: one before a submission, whose request comes in pieces, and one after it.
+/// Browsers see the hill as it is when they ask: one before a submission, whose request comes in pieces, and one after it. The request of each
+/// is told once, with the bytes of its answer, which has a head of 258.
 #[test]
 fn the_hill_that_stands(rt: HostRuntime) {
     act_out(&rt, &THE_HILL_THAT_STANDS, 1, &THE_HILL_THAT_STANDS_DUE);
@@ -151,12 +154,26 @@ fn refusals(rt: HostRuntime) {
 /// What is done in `a_head`.
 const A_HEAD: [Cue; 6] = asking!("HEAD / HTTP/1.1\r\nHost: localhost\r\n\r\n");
 
-const A_HEAD_DUE: [Due; 1] = [Due::Heard(7, page!(""))];
+const A_HEAD_DUE: [Due; 2] = [
+    Due::Heard(7, page!("")),
+    Due::Told("7 ", &["HEAD / HTTP/1.1: 200 258"]),
+];
 
 /// What is asked for by `HEAD` is the page's head alone.
 #[test]
 fn a_head(rt: HostRuntime) {
     act_out(&rt, &A_HEAD, 1, &A_HEAD_DUE);
+}
+
+/// What is done in `a_blank_line_first`.
+const A_BLANK_LINE_FIRST: [Cue; 6] = asking!("\r\n\nGET /x?y HTTP/1.1\r\nHost: [::1]\r\n\r\n");
+
+const A_BLANK_LINE_FIRST_DUE: [Due; 1] = [Due::Told("7 ", &["GET /x?y HTTP/1.1: 404 367"])];
+
+/// Of a request whose first lines are blank the one after them is told. The answer has a head of 267 bytes, and a body of 100.
+#[test]
+fn a_blank_line_first(rt: HostRuntime) {
+    act_out(&rt, &A_BLANK_LINE_FIRST, 1, &A_BLANK_LINE_FIRST_DUE);
 }
 
 /// What is done in `slow_browsers`.
@@ -177,7 +194,7 @@ const SLOW_BROWSERS: [Cue; 14] = [
     (70_000, Deed::Ends(2)),
 ];
 
-const SLOW_BROWSERS_DUE: [Due; 7] = [
+const SLOW_BROWSERS_DUE: [Due; 9] = [
     Due::Closed(7, Some(10_000)),
     Due::Heard(9, NOBODY),
     Due::Closed(9, Some(11_000)),
@@ -185,6 +202,8 @@ const SLOW_BROWSERS_DUE: [Due; 7] = [
     Due::Closed(8, Some(60_000)),
     Due::Heard(1, "BAD\n"),
     Due::Closed(1, Some(69_500)),
+    Due::Told("7 ", &[]),
+    Due::Told("8 ", &["GET / HTTP/1.1: 200 265"]),
 ];
 
 /// A browser whose request isn't there in 10 seconds is disconnected, and so is one that hasn't taken its answer in 60, and one that never closes

@@ -31,7 +31,7 @@ pub(crate) fn hill(alloc: Global, calls: u64) -> Option<Store<Fuse, Global>>
     .ok()
 }
 
-/// It writes a line for each event, with the peer's port before it, and opens an empty hill each time, as often as it may.
+/// It writes a line for each event, with the peer's port before it, and opens the hill again as often as it may.
 #[derive(Drop)]
 pub(crate) struct Clerk {
     alloc: Global,
@@ -56,15 +56,16 @@ impl Host<Fuse, Global> for Clerk {
 
     ghost shows = { λ _ _. record { names = codes "here.example" ∷ []; pages = λ page _. page ≡ pages.Hill } };
 
-    fn reopen(&self) -> Result<Store<Fuse, Global>, Shut>
-        ensures { IfOk result (λ store. store.reopen ≡ false) }
-    {
+    fn reopen(&self, device: Fuse) -> Result<Store<Fuse, Global>, Shut> {
         let openings = self.openings.get();
         if openings == 0 {
             return Err(Shut);
         }
         self.openings.set(openings.saturating_sub(1));
-        hill(self.alloc, u64::MAX).ok_or(Shut)
+        match Store::open(self.alloc, device) {
+            Ok(store) => Ok(store),
+            Err(_) => Err(Shut),
+        }
     }
 
     fn names(&self) -> &[&str] {
@@ -104,5 +105,14 @@ fn line_of(
             format!(in alloc; "{} {}\n", port, line)
         }
         Event::Ended(how) => format!(in alloc; "{} {:?}\n", port, how),
+        Event::Asked {
+            line,
+            status,
+            bytes,
+        } => {
+            let line = str::from_utf8(line).unwrap_or("");
+            let status = str::from_utf8(status).unwrap_or("");
+            format!(in alloc; "{} {}: {} {}\n", port, line, status, bytes)
+        }
     }
 }

@@ -1,14 +1,15 @@
-use Rattle.{std.proofs.Common.take, koth_service.proofs.{Steps.{came, closed}, Told.stays}}
+use Rattle.{std.proofs.Common.take, koth_service.proofs.{Steps.{came, closed, there_by_room}, Told.stays}}
 use Rattle.koth_service.proofs.reading.read_from.Goals as goal
 
 pub returns-in-Bytes-clause-served : goal.returns-in-Bytes-clause-served
 returns-in-Bytes-clause-served g c = λ start browsers on.
-    came g.S.Sockets.happened g.D.Device.facts (g.H.Host.shows c.args.host.now) start browsers c.args.sockets.now c.read.new.self c.args.desk.now.peers.slots.items c.take.new.self.slots.items _ c.args.number
-    (take c.in-Bytes.count c.read.new.bytes) c.take.ensures.takes c.in-Bytes.ensures.1 on
+    came g.S.Sockets.happened g.D.Device.facts (g.H.Host.shows c.args.host.now) start browsers c.args.sockets.now c.read.new.self c.args.desk.now.peers.slots.items c.take.new.self.slots.items
+    c.args.desk.now.sessions.ended _ c.args.number (take c.in-Bytes.count c.read.new.bytes)
+    (there_by_room c.args.desk.now.peers.slots.items c.args.number c.room-room.result c.room-room.ensures.room c.if-room-eq0.false) c.take.ensures.takes c.in-Bytes.ensures.1 on
 
 pub returns-in-End-clause-served : goal.returns-in-End-clause-served
 returns-in-End-clause-served g c = λ start browsers on.
-    closed g.S.Sockets.happened g.D.Device.facts (g.H.Host.shows c.args.host.now) start browsers c.args.sockets.now c.read.new.self c.args.desk.now.peers.slots.items c.close.new.self.slots.items _ c.args.number
+    closed g.S.Sockets.happened g.D.Device.facts (g.H.Host.shows c.args.host.now) start browsers c.args.sockets.now c.read.new.self c.args.desk.now.peers.slots.items c.close.new.self.slots.items c.args.desk.now.sessions.ended _ c.args.number
     c.close.ensures.closes c.in-End.ensures on
 
 pub returns-then-room-eq0-clause-told : goal.returns-then-room-eq0-clause-told

@@ -5,7 +5,7 @@ pub returns-in-Bytes-clause-served : goal.returns-in-Bytes-clause-served
 returns-in-Bytes-clause-served g c = λ start browsers on.
     let count = c.in-Bytes.count in
     let is = c.unsent-unsent.ensures.value in
-    went g.S.Sockets.happened g.D.Device.facts (g.H.Host.shows c.args.host.now) start browsers c.args.sockets.now c.write.new.self c.args.desk.now.peers.slots.items c.sent.new.self.slots.items _ c.args.number
+    went g.S.Sockets.happened g.D.Device.facts (g.H.Host.shows c.args.host.now) start browsers c.args.sockets.now c.write.new.self c.args.desk.now.peers.slots.items c.sent.new.self.slots.items c.args.desk.now.sessions.ended _ c.args.number
     count c.sent.ensures.sends (some_unsent _ _ _ is c.is_empty.ensures c.if-is_empty.false)
     (subst (λ (l : List ℕ). (log : List Noted) → g.S.Sockets.happened c.args.sockets.now log → g.S.Sockets.happened c.write.new.self (Noted.Told c.args.number (take count l) ∷ log)) is
     c.in-Bytes.ensures.1) on

@@ -1,13 +1,13 @@
--- The reports of parting stand after those of sending, and browsers go on after the peers.
-use Rattle.{koth_service.specs.Connections.stage_at, koth_service.proofs.{Steps.stays, Told.grows_on}}
+-- The reports of parting stand after those of sending, and those of browsers after both. Browsers go on after the peers.
+use Rattle.{koth_service.specs.{Connections.stage_at, Standing.peers_of}, koth_service.proofs.{Steps.stays, Told.grows_on}}
 use Rattle.koth_service.proofs.service.give_out.Goals as goal
 
 pub returns-clause-told : goal.returns-clause-told
-returns-clause-told g c = grows_on _ _ _ c.send_all.ensures.told c.part_all.ensures.told
+returns-clause-told g c = grows_on _ _ _ c.send_all.ensures.told (grows_on _ _ _ c.part_all.ensures.told c.serve_browsers-round.ensures.told)
 
 pub returns-clause-served : goal.returns-clause-served
 returns-clause-served g c = λ start on.
     let browsers = stage_at c.args.browsers.now.connections.items in
-    c.serve_browsers-round.ensures start c.part_all.new.desk.peers.slots.items
+    c.serve_browsers-round.ensures.served start (peers_of c.part_all.new.desk)
     (c.part_all.ensures.served start browsers (c.send_all.ensures.served start browsers (
-    stays g.S.Sockets.happened g.D.Device.facts (g.H.Host.shows c.args.host.now) start browsers c.args.sockets.now c.now-now.new.self c.args.desk.now.peers.slots.items c.args.desk.now.store c.now-now.ensures on)))
+    stays g.S.Sockets.happened g.D.Device.facts (g.H.Host.shows c.args.host.now) start browsers c.args.sockets.now c.now-now.new.self (peers_of c.args.desk.now) c.args.desk.now.store c.now-now.ensures on)))

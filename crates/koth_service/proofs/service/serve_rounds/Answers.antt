@@ -1,22 +1,24 @@
 -- Round after round.
-use Rattle.{std.proofs.Common.refl, koth_service.specs.Connections.stage_at, koth_service.proofs.{Steps.{begun, so_far_after, so_far_on, sound_after}, Told.{grows_on, stays}}}
+use Rattle.{std.proofs.Common.refl, koth_service.specs.{Connections.stage_at, Standing.{peers_of, start_at}}, koth_service.proofs.{Steps.{begun, so_far_after, so_far_done, so_far_failed, sound_after}, Told.{grows_on, stays}}}
 use Rattle.koth_service.proofs.service.serve_rounds.Goals as goal
 
 pub loop-round-init : goal.loop-round-init
 loop-round-init g c = (
-  λ none. begun g.S.Sockets.happened g.D.Device.facts (g.H.Host.shows c.args.host.now) c.args.desk.store (stage_at c.args.browsers.now.connections.items) c.args.sockets.now c.args.desk.peers.slots.items c.args.desk.store refl c.requires.peers c.requires.browsers none,
+  λ none. begun g.S.Sockets.happened g.D.Device.facts (g.H.Host.shows c.args.host.now) (start_at c.args.desk) (stage_at c.args.browsers.now.connections.items) c.args.sockets.now (peers_of c.args.desk)
+      c.requires.peers.nobody c.requires.browsers c.requires.peers.ended refl c.requires.peers.sound none,
   stays _,
 )
 
 pub returns-then-are_done-clause-served : goal.returns-then-are_done-clause-served
-returns-then-are_done-clause-served g c = λ none. so_far_on g.S.Sockets.happened g.D.Device.facts (g.H.Host.shows c.args.host.now) _ _ _ _ _ (c.give_out.ensures.served _ (c.loop-round.invariant.0 none))
+returns-then-are_done-clause-served g c = λ none.
+    so_far_done g.S.Sockets.happened g.D.Device.facts (g.H.Host.shows c.args.host.now) _ _ c.args.connections _ _ _ _ (c.are_done.ensures c.if-are_done.true) (c.give_out.ensures.served _ (c.loop-round.invariant.0 none))
 
 pub returns-then-are_done-clause-told : goal.returns-then-are_done-clause-told
 returns-then-are_done-clause-told g c = grows_on _ _ _ c.loop-round.invariant.1 c.give_out.ensures.told
 
 pub returns-in-Err-clause-served : goal.returns-in-Err-clause-served
 returns-in-Err-clause-served g c = λ none.
-    so_far_after g.S.Sockets.happened g.D.Device.facts (g.H.Host.shows c.args.host.now) _ _ _ _ _ _ (c.take_in-step.ensures.served _ _ (c.give_out.ensures.served _ (c.loop-round.invariant.0 none)))
+    so_far_after g.S.Sockets.happened g.D.Device.facts (g.H.Host.shows c.args.host.now) _ _ c.args.connections _ _ _ _ _ (c.take_in-step.ensures.served _ _ (c.give_out.ensures.served _ (c.loop-round.invariant.0 none)))
 
 pub returns-in-Err-clause-told : goal.returns-in-Err-clause-told
 returns-in-Err-clause-told g c = grows_on _ _ _ c.loop-round.invariant.1 (grows_on _ _ _ c.give_out.ensures.told c.take_in-step.ensures.told)
@@ -28,4 +30,4 @@ loop-round-preserved g c = (
 )
 
 pub returns-clause-served : goal.returns-clause-served
-returns-clause-served g c = λ none. so_far_on g.S.Sockets.happened g.D.Device.facts (g.H.Host.shows c.args.host.now) _ _ _ _ _ (c.loop-round.invariant.0 none)
+returns-clause-served g c = λ none. so_far_failed g.S.Sockets.happened g.D.Device.facts (g.H.Host.shows c.args.host.now) _ _ c.args.connections _ _ _ _ (c.loop-round.invariant.0 none)
