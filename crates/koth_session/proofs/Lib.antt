@@ -1,7 +1,16 @@
+mod Answering
 mod Endings
 pub mod Exchanges
+mod FirstDue
 pub mod Holding
+mod Lengths
 pub mod Living
-mod Serving
+mod PeerReads
+mod PeerRows
+mod Readings
 mod SessionRows
-pub mod Submissions
+mod Slots
+pub mod Standing
+pub mod Steps
+mod Streams
+mod Submissions

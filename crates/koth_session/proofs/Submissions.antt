@@ -1,19 +1,11 @@
--- What a submission makes of the store, and of a session.
-use Rattle.{std.proofs.Common.{◌≡◌, ℕ, ◌+◌, ◌-◌, ◌^◌, false, arith, List, [], ◌∷◌, Result, Ok, Err, OnOk, OnErr, refl, sym, ap, subst, ◌∙◌}, std.specs.Io.KnownBytes.Appends}
+-- What a submission makes of the store.
+use Rattle.std.proofs.Common.{◌≡◌, ℕ, ◌+◌, ◌-◌, ◌^◌, false, arith, List, [], ◌∷◌, refl, sym, ap, subst, ◌∙◌}
 use Rattle.{koth_hill.specs.Kept.Kept, sector_disk.specs.{Facts.DeviceFacts, Served.IsKept, Image.Images}, hill_images.specs.Stands.Reads, hill_store.specs.Seen.{IsAnswered, Seen, Submits}}
-use Rattle.{hill_store.specs.{Earned.kept_next, declared.reply.Reply.Reply}, hill_store.proofs.Counting.source_counts, koth_protocol.specs.{Commands.Command, Written.WritesPart}}
-use Rattle.koth_session.specs.{Reply.reply_line, Sessions.{AnswersCommand, HasWorn, AreServed, Scene, has_failed, said}, Transcript.{Exchange, Mark, answer, command_in, hill_after}}
+use Rattle.{hill_store.specs.{Earned.kept_next, declared.reply.Reply.Reply}, hill_store.proofs.Counting.source_counts}
+use Rattle.koth_session.specs.{Reply.reply_line, Sessions.{HasWorn, AreServed, has_failed}, Transcript.{Exchange, Mark, answer, hill_after}}
 use Rattle.koth_session.proofs.Exchanges.{after_one, served_same}
 
 module _ {D : Type 0} (facts : DeviceFacts D) where
-  -- an exchange was answered by this text, whole or in part
-  pub answers_said : {T E : Type 0} (e : Exchange) (text : List ℕ) (r : Result T E) (a c : Scene D)
-      → text ≡ answer a.store.hill e → AreServed facts a.store c.store (e ∷ [])
-      → OnOk r (Appends a.output c.output text) → OnErr r (WritesPart a.output c.output text)
-      → AnswersCommand facts (command_in e) (said r) a c
-  answers_said e text (Ok done) a c is served whole part = (e, refl, served, subst (Appends a.output c.output) is whole)
-  answers_said e text (Err fault) a c is served whole part = (e, refl, served, subst (WritesPart a.output c.output) is part)
-
   left : (old new : Seen D) (e : Exchange) → new ≡ old → hill_after old.hill (e ∷ []) ≡ old.hill → (HasWorn (e ∷ []) → old.generation ≡ 2 ^ 64 - 1)
       → old.reopen ≡ false → AreServed facts old new (e ∷ [])
   left old new e same hill worn is_open = subst (λ s. AreServed facts old s (e ∷ [])) (sym same) (served_same facts old e hill worn (λ has. is_open))
@@ -56,9 +48,3 @@ module _ {D : Type 0} (facts : DeviceFacts D) where
       (Mark.Worn, refl, left old new (Exchange.Submission source Mark.Worn) s.2.same refl (λ worn. s.0) s.2.was_open)
   exchanged old new source Reply.Disk s kept full sound = absurd (cc)
   exchanged old new source Reply.Reopen s kept full sound = absurd (cc)
-
-  pub submission_said : {T E : Type 0} (source : List ℕ) (reply : Reply) (r : Result T E) (a c : Scene D) → IsExchanged a.store c.store source reply
-      → OnOk r (Appends a.output c.output (reply_line reply)) → OnErr r (WritesPart a.output c.output (reply_line reply))
-      → AnswersCommand facts (Command.Submit source) (said r) a c
-  submission_said source reply r a c x whole part =
-      answers_said (Exchange.Submission source x.0) (reply_line reply) r a c x.1 x.2 whole part

@@ -4,5 +4,15 @@ pub mod Reply
 pub mod Transcript
 -- How a session goes and ends, and what the device holds then: what `session` promises.
 pub mod Sessions
+-- What came from a peer, and which command of it is due.
+pub mod Inbox
+-- What a peer is given to send.
+pub mod Outbox
+-- One session as a value: what came of it, what was carried out, and what is to be sent.
+pub mod Peer
+-- Many sessions on one store: whose turn it is, and what each call leaves as it is.
+pub mod Peers
+-- Of private contracts alone: how a session over two streams stands between its commands.
+pub mod Streams
 -- What a session is in the life of its device.
 pub mod Lives

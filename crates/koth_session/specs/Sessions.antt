@@ -1,10 +1,16 @@
 -- How a session goes, and how it ends.
-use Rattle.std.specs.Prelude.{◌≡◌, ◌⊎◌, ⊤, ℕ, ◌+◌, ◌-◌, ◌^◌, ◌<◌, ◌≤◌, Bool, true, false, List, [], ◌∷◌, ◌++◌, length, Option, None, Some, Result, Ok, Err}
+use Rattle.std.specs.Prelude.{◌≡◌, ◌⊎◌, ⊤, ℕ, ◌+◌, ◌-◌, ◌^◌, ◌<◌, ◌≤◌, Bool, true, false, List, [], ◌∷◌, ◌++◌, length}
+use Rattle.std.specs.Prelude.{Option, None, Some}
 use Rattle.std.specs.Io.KnownBytes.{Appends, Consumes, IsAtEnd, Keeps}
-use Rattle.{war_types.specs.declared.settings.RawSettings.RawSettings, koth_hill.specs.{Hill.{Hill, IsHill}, Kept.{Kept, fought}}, sector_disk.specs.{Facts.DeviceFacts, Image.Images, Served.IsKept}}
-use Rattle.{hill_images.specs.Stands.Reads, hill_store.specs.{Earned.{earned, kept_next}, Seen.Seen, declared.reply.Reply.Reply, Holding.Holds}}
-use Rattle.koth_protocol.specs.{Commands.{Command, commands_from, commands_of}, Counted.Rose, Lines.lines_from, Reading.IsReading, Written.WritesPart, declared.script.Script.Script}
-use Rattle.koth_session.specs.{Transcript.{Exchange, Mark, answer, command_in, commands_in, hill_after, after_anew, submitted, transcript, transcript_anew}, declared.sessions.SessionEnd.SessionEnd}
+use Rattle.war_types.specs.declared.settings.RawSettings.{RawSettings}
+use Rattle.koth_hill.specs.{Hill.{Hill, IsHill}, Kept.{Kept, fought}}
+use Rattle.sector_disk.specs.{Facts.DeviceFacts, Image.Images, Served.IsKept}
+use Rattle.hill_images.specs.Stands.{Reads}
+use Rattle.hill_store.specs.{Earned.{earned, kept_next}, Seen.Seen, declared.reply.Reply.Reply, Holding.Holds}
+use Rattle.koth_protocol.specs.{Commands.{Command, commands_of}, Counted.Rose, Written.WritesPart}
+use Rattle.koth_session.specs.Transcript.{Exchange, Mark, answer, command_in, commands_in, hill_after, after_anew}
+use Rattle.koth_session.specs.Transcript.{submitted, transcript, transcript_anew}
+use Rattle.koth_session.specs.declared.sessions.SessionEnd.{SessionEnd}
 
 -- the bytes that the output holds, and the store
 pub record Scene (D : Type 0) : Type 0 where
@@ -50,7 +56,8 @@ pub record AreServed {D : Type 0} (facts : DeviceFacts D) (old new : Seen D) (es
   pub worn : HasWorn es → new.generation ≡ 2 ^ 64 - 1
   pub full : old.generation ≡ 2 ^ 64 - 1 → new.generation ≡ 2 ^ 64 - 1
   pub reads : facts.lawful old.device → old.reopen ≡ false → ReadsNow facts old → ReadsNow facts new
-  -- if the results that the hill keeps are true, they are those of every pair fought again, and true again after these exchanges
+  -- if the results that the hill keeps are true, they are those of every pair fought again, and true again after these
+  -- exchanges
   pub anew : (hill : Hill) → IsHill hill → old.hill ≡ fought hill → IsAfter hill es new.hill
 
 -- this source was submitted, and the device failed then or before
@@ -62,7 +69,8 @@ pub record IsLeftOff {D : Type 0} (facts : DeviceFacts D) (old new : Seen D) (so
   pub cause : (old.reopen ≡ true) ⊎ Rose (facts.faults old.device) (facts.faults new.device)
   pub full : old.generation ≡ 2 ^ 64 - 1 → new.generation ≡ 2 ^ 64 - 1
   pub reads : facts.lawful old.device → old.reopen ≡ false
-      → Images (facts.disk new.device) (λ image. Reads (facts.size new.device) image old.hill ⊎ Reads (facts.size new.device) image (kept_next old.hill source))
+      → Images (facts.disk new.device) (λ image. Reads (facts.size new.device) image old.hill
+      ⊎ Reads (facts.size new.device) image (kept_next old.hill source))
 
 -- what a command brought about: it was answered, or the session ends
 abbrev pub AnswersCommand : {D : Type 0} → DeviceFacts D → Command → Option SessionEnd → Scene D → Scene D → Type 0
@@ -73,9 +81,12 @@ AnswersCommand facts command (Some SessionEnd.WriteFault) old new =
     (e : Exchange) × (command ≡ command_in e) × AreServed facts old.store new.store (e ∷ [])
     × WritesPart old.output new.output (answer old.store.hill e)
 AnswersCommand facts command (Some SessionEnd.StoreFailed) old new =
-    (source : List ℕ) × (command ≡ Command.Submit source) × IsLeftOff facts old.store new.store source × Keeps old.output new.output
-AnswersCommand facts command (Some SessionEnd.Memory) old new = (command ≡ Command.Show) × (new.store ≡ old.store) × Keeps old.output new.output
-AnswersCommand facts command (Some SessionEnd.Quit) old new = (command ≡ Command.Quit) × (new.store ≡ old.store) × Keeps old.output new.output
+    (source : List ℕ) × (command ≡ Command.Submit source) × IsLeftOff facts old.store new.store source
+    × Keeps old.output new.output
+AnswersCommand facts command (Some SessionEnd.Memory) old new =
+    (command ≡ Command.Show) × (new.store ≡ old.store) × Keeps old.output new.output
+AnswersCommand facts command (Some SessionEnd.Quit) old new =
+    (command ≡ Command.Quit) × (new.store ≡ old.store) × Keeps old.output new.output
 AnswersCommand facts command (Some SessionEnd.EndOfInput) old new = ⊥
 AnswersCommand facts command (Some SessionEnd.ReadFault) old new = ⊥
 AnswersCommand facts command (Some SessionEnd.Limit) old new = ⊥
@@ -84,35 +95,6 @@ AnswersCommand facts command (Some SessionEnd.Limit) old new = ⊥
 pub record IsAnsweredTo {D : Type 0} (facts : DeviceFacts D) (old new : Scene D) (es : List Exchange) : Type 0 where
   pub served : AreServed facts old.store new.store es
   pub written : Appends old.output new.output (transcript old.store.hill es)
-
--- These bytes did not end the session: the commands in them were answered, and the reading stands at this line and source now.
-pub record WentOn {D A : Type 0} (facts : DeviceFacts D) (line : List ℕ) (source : Option (List ℕ)) (bytes : List ℕ) (script : Script A) (old new : Scene D) : Type 0 where
-  pub es : List Exchange
-  pub answered : IsAnsweredTo facts old new es
-  pub new_line : List ℕ
-  pub new_source : Option (List ℕ)
-  pub reading : IsReading script new_line new_source
-  pub commands : (more : List ℕ) → commands_from source (lines_from line (bytes ++ more))
-      ≡ commands_in es ++ commands_from new_source (lines_from new_line more)
-
--- A command in these bytes ended the session: the bytes up to it are split off.
-pub record Stopped {D : Type 0} (facts : DeviceFacts D) (line : List ℕ) (source : Option (List ℕ)) (bytes : List ℕ) (end : SessionEnd) (old new : Scene D) : Type 0 where
-  pub es : List Exchange
-  pub last : Scene D
-  pub answered : IsAnsweredTo facts old last es
-  pub command : Command
-  pub behind : List ℕ → List Command
-  pub commands : (more : List ℕ) → commands_from source (lines_from line (bytes ++ more)) ≡ commands_in es ++ (command ∷ behind more)
-  pub upto : List ℕ
-  pub rest : List ℕ
-  pub split : bytes ≡ upto ++ rest
-  pub few : length rest < length bytes
-  pub last_of_them : commands_from source (lines_from line upto) ≡ commands_in es ++ (command ∷ [])
-  pub ended : AnswersCommand facts command (Some end) last new
-
-abbrev pub Goes : {D A : Type 0} → DeviceFacts D → List ℕ → Option (List ℕ) → List ℕ → Option SessionEnd → Script A → Scene D → Scene D → Type 0
-Goes facts line source bytes None script old new = WentOn facts line source bytes script old new
-Goes facts line source bytes (Some end) script old new = Stopped facts line source bytes end old new
 
 -- the device failed, in this submission or before
 abbrev pub has_failed : Reply → Bool
@@ -124,20 +106,21 @@ has_failed (Reply.Refused fault) = false
 has_failed (Reply.Fell entry score) = false
 has_failed (Reply.Placed entry rank score) = false
 
--- how a session goes on after an answer
-abbrev pub said : {T E : Type 0} → Result T E → Option SessionEnd
-said (Ok done) = None
-said (Err fault) = Some SessionEnd.WriteFault
-
--- If every image stood for the hill that these sources earn, every image stands for what they and the submissions answered earn.
+-- If every image stood for the hill that these sources earn, every image stands for what they and the submissions
+-- answered earn.
 abbrev pub KeepsList : {D : Type 0} → DeviceFacts D → Seen D → Seen D → List Exchange → Type 0
-KeepsList facts old new es = (s : RawSettings) (sources : List (List ℕ)) → facts.lawful old.device → old.reopen ≡ false → old.hill ≡ fought (earned s sources)
+KeepsList facts old new es =
+    (s : RawSettings) (sources : List (List ℕ)) → facts.lawful old.device → old.reopen ≡ false
+    → old.hill ≡ fought (earned s sources)
     → Holds (facts.size old.device) (facts.disk old.device) s sources None
-    → (new.hill ≡ fought (earned s (sources ++ submitted es))) × Holds (facts.size new.device) (facts.disk new.device) s (sources ++ submitted es) None
+    → (new.hill ≡ fought (earned s (sources ++ submitted es)))
+    × Holds (facts.size new.device) (facts.disk new.device) s (sources ++ submitted es) None
 
 -- The same with one more source, which was being submitted: each image has it or does not.
 abbrev pub KeepsCut : {D : Type 0} → DeviceFacts D → Seen D → Seen D → List Exchange → List ℕ → Type 0
-KeepsCut facts old new es source = (s : RawSettings) (sources : List (List ℕ)) → facts.lawful old.device → old.reopen ≡ false → old.hill ≡ fought (earned s sources)
+KeepsCut facts old new es source =
+    (s : RawSettings) (sources : List (List ℕ)) → facts.lawful old.device → old.reopen ≡ false
+    → old.hill ≡ fought (earned s sources)
     → Holds (facts.size old.device) (facts.disk old.device) s sources None
     → Holds (facts.size new.device) (facts.disk new.device) s (sources ++ submitted es) (Some source)
 
@@ -145,8 +128,10 @@ KeepsCut facts old new es source = (s : RawSettings) (sources : List (List ℕ))
 abbrev pub HoldsAt : {D : Type 0} → DeviceFacts D → SessionEnd → Command → Seen D → Seen D → List Exchange → Type 0
 HoldsAt facts SessionEnd.Quit command old new es = KeepsList facts old new es
 HoldsAt facts SessionEnd.Memory command old new es = KeepsList facts old new es
-HoldsAt facts SessionEnd.WriteFault command old new es = (e : Exchange) × (command ≡ command_in e) × KeepsList facts old new (es ++ e ∷ [])
-HoldsAt facts SessionEnd.StoreFailed command old new es = (source : List ℕ) × (command ≡ Command.Submit source) × KeepsCut facts old new es source
+HoldsAt facts SessionEnd.WriteFault command old new es =
+    (e : Exchange) × (command ≡ command_in e) × KeepsList facts old new (es ++ e ∷ [])
+HoldsAt facts SessionEnd.StoreFailed command old new es =
+    (source : List ℕ) × (command ≡ Command.Submit source) × KeepsCut facts old new es source
 HoldsAt facts SessionEnd.EndOfInput command old new es = ⊥
 HoldsAt facts SessionEnd.ReadFault command old new es = ⊥
 HoldsAt facts SessionEnd.Limit command old new es = ⊥
@@ -158,9 +143,10 @@ pub record AnswersAll {D : Type 0} (facts : DeviceFacts D) (taken : List ℕ) (o
   pub answered : IsAnsweredTo facts old new es
   pub holds : KeepsList facts old.store new.store es
 
--- One of the commands of the bytes that were taken ended the session so, and those before it were answered. Fewer bytes than one read
--- takes lie after that command: no answer is held back while more bytes are read.
-pub record AnswersFirst {D : Type 0} (facts : DeviceFacts D) (taken : List ℕ) (end : SessionEnd) (old new : Scene D) : Type 0 where
+-- One of the commands of the bytes that were taken ended the session so, and those before it were answered. Fewer than
+-- 4,096 bytes lie after that command.
+pub record AnswersFirst {D : Type 0} (facts : DeviceFacts D) (taken : List ℕ) (end : SessionEnd)
+    (old new : Scene D) : Type 0 where
   pub es : List Exchange
   pub last : Scene D
   pub answered : IsAnsweredTo facts old last es
@@ -183,9 +169,12 @@ EndsSo facts SessionEnd.WriteFault taken left old new = AnswersFirst facts taken
 EndsSo facts SessionEnd.Limit taken left old new = (length taken ≡ 16777216) × AnswersAll facts taken old new
 EndsSo facts SessionEnd.StoreFailed taken left old new = AnswersFirst facts taken SessionEnd.StoreFailed old new
 EndsSo facts SessionEnd.Memory taken left old new =
-    ((taken ≡ []) × (new.store ≡ old.store) × Keeps old.output new.output) ⊎ AnswersFirst facts taken SessionEnd.Memory old new
+    ((taken ≡ []) × (new.store ≡ old.store) × Keeps old.output new.output)
+    ⊎ AnswersFirst facts taken SessionEnd.Memory old new
 
 -- Bytes were taken, 16,777,216 at most, the device was handed on, and the session ended so.
-abbrev pub EndsSession : {D : Type 0} → DeviceFacts D → SessionEnd → Option (List ℕ) → Option (List ℕ) → Scene D → Scene D → Type 0
+abbrev pub EndsSession : {D : Type 0} → DeviceFacts D → SessionEnd → Option (List ℕ) → Option (List ℕ) → Scene D
+    → Scene D → Type 0
 EndsSession facts end had left old new =
-    (taken : List ℕ) × Consumes had left taken × (length taken ≤ 16777216) × IsKept facts old.store.device new.store.device × EndsSo facts end taken left old new
+    (taken : List ℕ) × Consumes had left taken × (length taken ≤ 16777216)
+    × IsKept facts old.store.device new.store.device × EndsSo facts end taken left old new

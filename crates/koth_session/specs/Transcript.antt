@@ -1,10 +1,11 @@
 -- What a session answers, and the hill that it leaves.
 use Rattle.std.specs.Prelude.{ℕ, List, [], ◌∷◌, ◌++◌, codes}
-use Rattle.{koth_hill.specs.{Hill.Hill, Table.table, Kept.{Kept, table_kept}}, hill_store.specs.Earned.{reply_of, step_source, kept_reply, kept_next}}
+use Rattle.koth_hill.specs.{Hill.Hill, Table.table, Kept.{Kept, table_kept}}
+use Rattle.hill_store.specs.Earned.{reply_of, step_source, kept_reply, kept_next}
 use Rattle.{koth_protocol.specs.{Commands.Command, Table.show_text}, koth_session.specs.Reply.reply_line}
 
--- How a submission was answered: by its reply, and it is in the list. Or nothing was submitted, since memory ran out, or since the device
--- has taken as many headers as can be counted.
+-- How a submission was answered: by its reply, and it is in the list. Or nothing was submitted, since memory ran out,
+-- or since the device has taken as many headers as can be counted.
 pub data Mark : Type 0 where
   Taken : Mark
   NoMemory : Mark

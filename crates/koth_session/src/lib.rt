@@ -1,10 +1,15 @@
-//! A session of the line protocol on a store: commands come in as bytes, and answers go out as bytes.
+//! Sessions of the line protocol on a store: one over two streams, or many at once as values. Commands come in as bytes, and answers go
+//! out as bytes.
 //!
-//! It knows the store and two streams, and no command line, files or sockets. The part of the protocol that needs no store is in
+//! It knows the store and streams, and no command line, files, sockets, clock or poll. The part of the protocol that needs no store is in
 //! `koth_protocol`, and this crate passes it on. The modules, in the order in which the data pass:
 //!
-//! - `sessions`: commands that are taken, carried out on the store and answered, one after the other, and how that ends;
-//! - `reply`: the lines of the replies;
+//! - `waiting` and `inbox`: the bytes that came of a peer, read up to the command that is due;
+//! - `outbox`: the answers that aren't sent yet;
+//! - `reply` and `answers`: the lines of the replies, and a command that is carried out on the store and answered;
+//! - `end` and `peer`: one session as a value, and how it ends;
+//! - `turns` and `peers`: many of them on one store, and whose turn it is;
+//! - `sessions`: one session over two streams: what is read is put into its peer, and each command is answered before more is read;
 //! - `laws`: what a session is in the life of its device.
 //!
 //! `session` writes the transcript of the commands in the bytes that it took, and nothing else. It leaves the hill of the
@@ -12,15 +17,31 @@
 //! blames a stream only if that stream's count of faults rose. `write_reply` writes exactly the reply's line, or a part
 //! of it if the output fails. `line_of` and `table_of` give the program the same lines for its own outputs.
 //!
-//! An answer must not be written before its submission is stored, and nothing of a submission in which the device failed.
-//! Only the buffers of a session and the text of a table take memory.
+//! Of many peers, a call on one leaves every other as it is (`OnlyAt`). The next one served is the first with a command due after the one
+//! served last (`IsFirstDue`). Its command is the next of what came from it, and the answer is that on the hill which stands then (`Serves`).
+//! At most 4,096 bytes of a peer wait and 16,777,216 come, and at most 1,048,576 bytes of answers to it are unsent: beyond that its
+//! session ends, and no other. A service feeds them, and sends what they say.
+//!
+//! An answer must not go out before its submission is stored, and nothing of a submission in which the device failed. A submission must not
+//! be carried out unless there is room and memory for its reply. The buffers of a session take memory when it begins, and then its answers do.
 #![tactic(auto)]
 
+mod answers;
+mod end;
+mod inbox;
 mod laws;
+mod outbox;
+mod peer;
+mod peers;
 mod reply;
 mod sessions;
+mod turns;
+mod waiting;
 
+pub use end::PeerEnd;
 pub use koth_protocol::{Counted, Line, ReadFault, WriteFault};
 pub use laws::sessions_in_lives;
-pub use reply::{line_of, write_reply};
-pub use sessions::{SessionEnd, has_failed, session, table_of};
+pub use peer::Peer;
+pub use peers::{NotConnected, Peers, Step};
+pub use reply::{line_of, table_of, write_reply};
+pub use sessions::{SessionEnd, session};

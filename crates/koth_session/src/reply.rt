@@ -1,10 +1,12 @@
-//! The line of a reply.
+//! The line of a reply, and the table.
 
-ghost use Rattle.std.specs.{Prelude.{◌≡◌, ◌≤◌, ◌++◌, length, codes, decimal, OnOk, OnErr}, Io.KnownBytes.Appends};
-ghost use Rattle.{koth_protocol.specs.{Counted.Rose, Refusal.refusal_line, Written.WritesPart}, koth_session.specs.Reply.reply_line};
+ghost use Rattle.std.specs.{Prelude.{◌≡◌, ◌≤◌, ◌++◌, length, codes, decimal, IfOk, OnOk, OnErr}, Io.KnownBytes.Appends};
+ghost use Rattle.{koth_hill.specs.Kept.table_kept, koth_protocol.specs.{Counted.Rose, Refusal.refusal_line, Table.show_text, Written.WritesPart}, koth_session.specs.Reply.reply_line};
 
-use hill_store::Reply;
-use koth_protocol::{Counted, Line, WriteFault, refusal_line, send};
+use hill_store::{Reply, Store};
+use koth_protocol::{Counted, Line, WriteFault, refusal_line, send, show_text};
+use sector_disk::Device;
+use std::alloc::{AllocError, Allocator};
 use std::io::Write;
 
 /// Writes the line of a reply:
@@ -75,4 +77,15 @@ fn word_line(word: &[u8]) -> Line
     let mut line = Line::new();
     line.put(word);
     line
+}
+
+/// The answer to `SHOW` on a store's hill. `AllocError` comes if a growth of memory was refused.
+pub fn table_of<D: Device, A: Allocator + Copy>(
+    alloc: A,
+    store: &Store<D, A>,
+) -> Result<Vec<u8, A>, AllocError>
+    ensures { IfOk result (λ text. text.items ≡ show_text (table_kept store.now.hill)) }
+{
+    let rows = store.rows()?;
+    show_text(alloc, rows.as_slice())
 }

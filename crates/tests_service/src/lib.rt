@@ -1,4 +1,4 @@
-//! Tests of the public calls of `koth_session`, `koth_peers`, `koth_service` and `koth_sockets`: of what no clause of them says.
+//! Tests of the public calls of `koth_session`, `koth_service` and `koth_sockets`: of what no clause of them says.
 //!
 //! No crate stands on this one, so those are proved once, without tests, and the tests are proved over them:
 //!

@@ -3,7 +3,7 @@
 use crate::calls::{blank_in, empty_hill, empty_hill_on, reopened};
 use crate::compare::{expect, expect_bytes, expect_length, expect_number};
 use hill_store::Store;
-use koth_peers::{NotConnected, PeerEnd, Peers, Step};
+use koth_session::{NotConnected, PeerEnd, Peers, Step};
 use sector_disk::{Device, FuseDevice, FuseKind};
 use std::alloc::{Allocator, Global};
 use std::process::Abort;
@@ -289,7 +289,8 @@ fn serve_the_second<D: Device>(
     serve(rt, peers, store, Step::Nobody);
 }
 
-/// A peer takes three growths: for a line, a source and the bytes that wait. Then one is taken for an answer of four bytes.
+/// A peer takes four growths: for a line, a source, the bytes that wait and 96 bytes of answers. Then one is taken for the answer after
+/// 24 of four bytes each.
 #[test]
 fn growths(rt: HostRuntime) {
     let memory = Refusing::new(rt.alloc());
@@ -311,17 +312,22 @@ fn refuse_growths<'m, D: Device>(
     peers: &mut Peers<&'m Refusing<Global>>,
     store: &mut Store<D, &'m Refusing<Global>>,
 ) {
-    for passed in 0..3 {
+    for passed in 0..4 {
         memory.refuse(passed, 1);
         connect(rt, peers, Err(NotConnected::Memory));
         expect_number(rt, memory.refused(), 1, "refused");
     }
-    memory.refuse(3, 1);
+    memory.refuse(4, 1);
     connect(rt, peers, Ok(0));
+    for _ in 0..24 {
+        come(rt, peers, 0, "\n");
+        serve(rt, peers, store, Step::Served(0));
+    }
     expect_number(rt, memory.refused(), 0, "refused");
+    ended(rt, peers, 0, None);
     come(rt, peers, 0, "\n");
     serve(rt, peers, store, Step::Served(0));
     expect_number(rt, memory.refused(), 1, "refused");
     ended(rt, peers, 0, Some(PeerEnd::Memory));
-    waits(rt, peers, 0, 0);
+    waits(rt, peers, 0, 96);
 }

@@ -39,11 +39,11 @@ const OF_ONE: Ending = Ending {
 /// A number of growths, and how a session ends if one of them is refused: its answers, its end, and the table of the hill after it.
 type Refused = (u64, &'static str, SessionEnd, &'static str);
 
-/// Numbers of its growths, in their order, and how it ends if one of them is refused. First come the two buffers, without which nothing is
+/// Numbers of its growths, in their order, and how it ends if one of them is refused. First come the four buffers, without which nothing is
 /// read, and then those of the assembler. If the device has its memory there too, the first writes to the four sectors of a slot and to a
 /// header's follow.
 const WITHOUT_ONE: [Refused; 3] = [
-    (2, "", SessionEnd::Memory, NONE),
+    (4, "", SessionEnd::Memory, NONE),
     (8, "MEMORY\nBAD\n", SessionEnd::Quit, NONE),
     (5, "", SessionEnd::StoreFailed, NONE),
 ];
@@ -58,7 +58,7 @@ const OF_THREE: Ending = Ending {
 /// The same of its growths. The second header is written to a sector that was written before, as is the third. The table is a list
 /// of rows and a text of 60 bytes, which grows from 8 to 64.
 const WITHOUT_THREE: [Refused; 7] = rows! {
-    2 => "", SessionEnd::Memory, NONE;
+    4 => "", SessionEnd::Memory, NONE;
     8
         => "MEMORY\nPLACED 1 1 0\nPLACED 2 2 0\n1 1 6 1 Unnamed by Anonymous\n2 2 0 0 Unnamed by Anonymous\n.\n",
             SessionEnd::EndOfInput, WON;

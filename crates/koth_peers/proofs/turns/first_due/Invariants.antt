@@ -1,6 +1,0 @@
--- None before this one has a command due.
-use Rattle.koth_peers.specs.Peers.{NoneIsDueWithin}
-use Rattle.koth_peers.proofs.turns.first_due.Given as goal
-
-abbrev pub invariant-loop-number : goal.invariant-loop-number
-invariant-loop-number g l = NoneIsDueWithin l.slots l.from l.number

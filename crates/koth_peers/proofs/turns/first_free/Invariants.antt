@@ -1,6 +1,0 @@
--- None before this one is free.
-use Rattle.{std.proofs.Common.{ℕ, ◌<◌, IsSome}, koth_peers.specs.Peers.peer_at}
-use Rattle.koth_peers.proofs.turns.first_free.Given as goal
-
-abbrev pub invariant-loop-number : goal.invariant-loop-number
-invariant-loop-number g l = (p : ℕ) → p < l.number → IsSome (peer_at l.slots p)

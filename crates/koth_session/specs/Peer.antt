@@ -1,0 +1,174 @@
+-- One session as a value: what came of it, what was carried out, and what is to be sent.
+use Rattle.std.specs.Prelude.{◌≡◌, ◌≢◌, ◌⊎◌, ⊤, ℕ, ◌+◌, ◌<◌, ◌≤◌, nat_le, Bool, true, false, if◌then◌else◌, List, []}
+use Rattle.std.specs.Prelude.{◌∷◌, ◌++◌, drop, length, Option, None, Some}
+use Rattle.{koth_hill.specs.Kept.{Kept, table_kept}, sector_disk.specs.Facts.DeviceFacts, hill_store.specs.Seen.Seen}
+use Rattle.{hill_store.specs.declared.reply.Reply.Reply, koth_session.specs.Reply.reply_line}
+use Rattle.koth_protocol.specs.Commands.{Command, Reader, commands_read, kept_source}
+use Rattle.koth_protocol.specs.{Table.show_text, declared.script.Met.Met}
+use Rattle.koth_session.specs.{Sessions.{AreServed, IsLeftOff}, Transcript.{Exchange, answer, command_in}}
+use Rattle.koth_session.specs.{Inbox.{IsReadTo, IsTaken, is_met, is_request, room_of}, declared.end.PeerEnd.PeerEnd}
+use Rattle.koth_session.specs.{declared.inbox.Inbox.Inbox, declared.peer.Peer.Peer}
+use Rattle.koth_protocol.specs.declared.script.Met.TheVariants as met
+
+-- ---- how a session stands
+
+-- how it stands after what came: it goes on while a command is due, or while more bytes may come
+abbrev pub settled : Option PeerEnd → Bool → ℕ → Bool → Option PeerEnd
+settled (Some end) due taken closed = Some end
+settled None true taken closed = None
+settled None false taken closed =
+    if nat_le 16777216 taken then Some PeerEnd.Limit else (if closed then Some PeerEnd.EndOfInput else None)
+
+abbrev pub settled_now : {A : Type 0} → Option PeerEnd → Peer A → Option PeerEnd
+settled_now end peer = settled end (is_met peer.inbox.due) peer.inbox.taken peer.closed
+
+-- a session that has not ended has a command that is due
+abbrev pub is_due : Option PeerEnd → Bool → Bool
+is_due None met = met
+is_due (Some end) met = false
+
+abbrev pub is_due_now : {A : Type 0} → Peer A → Bool
+is_due_now peer = is_due peer.end (is_met peer.inbox.due)
+
+-- and what is due is a browser's request
+abbrev pub asks_now : {A : Type 0} → Peer A → Bool
+asks_now peer = is_request peer.inbox.due
+
+-- bytes that may come: none once the peer's bytes are at their end, or the session has ended
+abbrev pub may_come : Option PeerEnd → Bool → ℕ → ℕ
+may_come (Some end) closed room = 0
+may_come None true room = 0
+may_come None false room = room
+
+abbrev pub may_come_now : {A : Type 0} → Peer A → ℕ
+may_come_now peer = may_come peer.end peer.closed (room_of peer.inbox)
+
+-- What a session that stands so made of what came: these commands were carried out and answered. As long as the session
+-- goes on, the next one is due, or more bytes may come.
+abbrev pub HasRead : {A : Type 0} → Reader → Option PeerEnd → Inbox A → Bool → List ℕ → List Command → Type 0
+HasRead reader None inbox closed came done =
+    IsReadTo reader inbox came done × (is_met inbox.due ≡ false → (closed ≡ false) × (length came < 16777216))
+HasRead reader (Some PeerEnd.Quit) inbox closed came done = commands_read reader came ≡ done ++ Command.Quit ∷ []
+HasRead reader (Some PeerEnd.EndOfInput) inbox closed came done = (commands_read reader came ≡ done) × (closed ≡ true)
+HasRead reader (Some PeerEnd.Limit) inbox closed came done =
+    (commands_read reader came ≡ done) × (length came ≡ 16777216)
+HasRead reader (Some PeerEnd.Unread) inbox closed came done =
+    (command : Command) × (behind : List Command) × (commands_read reader came ≡ done ++ command ∷ behind)
+HasRead reader (Some PeerEnd.StoreFailed) inbox closed came done =
+    (source : List ℕ) × (behind : List Command) × (commands_read reader came ≡ done ++ Command.Submit source ∷ behind)
+HasRead reader (Some PeerEnd.Memory) inbox closed came done =
+    (command : Command) × (behind : List Command) × (commands_read reader came ≡ done ++ command ∷ behind)
+
+-- these bytes came, and these commands that the reader finds in them were carried out and answered
+pub record IsPeer {A : Type 0} (reader : Reader) (peer : Peer A) (came : List ℕ) (done : List Command) : Type 0 where
+  pub has_read : HasRead reader peer.end peer.inbox peer.closed came done
+  pub few : length came ≤ 16777216
+
+-- a session of which nothing came yet
+pub record IsNew {A : Type 0} (peer : Peer A) : Type 0 where
+  pub begins : (reader : Reader) → IsPeer reader peer [] []
+  pub unsent : peer.outbox.unsent ≡ []
+  pub open_still : peer.closed ≡ false
+  pub goes_on : peer.end ≡ None
+
+-- ---- what each call makes of it
+
+-- these bytes came
+pub record Takes {A : Type 0} (old : Peer A) (bytes : List ℕ) (new : Peer A) : Type 0 where
+  pub reads : (reader : Reader) (came : List ℕ) (done : List Command) → IsPeer reader old came done
+      → IsPeer reader new (came ++ bytes) done
+  pub unsent : new.outbox.unsent ≡ old.outbox.unsent
+  pub closed : new.closed ≡ old.closed
+  pub end : new.end ≡ settled_now old.end new
+  -- a command that is due then was found in what came
+  pub fewer : is_due_now old ≡ false → is_due_now new ≡ true
+      → length new.inbox.waiting < length old.inbox.waiting + length bytes
+
+-- no more bytes come
+pub record Closes {A : Type 0} (old new : Peer A) : Type 0 where
+  pub reads : (reader : Reader) (came : List ℕ) (done : List Command) → IsPeer reader old came done
+      → IsPeer reader new came done
+  pub unsent : new.outbox.unsent ≡ old.outbox.unsent
+  pub closed : new.closed ≡ true
+  pub end : new.end ≡ settled_now old.end new
+  pub inbox : new.inbox ≡ old.inbox
+
+-- `count` bytes of its answers were sent
+pub record Sends {A : Type 0} (old : Peer A) (count : ℕ) (new : Peer A) : Type 0 where
+  pub unsent : new.outbox.unsent ≡ drop count old.outbox.unsent
+  pub inbox : new.inbox ≡ old.inbox
+  pub closed : new.closed ≡ old.closed
+  pub end : new.end ≡ old.end
+
+-- the command that is due, with the bytes of a source
+abbrev pub command_due : Met → List ℕ → Command
+command_due met.Nothing bytes = Command.Bad
+command_due met.Submit bytes = Command.Submit bytes
+command_due met.Show bytes = Command.Show
+command_due met.Quit bytes = Command.Quit
+command_due met.Request bytes = Command.Bad
+command_due met.Bad bytes = Command.Bad
+
+-- the answer to this command has no room after the answers that are unsent; a reply takes 96 bytes at most
+abbrev pub IsFull : Kept → Command → List ℕ → Type 0
+IsFull hill (Command.Submit source) unsent = 1048576 < length unsent + 96
+IsFull hill Command.Show unsent = 1048576 < length unsent + length (show_text (table_kept hill))
+IsFull hill Command.Quit unsent = ⊥
+IsFull hill Command.Bad unsent = 1048576 < length unsent + 4
+
+-- a text was put after the answers that are unsent, or the session ends: it has no room, or no memory, which is there
+-- for 96 bytes of text while nothing is unsent
+abbrev pub Says : List ℕ → Option PeerEnd → List ℕ → List ℕ → Type 0
+Says text None unsent new = new ≡ unsent ++ text
+Says text (Some PeerEnd.Unread) unsent new = (1048576 < length unsent + length text) × (new ≡ unsent)
+Says text (Some PeerEnd.Memory) unsent new = (length text ≤ 96 → unsent ≢ []) × (new ≡ unsent)
+Says text (Some PeerEnd.Quit) unsent new = ⊥
+Says text (Some PeerEnd.EndOfInput) unsent new = ⊥
+Says text (Some PeerEnd.Limit) unsent new = ⊥
+Says text (Some PeerEnd.StoreFailed) unsent new = ⊥
+
+-- What came of a command: it was carried out on the store, and its answer stands after those that are unsent; or the
+-- session ends. For want of memory it does only at `SHOW`, or while answers are unsent.
+abbrev pub AnswersPeer : {D : Type 0} → DeviceFacts D → Command → Option PeerEnd → List ℕ → Seen D → List ℕ → Seen D
+    → Type 0
+AnswersPeer facts command None unsent old unsent_new new =
+    (e : Exchange) × (command ≡ command_in e) × AreServed facts old new (e ∷ [])
+    × (unsent_new ≡ unsent ++ answer old.hill e)
+AnswersPeer facts command (Some PeerEnd.Quit) unsent old unsent_new new =
+    (command ≡ Command.Quit) × (new ≡ old) × (unsent_new ≡ unsent)
+AnswersPeer facts command (Some PeerEnd.EndOfInput) unsent old unsent_new new = ⊥
+AnswersPeer facts command (Some PeerEnd.Limit) unsent old unsent_new new = ⊥
+AnswersPeer facts command (Some PeerEnd.Unread) unsent old unsent_new new =
+    IsFull old.hill command unsent × (new ≡ old) × (unsent_new ≡ unsent)
+AnswersPeer facts command (Some PeerEnd.StoreFailed) unsent old unsent_new new =
+    (source : List ℕ) × (command ≡ Command.Submit source) × IsLeftOff facts old new source × (unsent_new ≡ unsent)
+AnswersPeer facts command (Some PeerEnd.Memory) unsent old unsent_new new =
+    ((command ≡ Command.Show) ⊎ (unsent ≢ [])) × (new ≡ old) × (unsent_new ≡ unsent)
+
+-- If the command was a submission that was answered, this is its reply, and the reply's line is the answer.
+abbrev pub IsReplied : Option PeerEnd → List ℕ → List ℕ → Option Reply → Type 0
+IsReplied outcome unsent new None = ⊤
+IsReplied outcome unsent new (Some reply) = (outcome ≡ None) × (new ≡ unsent ++ reply_line reply)
+
+-- the commands that were carried out, with this one
+abbrev pub done_after : Option PeerEnd → List Command → Command → List Command
+done_after None done command = done ++ command ∷ []
+done_after (Some end) done command = done
+
+abbrev pub end_after : Option PeerEnd → Option PeerEnd → Option PeerEnd
+end_after None otherwise = otherwise
+end_after (Some end) otherwise = Some end
+
+abbrev pub command_of : {A : Type 0} → Peer A → Command
+command_of peer = command_due peer.inbox.due (kept_source peer.inbox.script.source)
+
+-- the command that was due was carried out, or it ended the session
+pub record Serves {D A : Type 0} (facts : DeviceFacts D) (outcome : Option PeerEnd) (old_peer : Peer A) (old : Seen D)
+    (new_peer : Peer A) (new : Seen D) : Type 0 where
+  pub answers : AnswersPeer facts (command_of old_peer) outcome old_peer.outbox.unsent old new_peer.outbox.unsent new
+  pub reads : (reader : Reader) (came : List ℕ) (done : List Command) → IsTaken reader old_peer.inbox.due
+      → IsPeer reader old_peer came done
+      → IsPeer reader new_peer came (done_after outcome done (command_of old_peer))
+  pub closed : new_peer.closed ≡ old_peer.closed
+  pub end : new_peer.end ≡ end_after outcome (settled_now None new_peer)
+  pub fewer : is_due_now new_peer ≡ true → length new_peer.inbox.waiting < length old_peer.inbox.waiting

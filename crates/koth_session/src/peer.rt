@@ -1,0 +1,166 @@
+//! One session as a value: bytes come in, commands are carried out one at a time, and answers wait until they are sent.
+
+ghost use Rattle.std.specs.Prelude.{◌≡◌, ◌+◌, ◌≤◌, true, length, None, IfOk};
+ghost use Rattle.koth_session.specs.Peer.{asks_now, is_due_now, may_come_now, settled_now, Closes, IsNew, IsReplied, Sends, Serves, Takes};
+
+use crate::answers::answer;
+use crate::end::PeerEnd;
+use crate::inbox::{Inbox, LIMIT, is_met};
+use crate::outbox::Outbox;
+use hill_store::{Reply, Store};
+use koth_protocol::Met;
+use sector_disk::Device;
+use std::alloc::{AllocError, Allocator};
+
+/// A session with one peer. It knows no stream: what came is put in, and what is to be sent is read.
+#[derive(Drop)]
+pub struct Peer<A: Allocator> {
+    inbox: Inbox<A>,
+    outbox: Outbox<A>,
+    closed: bool,
+    end: Option<PeerEnd>,
+    /// The reply to the command that was carried out last, if that was a submission.
+    reply: Option<Reply>,
+}
+
+impl<A: Allocator + Copy> Peer<A> {
+    /// A session in which nothing came yet. All its memory is taken here, except for answers that don't fit into 96 bytes.
+    pub fn new(alloc: A) -> Result<Peer<A>, AllocError>
+        ensures { IfOk result IsNew }
+    {
+        Ok(Peer {
+            inbox: Inbox::new(alloc)?,
+            outbox: Outbox::new(alloc)?,
+            closed: false,
+            end: None,
+            reply: None,
+        })
+    }
+
+    /// Carries out the command that is due, on the store, and puts its answer after those that are unsent. It returns how the
+    /// command ended the session, if it did: with `Quit`, or with `StoreFailed` if the device failed in it. With `Unread`, if its
+    /// answer may have no room, and with `Memory`, if a growth was refused, the command was not carried out.
+    pub fn serve<D: Device>(&mut self, alloc: A, store: &mut Store<D, A>) -> Option<PeerEnd>
+        requires { is_due_now self.old ≡ true }
+        ensures serves { Serves D.facts result self.old store.old self.new store.new }
+        ensures replied { IsReplied result self.old.outbox.unsent self.new.outbox.unsent self.new.reply }
+    {
+        self.reply = None;
+        match answer(
+            alloc,
+            self.inbox.due(),
+            self.inbox.source(),
+            &mut self.outbox,
+            &mut self.reply,
+            store,
+        ) {
+            None => {
+                self.inbox.pass();
+                self.end = self.settled();
+                None
+            }
+            Some(end) => {
+                self.end = Some(end);
+                Some(end)
+            }
+        }
+    }
+}
+
+impl<A: Allocator> Peer<A> {
+    /// How many bytes may come now: at most 4096 wait after a command that is due, and 16,777,216 come in all. None
+    /// may come once the session has ended, or its bytes are at their end.
+    pub fn room(&self) -> usize
+        ensures room { result ≡ may_come_now self.now }
+        ensures most { length self.now.inbox.waiting + result ≤ 4096 }
+    {
+        let room = self.inbox.room();
+        if self.closed || self.end.is_some() {
+            return 0;
+        }
+        room
+    }
+
+    /// Bytes came. They are read up to the next command, which is due then, and nothing is carried out. It needs no memory.
+    pub fn take(&mut self, bytes: &[u8])
+        requires { length bytes.now ≤ may_come_now self.old }
+        ensures { Takes self.old bytes.now self.new }
+    {
+        if self.end.is_some() {
+            return;
+        }
+        self.inbox.take(bytes);
+        self.end = self.settled();
+    }
+
+    /// The bytes of this peer are at their end: the session ends once all its commands were carried out.
+    pub fn close(&mut self)
+        ensures { Closes self.old self.new }
+    {
+        self.closed = true;
+        if self.end.is_some() {
+            return;
+        }
+        self.end = self.settled();
+    }
+
+    /// Whether a whole command came that is to be carried out.
+    pub fn is_due(&self) -> bool
+        ensures { result ≡ is_due_now self.now }
+    {
+        self.end.is_none() && is_met(self.inbox.due())
+    }
+
+    /// Whether the command that is due is a line that a browser sends: a request of HTTP.
+    pub fn asks(&self) -> bool
+        ensures { result ≡ asks_now self.now }
+    {
+        matches!(self.inbox.due(), Met::Request)
+    }
+
+    /// The answers that are to be sent, 1,048,576 bytes at most.
+    pub fn unsent(&self) -> &[u8]
+        ensures value { result.now ≡ self.now.outbox.unsent }
+        ensures most { length result.now ≤ 1048576 }
+    {
+        self.outbox.as_slice()
+    }
+
+    /// `count` bytes of the answers were sent.
+    pub fn pass(&mut self, count: usize)
+        requires { count ≤ length self.old.outbox.unsent }
+        ensures { Sends self.old count self.new }
+    {
+        self.outbox.pass(count);
+    }
+
+    /// The reply to the command that was carried out last, if that was a submission.
+    pub fn reply(&self) -> Option<Reply>
+        ensures { result ≡ self.now.reply }
+    {
+        self.reply
+    }
+
+    /// How the session ended. What is unsent then is still to be sent.
+    pub fn end(&self) -> Option<PeerEnd>
+        ensures { result ≡ self.now.end }
+    {
+        self.end
+    }
+
+    /// How the session stands after what came.
+    fn settled(&self) -> Option<PeerEnd>
+        ensures { result ≡ settled_now None self.now }
+    {
+        if is_met(self.inbox.due()) {
+            return None;
+        }
+        if self.inbox.taken() >= LIMIT {
+            return Some(PeerEnd::Limit);
+        }
+        if self.closed {
+            return Some(PeerEnd::EndOfInput);
+        }
+        None
+    }
+}

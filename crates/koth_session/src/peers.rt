@@ -1,0 +1,267 @@
+//! Many sessions on one store, each served in turn.
+
+ghost use Rattle.std.specs.Prelude.{◌≡◌, ℕ, ◌≤◌, true, length, option_copied, None, IfOk};
+ghost use Rattle.koth_session.specs.{Peer.{Closes, Sends, Serves, Takes}, Peers.{end_in, is_due_at, is_due_in, is_finished_in, may_come_at, may_come_in, peer_at}};
+ghost use Rattle.koth_session.specs.Peers.{step_after, unsent_at, unsent_in, Connects, Moves, MovesAt, OnlyAt, ServesNext};
+
+use crate::end::PeerEnd;
+use crate::peer::Peer;
+use crate::turns::{asks, first_free, next_due};
+use hill_store::{Reply, Store};
+use sector_disk::Device;
+use std::alloc::{AllocError, Allocator};
+
+/// Why no peer was connected.
+#[derive(Clone, Copy, Debug, PartialEq, Eq)]
+pub enum NotConnected {
+    /// There are as many peers as may be.
+    Full,
+    /// A growth of memory was refused.
+    Memory,
+}
+
+/// What a step served.
+#[derive(Clone, Copy, Debug, PartialEq, Eq)]
+pub enum Step {
+    /// No peer has a command that is due.
+    Nobody,
+    /// A command of this peer was carried out, or ended its session.
+    Served(usize),
+    /// The turn is this peer's, and a browser's request is due of it, which was not carried out: have it leave.
+    Asked(usize),
+    /// The device failed in a submission of this peer, whose session has ended: close the store, and open it again.
+    StoreFailed(usize),
+}
+
+/// Peers by their numbers, and where the turn goes on.
+#[derive(Drop)]
+pub struct Peers<A: Allocator> {
+    alloc: A,
+    slots: Vec<Option<Peer<A>>, A>,
+    next: usize,
+}
+
+impl<A: Allocator + Copy> Peers<A> {
+    /// No peers yet, and room for `most` at once. `AllocError` comes if a growth of memory is refused.
+    pub fn new(alloc: A, most: usize) -> Result<Peers<A>, AllocError>
+        ensures most { IfOk result (λ peers. length peers.slots.items ≡ most) }
+        ensures nobody { IfOk result (λ peers. (p : ℕ) → peer_at peers.slots.items p ≡ None) }
+        ensures next { IfOk result (λ peers. peers.next ≡ 0) }
+    {
+        let mut slots = Vec::with_capacity(alloc, most)?;
+        'slots: for _slot in 0..most {
+            slots.push(None)?;
+        }
+        Ok(Peers {
+            alloc,
+            slots,
+            next: 0,
+        })
+    }
+
+    /// Begins a session, and returns its number, which is the least that is free. `Full` comes if none is, and `Memory` if a
+    /// growth of memory is refused.
+    pub fn connect(&mut self) -> Result<usize, NotConnected>
+        ensures connects { Connects result self.old.slots.items self.new.slots.items }
+        ensures next { self.new.next ≡ self.old.next }
+    {
+        let Some(number) = first_free(self.slots.as_slice()) else {
+            return Err(NotConnected::Full);
+        };
+        match Peer::new(self.alloc) {
+            Ok(peer) => {
+                self.slots[number] = Some(peer);
+                Ok(number)
+            }
+            Err(AllocError) => Err(NotConnected::Memory),
+        }
+    }
+
+    /// Carries out one command at most: that of the first peer that has one due, beginning after the peer served last and going
+    /// round. A browser's request is not carried out, and the turn stays where it is until that peer has left.
+    pub fn serve_next<D: Device>(&mut self, store: &mut Store<D, A>) -> Step
+        ensures { ServesNext D.facts result self.old.slots.items self.old.next store.old self.new.slots.items self.new.next store.new }
+    {
+        let Some(number) = next_due(self.slots.as_slice(), self.next) else {
+            return Step::Nobody;
+        };
+        if asks(&self.slots[number]) {
+            return Step::Asked(number);
+        }
+        self.next = number + 1;
+        let outcome = serve_at(self.alloc, &mut self.slots[number], store);
+        step_after(outcome, number)
+    }
+}
+
+impl<A: Allocator> Peers<A> {
+    /// How many bytes of this peer may come now.
+    pub fn room(&self, number: usize) -> usize
+        ensures room { result ≡ may_come_at self.now.slots.items number }
+        ensures most { result ≤ 4096 }
+    {
+        match peer_of(self.slots.as_slice(), number) {
+            Some(peer) => peer.room(),
+            None => 0,
+        }
+    }
+
+    /// Bytes of this peer came: they are kept, and nothing is carried out.
+    pub fn take(&mut self, number: usize, bytes: &[u8])
+        requires { length bytes.now ≤ may_come_at self.old.slots.items number }
+        ensures takes { MovesAt (λ old new. Takes old bytes.now new) number self.old.slots.items self.new.slots.items }
+        ensures next { self.new.next ≡ self.old.next }
+    {
+        if number < self.slots.len() {
+            take_at(&mut self.slots[number], bytes);
+        }
+    }
+
+    /// The bytes of this peer are at their end: its session ends once all its commands were carried out.
+    pub fn close(&mut self, number: usize)
+        ensures closes { MovesAt Closes number self.old.slots.items self.new.slots.items }
+        ensures next { self.new.next ≡ self.old.next }
+    {
+        if number < self.slots.len() {
+            close_at(&mut self.slots[number]);
+        }
+    }
+
+    /// The answers to this peer that are to be sent, 1,048,576 bytes at most.
+    pub fn unsent(&self, number: usize) -> &[u8]
+        ensures value { result.now ≡ unsent_at self.now.slots.items number }
+        ensures most { length result.now ≤ 1048576 }
+    {
+        match peer_of(self.slots.as_slice(), number) {
+            Some(peer) => peer.unsent(),
+            None => &[],
+        }
+    }
+
+    /// `count` bytes of the answers to this peer were sent.
+    pub fn sent(&mut self, number: usize, count: usize)
+        requires { count ≤ length (unsent_at self.old.slots.items number) }
+        ensures sends { MovesAt (λ old new. Sends old count new) number self.old.slots.items self.new.slots.items }
+        ensures next { self.new.next ≡ self.old.next }
+    {
+        if number < self.slots.len() {
+            pass_at(&mut self.slots[number], count);
+        }
+    }
+
+    /// Whether a whole command of this peer came that is to be carried out.
+    pub fn is_due(&self, number: usize) -> bool
+        ensures { result ≡ is_due_at self.now.slots.items number }
+    {
+        match peer_of(self.slots.as_slice(), number) {
+            Some(peer) => peer.is_due(),
+            None => false,
+        }
+    }
+
+    /// The reply to the command of this peer that was carried out last, if that was a submission.
+    pub fn reply(&self, number: usize) -> Option<Reply> {
+        peer_of(self.slots.as_slice(), number)?.reply()
+    }
+
+    /// How the session of this peer ended.
+    pub fn end(&self, number: usize) -> Option<PeerEnd>
+        ensures { result ≡ end_in (peer_at self.now.slots.items number) }
+    {
+        match peer_of(self.slots.as_slice(), number) {
+            Some(peer) => peer.end(),
+            None => None,
+        }
+    }
+
+    /// Whether nothing is left to be done for this peer: its session has ended, and all answers were sent. So it is for a number
+    /// that is free.
+    pub fn is_finished(&self, number: usize) -> bool
+        ensures { result ≡ is_finished_in (peer_at self.now.slots.items number) }
+    {
+        match peer_of(self.slots.as_slice(), number) {
+            Some(peer) => peer.end().is_some() && peer.unsent().is_empty(),
+            None => true,
+        }
+    }
+
+    /// Drops a peer, however its session stands: its number is free.
+    pub fn leave(&mut self, number: usize)
+        ensures only { OnlyAt number self.old.slots.items self.new.slots.items }
+        ensures at { peer_at self.new.slots.items number ≡ None }
+        ensures next { self.new.next ≡ self.old.next }
+    {
+        if number < self.slots.len() {
+            self.slots[number] = None;
+        }
+    }
+}
+
+/// The peer of this number, if there is one.
+fn peer_of<A: Allocator>(slots: &[Option<Peer<A>>], number: usize) -> Option<&Peer<A>>
+    ensures { option_copied result ≡ peer_at slots.entry.now number }
+{
+    if number < slots.len() {
+        slots[number].as_ref()
+    } else {
+        None
+    }
+}
+
+fn take_at<A: Allocator>(slot: &mut Option<Peer<A>>, bytes: &[u8])
+    requires { length bytes.now ≤ may_come_in slot.old }
+    ensures { Moves (λ old new. Takes old bytes.now new) slot.old slot.new }
+{
+    if let Some(peer) = slot {
+        peer.take(bytes);
+    }
+}
+
+fn close_at<A: Allocator>(slot: &mut Option<Peer<A>>)
+    ensures { Moves Closes slot.old slot.new }
+{
+    if let Some(peer) = slot {
+        peer.close();
+    }
+}
+
+fn pass_at<A: Allocator>(slot: &mut Option<Peer<A>>, count: usize)
+    requires { count ≤ length (unsent_in slot.old) }
+    ensures { Moves (λ old new. Sends old count new) slot.old slot.new }
+{
+    if let Some(peer) = slot {
+        peer.pass(count);
+    }
+}
+
+/// Carries out the command that is due of a peer.
+fn serve_at<D: Device, A: Allocator + Copy>(
+    alloc: A,
+    slot: &mut Option<Peer<A>>,
+    store: &mut Store<D, A>,
+) -> Option<PeerEnd>
+    requires { is_due_in slot.old ≡ true }
+    ensures { Moves (λ old new. Serves D.facts result old store.old new store.new) slot.old slot.new }
+{
+    match slot {
+        Some(peer) => peer.serve(alloc, store),
+        None => unreachable!(),
+    }
+}
+
+/// What a step reports.
+fn step_after(outcome: Option<PeerEnd>, number: usize) -> Step
+    ensures { result ≡ step_after outcome number }
+{
+    match outcome {
+        Some(PeerEnd::StoreFailed) => Step::StoreFailed(number),
+        None
+        | Some(
+            PeerEnd::Quit
+            | PeerEnd::EndOfInput
+            | PeerEnd::Limit
+            | PeerEnd::Unread
+            | PeerEnd::Memory,
+        ) => Step::Served(number),
+    }
+}
