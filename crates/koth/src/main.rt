@@ -1,7 +1,7 @@
 //! The program `koth`.
 #![tactic(auto)]
 
-use koth_server::{Failure, Typed, View, refuse_arguments, run};
+use koth_server::{Failure, PolledLog, Typed, View, refuse_arguments, run};
 use std::env::Env;
 use std::io::{ErrorKind, IsTerminal};
 use std::process::ExitCode;
@@ -35,7 +35,7 @@ fn status_of(rt: &HostRuntime) -> ExitCode {
         usual_view(rt),
         &mut Typed::new(rt.reader(), rt.stderr(), rt.stdin().is_terminal()),
         &mut io::writer(rt),
-        &mut rt.stderr(),
+        &mut PolledLog::new(rt, rt.alloc(), rt.stderr(), rt.stderr().is_terminal()),
     ))
 }
 

@@ -3,33 +3,41 @@
 ghost use Rattle.koth_commands.specs.Told.{WritesSome};
 
 use crate::seed::seed_hint;
+use hill_store::Reply;
 use jiff::Timestamp;
 use koth_commands::write_whole;
-use koth_service::{Event, HowEnded, PeerEnd};
+use koth_service::{Event, HowEnded, LogWrite, PeerEnd};
+use koth_session::line_of;
 use koth_words::Service;
 use std::alloc::{AllocError, Allocator};
-use std::io::Write;
+use std::cell::Cell;
 use std::net::SocketAddr;
 use std::rt::Clock;
 
 /// Bytes of the first line of a request that a line of the log has at most.
 const SHOWN: usize = 200;
 
-/// The log of a service.
-#[derive(Clone, Copy)]
+/// The log of a service. A line that can't be written at once is dropped, and the next one that can is preceded by how many were.
+#[derive(Drop)]
 pub struct Log<'r, R> {
     clock: &'r R,
     quiet: bool,
+    /// How many lines were dropped and not reported yet.
+    dropped: Cell<u64>,
 }
 
 impl<'r, R: Clock> Log<'r, R> {
     /// A log by this clock. A quiet log reports only devices that failed.
     pub fn new(clock: &'r R, quiet: bool) -> Log<'r, R> {
-        Log { clock, quiet }
+        Log {
+            clock,
+            quiet,
+            dropped: Cell::new(0),
+        }
     }
 
     /// Reports what happened with a peer or a browser, unless the log is quiet.
-    pub(crate) fn tell<A: Allocator, E: Write>(
+    pub(crate) fn tell<A: Allocator + Copy, E: LogWrite>(
         &self,
         alloc: A,
         peer: SocketAddr,
@@ -41,13 +49,11 @@ impl<'r, R: Clock> Log<'r, R> {
         if self.quiet && !is_fault(event) {
             return;
         }
-        if let Ok(line) = self.line(alloc, peer, event) {
-            let _ = write_whole(errors, line.as_bytes());
-        }
+        self.put(alloc, self.line(alloc, peer, event), errors);
     }
 
     /// Reports that the hill of a service was created, and what its seed means if everybody knows that, unless the log is quiet.
-    pub(crate) fn tell_created<A: Allocator, E: Write>(
+    pub(crate) fn tell_created<A: Allocator + Copy, E: LogWrite>(
         &self,
         alloc: A,
         service: &Service<'_>,
@@ -59,13 +65,12 @@ impl<'r, R: Clock> Log<'r, R> {
         if self.quiet {
             return;
         }
-        if let Ok(lines) = self.created_lines(alloc, service, seed) {
-            let _ = write_whole(errors, lines.as_bytes());
-        }
+        self.put(alloc, self.created_line(alloc, service), errors);
+        self.tell_hint(alloc, seed, errors);
     }
 
     /// Reports where browsers see the hill, if they do.
-    pub(crate) fn tell_pages<A: Allocator, E: Write>(
+    pub(crate) fn tell_pages<A: Allocator + Copy, E: LogWrite>(
         &self,
         alloc: A,
         address: Option<SocketAddr>,
@@ -76,9 +81,69 @@ impl<'r, R: Clock> Log<'r, R> {
         let Some(address) = address else {
             return;
         };
-        if let Ok(line) = self.address_line(alloc, address) {
-            let _ = write_whole(errors, line.as_bytes());
+        self.put(alloc, self.address_line(alloc, address), errors);
+    }
+
+    /// Reports what the seed of a hill means, if everybody knows that.
+    fn tell_hint<A: Allocator + Copy, E: LogWrite>(&self, alloc: A, seed: u32, errors: &mut E)
+        ensures { WritesSome (E.contents errors.old) (E.contents errors.new) }
+    {
+        match seed_hint(seed) {
+            "" => {}
+            hint => self.put(
+                alloc,
+                format!(in alloc; "{} {}", self.seconds(), hint),
+                errors,
+            ),
         }
+    }
+
+    /// Writes a line if it can be written at once, and else drops it.
+    fn put<A: Allocator, E: LogWrite>(
+        &self,
+        alloc: A,
+        line: Result<String<A>, AllocError>,
+        errors: &mut E,
+    )
+        ensures { WritesSome (E.contents errors.old) (E.contents errors.new) }
+    {
+        let is_put = match line {
+            Ok(line) => self.put_counted(alloc, line.as_bytes(), errors),
+            Err(AllocError) => false,
+        };
+        if !is_put {
+            self.dropped.set(self.dropped.get().saturating_add(1));
+        }
+    }
+
+    /// Writes a line after the count of those that were dropped before it, and returns whether it is written.
+    fn put_counted<A: Allocator, E: LogWrite>(&self, alloc: A, line: &[u8], errors: &mut E) -> bool
+        ensures { WritesSome (E.contents errors.old) (E.contents errors.new) }
+    {
+        self.put_count(alloc, errors) && put_line(line, errors)
+    }
+
+    /// Writes how many lines were dropped, if some were. It returns whether that is written, or there is nothing to write.
+    fn put_count<A: Allocator, E: LogWrite>(&self, alloc: A, errors: &mut E) -> bool
+        ensures { WritesSome (E.contents errors.old) (E.contents errors.new) }
+    {
+        let count = self.dropped.get();
+        if count == 0 {
+            return true;
+        }
+        let Ok(line) = self.count_line(alloc, count) else {
+            return false;
+        };
+        let is_put = put_line(line.as_bytes(), errors);
+        if is_put {
+            self.dropped.set(0);
+        }
+        is_put
+    }
+
+    fn count_line<A: Allocator>(&self, alloc: A, count: u64) -> Result<String<A>, AllocError> {
+        let what = if count == 1 { "line was" } else { "lines were" };
+        format!(in alloc; "{} {} {} dropped\n", self.seconds(), count, what)
     }
 
     /// The line of what happened: the time by the clock, the peer or the browser, and the event.
@@ -90,8 +155,9 @@ impl<'r, R: Clock> Log<'r, R> {
     ) -> Result<String<A>, AllocError> {
         let what = match event {
             Event::Connected => "connected",
-            Event::Answered(line) => str::from_utf8(line).unwrap_or("answered"),
+            Event::Answered(reply) => return self.reply_line(alloc, peer, &reply),
             Event::Ended(how) => end_text(how),
+            Event::Refused => "refused: as many peers of its address are connected as may be",
             Event::Asked {
                 line,
                 status,
@@ -99,6 +165,18 @@ impl<'r, R: Clock> Log<'r, R> {
             } => return self.request_line(alloc, peer, line, status, bytes),
         };
         format!(in alloc; "{} {}: {}\n", self.seconds(), peer, what)
+    }
+
+    /// The line of a submission's reply.
+    fn reply_line<A: Allocator>(
+        &self,
+        alloc: A,
+        peer: SocketAddr,
+        reply: &Reply,
+    ) -> Result<String<A>, AllocError> {
+        let line = line_of(reply);
+        let text = str::from_utf8(line.as_slice()).unwrap_or("answered\n");
+        format!(in alloc; "{} {}: {}", self.seconds(), peer, text)
     }
 
     /// The line of a browser's request, whose own first line is cut and escaped, and of its answer.
@@ -123,26 +201,17 @@ impl<'r, R: Clock> Log<'r, R> {
         )
     }
 
-    /// The line of a hill that was created: its file, and what shows it to browsers if nothing does. A second one has the hint about its seed,
-    /// if there is one.
-    fn created_lines<A: Allocator>(
+    /// The line of a hill that was created: its file, and what shows it to browsers if nothing does.
+    fn created_line<A: Allocator>(
         &self,
         alloc: A,
         service: &Service<'_>,
-        seed: u32,
     ) -> Result<String<A>, AllocError> {
-        let now = self.seconds();
         let pages = match service.http {
             Some(_) => "",
             None => "; --http PORT shows it to browsers",
         };
-        match seed_hint(seed) {
-            "" => format!(in alloc; "{} created {}{}\n", now, service.hill, pages),
-            hint => format!(in alloc;
-                "{} created {}{}\n{} {}",
-                now, service.hill, pages, now, hint
-            ),
-        }
+        format!(in alloc; "{} created {}{}\n", self.seconds(), service.hill, pages)
     }
 
     fn address_line<A: Allocator>(
@@ -162,6 +231,13 @@ impl<'r, R: Clock> Log<'r, R> {
     }
 }
 
+/// Writes a line, and returns whether all of it was written.
+fn put_line<E: LogWrite>(line: &[u8], errors: &mut E) -> bool
+    ensures { WritesSome (E.contents errors.old) (E.contents errors.new) }
+{
+    errors.begin_line() && write_whole(errors, line).is_ok()
+}
+
 /// Whether it is a device that failed.
 fn is_fault(event: Event<'_>) -> bool {
     matches!(event, Event::Ended(HowEnded::By(PeerEnd::StoreFailed)))
@@ -177,6 +253,7 @@ fn end_text(how: HowEnded) -> &'static str {
         HowEnded::By(PeerEnd::Memory) => "ended: memory ran out",
         HowEnded::Silent => "ended: the peer was silent for too long",
         HowEnded::Browser => "ended: a browser, and not an author",
+        HowEnded::Displaced => "ended: its place was given to another peer",
         HowEnded::Gone => "ended: the peer is gone",
     }
 }

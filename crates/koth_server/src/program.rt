@@ -16,6 +16,7 @@ use koth_commands::check::check;
 use koth_commands::fight::fight;
 use koth_commands::replay::replay;
 use koth_commands::{Cause, Failure, Status, write_whole};
+use koth_service::LogWrite;
 use koth_words::{NoRequest, Request, View, parse};
 use std::alloc::{Allocator, Global};
 use std::io::{Read, Write};
@@ -26,7 +27,13 @@ use std::rt::{Clock, Files};
 /// Does what the arguments ask for, and returns the exit status: 0 done, 1 refused, 2 wrong arguments, 3 a stream or a file failed, 4 out of
 /// memory. The first of `words` is the program's name. They are parsed on `heap`, and all other memory comes from `alloc`. If the arguments
 /// don't say how tables are laid out, they are in `view`: columns for a terminal, and else lines for programs.
-pub fn run<R: Files + Net + Clock + RandomSource, A: Allocator + Copy, I: Read, O: Write, E: Write>(
+pub fn run<
+    R: Files + Net + Clock + RandomSource,
+    A: Allocator + Copy,
+    I: Read,
+    O: Write,
+    E: LogWrite,
+>(
     rt: &R,
     heap: Global,
     alloc: A,
@@ -50,7 +57,7 @@ fn carry_out<
     A: Allocator + Copy,
     I: Read,
     O: Write,
-    E: Write,
+    E: LogWrite,
 >(
     rt: &R,
     heap: Global,
@@ -74,7 +81,13 @@ where
 }
 
 /// Carries out a request.
-fn fulfil<R: Files + Net + Clock + RandomSource, A: Allocator + Copy, I: Read, O: Write, E: Write>(
+fn fulfil<
+    R: Files + Net + Clock + RandomSource,
+    A: Allocator + Copy,
+    I: Read,
+    O: Write,
+    E: LogWrite,
+>(
     rt: &R,
     alloc: A,
     request: &Request<'_>,

@@ -4,13 +4,16 @@
 //! data pass:
 //!
 //! - `line`: one socket, and whether a read or a write of it may give something;
-//! - `polled`: two listeners, one for peers and one for browsers, and the sockets that they accepted, by their numbers.
+//! - `polled`: two listeners, one for peers and one for browsers, and the sockets that they accepted, by their numbers;
+//! - `log`: standard error, to which the lines of a log go as far as it takes them at once.
 //!
 //! It says of the system what `Sockets` asks for: a read or a write counts no more bytes than there are. It doesn't record what happened on
 //! the sockets, since no clause speaks of the system.
 #![tactic(auto)]
 
 mod line;
+mod log;
 mod polled;
 
+pub use log::PolledLog;
 pub use polled::PolledSockets;

@@ -8,6 +8,7 @@
 //! - `words`: which words are faults, ask for help, or give settings;
 //! - `assembling`, `fights` and `hills`: what the commands write, how they end, and what they do to files;
 //! - `seeds`: the seed that is drawn, and what is told of the default one;
+//! - `logs`: the log of a service whose output takes no line for a while;
 //! - `audits`: the results that a hill keeps, shown, audited, and changed in its file;
 //! - `pages`: the page of a hill;
 //! - `migrations`: a hill of the old format, which `tests_fixtures` has, and how it is moved to the new one;
@@ -31,6 +32,8 @@ mod fights;
 mod files;
 #[cfg(test)]
 mod hills;
+#[cfg(test)]
+mod logs;
 #[cfg(test)]
 mod migrations;
 #[cfg(test)]

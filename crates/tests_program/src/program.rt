@@ -1,5 +1,5 @@
 use crate::compare::{expect_count, expect_same, expect_status};
-use koth_server::{View, run};
+use koth_server::{LogWrite, View, run};
 use std::alloc::{Allocator, Global};
 use std::fs::File;
 use std::io::{Read, Write};
@@ -44,7 +44,7 @@ fn status_of<A: Allocator + Copy>(
     view: View,
     input: &mut impl Read,
     output: &mut impl Write,
-    errors: &mut impl Write,
+    errors: &mut impl LogWrite,
 ) -> u8 {
     run(rt, heap, alloc, words, view, input, output, errors)
 }
@@ -57,7 +57,7 @@ pub(crate) fn status_on<A: Allocator + Copy>(
     view: View,
     input: &mut impl Read,
     output: &mut impl Write,
-    errors: &mut impl Write,
+    errors: &mut impl LogWrite,
 ) -> u8 {
     let words = words_of(rt, line);
     let heap = rt.alloc();

@@ -4,7 +4,7 @@
 #![tactic(auto)]
 
 use hill_store::{Store, sectors_for};
-use koth_server::{Counted, SessionEnd, View, run, session};
+use koth_server::{Counted, PolledLog, SessionEnd, View, run, session};
 use sector_disk::MemoryDevice;
 use std::{fs, io};
 use war_types::{RawSettings, Settings};
@@ -65,7 +65,7 @@ fn print_load_text(rt: &HostRuntime, source: &[u8]) -> io::Result<()> {
         View::Plain,
         &mut input,
         &mut io::writer(rt),
-        &mut rt.stderr(),
+        &mut PolledLog::new(rt, rt.alloc(), rt.stderr(), false),
     );
     if status == 0 { Ok(()) } else { Err(refused()) }
 }
