@@ -15,7 +15,7 @@ use koth_commands::{Cause, Failure, Status, Subject, reason_of, refuse_settings,
 use koth_http::Page;
 use koth_page::Links;
 use koth_protocol::Line;
-use koth_service::{Event, Host, ServiceFault, serve_peers};
+use koth_service::{Event, Host, LogWrite, ServiceFault, serve_peers};
 use koth_sockets::PolledSockets;
 use koth_words::Service;
 use std::alloc::{AllocError, Allocator};
@@ -68,18 +68,19 @@ where
         page_shown(self.alloc, store, page, self.links)
     }
 
-    fn tell<E: Write>(&self, peer: SocketAddr, event: Event<'_>, errors: &mut E) {
+    fn tell<E: LogWrite>(&self, peer: SocketAddr, event: Event<'_>, errors: &mut E) {
         self.log.tell(self.alloc, peer, event, errors);
     }
 }
 
-/// Serves sessions on the hill in a file over connections to an address and a port, `peers` at once at most, and ends after `connections`
-/// sessions if that is given. The line `LISTENING port` says that peers may connect, and to which port if the system chooses it. What happens
-/// is written on standard error, unless the service is quiet, and so is where browsers see the hill, if they may.
+/// Serves sessions on the hill in a file over connections to an address and a port, `peers` at once at most, of which `peers_per_address` of one
+/// address if that is given, and ends after `connections` sessions if that is given. The line `LISTENING port` says that peers may connect, and
+/// to which port if the system chooses it. What happens is written on standard error, unless the service is quiet, and so is where browsers see
+/// the hill, if they may.
 ///
 /// If that is asked for and there is no file, the hill is created first, with these settings. Settings that are out of their ranges are
 /// refused before the file is touched.
-pub(crate) fn serve<'f, R: Files + Net + Clock, A: Allocator + Copy, O: Write, E: Write>(
+pub(crate) fn serve<'f, R: Files + Net + Clock, A: Allocator + Copy, O: Write, E: LogWrite>(
     rt: &'f R,
     alloc: A,
     given: RawSettings,
@@ -100,7 +101,7 @@ where
     }
 }
 
-fn serve_under<'f, R: Files + Net + Clock, A: Allocator + Copy, O: Write, E: Write>(
+fn serve_under<'f, R: Files + Net + Clock, A: Allocator + Copy, O: Write, E: LogWrite>(
     rt: &'f R,
     alloc: A,
     settings: Settings,
@@ -128,16 +129,13 @@ where
         Err(trouble) => return trouble.tell(alloc, errors),
     };
     host.log.tell_pages(alloc, sockets.pages_addr(), errors);
-    let served = serve_peers(
-        alloc,
-        &mut sockets,
-        service.peers as usize,
-        BROWSERS,
-        service.connections,
-        store,
-        &host,
-        errors,
-    );
+    let limits = koth_service::Limits {
+        peers: service.peers as usize,
+        peers_per_address: service.peers_per_address,
+        browsers: BROWSERS,
+        connections: service.connections,
+    };
+    let served = serve_peers(alloc, &mut sockets, limits, store, &host, errors);
     match served {
         Ok(()) => Status::Done,
         Err(fault) => trouble_of(&host, fault).tell(alloc, errors),
@@ -145,7 +143,7 @@ where
 }
 
 /// Opens the hill, or creates it, and then opens the port, and writes the line of the port.
-fn begin<'f, R: Files + Net + Clock, A: Allocator + Copy, O: Write, E: Write>(
+fn begin<'f, R: Files + Net + Clock, A: Allocator + Copy, O: Write, E: LogWrite>(
     host: &Hosting<'f, R, A>,
     settings: Settings,
     service: &'f Service<'f>,
@@ -171,7 +169,7 @@ where
 
 /// The hill in the file. If that is asked for and the file holds nothing, the hill is created there, and that is reported, with what the
 /// default seed means.
-fn hill_served<'f, R: Files + Clock, A: Allocator + Copy, E: Write>(
+fn hill_served<'f, R: Files + Clock, A: Allocator + Copy, E: LogWrite>(
     host: &Hosting<'f, R, A>,
     settings: Settings,
     service: &'f Service<'f>,

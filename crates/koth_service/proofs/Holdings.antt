@@ -3,13 +3,20 @@ use Rattle.std.proofs.Common.{◌≡◌, ℕ, true, true≢false, false, List, [
 use Rattle.{war_types.specs.declared.settings.RawSettings.RawSettings, sector_disk.specs.Facts.DeviceFacts, hill_store.specs.{Holding.{AreDecided, Holds, IsCutOff, IsHeldWith, IsHolding}, Seen.Seen}}
 use Rattle.{hill_store.proofs.Decided.decided, koth_session.specs.{Sessions.{AreServed, IsLeftOff}, Transcript.{Exchange, submitted}}}
 use Rattle.koth_session.proofs.{Exchanges.served_none, Holding.{keeps_cut, keeps_list}}
-use Rattle.koth_service.specs.{Noted.Noted, History.{Follows, Happening, IsHistory, Moment, Reopens, Shows, Start, moment, next}, Held.{AreHeld, Counts, IsHeld}}
+use Rattle.koth_service.specs.{Noted.Noted, Moment.{Happening, Moment, Start, moment, next}, History.{Follows, IsHistory, Reopens, Shows}, Held.{AreHeld, Counts, IsHeld}}
 
 -- what happens on the sockets leaves the store as it is
 pub same_store : {D : Type 0} (what : Noted) (m : Moment D) → (next (Happening.On what) m).now ≡ m.now
+same_store (Noted.Clock t) m = refl
+same_store (Noted.Waited t) m = refl
+same_store Noted.Arrived m = refl
+same_store Noted.Refused m = refl
 same_store (Noted.Seated n) m = refl
 same_store (Noted.Heard n bytes) m = refl
+same_store (Noted.AtEnd n) m = refl
 same_store (Noted.Told n bytes) m = refl
+same_store (Noted.Shut n) m = refl
+same_store (Noted.Lost n) m = refl
 same_store (Noted.Closed n) m = refl
 same_store (Noted.Admitted n) m = refl
 same_store (Noted.Requested n bytes) m = refl
@@ -77,6 +84,8 @@ module _ {D : Type 0} (facts : DeviceFacts D) (s : RawSettings) where
     held_next (Happening.Reopened new) older follows held =
         let opened = reopened_holds held.found held.more new (moment start older) follows held.holds in
         record { found = opened.0; more = None; counts = (held.found, held.more, held.counts, opened.1, refl); holds = opened.2 }
+    held_next (Happening.Stopped n end) older follows held = record { found = held.found; more = held.more; counts = held.counts; holds = held.holds }
+    held_next (Happening.Disconnected n how) older follows held = record { found = held.found; more = held.more; counts = held.counts; holds = held.holds }
     held_next (Happening.Replied n reply) older follows held = record { found = held.found; more = held.more; counts = held.counts; holds = held.holds }
 
     pub latest : (history : List (Happening D)) → AreHeld facts s before start history → IsHeld facts s before start history

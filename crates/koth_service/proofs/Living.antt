@@ -1,15 +1,14 @@
 -- What a service is in the life of its device: for `services_in_lives`.
-use Rattle.std.proofs.Common.{◌≡◌, ◌⊎◌, ℕ, Bool, true, false, List, [], ◌∷◌, ◌++◌, Option, None, Some, refl, sym, ap, subst, ◌∙◌, append_assoc, append-nil}
+use Rattle.std.proofs.Common.{◌≡◌, ◌⊎◌, ℕ, Bool, true, false, not, List, [], ◌∷◌, ◌++◌, Option, None, Some, refl, sym, ap, subst, ◌∙◌, append_assoc, append-nil}
 use Rattle.{war_types.specs.declared.settings.RawSettings.RawSettings, koth_hill.specs.Kept.Kept, sector_disk.specs.{Facts.DeviceFacts, Disk.{Disk, current}, Image.Images}}
 use Rattle.{hill_images.specs.Stands.{Reads, Stands}, hill_store.specs.{Earned.{earned, kept_next}, Holding.{IsHeldWith, IsHolding}, Lives.{Event, Lives, MovesOn}, Seen.{IsStanding, Seen}}}
 use Rattle.{hill_store.proofs.Eventful.{calls, may_move_on, next_by}, koth_session.specs.{Lives.answers_to, Transcript.submitted}, koth_session.proofs.Living.moves_by}
-use Rattle.koth_service.specs.{History.{Happening, IsHistory, Shows, Start, moment}, Held.{AreEvents, IsHeld, ServicesAreLives}}
+use Rattle.koth_service.specs.{Moment.{Happening, Start, moment}, History.{IsHistory, Shows}, Held.{AreEvents, IsHeld, ServicesAreLives}}
 use Rattle.koth_service.proofs.Holdings.{are_held, latest, open_holds, reopened_holds, same_store}
 
 -- whether a store takes submissions, by whether it has to be opened again
 abbrev takes : Bool → Bool
-takes true = false
-takes false = true
+takes = not
 
 module _ {D : Type 0} (facts : DeviceFacts D) (s : RawSettings) where
   lawful_held : (found : List (List ℕ)) (more : Option (List ℕ)) (store : Seen D) → IsHeldWith facts s found more store → facts.lawful store.device
@@ -60,6 +59,12 @@ module _ {D : Type 0} (facts : DeviceFacts D) (s : RawSettings) where
         subst (λ (store : Seen D). Lived (Happening.On what ∷ older) store) (sym (same_store what (moment start older)))
         (record { events = rest.events; are = rest.are; goes = rest.goes; sized = rest.sized })
     lived (Happening.Replied n reply ∷ older) holding is =
+        let rest = lived older holding is.1 in
+        record { events = rest.events; are = rest.are; goes = rest.goes; sized = rest.sized }
+    lived (Happening.Stopped n end ∷ older) holding is =
+        let rest = lived older holding is.1 in
+        record { events = rest.events; are = rest.are; goes = rest.goes; sized = rest.sized }
+    lived (Happening.Disconnected n how ∷ older) holding is =
         let rest = lived older holding is.1 in
         record { events = rest.events; are = rest.are; goes = rest.goes; sized = rest.sized }
     lived (Happening.Answered n e new ∷ older) holding is =

@@ -2,8 +2,8 @@
 use Rattle.std.proofs.{Common.{◌≡◌, ◌∙◌, inl, inr, ℕ, ◌≤◌, ◌==◌, Bool, true, false, if◌then◌else◌, length, List, [], Option, Some, refl, sym, subst}, lemmas.Bool.cases_eq}
 use Rattle.sector_disk.specs.Facts.{DeviceFacts}
 use Rattle.{hill_store.specs.Seen.Seen, koth_session.proofs.{Exchanges.served_none, Holding.keeps_list}}
-use Rattle.koth_service.specs.{Noted.Noted, History.{Browser, Happening, IsHistory, IsSafe, Moment, Session, Shows, Start, ended_in, instead, moment, noted, with_browser, with_session}}
-use Rattle.koth_service.specs.{Standing.{AreAtStages, AreStanding, CameToBe, IsAtStage, PeersNow}, declared.connections.Stage.Stage}
+use Rattle.koth_service.specs.{Noted.Noted, Session.{Browser, Session}, Moment.{Happening, Moment, Round, Start, ended_in, instead, moment, noted}, History.{IsHistory, IsSafe, Shows}}
+use Rattle.koth_service.specs.{Standing.{AreAtStages, AreStanding, CameToBe, IsAtStage, IsRound, PeersNow}, declared.connections.Stage.Stage}
 use Rattle.koth_service.proofs.Moments.{instead_other, instead_same}
 
 -- ---- a function that has another value at one place
@@ -52,23 +52,31 @@ module _ {A : Type 0} (visitors : ℕ → Browser) (browsers : ℕ → Option (S
 -- ---- no stop loses what was answered before
 
 -- of a store that was opened just now
-module _ {D : Type 0} (facts : DeviceFacts D) where
-  pub safe_anew : (sessions : ℕ → Session) (browsers : ℕ → Browser) (store : Seen D) → store.reopen ≡ false
-      → IsSafe facts (record { sessions = sessions; browsers = browsers; now = store; first = store; since = [] })
-  safe_anew sessions browsers store sound = record { served = served_none facts store; open_now = sound; holds = keeps_list facts store store [] (served_none facts store) }
+pub safe_anew : {D : Type 0} (facts : DeviceFacts D) (sessions : ℕ → Session) (browsers : ℕ → Browser) (round : Round) (store : Seen D) → store.reopen ≡ false
+    → IsSafe facts (record { sessions = sessions; browsers = browsers; round = round; now = store; first = store; since = [] })
+safe_anew facts sessions browsers round store sound =
+    record { served = served_none facts store; open_now = sound; holds = keeps_list facts store store [] (served_none facts store) }
 
-module _ {D : Type 0} (facts : DeviceFacts D) (m : Moment D) (n : ℕ) where
-  pub safe_session : (s : Session) → IsSafe facts m → IsSafe facts (with_session n s m)
-  safe_session s safe = record { served = safe.served; open_now = safe.open_now; holds = safe.holds }
-
-  pub safe_browser : (b : Browser) → IsSafe facts m → IsSafe facts (with_browser n b m)
-  safe_browser b safe = record { served = safe.served; open_now = safe.open_now; holds = safe.holds }
+-- whatever happens with the peers, the browsers and the round
+pub safe_on : {D : Type 0} {facts : DeviceFacts D} {m : Moment D} {sessions : ℕ → Session} {browsers : ℕ → Browser} {round : Round} → IsSafe facts m
+    → IsSafe facts (record { sessions = sessions; browsers = browsers; round = round; now = m.now; first = m.first; since = m.since })
+safe_on safe = record { served = safe.served; open_now = safe.open_now; holds = safe.holds }
 
 -- ---- all that is to be shown of a history, in its order
 
 pub came_to_be : {S D A : Type 0} {happened : S → List Noted → Type 0} {facts : DeviceFacts D} {shows : Shows D} {start : Start D} {sockets : S} {peers : PeersNow A}
     {browsers : ℕ → Option (Stage A)} {store : Seen D} {history : List (Happening D)} → happened sockets (noted history) → IsHistory facts shows start history
-    → AreStanding (moment start history).sessions peers.slots → AreAtStages (moment start history).browsers browsers → (moment start history).now ≡ store
-    → length peers.slots ≡ start.most → peers.ended ≤ ended_in (noted history) → CameToBe happened facts shows start sockets peers browsers store history
-came_to_be logged follows standing visiting now_is seats ended =
-    record { logged = logged; follows = follows; standing = standing; visiting = visiting; now_is = now_is; seats = seats; ended = ended }
+    → AreStanding (moment start history).sessions peers.slots peers.seats → AreAtStages (moment start history).browsers browsers → (moment start history).now ≡ store
+    → length peers.slots ≡ start.most → length peers.seats ≡ start.most → peers.ended ≤ ended_in (noted history) → IsRound (moment start history).round peers
+    → CameToBe happened facts shows start sockets peers browsers store history
+came_to_be logged follows standing visiting now_is places seats ended round = record {
+  logged = logged;
+  follows = follows;
+  standing = standing;
+  visiting = visiting;
+  now_is = now_is;
+  places = places;
+  seats = seats;
+  ended = ended;
+  round = round;
+}

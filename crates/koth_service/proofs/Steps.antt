@@ -1,24 +1,23 @@
 -- How a history goes on by what happens on the sockets.
-use Rattle.std.proofs.Common.{◌≡◌, ◌≢◌, ◌∙◌, ◌==◌, ℕ, ◌+◌, ◌<◌, ◌≤◌, Bool, true, true≢false, false, ap, arith, length, List, [], ◌∷◌, take, Option, None, Some, Result, Ok, Err, IfOk, refl, sym, subst}
-use Rattle.{sector_disk.specs.Facts.DeviceFacts, hill_store.specs.Seen.Seen}
-use Rattle.koth_peers.specs.{Peer.{Closes, Sends, Takes}, Peers.{Connects, MovesAt, OnlyAt, Slots, may_come_at, may_come_in, peer_at, unsent_at}}
-use Rattle.koth_peers.specs.{declared.peer.Peer.Peer, declared.peers.Step.Step}
-use Rattle.koth_service.specs.{Noted.{Adds, Noted, Stays}, History.{Happening, Moment, OpensAgain, Reopens, Shows, Start, beginning, ended_in, moment, noted, session_anew, session_came, session_went}}
-use Rattle.koth_service.specs.Standing.{CameToBe, GoesOn, HasEnded, IsAtStage, IsCutOff, IsReopened, IsServed, IsSoundAfter, PeersNow, StandsAfter, StandsAt, peers_in, peers_of}
-use Rattle.koth_service.specs.{declared.connections.Stage.Stage, declared.desk.Desk.Desk}
-use Rattle.koth_service.proofs.{Holdings.are_held, Moments.{few_from, free_at, owed_to, standing_came, standing_closed, standing_left, standing_new, standing_went, there_at}}
-use Rattle.koth_service.proofs.Stages.{came_to_be, safe_anew, safe_session}
+use Rattle.std.proofs.Common.{◌≡◌, ◌≢◌, ◌∙◌, ◌==◌, ℕ, ◌+◌, ◌<◌, ◌≤◌, Bool, true, true≢false, false, ap, arith, length, max, List, [], ◌∷◌, take, Option, None, Some, IsSome, is_some, Result, Ok, Err, refl, sym, subst}
+use Rattle.{sector_disk.specs.Facts.DeviceFacts, hill_store.specs.Seen.Seen, std.specs.declared.net.socket_addr.SocketAddr.SocketAddr}
+use Rattle.koth_session.specs.{Peer.{Closes, Sends, Takes}, Peers.{Connects, MovesAt, OnlyAt, Slots, end_in, is_finished_in, may_come_at, may_come_in, peer_at, unsent_at, unsent_in}}
+use Rattle.koth_session.specs.declared.{peer.Peer.Peer, peers.{NotConnected.NotConnected, Step.Step}}
+use Rattle.koth_service.specs.{Noted.{Adds, Noted, Stays}, Seats.{OnlySeat, SeatMoves, Seats, seat_at, seat_drained, seat_heard, seat_new, seat_told}}
+use Rattle.koth_service.specs.Session.{Session, session_lost}
+use Rattle.koth_service.specs.{Moment.{Happening, Moment, Start, beginning, ended_in, moment, noted}, History.{MayDisconnect, OpensAgain, Reopens, Shows}}
+use Rattle.koth_service.specs.Standing.{AwaitedIn, GoesOn, IsAtStage, IsCutOff, IsReopened, IsSoundAfter, PeersNow, StandsAfter, StandsAt, moved_to, peers_of, served_to, timed_to}
+use Rattle.koth_service.specs.declared.{connections.Stage.Stage, desk.Desk.Desk, host.HowEnded.HowEnded, seats.{Draining.Draining, Seat.Seat}}
+use Rattle.koth_service.proofs.{Causes.{finished_at, not_silent}, Stages.{came_to_be, safe_anew, safe_on}}
+use Rattle.koth_service.proofs.Moments.{few_from, free_at, instead_same, owed_to, standing_came, standing_closed, standing_drained, standing_left, standing_lost, standing_new, standing_shut, standing_went, there_at}
 
 -- answers that there are
 pub some_unsent : (read unsent : List ℕ) (empty : Bool) → read ≡ unsent → empty ≡ (length read == 0) → empty ≡ false → unsent ≢ []
 some_unsent read unsent empty is tells there none = true≢false (sym (ap (λ (l : List ℕ). length l == 0) (is ∙ none)) ∙ sym tells ∙ there)
 
--- as many have ended if more have
-ended_on : (connections : Option ℕ) (few many : ℕ) → few ≤ many → HasEnded connections few → HasEnded connections many
-ended_on None few many more done = done
-ended_on (Some asked) few many more done =
-    let least : asked ≤ few = done in
-    let all : asked ≤ many = omega (arith, least, more) in all
+-- a peer to which answers are unsent is there
+pub there_by_unsent : {A : Type 0} (slots : Slots A) (n : ℕ) → unsent_at slots n ≢ [] → peer_at slots n ≢ None
+there_by_unsent slots n some = λ none. some (ap unsent_in none)
 
 -- a peer of which bytes may come is there
 pub there_by_room : {A : Type 0} (slots : Slots A) (n room : ℕ) → room ≡ may_come_at slots n → room ≢ 0 → peer_at slots n ≢ None
@@ -31,95 +30,244 @@ module _ {S D A : Type 0} (happened : S → List Noted → Type 0) (facts : Devi
   stays old new peers store same on =
       let before = on.1 in (
         on.0,
-        came_to_be (same (noted on.0) before.logged) before.follows before.standing before.visiting before.now_is before.seats before.ended,
+        came_to_be (same (noted on.0) before.logged) before.follows before.standing before.visiting before.now_is before.places before.seats before.ended before.round,
         on.2,
       )
 
-  -- nothing happened, and the desk has the same sessions and store
-  pub stays_at : (old new : S) (desk same : Desk D A) → Stays happened old new → peers_of same ≡ peers_of desk → same.store ≡ desk.store
-      → GoesOn happened facts shows start old (peers_of desk) browsers desk.store → GoesOn happened facts shows start new (peers_of same) browsers same.store
-  stays_at old new desk same kept peers store on =
-      subst (λ (s : Seen D). GoesOn happened facts shows start new (peers_of same) browsers s) (sym store)
-      (subst (λ (p : PeersNow A). GoesOn happened facts shows start new p browsers desk.store) (sym peers) (stays old new (peers_of desk) desk.store kept on))
-
-  -- a peer was seated
-  pub seated : (old_sockets sockets : S) (old new : Slots A) (ended now_ended : ℕ) (store : Seen D) (n : ℕ) → Connects (Ok n) old new → now_ended ≡ ended
-      → Adds happened (Noted.Seated n) old_sockets sockets
-      → GoesOn happened facts shows start old_sockets (peers_in old ended) browsers store → GoesOn happened facts shows start sockets (peers_in new now_ended) browsers store
-  seated old_sockets sockets old new ended now_ended store n connects same adds on =
-      let before = on.1 in
-      let m = moment start on.0 in
-      let few : n < start.most = subst (λ (k : ℕ). n < k) before.seats connects.1 in (
-        Happening.On (Noted.Seated n) ∷ on.0,
-        came_to_be (adds (noted on.0) before.logged) ((free_at m.sessions n old connects.2 before.standing, few), before.follows)
-            (standing_new m.sessions n connects.4 old new connects.0 connects.5 connects.6 before.standing)
-            before.visiting before.now_is (connects.0.size ∙ before.seats) (subst (λ (k : ℕ). k ≤ ended_in (noted on.0)) (sym same) before.ended),
-        safe_session facts m n (session_anew true) on.2,
+  -- and there is still the same cause to disconnect a peer
+  pub still_may : (old new : S) (peers : PeersNow A) (store : Seen D) (n : ℕ) (how : HowEnded) → Stays happened old new
+      → (on : GoesOn happened facts shows start old peers browsers store) → MayDisconnect start.most n how (moment start on.0)
+      → (then : GoesOn happened facts shows start new peers browsers store) × MayDisconnect start.most n how (moment start then.0)
+  still_may old new peers store n how same on may =
+      let before = on.1 in (
+        (
+          on.0,
+          came_to_be (same (noted on.0) before.logged) before.follows before.standing before.visiting before.now_is before.places before.seats before.ended before.round,
+          on.2,
+        ),
+        may,
       )
 
-  -- bytes of a peer came
-  pub came : (old_sockets sockets : S) (old new : Slots A) (ended : ℕ) (store : Seen D) (n : ℕ) (bytes : List ℕ) → peer_at old n ≢ None → MovesAt (λ p q. Takes p bytes q) n old new
-      → Adds happened (Noted.Heard n bytes) old_sockets sockets
-      → GoesOn happened facts shows start old_sockets (peers_in old ended) browsers store → GoesOn happened facts shows start sockets (peers_in new ended) browsers store
-  came old_sockets sockets old new ended store n bytes there moves adds on =
+  -- the time was told
+  pub ticked : (old new : S) (was : PeersNow A) (store : Seen D) (time clock : ℕ) → Adds happened (Noted.Clock time) old new → clock ≡ max was.clock time
+      → GoesOn happened facts shows start old was browsers store → GoesOn happened facts shows start new (timed_to clock was.read_at was) browsers store
+  ticked old new was store time clock adds is on =
       let before = on.1 in
-      let m = moment start on.0 in (
+      let round = before.round in (
+        Happening.On (Noted.Clock time) ∷ on.0,
+        came_to_be (adds (noted on.0) before.logged) (tt, before.follows) before.standing before.visiting before.now_is before.places before.seats before.ended
+            (record { clock = ap (λ c. max c time) round.clock ∙ sym is; read_at = round.read_at; turn = round.turn }),
+        safe_on on.2,
+      )
+
+  -- it was told at the end of a wait, at which nobody was silent for too long
+  pub waited : (old new : S) (was : PeersNow A) (store : Seen D) (time clock : ℕ) → Adds happened (Noted.Waited time) old new → clock ≡ max was.clock time
+      → ((p : ℕ) → AwaitedIn was.read_at (peer_at was.slots p) (seat_at was.seats p))
+      → GoesOn happened facts shows start old was browsers store → GoesOn happened facts shows start new (timed_to clock clock was) browsers store
+  waited old new was store time clock adds is awaited on =
+      let before = on.1 in
+      let round = before.round in
+      let m = moment start on.0 in
+      let told : max m.round.clock time ≡ clock = ap (λ c. max c time) round.clock ∙ sym is in (
+        Happening.On (Noted.Waited time) ∷ on.0,
+        came_to_be (adds (noted on.0) before.logged)
+            (λ p shut silent. not_silent p was.read_at m (peer_at was.slots p) (seat_at was.seats p) (before.standing p) round.read_at (awaited p) shut silent, before.follows)
+            before.standing before.visiting before.now_is before.places before.seats before.ended (record { clock = told; read_at = told; turn = round.turn }),
+        safe_on on.2,
+      )
+
+  -- a connection arrived, and waits now
+  pub arrived : (old new : S) (was : PeersNow A) (store : Seen D) → Adds happened Noted.Arrived old new → GoesOn happened facts shows start old was browsers store
+      → (on : GoesOn happened facts shows start new was browsers store) × ((moment start on.0).round.waits ≡ true)
+  arrived old new was store adds on =
+      let before = on.1 in
+      let round = before.round in (
+        (
+          Happening.On Noted.Arrived ∷ on.0,
+          came_to_be (adds (noted on.0) before.logged) (tt, before.follows) before.standing before.visiting before.now_is before.places before.seats before.ended
+              (record { clock = round.clock; read_at = round.read_at; turn = round.turn }),
+          safe_on on.2,
+        ),
+        refl,
+      )
+
+  -- it was closed
+  pub refused : (old new : S) (was : PeersNow A) (store : Seen D) → Adds happened Noted.Refused old new → GoesOn happened facts shows start old was browsers store
+      → GoesOn happened facts shows start new was browsers store
+  refused old new was store adds on =
+      let before = on.1 in
+      let round = before.round in (
+        Happening.On Noted.Refused ∷ on.0,
+        came_to_be (adds (noted on.0) before.logged) (tt, before.follows) before.standing before.visiting before.now_is before.places before.seats before.ended
+            (record { clock = round.clock; read_at = round.read_at; turn = round.turn }),
+        safe_on on.2,
+      )
+
+  -- a peer was seated
+  pub seated : (old_sockets sockets : S) (was now : PeersNow A) (store : Seen D) (n : ℕ) (address : SocketAddr) → Connects (Ok n) was.slots now.slots → OnlySeat n was.seats now.seats
+      → (n < length was.seats → seat_at now.seats n ≡ Some (seat_new address was.clock)) → now.ended ≡ was.ended → now.turn ≡ was.turn → now.clock ≡ was.clock → now.read_at ≡ was.read_at
+      → Adds happened (Noted.Seated n) old_sockets sockets
+      → GoesOn happened facts shows start old_sockets was browsers store → GoesOn happened facts shows start sockets now browsers store
+  seated old_sockets sockets was now store n address connects only sits ended turn clock read_at adds on =
+      let before = on.1 in
+      let round = before.round in
+      let m = moment start on.0 in
+      let few : n < start.most = subst (λ (k : ℕ). n < k) before.places connects.1 in
+      let within : n < length was.seats = subst (λ (k : ℕ). n < k) (sym before.seats) few in
+      let at : seat_at now.seats n ≡ Some (seat_new address m.round.clock) = sits within ∙ ap (λ c. Some (seat_new address c)) (sym round.clock) in (
+        Happening.On (Noted.Seated n) ∷ on.0,
+        came_to_be (adds (noted on.0) before.logged) ((free_at m.sessions n was.slots was.seats connects.2 before.standing, few), before.follows)
+            (standing_new m.sessions n m.round.clock connects.4 address was.slots now.slots was.seats now.seats connects.0 only connects.5 at connects.6 before.standing)
+            before.visiting before.now_is (connects.0.size ∙ before.places) (only.size ∙ before.seats) (subst (λ (k : ℕ). k ≤ ended_in (noted on.0)) (sym ended) before.ended)
+            (record { clock = round.clock ∙ sym clock; read_at = round.read_at ∙ sym read_at; turn = round.turn ∙ sym turn }),
+        safe_on on.2,
+      )
+
+  -- no peer was connected
+  not_connected : (fault : NotConnected) (old new : Slots A) → Connects (Err fault) old new → new ≡ old
+  not_connected NotConnected.Full old new connects = connects.0
+  not_connected NotConnected.Memory old new connects = connects
+
+  pub turned_away : (old_sockets sockets : S) (was : PeersNow A) (new : Slots A) (turn : ℕ) (store : Seen D) (fault : NotConnected)
+      → Connects (Err fault) was.slots new → turn ≡ was.turn → Adds happened Noted.Refused old_sockets sockets
+      → GoesOn happened facts shows start old_sockets was browsers store → GoesOn happened facts shows start sockets (served_to new was.seats turn was) browsers store
+  turned_away old_sockets sockets was new turn store fault connects same adds on =
+      let slots = not_connected fault was.slots new connects in
+      subst (λ (t : ℕ). GoesOn happened facts shows start sockets (served_to new was.seats t was) browsers store) (sym same)
+      (subst (λ (l : Slots A). GoesOn happened facts shows start sockets (served_to l was.seats was.turn was) browsers store) (sym slots)
+      (refused old_sockets sockets was store adds on))
+
+  -- bytes of a peer came
+  pub came : (old_sockets sockets : S) (was : PeersNow A) (new : Slots A) (seats : Seats) (turn : ℕ) (store : Seen D) (n : ℕ) (bytes : List ℕ) → peer_at was.slots n ≢ None
+      → MovesAt (λ p q. Takes p bytes q) n was.slots new → SeatMoves (seat_heard bytes was.clock) n was.seats seats → turn ≡ was.turn → Adds happened (Noted.Heard n bytes) old_sockets sockets
+      → GoesOn happened facts shows start old_sockets was browsers store → GoesOn happened facts shows start sockets (served_to new seats turn was) browsers store
+  came old_sockets sockets was new seats turn store n bytes there moves hears same adds on =
+      let before = on.1 in
+      let round = before.round in
+      let m = moment start on.0 in
+      let heard = subst (λ c. SeatMoves (seat_heard bytes c) n was.seats seats) (sym round.clock) hears in (
         Happening.On (Noted.Heard n bytes) ∷ on.0,
-        came_to_be (adds (noted on.0) before.logged) ((there_at m.sessions n old there before.standing, few_from m.sessions n bytes old new there moves before.standing), before.follows)
-            (standing_came m.sessions n bytes old new moves before.standing) before.visiting before.now_is (moves.only.size ∙ before.seats) before.ended,
-        safe_session facts m n (session_came bytes (m.sessions n)) on.2,
+        came_to_be (adds (noted on.0) before.logged)
+            ((there_at m.sessions n was.slots was.seats there before.standing, few_from m.sessions n bytes was.slots new was.seats there moves before.standing), before.follows)
+            (standing_came m.sessions n bytes m.round.clock was.slots new was.seats seats moves heard before.standing) before.visiting before.now_is
+            (moves.only.size ∙ before.places) (hears.only.size ∙ before.seats) before.ended (record { clock = round.clock; read_at = round.read_at; turn = round.turn ∙ sym same }),
+        safe_on on.2,
       )
 
   -- a peer's bytes are at their end
-  pub closed : (old_sockets sockets : S) (old new : Slots A) (ended : ℕ) (store : Seen D) (n : ℕ) → MovesAt Closes n old new → Stays happened old_sockets sockets
-      → GoesOn happened facts shows start old_sockets (peers_in old ended) browsers store → GoesOn happened facts shows start sockets (peers_in new ended) browsers store
-  closed old_sockets sockets old new ended store n moves same on =
-      let before = on.1 in (
-        on.0,
-        came_to_be (same (noted on.0) before.logged) before.follows (standing_closed (moment start on.0).sessions n old new moves before.standing)
-            before.visiting before.now_is (moves.only.size ∙ before.seats) before.ended,
-        on.2,
+  pub closed : (old_sockets sockets : S) (was : PeersNow A) (new : Slots A) (turn : ℕ) (store : Seen D) (n : ℕ) → MovesAt Closes n was.slots new → turn ≡ was.turn → Adds happened (Noted.AtEnd n) old_sockets sockets
+      → GoesOn happened facts shows start old_sockets was browsers store → GoesOn happened facts shows start sockets (served_to new was.seats turn was) browsers store
+  closed old_sockets sockets was new turn store n moves same adds on =
+      let before = on.1 in
+      let round = before.round in (
+        Happening.On (Noted.AtEnd n) ∷ on.0,
+        came_to_be (adds (noted on.0) before.logged) (tt, before.follows)
+            (standing_closed (moment start on.0).sessions n was.slots new was.seats moves before.standing)
+            before.visiting before.now_is (moves.only.size ∙ before.places) before.seats before.ended (record { clock = round.clock; read_at = round.read_at; turn = round.turn ∙ sym same }),
+        safe_on on.2,
       )
 
   -- answers went out to a peer
-  pub went : (old_sockets sockets : S) (old new : Slots A) (ended : ℕ) (store : Seen D) (n count : ℕ) → MovesAt (λ p q. Sends p count q) n old new → unsent_at old n ≢ []
-      → Adds happened (Noted.Told n (take count (unsent_at old n))) old_sockets sockets
-      → GoesOn happened facts shows start old_sockets (peers_in old ended) browsers store → GoesOn happened facts shows start sockets (peers_in new ended) browsers store
-  went old_sockets sockets old new ended store n count moves some adds on =
+  pub went : (old_sockets sockets : S) (was : PeersNow A) (new : Slots A) (seats : Seats) (turn : ℕ) (store : Seen D) (n count : ℕ) → MovesAt (λ p q. Sends p count q) n was.slots new
+      → SeatMoves (seat_told was.clock) n was.seats seats → unsent_at was.slots n ≢ [] → turn ≡ was.turn → Adds happened (Noted.Told n (take count (unsent_at was.slots n))) old_sockets sockets
+      → GoesOn happened facts shows start old_sockets was browsers store → GoesOn happened facts shows start sockets (served_to new seats turn was) browsers store
+  went old_sockets sockets was new seats turn store n count moves tells some same adds on =
       let before = on.1 in
-      let m = moment start on.0 in (
-        Happening.On (Noted.Told n (take count (unsent_at old n))) ∷ on.0,
-        came_to_be (adds (noted on.0) before.logged) (owed_to m.sessions n count old some before.standing, before.follows)
-            (standing_went m.sessions n count old new moves before.standing) before.visiting before.now_is (moves.only.size ∙ before.seats) before.ended,
-        safe_session facts m n (session_went (take count (unsent_at old n)) (m.sessions n)) on.2,
+      let round = before.round in
+      let m = moment start on.0 in
+      let told = subst (λ c. SeatMoves (seat_told c) n was.seats seats) (sym round.clock) tells in (
+        Happening.On (Noted.Told n (take count (unsent_at was.slots n))) ∷ on.0,
+        came_to_be (adds (noted on.0) before.logged) (owed_to m.sessions n count was.slots was.seats some before.standing, before.follows)
+            (standing_went m.sessions n count m.round.clock was.slots new was.seats seats moves told before.standing) before.visiting before.now_is
+            (moves.only.size ∙ before.places) (tells.only.size ∙ before.seats) before.ended (record { clock = round.clock; read_at = round.read_at; turn = round.turn ∙ sym same }),
+        safe_on on.2,
       )
 
-  -- a peer was disconnected
-  pub left : (old_sockets sockets : S) (old new : Slots A) (ended now_ended : ℕ) (store : Seen D) (n : ℕ) → peer_at old n ≢ None → OnlyAt n old new
-      → peer_at new n ≡ None → now_ended ≤ ended + 1
-      → Adds happened (Noted.Closed n) old_sockets sockets
-      → GoesOn happened facts shows start old_sockets (peers_in old ended) browsers store → GoesOn happened facts shows start sockets (peers_in new now_ended) browsers store
-  left old_sockets sockets old new ended now_ended store n there only free more adds on =
+  -- a peer that is finished was shut
+  pub shut : (old_sockets sockets : S) (was : PeersNow A) (seats : Seats) (store : Seen D) (n : ℕ) (draining : Draining) → is_some (end_in (peer_at was.slots n)) ≡ true
+      → is_finished_in (peer_at was.slots n) ≡ true → SeatMoves (seat_drained draining) n was.seats seats → Adds happened (Noted.Shut n) old_sockets sockets
+      → GoesOn happened facts shows start old_sockets was browsers store → GoesOn happened facts shows start sockets (moved_to was.slots seats was) browsers store
+  shut old_sockets sockets was seats store n draining ended is drains adds on =
       let before = on.1 in
+      let round = before.round in
+      let m = moment start on.0 in (
+        Happening.On (Noted.Shut n) ∷ on.0,
+        came_to_be (adds (noted on.0) before.logged) (finished_at (m.sessions n) (peer_at was.slots n) (seat_at was.seats n) (before.standing n) ended is, before.follows)
+            (standing_shut m.sessions n draining was.slots was.seats seats drains before.standing) before.visiting before.now_is
+            before.places (drains.only.size ∙ before.seats) before.ended (record { clock = round.clock; read_at = round.read_at; turn = round.turn }),
+        safe_on on.2,
+      )
+
+  -- more of it was thrown away
+  pub drained : (old_sockets sockets : S) (was : PeersNow A) (seats : Seats) (store : Seen D) (n : ℕ) (draining : Draining)
+      → ((seat : Seat) → seat_at was.seats n ≡ Some seat → IsSome seat.draining) → SeatMoves (seat_drained draining) n was.seats seats → Stays happened old_sockets sockets
+      → GoesOn happened facts shows start old_sockets was browsers store → GoesOn happened facts shows start sockets (moved_to was.slots seats was) browsers store
+  drained old_sockets sockets was seats store n draining shut_before drains same on =
+      let before = on.1 in
+      let round = before.round in (
+        on.0,
+        came_to_be (same (noted on.0) before.logged) before.follows
+            (standing_drained (moment start on.0).sessions n draining was.slots was.seats seats shut_before drains before.standing) before.visiting before.now_is
+            before.places (drains.only.size ∙ before.seats) before.ended (record { clock = round.clock; read_at = round.read_at; turn = round.turn }),
+        on.2,
+      )
+
+  -- the sockets said that a peer is gone
+  pub lost : (old_sockets sockets : S) (was : PeersNow A) (store : Seen D) (n : ℕ) → peer_at was.slots n ≢ None → Adds happened (Noted.Lost n) old_sockets sockets
+      → GoesOn happened facts shows start old_sockets was browsers store
+      → (on : GoesOn happened facts shows start sockets was browsers store) × MayDisconnect start.most n HowEnded.Gone (moment start on.0)
+  lost old_sockets sockets was store n there adds on =
+      let before = on.1 in
+      let round = before.round in
       let m = moment start on.0 in
-      let counted : ended ≤ ended_in (noted on.0) = before.ended in
-      let counts : now_ended ≤ ended_in (noted on.0) + 1 = omega (arith, counted, more) in (
-        Happening.On (Noted.Closed n) ∷ on.0,
-        came_to_be (adds (noted on.0) before.logged) (there_at m.sessions n old there before.standing, before.follows)
-            (standing_left m.sessions n old new only free before.standing) before.visiting before.now_is (only.size ∙ before.seats) counts,
-        safe_session facts m n (session_anew false) on.2,
+      let gone = session_lost (m.sessions n) in (
+        (
+          Happening.On (Noted.Lost n) ∷ on.0,
+          came_to_be (adds (noted on.0) before.logged) (tt, before.follows) (standing_lost m.sessions n was.slots was.seats before.standing) before.visiting before.now_is
+              before.places before.seats before.ended (record { clock = round.clock; read_at = round.read_at; turn = round.turn }),
+          safe_on on.2,
+        ),
+        (
+          ap (λ (s : Session). s.there) (instead_same m.sessions n gone) ∙ there_at m.sessions n was.slots was.seats there before.standing,
+          ap (λ (s : Session). s.lost) (instead_same m.sessions n gone),
+        ),
+      )
+
+  -- a peer was disconnected for a cause
+  pub left : (old_sockets sockets : S) (was now : PeersNow A) (store : Seen D) (n : ℕ) (how : HowEnded) → OnlyAt n was.slots now.slots
+      → peer_at now.slots n ≡ None → OnlySeat n was.seats now.seats → seat_at now.seats n ≡ None → now.ended ≤ was.ended + 1 → now.turn ≡ was.turn → now.clock ≡ was.clock
+      → now.read_at ≡ was.read_at → Adds happened (Noted.Closed n) old_sockets sockets
+      → (on : GoesOn happened facts shows start old_sockets was browsers store) → MayDisconnect start.most n how (moment start on.0)
+      → GoesOn happened facts shows start sockets now browsers store
+  left old_sockets sockets was now store n how only free places empty more turn clock read_at adds on cause =
+      let before = on.1 in
+      let round = before.round in
+      let m = moment start on.0 in
+      let counted : was.ended ≤ ended_in (noted on.0) = before.ended in
+      let counts : now.ended ≤ ended_in (noted on.0) + 1 = omega (arith, counted, more) in (
+        Happening.Disconnected n how ∷ on.0,
+        came_to_be (adds (noted on.0) before.logged) (cause, before.follows)
+            (standing_left m.sessions n m.round.clock was.slots now.slots was.seats now.seats only places free empty before.standing) before.visiting before.now_is
+            (only.size ∙ before.places) (places.size ∙ before.seats) counts
+            (record { clock = round.clock ∙ sym clock; read_at = round.read_at ∙ sym read_at; turn = round.turn ∙ sym turn }),
+        safe_on on.2,
       )
 
   -- ---- the beginning, and a hill that was opened again
 
-  pub begun : (sockets : S) (peers : PeersNow A) → ((p : ℕ) → peer_at peers.slots p ≡ None) → ((p : ℕ) → browsers p ≡ None) → peers.ended ≡ 0 → length peers.slots ≡ start.most
+  pub begun : (sockets : S) (peers : PeersNow A) → ((p : ℕ) → peer_at peers.slots p ≡ None) → ((p : ℕ) → seat_at peers.seats p ≡ None) → ((p : ℕ) → browsers p ≡ None)
+      → peers.ended ≡ 0 → peers.turn ≡ 0 → peers.clock ≡ 0 → peers.read_at ≡ 0 → length peers.slots ≡ start.most → length peers.seats ≡ length peers.slots
       → start.store.reopen ≡ false → happened sockets [] → GoesOn happened facts shows start sockets peers browsers start.store
-  begun sockets peers nobody nobody_visits no_ended places sound none =
-      let counts : peers.ended ≤ 0 = omega (arith, no_ended) in (
+  begun sockets peers nobody empty nobody_visits no_ended turn clock read_at places seats sound none =
+      let counts : peers.ended ≤ 0 = omega (arith, no_ended) in
+      let m : Moment D = beginning start.store in (
         [],
-        came_to_be none tt (λ p. subst (λ (slot : Option (Peer A)). StandsAt ((beginning start.store).sessions p) slot) (sym (nobody p)) refl)
-            (λ p. subst (λ (stage : Option (Stage A)). IsAtStage ((beginning start.store).browsers p) stage) (sym (nobody_visits p)) refl) refl places counts,
-        safe_anew facts (beginning start.store).sessions (beginning start.store).browsers start.store sound,
+        came_to_be none tt
+            (λ p. subst (λ (slot : Option (Peer A)). StandsAt (m.sessions p) slot (seat_at peers.seats p)) (sym (nobody p))
+            (subst (λ (seat : Option Seat). StandsAt {A = A} (m.sessions p) None seat) (sym (empty p)) refl))
+            (λ p. subst (λ (stage : Option (Stage A)). IsAtStage (m.browsers p) stage) (sym (nobody_visits p)) refl) refl places (seats ∙ places) counts
+            (record { clock = sym clock; read_at = sym read_at; turn = sym turn }),
+        safe_anew facts m.sessions m.browsers m.round start.store sound,
       )
 
   -- the desk that is sound again goes on
@@ -134,8 +282,8 @@ module _ {S D A : Type 0} (happened : S → List Noted → Type 0) (facts : Devi
         again = subst (λ (s : Seen D). OpensAgain facts s.device new.store) (sym before.now_is) is.again;
       } in (
         Happening.Reopened new.store ∷ cut.0,
-        came_to_be before.logged (reopens, before.follows) before.standing before.visiting refl before.seats before.ended,
-        safe_anew facts m.sessions m.browsers new.store is.open_now,
+        came_to_be before.logged (reopens, before.follows) before.standing before.visiting refl before.places before.seats before.ended before.round,
+        safe_anew facts m.sessions m.browsers m.round new.store is.open_now,
       )
 
   pub sound_after : (step : Step) (old new : Desk D A) (sockets : S) → IsSoundAfter facts step old new
@@ -145,41 +293,3 @@ module _ {S D A : Type 0} (happened : S → List Noted → Type 0) (facts : Devi
   sound_after (Step.Asked n) old new sockets same on = subst (λ (desk : Desk D A). GoesOn happened facts shows start sockets (peers_of desk) browsers desk.store) (sym same) on
   sound_after (Step.StoreFailed n) old new sockets is cut =
       subst (λ (peers : PeersNow A). GoesOn happened facts shows start sockets peers browsers new.store) (sym is.peers) (opened_again old new sockets is cut)
-
-  -- ---- what has happened so far
-
-  so_far : {T F : Type 0} (connections : Option ℕ) (result : Result T F) (sockets : S) (peers : PeersNow A) (store : Seen D) (history : List (Happening D))
-      → CameToBe happened facts shows start sockets peers browsers store history → IfOk result (λ nothing. HasEnded connections (ended_in (noted history)))
-      → IsServed happened facts shows start connections result sockets history
-  so_far connections result sockets peers store history before done = record {
-    logged = before.logged;
-    follows = before.follows;
-    held = λ s earlier holding. are_held facts s shows start earlier history holding before.follows;
-    done = done;
-  }
-
-  -- the service ends when as many sessions have ended as were asked for
-  pub so_far_done : {T F : Type 0} (connections : Option ℕ) (nothing : T) (sockets : S) (peers : PeersNow A) (store : Seen D) → HasEnded connections peers.ended
-      → GoesOn happened facts shows start sockets peers browsers store
-      → (history : List (Happening D)) × IsServed {T = T} {F = F} happened facts shows start connections (Ok nothing) sockets history
-  so_far_done connections nothing sockets peers store done on =
-      (on.0, so_far connections (Ok nothing) sockets peers store on.0 on.1 (ended_on connections peers.ended (ended_in (noted on.0)) on.1.ended done))
-
-  -- or with a fault
-  pub so_far_failed : {T F : Type 0} (connections : Option ℕ) (fault : F) (sockets : S) (peers : PeersNow A) (store : Seen D) → GoesOn happened facts shows start sockets peers browsers store
-      → (history : List (Happening D)) × IsServed {T = T} {F = F} happened facts shows start connections (Err fault) sockets history
-  so_far_failed connections fault sockets peers store on = (on.0, so_far connections (Err fault) sockets peers store on.0 on.1 tt)
-
-  pub so_far_after : {T F : Type 0} (connections : Option ℕ) (fault : F) (step : Step) (sockets : S) (peers : PeersNow A) (store : Seen D)
-      → StandsAfter happened facts shows step start sockets peers browsers store
-      → (history : List (Happening D)) × IsServed {T = T} {F = F} happened facts shows start connections (Err fault) sockets history
-  so_far_after connections fault Step.Nobody sockets peers store on = so_far_failed connections fault sockets peers store on
-  so_far_after connections fault (Step.Served n) sockets peers store on = so_far_failed connections fault sockets peers store on
-  so_far_after connections fault (Step.Asked n) sockets peers store on = so_far_failed connections fault sockets peers store on
-  so_far_after connections fault (Step.StoreFailed n) sockets peers store cut = (cut.0, so_far connections (Err fault) sockets peers store cut.0 cut.1 tt)
-
--- a service that ends with a fault before anything happened
-pub at_once : {S D T F : Type 0} (happened : S → List Noted → Type 0) (facts : DeviceFacts D) (shows : Shows D) (start : Start D) (connections : Option ℕ) (fault : F) (sockets : S)
-    → happened sockets [] → (history : List (Happening D)) × IsServed {T = T} {F = F} happened facts shows start connections (Err fault) sockets history
-at_once happened facts shows start connections fault sockets none =
-    ([], record { logged = none; follows = tt; held = λ s before holding. are_held facts s shows start before [] holding tt; done = tt })

@@ -1,11 +1,11 @@
 -- How a history goes on by what happens with browsers.
 use Rattle.std.proofs.Common.{◌≡◌, ◌∙◌, ℕ, true, false, ap, List, [], ◌∷◌, ◌++◌, take, drop, Option, None, Some, refl, sym, subst, append_assoc, take-append-drop}
-use Rattle.{sector_disk.specs.Facts.DeviceFacts, hill_store.specs.Seen.Seen, koth_service.specs.{Noted.{Adds, Noted, Reads, Stays}, Answering.AnswersBytes}}
-use Rattle.koth_service.specs.History.{Browser, Happening, Replies, Shows, Start, browser_anew, browser_came, browser_replied, browser_went, instead, moment, noted, owed_by}
+use Rattle.{sector_disk.specs.Facts.DeviceFacts, hill_store.specs.Seen.Seen, koth_service.specs.{Noted.{Adds, Noted, ReadsBrowser, Stays}, Answering.AnswersBytes}}
+use Rattle.koth_service.specs.{Session.{Browser, browser_anew, browser_came, browser_replied, browser_went}, Moment.{Happening, Start, instead, moment, noted}, History.{Replies, Shows, owed_by}}
 use Rattle.koth_service.specs.Standing.{GoesOn, IsAtStage, PeersNow}
 use Rattle.koth_service.specs.{Connections.{ClosesUnless, ComesTo, Connections, IsFree, MovesOn, StaysAt, stage_at, stage_in}, declared.sockets.Came.Came, declared.connections.Connection.Connection}
 use Rattle.koth_service.specs.declared.connections.Stage.{Stage}
-use Rattle.koth_service.proofs.{Stages.{came_to_be, instead_kept, instead_twice, safe_browser, stage_here, stages_over, stages_with}, Steps.stays}
+use Rattle.koth_service.proofs.{Stages.{came_to_be, instead_kept, instead_twice, safe_on, stage_here, stages_over, stages_with}, Steps.stays}
 use Rattle.koth_service.specs.declared.sockets.Came.TheVariants as came
 
 -- ---- what happens with the connection of one number
@@ -26,7 +26,7 @@ module _ {S D A : Type 0} (happened : S → List Noted → Type 0) (facts : Devi
       let before = on.1 in (
         on.0,
         came_to_be before.logged before.follows before.standing
-            (stages_over (moment start on.0).browsers browsers n stage before.visiting) before.now_is before.seats before.ended,
+            (stages_over (moment start on.0).browsers browsers n stage before.visiting) before.now_is before.places before.seats before.ended before.round,
         on.2,
       )
 
@@ -38,8 +38,8 @@ module _ {S D A : Type 0} (happened : S → List Noted → Type 0) (facts : Devi
       let b = browser_anew true in (
         Happening.On (Noted.Admitted n) ∷ on.0,
         came_to_be (adds (noted on.0) before.logged) (stage_here m.browsers browsers n None before.visiting, before.follows) before.standing
-            (stages_with m.browsers browsers n b None (Some (Stage.Asking [])) refl before.visiting) before.now_is before.seats before.ended,
-        safe_browser facts m n b on.2,
+            (stages_with m.browsers browsers n b None (Some (Stage.Asking [])) refl before.visiting) before.now_is before.places before.seats before.ended before.round,
+        safe_on on.2,
       )
 
   -- bytes of it came
@@ -53,8 +53,8 @@ module _ {S D A : Type 0} (happened : S → List Noted → Type 0) (facts : Devi
         Happening.On (Noted.Requested n bytes) ∷ on.0,
         came_to_be (adds (noted on.0) before.logged) (tt, before.follows) before.standing
             (stages_with m.browsers browsers n b (Some (Stage.Asking visit)) (Some (Stage.Asking (visit ++ bytes))) (ap (λ (x : Browser). browser_came bytes x) here) before.visiting)
-            before.now_is before.seats before.ended,
-        safe_browser facts m n b on.2,
+            before.now_is before.places before.seats before.ended before.round,
+        safe_on on.2,
       )
 
   -- bytes of it came that are thrown away
@@ -65,8 +65,8 @@ module _ {S D A : Type 0} (happened : S → List Noted → Type 0) (facts : Devi
       let b = browser_came bytes (m.browsers n) in (
         Happening.On (Noted.Requested n bytes) ∷ on.0,
         came_to_be (adds (noted on.0) before.logged) (tt, before.follows) before.standing
-            (stages_with m.browsers browsers n b (Some Stage.Parting) (Some Stage.Parting) tt before.visiting) before.now_is before.seats before.ended,
-        safe_browser facts m n b on.2,
+            (stages_with m.browsers browsers n b (Some Stage.Parting) (Some Stage.Parting) tt before.visiting) before.now_is before.places before.seats before.ended before.round,
+        safe_on on.2,
       )
 
   -- it was answered
@@ -88,8 +88,8 @@ module _ {S D A : Type 0} (happened : S → List Noted → Type 0) (facts : Devi
         Happening.Replied n reply ∷ on.0,
         came_to_be before.logged (replies, before.follows) before.standing
             (stages_with m.browsers browsers n b (Some (Stage.Asking visit)) (Some (Stage.Answering reply)) (ap (λ (x : Browser). x.went ++ reply) here) before.visiting)
-            before.now_is before.seats before.ended,
-        safe_browser facts m n b on.2,
+            before.now_is before.places before.seats before.ended before.round,
+        safe_on on.2,
       )
 
   -- some of its answer went out
@@ -105,8 +105,8 @@ module _ {S D A : Type 0} (happened : S → List Noted → Type 0) (facts : Devi
       append_assoc now.went (take count unsent) (drop count unsent) ∙ ap (λ l. now.went ++ l) (take-append-drop count unsent) ∙ here in (
         Happening.On (Noted.Shown n (take count unsent)) ∷ on.0,
         came_to_be (adds (noted on.0) before.logged) ((drop count unsent, sym all), before.follows) before.standing
-            (stages_with m.browsers browsers n b (Some (Stage.Answering unsent)) (Some (Stage.Answering (drop count unsent))) all before.visiting) before.now_is before.seats before.ended,
-        safe_browser facts m n b on.2,
+            (stages_with m.browsers browsers n b (Some (Stage.Answering unsent)) (Some (Stage.Answering (drop count unsent))) all before.visiting) before.now_is before.places before.seats before.ended before.round,
+        safe_on on.2,
       )
 
   -- its socket was closed
@@ -117,8 +117,8 @@ module _ {S D A : Type 0} (happened : S → List Noted → Type 0) (facts : Devi
       let b = browser_anew false in (
         Happening.On (Noted.Left n) ∷ on.0,
         came_to_be (adds (noted on.0) before.logged) (tt, before.follows) before.standing
-            (stages_with m.browsers browsers n b stage None refl before.visiting) before.now_is before.seats before.ended,
-        safe_browser facts m n b on.2,
+            (stages_with m.browsers browsers n b stage None refl before.visiting) before.now_is before.places before.seats before.ended before.round,
+        safe_on on.2,
       )
 
   -- ---- what a call of a connection's function makes of it
@@ -139,7 +139,7 @@ module _ {S D A : Type 0} (happened : S → List Noted → Type 0) (facts : Devi
       subst (λ (l : List ℕ). Is new (Some (Stage.Answering l))) (sym left)
       (shown old new count unsent (subst (λ (l : List ℕ). Adds happened (Noted.Shown n (take count l)) old new) is adds) on)
 
-  pub drained : (old new : S) (bytes : List ℕ) (came : Came) → Reads happened (Noted.Requested n) old bytes came new → Is old (Some Stage.Parting)
+  pub drained : (old new : S) (bytes : List ℕ) (came : Came) → ReadsBrowser happened n old bytes came new → Is old (Some Stage.Parting)
       → Is new (Some Stage.Parting)
   drained old new bytes (came.Bytes count) reads on = wasted old new (take count bytes) reads.1 on
   drained old new bytes came.End reads on = still old new (Some Stage.Parting) reads on
@@ -164,7 +164,7 @@ module _ {S D A : Type 0} (happened : S → List Noted → Type 0) (facts : Devi
       let m = moment start on.0 in (
         on.0,
         came_to_be before.logged before.follows before.standing
-            (λ p. subst (λ (stage : Option (Stage A)). IsAtStage (m.browsers p) stage) (sym (is p)) (before.visiting p)) before.now_is before.seats before.ended,
+            (λ p. subst (λ (stage : Option (Stage A)). IsAtStage (m.browsers p) stage) (sym (is p)) (before.visiting p)) before.now_is before.places before.seats before.ended before.round,
         on.2,
       )
 

@@ -1,8 +1,10 @@
 -- What a browser is answered.
 use Rattle.std.specs.Prelude.{◌≡◌, ◌⊎◌, ℕ, Bool, List, Option, Some, Result, Ok, Err, MatchOption, Vec}
-use Rattle.koth_http.specs.{Asked.{FindsAsked, IsAsked}, declared.asked.Asked.Asked, declared.refusal.Refusal.Refusal, declared.target.Page.Page, Response.{page_response, refusal_response}}
+use Rattle.koth_http.specs.{Asked.{FindsAsked, IsAsked}, Response.{page_response, refusal_response}}
+use Rattle.koth_http.specs.{declared.asked.Asked.Asked, declared.refusal.Refusal.Refusal, declared.target.Page.Page}
 
--- what browsers see of a hill: the names that its machine has beside its addresses and `localhost`, and the texts of its pages
+-- what browsers see of a hill: the names that its machine has beside its addresses and `localhost`, and the texts of
+-- its pages
 pub record Site : Type 1 where
   pub names : List (List ℕ)
   pub pages : Page → List ℕ → Type 0
@@ -15,8 +17,8 @@ ShowsNothing shows = (text : List ℕ) → ¬ (shows text)
 abbrev pub IsFound : {A : Type 0} → (List ℕ → Type 0) → Option (Vec ℕ A) → Type 0
 IsFound shows found = MatchOption found (ShowsNothing shows) (λ text. shows text.items)
 
--- A page that can be asked for is answered by a text that is shown of it, as not found if nothing is shown, or as unavailable if memory ran
--- out. A request that asks for no page is answered by why it doesn't.
+-- A page that can be asked for is answered by a text that is shown of it, as not found if nothing is shown, or as
+-- unavailable if memory ran out. A request that asks for no page is answered by why it doesn't.
 abbrev pub IsAnswerTo : (Page → List ℕ → Type 0) → Result Page Refusal → Bool → List ℕ → Type 0
 IsAnswerTo shows (Ok page) with_body answer =
     ((text : List ℕ) × shows page text × (answer ≡ page_response text with_body))
@@ -30,4 +32,5 @@ IsAnswer site asked answer = IsAnswerTo site.pages asked.page asked.with_body an
 -- the bytes that came of a browser are answered by what they ask
 abbrev pub AnswersBytes : Site → List ℕ → List ℕ → Type 0
 AnswersBytes site bytes answer =
-    (asked : Asked) × IsAsked site.names bytes (Some asked) × FindsAsked site.names bytes (Some asked) × IsAnswer site asked answer
+    (asked : Asked) × IsAsked site.names bytes (Some asked) × FindsAsked site.names bytes (Some asked)
+    × IsAnswer site asked answer

@@ -1,9 +1,12 @@
 -- Of private contracts alone: connections of browsers by their numbers, and how they go on.
-use Rattle.std.specs.{Prelude.{◌≡◌, ⊤, ℕ, ◌<◌, Bool, List, length, Option, None, Some, Result, Ok, Err, Vec, slice_index_or}, declared.alloc.AllocError.AllocError}
+use Rattle.std.specs.Prelude.{◌≡◌, ⊤, ℕ, ◌<◌, Bool, List, length, Option, None, Some, Result, Ok, Err, Vec}
+use Rattle.std.specs.{Prelude.slice_index_or, declared.alloc.AllocError.AllocError}
 use Rattle.{sector_disk.specs.Facts.DeviceFacts, hill_store.specs.Seen.Seen}
 use Rattle.koth_http.specs.{Asked.IsAsked, Response.{page_response, refusal_response}, declared.refusal.Refusal.Refusal}
-use Rattle.koth_service.specs.{Noted.{Adds, Noted, Stays}, Answering.{AnswersBytes, Site}, History.{Shows, Start, instead}, Standing.{GoesOn, PeersNow, peers_of}, declared.browsers.Moved.Moved}
-use Rattle.koth_service.specs.{declared.connections.Browsers.Browsers, declared.connections.Connection.Connection, declared.connections.Stage.Stage, declared.desk.Desk.Desk}
+use Rattle.koth_service.specs.{Noted.{Adds, Noted, Stays}, Answering.{AnswersBytes, Site}, Moment.{Start, instead}}
+use Rattle.koth_service.specs.{History.Shows, Standing.{GoesOn, PeersNow, peers_of}, declared.moves.Moved.Moved}
+use Rattle.koth_service.specs.{declared.connections.Browsers.Browsers, declared.connections.Connection.Connection}
+use Rattle.koth_service.specs.{declared.connections.Stage.Stage, declared.desk.Desk.Desk}
 use Rattle.koth_service.specs.declared.connections.Stage.TheVariants as stages
 
 -- ---- connections by their numbers
@@ -60,20 +63,28 @@ AnswersOnceKnown site bytes (Some answer) = AnswersBytes site bytes answer.items
 
 -- ---- how connections go on
 
--- the service goes on when the connection of this number comes from one stage to another, however the peers and the other browsers stand
-abbrev pub MovesOn : {S D A : Type 0} → (S → List Noted → Type 0) → DeviceFacts D → Shows D → Seen D → ℕ → S → Option (Stage A) → S → Option (Stage A) → Type 0
+-- the service goes on when the connection of this number comes from one stage to another, however the peers and the
+-- other browsers stand
+abbrev pub MovesOn : {S D A : Type 0} → (S → List Noted → Type 0) → DeviceFacts D → Shows D → Seen D → ℕ → S
+    → Option (Stage A) → S → Option (Stage A) → Type 0
 MovesOn {S} {D} {A} happened facts shows store n sockets stage new_sockets new_stage =
-    (start : Start D) (peers : PeersNow A) (browsers : ℕ → Option (Stage A)) → GoesOn happened facts shows start sockets peers (instead browsers n stage) store
+    (start : Start D) (peers : PeersNow A) (browsers : ℕ → Option (Stage A))
+    → GoesOn happened facts shows start sockets peers (instead browsers n stage) store
     → GoesOn happened facts shows start new_sockets peers (instead browsers n new_stage) store
 
 -- the service goes on as it did, however the peers stand
-abbrev pub BrowsersGoOn : {S D A : Type 0} → (S → List Noted → Type 0) → DeviceFacts D → Shows D → Seen D → S → Browsers A → S → Browsers A → Type 0
+abbrev pub BrowsersGoOn : {S D A : Type 0} → (S → List Noted → Type 0) → DeviceFacts D → Shows D → Seen D → S
+    → Browsers A → S → Browsers A → Type 0
 BrowsersGoOn {S} {D} {A} happened facts shows store sockets browsers new_sockets new_browsers =
-    (start : Start D) (peers : PeersNow A) → GoesOn happened facts shows start sockets peers (stage_at browsers.connections.items) store
+    (start : Start D) (peers : PeersNow A)
+    → GoesOn happened facts shows start sockets peers (stage_at browsers.connections.items) store
     → GoesOn happened facts shows start new_sockets peers (stage_at new_browsers.connections.items) store
 
 -- the service goes on as it did, for peers and browsers
-abbrev pub AllGoOn : {S D A : Type 0} → (S → List Noted → Type 0) → DeviceFacts D → Shows D → S → Desk D A → Browsers A → S → Desk D A → Browsers A → Type 0
+abbrev pub AllGoOn : {S D A : Type 0} → (S → List Noted → Type 0) → DeviceFacts D → Shows D → S → Desk D A → Browsers A
+    → S → Desk D A → Browsers A → Type 0
 AllGoOn {S} {D} {A} happened facts shows sockets desk browsers new_sockets new_desk new_browsers =
-    (start : Start D) → GoesOn happened facts shows start sockets (peers_of desk) (stage_at browsers.connections.items) desk.store
-    → GoesOn happened facts shows start new_sockets (peers_of new_desk) (stage_at new_browsers.connections.items) new_desk.store
+    (start : Start D)
+    → GoesOn happened facts shows start sockets (peers_of desk) (stage_at browsers.connections.items) desk.store
+    → GoesOn happened facts shows start new_sockets (peers_of new_desk)
+    (stage_at new_browsers.connections.items) new_desk.store

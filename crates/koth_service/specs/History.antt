@@ -1,179 +1,76 @@
--- What happens in a service: on the sockets, and the commands and answers to browsers in between.
-use Rattle.std.specs.Prelude.{◌≡◌, ⊤, ℕ, ◌+◌, ◌<◌, ◌≤◌, ◌==◌, Bool, true, false, if◌then◌else◌, List, [], ◌∷◌, ◌++◌, length, Option, None, Some}
-use Rattle.{sector_disk.specs.{Facts.DeviceFacts, Served.IsKept}, hill_store.specs.{Opened.IsOpened, Seen.Seen}, koth_protocol.specs.Commands.{Command, Reader, commands_read}}
-use Rattle.{koth_session.specs.{Sessions.{AreServed, IsLeftOff, KeepsCut, KeepsList}, Transcript.{Exchange, answer, command_in}}, koth_service.specs.{Answering.{AnswersBytes, Site}, Noted.Noted}}
-
--- Something happened on the sockets. A command of a peer was carried out, and this is the store then. The device failed in a submission of a
--- peer. The hill was opened again. Or a browser was given this answer.
-pub data Happening (D : Type 0) : Type 0 where
-  On : Noted → Happening D
-  Answered : ℕ → Exchange → Seen D → Happening D
-  CutOff : ℕ → List ℕ → Seen D → Happening D
-  Reopened : Seen D → Happening D
-  Replied : ℕ → List ℕ → Happening D
-
--- the part of a history that was on the sockets
-abbrev pub noted : {D : Type 0} → List (Happening D) → List Noted
-noted [] = []
-noted (Happening.On what ∷ older) = what ∷ noted older
-noted (Happening.Answered n e new ∷ older) = noted older
-noted (Happening.CutOff n source new ∷ older) = noted older
-noted (Happening.Reopened new ∷ older) = noted older
-noted (Happening.Replied n reply ∷ older) = noted older
-
--- how many sessions have ended: as many as sockets of peers were closed
-abbrev pub ended_in : List Noted → ℕ
-ended_in [] = 0
-ended_in (Noted.Closed n ∷ older) = ended_in older + 1
-ended_in (Noted.Seated n ∷ older) = ended_in older
-ended_in (Noted.Heard n bytes ∷ older) = ended_in older
-ended_in (Noted.Told n bytes ∷ older) = ended_in older
-ended_in (Noted.Admitted n ∷ older) = ended_in older
-ended_in (Noted.Requested n bytes ∷ older) = ended_in older
-ended_in (Noted.Shown n bytes ∷ older) = ended_in older
-ended_in (Noted.Left n ∷ older) = ended_in older
-
--- ---- how it stands then
-
--- For a peer: whether it is there, what came from it, which of its commands were carried out, what they were answered, and what went out; and
--- whether the device failed in a submission of it, after which no command of it is carried out.
-pub record Session : Type 0 where
-  pub there : Bool
-  pub came : List ℕ
-  pub done : List Command
-  pub owed : List ℕ
-  pub went : List ℕ
-  pub over : Bool
-
--- For a browser: whether it is there, what came from it, its answer once that was given, and what went out.
-pub record Browser : Type 0 where
-  pub there : Bool
-  pub came : List ℕ
-  pub reply : Option (List ℕ)
-  pub went : List ℕ
-
--- The peers and the browsers by their numbers; the store; and since it was opened last, how it was then and what was carried out.
-pub record Moment (D : Type 0) : Type 0 where
-  pub sessions : ℕ → Session
-  pub browsers : ℕ → Browser
-  pub now : Seen D
-  pub first : Seen D
-  pub since : List Exchange
-
--- a peer is there or not, and nothing came of it or went out yet
-abbrev pub session_anew : Bool → Session
-session_anew is = record { there = is; came = []; done = []; owed = []; went = []; over = false }
-
--- bytes of a peer came; a command of it was carried out, and it is owed the answer; bytes went out to it; and the device failed in a submission of it
-abbrev pub session_came : List ℕ → Session → Session
-session_came bytes s = record { there = s.there; came = s.came ++ bytes; done = s.done; owed = s.owed; went = s.went; over = s.over }
-
-abbrev pub session_answered : Command → List ℕ → Session → Session
-session_answered command reply s = record { there = s.there; came = s.came; done = s.done ++ command ∷ []; owed = s.owed ++ reply; went = s.went; over = s.over }
-
-abbrev pub session_went : List ℕ → Session → Session
-session_went bytes s = record { there = s.there; came = s.came; done = s.done; owed = s.owed; went = s.went ++ bytes; over = s.over }
-
-abbrev pub session_over : Session → Session
-session_over s = record { there = s.there; came = s.came; done = s.done; owed = s.owed; went = s.went; over = true }
-
--- a browser is there or not, and nothing came of it or went out yet
-abbrev pub browser_anew : Bool → Browser
-browser_anew is = record { there = is; came = []; reply = None; went = [] }
-
--- bytes of a browser came; it was given its answer; and bytes went out to it
-abbrev pub browser_came : List ℕ → Browser → Browser
-browser_came bytes b = record { there = b.there; came = b.came ++ bytes; reply = b.reply; went = b.went }
-
-abbrev pub browser_replied : List ℕ → Browser → Browser
-browser_replied reply b = record { there = b.there; came = b.came; reply = Some reply; went = b.went }
-
-abbrev pub browser_went : List ℕ → Browser → Browser
-browser_went bytes b = record { there = b.there; came = b.came; reply = b.reply; went = b.went ++ bytes }
-
--- how a service began: on which store, and how many peers it serves at once at most
-pub record Start (D : Type 0) : Type 0 where
-  pub store : Seen D
-  pub most : ℕ
-
-abbrev pub beginning : {D : Type 0} → Seen D → Moment D
-beginning start = record { sessions = λ p. session_anew false; browsers = λ p. browser_anew false; now = start; first = start; since = [] }
-
-abbrev pub instead : {T : Type 0} → (ℕ → T) → ℕ → T → ℕ → T
-instead f n value p = if p == n then value else f p
-
--- one peer's part, or one browser's, is another, and all else as it was
-abbrev pub with_session : {D : Type 0} → ℕ → Session → Moment D → Moment D
-with_session n session m = record { sessions = instead m.sessions n session; browsers = m.browsers; now = m.now; first = m.first; since = m.since }
-
-abbrev pub with_browser : {D : Type 0} → ℕ → Browser → Moment D → Moment D
-with_browser n browser m = record { sessions = m.sessions; browsers = instead m.browsers n browser; now = m.now; first = m.first; since = m.since }
-
--- a command was carried out on the store as it was, and its answer is owed to the peer
-abbrev pub answered : {D : Type 0} → ℕ → Exchange → Seen D → Moment D → Moment D
-answered n e new m = record {
-  sessions = instead m.sessions n (session_answered (command_in e) (answer m.now.hill e) (m.sessions n));
-  browsers = m.browsers;
-  now = new;
-  first = m.first;
-  since = m.since ++ e ∷ [];
-}
-
--- the device failed in a submission of a peer
-abbrev pub cut_off : {D : Type 0} → ℕ → Seen D → Moment D → Moment D
-cut_off n new m = record { sessions = instead m.sessions n (session_over (m.sessions n)); browsers = m.browsers; now = new; first = m.first; since = m.since }
-
-abbrev pub reopened : {D : Type 0} → Seen D → Moment D → Moment D
-reopened new m = record { sessions = m.sessions; browsers = m.browsers; now = new; first = new; since = [] }
-
-abbrev pub next : {D : Type 0} → Happening D → Moment D → Moment D
-next (Happening.On (Noted.Seated n)) m = with_session n (session_anew true) m
-next (Happening.On (Noted.Heard n bytes)) m = with_session n (session_came bytes (m.sessions n)) m
-next (Happening.On (Noted.Told n bytes)) m = with_session n (session_went bytes (m.sessions n)) m
-next (Happening.On (Noted.Closed n)) m = with_session n (session_anew false) m
-next (Happening.On (Noted.Admitted n)) m = with_browser n (browser_anew true) m
-next (Happening.On (Noted.Requested n bytes)) m = with_browser n (browser_came bytes (m.browsers n)) m
-next (Happening.On (Noted.Shown n bytes)) m = with_browser n (browser_went bytes (m.browsers n)) m
-next (Happening.On (Noted.Left n)) m = with_browser n (browser_anew false) m
-next (Happening.Answered n e new) m = answered n e new m
-next (Happening.CutOff n source new) m = cut_off n new m
-next (Happening.Reopened new) m = reopened new m
-next (Happening.Replied n reply) m = with_browser n (browser_replied reply (m.browsers n)) m
-
--- how it stands after a history, the latest first
-abbrev pub moment : {D : Type 0} → Start D → List (Happening D) → Moment D
-moment start [] = beginning start.store
-moment start (what ∷ older) = next what (moment start older)
-
--- ---- what may happen
+-- What may happen in a service.
+use Rattle.std.specs.Prelude.{◌≡◌, ◌⊎◌, ⊤, ℕ, ◌-◌, ◌<◌, ◌≤◌, true, false, List, [], ◌∷◌, ◌++◌, length}
+use Rattle.std.specs.Prelude.{Option, None, Some, IsSome}
+use Rattle.{sector_disk.specs.{Facts.DeviceFacts, Served.IsKept}, hill_store.specs.{Opened.IsOpened, Seen.Seen}}
+use Rattle.koth_protocol.specs.Commands.{Command, Reader, commands_read}
+use Rattle.koth_session.specs.{Sessions.{AreServed, IsLeftOff, KeepsCut, KeepsList}, Transcript.{Exchange, command_in}}
+use Rattle.koth_session.specs.{Peer.IsFull, Peers.ComesBefore, declared.end.PeerEnd.PeerEnd}
+use Rattle.koth_service.specs.{Answering.{AnswersBytes, Site}, Noted.Noted, Session.Session}
+use Rattle.koth_service.specs.Moment.{Happening, Moment, Start, answered, moment}
+use Rattle.koth_service.specs.declared.{host.HowEnded.HowEnded, times.TheConstants.{PATIENCE, UNSPOKEN, UNUSED}}
 
 abbrev pub Begins : {T : Type 0} → List T → List T → Type 0
 Begins {T} short long = (rest : List T) × (long ≡ short ++ rest)
 
--- No stop loses what was answered: since the store was opened the hill went on by what was carried out, and the store takes submissions. If
--- each image that a stop may leave of the device stood for the hill that some sources earn, each stands for what they and the submissions
--- answered since earn.
+-- ---- whose turn it is
+
+-- no command of it is to be carried out: its session is over, or all that came were
+abbrev pub HasNothingDue : Session → Type 0
+HasNothingDue s = IsSome s.over ⊎ (commands_read Reader.Session s.came ≡ s.done)
+
+-- The peers of which a command may be carried out at this moment: all that are there and have one due.
+abbrev pub MayBeServed : {D : Type 0} → Moment D → ℕ → Type 0
+MayBeServed m p = ((m.sessions p).there ≡ true) × ¬ (HasNothingDue (m.sessions p))
+
+-- It is this peer's turn to have this command carried out: the command is the next one in what came, and came before
+-- any request of a browser; no command ended its session; and of no peer before it, from the one served last on and
+-- going round, one may be carried out.
+pub record IsTurn {D : Type 0} (n : ℕ) (command : Command) (m : Moment D) : Type 0 where
+  pub in_turn : (reader : Reader)
+      → Begins ((m.sessions n).done ++ command ∷ []) (commands_read reader (m.sessions n).came)
+  pub goes_on : (m.sessions n).over ≡ None
+  pub first : (p : ℕ) → ComesBefore m.round.turn p n → ¬ (MayBeServed m p)
+
+-- ---- commands that are carried out
+
+-- No stop loses what was answered: since the store was opened the hill went on by what was carried out, and the store
+-- takes submissions. If each image that a stop may leave of the device stood for the hill that some sources earn,
+-- each stands for what they and the submissions answered since earn.
 pub record IsSafe {D : Type 0} (facts : DeviceFacts D) (m : Moment D) : Type 0 where
   pub served : AreServed facts m.first m.now m.since
   pub open_now : m.now.reopen ≡ false
   pub holds : KeepsList facts m.first m.now m.since
 
--- A command of this peer was carried out: it is the next one in what came, and came before any request of a browser. The device failed in no
--- submission of it. No stop loses it.
-pub record Answers {D : Type 0} (facts : DeviceFacts D) (n : ℕ) (e : Exchange) (new : Seen D) (m : Moment D) : Type 0 where
-  pub in_turn : (reader : Reader) → Begins ((m.sessions n).done ++ command_in e ∷ []) (commands_read reader (m.sessions n).came)
-  pub goes_on : (m.sessions n).over ≡ false
+-- A command of this peer was carried out in its turn. No stop loses it.
+pub record Answers {D : Type 0} (facts : DeviceFacts D) (n : ℕ) (e : Exchange) (new : Seen D)
+    (m : Moment D) : Type 0 where
+  pub turn : IsTurn n (command_in e) m
   pub served : AreServed facts m.now new (e ∷ [])
   pub safe : IsSafe facts (answered n e new m)
 
--- The device failed in a submission of this peer, and had failed in none before: each image has what was answered, with this submission or
--- without it.
-pub record Breaks {D : Type 0} (facts : DeviceFacts D) (n : ℕ) (source : List ℕ) (new : Seen D) (m : Moment D) : Type 0 where
-  pub in_turn : (reader : Reader) → Begins ((m.sessions n).done ++ Command.Submit source ∷ []) (commands_read reader (m.sessions n).came)
-  pub goes_on : (m.sessions n).over ≡ false
+-- The device failed in a submission of this peer in its turn, and had failed in none before: each image has what was
+-- answered, with this submission or without it.
+pub record Breaks {D : Type 0} (facts : DeviceFacts D) (n : ℕ) (source : List ℕ) (new : Seen D)
+    (m : Moment D) : Type 0 where
+  pub turn : IsTurn n (Command.Submit source) m
   pub left_off : IsLeftOff facts m.now new source
   pub safe : IsSafe facts m
   pub holds : KeepsCut facts m.first new m.since source
+
+-- answers of a peer that are unsent leave no room for the answer to this command
+abbrev pub HasNoRoom : {D : Type 0} → ℕ → Command → Moment D → Type 0
+HasNoRoom n command m =
+    (unsent : List ℕ) × ((m.sessions n).went ++ unsent ≡ (m.sessions n).owed) × IsFull m.now.hill command unsent
+
+-- The command whose turn it is ended its session, and was not carried out: it is `QUIT`, or its answer may have no
+-- room, or memory ran out.
+abbrev pub Stops : {D : Type 0} → ℕ → PeerEnd → Moment D → Type 0
+Stops n PeerEnd.Quit m = IsTurn n Command.Quit m
+Stops n PeerEnd.EndOfInput m = ⊥
+Stops n PeerEnd.Limit m = ⊥
+Stops n PeerEnd.Unread m = (command : Command) × IsTurn n command m × HasNoRoom n command m
+Stops n PeerEnd.StoreFailed m = ⊥
+Stops n PeerEnd.Memory m = (command : Command) × IsTurn n command m
 
 -- if a device is lawful, its hill was opened
 abbrev pub OpensAgain : {D : Type 0} → DeviceFacts D → D → Seen D → Type 0
@@ -194,32 +91,114 @@ owed_by (Some reply) = reply
 abbrev pub Shows : Type 0 → Type 1
 Shows D = Seen D → Site
 
--- A browser that is there, and had no answer, is given one: it answers what came from the browser, by what is shown of the store as it is.
--- The store's device has not failed.
+-- A browser that is there, and had no answer, is given one: it answers what came from the browser, by what is shown
+-- of the store as it is. The store's device has not failed.
 pub record Replies {D : Type 0} (shows : Shows D) (n : ℕ) (reply : List ℕ) (m : Moment D) : Type 0 where
   pub there : (m.browsers n).there ≡ true
   pub first : (m.browsers n).reply ≡ None
   pub sound : m.now.reopen ≡ false
   pub as_asked : AnswersBytes (shows m.now) (m.browsers n).came reply
 
--- What may happen then: a number that is free, and below `most`, is given to a peer; or one that is free to a browser. At most 16,777,216 bytes
--- come from a peer. What goes out to a peer is the next of what it is owed, and its commands are carried out in their order. Each browser is
--- given one answer at most, and what goes out to it is the next of that.
+-- ---- why a peer is disconnected
+
+-- all that it is owed went out
+abbrev pub HasAll : Session → Type 0
+HasAll s = s.went ≡ s.owed
+
+-- all its commands were carried out
+abbrev pub IsThrough : Session → Type 0
+IsThrough s = (reader : Reader) → commands_read reader s.came ≡ s.done
+
+-- its session has ended: by a command, or since all its commands were carried out, and no more come or may come
+abbrev pub HasEnded : Session → Type 0
+HasEnded s = IsSome s.over ⊎ (IsThrough s × ((s.at_end ≡ true) ⊎ (length s.came ≡ 16777216)))
+
+-- By the end of the last wait no byte of it had come or gone out for `PATIENCE` milliseconds, and no command of it
+-- had been carried out. None is due.
+pub record IsSilent {D : Type 0} (n : ℕ) (m : Moment D) : Type 0 where
+  pub there : (m.sessions n).there ≡ true
+  pub idle : HasNothingDue (m.sessions n)
+  pub long : PATIENCE ≤ m.round.read_at - (m.sessions n).active
+
+-- It may be disconnected for another: no command of it is due, it is not at its end, and no whole line of it came,
+-- and no command of it was carried out, for `UNUSED` milliseconds; or for `UNSPOKEN`, if no byte came.
+pub record MayBeDisplaced {D : Type 0} (m : Moment D) (n : ℕ) : Type 0 where
+  pub there : (m.sessions n).there ≡ true
+  pub idle : HasNothingDue (m.sessions n)
+  pub goes_on : ¬ (HasEnded (m.sessions n) × HasAll (m.sessions n))
+  pub long : (((m.sessions n).came ≡ []) × (UNSPOKEN ≤ m.round.clock - (m.sessions n).useful))
+      ⊎ (UNUSED ≤ m.round.clock - (m.sessions n).useful)
+
+-- All places are taken, another peer waits, and of those that may be disconnected for it this one was of use longest
+-- ago.
+pub record IsDisplaced {D : Type 0} (most n : ℕ) (m : Moment D) : Type 0 where
+  pub full : (p : ℕ) → p < most → (m.sessions p).there ≡ true
+  pub waits : m.round.waits ≡ true
+  pub may : MayBeDisplaced m n
+  pub longest : (p : ℕ) → p < most → MayBeDisplaced m p → (m.sessions n).useful ≤ (m.sessions p).useful
+
+-- the next line is a browser's request: for a session it is a bad command, and a service finds no command there
+abbrev pub AsksForPage : Session → Type 0
+AsksForPage s =
+    (commands_read Reader.Service s.came ≡ s.done)
+    × Begins (s.done ++ Command.Bad ∷ []) (commands_read Reader.Session s.came)
+
+-- Why a peer is disconnected. Its answers have all gone out, unless they had no room, it was silent or sent a
+-- browser's request, another was given its place, or it is gone.
+abbrev pub IsCause : {D : Type 0} → ℕ → ℕ → HowEnded → Moment D → Type 0
+IsCause most n (HowEnded.By PeerEnd.Quit) m = ((m.sessions n).over ≡ Some PeerEnd.Quit) × HasAll (m.sessions n)
+IsCause most n (HowEnded.By PeerEnd.EndOfInput) m =
+    ((m.sessions n).at_end ≡ true) × IsThrough (m.sessions n) × HasAll (m.sessions n)
+IsCause most n (HowEnded.By PeerEnd.Limit) m =
+    (length (m.sessions n).came ≡ 16777216) × IsThrough (m.sessions n) × HasAll (m.sessions n)
+IsCause most n (HowEnded.By PeerEnd.Unread) m = (m.sessions n).over ≡ Some PeerEnd.Unread
+IsCause most n (HowEnded.By PeerEnd.StoreFailed) m =
+    ((m.sessions n).over ≡ Some PeerEnd.StoreFailed) × HasAll (m.sessions n)
+IsCause most n (HowEnded.By PeerEnd.Memory) m = ((m.sessions n).over ≡ Some PeerEnd.Memory) × HasAll (m.sessions n)
+IsCause most n HowEnded.Silent m = IsSilent n m
+IsCause most n HowEnded.Browser m = AsksForPage (m.sessions n)
+IsCause most n HowEnded.Displaced m = IsDisplaced most n m
+IsCause most n HowEnded.Gone m = (m.sessions n).lost ≡ true
+
+-- a peer that is there may be disconnected for this cause
+abbrev pub MayDisconnect : {D : Type 0} → ℕ → ℕ → HowEnded → Moment D → Type 0
+MayDisconnect most n how m = ((m.sessions n).there ≡ true) × IsCause most n how m
+
+-- ---- what may happen then
+
+-- A number that is free, and below `most`, is given to a peer; or one that is free to a browser. At most 16,777,216
+-- bytes come from a peer. What goes out to a peer is the next of what it is owed, and its commands are carried out in
+-- their order. No wait begins while a peer that was not shut is silent for too long. A peer's writing side is shut
+-- once its session has ended and all answers went out, and its socket is closed for a cause. Each browser is given
+-- one answer at most, and what goes out to it is the next of that.
 abbrev pub Follows : {D : Type 0} → DeviceFacts D → Shows D → ℕ → Happening D → Moment D → Type 0
+Follows facts shows most (Happening.On (Noted.Clock t)) m = ⊤
+Follows facts shows most (Happening.On (Noted.Waited t)) m = (p : ℕ) → (m.sessions p).shut ≡ false → ¬ (IsSilent p m)
+Follows facts shows most (Happening.On Noted.Arrived) m = ⊤
+Follows facts shows most (Happening.On Noted.Refused) m = ⊤
 Follows facts shows most (Happening.On (Noted.Seated n)) m = ((m.sessions n).there ≡ false) × (n < most)
-Follows facts shows most (Happening.On (Noted.Heard n bytes)) m = ((m.sessions n).there ≡ true) × (length ((m.sessions n).came ++ bytes) ≤ 16777216)
-Follows facts shows most (Happening.On (Noted.Told n bytes)) m = Begins ((m.sessions n).went ++ bytes) (m.sessions n).owed
-Follows facts shows most (Happening.On (Noted.Closed n)) m = (m.sessions n).there ≡ true
+Follows facts shows most (Happening.On (Noted.Heard n bytes)) m =
+    ((m.sessions n).there ≡ true) × (length ((m.sessions n).came ++ bytes) ≤ 16777216)
+Follows facts shows most (Happening.On (Noted.AtEnd n)) m = ⊤
+Follows facts shows most (Happening.On (Noted.Told n bytes)) m =
+    Begins ((m.sessions n).went ++ bytes) (m.sessions n).owed
+Follows facts shows most (Happening.On (Noted.Shut n)) m = HasEnded (m.sessions n) × HasAll (m.sessions n)
+Follows facts shows most (Happening.On (Noted.Lost n)) m = ⊤
+Follows facts shows most (Happening.On (Noted.Closed n)) m = ⊥
 Follows facts shows most (Happening.On (Noted.Admitted n)) m = (m.browsers n).there ≡ false
 Follows facts shows most (Happening.On (Noted.Requested n bytes)) m = ⊤
-Follows facts shows most (Happening.On (Noted.Shown n bytes)) m = Begins ((m.browsers n).went ++ bytes) (owed_by (m.browsers n).reply)
+Follows facts shows most (Happening.On (Noted.Shown n bytes)) m =
+    Begins ((m.browsers n).went ++ bytes) (owed_by (m.browsers n).reply)
 Follows facts shows most (Happening.On (Noted.Left n)) m = ⊤
 Follows facts shows most (Happening.Answered n e new) m = Answers facts n e new m
+Follows facts shows most (Happening.Stopped n end) m = Stops n end m
 Follows facts shows most (Happening.CutOff n source new) m = Breaks facts n source new m
 Follows facts shows most (Happening.Reopened new) m = Reopens facts new m
+Follows facts shows most (Happening.Disconnected n how) m = MayDisconnect most n how m
 Follows facts shows most (Happening.Replied n reply) m = Replies shows n reply m
 
 -- each happening follows those before it
 abbrev pub IsHistory : {D : Type 0} → DeviceFacts D → Shows D → Start D → List (Happening D) → Type 0
 IsHistory facts shows start [] = ⊤
-IsHistory facts shows start (what ∷ older) = Follows facts shows start.most what (moment start older) × IsHistory facts shows start older
+IsHistory facts shows start (what ∷ older) =
+    Follows facts shows start.most what (moment start older) × IsHistory facts shows start older

@@ -2,12 +2,22 @@
 pub mod Noted
 -- What a browser is answered.
 pub mod Answering
--- What happens in a service: on the sockets, and the commands and answers to browsers in between.
+-- Of private contracts alone: what is kept of each peer beside its session, by the numbers of the peers.
+pub mod Seats
+-- How one peer, and one browser, stands in a service.
+pub mod Session
+-- What happens in a service: on the sockets, and the commands and answers to browsers in between. And how it stands
+-- then.
+pub mod Moment
+-- What may happen in a service.
 pub mod History
--- What the device holds during a service, in words of the sources that earn its hill, and what a service is in the life of its device.
+-- What the device holds during a service, in words of the sources that earn its hill, and what a service is in the
+-- life of its device.
 pub mod Held
 -- How the sessions of peers, the connections of browsers and the store stand by a history.
 pub mod Standing
+-- Of private contracts alone: a peer that may be disconnected for another.
+pub mod Places
 -- What a host writes of what happens.
 pub mod Told
 -- Of private contracts alone: connections of browsers by their numbers, and how they go on.

@@ -2,11 +2,21 @@
 use Rattle.std.specs.Prelude.{⊤, ℕ, ◌≤◌, List, ◌∷◌, length, take}
 use Rattle.koth_service.specs.{declared.sockets.Arrival.Arrival, declared.sockets.Came.Came, declared.sockets.Went.Went}
 
--- a peer was put under a number; bytes came from it; bytes went out to it; its socket was closed; and the same for a browser, under its number
+-- The time was told, or it was told at the end of a wait, in milliseconds. A connection was accepted that has no
+-- number yet; it was closed. A peer was put under a number; bytes came from it; its bytes are at their end; bytes
+-- went out to it; its writing side was shut; it is gone; its socket was closed. A browser was put under its number;
+-- bytes came from it; bytes went out to it; its socket was closed.
 pub data Noted : Type 0 where
+  Clock : ℕ → Noted
+  Waited : ℕ → Noted
+  Arrived : Noted
+  Refused : Noted
   Seated : ℕ → Noted
   Heard : ℕ → List ℕ → Noted
+  AtEnd : ℕ → Noted
   Told : ℕ → List ℕ → Noted
+  Shut : ℕ → Noted
+  Lost : ℕ → Noted
   Closed : ℕ → Noted
   Admitted : ℕ → Noted
   Requested : ℕ → List ℕ → Noted
@@ -21,24 +31,47 @@ Stays happened old new = (log : List Noted) → happened old log → happened ne
 abbrev pub Adds : {S : Type 0} → (S → List Noted → Type 0) → Noted → S → S → Type 0
 Adds happened what old new = (log : List Noted) → happened old log → happened new (what ∷ log)
 
+-- a connection arrives, if one came
+abbrev pub Arrives : {S : Type 0} → (S → List Noted → Type 0) → S → Arrival → S → Type 0
+Arrives happened old (Arrival.Peer address) new = Adds happened Noted.Arrived old new
+Arrives happened old Arrival.Nobody new = Stays happened old new
+Arrives happened old Arrival.Failed new = Stays happened old new
+
 -- a browser is put under the number, if one came
 abbrev pub Admits : {S : Type 0} → (S → List Noted → Type 0) → ℕ → S → Arrival → S → Type 0
 Admits happened n old (Arrival.Peer address) new = Adds happened (Noted.Admitted n) old new
 Admits happened n old Arrival.Nobody new = Stays happened old new
 Admits happened n old Arrival.Failed new = Stays happened old new
 
--- the bytes that came are added, as those of a peer or of a browser
-abbrev pub Reads : {S : Type 0} → (S → List Noted → Type 0) → (List ℕ → Noted) → S → List ℕ → Came → S → Type 0
-Reads happened heard old bytes (Came.Bytes count) new = (count ≤ length bytes) × Adds happened (heard (take count bytes)) old new
-Reads happened heard old bytes Came.End new = Stays happened old new
-Reads happened heard old bytes Came.Nothing new = Stays happened old new
-Reads happened heard old bytes Came.Gone new = Stays happened old new
+-- what a read of a peer says is added: the bytes that came, that they are at their end, or that the peer is gone
+abbrev pub Reads : {S : Type 0} → (S → List Noted → Type 0) → ℕ → S → List ℕ → Came → S → Type 0
+Reads happened n old bytes (Came.Bytes count) new =
+    (count ≤ length bytes) × Adds happened (Noted.Heard n (take count bytes)) old new
+Reads happened n old bytes Came.End new = Adds happened (Noted.AtEnd n) old new
+Reads happened n old bytes Came.Nothing new = Stays happened old new
+Reads happened n old bytes Came.Gone new = Adds happened (Noted.Lost n) old new
 
--- the bytes that went out are added, as to a peer or to a browser
-abbrev pub Writes : {S : Type 0} → (S → List Noted → Type 0) → (List ℕ → Noted) → S → List ℕ → Went → S → Type 0
-Writes happened told old bytes (Went.Bytes count) new = (count ≤ length bytes) × Adds happened (told (take count bytes)) old new
-Writes happened told old bytes Went.Nothing new = Stays happened old new
-Writes happened told old bytes Went.Gone new = Stays happened old new
+-- what a write to a peer says is added: the bytes that went out, or that the peer is gone
+abbrev pub Writes : {S : Type 0} → (S → List Noted → Type 0) → ℕ → S → List ℕ → Went → S → Type 0
+Writes happened n old bytes (Went.Bytes count) new =
+    (count ≤ length bytes) × Adds happened (Noted.Told n (take count bytes)) old new
+Writes happened n old bytes Went.Nothing new = Stays happened old new
+Writes happened n old bytes Went.Gone new = Adds happened (Noted.Lost n) old new
+
+-- the bytes that came from a browser are added
+abbrev pub ReadsBrowser : {S : Type 0} → (S → List Noted → Type 0) → ℕ → S → List ℕ → Came → S → Type 0
+ReadsBrowser happened n old bytes (Came.Bytes count) new =
+    (count ≤ length bytes) × Adds happened (Noted.Requested n (take count bytes)) old new
+ReadsBrowser happened n old bytes Came.End new = Stays happened old new
+ReadsBrowser happened n old bytes Came.Nothing new = Stays happened old new
+ReadsBrowser happened n old bytes Came.Gone new = Stays happened old new
+
+-- the bytes that went out to a browser are added
+abbrev pub WritesBrowser : {S : Type 0} → (S → List Noted → Type 0) → ℕ → S → List ℕ → Went → S → Type 0
+WritesBrowser happened n old bytes (Went.Bytes count) new =
+    (count ≤ length bytes) × Adds happened (Noted.Shown n (take count bytes)) old new
+WritesBrowser happened n old bytes Went.Nothing new = Stays happened old new
+WritesBrowser happened n old bytes Went.Gone new = Stays happened old new
 
 -- For sockets that keep no history: a read or a write counts bytes that there are.
 abbrev pub CameWithin : Came → List ℕ → Type 0

@@ -1,27 +1,55 @@
 -- How the sessions of peers, the connections of browsers and the store stand by a history.
-use Rattle.std.specs.Prelude.{◌≡◌, ⊤, ℕ, ◌≤◌, true, false, List, [], ◌++◌, length, Option, None, Some, Result, IfOk}
-use Rattle.{war_types.specs.declared.settings.RawSettings.RawSettings, sector_disk.specs.Facts.DeviceFacts, hill_store.specs.{Holding.IsHolding, Seen.Seen}}
-use Rattle.{koth_protocol.specs.Commands.Reader, koth_peers.specs.{Peer.IsPeer, Peers.{Slots, peer_at}, declared.end.PeerEnd.PeerEnd, declared.peer.Peer.Peer, declared.peers.Step.Step}}
-use Rattle.koth_service.specs.{Noted.Noted, History.{Browser, Happening, IsHistory, IsSafe, OpensAgain, Session, Shows, Start, ended_in, moment, noted, owed_by}, Held.AreHeld}
-use Rattle.koth_service.specs.{declared.connections.Stage.Stage, declared.desk.Desk.Desk}
+use Rattle.std.specs.Prelude.{◌≡◌, ◌⊎◌, ⊤, ℕ, ◌≤◌, true, false, List, [], ◌++◌, length}
+use Rattle.std.specs.Prelude.{Option, None, Some, IsSome, Result, IfOk}
+use Rattle.{war_types.specs.declared.settings.RawSettings.RawSettings, sector_disk.specs.Facts.DeviceFacts}
+use Rattle.{hill_store.specs.{Holding.IsHolding, Seen.Seen}, koth_protocol.specs.Commands.Reader}
+use Rattle.koth_session.specs.{Peer.IsPeer, Peers.{OnlyAt, Slots, is_due_in, peer_at}}
+use Rattle.koth_session.specs.declared.{end.PeerEnd.PeerEnd, peer.Peer.Peer, peers.Step.Step}
+use Rattle.koth_service.specs.{Noted.Noted, Seats.{IsPatienceOver, OnlySeat, Seats, has_some, seat_at}}
+use Rattle.koth_service.specs.Session.{Browser, Session}
+use Rattle.koth_service.specs.Moment.{Happening, Moment, Round, Start, ended_in, moment, noted}
+use Rattle.koth_service.specs.{History.{IsHistory, IsSafe, MayDisconnect, OpensAgain, Shows, owed_by}, Held.AreHeld}
+use Rattle.koth_service.specs.declared.{connections.Stage.Stage, desk.Desk.Desk}
+use Rattle.koth_service.specs.declared.{host.HowEnded.HowEnded, seats.Seat.Seat}
 
--- A peer's session read what came, as a session or a service reads it, and has what is owed and did not go out. It has ended if the device
--- failed in a submission of it.
+-- how a command ended a session that ended so: another end comes when all commands were carried out
+abbrev pub over_by : Option PeerEnd → Option PeerEnd
+over_by None = None
+over_by (Some PeerEnd.Quit) = Some PeerEnd.Quit
+over_by (Some PeerEnd.EndOfInput) = None
+over_by (Some PeerEnd.Limit) = None
+over_by (Some PeerEnd.Unread) = Some PeerEnd.Unread
+over_by (Some PeerEnd.StoreFailed) = Some PeerEnd.StoreFailed
+over_by (Some PeerEnd.Memory) = Some PeerEnd.Memory
+
+-- a peer's session read what came, as a session or a service reads it, has what is owed and did not go out, and has
+-- ended as it did
 pub record Stands {A : Type 0} (s : Session) (peer : Peer A) : Type 0 where
   pub reads : (reader : Reader) → IsPeer reader peer s.came s.done
   pub owed : s.went ++ peer.outbox.unsent ≡ s.owed
   pub there : s.there ≡ true
-  pub over : s.over ≡ true → peer.end ≡ Some PeerEnd.StoreFailed
+  pub over : s.over ≡ over_by peer.end
+  pub at_end : s.at_end ≡ peer.closed
 
-abbrev pub StandsAt : {A : Type 0} → Session → Option (Peer A) → Type 0
-StandsAt s None = s.there ≡ false
-StandsAt s (Some peer) = Stands s peer
+-- its seat tells when something of it happened last, whether a byte came, and whether its writing side was shut
+pub record IsSeatOf (s : Session) (seat : Seat) : Type 0 where
+  pub active : s.active ≡ seat.active
+  pub useful : s.useful ≡ seat.useful
+  pub spoken : seat.has_spoken ≡ has_some s.came
+  pub shut : IsSome seat.draining → s.shut ≡ true
 
-abbrev pub AreStanding : {A : Type 0} → (ℕ → Session) → Slots A → Type 0
-AreStanding sessions slots = (p : ℕ) → StandsAt (sessions p) (peer_at slots p)
+-- a peer that is there has a seat, and a number that is free has none
+abbrev pub StandsAt : {A : Type 0} → Session → Option (Peer A) → Option Seat → Type 0
+StandsAt s None None = s.there ≡ false
+StandsAt s None (Some seat) = ⊥
+StandsAt s (Some peer) None = ⊥
+StandsAt s (Some peer) (Some seat) = Stands s peer × IsSeatOf s seat
 
--- A browser's connection read what came, and was not answered; or has what is owed and did not go out; or nothing more goes out to it. A
--- number that is free has none.
+abbrev pub AreStanding : {A : Type 0} → (ℕ → Session) → Slots A → Seats → Type 0
+AreStanding sessions slots seats = (p : ℕ) → StandsAt (sessions p) (peer_at slots p) (seat_at seats p)
+
+-- A browser's connection read what came, and was not answered; or has what is owed and did not go out; or nothing
+-- more goes out to it. A number that is free has none.
 abbrev pub IsAtStage : {A : Type 0} → Browser → Option (Stage A) → Type 0
 IsAtStage b None = b.there ≡ false
 IsAtStage b (Some (Stage.Asking visit)) = b ≡ record { there = true; came = visit; reply = None; went = [] }
@@ -31,54 +59,164 @@ IsAtStage b (Some Stage.Parting) = ⊤
 abbrev pub AreAtStages : {A : Type 0} → (ℕ → Browser) → (ℕ → Option (Stage A)) → Type 0
 AreAtStages browsers at = (p : ℕ) → IsAtStage (browsers p) (at p)
 
--- the peers by their numbers, and how many sessions have ended at least
+-- the peers by their numbers with their seats; how many sessions have ended at least; the turn, the time, and when
+-- bytes were read last
 pub record PeersNow (A : Type 0) : Type 0 where
   pub slots : Slots A
+  pub seats : Seats
   pub ended : ℕ
-
-abbrev pub peers_in : {A : Type 0} → Slots A → ℕ → PeersNow A
-peers_in slots ended = record { slots = slots; ended = ended }
+  pub turn : ℕ
+  pub clock : ℕ
+  pub read_at : ℕ
 
 abbrev pub peers_of : {D A : Type 0} → Desk D A → PeersNow A
-peers_of desk = peers_in desk.peers.slots.items desk.sessions.ended
+peers_of desk = record {
+  slots = desk.peers.slots.items;
+  seats = desk.seats.seats.items;
+  ended = desk.sessions.ended;
+  turn = desk.peers.next;
+  clock = desk.clock;
+  read_at = desk.read_at;
+}
+
+-- with other sessions and seats
+abbrev pub moved_to : {A : Type 0} → Slots A → Seats → PeersNow A → PeersNow A
+moved_to slots seats peers = record {
+  slots = slots;
+  seats = seats;
+  ended = peers.ended;
+  turn = peers.turn;
+  clock = peers.clock;
+  read_at = peers.read_at;
+}
+
+-- and with the turn after this number
+abbrev pub served_to : {A : Type 0} → Slots A → Seats → ℕ → PeersNow A → PeersNow A
+served_to slots seats turn peers = record {
+  slots = slots;
+  seats = seats;
+  ended = peers.ended;
+  turn = turn;
+  clock = peers.clock;
+  read_at = peers.read_at;
+}
+
+-- at another time
+abbrev pub timed_to : {A : Type 0} → ℕ → ℕ → PeersNow A → PeersNow A
+timed_to clock read_at peers = record {
+  slots = peers.slots;
+  seats = peers.seats;
+  ended = peers.ended;
+  turn = peers.turn;
+  clock = clock;
+  read_at = read_at;
+}
+
+-- the round has the same times, and the same turn
+pub record IsRound {A : Type 0} (round : Round) (peers : PeersNow A) : Type 0 where
+  pub clock : round.clock ≡ peers.clock
+  pub read_at : round.read_at ≡ peers.read_at
+  pub turn : round.turn ≡ peers.turn
 
 -- the sessions, the connections and the store are as this history left them, and it is true of the sockets
-pub record CameToBe {S D A : Type 0} (happened : S → List Noted → Type 0) (facts : DeviceFacts D) (shows : Shows D) (start : Start D) (sockets : S) (peers : PeersNow A) (browsers : ℕ → Option (Stage A)) (store : Seen D) (history : List (Happening D)) : Type 0 where
+pub record CameToBe {S D A : Type 0} (happened : S → List Noted → Type 0) (facts : DeviceFacts D) (shows : Shows D)
+    (start : Start D) (sockets : S) (peers : PeersNow A) (browsers : ℕ → Option (Stage A)) (store : Seen D)
+    (history : List (Happening D)) : Type 0 where
   pub logged : happened sockets (noted history)
   pub follows : IsHistory facts shows start history
-  pub standing : AreStanding (moment start history).sessions peers.slots
+  pub standing : AreStanding (moment start history).sessions peers.slots peers.seats
   pub visiting : AreAtStages (moment start history).browsers browsers
   pub now_is : (moment start history).now ≡ store
-  pub seats : length peers.slots ≡ start.most
+  pub places : length peers.slots ≡ start.most
+  pub seats : length peers.seats ≡ start.most
   pub ended : peers.ended ≤ ended_in (noted history)
+  pub round : IsRound (moment start history).round peers
 
 -- as some history left them, in which the device is sound
-abbrev pub GoesOn : {S D A : Type 0} → (S → List Noted → Type 0) → DeviceFacts D → Shows D → Start D → S → PeersNow A → (ℕ → Option (Stage A)) → Seen D → Type 0
+abbrev pub GoesOn : {S D A : Type 0} → (S → List Noted → Type 0) → DeviceFacts D → Shows D → Start D → S → PeersNow A
+    → (ℕ → Option (Stage A)) → Seen D → Type 0
 GoesOn {S} {D} {A} happened facts shows start sockets peers browsers store =
-    (history : List (Happening D)) × CameToBe happened facts shows start sockets peers browsers store history × IsSafe facts (moment start history)
+    (history : List (Happening D)) × CameToBe happened facts shows start sockets peers browsers store history
+    × IsSafe facts (moment start history)
 
 -- as some history left them, and the device has failed
-abbrev pub IsCutOff : {S D A : Type 0} → (S → List Noted → Type 0) → DeviceFacts D → Shows D → Start D → S → PeersNow A → (ℕ → Option (Stage A)) → Seen D → Type 0
+abbrev pub IsCutOff : {S D A : Type 0} → (S → List Noted → Type 0) → DeviceFacts D → Shows D → Start D → S → PeersNow A
+    → (ℕ → Option (Stage A)) → Seen D → Type 0
 IsCutOff {S} {D} {A} happened facts shows start sockets peers browsers store =
-    (history : List (Happening D)) × CameToBe happened facts shows start sockets peers browsers store history × (store.reopen ≡ true)
+    (history : List (Happening D)) × CameToBe happened facts shows start sockets peers browsers store history
+    × (store.reopen ≡ true)
 
 -- the service goes on as it did, however the browsers stand
-abbrev pub KeepsOn : {S D A : Type 0} → (S → List Noted → Type 0) → DeviceFacts D → Shows D → S → Desk D A → S → Desk D A → Type 0
+abbrev pub KeepsOn : {S D A : Type 0} → (S → List Noted → Type 0) → DeviceFacts D → Shows D → S → Desk D A → S
+    → Desk D A → Type 0
 KeepsOn {S} {D} {A} happened facts shows sockets desk new_sockets new_desk =
-    (start : Start D) (browsers : ℕ → Option (Stage A)) → GoesOn happened facts shows start sockets (peers_of desk) browsers desk.store
+    (start : Start D) (browsers : ℕ → Option (Stage A))
+    → GoesOn happened facts shows start sockets (peers_of desk) browsers desk.store
     → GoesOn happened facts shows start new_sockets (peers_of new_desk) browsers new_desk.store
 
-abbrev pub StandsAfter : {S D A : Type 0} → (S → List Noted → Type 0) → DeviceFacts D → Shows D → Step → Start D → S → PeersNow A → (ℕ → Option (Stage A)) → Seen D → Type 0
-StandsAfter happened facts shows Step.Nobody start sockets peers browsers store = GoesOn happened facts shows start sockets peers browsers store
-StandsAfter happened facts shows (Step.Served n) start sockets peers browsers store = GoesOn happened facts shows start sockets peers browsers store
-StandsAfter happened facts shows (Step.Asked n) start sockets peers browsers store = GoesOn happened facts shows start sockets peers browsers store
-StandsAfter happened facts shows (Step.StoreFailed n) start sockets peers browsers store = IsCutOff happened facts shows start sockets peers browsers store
+-- the same, if this is so at the moment to which the history led
+abbrev pub KeepsOnWhere : {S D A : Type 0} → (Start D → Moment D → Type 0) → (S → List Noted → Type 0) → DeviceFacts D
+    → Shows D → S → Desk D A → S → Desk D A → Type 0
+KeepsOnWhere {S} {D} {A} P happened facts shows sockets desk new_sockets new_desk =
+    (start : Start D) (browsers : ℕ → Option (Stage A))
+    → (on : GoesOn happened facts shows start sockets (peers_of desk) browsers desk.store)
+    → P start (moment start on.0)
+    → GoesOn happened facts shows start new_sockets (peers_of new_desk) browsers new_desk.store
+
+-- if the peer of this number may be disconnected for this cause
+abbrev pub LeavesFor : {S D A : Type 0} → (S → List Noted → Type 0) → DeviceFacts D → Shows D → ℕ → HowEnded → S
+    → Desk D A → S → Desk D A → Type 0
+LeavesFor happened facts shows n how sockets desk new_sockets new_desk =
+    KeepsOnWhere (λ start m. MayDisconnect start.most n how m) happened facts shows sockets desk new_sockets new_desk
+
+-- if a connection waits for a number
+abbrev pub KeepsOnArrived : {S D A : Type 0} → (S → List Noted → Type 0) → DeviceFacts D → Shows D → S → Desk D A → S
+    → Desk D A → Type 0
+KeepsOnArrived happened facts shows sockets desk new_sockets new_desk =
+    KeepsOnWhere (λ start m. m.round.waits ≡ true) happened facts shows sockets desk new_sockets new_desk
+
+abbrev pub StandsAfter : {S D A : Type 0} → (S → List Noted → Type 0) → DeviceFacts D → Shows D → Step → Start D → S
+    → PeersNow A → (ℕ → Option (Stage A)) → Seen D → Type 0
+StandsAfter happened facts shows Step.Nobody start sockets peers browsers store =
+    GoesOn happened facts shows start sockets peers browsers store
+StandsAfter happened facts shows (Step.Served n) start sockets peers browsers store =
+    GoesOn happened facts shows start sockets peers browsers store
+StandsAfter happened facts shows (Step.Asked n) start sockets peers browsers store =
+    GoesOn happened facts shows start sockets peers browsers store
+StandsAfter happened facts shows (Step.StoreFailed n) start sockets peers browsers store =
+    IsCutOff happened facts shows start sockets peers browsers store
 
 -- the service goes on as it did, however the browsers stand, unless the device failed in this step
-abbrev pub KeepsOnBy : {S D A : Type 0} → (S → List Noted → Type 0) → DeviceFacts D → Shows D → Step → S → Desk D A → S → Desk D A → Type 0
+abbrev pub KeepsOnBy : {S D A : Type 0} → (S → List Noted → Type 0) → DeviceFacts D → Shows D → Step → S → Desk D A → S
+    → Desk D A → Type 0
 KeepsOnBy {S} {D} {A} happened facts shows step sockets desk new_sockets new_desk =
-    (start : Start D) (browsers : ℕ → Option (Stage A)) → GoesOn happened facts shows start sockets (peers_of desk) browsers desk.store
+    (start : Start D) (browsers : ℕ → Option (Stage A))
+    → GoesOn happened facts shows start sockets (peers_of desk) browsers desk.store
     → StandsAfter happened facts shows step start new_sockets (peers_of new_desk) browsers new_desk.store
+
+-- ---- one peer moves on
+
+-- no other peer and no other seat is changed, and the times are the same
+pub record OthersStay {D A : Type 0} (n : ℕ) (old new : Desk D A) : Type 0 where
+  pub slots : OnlyAt n old.peers.slots.items new.peers.slots.items
+  pub seats : OnlySeat n old.seats.seats.items new.seats.seats.items
+  pub clock : new.clock ≡ old.clock
+  pub read_at : new.read_at ≡ old.read_at
+
+-- a command of it is due, or its writing side was shut, or it was not silent for too long
+abbrev pub AwaitedIn : {A : Type 0} → ℕ → Option (Peer A) → Option Seat → Type 0
+AwaitedIn read_at slot None = ⊤
+AwaitedIn read_at slot (Some seat) =
+    (is_due_in slot ≡ true) ⊎ (IsSome seat.draining ⊎ ¬ (IsPatienceOver read_at seat.active))
+
+abbrev pub IsAwaited : {D A : Type 0} → ℕ → Desk D A → Type 0
+IsAwaited n desk = AwaitedIn desk.read_at (peer_at desk.peers.slots.items n) (seat_at desk.seats.seats.items n)
+
+-- nobody was silent for too long
+abbrev pub AreAwaited : {D A : Type 0} → Desk D A → Type 0
+AreAwaited desk = (p : ℕ) → IsAwaited p desk
+
+-- ---- the hill opened again, and the end
 
 -- the same peers, and the hill of this device opened again
 pub record IsReopened {D A : Type 0} (facts : DeviceFacts D) (old new : Desk D A) : Type 0 where
@@ -94,23 +232,28 @@ IsSoundAfter facts (Step.Asked n) old new = new ≡ old
 IsSoundAfter facts (Step.StoreFailed n) old new = IsReopened facts old new
 
 -- as many sessions have ended as were asked for
-abbrev pub HasEnded : Option ℕ → ℕ → Type 0
-HasEnded None ended = ⊥
-HasEnded (Some connections) ended = connections ≤ ended
+abbrev pub HaveEnded : Option ℕ → ℕ → Type 0
+HaveEnded None ended = ⊥
+HaveEnded (Some connections) ended = connections ≤ ended
 
--- What happened on the sockets, the commands that were carried out and the answers to browsers are a history of this start. If its store held
--- what some sources earn, the device held at each moment what they and the submissions answered by then earn. An end without a fault comes
--- once as many sessions have ended as were asked for.
-pub record IsServed {S D T F : Type 0} (happened : S → List Noted → Type 0) (facts : DeviceFacts D) (shows : Shows D) (start : Start D) (connections : Option ℕ) (result : Result T F) (sockets : S) (history : List (Happening D)) : Type 0 where
+-- What happened on the sockets, the commands that were carried out and the answers to browsers are a history of this
+-- start. If its store held what some sources earn, the device held at each moment what they and the submissions
+-- answered by then earn. An end without a fault comes once as many sessions have ended as were asked for.
+pub record IsServed {S D T F : Type 0} (happened : S → List Noted → Type 0) (facts : DeviceFacts D) (shows : Shows D)
+    (start : Start D) (connections : Option ℕ) (result : Result T F) (sockets : S)
+    (history : List (Happening D)) : Type 0 where
   pub logged : happened sockets (noted history)
   pub follows : IsHistory facts shows start history
-  pub held : (s : RawSettings) (before : List (List ℕ)) → IsHolding facts s before start.store → AreHeld facts s before start history
-  pub done : IfOk result (λ nothing. HasEnded connections (ended_in (noted history)))
+  pub held : (s : RawSettings) (before : List (List ℕ)) → IsHolding facts s before start.store
+      → AreHeld facts s before start history
+  pub done : IfOk result (λ nothing. HaveEnded connections (ended_in (noted history)))
 
 -- if nothing had happened on the sockets before
-abbrev pub ServesPeers : {S D T F : Type 0} → (S → List Noted → Type 0) → DeviceFacts D → Shows D → Start D → Option ℕ → Result T F → S → S → Type 0
+abbrev pub ServesPeers : {S D T F : Type 0} → (S → List Noted → Type 0) → DeviceFacts D → Shows D → Start D → Option ℕ
+    → Result T F → S → S → Type 0
 ServesPeers {S} {D} happened facts shows start connections result old new =
-    happened old [] → (history : List (Happening D)) × IsServed happened facts shows start connections result new history
+    happened old []
+    → (history : List (Happening D)) × IsServed happened facts shows start connections result new history
 
 -- how a service begins on this store, with room for this many peers, and on that of a desk
 abbrev pub start_of : {D : Type 0} → Seen D → ℕ → Start D
@@ -122,5 +265,10 @@ start_at desk = start_of desk.store (length desk.peers.slots.items)
 -- nobody is at the desk yet, and its store takes submissions
 pub record IsBegun {D A : Type 0} (desk : Desk D A) : Type 0 where
   pub nobody : (p : ℕ) → peer_at desk.peers.slots.items p ≡ None
+  pub no_seats : (p : ℕ) → seat_at desk.seats.seats.items p ≡ None
+  pub places : length desk.seats.seats.items ≡ length desk.peers.slots.items
   pub ended : desk.sessions.ended ≡ 0
+  pub turn : desk.peers.next ≡ 0
+  pub clock : desk.clock ≡ 0
+  pub read_at : desk.read_at ≡ 0
   pub sound : desk.store.reopen ≡ false

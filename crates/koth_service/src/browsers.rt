@@ -2,13 +2,12 @@
 //! Each function says so of the connections that it moves, however the peers and the other browsers stand.
 #![tactic(auto, using(crate::proofs::Told::stays))]
 
-ghost use Rattle.{std.specs.Prelude.{[], None, Some}, hill_store.specs.Seen.Seen};
+ghost use Rattle.{std.specs.Prelude.[], hill_store.specs.Seen.Seen};
 ghost use Rattle.koth_service.specs.Connections.{
   BrowsersGoOn,
   ClosesUnless,
   ComesTo,
   IsFree,
-  MovesOn,
   StaysAt,
   stage_after,
   stage_in,
@@ -16,35 +15,16 @@ ghost use Rattle.koth_service.specs.Connections.{
 ghost use Rattle.koth_service.specs.Told.{Grows};
 ghost use Rattle.koth_service.specs.declared.connections.Stage.TheVariants as stages;
 
-use crate::answering::answer_visit;
 use crate::connections::{Browsers, Connection, Stage};
 use crate::host::{Event, Host};
-use crate::sockets::{Arrival, Came, Sockets, Went};
-use crate::unsent::Unsent;
+use crate::log::LogWrite;
+use crate::moves::{Moved, after_stage};
+use crate::sockets::{Arrival, Sockets};
 use hill_store::Store;
 use koth_http::{Visit, status_of};
 use sector_disk::Device;
 use std::alloc::{AllocError, Allocator};
-use std::io::Write;
 use std::net::SocketAddr;
-
-/// The most bytes that one read takes.
-const CHUNK: usize = 4096;
-
-/// What became of a connection.
-#[derive(Drop)]
-pub(crate) enum Moved<A: Allocator> {
-    /// What came is answered so, and none of that went out yet.
-    Answered(Visit<A>, Unsent<A>),
-    /// It went on to its next stage.
-    Next(Stage<A>),
-    /// It is at the same stage, and something came or went.
-    On(Stage<A>),
-    /// It is at the same stage, and nothing came or went.
-    Still(Stage<A>),
-    /// It has ended.
-    Over,
-}
 
 /// What a round of browsers leaves to the next one.
 #[derive(Clone, Copy)]
@@ -57,7 +37,13 @@ pub(crate) struct BrowsersRound {
 
 /// Takes a connection of a browser that waits, and moves each connection on. One request is answered at most: the others wait for their
 /// turn, since a page takes time in which no peer is served. The host reports that request.
-pub(crate) fn serve_browsers<S: Sockets, D: Device, A: Allocator + Copy, H: Host<D, A>, E: Write>(
+pub(crate) fn serve_browsers<
+    S: Sockets,
+    D: Device,
+    A: Allocator + Copy,
+    H: Host<D, A>,
+    E: LogWrite,
+>(
     browsers: &mut Browsers<A>,
     sockets: &mut S,
     store: &Store<D, A>,
@@ -150,7 +136,7 @@ fn settle<S: Sockets, A: Allocator>(
 }
 
 /// Moves the connection of this number on, if there is one, and returns whether anything came or went.
-fn move_on<S: Sockets, D: Device, A: Allocator + Copy, H: Host<D, A>, E: Write>(
+fn move_on<S: Sockets, D: Device, A: Allocator + Copy, H: Host<D, A>, E: LogWrite>(
     browsers: &mut Browsers<A>,
     sockets: &mut S,
     store: &Store<D, A>,
@@ -180,7 +166,7 @@ fn move_on<S: Sockets, D: Device, A: Allocator + Copy, H: Host<D, A>, E: Write>(
 }
 
 /// Has the host report the request that was answered in this move, if one was.
-fn tell_request<D: Device, A: Allocator + Copy, H: Host<D, A>, E: Write>(
+fn tell_request<D: Device, A: Allocator + Copy, H: Host<D, A>, E: LogWrite>(
     moved: &Moved<A>,
     address: SocketAddr,
     host: &H,
@@ -232,89 +218,5 @@ fn kept_after<A: Allocator>(
         }
         .in_time(now),
         Moved::Over => None,
-    }
-}
-
-/// What becomes of a connection at this stage.
-fn after_stage<S: Sockets, D: Device, A: Allocator + Copy, H: Host<D, A>>(
-    alloc: A,
-    sockets: &mut S,
-    store: &Store<D, A>,
-    host: &H,
-    number: usize,
-    stage: Stage<A>,
-) -> Moved<A>
-    ensures { MovesOn S.happened D.facts (H.shows host.now) store.now number sockets.old (Some stage) sockets.new (Some (stage_after result)) }
-{
-    match stage {
-        Stage::Asking(visit) => read(alloc, sockets, store, host, number, visit),
-        Stage::Answering(unsent) => write::<S, D, A, H>(sockets, number, unsent),
-        Stage::Parting => drain::<S, D, A, H>(sockets, number),
-    }
-}
-
-/// Reads what comes of a request, and answers the request once it is whole.
-fn read<S: Sockets, D: Device, A: Allocator + Copy, H: Host<D, A>>(
-    alloc: A,
-    sockets: &mut S,
-    store: &Store<D, A>,
-    host: &H,
-    number: usize,
-    visit: Visit<A>,
-) -> Moved<A>
-    ensures { MovesOn S.happened D.facts (H.shows host.now) store.now number sockets.old (Some (stages.Asking visit)) sockets.new (Some (stage_after result)) }
-{
-    let mut visit = visit;
-    let mut chunk = [0; CHUNK];
-    let bytes = &mut chunk[..visit.room().min(CHUNK)];
-    match sockets.read_browser(number, bytes) {
-        Came::Bytes(count) => {
-            visit.take(&bytes[..count]);
-            match answer_visit(alloc, store, host, &visit) {
-                Ok(Some(answer)) => Moved::Answered(visit, Unsent::new(answer)),
-                Ok(None) => Moved::On(Stage::Asking(visit)),
-                Err(AllocError) => Moved::Over,
-            }
-        }
-        Came::Nothing => Moved::Still(Stage::Asking(visit)),
-        Came::End | Came::Gone => Moved::Over,
-    }
-}
-
-/// Sends what the browser takes of its answer.
-fn write<S: Sockets, D: Device, A: Allocator, H: Host<D, A>>(
-    sockets: &mut S,
-    number: usize,
-    unsent: Unsent<A>,
-) -> Moved<A>
-    ensures { (store : Seen D) (host : H) → MovesOn S.happened D.facts (H.shows host) store number sockets.old (Some (stages.Answering unsent)) sockets.new (Some (stage_after result)) }
-{
-    let mut unsent = unsent;
-    let bytes = unsent.as_slice();
-    if bytes.is_empty() {
-        sockets.shut_browser(number);
-        return Moved::Next(Stage::Parting);
-    }
-    match sockets.write_browser(number, bytes) {
-        Went::Bytes(count) => {
-            unsent.pass(count);
-            Moved::On(Stage::Answering(unsent))
-        }
-        Went::Nothing => Moved::Still(Stage::Answering(unsent)),
-        Went::Gone => Moved::Over,
-    }
-}
-
-/// Throws away what still comes.
-fn drain<S: Sockets, D: Device, A: Allocator, H: Host<D, A>>(
-    sockets: &mut S,
-    number: usize,
-) -> Moved<A>
-    ensures { (store : Seen D) (host : H) → MovesOn S.happened D.facts (H.shows host) store number sockets.old (Some stages.Parting) sockets.new (Some (stage_after result)) }
-{
-    let mut chunk = [0; CHUNK];
-    match sockets.read_browser(number, &mut chunk) {
-        Came::Bytes(_) | Came::Nothing => Moved::Still(Stage::Parting),
-        Came::End | Came::Gone => Moved::Over,
     }
 }

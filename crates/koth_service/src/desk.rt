@@ -2,20 +2,23 @@
 #![tactic(auto, using(crate::proofs::Told::stays))]
 
 ghost use Rattle.std.specs.Prelude.{◌≡◌, ◌≢◌, ℕ, ◌+◌, ◌≤◌, length, true, false, None, IfOk};
-ghost use Rattle.{koth_peers.specs.Peers.peer_at, koth_service.specs.{Standing.{HasEnded, IsBegun, KeepsOn, start_at, start_of}, Told.Grows}};
+ghost use Rattle.koth_session.specs.Peers.{peer_at};
+ghost use Rattle.koth_service.specs.{Seats.seat_at, Standing.{HaveEnded, IsBegun, LeavesFor, OthersStay, start_at, start_of}, Told.Grows};
 
 use crate::host::{Event, Host, HowEnded};
+use crate::limits::Limits;
+use crate::log::LogWrite;
 use crate::seats::Seats;
 use crate::sockets::Sockets;
 use hill_store::Store;
-use koth_peers::Peers;
+use koth_session::Peers;
 use sector_disk::Device;
 use std::alloc::{AllocError, Allocator};
-use std::io::Write;
 
 /// The sessions of peers on a store, and what the service knows of them.
 #[derive(Drop)]
 pub(crate) struct Desk<D: Device, A: Allocator + Copy> {
+    pub(crate) limits: Limits,
     pub(crate) peers: Peers<A>,
     pub(crate) store: Store<D, A>,
     pub(crate) seats: Seats<A>,
@@ -24,6 +27,8 @@ pub(crate) struct Desk<D: Device, A: Allocator + Copy> {
     pub(crate) is_busy: bool,
     /// Whether an accept failed in this round, of a peer or of a browser.
     pub(crate) retries: bool,
+    /// The time that was told last, in milliseconds.
+    pub(crate) clock: u64,
     /// When the bytes that had come from the peers were read last, in milliseconds.
     pub(crate) read_at: u64,
 }
@@ -36,16 +41,14 @@ pub(crate) struct Sessions {
 }
 
 impl Sessions {
-    /// Whether another session may begin, if `at_once` may be at once, and `connections` are asked for in all.
-    pub(crate) fn may_begin(&self, at_once: usize, connections: Option<u32>) -> bool {
-        let there = self.begun.saturating_sub(self.ended);
-        let has_room = usize::try_from(there).is_ok_and(|there| there < at_once);
-        has_room && connections.is_none_or(|connections| self.begun < u64::from(connections))
+    /// Whether as many have begun as are asked for.
+    pub(crate) fn have_begun(&self, connections: Option<u32>) -> bool {
+        connections.is_some_and(|connections| self.begun >= u64::from(connections))
     }
 
     /// Whether as many have ended as are asked for.
     pub(crate) fn are_done(&self, connections: Option<u32>) -> bool
-        ensures { result ≡ true → HasEnded connections self.now.ended }
+        ensures { result ≡ true → HaveEnded connections self.now.ended }
     {
         match connections {
             Some(connections) => self.ended >= u64::from(connections),
@@ -67,42 +70,52 @@ impl Sessions {
 }
 
 impl<D: Device, A: Allocator + Copy> Desk<D, A> {
-    /// No peers yet, and room for `most` at once. `AllocError` comes if a growth of memory is refused.
-    pub(crate) fn new(alloc: A, most: usize, store: Store<D, A>) -> Result<Desk<D, A>, AllocError>
+    /// No peers yet, and room for as many as these limits allow. `AllocError` comes if a growth of memory is refused.
+    pub(crate) fn new(
+        alloc: A,
+        limits: Limits,
+        store: Store<D, A>,
+    ) -> Result<Desk<D, A>, AllocError>
     where
         D: Drop,
         requires { store.reopen ≡ false }
         ensures begun { IfOk result IsBegun }
-        ensures start { IfOk result (λ desk. start_at desk ≡ start_of store most) }
+        ensures start { IfOk result (λ desk. start_at desk ≡ start_of store limits.peers) }
+        ensures limits { IfOk result (λ desk. desk.limits ≡ limits) }
     {
-        match Peers::new(alloc, most) {
-            Ok(peers) => Desk::seated(alloc, most, peers, store),
+        match Peers::new(alloc, limits.peers) {
+            Ok(peers) => Desk::seated(alloc, limits, peers, store),
             Err(error) => Err(error),
         }
     }
 
-    /// These peers, none of whom is there yet, with `most` seats.
+    /// These peers, none of whom is there yet, with a seat for each.
     fn seated(
         alloc: A,
-        most: usize,
+        limits: Limits,
         peers: Peers<A>,
         store: Store<D, A>,
     ) -> Result<Desk<D, A>, AllocError>
     where
         D: Drop,
         requires nobody { (p : ℕ) → peer_at peers.slots.items p ≡ None }
+        requires most { length peers.slots.items ≡ limits.peers }
+        requires next { peers.next ≡ 0 }
         requires sound { store.reopen ≡ false }
         ensures begun { IfOk result IsBegun }
         ensures start { IfOk result (λ desk. start_at desk ≡ start_of store (length peers.slots.items)) }
+        ensures limits { IfOk result (λ desk. desk.limits ≡ limits) }
     {
-        match Seats::new(alloc, most) {
+        match Seats::new(alloc, limits.peers) {
             Ok(seats) => Ok(Desk {
+                limits,
                 peers,
                 store,
                 seats,
                 sessions: Sessions { begun: 0, ended: 0 },
                 is_busy: false,
                 retries: false,
+                clock: 0,
                 read_at: 0,
             }),
             Err(error) => Err(error),
@@ -111,7 +124,7 @@ impl<D: Device, A: Allocator + Copy> Desk<D, A> {
 }
 
 /// Disconnects a peer, however its session stands: its socket is closed, and its number is free.
-pub(crate) fn let_go<S: Sockets, D: Device, A: Allocator + Copy, H: Host<D, A>, E: Write>(
+pub(crate) fn let_go<S: Sockets, D: Device, A: Allocator + Copy, H: Host<D, A>, E: LogWrite>(
     desk: &mut Desk<D, A>,
     sockets: &mut S,
     host: &H,
@@ -119,17 +132,18 @@ pub(crate) fn let_go<S: Sockets, D: Device, A: Allocator + Copy, H: Host<D, A>, 
     number: usize,
     how: HowEnded,
 )
-    requires { peer_at desk.old.peers.slots.items number ≢ None }
-    ensures served { KeepsOn S.happened D.facts (H.shows host.now) sockets.old desk.old sockets.new desk.new }
+    ensures served { LeavesFor S.happened D.facts (H.shows host.now) number how sockets.old desk.old sockets.new desk.new }
+    ensures others { OthersStay number desk.old desk.new }
+    ensures free { seat_at desk.new.seats.seats.items number ≡ None }
     ensures told { Grows (E.contents errors.old) (E.contents errors.new) }
 {
-    let Some(seat) = desk.seats.at(number) else {
-        return;
-    };
+    let address = desk.seats.at(number).map(|seat| seat.address);
     sockets.close(number);
     desk.peers.leave(number);
     desk.seats.leave(number);
     desk.sessions.end();
     desk.is_busy = true;
-    host.tell(seat.address, Event::Ended(how), errors);
+    if let Some(address) = address {
+        host.tell(address, Event::Ended(how), errors);
+    }
 }

@@ -3,12 +3,12 @@
 ghost use Rattle.std.specs.Prelude.{◌≡◌, map, false, IfOk};
 ghost use Rattle.{hill_store.specs.Seen.Seen, koth_service.specs.{Answering.{IsFound, Site}, History.OpensAgain, Told.Grows}};
 
-use hill_store::Store;
+use crate::log::LogWrite;
+use hill_store::{Reply, Store};
 use koth_http::Page;
-use koth_peers::PeerEnd;
+use koth_session::PeerEnd;
 use sector_disk::Device;
 use std::alloc::{AllocError, Allocator};
-use std::io::Write;
 use std::net::SocketAddr;
 
 /// How a peer's session ended.
@@ -20,6 +20,8 @@ pub enum HowEnded {
     Silent,
     /// The peer sent a request of HTTP in place of a command.
     Browser,
+    /// All places were taken and another peer waited: of the peers without a command that is due this one had gone longest without a whole line.
+    Displaced,
     /// The peer is gone.
     Gone,
 }
@@ -29,10 +31,12 @@ pub enum HowEnded {
 pub enum Event<'t> {
     /// It has connected.
     Connected,
-    /// It was answered this line to a submission, without the line feed at its end.
-    Answered(&'t [u8]),
+    /// A submission of it was answered so.
+    Answered(Reply),
     /// Its session has ended, and its socket is closed.
     Ended(HowEnded),
+    /// It was not served, since as many peers of its address are there as may be.
+    Refused,
     /// It is a browser, and its request is answered so. None of the answer went out yet.
     Asked {
         /// The first line of the request, without its end.
@@ -66,6 +70,6 @@ pub trait Host<D: Device, A: Allocator> {
         ensures { IfOk result (IsFound ((Self.shows self.now store.now).pages page)) };
 
     /// Reports what happened with the peer or the browser of this address, as far as it is to be reported.
-    fn tell<E: Write>(&self, peer: SocketAddr, event: Event<'_>, errors: &mut E)
+    fn tell<E: LogWrite>(&self, peer: SocketAddr, event: Event<'_>, errors: &mut E)
         ensures { Grows (E.contents errors.old) (E.contents errors.new) };
 }

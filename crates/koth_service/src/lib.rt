@@ -1,4 +1,4 @@
-//! The service of many peers at once: bytes go from sockets that don't wait to the sessions of `koth_peers`, and their answers back. Browsers
+//! The service of many peers at once: bytes go from sockets that don't wait to the sessions of `koth_session`, and their answers back. Browsers
 //! see the hill beside them.
 //!
 //! It knows sockets, a clock and a host through two traits, and nothing of the system: `koth_sockets` has its sockets. The modules, in the
@@ -6,14 +6,18 @@
 //!
 //! - `sockets`: what sockets may say, and what happened on them;
 //! - `host`: who reports what happens, and opens the hill again;
+//! - `log`: an output that takes these reports without waiting;
+//! - `limits`: how many are served;
 //! - `times` and `seats`: how long a peer is waited for, and what is kept of each beside its session;
 //! - `desk`: the peers, the store and the seats; `arrivals`, `reading`, `serving`, `sending` and `parting` move one peer on it;
-//! - `unsent`, `connections`, `answering` and `browsers`: connections of browsers, what they are answered, by `koth_http`, and how that goes out;
+//! - `unsent`, `connections`, `answering`, `moves` and `browsers`: connections of browsers, what they are answered, by `koth_http`, and how that goes out;
 //! - `service`: round after round of them, until as many sessions as are asked for have ended.
 //!
 //! The main clause: whatever the sockets say, there is a history (`IsHistory`) of what happened on them, of the commands that were carried
 //! out in between, and of the answers to browsers. In it each peer's commands are carried out in the order in which they came, and none that
-//! came after a browser's request; each is answered on the hill that stood then. What goes out to a peer is the next of what it was answered.
+//! came after a browser's request, and no peer before it has one that may be carried out (`IsTurn`); each is answered on the hill that stood
+//! then. What goes out to a peer is the next of what it was answered. A peer is disconnected for a cause that the history has (`IsCause`), and
+//! has all its answers before, unless they had no room, it was silent, it asked for a page, its place was given to another, or it is gone.
 //! The hill is opened again only after the device failed in a submission, from that device, and nothing more of that peer is carried out. At
 //! each moment every image that a stop may leave of the device stands for what the submissions that were answered earn (`AreHeld`). Each
 //! browser is answered at most once, as the bytes that came from it ask, by what the host shows of the hill that stood then. What goes out to it
@@ -30,6 +34,9 @@ mod connections;
 mod desk;
 mod host;
 mod laws;
+mod limits;
+mod log;
+mod moves;
 mod parting;
 mod reading;
 mod seats;
@@ -41,8 +48,10 @@ mod times;
 mod unsent;
 
 pub use host::{Event, Host, HowEnded};
-pub use koth_peers::PeerEnd;
+pub use koth_session::PeerEnd;
 pub use laws::services_in_lives;
+pub use limits::Limits;
+pub use log::LogWrite;
 pub use service::{ServiceFault, serve_peers};
 pub use sockets::{Arrival, Came, Drained, Sockets, Went};
-pub use times::{ANSWERING, ASKING, DRAIN, DRAINED_MOST, PATIENCE, RETRY};
+pub use times::{ANSWERING, ASKING, DRAIN, DRAINED_MOST, PATIENCE, RETRY, UNSPOKEN, UNUSED};

@@ -1,37 +1,84 @@
-//! What is kept of each peer beside its session.
+//! What is kept of each peer beside its session. Times are in milliseconds, by the clock of the sockets.
 
-ghost use Rattle.std.specs.Prelude.{◌≡◌, ◌↔◌, ◌-◌, ◌≤◌, IsTrue};
+ghost use Rattle.std.specs.Prelude.{◌≡◌, ◌↔◌, ◌-◌, ◌≤◌, ◌<◌, ℕ, IsTrue, IfOk, None, Some, length, option_copied};
+ghost use Rattle.koth_service.specs.Seats.{
+  seat_at,
+  seat_drained,
+  seat_heard,
+  seat_map,
+  seat_new,
+  seat_served,
+  seat_told,
+  IsPatienceOver,
+  IsUnused,
+  OnlySeat,
+  SeatMoves,
+};
 
-use crate::times::{DRAIN, PATIENCE};
+use crate::times::{DRAIN, PATIENCE, UNSPOKEN, UNUSED};
 use std::alloc::{AllocError, Allocator};
-use std::net::SocketAddr;
+use std::net::{IpAddr, SocketAddr};
 
-/// A peer's address, and how long it was silent.
+/// What is known of a peer.
 #[derive(Clone, Copy)]
 pub(crate) struct Seat {
     pub(crate) address: SocketAddr,
-    /// When something came or went last, or a command was carried out, or the writing side was shut, in milliseconds.
+    /// When it was seated, a byte of it came or went, or a command of it was carried out, whichever was last.
+    pub(crate) active: u64,
+    /// When it was seated, a whole line of it came, or a command of it was carried out, whichever was last.
+    pub(crate) useful: u64,
+    /// Whether a byte of it came.
+    pub(crate) has_spoken: bool,
+    /// What is thrown away, if the writing side is shut.
+    pub(crate) draining: Option<Draining>,
+}
+
+/// What still comes of a peer whose writing side is shut.
+#[derive(Clone, Copy)]
+pub(crate) struct Draining {
+    /// When the writing side was shut.
     pub(crate) since: u64,
-    /// The number of bytes that were thrown away since the writing side was shut, if it was.
-    pub(crate) drained: Option<usize>,
+    /// How many bytes were thrown away.
+    pub(crate) count: usize,
 }
 
 impl Seat {
-    /// Whether at least `milliseconds` have passed since something came or went.
-    pub(crate) fn has_passed(&self, now: u64, milliseconds: u64) -> bool
-        ensures { IsTrue result ↔ (milliseconds ≤ now - self.now.since) }
+    /// Whether no byte came or went, and no command was carried out, for as long as a peer may be silent.
+    pub(crate) fn is_patience_over(&self, now: u64) -> bool
+        ensures { IsTrue result ↔ IsPatienceOver now self.now.active }
     {
-        now.saturating_sub(self.since) >= milliseconds
+        now.saturating_sub(self.active) >= PATIENCE
+    }
+
+    /// Whether the peer may be disconnected for another, if no command of it is due.
+    pub(crate) fn is_unused(&self, now: u64) -> bool
+        ensures { IsTrue result ↔ IsUnused now self.now.has_spoken self.now.useful }
+    {
+        let passed = now.saturating_sub(self.useful);
+        (!self.has_spoken && passed >= UNSPOKEN) || passed >= UNUSED
     }
 
     /// Milliseconds until the peer has been waited for as long as it may be.
     fn until(&self, now: u64) -> u64 {
-        let patience = match self.drained {
-            Some(_) => DRAIN,
-            None => PATIENCE,
-        };
-        patience.saturating_sub(now.saturating_sub(self.since))
+        match self.draining {
+            Some(draining) => left(now, draining.since, DRAIN),
+            None => left(now, self.active, PATIENCE),
+        }
     }
+
+    /// Milliseconds until the peer may be disconnected for another; `UNUSED` if it may be already.
+    fn until_unused(&self, now: u64) -> u64 {
+        let most = if self.has_spoken { UNUSED } else { UNSPOKEN };
+        match left(now, self.useful, most) {
+            0 => UNUSED,
+            left => left,
+        }
+    }
+}
+
+/// What is left of `most` milliseconds since a moment.
+fn left(now: u64, since: u64, most: u64) -> u64 {
+    most.saturating_sub(now.saturating_sub(since))
 }
 
 /// Seats by the numbers of the peers.
@@ -42,87 +89,164 @@ pub(crate) struct Seats<A: Allocator> {
 
 impl<A: Allocator> Seats<A> {
     /// `most` free seats. `AllocError` comes if the growth of memory is refused.
-    pub(crate) fn new(alloc: A, most: usize) -> Result<Seats<A>, AllocError> {
+    pub(crate) fn new(alloc: A, most: usize) -> Result<Seats<A>, AllocError>
+        ensures free { IfOk result (λ seats. (p : ℕ) → seat_at seats.seats.items p ≡ None) }
+        ensures most { IfOk result (λ seats. length seats.seats.items ≡ most) }
+    {
         Ok(Seats {
             seats: Vec::from_elem(alloc, None, most)?,
         })
     }
 
     /// How many seats there are.
-    pub(crate) fn len(&self) -> usize {
+    pub(crate) fn len(&self) -> usize
+        ensures { result ≡ length self.now.seats.items }
+    {
         self.seats.len()
     }
 
     /// The seat of this number, if a peer has it.
-    pub(crate) fn at(&self, number: usize) -> Option<Seat> {
-        self.seats.get(number).copied().flatten()
+    pub(crate) fn at(&self, number: usize) -> Option<Seat>
+        ensures { result ≡ seat_at self.now.seats.items number }
+    {
+        if number < self.seats.len() {
+            self.seats[number]
+        } else {
+            None
+        }
     }
 
-    /// Puts a peer on a seat.
-    pub(crate) fn sit(&mut self, number: usize, address: SocketAddr, now: u64) {
-        self.put(
-            number,
-            Some(Seat {
+    /// How many peers have an address of this host.
+    pub(crate) fn count_of(&self, host: IpAddr) -> u32 {
+        let mut count: u32 = 0;
+        for seat in &self.seats {
+            if let Some(seat) = seat {
+                if seat.address.ip() == host {
+                    count = count.saturating_add(1);
+                }
+            }
+        }
+        count
+    }
+
+    /// Puts a peer on a seat, if there is one of this number.
+    pub(crate) fn sit(&mut self, number: usize, address: SocketAddr, now: u64)
+        ensures only { OnlySeat number self.old.seats.items self.new.seats.items }
+        ensures at { number < length self.old.seats.items → seat_at self.new.seats.items number ≡ Some (seat_new address now) }
+    {
+        if number < self.seats.len() {
+            self.seats[number] = Some(Seat {
                 address,
-                since: now,
-                drained: None,
-            }),
-        );
+                active: now,
+                useful: now,
+                has_spoken: false,
+                draining: None,
+            });
+        }
     }
 
     /// The seat is free.
-    pub(crate) fn leave(&mut self, number: usize) {
-        self.put(number, None);
-    }
-
-    /// Bytes of this peer came or went, or a command of it was carried out.
-    pub(crate) fn stir(&mut self, number: usize, now: u64) {
-        if let Some(seat) = self.at(number) {
-            self.put(number, Some(Seat { since: now, ..seat }));
+    pub(crate) fn leave(&mut self, number: usize)
+        ensures only { OnlySeat number self.old.seats.items self.new.seats.items }
+        ensures at { seat_at self.new.seats.items number ≡ None }
+    {
+        if number < self.seats.len() {
+            self.seats[number] = None;
         }
     }
 
-    /// The writing side of this peer is shut, and what still comes is thrown away.
-    pub(crate) fn shut(&mut self, number: usize, now: u64) {
-        if let Some(seat) = self.at(number) {
-            self.put(
-                number,
-                Some(Seat {
-                    since: now,
-                    drained: Some(0),
-                    ..seat
-                }),
-            );
+    /// These bytes of this peer came.
+    pub(crate) fn hear(&mut self, number: usize, bytes: &[u8], now: u64)
+        ensures { SeatMoves (seat_heard bytes.now now) number self.old.seats.items self.new.seats.items }
+    {
+        if number < self.seats.len() {
+            hear_in(&mut self.seats[number], bytes, now);
         }
     }
 
-    /// `count` bytes of this peer were thrown away in all.
-    pub(crate) fn drained(&mut self, number: usize, count: usize) {
-        if let Some(seat) = self.at(number) {
-            self.put(
-                number,
-                Some(Seat {
-                    drained: Some(count),
-                    ..seat
-                }),
-            );
+    /// Answers went out to this peer.
+    pub(crate) fn tell(&mut self, number: usize, now: u64)
+        ensures { SeatMoves (seat_told now) number self.old.seats.items self.new.seats.items }
+    {
+        if number < self.seats.len() {
+            tell_in(&mut self.seats[number], now);
         }
     }
 
-    /// Milliseconds until the first peer has been waited for as long as it may be, and no more than a peer may be silent.
+    /// A command of this peer was carried out, or ended its session.
+    pub(crate) fn serve(&mut self, number: usize, now: u64)
+        ensures { SeatMoves (seat_served now) number self.old.seats.items self.new.seats.items }
+    {
+        if number < self.seats.len() {
+            serve_in(&mut self.seats[number], now);
+        }
+    }
+
+    /// What still comes of this peer is thrown away.
+    pub(crate) fn drain(&mut self, number: usize, draining: Draining)
+        ensures { SeatMoves (seat_drained draining) number self.old.seats.items self.new.seats.items }
+    {
+        if number < self.seats.len() {
+            drain_in(&mut self.seats[number], draining);
+        }
+    }
+
+    /// Milliseconds until the first peer has been waited for as long as it may be, and no more than a peer may be silent. If no seat is free,
+    /// it is no longer than until the first peer may be disconnected for another.
     pub(crate) fn until(&self, now: u64) -> u64 {
         let mut least = PATIENCE;
+        let mut first_unused = PATIENCE;
+        let mut is_full = true;
         for seat in &self.seats {
-            if let Some(seat) = seat {
-                least = least.min(seat.until(now));
+            match seat {
+                Some(seat) => {
+                    least = least.min(seat.until(now));
+                    first_unused = first_unused.min(seat.until_unused(now));
+                }
+                None => is_full = false,
             }
         }
-        least
-    }
-
-    fn put(&mut self, number: usize, seat: Option<Seat>) {
-        if let Some(place) = self.seats.get_mut(number) {
-            *place = seat;
+        if is_full {
+            least.min(first_unused)
+        } else {
+            least
         }
+    }
+}
+
+fn hear_in(seat: &mut Option<Seat>, bytes: &[u8], now: u64)
+    ensures { seat.new ≡ seat_map (seat_heard bytes.now now) seat.old }
+{
+    if let Some(seat) = seat {
+        seat.active = now;
+        seat.has_spoken = seat.has_spoken || !bytes.is_empty();
+        if bytes.contains(&b'\n') {
+            seat.useful = now;
+        }
+    }
+}
+
+fn tell_in(seat: &mut Option<Seat>, now: u64)
+    ensures { seat.new ≡ seat_map (seat_told now) seat.old }
+{
+    if let Some(seat) = seat {
+        seat.active = now;
+    }
+}
+
+fn serve_in(seat: &mut Option<Seat>, now: u64)
+    ensures { seat.new ≡ seat_map (seat_served now) seat.old }
+{
+    if let Some(seat) = seat {
+        seat.active = now;
+        seat.useful = now;
+    }
+}
+
+fn drain_in(seat: &mut Option<Seat>, draining: Draining)
+    ensures { seat.new ≡ seat_map (seat_drained draining) seat.old }
+{
+    if let Some(seat) = seat {
+        seat.draining = Some(draining);
     }
 }

@@ -5,35 +5,33 @@ ghost use Rattle.koth_service.specs.{Standing.KeepsOn, Told.Grows};
 
 use crate::desk::{Desk, let_go};
 use crate::host::{Host, HowEnded};
+use crate::log::LogWrite;
 use crate::sockets::{Sockets, Went};
 use sector_disk::Device;
 use std::alloc::Allocator;
-use std::io::Write;
 
 /// Sends what each peer takes of its answers, by one write to each.
-pub(crate) fn send_all<S: Sockets, D: Device, A: Allocator + Copy, H: Host<D, A>, E: Write>(
+pub(crate) fn send_all<S: Sockets, D: Device, A: Allocator + Copy, H: Host<D, A>, E: LogWrite>(
     desk: &mut Desk<D, A>,
     sockets: &mut S,
     host: &H,
     errors: &mut E,
-    now: u64,
 )
     ensures served { KeepsOn S.happened D.facts (H.shows host.now) sockets.old desk.old sockets.new desk.new }
     ensures told { Grows (E.contents errors.old) (E.contents errors.new) }
 {
     for number in 0..desk.seats.len() {
-        send_to(desk, sockets, host, errors, number, now);
+        send_to(desk, sockets, host, errors, number);
     }
 }
 
 /// Sends what a peer takes of its answers.
-fn send_to<S: Sockets, D: Device, A: Allocator + Copy, H: Host<D, A>, E: Write>(
+fn send_to<S: Sockets, D: Device, A: Allocator + Copy, H: Host<D, A>, E: LogWrite>(
     desk: &mut Desk<D, A>,
     sockets: &mut S,
     host: &H,
     errors: &mut E,
     number: usize,
-    now: u64,
 )
     ensures served { KeepsOn S.happened D.facts (H.shows host.now) sockets.old desk.old sockets.new desk.new }
     ensures told { Grows (E.contents errors.old) (E.contents errors.new) }
@@ -45,7 +43,7 @@ fn send_to<S: Sockets, D: Device, A: Allocator + Copy, H: Host<D, A>, E: Write>(
     match sockets.write(number, unsent) {
         Went::Bytes(count) => {
             desk.peers.sent(number, count);
-            desk.seats.stir(number, now);
+            desk.seats.tell(number, desk.clock);
             desk.is_busy = true;
         }
         Went::Nothing => {}

@@ -2,13 +2,15 @@
 #![tactic(auto, using(crate::proofs::Told::stays))]
 
 ghost use Rattle.std.specs.Prelude.{◌≡◌, ℕ, None, false, IfOk};
-ghost use Rattle.koth_service.specs.{Noted.Stays, Connections.{stage_at, AllGoOn}, Standing.{IsBegun, IsReopened, IsSoundAfter, KeepsOnBy, ServesPeers, peers_of, start_at, start_of}, Told.Grows};
+ghost use Rattle.koth_service.specs.{Connections.{stage_at, AllGoOn}, Standing.{AreAwaited, IsBegun, IsReopened, IsSoundAfter, KeepsOn, KeepsOnBy, ServesPeers, start_at, start_of}, Told.Grows};
 
 use crate::arrivals::take_arrivals;
 use crate::browsers::serve_browsers;
 use crate::connections::Browsers;
 use crate::desk::Desk;
 use crate::host::Host;
+use crate::limits::Limits;
+use crate::log::LogWrite;
 use crate::parting::part_all;
 use crate::reading::read_all;
 use crate::sending::send_all;
@@ -16,10 +18,9 @@ use crate::serving::serve_one;
 use crate::sockets::Sockets;
 use crate::times::RETRY;
 use hill_store::Store;
-use koth_peers::Step;
+use koth_session::Step;
 use sector_disk::Device;
 use std::alloc::{AllocError, Allocator};
-use std::io::Write;
 
 /// Why a service ended early.
 #[derive(Clone, Copy, Debug, PartialEq, Eq)]
@@ -32,49 +33,47 @@ pub enum ServiceFault<F> {
     Rounds,
 }
 
-/// Serves up to `most` peers at once on a hill; returns after `connections` sessions if that is given.
+/// Serves peers and browsers on a hill, as many at once as the limits allow; returns after as many sessions as they name, if they do.
 ///
-/// A peer that connects while there are `most` waits until one of them is disconnected. A peer is disconnected when its session has ended
-/// and its answers went out, 60 seconds after the last byte in or out unless a command of it is due, as soon as its answers have no room, or
-/// at a request of HTTP in place of a command: no command after that is carried out. If the device fails in a submission, the store is
-/// closed, and the host opens the hill again. Beside the peers up to `browsers` browsers are served at once: each is
-/// answered one request, with a page of the hill that stands then. `served` speaks of peers and of browsers.
-pub fn serve_peers<S: Sockets, D: Device + Drop, A: Allocator + Copy, H: Host<D, A>, E: Write>(
+/// A peer that connects while all places are taken waits until one is free. The place of a peer that makes no use of it is given to the one
+/// that waits: of those without a command that is due, the one that has gone longest without a whole line, if that is 60 seconds, or 2 if no
+/// byte of it came. A peer is disconnected when its session has ended and its answers went out, 60 seconds after the last byte in or out unless
+/// a command of it is due, as soon as its answers have no room, or at a request of HTTP in place of a command: no command after that is carried
+/// out. If the device fails in a submission, the store is closed, and the host opens the hill again. Beside the peers browsers are served: each
+/// is answered one request, with a page of the hill that stands then. `served` speaks of peers and of browsers.
+pub fn serve_peers<S: Sockets, D: Device + Drop, A: Allocator + Copy, H: Host<D, A>, E: LogWrite>(
     alloc: A,
     sockets: &mut S,
-    most: usize,
-    browsers: usize,
-    connections: Option<u32>,
+    limits: Limits,
     store: Store<D, A>,
     host: &H,
     errors: &mut E,
 ) -> Result<(), ServiceFault<H::Fault>>
     requires { store.reopen ≡ false }
-    ensures served { ServesPeers S.happened D.facts (H.shows host.now) (start_of store most) connections result sockets.old sockets.new }
+    ensures served { ServesPeers S.happened D.facts (H.shows host.now) (start_of store limits.peers) limits.connections result sockets.old sockets.new }
     ensures told { Grows (E.contents errors.old) (E.contents errors.new) }
 {
-    match Desk::new(alloc, most, store) {
-        Ok(desk) => serve_at(alloc, sockets, desk, browsers, connections, host, errors),
+    match Desk::new(alloc, limits, store) {
+        Ok(desk) => serve_at(alloc, sockets, desk, host, errors),
         Err(AllocError) => Err(ServiceFault::Memory),
     }
 }
 
-/// Serves the peers of a desk at which nobody is yet, and up to `most` browsers at once.
-fn serve_at<S: Sockets, D: Device + Drop, A: Allocator + Copy, H: Host<D, A>, E: Write>(
+/// Serves the peers of a desk at which nobody is yet, and browsers.
+fn serve_at<S: Sockets, D: Device + Drop, A: Allocator + Copy, H: Host<D, A>, E: LogWrite>(
     alloc: A,
     sockets: &mut S,
     desk: Desk<D, A>,
-    most: usize,
-    connections: Option<u32>,
     host: &H,
     errors: &mut E,
 ) -> Result<(), ServiceFault<H::Fault>>
     requires { IsBegun desk }
-    ensures served { ServesPeers S.happened D.facts (H.shows host.now) (start_at desk) connections result sockets.old sockets.new }
+    ensures served { ServesPeers S.happened D.facts (H.shows host.now) (start_at desk) desk.limits.connections result sockets.old sockets.new }
     ensures told { Grows (E.contents errors.old) (E.contents errors.new) }
 {
-    match Browsers::new(alloc, most) {
+    match Browsers::new(alloc, desk.limits.browsers) {
         Ok(mut browsers) => {
+            let connections = desk.limits.connections;
             serve_rounds(sockets, desk, &mut browsers, connections, host, errors)
         }
         Err(AllocError) => Err(ServiceFault::Memory),
@@ -82,7 +81,7 @@ fn serve_at<S: Sockets, D: Device + Drop, A: Allocator + Copy, H: Host<D, A>, E:
 }
 
 /// Serves the peers of a desk and these browsers. There is no browser yet.
-fn serve_rounds<S: Sockets, D: Device + Drop, A: Allocator + Copy, H: Host<D, A>, E: Write>(
+fn serve_rounds<S: Sockets, D: Device + Drop, A: Allocator + Copy, H: Host<D, A>, E: LogWrite>(
     sockets: &mut S,
     desk: Desk<D, A>,
     browsers: &mut Browsers<A>,
@@ -101,7 +100,7 @@ fn serve_rounds<S: Sockets, D: Device + Drop, A: Allocator + Copy, H: Host<D, A>
         if desk.sessions.are_done(connections) {
             return Ok(());
         }
-        let step = take_in(&mut desk, browsers, sockets, connections, host, errors);
+        let step = take_in(&mut desk, browsers, sockets, host, errors);
         desk = match sound(desk, step, host) {
             Ok(desk) => desk,
             Err(fault) => return Err(ServiceFault::Reopening(fault)),
@@ -111,7 +110,7 @@ fn serve_rounds<S: Sockets, D: Device + Drop, A: Allocator + Copy, H: Host<D, A>
 }
 
 /// Sends answers, disconnects peers, and serves browsers.
-fn give_out<S: Sockets, D: Device, A: Allocator + Copy, H: Host<D, A>, E: Write>(
+fn give_out<S: Sockets, D: Device, A: Allocator + Copy, H: Host<D, A>, E: LogWrite>(
     desk: &mut Desk<D, A>,
     browsers: &mut Browsers<A>,
     sockets: &mut S,
@@ -119,48 +118,48 @@ fn give_out<S: Sockets, D: Device, A: Allocator + Copy, H: Host<D, A>, E: Write>
     errors: &mut E,
 )
     ensures served { AllGoOn S.happened D.facts (H.shows host.now) sockets.old desk.old browsers.old sockets.new desk.new browsers.new }
+    ensures awaited { AreAwaited desk.new }
     ensures told { Grows (E.contents errors.old) (E.contents errors.new) }
 {
-    let now = sockets.now();
-    send_all(desk, sockets, host, errors, now);
-    part_all(desk, sockets, host, errors, now);
+    desk.clock = desk.clock.max(sockets.now());
+    send_all(desk, sockets, host, errors);
+    part_all(desk, sockets, host, errors);
+    let now = desk.clock;
     let round = serve_browsers(browsers, sockets, &desk.store, host, errors, now);
     desk.is_busy |= round.moved;
     desk.retries |= round.retries;
 }
 
-/// Waits for peers, takes what comes from them, and carries out one command at most.
-fn take_in<S: Sockets, D: Device, A: Allocator + Copy, H: Host<D, A>, E: Write>(
+/// Waits for peers, takes what comes from them, and carries out one command at most. What came is read before a place is given to another peer:
+/// else one would lose it whose bytes wait.
+fn take_in<S: Sockets, D: Device, A: Allocator + Copy, H: Host<D, A>, E: LogWrite>(
     desk: &mut Desk<D, A>,
     browsers: &Browsers<A>,
     sockets: &mut S,
-    connections: Option<u32>,
     host: &H,
     errors: &mut E,
 ) -> Step
+    requires { AreAwaited desk.old }
     ensures served { KeepsOnBy S.happened D.facts (H.shows host.now) result sockets.old desk.old sockets.new desk.new }
     ensures told { Grows (E.contents errors.old) (E.contents errors.new) }
 {
-    wait(desk, browsers, sockets);
-    let now = sockets.now();
-    take_arrivals(desk, sockets, host, errors, connections, now);
-    read_all(desk, sockets, host, errors, now);
+    wait::<S, D, A, H>(desk, browsers, sockets);
+    read_all(desk, sockets, host, errors);
+    take_arrivals(desk, sockets, host, errors);
     serve_one(desk, sockets, host, errors)
 }
 
 /// Waits until something comes or may go, but not after a round in which it did. It waits no longer than a peer may be silent or a browser is
 /// waited for.
-fn wait<S: Sockets, D: Device, A: Allocator + Copy>(
+fn wait<S: Sockets, D: Device, A: Allocator + Copy, H: Host<D, A>>(
     desk: &mut Desk<D, A>,
     browsers: &Browsers<A>,
     sockets: &mut S,
 )
-    ensures stays { Stays S.happened sockets.old sockets.new }
-    ensures peers { peers_of desk.new ≡ peers_of desk.old }
-    ensures store { desk.new.store ≡ desk.old.store }
+    requires { AreAwaited desk.old }
+    ensures { (host : H) → KeepsOn S.happened D.facts (H.shows host) sockets.old desk.old sockets.new desk.new }
 {
-    let now = sockets.now();
-    let until = desk.seats.until(now).min(browsers.until(now));
+    let until = desk.seats.until(desk.clock).min(browsers.until(desk.clock));
     let most = if desk.is_busy {
         0
     } else if desk.retries {
@@ -170,7 +169,8 @@ fn wait<S: Sockets, D: Device, A: Allocator + Copy>(
     };
     desk.is_busy = false;
     desk.retries = false;
-    sockets.wait(most);
+    desk.clock = desk.clock.max(sockets.wait(most));
+    desk.read_at = desk.clock;
 }
 
 /// The same desk, on the hill opened again if the device failed in this step.

@@ -1,6 +1,6 @@
 //! What sockets may say.
 
-ghost use Rattle.{std.specs.Prelude.{ℕ, List}, koth_service.specs.Noted.{Adds, Admits, Noted, Reads, Stays, Writes}};
+ghost use Rattle.{std.specs.Prelude.{ℕ, List}, koth_service.specs.Noted.{Adds, Admits, Arrives, Noted, Reads, ReadsBrowser, Stays, Writes, WritesBrowser}};
 
 use std::net::SocketAddr;
 
@@ -58,15 +58,15 @@ pub trait Sockets {
 
     /// Milliseconds since some moment in the past. They don't go back.
     fn now(&mut self) -> u64
-        ensures { Stays Self.happened self.old self.new };
+        ensures { Adds Self.happened (Noted.Clock result) self.old self.new };
 
-    /// Waits until a peer can be accepted, read from or written to, and no longer than `most` milliseconds.
-    fn wait(&mut self, most: u64)
-        ensures { Stays Self.happened self.old self.new };
+    /// Waits until a peer can be accepted, read from or written to, and no longer than `most` milliseconds. It returns the time then, as `now`.
+    fn wait(&mut self, most: u64) -> u64
+        ensures { Adds Self.happened (Noted.Waited result) self.old self.new };
 
     /// Takes a connection that waits.
     fn accept(&mut self) -> Arrival
-        ensures { Stays Self.happened self.old self.new };
+        ensures { Arrives Self.happened self.old result self.new };
 
     /// Puts the peer that was accepted last under this number. It sends small answers at once.
     fn seat(&mut self, number: usize)
@@ -74,19 +74,19 @@ pub trait Sockets {
 
     /// Closes the connection that was accepted last.
     fn refuse(&mut self)
-        ensures { Stays Self.happened self.old self.new };
+        ensures { Adds Self.happened Noted.Refused self.old self.new };
 
     /// Reads from the peer of this number.
     fn read(&mut self, number: usize, bytes: &mut [u8]) -> Came
-        ensures { Reads Self.happened (Noted.Heard number) self.old bytes.new result self.new };
+        ensures { Reads Self.happened number self.old bytes.new result self.new };
 
     /// Writes to the peer of this number.
     fn write(&mut self, number: usize, bytes: &[u8]) -> Went
-        ensures { Writes Self.happened (Noted.Told number) self.old bytes.now result self.new };
+        ensures { Writes Self.happened number self.old bytes.now result self.new };
 
     /// Shuts the writing side of the peer of this number: no more goes out to it. What went out still reaches it.
     fn shut(&mut self, number: usize)
-        ensures { Stays Self.happened self.old self.new };
+        ensures { Adds Self.happened (Noted.Shut number) self.old self.new };
 
     /// Throws away what still comes from the peer of this number.
     fn drain(&mut self, number: usize) -> Drained
@@ -103,11 +103,11 @@ pub trait Sockets {
 
     /// Reads from the browser of this number.
     fn read_browser(&mut self, number: usize, bytes: &mut [u8]) -> Came
-        ensures { Reads Self.happened (Noted.Requested number) self.old bytes.new result self.new };
+        ensures { ReadsBrowser Self.happened number self.old bytes.new result self.new };
 
     /// Writes to the browser of this number.
     fn write_browser(&mut self, number: usize, bytes: &[u8]) -> Went
-        ensures { Writes Self.happened (Noted.Shown number) self.old bytes.now result self.new };
+        ensures { WritesBrowser Self.happened number self.old bytes.now result self.new };
 
     /// Shuts the writing side of the browser of this number: no more goes out to it. What went out still reaches it.
     fn shut_browser(&mut self, number: usize)

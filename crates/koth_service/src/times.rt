@@ -3,6 +3,13 @@
 /// How long a peer may be silent, with no byte in or out, until it is disconnected.
 pub const PATIENCE: u64 = 60_000;
 
+/// How long a peer of which no byte came keeps its place, if all places are taken and another peer waits.
+pub const UNSPOKEN: u64 = 2_000;
+
+/// How long a peer keeps its place after its last whole line, and after its last command that was carried out, if all places are taken and
+/// another peer waits.
+pub const UNUSED: u64 = 60_000;
+
 /// How long what still comes from a peer is thrown away at the end of its session.
 pub const DRAIN: u64 = 1_000;
 

@@ -173,12 +173,13 @@ impl<'r, R: Clock, A: Allocator> Sockets for PolledSockets<'r, R, A> {
     }
 
     /// A signal ends a poll without events, though bytes may have come while it stopped the program. So they are looked for once more.
-    fn wait(&mut self, most: u64) {
+    fn wait(&mut self, most: u64) -> u64 {
         self.poll_for(most);
         if self.events.is_empty() {
             self.poll_for(0);
         }
         self.take_events();
+        self.now()
     }
 
     fn accept(&mut self) -> Arrival {

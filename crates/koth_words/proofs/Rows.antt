@@ -160,21 +160,23 @@ versions = (refl, refl, refl)
 
 -- what the words of a service give it, and what they give it if the options are left out
 abbrev many_given : List Row
-many_given = given_by (codes "koth" ∷ codes "serve" ∷ codes "a.hill" ∷ codes "--port=0" ∷ codes "--peers" ∷ codes "1024" ∷ codes "--listen=0.0.0.0" ∷ codes "--http=8080" ∷ [])
+many_given = given_by (codes "koth" ∷ codes "serve" ∷ codes "a.hill" ∷ codes "--port=0" ∷ codes "--peers" ∷ codes "1024" ∷ codes "--peers-per-address=4" ∷ codes "--listen=0.0.0.0" ∷ codes "--http=8080" ∷ [])
 
 abbrev plain_given : List Row
 plain_given = given_by (codes "koth" ∷ codes "serve" ∷ codes "a.hill" ∷ codes "--port=0" ∷ [])
 
 services : (number_or 64 (one_of (codes "peers") many_given) ≡ 1024)
+    × (number_given 4294967296 (one_of (codes "peers-per-address") many_given) ≡ Some 4)
     × (first_of (codes "listen") many_given ≡ Some (codes "0.0.0.0"))
     × (number_given 4294967296 (one_of (codes "http") many_given) ≡ Some 8080)
     × (number_or 64 (one_of (codes "peers") plain_given) ≡ 64)
+    × (number_given 4294967296 (one_of (codes "peers-per-address") plain_given) ≡ None)
     × (first_of (codes "listen") plain_given ≡ None)
     × (number_given 4294967296 (one_of (codes "http") plain_given) ≡ None)
     × (replays_named (codes "koth" ∷ codes "serve" ∷ codes "a.hill" ∷ codes "--port=0" ∷ codes "--http=8080" ∷ codes "--replays" ∷ []) ≡ true)
     × (replays_named (codes "koth" ∷ codes "serve" ∷ codes "a.hill" ∷ codes "--port=0" ∷ codes "--http=8080" ∷ []) ≡ false)
 unfolding clap_on_literals koth_app
-services = (refl, refl, refl, refl, refl, refl, refl, refl)
+services = (refl, refl, refl, refl, refl, refl, refl, refl, refl, refl)
 
 -- an address of either kind is given, and 127.0.0.1 is the one if the option is left out
 addresses_ask : AsksFor (codes "serve") (codes "koth" ∷ codes "serve" ∷ codes "a.hill" ∷ codes "--port=0" ∷ codes "--listen=0.0.0.0" ∷ [])
@@ -202,15 +204,17 @@ rounds : (number_or 1 (one_of (codes "round") (given_by (codes "koth" ∷ codes 
 unfolding clap_on_literals koth_app
 rounds = (refl, refl, refl)
 
--- no peers, peers past the greatest, a port past the greatest, no rounds or rounds past the greatest, and a round of a command that shows none are not taken
+-- no peers, peers past the greatest, in all or of one address, a port past the greatest, no rounds or rounds past the greatest, and a round of a command that shows none are not taken
 ranges : (takes koth_app (codes "koth" ∷ codes "serve" ∷ codes "a.hill" ∷ codes "--port=0" ∷ codes "--peers=0" ∷ []) ≡ false)
     × (takes koth_app (codes "koth" ∷ codes "serve" ∷ codes "a.hill" ∷ codes "--port=0" ∷ codes "--peers=1025" ∷ []) ≡ false)
+    × (takes koth_app (codes "koth" ∷ codes "serve" ∷ codes "a.hill" ∷ codes "--port=0" ∷ codes "--peers-per-address=0" ∷ []) ≡ false)
+    × (takes koth_app (codes "koth" ∷ codes "serve" ∷ codes "a.hill" ∷ codes "--port=0" ∷ codes "--peers-per-address=1025" ∷ []) ≡ false)
     × (takes koth_app (codes "koth" ∷ codes "serve" ∷ codes "a.hill" ∷ codes "--port=0" ∷ codes "--http=65536" ∷ []) ≡ false)
     × (takes koth_app (codes "koth" ∷ codes "replay" ∷ codes "a" ∷ codes "b" ∷ codes "--round=0" ∷ []) ≡ false)
     × (takes koth_app (codes "koth" ∷ codes "replay" ∷ codes "a" ∷ codes "b" ∷ codes "--round=1001" ∷ []) ≡ false)
     × (takes koth_app (codes "koth" ∷ codes "fight" ∷ codes "a" ∷ codes "b" ∷ codes "--round=1" ∷ []) ≡ false)
 unfolding clap_on_literals koth_app
-ranges = (refl, refl, refl, refl, refl, refl)
+ranges = (refl, refl, refl, refl, refl, refl, refl, refl)
 
 -- a service whose hill is created with the settings that are given, and one without settings
 creations : AsksFor (codes "serve") (codes "koth" ∷ codes "serve" ∷ codes "a.hill" ∷ codes "--port=0" ∷ codes "--core=64" ∷ codes "--create" ∷ codes "-r5" ∷ [])

@@ -108,6 +108,9 @@ fn serve_command<'a>(heap: Global) -> Result<Command<'a>, AllocError>
         "Most peers served at once, 1 to 1024; with 1 it is one after the other [default: 64]";
     let command = with_arg(command, ranged(heap, "peers", 1, 1024, help));
     let help =
+        "Most peers of one address served at once, 1 to 1024; further ones are refused [default: no limit]";
+    let command = with_arg(command, ranged(heap, "peers-per-address", 1, 1024, help));
+    let help =
         "Address to listen at, IPv4 or IPv6; whoever reaches it can submit [default: 127.0.0.1]";
     let command = with_arg(command, text(heap, "listen", "ADDRESS", help));
     let help = "Connections to serve before the program ends, 0 to 4294967295 [default: no limit]";

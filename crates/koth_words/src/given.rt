@@ -159,6 +159,8 @@ pub(crate) fn service_named<'w>(
     ensures hill { IfOk result (λ service. service.hill.now ≡ text_or_none (first_of (codes "FILE") (rows_of (found_of matches.now)))) }
     ensures port { IfOk result (λ service. service.port ≡ number_below 65536 0 (one_of (codes "port") (rows_of (found_of matches.now)))) }
     ensures peers { IfOk result (λ service. service.peers ≡ number_or 64 (one_of (codes "peers") (rows_of (found_of matches.now)))) }
+    ensures peers_per_address { IfOk result (λ service. service.peers_per_address
+        ≡ number_given 4294967296 (one_of (codes "peers-per-address") (rows_of (found_of matches.now)))) }
     ensures listen { IfOk result (λ service. IsAddress (first_of (codes "listen") (rows_of (found_of matches.now))) service.listen) }
     ensures connections { IfOk result (λ service. service.connections
         ≡ number_given 4294967296 (one_of (codes "connections") (rows_of (found_of matches.now)))) }
@@ -173,6 +175,7 @@ pub(crate) fn service_named<'w>(
         hill: file_named(matches, "FILE"),
         port: port_given(matches),
         peers: number_given(matches, "peers", PEERS),
+        peers_per_address: number_if_given(matches, "peers-per-address"),
         listen: address_given(matches),
         connections: number_if_given(matches, "connections"),
         http: number_if_given(matches, "http"),

@@ -127,6 +127,8 @@ pub struct Service<'w> {
     pub port: u16,
     /// Most peers that are served at once; with 1 it is one connection after the other.
     pub peers: u32,
+    /// Most peers of one address that are served at once; further ones are refused. `None` for no limit.
+    pub peers_per_address: Option<u32>,
     /// The address to listen at.
     pub listen: IpAddr,
     /// Connections to serve before the service ends; `None` for no limit.

@@ -22,7 +22,7 @@ fn expect_fault(rt: &impl Abort, ran: &Ran, part: &str) {
 }
 
 /// Words with a fault, and a part of what is told of it.
-const FAULTS: [Step; 47] = steps! {
+const FAULTS: [Step; 49] = steps! {
     Fault("koth", "requires a subcommand");
     Fault("koth fly", "unrecognized subcommand 'fly'");
     Fault("koth ASM", "unrecognized subcommand 'ASM'");
@@ -53,6 +53,8 @@ const FAULTS: [Step; 47] = steps! {
     Fault("koth serve f --port 0 --peers 0", "0 is not in 1..=1024");
     Fault("koth serve f --port 0 --peers 1025", "1025 is not in 1..=1024");
     Fault("koth serve f --port 0 --peers x", "invalid value 'x'");
+    Fault("koth serve f --port 0 --peers-per-address 0", "0 is not in 1..=1024");
+    Fault("koth serve f --port 0 --peers-per-address 1025", "1025 is not in 1..=1024");
     Fault("koth serve f --port 0 --http 65536", "65536 is not in 0..=65535");
     Fault("koth serve f --port 0 --listen here", "'--listen <ADDRESS>' takes an IPv4 or IPv6 address");
     Fault("koth serve f --port 0 --listen 0.0.0.0:80", "without a port");
@@ -87,7 +89,7 @@ pub(crate) fn check_help(rt: &(impl Abort + Host), line: &str, part: &str) {
 }
 
 /// Words that ask for help, and a part of it.
-const HELPS: [Step; 28] = steps! {
+const HELPS: [Step; 29] = steps! {
     Help("koth --help", "Usage: koth <COMMAND>");
     Help("koth -h", "Usage: koth <COMMAND>");
     Help("koth help", "Usage: koth <COMMAND>");
@@ -108,6 +110,7 @@ const HELPS: [Step; 28] = steps! {
     Help("koth serve --help", "1 to 1024");
     Help("koth serve -h", "--listen <ADDRESS>");
     Help("koth help serve", "--peers <NUMBER>");
+    Help("koth help serve", "--peers-per-address <NUMBER>");
     Help("koth help serve", "--http <NUMBER>");
     Help("koth help serve", "--replays");
     Help("koth help serve", "--host <NAME>");

@@ -1,8 +1,8 @@
 //! Services whose peers act by a script.
 //!
 //! `callers`, `fakes` and `hosts` have sockets of no system, those who call at them, and the host of a service. `serving` says what has to
-//! come of a service over these, which `browsers` tries with browsers, and `failures` with a device that fails. `polls` tries sockets of the
-//! system.
+//! come of a service over these, which `browsers` tries with browsers, `places` with more peers than there are places, and `failures` with a device
+//! that fails. `polls` tries sockets of the system.
 
 use callers::{Cue, Deed};
 use serving::{ALL, Due, act_out};
@@ -12,6 +12,7 @@ mod callers;
 mod failures;
 mod fakes;
 mod hosts;
+mod places;
 mod polls;
 mod serving;
 

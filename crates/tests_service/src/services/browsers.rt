@@ -2,7 +2,7 @@
 
 use crate::compare::expect;
 use crate::services::callers::{Cue, Deed};
-use crate::services::serving::{ALL, Due, act_out, serve};
+use crate::services::serving::{ALL, Due, act_out, serve, two_of_each};
 use std::process::Abort;
 
 const HILL: &str = "GET / HTTP/1.1\r\nHost: 127.0.0.1:80\r\n\r\n";
@@ -131,7 +131,7 @@ const REFUSED: [Row; 13] = [
 
 /// What the browser that asks so hears begins with this.
 fn check_start(rt: &(impl Abort + AllocGlobal), request: &str, cues: &[Cue], start: &str) {
-    let served = serve(rt, cues, 1, u64::MAX, 0);
+    let served = serve(rt, cues, two_of_each(1), u64::MAX, 0);
     let caller = served.sockets.caller(7).expect(rt, "it called");
     let begins = caller.heard.as_slice().starts_with(start.as_bytes());
     drop(served);

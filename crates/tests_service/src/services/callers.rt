@@ -4,6 +4,7 @@ ghost use Rattle.koth_service.specs.Noted.{CameWithin, WentWithin};
 
 use koth_service::{Came, Drained, Went};
 use std::alloc::Global;
+use std::net::Ipv4Addr;
 
 /// At which millisecond something is done, and what.
 pub(crate) type Cue = (u64, Deed);
@@ -13,6 +14,8 @@ pub(crate) type Cue = (u64, Deed);
 pub(crate) enum Deed {
     /// It connects.
     Calls(u16),
+    /// It connects from another host of this machine: 127.0.0.2, if the number after the port is 2.
+    CallsFrom(u16, u8),
     /// It connects as a browser.
     Visits(u16),
     /// Bytes of it come.
@@ -39,6 +42,7 @@ const PIECE: usize = 4096;
 /// A peer or a browser, from its call on.
 #[derive(Drop)]
 pub(crate) struct Caller {
+    pub(crate) host: Ipv4Addr,
     pub(crate) port: u16,
     pub(crate) is_browser: bool,
     pub(crate) number: Option<usize>,
@@ -58,8 +62,9 @@ pub(crate) struct Caller {
 
 impl Caller {
     /// One that waits, of which nothing came yet.
-    pub(crate) fn new(alloc: Global, port: u16, is_browser: bool) -> Caller {
+    pub(crate) fn new(alloc: Global, host: Ipv4Addr, port: u16, is_browser: bool) -> Caller {
         Caller {
+            host,
             port,
             is_browser,
             number: None,
@@ -82,8 +87,12 @@ impl Caller {
             Deed::Ends(_) => self.has_ended = true,
             Deed::Resets(_) => self.is_gone = true,
             Deed::Takes(_, count) => self.takes = self.takes.saturating_add(count),
-            Deed::Calls(_) | Deed::Visits(_) | Deed::Lasts(_) | Deed::Fails | Deed::FailsBrowser =>
-                {}
+            Deed::Calls(_)
+            | Deed::CallsFrom(_, _)
+            | Deed::Visits(_)
+            | Deed::Lasts(_)
+            | Deed::Fails
+            | Deed::FailsBrowser => {}
         }
     }
 

@@ -2,7 +2,7 @@
 
 use crate::services::callers::{Cue, Deed};
 use crate::services::hosts::Shut;
-use crate::services::serving::{ALL, Due, check_served, serve};
+use crate::services::serving::{ALL, Due, check_served, serve, two_of_each};
 use koth_service::ServiceFault;
 use std::process::Abort;
 
@@ -99,7 +99,7 @@ fn act_on_a_fault(
     fault: Option<ServiceFault<Shut>>,
     dues: &[Due],
 ) {
-    let served = serve(rt, cues, connections, calls, openings);
+    let served = serve(rt, cues, two_of_each(connections), calls, openings);
     check_served(rt, &served, fault, dues);
     drop(served);
 }

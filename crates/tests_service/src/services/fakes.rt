@@ -72,8 +72,9 @@ impl<'c> Fakes<'c> {
 
     fn act(&mut self, deed: Deed) {
         match deed {
-            Deed::Calls(port) => self.call(port, false),
-            Deed::Visits(port) => self.call(port, true),
+            Deed::Calls(port) => self.call(Ipv4Addr::LOCALHOST, port, false),
+            Deed::CallsFrom(port, host) => self.call(Ipv4Addr::new(127, 0, 0, host), port, false),
+            Deed::Visits(port) => self.call(Ipv4Addr::LOCALHOST, port, true),
             Deed::Lasts(time) => self.lasts = time,
             Deed::Fails => self.fails = self.fails.saturating_add(1),
             Deed::FailsBrowser => self.browser_fails = self.browser_fails.saturating_add(1),
@@ -104,14 +105,16 @@ impl<'c> Fakes<'c> {
         match self.callers.get_mut(place) {
             Some(caller) => {
                 caller.waits = false;
-                Arrival::Peer(SocketAddr::from((Ipv4Addr::LOCALHOST, caller.port)))
+                Arrival::Peer(SocketAddr::from((caller.host, caller.port)))
             }
             None => Arrival::Nobody,
         }
     }
 
-    fn call(&mut self, port: u16, is_browser: bool) {
-        let _ = self.callers.push(Caller::new(self.alloc, port, is_browser));
+    fn call(&mut self, host: Ipv4Addr, port: u16, is_browser: bool) {
+        let _ = self
+            .callers
+            .push(Caller::new(self.alloc, host, port, is_browser));
     }
 
     /// The place of the first one that waits, among peers or among browsers.
@@ -130,13 +133,14 @@ impl Sockets for Fakes<'_> {
     }
 
     /// The time goes on to the next cue, or by as much as may be waited.
-    fn wait(&mut self, most: u64) {
+    fn wait(&mut self, most: u64) -> u64 {
         let until = match self.cues.first() {
             Some((at, _)) => at.saturating_sub(self.time),
             None => most,
         };
         self.time = self.time.saturating_add(most.min(until));
         self.happen();
+        self.time
     }
 
     fn accept(&mut self) -> Arrival {

@@ -5,7 +5,7 @@ ghost use Rattle.koth_http.specs.declared.target.Page.TheVariants as pages;
 
 use hill_store::Store;
 use koth_http::Page;
-use koth_service::{Event, Host};
+use koth_service::{Event, Host, LogWrite};
 use sector_disk::{FuseDevice, FuseKind, MemoryDevice};
 use std::alloc::{AllocError, Global};
 use std::cell::Cell;
@@ -80,7 +80,7 @@ impl Host<Fuse, Global> for Clerk {
         }
     }
 
-    fn tell<E: Write>(&self, peer: SocketAddr, event: Event<'_>, errors: &mut E) {
+    fn tell<E: LogWrite>(&self, peer: SocketAddr, event: Event<'_>, errors: &mut E) {
         if let Ok(line) = line_of(self.alloc, peer, event) {
             let _ = errors.write(line.as_bytes());
         }
@@ -100,10 +100,12 @@ fn line_of(
     let port = peer.port();
     match event {
         Event::Connected => format!(in alloc; "{} connected\n", port),
-        Event::Answered(line) => {
-            let line = str::from_utf8(line).unwrap_or("");
-            format!(in alloc; "{} {}\n", port, line)
+        Event::Answered(reply) => {
+            let line = koth_session::line_of(&reply);
+            let line = str::from_utf8(line.as_slice()).unwrap_or("\n");
+            format!(in alloc; "{} {}", port, line)
         }
+        Event::Refused => format!(in alloc; "{} refused\n", port),
         Event::Ended(how) => format!(in alloc; "{} {:?}\n", port, how),
         Event::Asked {
             line,

@@ -2,7 +2,7 @@
 
 use crate::compare::{expect, expect_same};
 use crate::services::serving::{check_fault, serve_on};
-use koth_service::Sockets;
+use koth_service::{Limits, Sockets};
 use koth_sockets::PolledSockets;
 use std::io;
 use std::io::Write;
@@ -33,7 +33,13 @@ fn say(
 
 /// Serves these sockets, `peers` peers at once and a browser, until `sessions` sessions have ended.
 fn serve(rt: &(impl Abort + AllocGlobal), sockets: &mut impl Sockets, peers: usize, sessions: u32) {
-    let (fault, told) = serve_on(rt, sockets, (peers, 1), sessions, u64::MAX, 0);
+    let limits = Limits {
+        peers,
+        peers_per_address: None,
+        browsers: 1,
+        connections: Some(sessions),
+    };
+    let (fault, told) = serve_on(rt, sockets, limits, u64::MAX, 0);
     drop(told);
     check_fault(rt, fault, None);
 }

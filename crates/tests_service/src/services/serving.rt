@@ -4,37 +4,35 @@ use crate::compare::{expect, expect_bytes, expect_same};
 use crate::services::callers::Cue;
 use crate::services::fakes::Fakes;
 use crate::services::hosts::{Clerk, Shut, hill};
-use koth_service::{ServiceFault, Sockets, serve_peers};
+use koth_service::{Limits, ServiceFault, Sockets, serve_peers};
 use std::process::Abort;
 
 /// All bytes of answers that a peer may be sent.
 pub(crate) const ALL: usize = 16_777_216;
 
-/// Serves an empty hill on these sockets, to `most` peers and browsers at once, until `connections` sessions have ended. The device fails
-/// once, after `calls` calls, and the hill may be opened again `openings` times. What ended the service early comes back, if something did, and
-/// what the host wrote.
+/// Two peers and two browsers at once, until this number of sessions has ended.
+pub(crate) fn two_of_each(connections: u32) -> Limits {
+    Limits {
+        peers: 2,
+        peers_per_address: None,
+        browsers: 2,
+        connections: Some(connections),
+    }
+}
+
+/// Serves an empty hill on these sockets, within these limits. The device fails once, after `calls` calls, and the hill may be opened again
+/// `openings` times. What ended the service early comes back, if something did, and what the host wrote.
 pub(crate) fn serve_on<S: Sockets>(
     rt: &(impl Abort + AllocGlobal),
     sockets: &mut S,
-    most: (usize, usize),
-    connections: u32,
+    limits: Limits,
     calls: u64,
     openings: u32,
 ) -> (Option<ServiceFault<Shut>>, Vec<u8>) {
-    let (peers, browsers) = most;
     let mut told = Vec::new(rt.alloc());
     let store = hill(rt.alloc(), calls).expect(rt, "a hill is created");
     let host = Clerk::new(rt.alloc(), openings);
-    let served = serve_peers(
-        rt.alloc(),
-        sockets,
-        peers,
-        browsers,
-        Some(connections),
-        store,
-        &host,
-        &mut told,
-    );
+    let served = serve_peers(rt.alloc(), sockets, limits, store, &host, &mut told);
     let fault = served.err();
     drop(host);
     (fault, told)
@@ -49,16 +47,16 @@ pub(crate) struct Served<'c> {
     told: Vec<u8>,
 }
 
-/// Serves these peers and browsers, two of each at once.
+/// Serves these peers and browsers within these limits.
 pub(crate) fn serve<'c>(
     rt: &(impl Abort + AllocGlobal),
     cues: &'c [Cue],
-    connections: u32,
+    limits: Limits,
     calls: u64,
     openings: u32,
 ) -> Served<'c> {
     let mut sockets = Fakes::new(rt.alloc(), cues);
-    let (fault, told) = serve_on(rt, &mut sockets, (2, 2), connections, calls, openings);
+    let (fault, told) = serve_on(rt, &mut sockets, limits, calls, openings);
     Served {
         sockets,
         fault,
@@ -139,14 +137,24 @@ pub(crate) fn check_served(
     }
 }
 
-/// Of a service of these peers and browsers all this comes.
+/// Of a service of these peers and browsers, two of each at once, all this comes.
 pub(crate) fn act_out(
     rt: &(impl Abort + AllocGlobal),
     cues: &[Cue],
     connections: u32,
     dues: &[Due],
 ) {
-    let served = serve(rt, cues, connections, u64::MAX, 0);
+    act_within(rt, cues, two_of_each(connections), dues);
+}
+
+/// The same within these limits.
+pub(crate) fn act_within(
+    rt: &(impl Abort + AllocGlobal),
+    cues: &[Cue],
+    limits: Limits,
+    dues: &[Due],
+) {
+    let served = serve(rt, cues, limits, u64::MAX, 0);
     check_served(rt, &served, None, dues);
     drop(served);
 }

@@ -1,7 +1,13 @@
-use Rattle.koth_service.proofs.Steps.{left}
+-- It is disconnected for the cause that there is.
+use Rattle.{std.proofs.Common.refl, koth_service.specs.Standing.peers_of, koth_service.proofs.Steps.left}
 use Rattle.koth_service.proofs.desk.let_go.Goals as goal
 
-pub returns-clause-served : goal.returns-clause-served
-returns-clause-served g c = λ start browsers on.
-    left g.S.Sockets.happened g.D.Device.facts (g.H.Host.shows c.args.host.now) start browsers c.args.sockets.now c.close.new.self c.args.desk.now.peers.slots.items c.leave.new.self.slots.items
-    c.args.desk.now.sessions.ended c.end.new.self.ended _ c.args.number c.requires c.leave.ensures.only c.leave.ensures.at c.end.ensures c.close.ensures on
+pub returns-in-Some-clause-served : goal.returns-in-Some-clause-served
+returns-in-Some-clause-served g c = λ start browsers on cause.
+    left g.S.Sockets.happened g.D.Device.facts (g.H.Host.shows c.args.host.now) start browsers c.args.sockets.now c.close.new.self (peers_of c.args.desk.now) _ _ c.args.number c.args.how
+    c.leave.ensures.only c.leave.ensures.at c.leave-2.ensures.only c.leave-2.ensures.at c.end.ensures c.leave.ensures.next refl refl c.close.ensures on cause
+
+pub returns-in_default-clause-served : goal.returns-in_default-clause-served
+returns-in_default-clause-served g c = λ start browsers on cause.
+    left g.S.Sockets.happened g.D.Device.facts (g.H.Host.shows c.args.host.now) start browsers c.args.sockets.now c.close.new.self (peers_of c.args.desk.now) _ _ c.args.number c.args.how
+    c.leave.ensures.only c.leave.ensures.at c.leave-2.ensures.only c.leave-2.ensures.at c.end.ensures c.leave.ensures.next refl refl c.close.ensures on cause

@@ -1,5 +1,5 @@
 -- The reports of parting stand after those of sending, and those of browsers after both. Browsers go on after the peers.
-use Rattle.{koth_service.specs.{Connections.stage_at, Standing.peers_of}, koth_service.proofs.{Steps.stays, Told.grows_on}}
+use Rattle.koth_service.{specs.{Connections.stage_at, Standing.peers_of}, proofs.{Steps.ticked, Told.grows_on}}
 use Rattle.koth_service.proofs.service.give_out.Goals as goal
 
 pub returns-clause-told : goal.returns-clause-told
@@ -10,4 +10,5 @@ returns-clause-served g c = λ start on.
     let browsers = stage_at c.args.browsers.now.connections.items in
     c.serve_browsers-round.ensures.served start (peers_of c.part_all.new.desk)
     (c.part_all.ensures.served start browsers (c.send_all.ensures.served start browsers (
-    stays g.S.Sockets.happened g.D.Device.facts (g.H.Host.shows c.args.host.now) start browsers c.args.sockets.now c.now-now.new.self (peers_of c.args.desk.now) c.args.desk.now.store c.now-now.ensures on)))
+    ticked g.S.Sockets.happened g.D.Device.facts (g.H.Host.shows c.args.host.now) start browsers c.args.sockets.now c.now.new.self (peers_of c.args.desk.now) c.args.desk.now.store c.now.result
+    c.max-desk.result c.now.ensures c.max-desk.ensures on)))

@@ -1,5 +1,5 @@
 use Rattle.koth_service.proofs.Visits.{written_on}
-use Rattle.koth_service.proofs.browsers.write.Goals as goal
+use Rattle.koth_service.proofs.moves.write.Goals as goal
 
 pub returns-in-Bytes : goal.returns-in-Bytes
 returns-in-Bytes g c = λ store host start slots browsers on.

@@ -1,5 +1,5 @@
 use Rattle.{std.proofs.Common.{Some, take}, koth_service.specs.{Answering.AnswersBytes, declared.connections.Stage.Stage}, koth_service.proofs.Visits.{over, read_on, read_whole}}
-use Rattle.koth_service.proofs.browsers.read.Goals as goal
+use Rattle.koth_service.proofs.moves.read.Goals as goal
 
 pub returns-in-Ok-Some : goal.returns-in-Ok-Some
 returns-in-Ok-Some g c = λ start slots browsers on.

@@ -1,0 +1,171 @@
+-- How one peer, and one browser, stands in a service.
+use Rattle.std.specs.Prelude.{ℕ, Bool, true, false, if◌then◌else◌, List, [], ◌∷◌, ◌++◌, Option, None, Some}
+use Rattle.{koth_protocol.specs.Commands.Command, koth_session.specs.declared.end.PeerEnd.PeerEnd}
+use Rattle.koth_service.specs.Seats.{has_line}
+
+-- For a peer: whether it is there, what came from it, and whether that is at its end; which of its commands were
+-- carried out, and what they were answered; what went out; how a command ended its session, if one did: after that no
+-- command of it is carried out. Whether its writing side was shut, and whether the sockets said that it is gone. When
+-- it was seated, a byte came or went, or a command was carried out last; and when it was seated, a whole line came,
+-- or a command was carried out last.
+pub record Session : Type 0 where
+  pub there : Bool
+  pub came : List ℕ
+  pub at_end : Bool
+  pub done : List Command
+  pub owed : List ℕ
+  pub went : List ℕ
+  pub over : Option PeerEnd
+  pub shut : Bool
+  pub lost : Bool
+  pub active : ℕ
+  pub useful : ℕ
+
+-- For a browser: whether it is there, what came from it, its answer once that was given, and what went out.
+pub record Browser : Type 0 where
+  pub there : Bool
+  pub came : List ℕ
+  pub reply : Option (List ℕ)
+  pub went : List ℕ
+
+-- a peer is there or not, and nothing came of it or went out yet
+abbrev pub session_anew : Bool → ℕ → Session
+session_anew is now = record {
+  there = is;
+  came = [];
+  at_end = false;
+  done = [];
+  owed = [];
+  went = [];
+  over = None;
+  shut = false;
+  lost = false;
+  active = now;
+  useful = now;
+}
+
+-- bytes of a peer came
+abbrev pub session_came : List ℕ → ℕ → Session → Session
+session_came bytes now s = record {
+  there = s.there;
+  came = s.came ++ bytes;
+  at_end = s.at_end;
+  done = s.done;
+  owed = s.owed;
+  went = s.went;
+  over = s.over;
+  shut = s.shut;
+  lost = s.lost;
+  active = now;
+  useful = if has_line bytes then now else s.useful;
+}
+
+-- no more come
+abbrev pub session_at_end : Session → Session
+session_at_end s = record {
+  there = s.there;
+  came = s.came;
+  at_end = true;
+  done = s.done;
+  owed = s.owed;
+  went = s.went;
+  over = s.over;
+  shut = s.shut;
+  lost = s.lost;
+  active = s.active;
+  useful = s.useful;
+}
+
+-- a command of it was carried out, and it is owed the answer
+abbrev pub session_answered : Command → List ℕ → ℕ → Session → Session
+session_answered command reply now s = record {
+  there = s.there;
+  came = s.came;
+  at_end = s.at_end;
+  done = s.done ++ command ∷ [];
+  owed = s.owed ++ reply;
+  went = s.went;
+  over = s.over;
+  shut = s.shut;
+  lost = s.lost;
+  active = now;
+  useful = now;
+}
+
+-- a command of it ended the session
+abbrev pub session_over : PeerEnd → ℕ → Session → Session
+session_over end now s = record {
+  there = s.there;
+  came = s.came;
+  at_end = s.at_end;
+  done = s.done;
+  owed = s.owed;
+  went = s.went;
+  over = Some end;
+  shut = s.shut;
+  lost = s.lost;
+  active = now;
+  useful = now;
+}
+
+-- bytes went out to it
+abbrev pub session_went : List ℕ → ℕ → Session → Session
+session_went bytes now s = record {
+  there = s.there;
+  came = s.came;
+  at_end = s.at_end;
+  done = s.done;
+  owed = s.owed;
+  went = s.went ++ bytes;
+  over = s.over;
+  shut = s.shut;
+  lost = s.lost;
+  active = now;
+  useful = s.useful;
+}
+
+-- its writing side was shut
+abbrev pub session_shut : Session → Session
+session_shut s = record {
+  there = s.there;
+  came = s.came;
+  at_end = s.at_end;
+  done = s.done;
+  owed = s.owed;
+  went = s.went;
+  over = s.over;
+  shut = true;
+  lost = s.lost;
+  active = s.active;
+  useful = s.useful;
+}
+
+-- the sockets said that it is gone
+abbrev pub session_lost : Session → Session
+session_lost s = record {
+  there = s.there;
+  came = s.came;
+  at_end = s.at_end;
+  done = s.done;
+  owed = s.owed;
+  went = s.went;
+  over = s.over;
+  shut = s.shut;
+  lost = true;
+  active = s.active;
+  useful = s.useful;
+}
+
+-- a browser is there or not, and nothing came of it or went out yet
+abbrev pub browser_anew : Bool → Browser
+browser_anew is = record { there = is; came = []; reply = None; went = [] }
+
+-- bytes of a browser came; it was given its answer; and bytes went out to it
+abbrev pub browser_came : List ℕ → Browser → Browser
+browser_came bytes b = record { there = b.there; came = b.came ++ bytes; reply = b.reply; went = b.went }
+
+abbrev pub browser_replied : List ℕ → Browser → Browser
+browser_replied reply b = record { there = b.there; came = b.came; reply = Some reply; went = b.went }
+
+abbrev pub browser_went : List ℕ → Browser → Browser
+browser_went bytes b = record { there = b.there; came = b.came; reply = b.reply; went = b.went ++ bytes }

@@ -1,0 +1,230 @@
+//! Peers that wait for a place, and those whose places they are given.
+
+use crate::services::callers::{Cue, Deed};
+use crate::services::serving::{ALL, Due, act_out, act_within};
+use koth_service::Limits;
+
+/// This number of peers at once, at most so many of one host, until this number of sessions has ended.
+fn within(peers: usize, peers_per_address: Option<u32>, connections: u32) -> Limits {
+    Limits {
+        peers,
+        peers_per_address,
+        browsers: 0,
+        connections: Some(connections),
+    }
+}
+
+/// What is done in `bytes_without_a_line`.
+const BYTES_WITHOUT_A_LINE: [Cue; 11] = [
+    (0, Deed::Calls(1)),
+    (0, Deed::Takes(1, ALL)),
+    (0, Deed::Says(1, "SH")),
+    (50_000, Deed::Says(1, "O")),
+    (100_000, Deed::Says(1, "W\n")),
+    (100_001, Deed::Calls(2)),
+    (100_001, Deed::Takes(2, ALL)),
+    (100_001, Deed::Says(2, "BOGUS\n")),
+    (150_000, Deed::Says(1, "SUBMIT\nMOV")),
+    (209_999, Deed::Says(1, " 0,1")),
+    (210_001, Deed::Ends(2)),
+];
+
+const BYTES_WITHOUT_A_LINE_DUE: [Due; 5] = [
+    Due::Heard(1, ".\n"),
+    Due::Closed(1, Some(210_000)),
+    Due::Told("1 ", &["connected", "Displaced"]),
+    Due::Heard(2, "BAD\n"),
+    Due::Closed(2, Some(210_001)),
+];
+
+/// A peer whose bytes make no whole line keeps its place while nobody waits. If another peer waits, it keeps the place for 60 seconds after its
+/// last line, be it one of a source, and no longer.
+#[test]
+fn bytes_without_a_line(rt: HostRuntime) {
+    let dues = &BYTES_WITHOUT_A_LINE_DUE;
+    act_within(&rt, &BYTES_WITHOUT_A_LINE, within(1, None, 2), dues);
+}
+
+/// What is done in `a_first_byte`.
+const A_FIRST_BYTE: [Cue; 9] = [
+    (0, Deed::Calls(1)),
+    (1_000, Deed::Calls(2)),
+    (1_999, Deed::Takes(2, ALL)),
+    (2_500, Deed::Calls(3)),
+    (3_999, Deed::Says(2, "B")),
+    (9_000, Deed::Says(2, "OGUS\nQUIT\n")),
+    (9_000, Deed::Ends(2)),
+    (9_500, Deed::Calls(4)),
+    (11_001, Deed::Ends(4)),
+];
+
+const A_FIRST_BYTE_DUE: [Due; 7] = [
+    Due::Closed(1, Some(2_000)),
+    Due::Told("1 ", &["connected", "Displaced"]),
+    Due::Heard(2, "BAD\n"),
+    Due::Closed(2, Some(9_000)),
+    Due::Told("2 ", &["connected", "By(Quit)"]),
+    Due::Closed(3, Some(11_000)),
+    Due::Told("3 ", &["connected", "Displaced"]),
+];
+
+/// If another peer waits, a peer that sends nothing keeps its place for 2 seconds. One that sent a byte in these keeps it longer.
+#[test]
+fn a_first_byte(rt: HostRuntime) {
+    act_within(&rt, &A_FIRST_BYTE, within(1, None, 4), &A_FIRST_BYTE_DUE);
+}
+
+/// What is done in `the_longest_unused`.
+const THE_LONGEST_UNUSED: [Cue; 13] = [
+    (0, Deed::Calls(1)),
+    (0, Deed::Takes(1, ALL)),
+    (0, Deed::Calls(2)),
+    (0, Deed::Says(2, "B")),
+    (10, Deed::Says(1, "BOGUS\n")),
+    (50_000, Deed::Says(1, "B")),
+    (50_000, Deed::Says(2, "O")),
+    (61_000, Deed::Calls(3)),
+    (61_000, Deed::Says(3, "BOGUS\n")),
+    (61_000, Deed::Takes(3, ALL)),
+    (62_000, Deed::Calls(4)),
+    (63_000, Deed::Ends(3)),
+    (63_000, Deed::Ends(4)),
+];
+
+const THE_LONGEST_UNUSED_DUE: [Due; 6] = [
+    Due::Closed(2, Some(61_000)),
+    Due::Told("2 ", &["connected", "Displaced"]),
+    Due::Heard(1, "BAD\n"),
+    Due::Closed(1, Some(62_000)),
+    Due::Told("1 ", &["connected", "Displaced"]),
+    Due::Told("3 ", &["connected", "By(EndOfInput)"]),
+];
+
+/// Of two peers whose places are unused the one that has gone longer without a line is displaced first.
+#[test]
+fn the_longest_unused(rt: HostRuntime) {
+    act_out(&rt, &THE_LONGEST_UNUSED, 4, &THE_LONGEST_UNUSED_DUE);
+}
+
+/// What is done in `a_turn_that_is_awaited`.
+const A_TURN_THAT_IS_AWAITED: [Cue; 13] = [
+    (0, Deed::Calls(1)),
+    (0, Deed::Takes(1, ALL)),
+    (0, Deed::Calls(2)),
+    (0, Deed::Takes(2, ALL)),
+    (1, Deed::Lasts(70_000)),
+    (1, Deed::Says(1, "SUBMIT\nMOV 0,1\n.\n")),
+    (1, Deed::Says(2, "SHOW\n")),
+    (10_000, Deed::Calls(3)),
+    (10_000, Deed::Takes(3, ALL)),
+    (10_000, Deed::Says(3, "BOGUS\n")),
+    (80_000, Deed::Ends(2)),
+    (80_001, Deed::Ends(1)),
+    (80_001, Deed::Ends(3)),
+];
+
+const A_TURN_THAT_IS_AWAITED_DUE: [Due; 5] = [
+    Due::Told("1 ", &["connected", "PLACED 1 1 0", "By(EndOfInput)"]),
+    Due::Heard(2, "1 1 0 0 Unnamed by Anonymous\n.\n"),
+    Due::Closed(2, Some(80_000)),
+    Due::Told("2 ", &["connected", "By(EndOfInput)"]),
+    Due::Heard(3, "BAD\n"),
+];
+
+/// A peer whose command waits for its turn during a submission of 70 seconds isn't displaced for another one, neither before its command is
+/// carried out nor right after it; nor is the one that submitted.
+#[test]
+fn a_turn_that_is_awaited(rt: HostRuntime) {
+    act_out(&rt, &A_TURN_THAT_IS_AWAITED, 3, &A_TURN_THAT_IS_AWAITED_DUE);
+}
+
+/// What is done in `peers_of_one_host`.
+const PEERS_OF_ONE_HOST: [Cue; 12] = [
+    (0, Deed::Calls(1)),
+    (1, Deed::Calls(2)),
+    (1, Deed::Calls(3)),
+    (2, Deed::CallsFrom(4, 2)),
+    (2, Deed::Takes(4, ALL)),
+    (2, Deed::Says(4, "BOGUS\n")),
+    (3_000, Deed::Calls(5)),
+    (3_001, Deed::CallsFrom(6, 2)),
+    (3_002, Deed::Calls(7)),
+    (3_003, Deed::Ends(4)),
+    (3_003, Deed::Ends(6)),
+    (3_003, Deed::Ends(7)),
+];
+
+const PEERS_OF_ONE_HOST_DUE: [Due; 8] = [
+    Due::Closed(3, Some(1)),
+    Due::Told("3 ", &["refused"]),
+    Due::Heard(4, "BAD\n"),
+    Due::Closed(5, Some(3_000)),
+    Due::Told("5 ", &["refused"]),
+    Due::Closed(1, Some(3_001)),
+    Due::Closed(2, Some(3_002)),
+    Due::Told("7 ", &["connected", "By(EndOfInput)"]),
+];
+
+/// Of three peers at once two may be of one host. A third one of it is refused if a place is free, and if a silent peer could be displaced for
+/// it. One of another host is given that peer's place; then one more of the first host may be there.
+#[test]
+fn peers_of_one_host(rt: HostRuntime) {
+    let dues = &PEERS_OF_ONE_HOST_DUE;
+    act_within(&rt, &PEERS_OF_ONE_HOST, within(3, Some(2), 5), dues);
+}
+
+/// What is done in `answers_that_are_owed`.
+const ANSWERS_THAT_ARE_OWED: [Cue; 9] = [
+    (0, Deed::Calls(1)),
+    (0, Deed::Says(1, "BOGUS\nQUIT\n")),
+    (0, Deed::Ends(1)),
+    (0, Deed::Calls(2)),
+    (0, Deed::Says(2, "BOGUS\n")),
+    (0, Deed::Ends(2)),
+    (1, Deed::Takes(2, 2)),
+    (30_000, Deed::Takes(1, ALL)),
+    (59_999, Deed::Takes(2, ALL)),
+];
+
+const ANSWERS_THAT_ARE_OWED_DUE: [Due; 6] = [
+    Due::Heard(1, "BAD\n"),
+    Due::Closed(1, Some(30_000)),
+    Due::Told("1 ", &["connected", "By(Quit)"]),
+    Due::Heard(2, "BAD\n"),
+    Due::Closed(2, Some(59_999)),
+    Due::Told("2 ", &["connected", "By(EndOfInput)"]),
+];
+
+/// Peers whose sessions have ended, by `QUIT` and by the end of their bytes, have all their answers before they are disconnected.
+#[test]
+fn answers_that_are_owed(rt: HostRuntime) {
+    act_out(&rt, &ANSWERS_THAT_ARE_OWED, 2, &ANSWERS_THAT_ARE_OWED_DUE);
+}
+
+/// What is done in `bytes_during_a_submission`.
+const BYTES_DURING_A_SUBMISSION: [Cue; 11] = [
+    (0, Deed::Calls(2)),
+    (0, Deed::Takes(2, ALL)),
+    (0, Deed::Calls(1)),
+    (0, Deed::Takes(1, ALL)),
+    (1, Deed::Lasts(3_000)),
+    (1, Deed::Says(1, "SUBMIT\nMOV 0,1\n.\n")),
+    (2, Deed::Calls(3)),
+    (1_000, Deed::Says(2, "BOGUS\n")),
+    (4_000, Deed::Ends(2)),
+    (4_001, Deed::Ends(1)),
+    (4_001, Deed::Ends(3)),
+];
+
+const BYTES_DURING_A_SUBMISSION_DUE: [Due; 3] = [
+    Due::Heard(2, "BAD\n"),
+    Due::Closed(2, Some(4_000)),
+    Due::Told("2 ", &["connected", "By(EndOfInput)"]),
+];
+
+/// A peer whose first bytes come during a submission of 3 seconds isn't displaced for another one, though nothing was read of it until then.
+#[test]
+fn bytes_during_a_submission(rt: HostRuntime) {
+    let dues = &BYTES_DURING_A_SUBMISSION_DUE;
+    act_out(&rt, &BYTES_DURING_A_SUBMISSION, 3, dues);
+}
