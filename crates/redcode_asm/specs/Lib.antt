@@ -4,6 +4,8 @@ pub mod Names
 pub mod Said
 -- the assembly of a source: the warrior, or the first fault
 pub mod Assembly
+-- the same within a budget of steps
+pub mod Within
 -- the load text of a warrior
 pub mod LoadText
 -- the assembler reads a load text back

@@ -1,0 +1,13 @@
+-- What an assembly within a budget of steps answers.
+use Rattle.std.specs.Prelude.{◌≡◌, ⊤, Result, Ok, Err}
+use Rattle.{war_types.specs.{declared.fault.AsmFault.AsmFault, Warrior.WarriorParts}, redcode_asm.specs.{declared.within.Unassembled.Unassembled, Assembly.Assembles}}
+use Rattle.redcode_asm.specs.declared.within.Unassembled.TheVariants as why
+
+abbrev pub refused : AsmFault → Unassembled
+refused fault = why.Refused fault
+
+-- An answer that is given is what was expected, unless memory ran out. Steps that are spent say nothing.
+abbrev pub AssemblesWithin : Result WarriorParts Unassembled → Result WarriorParts AsmFault → Type 0
+AssemblesWithin (Ok warrior) expected = expected ≡ Ok warrior
+AssemblesWithin (Err (why.Refused fault)) expected = Assembles (Err fault) expected
+AssemblesWithin (Err why.StepsSpent) expected = ⊤
