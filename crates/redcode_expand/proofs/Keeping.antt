@@ -3,7 +3,7 @@ use Rattle.std.proofs.Common.{arith, ◌≡◌, ℕ, zero, suc, Bool, false, ◌
 use Rattle.std.proofs.{Common.{Option, Some, None, subst, inl, inr, replicate, Result}, lemmas.Bool.{or_parts, cases_Bool, eqb-true}, lemmas.Grind.common_steps}
 use Rattle.{std.specs.Prelude.{slice_index_or, slice_set}, std.proofs.lemmas.List.{get_or-map, get_or-set_other, get_or-replicate, length-map, length-set, length-replicate, map-set, set-get_or}}
 use Rattle.{redcode_text.specs.Value.{part_of, value_of, value_within, or_bad}, redcode_names.specs.{Equ.or_itself, Gives.{◌>>=◌, Fails}}}
-use Rattle.{redcode_names.proofs.{Replacing.left_over-all, Unchanged.replaced-left}, redcode_expand.specs.Kept.{count_of, has_loose, Keeps, CountIsFixed, IsKept, AreKept, kept_at}}
+use Rattle.{redcode_names.proofs.{Replacing.left_over-all, Unchanged.replaced-left}, redcode_expand.specs.Kept.{count_of, has_loose, Keeps, CountIsFixed, IsKept, AreFixed, kept_at}}
 use Rattle.redcode_expand.specs.{declared.counts.Kept.Kept, Walk.{WalkState, begun_as, walk_state, ExpandedLine, Begun, begun_of, copies_of, count_by}}
 use Rattle.redcode_expand.proofs.Words.{RawSettings, Piece, is_name, SourceLine, labels_of, EquList, body_at, round, has_tokens, has_equ, left_over, replaced, after_rounds, is_loose, predefined}
 use Rattle.redcode_expand.proofs.{Words.{Names, for_labels, AsmFault}, GoingOn.nat_eq-other}
@@ -103,20 +103,20 @@ kept-later s line old new n keeps is = record {
   few = is.few;
 }
 
-pub all-later : (s : RawSettings) (lines : List SourceLine) (old new : EquList) (counts : List (Option ℕ)) → Keeps s old new → AreKept s lines old counts → AreKept s lines new counts
+pub all-later : (s : RawSettings) (lines : List SourceLine) (old new : EquList) (counts : List (Option ℕ)) → Keeps s old new → AreFixed s lines old counts → AreFixed s lines new counts
 all-later s lines old new counts keeps are =
     record { room = are.room; kept = λ at line n some read is. kept-later s line old new n keeps (are.kept at line n some read is) }
 
-pub all-same : (s : RawSettings) (lines : List SourceLine) (old new : EquList) (counts : List (Option ℕ)) → new ≡ old → AreKept s lines old counts → AreKept s lines new counts
-all-same s lines old new counts same are = subst (λ (equs : EquList). AreKept s lines equs counts) (sym same) are
+pub all-same : (s : RawSettings) (lines : List SourceLine) (old new : EquList) (counts : List (Option ℕ)) → new ≡ old → AreFixed s lines old counts → AreFixed s lines new counts
+all-same s lines old new counts same are = subst (λ (equs : EquList). AreFixed s lines equs counts) (sym same) are
 
 -- ---- more counts
 
-None≢Some : (n : ℕ) (o : Option ℕ) → o ≡ None → o ≡ Some n → ⊥
+pub None≢Some : (n : ℕ) (o : Option ℕ) → o ≡ None → o ≡ Some n → ⊥
 None≢Some n o none some = cc
 
 -- at first there is none
-pub none-kept : (s : RawSettings) (lines : List SourceLine) (equs : EquList) (counts : List (Option ℕ)) → counts ≡ replicate (length lines) None → AreKept s lines equs counts
+pub none-kept : (s : RawSettings) (lines : List SourceLine) (equs : EquList) (counts : List (Option ℕ)) → counts ≡ replicate (length lines) None → AreFixed s lines equs counts
 none-kept s lines equs counts h1 = grind (arith, length-replicate, None≢Some, get_or-replicate)
 
 with-at : (s : RawSettings) (lines : List SourceLine) (equs : EquList) (counts : List (Option ℕ)) (at place : ℕ) (line other : SourceLine) (n m : ℕ) → at < length counts → at ≡ place
@@ -126,7 +126,7 @@ with-at s lines equs counts at place line other n m h1 h2 h3 h4 h5 h6 = grind (a
 
 -- one more is kept
 pub all-with : (s : RawSettings) (lines : List SourceLine) (equs : EquList) (counts : List (Option ℕ)) (at : ℕ) (line : SourceLine) (n : ℕ) → at < length lines
-    → drop at lines ≡ line ∷ drop (at + 1) lines → IsKept s equs line n → AreKept s lines equs counts → AreKept s lines equs (slice_set counts at (Some n))
+    → drop at lines ≡ line ∷ drop (at + 1) lines → IsKept s equs line n → AreFixed s lines equs counts → AreFixed s lines equs (slice_set counts at (Some n))
 all-with s lines equs counts at line n some read kept are =
     let within : at < length counts = omega (arith, are.room, some) in
     record {
@@ -171,13 +171,13 @@ begun-kept s line st n is =
 
 -- a count that was computed is kept if it is fixed
 pub all-learned : (s : RawSettings) (lines : List SourceLine) (old new : EquList) (counts after : List (Option ℕ)) (at : ℕ) (line : SourceLine) (n : ℕ) (fixed : Bool)
-    → new ≡ old → at < length lines → drop at lines ≡ line ∷ drop (at + 1) lines → AreKept s lines old counts → labels_of line ≡ []
-    → CountIsFixed s line.number new (drop 1 line.tokens) fixed n → n < 2 ^ 63 → after ≡ (if fixed then slice_set counts at (Some n) else counts) → AreKept s lines new after
+    → new ≡ old → at < length lines → drop at lines ≡ line ∷ drop (at + 1) lines → AreFixed s lines old counts → labels_of line ≡ []
+    → CountIsFixed s line.number new (drop 1 line.tokens) fixed n → n < 2 ^ 63 → after ≡ (if fixed then slice_set counts at (Some n) else counts) → AreFixed s lines new after
 all-learned s lines old new counts after at line n true same some read are none is few learned =
-    subst (λ (cs : List (Option ℕ)). AreKept s lines new cs) (sym learned)
+    subst (λ (cs : List (Option ℕ)). AreFixed s lines new cs) (sym learned)
     (all-with s lines new counts at line n some read (record { labels = none; count = is.if_told refl; few = few }) (all-same s lines old new counts same are))
 all-learned s lines old new counts after at line n false same some read are none is few learned =
-    subst (λ (cs : List (Option ℕ)). AreKept s lines new cs) (sym learned) (all-same s lines old new counts same are)
+    subst (λ (cs : List (Option ℕ)). AreFixed s lines new cs) (sym learned) (all-same s lines old new counts same are)
 
 -- ---- a count
 

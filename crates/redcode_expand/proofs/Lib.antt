@@ -9,6 +9,7 @@ mod RowsOfBlocks
 mod Alike
 mod Capped
 mod Keeping
+mod Latest
 mod AddedEqus
 mod Counted
 mod WrittenOut

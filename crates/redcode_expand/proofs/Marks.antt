@@ -2,8 +2,8 @@
 use Rattle.std.proofs.Common.{◌≡◌, ℕ, ◌+◌, ◌≤◌, ◌<◌, arith, true, false, Bool, not, ◌&&◌, List, [], ◌∷◌, length, drop, Option, Some, Result, Ok, refl, sym, ap, subst, ◌∙◌, nat_eq}
 use Rattle.{std.specs.Prelude.{if◌then◌else◌, slice_set}, std.proofs.{lemmas.Bool.{eqb-true, or_parts}, lemmas.List.{drop_all, drop_more, get_or-set_same, get_or-set_other, length-set}}}
 use Rattle.redcode_names.specs.Gives.{◌>>=◌}
-use Rattle.redcode_expand.specs.{declared.marked_lines.Mark.Mark, Marks.{edge_of, has_name, is_bare, line_in, mark_at, no_mark, AreFromRof, AreMarked, IsMarked, IsNextRof}}
-use Rattle.redcode_expand.specs.{Kept.{AreKept, kept_at}, Rest.{OpenBlock, behind_copy, counters_of, rest_of, steps_left, AreOpen, GoesOn}}
+use Rattle.redcode_expand.specs.{declared.marked_lines.Mark.Mark, Marks.{edge_of, has_name, is_bare, line_in, mark_at, no_mark, AreFromRof, AreMarked, IsMarked, IsNextRof, IsSameCount}}
+use Rattle.redcode_expand.specs.{Kept.{AreFixed, kept_at}, Rest.{OpenBlock, behind_copy, counters_of, rest_of, steps_left, AreOpen, GoesOn}}
 use Rattle.redcode_expand.specs.{Walk.{Begun, WalkState, begun, begun_as, begun_of, closed, walk}, declared.marked_lines.Edge.Edge}
 use Rattle.redcode_expand.proofs.Words.{AsmFault, RawSettings, Piece, SourceLine, Blocks, Parsed, parsed, with_body, behind_by, behind_for, has_tokens, Counter, has_number, Word, has_and}
 use Rattle.redcode_expand.proofs.{GoingOn.{begun_rest, for-here, rest-begun, rof-here, nat_eq-other}, Keeping.begun-kept, PlainCounts.{begun-unnamed, closed-none}}
@@ -137,14 +137,15 @@ closed-bare s cs line st word bare = closed-none s cs line st words.Rof word (ba
 
 -- what was marked of a line that was read
 pub marked-is : (ls : List SourceLine) (at rof : ℕ) (line read : SourceLine) (mark : Mark) → at < length ls → drop at ls ≡ line ∷ drop (at + 1) ls → read ≡ line
-    → mark.edge ≡ edge_of read.word → mark.is_bare ≡ is_bare read → mark.has_names ≡ has_name (drop 1 read.tokens) → mark.rof ≡ rof → IsNextRof ls (at + 1) rof → IsMarked ls at mark
-marked-is ls at rof line read mark some first is edge bare names own next =
+    → mark.edge ≡ edge_of read.word → mark.is_bare ≡ is_bare read → mark.has_names ≡ has_name (drop 1 read.tokens) → mark.rof ≡ rof → IsNextRof ls (at + 1) rof → IsSameCount ls at mark.count → IsMarked ls at mark
+marked-is ls at rof line read mark some first is edge bare names own next same =
     let here : read ≡ line_in ls at = is ∙ sym (line-first ls at line some first) in
     record {
       edge = edge ∙ ap (λ (l : SourceLine). edge_of l.word) here;
       bare = bare ∙ ap is_bare here;
       names = names ∙ ap (λ (l : SourceLine). has_name (drop 1 l.tokens)) here;
       rof = subst (IsNextRof ls (at + 1)) (sym own) next;
+      count = same;
     }
 
 -- ---- a block without a copy
@@ -175,7 +176,7 @@ empty-goes-on s ls bs at rof st few some going word opened none own there bare =
 
 -- the count of a FOR that has no labels and no names
 pub begun-empty : (s : RawSettings) (cs : List Counter) (ls : List SourceLine) (counts : List (Option ℕ)) (at : ℕ) (st : WalkState) → at < length ls → (line_in ls at).word ≡ Some words.For
-    → AreKept s ls st.names.equs counts → is_bare (line_in ls at) ≡ true → has_name (drop 1 (line_in ls at).tokens) ≡ false → kept_at counts at ≡ Some 0
+    → AreFixed s ls st.names.equs counts → is_bare (line_in ls at) ≡ true → has_name (drop 1 (line_in ls at).tokens) ≡ false → kept_at counts at ≡ Some 0
     → begun s cs (line_in ls at) st ≡ Ok (begun_as st [] 0)
 begun-empty s cs ls counts at st some word kept bare names none =
     let line : SourceLine = line_in ls at in

@@ -49,7 +49,7 @@ no-equ (e ∷ es) ts none = absurd (omega arith)
 
 -- ---- no labels
 
-copies-word : (cs : List Counter) (line : SourceLine) → (in_copies cs line).word ≡ line.word
+pub copies-word : (cs : List Counter) (line : SourceLine) → (in_copies cs line).word ≡ line.word
 copies-word [] line = refl
 copies-word (c ∷ cs) line = copies-word cs (in_copy c line)
 

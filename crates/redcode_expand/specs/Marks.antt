@@ -33,15 +33,27 @@ pub record IsNextRof (lines : List SourceLine) (body rof : ℕ) : Type 0 where
   pub from : AreFromRof (drop rof lines)
   pub later : body ≤ rof
 
+-- in all copies these lines have the same tokens
+pub record ReadSame (line other : SourceLine) : Type 0 where
+  pub form : line.form ≡ other.form
+  pub word : line.word ≡ other.word
+  pub tokens : line.tokens ≡ other.tokens
+
+-- the line at index count is one of these lines, and reads the same as the one at index at
+pub record IsSameCount (lines : List SourceLine) (at count : ℕ) : Type 0 where
+  pub some : count < length lines
+  pub same : ReadSame (line_in lines at) (line_in lines count)
+
 -- what is marked of the line at this index
 pub record IsMarked (lines : List SourceLine) (at : ℕ) (mark : Mark) : Type 0 where
   pub edge : mark.edge ≡ edge_of (line_in lines at).word
   pub bare : mark.is_bare ≡ is_bare (line_in lines at)
   pub names : mark.has_names ≡ has_name (drop 1 (line_in lines at).tokens)
   pub rof : IsNextRof lines (at + 1) mark.rof
+  pub count : IsSameCount lines at mark.count
 
 abbrev pub no_mark : Mark
-no_mark = record { edge = Edge.For; is_bare = false; has_names = false; rof = 0 }
+no_mark = record { edge = Edge.For; is_bare = false; has_names = false; rof = 0; count = 0 }
 
 abbrev pub mark_at : List Mark → ℕ → Mark
 mark_at marks at = slice_index_or marks at no_mark

@@ -1,8 +1,8 @@
 //! How a block begins.
 
-ghost use Rattle.std.specs.Prelude.{◌≡◌, ◌<◌, ◌^◌, [], true, false, Some, drop, length, IfOk, OnOk};
+ghost use Rattle.std.specs.Prelude.{◌≡◌, ◌<◌, ◌≤◌, ◌^◌, [], true, false, Some, drop, length, IfOk, OnOk};
 ghost use Rattle.{redcode_text.specs.{Tokens.pieces, declared.vocabulary.Word.TheVariants.For}, redcode_lines.specs.Views.line_read, redcode_copies.specs.Plain.has_number};
-ghost use Rattle.{redcode_names.specs.Gives.Gives, redcode_expand.specs.{Rest.counters_of, Walk.{begun, begun_as, begun_of}, Kept.{AreKept, CountIsFixed}, Marks.{is_bare, line_in}}};
+ghost use Rattle.{redcode_names.specs.Gives.Gives, redcode_expand.specs.{Rest.counters_of, Walk.{begun, begun_as, begun_of}, Kept.{AreFixed, AreKept, CountIsFixed, counter_before}, Marks.{is_bare, line_in}}};
 
 use crate::count::copies_of;
 use crate::counts::Counts;
@@ -10,8 +10,9 @@ use crate::marked_lines::MarkedLines;
 use crate::open_blocks::OpenBlocks;
 use crate::values::count_within;
 use crate::walk::Walk;
-use redcode_lines::{Reading, behind_first};
+use redcode_lines::{Reading, behind_first, is_name};
 use redcode_names::TOKEN_LIMIT;
+use redcode_text::Token;
 use std::alloc::Allocator;
 use war_types::{AsmFault, Settings};
 
@@ -80,7 +81,7 @@ impl<'s, A: Allocator + Copy> Walk<'s, A> {
     }
 }
 
-/// How a block begins: by its labels and its count, or by its count alone if it has no labels.
+/// How a block begins. If it has no label its count may be one that is kept.
 pub(crate) fn begun_at<'s, A: Allocator + Copy>(
     settings: &Settings,
     walk: &mut Walk<'s, A>,
@@ -91,12 +92,45 @@ pub(crate) fn begun_at<'s, A: Allocator + Copy>(
 ) -> Result<Begun<'s>, AsmFault>
     requires some { at < length lines.now }
     requires word { (line_in lines.now at).word ≡ Some For }
-    requires kept { AreKept settings.now lines.now walk.old.names.equs counts.old }
+    requires kept { AreKept settings.now lines.now (counters_of blocks.now) walk.old counts.old }
     ensures begun { Gives (λ b. begun_as walk.new b.counter.now b.copies) result (begun settings.now (counters_of blocks.now) (line_in lines.now at) walk.old) }
     ensures goes_on { OnOk result (walk.new.ended ≡ walk.old.ended) }
     ensures counted { OnOk result (walk.new.counted ≡ walk.old.counted) }
     ensures few { IfOk result (λ b. b.copies < 2 ^ 63) }
-    ensures kept { OnOk result (AreKept settings.now lines.now walk.new.names.equs counts.new) }
+    ensures kept { OnOk result (AreKept settings.now lines.now (counters_of blocks.now) walk.new counts.new) }
+{
+    let front = lines.reading(at).front;
+    if front.len() > 1 {
+        let begun = walk.begin(settings, blocks, lines.reading(at))?;
+        return Ok(begun);
+    }
+    let count = lines.count(at);
+    if let Some(copies) = counts.latest(count) {
+        return Ok(begun_with(front, copies));
+    }
+    let begun = begun_unlabelled(settings, walk, blocks, counts, lines, at)?;
+    counts.learn_latest(count, begun.copies);
+    Ok(begun)
+}
+
+/// How a block without labels begins, if its count is to be worked out.
+fn begun_unlabelled<'s, A: Allocator + Copy>(
+    settings: &Settings,
+    walk: &mut Walk<'s, A>,
+    blocks: &OpenBlocks<'s, A>,
+    counts: &mut Counts<A>,
+    lines: &MarkedLines<'_, 's, A>,
+    at: usize,
+) -> Result<Begun<'s>, AsmFault>
+    requires some { at < length lines.now }
+    requires word { (line_in lines.now at).word ≡ Some For }
+    requires kept { AreFixed settings.now lines.now walk.old.names.equs counts.old.fixed }
+    ensures begun { Gives (λ b. begun_as walk.new b.counter.now b.copies) result (begun settings.now (counters_of blocks.now) (line_in lines.now at) walk.old) }
+    ensures goes_on { OnOk result (walk.new.ended ≡ walk.old.ended) }
+    ensures counted { OnOk result (walk.new.counted ≡ walk.old.counted) }
+    ensures few { IfOk result (λ b. b.copies < 2 ^ 63) }
+    ensures kept { OnOk result (AreFixed settings.now lines.now walk.new.names.equs counts.new.fixed) }
+    ensures latest { counts.new.latest ≡ counts.old.latest }
 {
     if !lines.is_bare(at) {
         let begun = walk.begin(settings, blocks, lines.reading(at))?;
@@ -136,12 +170,13 @@ fn begun_outside<'s, A: Allocator + Copy>(
     requires word { (line_in lines.now at).word ≡ Some For }
     requires bare { is_bare (line_in lines.now at) ≡ true }
     requires unnamed { has_number (counters_of blocks.now) (drop 1 (line_in lines.now at).tokens) ≡ false }
-    requires kept { AreKept settings.now lines.now walk.old.names.equs counts.old }
+    requires kept { AreFixed settings.now lines.now walk.old.names.equs counts.old.fixed }
     ensures begun { Gives (λ b. begun_as walk.new b.counter.now b.copies) result (begun settings.now (counters_of blocks.now) (line_in lines.now at) walk.old) }
     ensures goes_on { OnOk result (walk.new.ended ≡ walk.old.ended) }
     ensures counted { OnOk result (walk.new.counted ≡ walk.old.counted) }
     ensures few { IfOk result (λ b. b.copies < 2 ^ 63) }
-    ensures kept { OnOk result (AreKept settings.now lines.now walk.new.names.equs counts.new) }
+    ensures kept { OnOk result (AreFixed settings.now lines.now walk.new.names.equs counts.new.fixed) }
+    ensures latest { counts.new.latest ≡ counts.old.latest }
 {
     if let Some(copies) = counts.at(at) {
         return Ok(begun_by(copies));
@@ -179,6 +214,23 @@ fn begun_within<'s, A: Allocator + Copy>(
     match count_within(settings, line.number, walk.before(), blocks, count) {
         Ok(copies) => Ok(begun_by(copies)),
         Err(fault) => Err(fault),
+    }
+}
+
+/// A block with this number of copies, whose counter is the name before its `FOR`.
+fn begun_with<'s>(front: &[Token<'s>], copies: u64) -> Begun<'s>
+    requires { length front.now ≤ 1 }
+    ensures counter { result.counter.now ≡ counter_before (pieces front.now) }
+    ensures copies { result.copies ≡ copies }
+{
+    let counter: &[u8] = match front {
+        [name, ..] if is_name(name) => name.text,
+        _ => b"",
+    };
+    Begun {
+        counter,
+        copies,
+        is_fixed: false,
     }
 }
 

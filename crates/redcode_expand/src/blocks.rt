@@ -43,7 +43,7 @@ fn walk_marked<'s, A: Allocator + Copy>(
     lines: &MarkedLines<'_, 's, A>,
 ) -> Result<Walk<'s, A>, AsmFault>
     requires few { length lines.now ≤ 65536 }
-    requires kept { AreKept settings.now lines.now [] counts.old }
+    requires kept { AreKept settings.now lines.now [] walk_begin counts.old }
     ensures { Gives (λ walk. walk) result (walk_all settings.now (parsed lines.now) walk_begin) }
 {
     let mut walk = Walk::new(alloc, hash);
@@ -65,7 +65,7 @@ fn walk_begun<'s, A: Allocator + Copy>(
 ) -> Result<(), AsmFault>
     requires few { length lines.now ≤ 65536 }
     requires begin { walk.old ≡ walk_begin }
-    requires kept { AreKept settings.now lines.now [] counts.old }
+    requires kept { AreKept settings.now lines.now [] walk_begin counts.old }
     ensures { Gives (λ _. walk.new) result (walk_all settings.now (parsed lines.now) walk_begin) }
 {
     let mut blocks = OpenBlocks::new(alloc, region, hash);
@@ -83,7 +83,7 @@ fn walk_lines<'s, A: Allocator + Copy>(
     requires few { length lines.now ≤ 65536 }
     requires begin { walk.old ≡ walk_begin }
     requires none { blocks.old ≡ [] }
-    requires kept { AreKept settings.now lines.now [] counts.old }
+    requires kept { AreKept settings.now lines.now [] walk_begin counts.old }
     ensures { Gives (λ _. walk.new) result (walk_all settings.now (parsed lines.now) walk_begin) }
 {
     let mut at = 0;
@@ -107,16 +107,20 @@ fn step<'s, A: Allocator + Copy>(
     requires some { at < length lines.now }
     requires goes_on { walk.old.ended ≡ false }
     requires opened { AreOpen lines.now blocks.old (parsed (drop at lines.now)).1 }
-    requires kept { AreKept settings.now lines.now walk.old.names.equs counts.old }
+    requires kept { AreKept settings.now lines.now (counters_of blocks.old) walk.old counts.old }
     ensures goes_on { let due = rest_of settings.now lines.now blocks.old (parsed (drop at lines.now)) walk.old in
         let steps = steps_left lines.now blocks.old at walk.old in
         MatchResult result (λ next. GoesOn settings.now lines.now due steps blocks.new next walk.new) (λ fault. Fails fault due) }
-    ensures kept { OnOk result (AreKept settings.now lines.now walk.new.names.equs counts.new) }
+    ensures kept { OnOk result (AreKept settings.now lines.now (counters_of blocks.new) walk.new counts.new) }
 {
     match lines.edge(at) {
         Edge::For => begin(settings, walk, blocks, counts, lines, at),
-        Edge::Rof => end_copy(settings, walk, blocks, lines, at),
+        Edge::Rof => {
+            Counts::rise(counts)?;
+            end_copy(settings, walk, blocks, lines, at)
+        }
         Edge::Neither => {
+            counts.rise()?;
             walk.step(settings, blocks, lines.reading(at))?;
             Ok(at + 1)
         }
@@ -138,11 +142,11 @@ fn begin<'s, A: Allocator + Copy>(
     requires opened { AreOpen lines.now blocks.old (parsed (drop at lines.now)).1 }
     requires line { drop at lines.now ≡ line_in lines.now at ∷ drop (at + 1) lines.now }
     requires word { (line_in lines.now at).word ≡ Some For }
-    requires kept { AreKept settings.now lines.now walk.old.names.equs counts.old }
+    requires kept { AreKept settings.now lines.now (counters_of blocks.old) walk.old counts.old }
     ensures goes_on { let due = rest_of settings.now lines.now blocks.old (parsed (drop at lines.now)) walk.old in
         let steps = steps_left lines.now blocks.old at walk.old in
         MatchResult result (λ next. GoesOn settings.now lines.now due steps blocks.new next walk.new) (λ fault. Fails fault due) }
-    ensures kept { OnOk result (AreKept settings.now lines.now walk.new.names.equs counts.new) }
+    ensures kept { OnOk result (AreKept settings.now lines.now (counters_of blocks.new) walk.new counts.new) }
 {
     if let Some(next) = behind_empty(settings, walk, blocks, counts, lines, at) {
         return Ok(next);
@@ -155,6 +159,7 @@ fn begin<'s, A: Allocator + Copy>(
         let next = pass(settings, walk, blocks, lines, at)?;
         return Ok(next);
     }
+    counts.rise()?;
     let start = walk.counted();
     let left = begun.copies - 1;
     let body = at + 1;
@@ -177,7 +182,7 @@ fn behind_empty<'s, A: Allocator + Copy>(
     requires goes_on { walk.now.ended ≡ false }
     requires opened { AreOpen lines.now blocks.now (parsed (drop at lines.now)).1 }
     requires word { (line_in lines.now at).word ≡ Some For }
-    requires kept { AreKept settings.now lines.now walk.now.names.equs counts.now }
+    requires kept { AreKept settings.now lines.now (counters_of blocks.now) walk.now counts.now }
     ensures { let due = rest_of settings.now lines.now blocks.now (parsed (drop at lines.now)) walk.now in
         let steps = steps_left lines.now blocks.now at walk.now in
         IfSome result (λ next. GoesOn settings.now lines.now due steps blocks.now next walk.now) }
@@ -203,6 +208,7 @@ fn close<'s, A: Allocator + Copy>(
     requires some { at < length lines.now }
     requires word { (line_in lines.now at).word ≡ Some Rof }
     ensures closed { Gives (λ _. walk.new) result (closed settings.now (counters_of blocks.now) (line_in lines.now at) walk.old) }
+    ensures before { walk.new.before ≡ walk.old.before }
     ensures counted { walk.new.counted ≡ walk.old.counted }
 {
     if lines.is_bare(at) {
@@ -235,6 +241,7 @@ fn pass<'s, A: Allocator + Copy>(
     requires goes_on { walk.old.ended ≡ false }
     ensures passes { let due = rest_behind settings.now lines.now blocks.now (line_in lines.now at).number (parsed (drop (at + 1) lines.now)).1 walk.old in
         MatchResult result (λ next. Passes settings.now lines.now due blocks.now (at + 1) walk.old next walk.new) (λ fault. Fails fault due) }
+    ensures before { OnOk result (walk.new.before ≡ walk.old.before) }
     ensures equs { OnOk result (walk.new.names.equs ≡ walk.old.names.equs) }
 {
     let rof = lines.rof_behind(at);

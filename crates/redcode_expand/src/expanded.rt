@@ -8,7 +8,7 @@ use crate::blocks::walk_all;
 use crate::entry::Entry;
 use bumpalo::Bump;
 use redcode_lines::{SourceLine, live_source, operands_of, source_lines};
-use redcode_names::{Equs, Labels, LinkedEqus, NameHash, Names, TOKEN_LIMIT, too_many, written};
+use redcode_names::{Equs, Labels, NameHash, Names, TOKEN_LIMIT, too_many, written};
 use redcode_text::Token;
 use std::alloc::{AllocError, Allocator};
 use std::marker::Model;
@@ -117,21 +117,9 @@ fn unchanged<'s, A: Allocator + Copy>(
 }
 
 /// Replaces the names of EQUs in the operands of all lines.
-fn replace_all<'s, A: Allocator + Copy>(
-    alloc: A,
-    equs: &Equs<'s, A>,
-    entries: Vec<Entry<'s, A>, A>,
-) -> Result<Vec<Entry<'s, A>, A>, AsmFault>
-    ensures { Gives (λ lines. lines.items) result (all_replaced equs.now entries.entry.items) }
-{
-    let linked = LinkedEqus::new(alloc, equs)?;
-    replace_each(alloc, &linked, entries)
-}
-
-/// The same with the bodies linked.
 fn replace_each<'s, A: Allocator + Copy>(
     alloc: A,
-    equs: &LinkedEqus<'_, 's, A>,
+    equs: &Equs<'s, A>,
     entries: Vec<Entry<'s, A>, A>,
 ) -> Result<Vec<Entry<'s, A>, A>, AsmFault>
     ensures { Gives (λ lines. lines.items) result (all_replaced equs.now entries.entry.items) }
@@ -147,7 +135,7 @@ fn replace_each<'s, A: Allocator + Copy>(
 /// Replaces the names of EQUs in the operands of a line. One without such a name keeps its tokens as they are.
 fn replace_in<'s, A: Allocator + Copy>(
     alloc: A,
-    equs: &LinkedEqus<'_, 's, A>,
+    equs: &Equs<'s, A>,
     entry: Entry<'s, A>,
 ) -> Result<Entry<'s, A>, AsmFault>
     ensures { Gives (λ line. line) result (line_replaced equs.now entry.entry) }
@@ -155,7 +143,7 @@ fn replace_in<'s, A: Allocator + Copy>(
     let line = entry.line;
     let tokens = entry.tokens.as_slice();
     let operands = operands_of(line.kind, tokens);
-    if !equs.equs().are_among(operands) {
+    if !equs.are_among(operands) {
         if operands.len() > TOKEN_LIMIT {
             return Err(too_many(line.source_line));
         }
@@ -214,5 +202,5 @@ fn names_replaced<'s, A: Allocator + Copy>(
     if names.has_no_equs() {
         return unchanged(entries);
     }
-    replace_all(alloc, &names.equs, entries)
+    replace_each(alloc, &names.equs, entries)
 }

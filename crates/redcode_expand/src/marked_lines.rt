@@ -4,8 +4,9 @@
 //! say whether there is anything to read.
 
 ghost use Rattle.std.specs.Prelude.{◌≡◌, ◌+◌, ◌<◌, ◌∷◌, drop, length, IfOk};
-ghost use Rattle.{redcode_text.specs.Tokens.pieces, redcode_lines.specs.Views.line_read, redcode_expand.specs.Marks.{edge_of, has_name, is_bare, line_in, AreMarked, IsNextRof}};
+ghost use Rattle.{redcode_text.specs.Tokens.pieces, redcode_lines.specs.Views.line_read, redcode_expand.specs.Marks.{edge_of, has_name, is_bare, line_in, AreMarked, IsNextRof, IsSameCount}};
 
+use crate::same_counts::SameCounts;
 use redcode_lines::{Reading, SourceLine, behind_first, has_and, is_name, line_at};
 use redcode_text::{Token, Word};
 use std::alloc::{AllocError, Allocator};
@@ -31,6 +32,8 @@ pub(crate) struct Mark {
     pub has_names: bool,
     /// The index of the `ROF` that matches this `FOR`, or that ends the block of any other line; `lines.len()` or more if there is none.
     pub rof: usize,
+    /// The index of a line with the same tokens; the same index for many lines whose counts read alike.
+    pub count: usize,
 }
 
 /// The lines of a source, with what the walk has to know of each.
@@ -60,9 +63,11 @@ impl<'l, 's, A: Allocator + Copy> MarkedLines<'l, 's, A> {
             is_bare: false,
             has_names: false,
             rof: 0,
+            count: 0,
         };
         let mut marks = vec![in alloc; blank; lines.len()]?;
-        mark_all(lines, marks.as_mut_slice());
+        let mut same = SameCounts::new(alloc, lines.len())?;
+        mark_all(lines, marks.as_mut_slice(), &mut same);
         Ok(MarkedLines { lines, marks })
     }
 
@@ -121,21 +126,32 @@ impl<'l, 's, A: Allocator + Copy> MarkedLines<'l, 's, A> {
     {
         self.marks[at].rof
     }
+
+    /// The index of a line whose count reads the same as that of the `FOR` at index `at`.
+    pub(crate) fn count(&self, at: usize) -> usize
+        requires { at < length self.now }
+        ensures { IsSameCount self.now at result }
+    {
+        self.marks[at].count
+    }
 }
 
 impl Mark {
-    /// The mark of a line. `rof` is the index of the first `ROF` after it whose `FOR` isn't after it.
-    fn of(line: Reading<'_, '_>, rof: usize) -> Mark
+    /// The mark of a line. `rof` is the index of the first `ROF` after it whose `FOR` isn't after it, and `count` of a line that reads the
+    /// same.
+    fn of(line: Reading<'_, '_>, rof: usize, count: usize) -> Mark
         ensures edge { result.edge ≡ edge_of (line_read line.entry).word }
         ensures bare { result.is_bare ≡ is_bare (line_read line.entry) }
         ensures names { result.has_names ≡ has_name (drop 1 (line_read line.entry).tokens) }
         ensures rof { result.rof ≡ rof }
+        ensures count { result.count ≡ count }
     {
         Mark {
             edge: edge_of(line.word),
             is_bare: line.front.is_empty() && !has_and(line.tokens),
             has_names: has_name(behind_first(line.tokens)),
             rof,
+            count,
         }
     }
 }
@@ -166,7 +182,7 @@ fn has_name(tokens: &[Token<'_>]) -> bool
 }
 
 /// Marks each line, the last one first, so that the `ROF`s after a line are known.
-fn mark_all<A: Allocator>(lines: &[SourceLine<'_, A>], marks: &mut [Mark])
+fn mark_all<A: Allocator>(lines: &[SourceLine<'_, A>], marks: &mut [Mark], same: &mut SameCounts<A>)
     requires { length marks.old ≡ length lines.now }
     ensures { AreMarked 0 lines.now marks.new }
 {
@@ -174,7 +190,8 @@ fn mark_all<A: Allocator>(lines: &[SourceLine<'_, A>], marks: &mut [Mark])
     let mut at = lines.len();
     while at > 0 {
         at -= 1;
-        marks[at] = Mark::of(line_at(lines, at).reading(), rof);
+        let count = same.count_of(lines, at);
+        marks[at] = Mark::of(line_at(lines, at).reading(), rof, count);
         rof = rof_from(lines, marks, at);
     }
 }

@@ -113,6 +113,7 @@ impl<'s, A: Allocator + Copy> Walk<'s, A> {
         line: Reading<'_, 's>,
     ) -> Result<(), AsmFault>
         ensures closed { Gives (λ _. self.new) result (closed settings.now (counters_of blocks.now) (line_read line.entry) self.old) }
+        ensures before { self.new.before ≡ self.old.before }
         ensures counted { self.new.counted ≡ self.old.counted }
     {
         match blocks.copy_of(line)? {

@@ -1,7 +1,7 @@
 -- The labels and the EQUs of a map.
-use Rattle.std.proofs.{Common.{◌≡◌, ℕ, Vec, List, [], ◌∷◌, map, refl, arith}, lemmas.List.{length-map, map-append}, lemmas.List.Elements.All-push, lemmas.Grind.common_steps}
+use Rattle.std.proofs.{Common.{◌≡◌, ℕ, Vec, List, [], ◌∷◌, map, refl, arith}, lemmas.List.{length-map, map-append}}
 use Rattle.{std.specs.{Map.lookup, Option.{is_some, option_map_or}}, std.proofs.lemmas.Option.slice_get-map, std.specs.Str.bytes_eq, indexmap.proofs.CallerLemmas.insert_entry-new}
-use Rattle.{redcode_text.specs.{declared.token.Token.Token, Tokens.pieces}, redcode_names.specs.{Link.bodies_of, Equ.{EquList, is_equ, body_of}, Name.{LabelList, address_of}}}
+use Rattle.{redcode_text.specs.{declared.token.Token.Token, Tokens.pieces}, redcode_names.specs.{Written.bodies_of, Equ.{EquList, is_equ, body_of}, Name.{LabelList, address_of}}}
 
 -- what a map finds is the address of the label
 pub lookup-address_of : (name : List ℕ) (labels : LabelList) → lookup (bytes_eq name) labels ≡ address_of labels name
@@ -28,7 +28,5 @@ bodies-seen [] = refl
 bodies-seen (entry ∷ entries) = rw (bodies-seen entries) refl
 
 pub ruleset names = (lookup-address_of, lookup-is_equ, lookup-body_of, bodies-seen, insert_entry-new, map-append, slice_get-map)
-
-pub ruleset linking = (common_steps, map-append, All-push)
 
 pub ruleset none = (length-map)

@@ -2,7 +2,7 @@
 use Rattle.std.proofs.Common.{◌≡◌, ℕ, zero, suc, ◌≤◌, ◌<◌, ◌-◌, ◌||◌, List, [], ◌∷◌, ◌++◌, length, Result, Ok, Err, refl, sym, ap, ◌∙◌, append_assoc, append-nil, length-append, arith}
 use Rattle.std.proofs.{lemmas.Bool.Decides.nat_tests, lemmas.Grind.common_steps, lemmas.List.{length-map, map-append, drop_more, drop_all}}
 use Rattle.{war_types.specs.{declared.fault.AsmFault.AsmFault, declared.fault.AsmKind.AsmKind}, redcode_text.specs.Tokens.Piece}
-use Rattle.redcode_names.specs.{Gives.{◌>>=◌, fault_at}, Equ.{EquList, or_itself, body_at, round, has_equ, left_over, rounds, after_rounds}, Link.{all_written, itself_or, written}}
+use Rattle.redcode_names.specs.{Gives.{◌>>=◌, fault_at}, Equ.{EquList, or_itself, body_at, round, has_equ, left_over, rounds, after_rounds}, Written.{all_written, itself_or, written}}
 
 round-append : (equs : EquList) (xs ys : List Piece) → round equs (xs ++ ys) ≡ round equs xs ++ round equs ys
 round-append equs [] ys = refl

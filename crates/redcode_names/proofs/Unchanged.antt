@@ -1,7 +1,7 @@
 -- What is written in 16 rounds, and tokens among which no name of an EQU is.
 use Rattle.std.proofs.{Common.{◌≡◌, ℕ, zero, suc, ◌<◌, ◌≤◌, false, List, [], ◌∷◌, length, Ok, Err, refl, sym, ap, ◌∙◌, arith}, lemmas.Bool.Decides.nat_tests, lemmas.List.length-map}
 use Rattle.{war_types.specs.{declared.fault.AsmFault.AsmFault, declared.fault.AsmKind.AsmKind}, redcode_text.specs.Tokens.Piece, redcode_names.specs.Gives.fault_at}
-use Rattle.{redcode_names.specs.{Equ.{EquList, round, has_equ, left_over, after_rounds, replaced}, Link.written}, redcode_names.proofs.Replacing.{rounds-left_over, written-left}}
+use Rattle.{redcode_names.specs.{Equ.{EquList, round, has_equ, left_over, after_rounds, replaced}, Written.written}, redcode_names.proofs.Replacing.{rounds-left_over, written-left}}
 
 pub replaced-left : (line : ℕ) (equs : EquList) (tokens : List Piece) → replaced line equs tokens ≡ left_over line equs (after_rounds 16 equs tokens)
 unfolding replaced

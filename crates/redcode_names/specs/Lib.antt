@@ -4,5 +4,5 @@ pub mod Gives
 pub mod Equ
 -- labels, the names of EQU lines and the predefined names
 pub mod Name
--- tokens that know their EQU, and what the code writes of them
-pub mod Link
+-- which EQU a token names, and what the code writes of tokens
+pub mod Written

@@ -2,7 +2,7 @@
 #![tactic(auto, using(crate::proofs::Lookups::names))]
 
 ghost use Rattle.std.specs.Prelude.{◌≡◌, ◌++◌, ◌∷◌, [], false, map, OnOk};
-ghost use Rattle.{redcode_text.specs.Tokens.{piece_of, pieces}, redcode_names.specs.{Equ.{body_at, has_equ, is_equ}, Link.{Stands, bodies_of}}};
+ghost use Rattle.{redcode_text.specs.Tokens.{piece_of, pieces}, redcode_names.specs.{Equ.{body_at, has_equ, is_equ}, Written.{Stands, bodies_of}}};
 
 use crate::name_key::{NameHash, NameKey};
 use indexmap::IndexMap;
@@ -65,7 +65,7 @@ impl<'s, A: Allocator + Copy> Equs<'s, A> {
     }
 
     /// The tokens that a token stands for; none if it is no name of an EQU.
-    fn body_at(&self, token: &Token<'_>) -> &[Token<'s>]
+    pub(crate) fn body_at(&self, token: &Token<'_>) -> &[Token<'s>]
         ensures { pieces result.now ≡ body_at self.now (piece_of token.now) }
     {
         match self.place_of(token) {

@@ -1,8 +1,8 @@
 //! The names of a source: its labels, the names of its `EQU` lines, the predefined ones, and those of counters.
 //!
 //! `names` takes the lines that define names, and keeps what they define in `labels` and `equs`. Both are maps with a `name_key` for each
-//! name. `name` has the predefined names, and `counter_names` those of the blocks that are open. When tokens are to be written, `link`
-//! looks up which `EQU` each of them names, and `rounds` replaces the names by the bodies.
+//! name. `name` has the predefined names, and `counter_names` those of the blocks that are open. `rounds` replaces the names of `EQU`s by
+//! their bodies.
 //!
 //! The main clauses: `Names` defines what `Name` in `specs` does, or refuses as that does; `replaced` and `written` answer the tokens
 //! of `replaced` in `Equ`, or the refusal `EquLimit` that is due. Each may also run out of memory.
@@ -14,7 +14,6 @@
 mod counter_names;
 mod equs;
 mod labels;
-mod link;
 mod name;
 mod name_key;
 mod names;
@@ -23,7 +22,6 @@ mod rounds;
 pub use counter_names::CounterNames;
 pub use equs::Equs;
 pub use labels::Labels;
-pub use link::LinkedEqus;
 pub use name::{is_loose, predefined};
 pub use name_key::NameHash;
 pub use names::Names;

@@ -2,10 +2,9 @@
 
 ghost use Rattle.std.specs.{Prelude.{◌≡◌, suc, []}, Cow.cow_slice_items};
 ghost use Rattle.{war_types.specs.declared.fault.AsmKind.TheVariants.EquLimit, redcode_text.specs.Tokens.pieces};
-ghost use Rattle.redcode_names.specs.{Gives.{Gives, fault_at}, Equ.replaced, Link.{AreLinked, tokens_of, written}};
+ghost use Rattle.redcode_names.specs.{Gives.{Gives, fault_at}, Equ.replaced, Written.written};
 
 use crate::equs::Equs;
-use crate::link::{Link, LinkedEqus, linked};
 use redcode_text::Token;
 use std::alloc::Allocator;
 use std::borrow::CowSlice;
@@ -33,15 +32,15 @@ pub fn replaced<'t, 's, A: Allocator + Copy>(
         }
         return Ok(CowSlice::Borrowed(tokens));
     }
-    let linked = LinkedEqus::new(alloc, equs)?;
-    let all = written(alloc, &linked, line, tokens, tokens.len())?;
+    let all = written(alloc, equs, line, tokens, tokens.len())?;
     Ok(CowSlice::Owned(all))
 }
 
 /// Tokens with the names of EQUs replaced, in a list that has room for `room` of them at first.
+#[tactic(auto, using(crate::proofs::Unchanged::all_replaced))]
 pub fn written<'s, A: Allocator + Copy>(
     alloc: A,
-    equs: &LinkedEqus<'_, 's, A>,
+    equs: &Equs<'s, A>,
     line: u32,
     tokens: &[Token<'s>],
     room: usize,
@@ -49,54 +48,36 @@ pub fn written<'s, A: Allocator + Copy>(
     ensures { Gives (λ tokens. pieces tokens.items) result (replaced line equs.now (pieces tokens.now)) }
 {
     let mut out = Vec::with_capacity(alloc, room)?;
-    match write_all(alloc, equs, line, tokens, &mut out) {
+    match write(equs, line, ROUNDS, tokens, &mut out) {
         Ok(()) => Ok(out),
         Err(fault) => Err(fault),
     }
 }
 
-/// Appends what tokens become in all rounds to an empty list.
-#[tactic(auto, using(crate::proofs::Unchanged::all_replaced))]
-fn write_all<'s, A: Allocator + Copy>(
-    alloc: A,
-    equs: &LinkedEqus<'_, 's, A>,
-    line: u32,
-    tokens: &[Token<'s>],
-    out: &mut Vec<Token<'s>, A>,
-) -> Result<(), AsmFault>
-    requires { out.old.items ≡ [] }
-    ensures { Gives (λ _. pieces out.new.items) result (replaced line equs.now (pieces tokens.now)) }
-{
-    let links = linked(alloc, equs.equs(), tokens)?;
-    write(alloc, equs, line, ROUNDS, links.as_slice(), out)
-}
-
 /// Appends what tokens become in `rounds` rounds: each token goes down through the bodies, one round deeper with each.
 #[tactic(auto, using(crate::proofs::Replacing::steps))]
 fn write<'s, A: Allocator + Copy>(
-    alloc: A,
-    equs: &LinkedEqus<'_, 's, A>,
+    equs: &Equs<'s, A>,
     line: u32,
     rounds: u32,
-    tokens: &[Link<'s>],
+    tokens: &[Token<'s>],
     out: &mut Vec<Token<'s>, A>,
 ) -> Result<(), AsmFault>
-    requires { AreLinked equs.now tokens.now }
-    ensures { Gives (λ _. pieces out.new.items) result (written (suc rounds) line equs.now (pieces out.old.items) (tokens_of tokens.now)) }
+    ensures { Gives (λ _. pieces out.new.items) result (written (suc rounds) line equs.now (pieces out.old.items) (pieces tokens.now)) }
 {
     for token in tokens {
-        let body = equs.body_of(token);
+        let body = equs.body_at(token);
         if !body.is_empty() {
             if rounds == 0 {
                 return Err(too_many(line));
             }
-            write(alloc, equs, line, rounds - 1, body, out)?;
+            write(equs, line, rounds - 1, body, out)?;
             continue;
         }
         if out.len() == TOKEN_LIMIT {
             return Err(too_many(line));
         }
-        out.push(token.token)?;
+        out.push(*token)?;
     }
     Ok(())
 }

@@ -1,5 +1,5 @@
 use Rattle.{std.proofs.{lemmas.Grind.common_steps, Common.{arith, ◌<◌, ◌^◌, ℕ, List, Ok, sym, ap, subst, ◌∙◌}}, redcode_text.specs.declared.vocabulary.Word.Word}
-use Rattle.{redcode_lines.specs.{Line.SourceLine, Views.line_read}, redcode_expand.specs.{Marks.{is_bare, line_in}, Rest.counters_of, Walk.begun_as}}
+use Rattle.{redcode_lines.specs.{Line.SourceLine, Views.line_read}, redcode_expand.specs.{Kept.CountList, Marks.{is_bare, line_in}, Rest.counters_of, Walk.begun_as}}
 use Rattle.redcode_expand.proofs.{AddedEqus.begun_of-equs, Keeping.{all-learned, begun-kept}, Marks.{bare-front, bare-plain, begun-bare, line-drop}, PlainCounts.{begun-unnamed, front-labels}}
 use Rattle.redcode_expand.proofs.beginning.begun_outside.Goals as goal
 
@@ -33,7 +33,7 @@ returns-in-Ok-clause-kept g c =
     let b = c.in-Ok.begun in
     let word = ap (λ (l : SourceLine). l.word) c.reading.ensures.line ∙ c.requires.word in
     let front = bare-front line (ap is_bare c.reading.ensures.line ∙ c.requires.bare) in
-    all-learned c.args.settings.now c.args.lines.now c.args.walk.now.names.equs c.begin_as.new.self.names.equs c.args.counts.now c.learn.new.self c.args.at line b.copies b.is_fixed
+    all-learned c.args.settings.now c.args.lines.now c.args.walk.now.names.equs c.begin_as.new.self.names.equs c.args.counts.now.fixed c.learn.new.self.fixed c.args.at line b.copies b.is_fixed
     (begun_of-equs c.args.settings.now line c.args.walk.now (begun_as c.begin_as.new.self b.counter.now b.copies) c.in-Ok.ensures.begun)
     c.requires.some c.reading.ensures.first c.requires.kept (front-labels line Word.For word front)
-    c.in-Ok.ensures.fixed c.in-Ok.ensures.few c.learn.ensures
+    c.in-Ok.ensures.fixed c.in-Ok.ensures.few (ap (λ (counts : CountList). counts.fixed) c.learn.ensures)

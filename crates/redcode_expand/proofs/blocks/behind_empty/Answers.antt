@@ -6,7 +6,7 @@ returns g c =
     let s = c.args.settings.now in
     let ls = c.args.lines.now in
     let bs = c.args.blocks.now in
-    let none = begun-empty s (counters_of bs) ls c.args.counts.now c.args.at c.args.walk.now c.requires.some c.requires.word c.requires.kept (sym c.is_bare.ensures ∙ c.if-not-is_bare.false)
+    let none = begun-empty s (counters_of bs) ls c.args.counts.now.fixed c.args.at c.args.walk.now c.requires.some c.requires.word c.requires.kept.fixed (sym c.is_bare.ensures ∙ c.if-not-is_bare.false)
     (sym c.has_names.ensures ∙ c.if-has_names.false) (c.is_none.ensures c.if-not-is_none.false) in
     empty-goes-on s ls bs c.args.at c.rof_behind-rof.result c.args.walk.now c.requires.few c.requires.some c.requires.goes_on c.requires.word c.requires.opened none c.rof_behind-rof.ensures
     (omega (arith, c.len.ensures, c.if-rof-len.false)) (sym c.is_bare-else-rof-len.ensures ∙ c.if-not-is_bare-2.false)

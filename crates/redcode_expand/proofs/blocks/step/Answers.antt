@@ -1,11 +1,12 @@
 use Rattle.{std.proofs.{lemmas.Grind.common_steps, Common.{arith, sym, ◌∙◌}}, redcode_lines.specs.Views.line_read, redcode_expand.specs.Rest.counters_of}
-use Rattle.redcode_expand.proofs.{AddedEqus.step-keeps, Keeping.all-later, Marks.{line-drop, word-for, word-rof}}
+use Rattle.redcode_expand.proofs.{AddedEqus.step-keeps, Latest.kept-later, Marks.{line-drop, word-for, word-rof}}
 use Rattle.redcode_expand.proofs.blocks.step.Goals as goal
 
 pub returns-in_ok-step-in-Neither-clause-kept : goal.returns-in_ok-step-in-Neither-clause-kept
 returns-in_ok-step-in-Neither-clause-kept g c =
-    all-later c.args.settings.now c.args.lines.now c.args.walk.now.names.equs c.step.new.self.names.equs c.args.counts.now
-    (step-keeps c.args.settings.now (counters_of c.args.blocks.now) (line_read c.reading.result) c.args.walk.now c.step.new.self c.in_ok-step-in-Neither.ensures.step) c.requires.kept
+    let cs = counters_of c.args.blocks.now in
+    kept-later c.args.settings.now c.args.lines.now cs cs c.args.walk.now c.step.new.self c.args.counts.now c.rise-in-Neither.new.self
+    (step-keeps c.args.settings.now cs (line_read c.reading.result) c.args.walk.now c.step.new.self c.in_ok-step-in-Neither.ensures.step) c.in_ok-rise-in-Neither.ensures c.requires.kept
 
 pub begin-requires-clause-line : goal.begin-requires-clause-line
 begin-requires-clause-line g c = line-drop c.args.lines.now c.args.at c.requires.some

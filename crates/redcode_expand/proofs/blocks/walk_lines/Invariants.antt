@@ -1,12 +1,12 @@
 -- What is left is due, and each step leaves fewer.
-use Rattle.{std.proofs.Common.{◌≡◌, drop}, redcode_lines.specs.Block.parsed, redcode_expand.specs.{Walk.{walk_all, walk_begin}, Rest.{rest_of, steps_left, AreOpen}, Kept.AreKept}}
+use Rattle.{std.proofs.Common.{◌≡◌, drop}, redcode_lines.specs.Block.parsed, redcode_expand.specs.{Walk.{walk_all, walk_begin}, Rest.{counters_of, rest_of, steps_left, AreOpen}, Kept.AreKept}}
 use Rattle.redcode_expand.proofs.blocks.walk_lines.Given as goal
 
 abbrev pub invariant-loop-at : goal.invariant-loop-at
 invariant-loop-at g l =
     (rest_of l.settings l.lines l.blocks (parsed (drop l.at l.lines)) l.walk ≡ walk_all l.settings (parsed l.lines) walk_begin)
     × AreOpen l.lines l.blocks (parsed (drop l.at l.lines)).1
-    × AreKept l.settings l.lines l.walk.names.equs l.counts
+    × AreKept l.settings l.lines (counters_of l.blocks) l.walk l.counts
 
 abbrev pub decreases-loop-at : goal.decreases-loop-at
 decreases-loop-at g l = steps_left l.lines l.blocks l.at l.walk

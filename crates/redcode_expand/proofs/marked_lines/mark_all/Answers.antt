@@ -1,5 +1,5 @@
 use Rattle.{std.proofs.{lemmas.Grind.common_steps, Common.{◌≡◌, ◌+◌, ◌-◌, ◌<◌, ℕ, length, sym, subst, arith}}, redcode_lines.specs.Views.line_read}
-use Rattle.{redcode_expand.specs.Marks.{AreMarked, IsNextRof}, redcode_expand.proofs.Marks.{marked-is, one-marked}}
+use Rattle.{redcode_expand.specs.Marks.{AreMarked, IsNextRof, IsSameCount}, redcode_expand.proofs.Marks.{marked-is, one-marked}}
 use Rattle.redcode_expand.proofs.marked_lines.mark_all.Goals as goal
 
 pub rof_from-rof-requires-clause-marked : goal.rof_from-rof-requires-clause-marked
@@ -12,7 +12,7 @@ rof_from-rof-requires-clause-marked g c =
     let next = subst (λ (n : ℕ). IsNextRof ls n c.loop-at.rof) on c.loop-at.invariant.1 in
     one-marked ls c.loop-at.marks at c.of.result some behind
     (marked-is ls at c.loop-at.rof c.line_at.result.now (line_read c.reading.result) c.of.result some c.line_at.ensures c.reading.ensures c.of.ensures.edge c.of.ensures.bare c.of.ensures.names
-    c.of.ensures.rof next)
+    c.of.ensures.rof next (subst (IsSameCount ls at) (sym c.of.ensures.count) c.count_of-count.ensures))
 
 pub loop-at-preserved : goal.loop-at-preserved
 loop-at-preserved g c = (

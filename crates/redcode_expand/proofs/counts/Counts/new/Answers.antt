@@ -1,5 +1,10 @@
-use Rattle.{std.proofs.Common.arith, redcode_expand.proofs.Keeping.nothing-kept}
+use Rattle.{std.proofs.Common.arith, redcode_expand.proofs.{Keeping.nothing-kept, Latest.{all-stamped, both, none-stamped}}}
 use Rattle.redcode_expand.proofs.counts.Counts.new.Goals as goal
 
 pub returns : goal.returns
-returns g c = nothing-kept c.args.lines c.in_ok-vec.field-0.items (c.in_ok-vec.ensures.items_if_clones_equal (λ y h. grind arith))
+returns g c =
+    both _ _ _ _ (nothing-kept c.args.lines c.in_ok-counts.counts.items (c.in_ok-counts.ensures.items_if_clones_equal (λ y h. grind arith)))
+    (none-stamped c.args.lines c.in_ok-latest.latest.items (c.in_ok-latest.ensures.items_if_clones_equal (λ y h. grind arith)))
+
+pub invariant_of-result : goal.invariant_of-result
+invariant_of-result g c = all-stamped c.args.lines c.in_ok-latest.latest.items (c.in_ok-latest.ensures.items_if_clones_equal (λ y h. grind arith))

@@ -1,11 +1,7 @@
--- Tokens that know the index of the EQU that they name, and what the code writes of them.
-use Rattle.std.specs.Prelude.{◌≡◌, ℕ, zero, suc, nat_eq, if◌then◌else◌, List, [], ◌∷◌, ◌++◌, length, map, slice_get, Option, Some, MatchOption, All, Result, Ok, Err}
-use Rattle.{war_types.specs.{declared.fault.AsmFault.AsmFault, declared.fault.AsmKind.AsmKind}, redcode_text.specs.Tokens.{Piece, piece_of}}
-use Rattle.redcode_names.specs.{declared.link.Link.Link, Gives.{◌>>=◌, fault_at}, Equ.{EquList, body_at}}
-
--- the tokens alone
-abbrev pub tokens_of : List Link → List Piece
-tokens_of links = map (λ l. piece_of l.token) links
+-- The index of the EQU that a token names, and what the code writes of tokens.
+use Rattle.std.specs.Prelude.{◌≡◌, ℕ, zero, suc, nat_eq, if◌then◌else◌, List, [], ◌∷◌, ◌++◌, length, map, slice_get, Option, Some, MatchOption, Result, Ok, Err}
+use Rattle.{war_types.specs.{declared.fault.AsmFault.AsmFault, declared.fault.AsmKind.AsmKind}, redcode_text.specs.Tokens.Piece}
+use Rattle.redcode_names.specs.{Gives.{◌>>=◌, fault_at}, Equ.{EquList, body_at}}
 
 -- the bodies of EQUs, in the order of their definition
 abbrev pub bodies_of : EquList → List (List Piece)
@@ -14,12 +10,6 @@ bodies_of equs = map (λ equ. equ.1) equs
 -- this is the index of the EQU that a token names; none if it names none
 abbrev pub Stands : EquList → Piece → Option ℕ → Type 0
 Stands equs token place = MatchOption place (body_at equs token ≡ []) (λ i. slice_get (bodies_of equs) i ≡ Some (body_at equs token))
-
--- each token knows its EQU
-abbrev pub AreLinked : EquList → List Link → Type 0
-AreLinked equs links = All (λ l. Stands equs (piece_of l.token) l.equ) links
-
--- ---- what is written
 
 -- the tokens written so far, and these appended one after another
 abbrev pub all_written : (List Piece → Piece → Result (List Piece) AsmFault) → List Piece → List Piece → Result (List Piece) AsmFault
