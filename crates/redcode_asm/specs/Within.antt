@@ -1,10 +1,18 @@
 -- What an assembly within a budget of steps answers.
-use Rattle.std.specs.Prelude.{◌≡◌, ⊤, Result, Ok, Err}
-use Rattle.{war_types.specs.{declared.fault.AsmFault.AsmFault, Warrior.WarriorParts}, redcode_asm.specs.{declared.within.Unassembled.Unassembled, Assembly.Assembles}}
+use Rattle.std.specs.Prelude.{◌≡◌, ⊤, Bool, true, false, ◌&&◌, if◌then◌else◌, Result, Ok, Err}
+use Rattle.{war_types.specs.{declared.fault.AsmFault.AsmFault, declared.fault.AsmKind.AsmKind, Warrior.WarriorParts}, redcode_asm.specs.{declared.within.Unassembled.Unassembled, Assembly.Assembles}}
 use Rattle.redcode_asm.specs.declared.within.Unassembled.TheVariants as why
 
 abbrev pub refused : AsmFault → Unassembled
 refused fault = why.Refused fault
+
+abbrev pub is_memory : AsmKind → Bool
+is_memory AsmKind.Memory = true
+is_memory _ = false
+
+-- spent steps end an assembly as memory that ran out does
+abbrev pub cause_of : AsmFault → Bool → Unassembled
+cause_of fault are_spent = if are_spent && is_memory fault.kind then why.StepsSpent else why.Refused fault
 
 -- An answer that is given is what was expected, unless memory ran out. Steps that are spent say nothing.
 abbrev pub AssemblesWithin : Result WarriorParts Unassembled → Result WarriorParts AsmFault → Type 0

@@ -1,12 +1,12 @@
 //! The assembler.
 
-ghost use Rattle.std.specs.Prelude.{◌≡◌, ◌^◌, ◌<◌, length, IfOk, Ok, Err, unwrap_or, []};
+ghost use Rattle.std.specs.Prelude.{◌≡◌, ◌^◌, ◌<◌, ◌≤◌, ◌+◌, length, IfOk, Ok, Err, unwrap_or, []};
 ghost use Rattle.{war_types.specs.{Warrior.Fits, declared.fault.AsmKind.TheVariants.SourceTooLong}, redcode_names.specs.Gives.{Gives, fault_at}, redcode_asm.specs.Said.statement_of};
 ghost use Rattle.redcode_asm.specs.Assembly.{Assembles, assembly, checked_start, warrior_said, all_said, code_of, given_start, start_of, all_hold, last_text, is_name, is_author};
 
 use crate::names::Labels;
 use bumpalo::Bump;
-use redcode_expand::{Entry, Expanded, LineKind, expand};
+use redcode_expand::{Entry, Expanded, LineKind, Steps, expand_within};
 use redcode_lines::behind_first;
 use redcode_statement::{
     Statement, assert_said, end_said, has_bad_token, instruction_of, org_said, other_said,
@@ -22,7 +22,6 @@ type Said = (u32, Statement);
 /// The first refusal that is due is answered: that of the expansion; then the first fault of the first expanded line that has one, in
 /// the order of `AsmKind`; then `Empty`, `TooLong`, `BadStart`, and the first assertion that doesn't hold. It names a line of the
 /// source, counted from 1, or 0 if none is to blame. `AsmKind::Memory` stands only if memory ran out.
-#[tactic(auto, unfolding(crate::specs::Assembly::assembly))]
 pub fn assemble<A: Allocator + Copy>(
     alloc: A,
     source: &[u8],
@@ -32,8 +31,25 @@ pub fn assemble<A: Allocator + Copy>(
     ensures too_long { 65536 < length source.now → result ≡ Err (fault_at 0 SourceTooLong) }
     ensures fits { IfOk result (Fits settings.now) }
 {
+    let mut steps = Steps::new(u64::MAX);
+    assemble_by(alloc, source, settings, &mut steps)
+}
+
+/// The same within a budget of steps: `Memory` is answered too if they are spent.
+#[tactic(auto, unfolding(crate::specs::Assembly::assembly))]
+pub(crate) fn assemble_by<A: Allocator + Copy>(
+    alloc: A,
+    source: &[u8],
+    settings: &Settings,
+    steps: &mut Steps,
+) -> Result<Warrior<A>, AsmFault>
+    ensures assembled { Assembles result (assembly settings.now source.now) }
+    ensures too_long { 65536 < length source.now → result ≡ Err (fault_at 0 SourceTooLong) }
+    ensures fits { IfOk result (Fits settings.now) }
+    ensures steps { steps.old ≤ steps.new + 2 ^ 62 }
+{
     let region = Bump::new(alloc);
-    let expanded = expand(alloc, &region, source, settings)?;
+    let expanded = expand_within(alloc, &region, source, settings, steps)?;
     let said = all_said(alloc, &expanded, settings)?;
     warrior_of(alloc, &expanded, said.as_slice(), settings)
 }

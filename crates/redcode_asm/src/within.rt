@@ -1,12 +1,13 @@
 //! An assembly within a budget of steps.
 
-ghost use Rattle.std.specs.Prelude.{◌≡◌, ◌<◌, length, IfOk, Err};
+ghost use Rattle.std.specs.Prelude.{◌≡◌, ◌≢◌, ◌<◌, ◌^◌, length, IfOk, Err};
 ghost use Rattle.{war_types.specs.{Warrior.Fits, declared.fault.AsmKind.TheVariants.SourceTooLong}, redcode_names.specs.Gives.fault_at};
-ghost use Rattle.redcode_asm.specs.{Assembly.assembly, Within.{AssemblesWithin, refused}};
+ghost use Rattle.redcode_asm.specs.{Assembly.assembly, Within.{AssemblesWithin, refused, cause_of}, declared.within.Unassembled.TheVariants.StepsSpent};
 
-use crate::assembler::assemble;
+use crate::assembler::assemble_by;
+use redcode_expand::Steps;
 use std::alloc::Allocator;
-use war_types::{AsmFault, Settings, Warrior};
+use war_types::{AsmFault, AsmKind, Settings, Warrior};
 
 /// Why an assembly within a budget gives no warrior.
 #[derive(Clone, Copy, Debug, PartialEq, Eq)]
@@ -17,11 +18,11 @@ pub enum Unassembled {
     StepsSpent,
 }
 
-/// Assembles a source of Redcode under these settings, in at most about `steps` steps.
+/// Assembles a source of Redcode under these settings, within a budget of steps.
 ///
 /// An answer that is given is that of `assemble`. A step is a line that is walked over, a token that is read, replaced or worked out,
-/// or a name that is looked up: a copy of a line is walked over too. A source of `n` bytes without blocks and `EQU`s takes a few
-/// steps a byte. A source of more than 65,536 bytes is refused in no step.
+/// or a name that is looked up: a copy of a line is walked over too. What the written lines say is not counted: that is less than 4,096
+/// lines of 512 operands. No source takes more than 2^62 steps, and one of more than 65,536 bytes takes none.
 pub fn assemble_within<A: Allocator + Copy>(
     alloc: A,
     source: &[u8],
@@ -31,10 +32,21 @@ pub fn assemble_within<A: Allocator + Copy>(
     ensures assembled { AssemblesWithin result (assembly settings.now source.now) }
     ensures too_long { 65536 < length source.now → result ≡ Err (refused (fault_at 0 SourceTooLong)) }
     ensures fits { IfOk result (Fits settings.now) }
+    ensures enough { 2 ^ 62 < steps → result ≢ Err StepsSpent }
 {
-    let _steps = steps;
-    match assemble(alloc, source, settings) {
+    let mut left = Steps::new(steps);
+    match assemble_by(alloc, source, settings, &mut left) {
         Ok(warrior) => Ok(warrior),
-        Err(fault) => Err(Unassembled::Refused(fault)),
+        Err(fault) => Err(cause_of(fault, left.are_spent())),
     }
+}
+
+/// Why there is no warrior. Spent steps end an assembly as memory that ran out does.
+fn cause_of(fault: AsmFault, are_spent: bool) -> Unassembled
+    ensures { result ≡ cause_of fault are_spent }
+{
+    if are_spent && matches!(fault.kind, AsmKind::Memory) {
+        return Unassembled::StepsSpent;
+    }
+    Unassembled::Refused(fault)
 }

@@ -1,5 +1,5 @@
 -- What the walk knows of the lines of a source before it reads them. No part of the definition: a shorter way to the same.
-use Rattle.std.specs.Prelude.{◌≡◌, ℕ, ◌+◌, ◌<◌, ◌≤◌, Bool, true, false, not, ◌||◌, ◌&&◌, List, [], ◌∷◌, length, drop, Option, Some, None, ⊤, slice_index_or}
+use Rattle.std.specs.Prelude.{◌≡◌, ℕ, ◌+◌, ◌<◌, ◌≤◌, Bool, false, not, ◌||◌, ◌&&◌, List, [], ◌∷◌, length, drop, Option, Some, None, ⊤, slice_index_or}
 use Rattle.{redcode_text.specs.{declared.vocabulary.Word.Word, Tokens.Piece}, redcode_lines.specs.{Line.{SourceLine, is_name, source_line}, Block.parsed, Capped.has_and}}
 use Rattle.{redcode_lines.specs.declared.reading.LineForm.LineForm, redcode_names.specs.Equ.has_tokens, redcode_expand.specs.{declared.marked_lines.Edge.Edge, declared.marked_lines.Mark.Mark}}
 
@@ -53,7 +53,7 @@ pub record IsMarked (lines : List SourceLine) (at : ℕ) (mark : Mark) : Type 0 
   pub count : IsSameCount lines at mark.count
 
 abbrev pub no_mark : Mark
-no_mark = record { edge = Edge.For; is_bare = false; has_names = false; rof = 0; count = 0 }
+no_mark = record { edge = Edge.For; is_bare = false; has_names = false; joins = false; rof = 0; count = 0 }
 
 abbrev pub mark_at : List Mark → ℕ → Mark
 mark_at marks at = slice_index_or marks at no_mark

@@ -61,6 +61,10 @@ counts (b ∷ bs) st = if nat_eq st.counted b.start then 0 else 1
 abbrev pub steps_left : List SourceLine → List OpenBlock → ℕ → WalkState → ℕ
 steps_left lines blocks at st = (4096 - st.counted) * 131074 + (counts blocks st * 65537 + (length lines - at))
 
+-- more than the steps of a budget that a walk over the lines of a source takes: fewer than 2 ^ 32 a line
+abbrev pub walk_steps : ℕ
+walk_steps = 537010177 * 2 ^ 32
+
 -- how the walk goes on within these blocks at the line of this index: what is left is what was due, and fewer steps than these are left
 pub record GoesOn (s : RawSettings) (lines : List SourceLine) (due : Result WalkState AsmFault) (steps : ℕ) (blocks : List OpenBlock) (at : ℕ) (st : WalkState) : Type 0 where
   pub rest : rest_of s lines blocks (parsed (drop at lines)) st ≡ due

@@ -70,6 +70,7 @@ impl<'s, A: Allocator + Copy> Walk<'s, A> {
             before,
             &self.names.equs,
             count,
+            &mut self.work,
         ) {
             Ok(copies) => Ok(Begun {
                 counter,

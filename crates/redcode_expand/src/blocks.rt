@@ -2,7 +2,7 @@
 
 ghost use Rattle.std.specs.Prelude.{◌≡◌, ◌+◌, ◌<◌, ◌≤◌, ◌∷◌, [], false, Some, drop, length, IfSome, MatchResult, OnOk};
 ghost use Rattle.{war_types.specs.declared.fault.AsmKind.TheVariants.UnmatchedFor, redcode_text.specs.declared.vocabulary.Word.TheVariants.{For, Rof}, redcode_lines.specs.Block.parsed};
-ghost use Rattle.{redcode_names.specs.Gives.{Gives, Fails, fault_at}, redcode_expand.specs.Rest.{counters_of, rest_of, rest_behind, steps_left, AreOpen, GoesOn, IsUnmatched, Passes}};
+ghost use Rattle.{redcode_names.specs.Gives.{Gives, Fails, fault_at}, redcode_expand.specs.Rest.{counters_of, rest_of, rest_behind, steps_left, walk_steps, AreOpen, GoesOn, IsUnmatched, Passes}};
 ghost use Rattle.redcode_expand.specs.{Walk.{walk_all, walk_begin, begun, closed}, Kept.AreKept, Marks.line_in};
 
 use crate::beginning::begun_at;
@@ -10,6 +10,7 @@ use crate::counts::Counts;
 use crate::marked_lines::{Edge, MarkedLines};
 use crate::open_block::OpenBlock;
 use crate::open_blocks::OpenBlocks;
+use crate::steps::Steps;
 use crate::walk::Walk;
 use bumpalo::Bump;
 use redcode_lines::SourceLine;
@@ -24,13 +25,15 @@ pub(crate) fn walk_all<'s, A: Allocator + Copy>(
     lines: &[SourceLine<'s, A>],
     settings: &Settings,
     hash: NameHash,
+    steps: &mut Steps,
 ) -> Result<Walk<'s, A>, AsmFault>
     requires { length lines.now ≤ 65536 }
-    ensures { Gives (λ walk. walk) result (walk_all settings.now (parsed lines.now) walk_begin) }
+    ensures steps { steps.old ≤ steps.new + walk_steps }
+    ensures walk { Gives (λ walk. walk) result (walk_all settings.now (parsed lines.now) walk_begin) }
 {
     let mut counts = Counts::new(alloc, lines.len())?;
     let lines = MarkedLines::new(alloc, lines)?;
-    walk_marked(alloc, region, settings, hash, &mut counts, &lines)
+    walk_marked(alloc, region, settings, hash, &mut counts, &lines, steps)
 }
 
 /// Walks over all lines, with no count kept.
@@ -41,13 +44,17 @@ fn walk_marked<'s, A: Allocator + Copy>(
     hash: NameHash,
     counts: &mut Counts<A>,
     lines: &MarkedLines<'_, 's, A>,
+    steps: &mut Steps,
 ) -> Result<Walk<'s, A>, AsmFault>
     requires few { length lines.now ≤ 65536 }
     requires kept { AreKept settings.now lines.now [] walk_begin counts.old }
-    ensures { Gives (λ walk. walk) result (walk_all settings.now (parsed lines.now) walk_begin) }
+    ensures steps { steps.old ≤ steps.new + walk_steps }
+    ensures walk { Gives (λ walk. walk) result (walk_all settings.now (parsed lines.now) walk_begin) }
 {
     let mut walk = Walk::new(alloc, hash);
-    match walk_begun(alloc, region, settings, hash, &mut walk, counts, lines) {
+    match walk_begun(
+        alloc, region, settings, hash, &mut walk, counts, lines, steps,
+    ) {
         Ok(()) => Ok(walk),
         Err(fault) => Err(fault),
     }
@@ -62,14 +69,16 @@ fn walk_begun<'s, A: Allocator + Copy>(
     walk: &mut Walk<'s, A>,
     counts: &mut Counts<A>,
     lines: &MarkedLines<'_, 's, A>,
+    steps: &mut Steps,
 ) -> Result<(), AsmFault>
     requires few { length lines.now ≤ 65536 }
     requires begin { walk.old ≡ walk_begin }
     requires kept { AreKept settings.now lines.now [] walk_begin counts.old }
-    ensures { Gives (λ _. walk.new) result (walk_all settings.now (parsed lines.now) walk_begin) }
+    ensures steps { steps.old ≤ steps.new + walk_steps }
+    ensures walk { Gives (λ _. walk.new) result (walk_all settings.now (parsed lines.now) walk_begin) }
 {
     let mut blocks = OpenBlocks::new(alloc, region, hash);
-    walk_lines(settings, walk, &mut blocks, counts, lines)
+    walk_lines(settings, walk, &mut blocks, counts, lines, steps)
 }
 
 /// Walks over all lines, with no count kept and no block begun.
@@ -79,16 +88,21 @@ fn walk_lines<'s, A: Allocator + Copy>(
     blocks: &mut OpenBlocks<'s, A>,
     counts: &mut Counts<A>,
     lines: &MarkedLines<'_, 's, A>,
+    steps: &mut Steps,
 ) -> Result<(), AsmFault>
     requires few { length lines.now ≤ 65536 }
     requires begin { walk.old ≡ walk_begin }
     requires none { blocks.old ≡ [] }
     requires kept { AreKept settings.now lines.now [] walk_begin counts.old }
-    ensures { Gives (λ _. walk.new) result (walk_all settings.now (parsed lines.now) walk_begin) }
+    ensures steps { steps.old ≤ steps.new + walk_steps }
+    ensures walk { Gives (λ _. walk.new) result (walk_all settings.now (parsed lines.now) walk_begin) }
 {
     let mut at = 0;
     while at < lines.len() && !walk.ended {
+        let floor = steps.floor();
+        steps.spend(lines.steps(at, blocks.count()), floor)?;
         at = step(settings, walk, blocks, counts, lines, at)?;
+        steps.spend(walk.take_work(), floor)?;
     }
     Ok(())
 }

@@ -35,7 +35,8 @@ pub(crate) struct Copies {
     pub is_fixed: bool,
 }
 
-/// How many copies a count asks for: none if its value is negative. The names of the `EQU`s so far are replaced in it.
+/// How many copies a count asks for: none if its value is negative. The names of the `EQU`s so far are replaced in it; `work` rises by the
+/// steps of that.
 pub(crate) fn copies_of<'s, A: Allocator + Copy>(
     alloc: A,
     settings: &Settings,
@@ -43,12 +44,13 @@ pub(crate) fn copies_of<'s, A: Allocator + Copy>(
     before: u32,
     equs: &Equs<'s, A>,
     tokens: &[Token<'s>],
+    work: &mut u64,
 ) -> Result<Copies, AsmFault>
     ensures copies { Gives (λ c. c.count) result (copies_of settings.now line before equs.now (pieces tokens.now)) }
     ensures few { IfOk result (λ c. c.count < 2 ^ 63) }
     ensures fixed { IfOk result (λ c. CountIsFixed settings.now line equs.now (pieces tokens.now) c.is_fixed c.count) }
 {
-    let replaced = replaced(alloc, equs, line, tokens)?;
+    let replaced = replaced(alloc, equs, line, tokens, work)?;
     let replaced = replaced.as_slice();
     let count = counted(line, replaced, &Predefined { settings, before })?;
     let is_fixed = !has_loose(settings, replaced);

@@ -1,11 +1,12 @@
 //! The lines of a source written out, with the names of `EQU`s in their operands replaced.
 
-ghost use Rattle.std.specs.Prelude.{◌≡◌, ◌<◌, ◌≤◌, ◌++◌, [], length, IfOk, Err};
+ghost use Rattle.std.specs.Prelude.{◌≡◌, ◌<◌, ◌≤◌, ◌+◌, ◌^◌, ◌++◌, [], length, IfOk, Err};
 ghost use Rattle.{war_types.specs.declared.fault.AsmKind.TheVariants.SourceTooLong, redcode_lines.specs.Block.parsed, redcode_names.specs.Gives.{Gives, fault_at}};
 ghost use Rattle.redcode_expand.specs.{Laws.{AreCounted, BlocksAreWrittenOut}, Expansion.{expansion, address_of, all_replaced, line_replaced, with_names, expansion_of_blocks}};
 
 use crate::blocks::walk_all;
 use crate::entry::Entry;
+use crate::steps::Steps;
 use bumpalo::Bump;
 use redcode_lines::{SourceLine, live_source, operands_of, source_lines};
 use redcode_names::{Equs, Labels, NameHash, Names, TOKEN_LIMIT, too_many, written};
@@ -43,7 +44,6 @@ impl<'s, A: Allocator + Copy> Model for Expanded<'s, A> {
 /// `Memory` is answered only if an allocation failed.
 ///
 /// The numbers of copies, and the names that are joined to them, lie in the region.
-#[tactic(auto, unfolding(crate::specs::Expansion::expansion))]
 pub fn expand<'s, A: Allocator + Copy>(
     alloc: A,
     region: &'s Bump<A>,
@@ -55,6 +55,25 @@ pub fn expand<'s, A: Allocator + Copy>(
     ensures written { BlocksAreWrittenOut settings.now }
     ensures counted { IfOk result AreCounted }
 {
+    let mut steps = Steps::new(u64::MAX);
+    expand_within(alloc, region, source, settings, &mut steps)
+}
+
+/// The same within a budget of steps: `Memory` is answered too if they are spent. No source takes 2^62 of them.
+#[tactic(auto, unfolding(crate::specs::Expansion::expansion))]
+pub fn expand_within<'s, A: Allocator + Copy>(
+    alloc: A,
+    region: &'s Bump<A>,
+    source: &'s [u8],
+    settings: &Settings,
+    steps: &mut Steps,
+) -> Result<Expanded<'s, A>, AsmFault>
+    ensures gives { Gives (λ expanded. expanded) result (expansion settings.now source.entry.now) }
+    ensures too_long { 65536 < length source.entry.now → result ≡ Err (fault_at 0 SourceTooLong) }
+    ensures written { BlocksAreWrittenOut settings.now }
+    ensures counted { IfOk result AreCounted }
+    ensures steps { steps.old ≤ steps.new + 2 ^ 62 }
+{
     if source.len() > SOURCE_LIMIT {
         return Err(AsmFault {
             line: 0,
@@ -64,7 +83,7 @@ pub fn expand<'s, A: Allocator + Copy>(
     let (number, live) = live_source(source);
     let lines = source_lines(alloc, number, live)?;
     let hash = NameHash::of(source, settings);
-    expanded_lines(alloc, region, lines.as_slice(), settings, hash)
+    expanded_lines(alloc, region, lines.as_slice(), settings, hash, steps)
 }
 
 /// Writes out these lines.
@@ -74,12 +93,14 @@ fn expanded_lines<'s, A: Allocator + Copy>(
     lines: &[SourceLine<'s, A>],
     settings: &Settings,
     hash: NameHash,
+    steps: &mut Steps,
 ) -> Result<Expanded<'s, A>, AsmFault>
     requires { length lines.now ≤ 65536 }
-    ensures { Gives (λ expanded. expanded) result (expansion_of_blocks settings.now (parsed lines.now)) }
+    ensures steps { steps.old ≤ steps.new + 2 ^ 62 }
+    ensures expanded { Gives (λ expanded. expanded) result (expansion_of_blocks settings.now (parsed lines.now)) }
 {
-    match walk_all(alloc, region, lines, settings, hash) {
-        Ok(walk) => walk.finish(),
+    match walk_all(alloc, region, lines, settings, hash, steps) {
+        Ok(walk) => walk.finish(steps),
         Err(fault) => Err(fault),
     }
 }
@@ -121,13 +142,18 @@ fn replace_each<'s, A: Allocator + Copy>(
     alloc: A,
     equs: &Equs<'s, A>,
     entries: Vec<Entry<'s, A>, A>,
+    steps: &mut Steps,
 ) -> Result<Vec<Entry<'s, A>, A>, AsmFault>
-    ensures { Gives (λ lines. lines.items) result (all_replaced equs.now entries.entry.items) }
+    ensures steps { steps.old ≤ steps.new + 2 ^ 32 }
+    ensures lines { Gives (λ lines. lines.items) result (all_replaced equs.now entries.entry.items) }
 {
+    let floor = steps.floor();
     let mut lines = Vec::with_capacity(alloc, entries.len())?;
     for entry in entries {
-        let line = replace_in(alloc, equs, entry)?;
+        let mut work = 0;
+        let line = replace_in(alloc, equs, entry, &mut work)?;
         lines.push(line)?;
+        steps.spend(work, floor)?;
     }
     Ok(lines)
 }
@@ -137,6 +163,7 @@ fn replace_in<'s, A: Allocator + Copy>(
     alloc: A,
     equs: &Equs<'s, A>,
     entry: Entry<'s, A>,
+    work: &mut u64,
 ) -> Result<Entry<'s, A>, AsmFault>
     ensures { Gives (λ line. line) result (line_replaced equs.now entry.entry) }
 {
@@ -150,7 +177,7 @@ fn replace_in<'s, A: Allocator + Copy>(
         return Ok(entry);
     }
     let before = &tokens[..tokens.len() - operands.len()];
-    let operands = written(alloc, equs, line.source_line, operands, operands.len())?;
+    let operands = written(alloc, equs, line.source_line, operands, work)?;
     let tokens = joined(alloc, before, operands.as_slice())?;
     Ok(Entry {
         line,
@@ -179,10 +206,12 @@ pub(crate) fn expanded_of<'s, A: Allocator + Copy>(
     alloc: A,
     names: Names<'s, A>,
     entries: Vec<Entry<'s, A>, A>,
+    steps: &mut Steps,
 ) -> Result<Expanded<'s, A>, AsmFault>
-    ensures { Gives (λ expanded. expanded) result (with_names names.entry entries.entry.items) }
+    ensures steps { steps.old ≤ steps.new + 2 ^ 32 }
+    ensures expanded { Gives (λ expanded. expanded) result (with_names names.entry entries.entry.items) }
 {
-    match names_replaced(alloc, &names, entries) {
+    match names_replaced(alloc, &names, entries, steps) {
         Ok(entries) => Ok(Expanded {
             entries,
             labels: names.labels,
@@ -196,11 +225,13 @@ fn names_replaced<'s, A: Allocator + Copy>(
     alloc: A,
     names: &Names<'s, A>,
     entries: Vec<Entry<'s, A>, A>,
+    steps: &mut Steps,
 ) -> Result<Vec<Entry<'s, A>, A>, AsmFault>
-    ensures { Gives (λ lines. lines.items) result (all_replaced names.now.equs entries.entry.items) }
+    ensures steps { steps.old ≤ steps.new + 2 ^ 32 }
+    ensures lines { Gives (λ lines. lines.items) result (all_replaced names.now.equs entries.entry.items) }
 {
     if names.has_no_equs() {
         return unchanged(entries);
     }
-    replace_each(alloc, &names.equs, entries)
+    replace_each(alloc, &names.equs, entries, steps)
 }

@@ -32,6 +32,8 @@ pub(crate) struct Mark {
     pub has_names: bool,
     /// The index of the `ROF` that matches this `FOR`, or that ends the block of any other line; `lines.len()` or more if there is none.
     pub rof: usize,
+    /// Whether an `&` is among its tokens.
+    pub joins: bool,
     /// The index of a line with the same tokens; the same index for many lines whose counts read alike.
     pub count: usize,
 }
@@ -62,6 +64,7 @@ impl<'l, 's, A: Allocator + Copy> MarkedLines<'l, 's, A> {
             edge: Edge::Neither,
             is_bare: false,
             has_names: false,
+            joins: false,
             rof: 0,
             count: 0,
         };
@@ -127,6 +130,22 @@ impl<'l, 's, A: Allocator + Copy> MarkedLines<'l, 's, A> {
         self.marks[at].rof
     }
 
+    /// The steps of a visit within this number of blocks: its tokens are read, and for each block again if an `&` is among them.
+    pub(crate) fn steps(&self, at: usize, blocks: usize) -> u64
+        requires { at < length self.now }
+    {
+        let line = line_at(self.lines, at).reading();
+        let tokens = (line.front.len() as u64).saturating_add(line.tokens.len() as u64);
+        let times = if self.marks[at].joins {
+            blocks as u64
+        } else {
+            0
+        };
+        tokens
+            .saturating_mul(times.saturating_add(1))
+            .saturating_add(1)
+    }
+
     /// The index of a line whose count reads the same as that of the `FOR` at index `at`.
     pub(crate) fn count(&self, at: usize) -> usize
         requires { at < length self.now }
@@ -150,6 +169,7 @@ impl Mark {
             edge: edge_of(line.word),
             is_bare: line.front.is_empty() && !has_and(line.tokens),
             has_names: has_name(behind_first(line.tokens)),
+            joins: has_and(line.front) || has_and(line.tokens),
             rof,
             count,
         }

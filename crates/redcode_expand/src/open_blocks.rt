@@ -56,6 +56,11 @@ impl<'s, A: Allocator + Copy> OpenBlocks<'s, A> {
         self.blocks.is_empty()
     }
 
+    /// How many there are.
+    pub(crate) fn count(&self) -> usize {
+        self.blocks.len()
+    }
+
     /// A block within the others.
     pub(crate) fn push(&mut self, block: OpenBlock<'s>) -> Result<(), AllocError>
         ensures { OnOk result (self.new ≡ block.entry ∷ self.old) }

@@ -1,6 +1,6 @@
 //! The walk over the lines of a source.
 
-ghost use Rattle.std.specs.Prelude.{◌≡◌, ◌+◌, ◌<◌, [], true, Ok, OnOk};
+ghost use Rattle.std.specs.Prelude.{◌≡◌, ◌+◌, ◌<◌, ◌≤◌, ◌^◌, [], true, Ok, OnOk};
 ghost use Rattle.{redcode_text.specs.Tokens.pieces, redcode_lines.specs.{declared.line.LineKind.TheVariants.{End, Operation}, Line.labels_of, Views.line_read}};
 ghost use Rattle.{redcode_names.specs.{Equ.has_equ, Gives.Gives}, redcode_expand.specs.{Expansion.finished, Rest.counters_of}};
 ghost use Rattle.redcode_expand.specs.Walk.{walk_begin, closed, copied, counted, labelled, with_line, placed, statement, lined, step, step_as, IsCopied};
@@ -8,6 +8,7 @@ ghost use Rattle.redcode_expand.specs.Walk.{walk_begin, closed, copied, counted,
 use crate::entry::Entry;
 use crate::expanded::{Expanded, expanded_of};
 use crate::open_blocks::OpenBlocks;
+use crate::steps::Steps;
 use redcode_lines::{Line, LineForm, LineKind, Reading, behind_first};
 use redcode_names::{NameHash, Names};
 use redcode_text::{Token, Word};
@@ -28,6 +29,8 @@ pub(crate) struct Walk<'s, A: Allocator + Copy> {
     entries: Vec<Entry<'s, A>, A>,
     /// Whether an `END` was met.
     pub ended: bool,
+    /// Steps that counts took.
+    pub work: u64,
 }
 
 impl<'s, A: Allocator + Copy> Model for Walk<'s, A> {
@@ -52,7 +55,17 @@ impl<'s, A: Allocator + Copy> Walk<'s, A> {
             names: Names::new(alloc, hash),
             entries: Vec::new(alloc),
             ended: false,
+            work: 0,
         }
+    }
+
+    /// The steps that counts took since the last call.
+    pub(crate) fn take_work(&mut self) -> u64
+        ensures { self.new ≡ self.old }
+    {
+        let work = self.work;
+        self.work = 0;
+        work
     }
 
     /// Lines that were counted.
@@ -135,10 +148,11 @@ impl<'s, A: Allocator + Copy> Walk<'s, A> {
     }
 
     /// What the walk has found.
-    pub(crate) fn finish(self) -> Result<Expanded<'s, A>, AsmFault>
-        ensures { Gives (λ expanded. expanded) result (finished self.entry) }
+    pub(crate) fn finish(self, steps: &mut Steps) -> Result<Expanded<'s, A>, AsmFault>
+        ensures steps { steps.old ≤ steps.new + 2 ^ 32 }
+        ensures expanded { Gives (λ expanded. expanded) result (finished self.entry) }
     {
-        expanded_of(self.alloc, self.names, self.entries)
+        expanded_of(self.alloc, self.names, self.entries, steps)
     }
 
     /// A line that counts, without a word.

@@ -16,13 +16,14 @@ const ROUNDS: u32 = 16;
 /// Tokens that the operands of a line may have.
 pub const TOKEN_LIMIT: usize = 512;
 
-/// The tokens of a count with the names of EQUs replaced. Tokens without such a name are borrowed.
+/// The tokens of a count with the names of EQUs replaced. Tokens without such a name are borrowed. `work` rises by the steps that it takes.
 #[tactic(auto, using(crate::proofs::Unchanged::kept))]
 pub fn replaced<'t, 's, A: Allocator + Copy>(
     alloc: A,
     equs: &Equs<'s, A>,
     line: u32,
     tokens: &'t [Token<'s>],
+    work: &mut u64,
 ) -> Result<CowSlice<'t, Token<'s>, A>, AsmFault>
     ensures { Gives (λ tokens. pieces (cow_slice_items tokens)) result (replaced line equs.now (pieces tokens.entry.now)) }
 {
@@ -32,23 +33,23 @@ pub fn replaced<'t, 's, A: Allocator + Copy>(
         }
         return Ok(CowSlice::Borrowed(tokens));
     }
-    let all = written(alloc, equs, line, tokens, tokens.len())?;
+    let all = written(alloc, equs, line, tokens, work)?;
     Ok(CowSlice::Owned(all))
 }
 
-/// Tokens with the names of EQUs replaced, in a list that has room for `room` of them at first.
+/// Tokens with the names of EQUs replaced. `work` rises by the steps that it takes.
 #[tactic(auto, using(crate::proofs::Unchanged::all_replaced))]
 pub fn written<'s, A: Allocator + Copy>(
     alloc: A,
     equs: &Equs<'s, A>,
     line: u32,
     tokens: &[Token<'s>],
-    room: usize,
+    work: &mut u64,
 ) -> Result<Vec<Token<'s>, A>, AsmFault>
     ensures { Gives (λ tokens. pieces tokens.items) result (replaced line equs.now (pieces tokens.now)) }
 {
-    let mut out = Vec::with_capacity(alloc, room)?;
-    match write(equs, line, ROUNDS, tokens, &mut out) {
+    let mut out = Vec::with_capacity(alloc, tokens.len())?;
+    match write(equs, line, ROUNDS, tokens, &mut out, work) {
         Ok(()) => Ok(out),
         Err(fault) => Err(fault),
     }
@@ -62,16 +63,18 @@ fn write<'s, A: Allocator + Copy>(
     rounds: u32,
     tokens: &[Token<'s>],
     out: &mut Vec<Token<'s>, A>,
+    work: &mut u64,
 ) -> Result<(), AsmFault>
     ensures { Gives (λ _. pieces out.new.items) result (written (suc rounds) line equs.now (pieces out.old.items) (pieces tokens.now)) }
 {
     for token in tokens {
+        *work = work.saturating_add(work_of(token));
         let body = equs.body_at(token);
         if !body.is_empty() {
             if rounds == 0 {
                 return Err(too_many(line));
             }
-            write(equs, line, rounds - 1, body, out)?;
+            write(equs, line, rounds - 1, body, out, work)?;
             continue;
         }
         if out.len() == TOKEN_LIMIT {
@@ -80,6 +83,11 @@ fn write<'s, A: Allocator + Copy>(
         out.push(*token)?;
     }
     Ok(())
+}
+
+/// The steps of a token that is looked up: its name is read.
+fn work_of(token: &Token<'_>) -> u64 {
+    1 + (token.text.len() / 32) as u64
 }
 
 pub fn too_many(line: u32) -> AsmFault

@@ -1,5 +1,5 @@
-use Rattle.{std.proofs.{lemmas.Grind.common_steps, Common.{ℕ, List, Ok, sym, ap, subst, ◌∙◌, ◌<◌, ◌^◌, ◌≤◌, length, arith}, lemmas.List.length-map}, redcode_text.specs.Tokens.{Piece, piece_of, pieces}}
-use Rattle.{redcode_lines.specs.{Line.SourceLine, Views.line_read}, redcode_expand.specs.{Kept.{AreKept, counter_before}, Marks.line_in, Rest.counters_of, Walk.{WalkState, begun_as}}}
+use Rattle.{std.proofs.{Common.{ℕ, List, Ok, sym, ap, ◌∙◌, ◌≤◌, length, arith}, lemmas.List.length-map}, redcode_text.specs.Tokens.{piece_of}}
+use Rattle.{redcode_lines.specs.{Line.SourceLine, Views.line_read}, redcode_expand.specs.{Kept.{counter_before}, Marks.line_in, Rest.counters_of, Walk.{begun_as}}}
 use Rattle.redcode_expand.proofs.{AddedEqus.begun-equs, Latest.{begun-before, begun-latest, kept-learned, kept-same, latest-count}}
 use Rattle.redcode_expand.proofs.beginning.begun_at.Goals as goal
 

@@ -1,5 +1,5 @@
--- What is left is due, and each step leaves fewer.
-use Rattle.{std.proofs.Common.{◌≡◌, drop}, redcode_lines.specs.Block.parsed, redcode_expand.specs.{Walk.{walk_all, walk_begin}, Rest.{counters_of, rest_of, steps_left, AreOpen}, Kept.AreKept}}
+-- What is left is due, and each line leaves fewer; a line takes fewer than 2 ^ 32 steps of the budget.
+use Rattle.{std.proofs.Common.{◌≡◌, ◌≤◌, ◌+◌, ◌*◌, ◌^◌, drop}, redcode_lines.specs.Block.parsed, redcode_expand.specs.{Walk.{walk_all, walk_begin}, Rest.{counters_of, rest_of, steps_left, walk_steps, AreOpen}, Kept.AreKept}}
 use Rattle.redcode_expand.proofs.blocks.walk_lines.Given as goal
 
 abbrev pub invariant-loop-at : goal.invariant-loop-at
@@ -7,6 +7,7 @@ invariant-loop-at g l =
     (rest_of l.settings l.lines l.blocks (parsed (drop l.at l.lines)) l.walk ≡ walk_all l.settings (parsed l.lines) walk_begin)
     × AreOpen l.lines l.blocks (parsed (drop l.at l.lines)).1
     × AreKept l.settings l.lines (counters_of l.blocks) l.walk l.counts
+    × (l.initial.steps + 2 ^ 32 * steps_left l.lines l.blocks l.at l.walk ≤ l.steps + walk_steps)
 
 abbrev pub decreases-loop-at : goal.decreases-loop-at
 decreases-loop-at g l = steps_left l.lines l.blocks l.at l.walk

@@ -10,10 +10,11 @@ loop-entry-preserved g c =
       line-kept c.args.equs.now _ _ c.loop-entry.lines.items c.push.new.self.items c.in-Some.entry c.in_ok-line.line _
           steps.0 c.in_ok-line.ensures c.in_ok-push.ensures.items c.loop-entry.invariant.0,
       omega arith,
+      c.spend.ensures,
     )
 
-pub returns : goal.returns
-returns g c = grind (arith, common_steps)
+pub returns-clause-lines : goal.returns-clause-lines
+returns-clause-lines g c = grind (arith, common_steps)
 
-pub returns-in_err-line : goal.returns-in_err-line
-returns-in_err-line g c = grind (arith, common_steps)
+pub returns-in_err-line-clause-lines : goal.returns-in_err-line-clause-lines
+returns-in_err-line-clause-lines g c = grind (arith, common_steps)

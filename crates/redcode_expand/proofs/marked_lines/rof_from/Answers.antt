@@ -1,4 +1,4 @@
-use Rattle.{std.proofs.Common.{◌≤◌, sym, ◌∙◌, arith, refl}, redcode_expand.specs.Marks.mark_at, redcode_expand.proofs.Marks.{next-for, next-open, next-other, next-rof, word-for, word-rof}}
+use Rattle.{std.proofs.Common.{sym, ◌∙◌, arith}, redcode_expand.specs.Marks.mark_at, redcode_expand.proofs.Marks.{next-for, next-open, next-other, next-rof, word-for, word-rof}}
 use Rattle.redcode_expand.proofs.marked_lines.rof_from.Goals as goal
 
 pub returns-then-mark-lines : goal.returns-then-mark-lines

@@ -1,4 +1,4 @@
-use Rattle.{std.proofs.Common.{ap, sym, ◌∙◌, List}, redcode_expand.specs.Kept.CountList, redcode_expand.proofs.{Keeping.changing-kept, Latest.both}}
+use Rattle.{std.proofs.Common.{ap, sym, ◌∙◌}, redcode_expand.specs.Kept.CountList, redcode_expand.proofs.{Keeping.changing-kept, Latest.both}}
 use Rattle.redcode_expand.proofs.counts.Counts.forgo.Goals as goal
 
 pub returns-in-Nothing : goal.returns-in-Nothing
