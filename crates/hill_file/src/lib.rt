@@ -10,11 +10,17 @@
 //! Nothing here knows what the sectors hold, and a file is never shortened but to overwrite it.
 #![tactic(auto)]
 
+mod careful_device;
 mod device;
 mod lock;
 mod open_fault;
+mod placed_file;
+mod sector_file;
 mod zeros;
 
-pub use device::{Existing, HillFile, Sharing};
+pub use careful_device::CarefulDevice;
+pub use device::{Existing, HillFile};
 pub use lock::TryLock;
 pub use open_fault::OpenFault;
+pub use placed_file::Sharing;
+pub use sector_file::{Headers, SectorFile};

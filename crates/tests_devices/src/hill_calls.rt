@@ -1,8 +1,10 @@
 //! Which calls the device over a hill's file makes on it, and that each of them that fails is told.
 
-use crate::calls::{expect_faults, expect_read, expect_same, expect_sectors, sync, write};
+use crate::calls::{expect_same, expect_sectors};
 use crate::disk::{expect_zeros, remove, write_file};
-use crate::file_calls::{NEVER, expect_calls};
+use crate::file_calls::{
+    NEVER, expect_answer, expect_calls, expect_done, expect_refused, expect_script,
+};
 use crate::hill_files::{sectors_made, sectors_opened};
 use crate::places::{AtPath, at_place};
 use crate::watched::{Calls, WatchedFiles, forget, new_calls};
@@ -16,9 +18,9 @@ use std::io::ErrorKind;
 use std::process::Abort;
 use std::rt::Files;
 
-/// Opened, locked, measured twice, read to its end, its three sectors written, the file and then its folder synced; and opened by the
-/// device, measured, and looked for.
-const MADE: [u8; 15] = *b"okmmrswwwyoyomm";
+/// Opened, locked, measured twice, read to its end, its three sectors written, the file and then its folder synced; and looked for,
+/// measured, and both headers read.
+const MADE: [u8; 17] = *b"okmmrswwwyoymmsrr";
 
 /// What is reported if a call fails.
 const FAILED: Result<u32, OpenFault> = Err(OpenFault::Failed(ErrorKind::Other));
@@ -112,7 +114,7 @@ where
 /// A file that is kept is read before it is written to. One that is overwritten is emptied when its lock is held, and not before.
 const LOCKED: [HillCall; 5] = [
     HillCall::Make(Existing::Kept, NEVER, Ok(3), &MADE),
-    HillCall::Make(Existing::Overwritten, NEVER, Ok(3), b"okmlswwwyoyomm"),
+    HillCall::Make(Existing::Overwritten, NEVER, Ok(3), b"okmlswwwyoymmsrr"),
     HillCall::Write(b"a letter"),
     HillCall::Make(Existing::Kept, NEVER, Err(OpenFault::Occupied), b"okmmr"),
     HillCall::Remove,
@@ -169,7 +171,7 @@ fn making_stops_where_a_call_fails(rt: HostRuntime) {
 const FULL: [HillCall; 5] = [
     HillCall::StopMaking(7),
     HillCall::Zeros(512),
-    HillCall::Make(Existing::Kept, NEVER, Ok(3), b"okmmrrswwwyoyomm"),
+    HillCall::Make(Existing::Kept, NEVER, Ok(3), b"okmmrrswwwyoymmsrr"),
     HillCall::Zeros(1536),
     HillCall::Remove,
 ];
@@ -195,11 +197,11 @@ where
     expect_calls(rt, calls, Some(letters));
 }
 
-/// Opened, locked if it is for this program alone, opened by the device, measured, and looked for.
+/// Opened and locked if it is for this program alone, looked for and measured. Only then are the headers read.
 const OPENED: [HillCall; 4] = [
     HillCall::Make(Existing::Kept, NEVER, Ok(3), &MADE),
-    HillCall::Open(Sharing::Alone, b"okomm"),
-    HillCall::Open(Sharing::Shared, b"oomm"),
+    HillCall::Open(Sharing::Alone, b"okmmsrr"),
+    HillCall::Open(Sharing::Shared, b"omm"),
     HillCall::Remove,
 ];
 
@@ -208,15 +210,17 @@ fn opening_locks_the_file(rt: HostRuntime) {
     at_place(&rt, rt.process(), "hill-opened", &OPENED);
 }
 
-/// A sync that fails in its call of this number, and makes none after that.
-fn expect_unsynced<D: Device>(rt: &impl Abort, calls: &Cell<Calls>, hill: &mut D, fails_at: usize) {
-    forget(calls, fails_at);
-    let answer = hill.sync();
-    expect_same(rt, &answer, &Err(Fault), format_args!("at {fails_at}"));
-    expect_calls(rt, calls, b"mym".get(..fails_at.saturating_add(1)));
-}
+/// A look measures the file, and reads both headers. A write is a look and a write of the sector.
+const WRITTEN: [u8; 6] = *b"msrrsw";
 
-/// A write is a look and a write, a sync is a look, a sync and a look, and each is a fault if one of them fails. A read needs no look.
+/// A sync is a look, a sync and a look.
+const SYNCED: [u8; 9] = *b"msrrymsrr";
+
+/// If the device doubts, each of three sectors is read, and written after a look, between the first look and the sync.
+const DOUBTED: [u8; 33] = *b"msrrsrmsrrswsrmsrrswsrmsrrswymsrr";
+
+/// Each call of a device that was opened in doubt, and each of the file's in it that fails. A read needs no look. After a sync that failed
+/// the next one writes each sector again, and nothing else that fails makes it do so.
 fn expect_each<D: Device + Drop, E: Debug>(
     rt: &impl Abort,
     calls: &Cell<Calls>,
@@ -224,15 +228,17 @@ fn expect_each<D: Device + Drop, E: Debug>(
 ) {
     let mut hill = made.expect(rt, "it is made");
     expect_sectors(rt, &hill, 3);
-    forget(calls, NEVER);
-    write(rt, &mut hill, 2, 7);
-    expect_read(rt, &mut hill, 2, 7);
-    sync(rt, &mut hill);
-    expect_calls(rt, calls, Some(b"mswsrmym"));
-    expect_unsynced(rt, calls, &mut hill, 0);
-    expect_unsynced(rt, calls, &mut hill, 1);
-    expect_unsynced(rt, calls, &mut hill, 2);
-    expect_faults(rt, &hill, 3);
+    expect_script(rt, calls, &mut hill, b'w', &WRITTEN);
+    expect_script(rt, calls, &mut hill, b'r', b"sr");
+    expect_refused(rt, calls, &mut hill, b'y', &DOUBTED, 0..29);
+    expect_done(rt, calls, &mut hill, b'y', &DOUBTED);
+    expect_refused(rt, calls, &mut hill, b'y', &SYNCED, 0..4);
+    expect_refused(rt, calls, &mut hill, b'y', &SYNCED, 5..9);
+    expect_done(rt, calls, &mut hill, b'y', &SYNCED);
+    expect_answer(rt, calls, &mut hill, b'y', 4, Err(Fault), SYNCED.get(..5));
+    expect_script(rt, calls, &mut hill, b'w', &WRITTEN);
+    expect_done(rt, calls, &mut hill, b'y', &DOUBTED);
+    expect_done(rt, calls, &mut hill, b'y', &SYNCED);
 }
 
 /// Each call is made of a hill's file that is made among these files, which write their calls down.
