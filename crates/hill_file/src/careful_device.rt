@@ -49,6 +49,13 @@ impl<F: SectorFile + Drop> CarefulDevice<F> {
 }
 
 impl<F: SectorFile> CarefulDevice<F> {
+    /// Both headers, as they are known.
+    pub fn known(&self) -> Headers
+        ensures { result ≡ self.now.known }
+    {
+        self.known
+    }
+
     /// The file has each sector, and the headers that are known.
     fn look(&mut self) -> Result<(), Fault>
         ensures size { self.new.sectors ≡ self.old.sectors }

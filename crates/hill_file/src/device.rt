@@ -8,6 +8,7 @@ use crate::careful_device::CarefulDevice;
 use crate::lock::TryLock;
 use crate::open_fault::OpenFault;
 use crate::placed_file::{PlacedFile, Sharing};
+use crate::sector_file::Headers;
 use crate::zeros::{require_zeros, write_zeros};
 use sector_disk::{Device, Fault, sync_name};
 use std::alloc::Allocator;
@@ -39,6 +40,7 @@ pub enum Existing {
 #[derive(Drop)]
 pub struct HillFile<'f, R: Files> {
     device: CarefulDevice<PlacedFile<'f, R>>,
+    settled: Headers,
 }
 
 impl<'f, R: Files> Model for HillFile<'f, R> {
@@ -119,25 +121,31 @@ where
 }
 
 impl<'f, R: Files> HillFile<'f, R> {
-    /// The device over this file, which doesn't know whether an earlier sync failed if the file is to be changed. `Failed` with `NotFound` if
-    /// the path leads elsewhere by now, with `UnexpectedEof` if it has fewer than `least` sectors, and with `Other` if its headers can't be
-    /// read.
+    /// The device over this file, in doubt if the file holds a hill that may be changed. `Failed` with `NotFound` if the path leads elsewhere by
+    /// now, with `UnexpectedEof` if it has fewer than `least` sectors, and with `Other` if its headers can't be read.
     fn over(file: PlacedFile<'f, R>, least: u32) -> Result<HillFile<'f, R>, OpenFault>
         ensures enough { IfOk result (λ hill. least ≤ hill.sectors) }
         ensures faults { IfOk result (λ hill. hill.faults ≡ 0) }
         ensures system { IfErr result IsOfSystem }
     {
-        let doubt = file.sharing == Sharing::Alone;
-        if file.sectors_in_place()?.is_none() {
+        let mut file = file;
+        let Some(sectors) = file.sectors_in_place()? else {
             return Err(OpenFault::Failed(ErrorKind::NotFound));
-        }
+        };
+        let doubt = 2 <= sectors && file.begins_as_a_hill()?;
         let Ok(device) = CarefulDevice::open(file, doubt) else {
             return Err(OpenFault::Failed(ErrorKind::Other));
         };
         if device.sectors() < least {
             return Err(OpenFault::Failed(ErrorKind::UnexpectedEof));
         }
-        Ok(HillFile { device })
+        let settled = device.known();
+        Ok(HillFile { device, settled })
+    }
+
+    /// Both headers as they were at the last sync that was answered `Ok`, or when the file was opened. They are zeros if it is shared.
+    pub fn settled(&self) -> Headers {
+        self.settled
     }
 }
 
@@ -164,7 +172,9 @@ impl<R: Files> Device for HillFile<'_, R> {
 
     /// What was written has reached the disk, as far as the system says, in the file to which the path led.
     fn sync(&mut self) -> Result<(), Fault> {
-        self.device.sync()
+        self.device.sync()?;
+        self.settled = self.device.known();
+        Ok(())
     }
 }
 

@@ -9,6 +9,9 @@ use std::io;
 use std::io::{Read, Seek, SeekFrom, Write};
 use std::os::unix::fs::MetadataExt;
 
+/// What the header of a hill begins with, in the format in which hills are written.
+const BEGINNING: &[u8] = b"KOTHHIL2";
+
 /// Whether the file is locked for this program alone.
 #[derive(Clone, Copy, Debug, PartialEq, Eq)]
 pub enum Sharing {
@@ -37,6 +40,17 @@ impl<R: Files> PlacedFile<'_, R> {
         }
         let sectors = open.len() / SECTOR_BYTES;
         Ok(Some(u32::try_from(sectors).unwrap_or(u32::MAX)))
+    }
+
+    /// One of the headers begins as one of a hill, in a file that isn't shared.
+    pub(crate) fn begins_as_a_hill(&mut self) -> io::Result<bool> {
+        match self.sharing {
+            Sharing::Alone => {
+                let headers = read_headers(&mut self.handle)?;
+                Ok(headers.even.starts_with(BEGINNING) || headers.odd.starts_with(BEGINNING))
+            }
+            Sharing::Shared => Ok(false),
+        }
     }
 }
 

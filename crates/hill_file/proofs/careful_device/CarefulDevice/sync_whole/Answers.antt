@@ -1,5 +1,5 @@
 use Rattle.std.proofs.Common.{subst, ◌∷◌, ◌++◌, ◌∙◌}
-use Rattle.hill_file.{specs.{Careful.{HasDone, IsSure, remembered}, Done.Done}, proofs.Steps.{synced, unlooked, unsynced, unwritten}}
+use Rattle.hill_file.{specs.{Careful.{HasDone, IsSure, remembered}, Done.Done}, proofs.Steps.{synced, unsynced, unwritten}}
 use Rattle.hill_file.proofs.careful_device.CarefulDevice.sync_whole.Goals as goal
 
 pub returns-in_err-freshen-clause-goes : goal.returns-in_err-freshen-clause-goes

@@ -1,4 +1,3 @@
-use Rattle.std.proofs.Common.{sym}
 use Rattle.hill_file.proofs.Steps.{read_on}
 use Rattle.hill_file.proofs.careful_device.CarefulDeviceDevice.read.Goals as goal
 
