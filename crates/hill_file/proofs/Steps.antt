@@ -2,7 +2,7 @@
 use Rattle.std.proofs.{Common.{◌≡◌, ◌⊎◌, inl, inr, refl, sym, subst, true≢false, ℕ, ◌+◌, ◌<◌, List, [], ◌∷◌, ◌++◌, Result, Ok, Err, IsErr, append_assoc, arith}, lemmas.Bool.cases_lt}
 use Rattle.std.specs.{Bool.⊤, Prelude.{MatchResult}}
 use Rattle.hill_file.specs.{declared.careful_device.CarefulDevice.CarefulDevice, declared.sector_file.Headers.Headers, Done.{Done, Reads}}
-use Rattle.hill_file.specs.Careful.{EachWasWritten, FollowsRead, HasDone, IsAsRead, IsLook, IsLookAtMost, IsRead, IsSure, IsSync, WasWritten, remembered}
+use Rattle.hill_file.specs.Careful.{EachWasWritten, FollowsRead, HasDone, IsAsRead, IsLook, IsLookAtMost, IsRead, IsSure, IsSync, Opening, WasWritten, remembered}
 
 -- what holds at an Err
 pub at_err : {T E Q : Type 0} (P : Type 0) (result : Result T E) → IsErr result → Q → MatchResult result (λ _. P) (λ _. Q)
@@ -43,7 +43,7 @@ as_read_looked (Done.Tried n content ∷ done) headers it = (follows_more n cont
 as_read_looked (Done.Synced ∷ done) headers it = as_read_looked done headers it
 as_read_looked (Done.Unsynced ∷ done) headers it = as_read_looked done headers it
 
-module _ {F : Type 0} (happened : F → List Done → Type 0) (start : Headers) (log : List Done) where
+module _ {F : Type 0} (happened : F → List Done → Type 0) (start : Opening) (log : List Done) where
   -- something was done since, and it is so
   abbrev pub HasGone : (List Done → Type 0) → CarefulDevice F → Type 0
   HasGone IsSo device = (done : List Done) × IsSo done × HasDone happened start device (done ++ log)
@@ -124,7 +124,7 @@ module _ {F : Type 0} (happened : F → List Done → Type 0) (start : Headers) 
 
   -- the last look, in whatever way it came out
   pub synced : {T E : Type 0} (sectors : ℕ) (device : CarefulDevice F) (result : Result T E) (headers : Headers) (done last : List Done)
-      → IsAsRead done → IsSure sectors (Done.Synced ∷ (done ++ Done.Looked headers ∷ log))
+      → IsAsRead done → IsSure start sectors (Done.Synced ∷ (done ++ Done.Looked headers ∷ log))
       → IsLook result start (Done.Synced ∷ (done ++ Done.Looked headers ∷ log)) last
       → HasDone happened start device (last ++ Done.Synced ∷ (done ++ Done.Looked headers ∷ log))
       → HasGone (IsSync sectors result start log) device
@@ -134,7 +134,7 @@ module _ {F : Type 0} (happened : F → List Done → Type 0) (start : Headers) 
       as_read_looked done headers is,
       (
         subst (λ xs. remembered start (done ++ Done.Looked headers ∷ log) ≡ remembered start xs) (whole done headers) refl,
-        subst (λ xs. IsSure sectors (Done.Synced ∷ xs)) (whole done headers) sure,
+        subst (λ xs. IsSure start sectors (Done.Synced ∷ xs)) (whole done headers) sure,
       ),
     ),
     subst (λ xs. HasDone happened start device (Done.Looked (remembered start (done ++ Done.Looked headers ∷ log)) ∷ Done.Synced ∷ xs)) (whole done headers)

@@ -1,7 +1,7 @@
 //! The device that looks at the headers before it writes, and believes no sync after one that failed.
 
-ghost use Rattle.std.specs.Prelude.{◌≡◌, ◌⊎◌, ⊤, ◌++◌, true, false, [], ◌∷◌, IfOk, MatchResult};
-ghost use Rattle.hill_file.specs.Careful.{careful_facts, EachWasWritten, Goes, HasDone, IsAsRead, IsCounted, IsLook, IsPut, IsRead, IsSync, Settles};
+ghost use Rattle.std.specs.Prelude.{◌≡◌, ◌⊎◌, ⊤, ◌++◌, false, [], ◌∷◌, IfOk, MatchResult};
+ghost use Rattle.hill_file.specs.Careful.{careful_facts, EachWasWritten, Goes, HasDone, IsAsRead, IsCounted, IsLook, IsPut, IsRead, IsSync, Settles, opening};
 ghost use Rattle.{sector_disk.specs.Served.IsServed, hill_file.specs.Done.Done};
 
 use crate::sector_file::{Headers, SectorFile};
@@ -28,8 +28,8 @@ impl<F: SectorFile + Drop> CarefulDevice<F> {
     /// In `doubt` the device doesn't know whether an earlier sync of the file failed.
     pub fn open(file: F, doubt: bool) -> Result<CarefulDevice<F>, Fault>
         ensures faults { IfOk result (λ device. device.faults ≡ 0) }
-        ensures begins { doubt ≡ true → F.happened file [] → IfOk result (λ device. HasDone F.happened device.known device []
-            ⊎ HasDone F.happened device.known device (Done.Looked device.known ∷ [])) }
+        ensures begins { F.happened file [] → IfOk result (λ device. HasDone F.happened (opening device.known doubt) device []
+            ⊎ HasDone F.happened (opening device.known doubt) device (Done.Looked device.known ∷ [])) }
     {
         let mut file = file;
         let sectors = file.length()?;

@@ -25,6 +25,6 @@ returns-clause-goes g c = λ start log on.
     let looked = subst (λ xs. HasDone g.F.SectorFile.happened start c.look.new.self (xs ++ log)) look.1 look.2 in
     let fresh = c.in_ok-freshen.ensures.goes start (Done.Looked (remembered start log) ∷ log) looked in
     let settled = c.in_ok-settle.ensures.goes start (fresh.0 ++ Done.Looked (remembered start log) ∷ log) fresh.2 fresh.1.1 in
-    let sure = subst (λ n. IsSure n (Done.Synced ∷ (fresh.0 ++ Done.Looked (remembered start log) ∷ log))) (c.in_ok-freshen.ensures.size ∙ c.in_ok-look.ensures.size) settled.1 in
+    let sure = subst (λ n. IsSure start n (Done.Synced ∷ (fresh.0 ++ Done.Looked (remembered start log) ∷ log))) (c.in_ok-freshen.ensures.size ∙ c.in_ok-look.ensures.size) settled.1 in
     let last = c.look-2.ensures.goes start (Done.Synced ∷ (fresh.0 ++ Done.Looked (remembered start log) ∷ log)) settled.0 in
     synced g.F.SectorFile.happened start log c.args.self.now.sectors c.look-2.new.self c.look-2.result (remembered start log) fresh.0 last.0 fresh.1.0 sure last.1 last.2
