@@ -2,30 +2,24 @@
 #![tactic(auto, using(crate::proofs::OfSystem::fault_of_system, crate::proofs::OfSystem::whatever_held))]
 
 ghost use Rattle.std.specs.Prelude.{◌≡◌, ◌≤◌, IfErr, IfOk};
-ghost use Rattle.{sector_disk.specs.File.IsFileServed, hill_file.specs.OpenFault.{IsOfSystem, IsWhateverHeld}};
+ghost use Rattle.hill_file.specs.OpenFault.{IsOfSystem, IsWhateverHeld};
 
+use crate::careful_device::CarefulDevice;
 use crate::lock::TryLock;
 use crate::open_fault::OpenFault;
+use crate::placed_file::{PlacedFile, Sharing};
+use crate::sector_file::Headers;
 use crate::zeros::{require_zeros, write_zeros};
-use sector_disk::{Device, Fault, FileDevice, FileFault, SECTOR_BYTES, sync_name};
+use sector_disk::{Device, Fault, sync_name};
 use std::alloc::Allocator;
-use std::fs::{File, Files, Metadata, OpenFile};
+use std::fs::{File, Files, OpenFile};
 use std::io;
 use std::io::ErrorKind;
 use std::marker::Model;
-use std::os::unix::fs::{MetadataExt, OpenOptionsExt};
+use std::os::unix::fs::OpenOptionsExt;
 
 /// Who may read and write a file that is made: its owner.
 const OWNER_ONLY: u32 = 0o600;
-
-/// Whether the file is locked for this program alone.
-#[derive(Clone, Copy, Debug, PartialEq, Eq)]
-pub enum Sharing {
-    /// Its lock is taken, so no other program that takes it works on the file.
-    Alone,
-    /// Its lock is neither taken nor looked at.
-    Shared,
-}
 
 /// What becomes of a file that is there and holds something.
 #[derive(Clone, Copy, Debug, PartialEq, Eq)]
@@ -36,29 +30,25 @@ pub enum Existing {
     Overwritten,
 }
 
-/// A device over the file at a path, sector by sector as `FileDevice` has them. It keeps the file's lock, if it took it, until it is
+/// A device over the file at a path: the n-th 512 bytes of the file are sector n. It keeps the file's lock, if it took it, until it is
 /// dropped.
 ///
-/// Before each write and each sync it looks whether the path still leads to the file that is open and the file still has each of the
-/// device's sectors, and again after a sync, which takes its time. If not, or if the system doesn't say, the call is a fault. So a hill
-/// whose file was removed, replaced or cut is never said to be synced, and no write makes a file that was cut as long as it was. It is
-/// lawful in no contract, as `FileDevice`.
+/// Before each write and each sync, and again after a sync, which takes its time, it looks whether the path still leads to the file that is
+/// open, and the file still has each of the device's sectors and the headers that the device knows, as `CarefulDevice` says. If not, or if
+/// the system doesn't say, the call is a fault. So a hill whose file was removed, replaced, cut or written by another program is never said
+/// to be synced, and nothing is written over what was copied in. It is lawful in no contract.
 #[derive(Drop)]
 pub struct HillFile<'f, R: Files> {
-    rt: &'f R,
-    path: &'f str,
-    handle: R::File,
-    device: FileDevice<R::File>,
-    refused: u64,
+    device: CarefulDevice<PlacedFile<'f, R>>,
+    settled: Headers,
 }
 
 impl<'f, R: Files> Model for HillFile<'f, R> {
-    ghost use Rattle.std.specs.Prelude.{◌+◌, ◌-◌, ◌^◌, min};
     ghost use Rattle.sector_disk.specs.File.{FileState};
 
     ghost Value = { FileState };
 
-    ghost view = { λ hill. record { sectors = hill.device.sectors; faults = min (hill.device.faults + hill.refused) (2 ^ 64 - 1) } };
+    ghost view = { λ hill. record { sectors = hill.device.sectors; faults = hill.device.faults } };
 }
 
 impl<'f, R: Files> HillFile<'f, R>
@@ -68,7 +58,7 @@ where
     /// The device over the file at this path, which has to be there. It has counted no fault.
     ///
     /// `Locked` if `sharing` is `Alone` and another program holds the lock. `Failed` with `NotFound` if there is no file, or another by the
-    /// time that it is locked, with `Other` if it can't be opened a second time, and else with the system's reason, as for a folder. Never
+    /// time that it is locked, with `Other` if its headers can't be read, and else with the system's reason, as for a folder. Never
     /// `Occupied`.
     pub fn open(rt: &'f R, path: &'f str, sharing: Sharing) -> Result<HillFile<'f, R>, OpenFault>
         ensures faults { IfOk result (λ hill. hill.faults ≡ 0) }
@@ -82,7 +72,13 @@ where
             Sharing::Alone => handle.lock_now()?,
             Sharing::Shared => {}
         }
-        HillFile::over(rt, path, handle, 0)
+        let file = PlacedFile {
+            rt,
+            path,
+            handle,
+            sharing,
+        };
+        HillFile::over(file, 0)
     }
 
     /// A device of at least `sectors` sectors, which all hold zeros, over the file at this path, locked for this program alone. It has
@@ -114,61 +110,42 @@ where
         handle.lock_now()?;
         fill(&mut handle, existing, sectors)?;
         sync_name(rt, alloc, path)?;
-        HillFile::over(rt, path, handle, sectors)
+        let file = PlacedFile {
+            rt,
+            path,
+            handle,
+            sharing: Sharing::Alone,
+        };
+        HillFile::over(file, sectors)
     }
 }
 
 impl<'f, R: Files> HillFile<'f, R> {
-    /// The device over the file of this handle. `Failed` with `NotFound` if the path leads elsewhere by now, with `Other` if the file can't
-    /// be opened a second time, and with `UnexpectedEof` if it has fewer than `least` sectors.
-    fn over(
-        rt: &'f R,
-        path: &'f str,
-        handle: R::File,
-        least: u32,
-    ) -> Result<HillFile<'f, R>, OpenFault>
+    /// The device over this file, in doubt if the file holds a hill that may be changed. `Failed` with `NotFound` if the path leads elsewhere by
+    /// now, with `UnexpectedEof` if it has fewer than `least` sectors, and with `Other` if its headers can't be read.
+    fn over(file: PlacedFile<'f, R>, least: u32) -> Result<HillFile<'f, R>, OpenFault>
         ensures enough { IfOk result (λ hill. least ≤ hill.sectors) }
         ensures faults { IfOk result (λ hill. hill.faults ≡ 0) }
         ensures system { IfErr result IsOfSystem }
     {
-        let device = match FileDevice::open(rt, path) {
-            Ok(device) => device,
-            Err(FileFault::Memory) => return Err(OpenFault::Memory),
-            Err(FileFault::Failed) => return Err(OpenFault::Failed(ErrorKind::Other)),
-        };
-        let hill = HillFile {
-            rt,
-            path,
-            handle,
-            device,
-            refused: 0,
-        };
-        if !hill.is_in_place()? {
+        let mut file = file;
+        let Some(sectors) = file.sectors_in_place()? else {
             return Err(OpenFault::Failed(ErrorKind::NotFound));
-        }
-        if hill.sectors() < least {
+        };
+        let doubt = 2 <= sectors && file.begins_as_a_hill()?;
+        let Ok(device) = CarefulDevice::open(file, doubt) else {
+            return Err(OpenFault::Failed(ErrorKind::Other));
+        };
+        if device.sectors() < least {
             return Err(OpenFault::Failed(ErrorKind::UnexpectedEof));
         }
-        Ok(hill)
+        let settled = device.known();
+        Ok(HillFile { device, settled })
     }
 
-    /// Counts a fault if the file isn't in place, or if the system doesn't say.
-    fn look(&mut self) -> Result<(), Fault>
-        ensures { IsFileServed self.old self.new result }
-    {
-        if self.is_in_place().unwrap_or(false) {
-            return Ok(());
-        }
-        self.refused = self.refused.saturating_add(1);
-        Err(Fault)
-    }
-
-    /// The path leads to the file that is open, and the file has each of the device's sectors.
-    fn is_in_place(&self) -> io::Result<bool> {
-        let open = self.handle.metadata()?;
-        let found = self.rt.metadata(self.path)?;
-        let bytes = u64::from(self.device.sectors()) * SECTOR_BYTES;
-        Ok(is_same_file(&open, &found) && bytes <= open.len())
+    /// Both headers as they were at the last sync that was answered `Ok`, or when the file was opened. They are zeros if it is shared.
+    pub fn settled(&self) -> Headers {
+        self.settled
     }
 }
 
@@ -182,24 +159,22 @@ impl<R: Files> Device for HillFile<'_, R> {
     }
 
     fn faults(&self) -> u64 {
-        self.device.faults().saturating_add(self.refused)
+        self.device.faults()
     }
 
     fn read(&mut self, n: u32, to: &mut [u8; 512]) -> Result<(), Fault> {
         self.device.read(n, to)
     }
 
-    /// Nothing is written to a file that the path doesn't lead to, or that was cut: a write at its end would make it as long as it was.
     fn write(&mut self, n: u32, from: &[u8; 512]) -> Result<(), Fault> {
-        self.look()?;
         self.device.write(n, from)
     }
 
     /// What was written has reached the disk, as far as the system says, in the file to which the path led.
     fn sync(&mut self) -> Result<(), Fault> {
-        self.look()?;
         self.device.sync()?;
-        self.look()
+        self.settled = self.device.known();
+        Ok(())
     }
 }
 
@@ -227,9 +202,4 @@ fn clear<F: OpenFile + io::Read>(file: &mut F, existing: Existing) -> Result<(),
         Existing::Kept => require_zeros(file),
         Existing::Overwritten => Ok(file.set_len(0)?),
     }
-}
-
-/// Whether they are of one file, by its device and its number there.
-fn is_same_file(one: &Metadata, other: &Metadata) -> bool {
-    one.dev() == other.dev() && one.ino() == other.ino()
 }

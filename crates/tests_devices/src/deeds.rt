@@ -1,9 +1,9 @@
 //! What is done at the path of a hill's file.
 
 use crate::disk::{
-    copy, create_folder, expect_blocks_below, expect_blocks_from, expect_nothing, expect_private,
-    expect_zeros, link, make_hole, remove_beside, remove_folder, rename, set_length, write_file,
-    write_zeros_and,
+    copy, create_folder, expect_blocks_below, expect_blocks_from, expect_bytes, expect_nothing,
+    expect_private, expect_zeros, link, make_hole, remove_beside, remove_folder, rename,
+    set_length, write_file, write_zeros_and,
 };
 use crate::hill_files::{
     expect_kept, expect_locked, expect_made, expect_none_made, expect_none_within, expect_opened,
@@ -41,6 +41,8 @@ pub(crate) enum Deed<'t> {
     RemoveFolder,
     /// There is nothing.
     Nothing,
+    /// The file holds these bytes.
+    Holds(&'t [u8]),
     /// The file has this length, and each byte is zero.
     Zeros(usize),
     /// It takes fewer blocks on the disk than this.
@@ -79,6 +81,7 @@ impl AtPath for Deed<'_> {
             Deed::CreateFolder => create_folder(rt, path),
             Deed::RemoveFolder => remove_folder(rt, path),
             Deed::Nothing => expect_nothing(rt, path),
+            Deed::Holds(bytes) => expect_bytes(rt, path, bytes),
             Deed::Zeros(length) => expect_zeros(rt, path, length),
             Deed::BlocksBelow(count) => expect_blocks_below(rt, path, count),
             Deed::BlocksFrom(count) => expect_blocks_from(rt, path, count),

@@ -9,6 +9,7 @@ use sector_disk::{Device, Fault, FileDevice, FileFault};
 use std::cell::Cell;
 use std::fmt::Debug;
 use std::fs::File;
+use std::ops::Range;
 use std::process::Abort;
 use std::rt::Files;
 
@@ -117,7 +118,7 @@ fn call<D: Device>(device: &mut D, which: u8) -> Result<(), Fault> {
 }
 
 /// A call of a device ends so, after these calls of the file, of which the one of this number fails. A fault is counted.
-fn expect_answer<D: Device>(
+pub(crate) fn expect_answer<D: Device>(
     rt: &impl Abort,
     calls: &Cell<Calls>,
     device: &mut D,
@@ -134,19 +135,42 @@ fn expect_answer<D: Device>(
     expect_faults(rt, device, faults);
 }
 
-/// This call of a device makes these calls of the file, and each of them that fails is a fault.
-fn expect_script<D: Device>(
+/// This call of a device makes these calls of the file, and each of these that fails is a fault.
+pub(crate) fn expect_refused<D: Device>(
+    rt: &impl Abort,
+    calls: &Cell<Calls>,
+    device: &mut D,
+    which: u8,
+    script: &[u8],
+    failing: Range<usize>,
+) {
+    for fails_at in failing {
+        let letters = script.get(..fails_at.saturating_add(1));
+        expect_answer(rt, calls, device, which, fails_at, Err(Fault), letters);
+    }
+}
+
+/// This call of a device makes these calls of the file.
+pub(crate) fn expect_done<D: Device>(
     rt: &impl Abort,
     calls: &Cell<Calls>,
     device: &mut D,
     which: u8,
     script: &[u8],
 ) {
-    for fails_at in 0..script.len() {
-        let letters = script.get(..fails_at + 1);
-        expect_answer(rt, calls, device, which, fails_at, Err(Fault), letters);
-    }
-    expect_answer(rt, calls, device, which, script.len(), Ok(()), Some(script));
+    expect_answer(rt, calls, device, which, NEVER, Ok(()), Some(script));
+}
+
+/// This call of a device makes these calls of the file, and each of them that fails is a fault.
+pub(crate) fn expect_script<D: Device>(
+    rt: &impl Abort,
+    calls: &Cell<Calls>,
+    device: &mut D,
+    which: u8,
+    script: &[u8],
+) {
+    expect_refused(rt, calls, device, which, script, 0..script.len());
+    expect_done(rt, calls, device, which, script);
 }
 
 /// A write is one seek and one write of the whole sector, a read one seek and one read, a sync one sync.

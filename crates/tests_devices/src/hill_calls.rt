@@ -1,8 +1,10 @@
 //! Which calls the device over a hill's file makes on it, and that each of them that fails is told.
 
-use crate::calls::{expect_faults, expect_read, expect_same, expect_sectors, sync, write};
-use crate::disk::{expect_zeros, remove, write_file};
-use crate::file_calls::{NEVER, expect_calls};
+use crate::calls::{expect_same, expect_sectors};
+use crate::disk::{expect_zeros, remove, set_length, write_file};
+use crate::file_calls::{
+    NEVER, expect_answer, expect_calls, expect_done, expect_refused, expect_script,
+};
 use crate::hill_files::{sectors_made, sectors_opened};
 use crate::places::{AtPath, at_place};
 use crate::watched::{Calls, WatchedFiles, forget, new_calls};
@@ -16,9 +18,9 @@ use std::io::ErrorKind;
 use std::process::Abort;
 use std::rt::Files;
 
-/// Opened, locked, measured twice, read to its end, its three sectors written, the file and then its folder synced; and opened by the
-/// device, measured, and looked for.
-const MADE: [u8; 15] = *b"okmmrswwwyoyomm";
+/// Opened, locked, measured twice, read to its end, its three sectors written, the file and then its folder synced; and looked for and its
+/// headers read, by the file and by the device.
+const MADE: [u8; 20] = *b"okmmrswwwyoymsrrmsrr";
 
 /// What is reported if a call fails.
 const FAILED: Result<u32, OpenFault> = Err(OpenFault::Failed(ErrorKind::Other));
@@ -36,6 +38,8 @@ enum HillCall {
     Open(Sharing, &'static [u8]),
     /// One is made, and each call of it is made, and each call of a sync fails once.
     MakeAndCall,
+    /// A file that begins with these bytes, and has zeros after them up to three sectors, is opened, and synced twice, at first by these calls.
+    Sync(&'static [u8], &'static [u8]),
     /// A file of these bytes is written.
     Write(&'static [u8]),
     /// The file has this length, and each byte is zero.
@@ -83,6 +87,11 @@ where
         HillCall::StopEach => stop_each(rt, files, calls, path),
         HillCall::Open(sharing, letters) => expect_opened(rt, files, calls, path, sharing, letters),
         HillCall::MakeAndCall => make_among(rt, files, rt.alloc(), calls, path),
+        HillCall::Sync(bytes, letters) => {
+            write_file(rt, path, bytes);
+            set_length(rt, path, 1536);
+            sync_among(rt, files, calls, path, letters);
+        }
         HillCall::Write(bytes) => write_file(rt, path, bytes),
         HillCall::Zeros(length) => expect_zeros(rt, path, length),
         HillCall::Remove => remove(rt, path),
@@ -112,7 +121,7 @@ where
 /// A file that is kept is read before it is written to. One that is overwritten is emptied when its lock is held, and not before.
 const LOCKED: [HillCall; 5] = [
     HillCall::Make(Existing::Kept, NEVER, Ok(3), &MADE),
-    HillCall::Make(Existing::Overwritten, NEVER, Ok(3), b"okmlswwwyoyomm"),
+    HillCall::Make(Existing::Overwritten, NEVER, Ok(3), b"okmlswwwyoymsrrmsrr"),
     HillCall::Write(b"a letter"),
     HillCall::Make(Existing::Kept, NEVER, Err(OpenFault::Occupied), b"okmmr"),
     HillCall::Remove,
@@ -169,7 +178,7 @@ fn making_stops_where_a_call_fails(rt: HostRuntime) {
 const FULL: [HillCall; 5] = [
     HillCall::StopMaking(7),
     HillCall::Zeros(512),
-    HillCall::Make(Existing::Kept, NEVER, Ok(3), b"okmmrrswwwyoyomm"),
+    HillCall::Make(Existing::Kept, NEVER, Ok(3), b"okmmrrswwwyoymsrrmsrr"),
     HillCall::Zeros(1536),
     HillCall::Remove,
 ];
@@ -195,11 +204,11 @@ where
     expect_calls(rt, calls, Some(letters));
 }
 
-/// Opened, locked if it is for this program alone, opened by the device, measured, and looked for.
+/// Opened, looked for and measured. If it is for this program alone, it is locked first, and its headers are read.
 const OPENED: [HillCall; 4] = [
     HillCall::Make(Existing::Kept, NEVER, Ok(3), &MADE),
-    HillCall::Open(Sharing::Alone, b"okomm"),
-    HillCall::Open(Sharing::Shared, b"oomm"),
+    HillCall::Open(Sharing::Alone, b"okmsrrmsrr"),
+    HillCall::Open(Sharing::Shared, b"omm"),
     HillCall::Remove,
 ];
 
@@ -208,15 +217,17 @@ fn opening_locks_the_file(rt: HostRuntime) {
     at_place(&rt, rt.process(), "hill-opened", &OPENED);
 }
 
-/// A sync that fails in its call of this number, and makes none after that.
-fn expect_unsynced<D: Device>(rt: &impl Abort, calls: &Cell<Calls>, hill: &mut D, fails_at: usize) {
-    forget(calls, fails_at);
-    let answer = hill.sync();
-    expect_same(rt, &answer, &Err(Fault), format_args!("at {fails_at}"));
-    expect_calls(rt, calls, b"mym".get(..fails_at.saturating_add(1)));
-}
+/// A look measures the file, and reads both headers. A write is a look and a write of the sector.
+const WRITTEN: [u8; 6] = *b"msrrsw";
 
-/// A write is a look and a write, a sync is a look, a sync and a look, and each is a fault if one of them fails. A read needs no look.
+/// A sync is a look, a sync and a look.
+const SYNCED: [u8; 9] = *b"msrrymsrr";
+
+/// If the device doubts, each of three sectors is read, and written after a look, between the first look and the sync.
+const DOUBTED: [u8; 33] = *b"msrrsrmsrrswsrmsrrswsrmsrrswymsrr";
+
+/// Each call of a device of three sectors, and each of the file's in it that fails. A read needs no look. After a sync that failed the next
+/// one writes each sector again, and nothing else that fails makes it do so.
 fn expect_each<D: Device + Drop, E: Debug>(
     rt: &impl Abort,
     calls: &Cell<Calls>,
@@ -224,15 +235,16 @@ fn expect_each<D: Device + Drop, E: Debug>(
 ) {
     let mut hill = made.expect(rt, "it is made");
     expect_sectors(rt, &hill, 3);
-    forget(calls, NEVER);
-    write(rt, &mut hill, 2, 7);
-    expect_read(rt, &mut hill, 2, 7);
-    sync(rt, &mut hill);
-    expect_calls(rt, calls, Some(b"mswsrmym"));
-    expect_unsynced(rt, calls, &mut hill, 0);
-    expect_unsynced(rt, calls, &mut hill, 1);
-    expect_unsynced(rt, calls, &mut hill, 2);
-    expect_faults(rt, &hill, 3);
+    expect_script(rt, calls, &mut hill, b'w', &WRITTEN);
+    expect_script(rt, calls, &mut hill, b'r', b"sr");
+    expect_refused(rt, calls, &mut hill, b'y', &SYNCED, 0..4);
+    expect_refused(rt, calls, &mut hill, b'y', &SYNCED, 5..9);
+    expect_done(rt, calls, &mut hill, b'y', &SYNCED);
+    expect_answer(rt, calls, &mut hill, b'y', 4, Err(Fault), SYNCED.get(..5));
+    expect_script(rt, calls, &mut hill, b'w', &WRITTEN);
+    expect_refused(rt, calls, &mut hill, b'y', &DOUBTED, 0..29);
+    expect_done(rt, calls, &mut hill, b'y', &DOUBTED);
+    expect_done(rt, calls, &mut hill, b'y', &SYNCED);
 }
 
 /// Each call is made of a hill's file that is made among these files, which write their calls down.
@@ -244,8 +256,43 @@ where
     expect_each(rt, calls, made);
 }
 
+/// Two syncs of a device that is opened.
+fn expect_syncs<D: Device + Drop, E: Debug>(
+    rt: &impl Abort,
+    calls: &Cell<Calls>,
+    opened: Result<D, E>,
+    first: &[u8],
+) {
+    let mut hill = opened.expect(rt, "it is opened");
+    expect_sectors(rt, &hill, 3);
+    expect_done(rt, calls, &mut hill, b'y', first);
+    expect_done(rt, calls, &mut hill, b'y', &SYNCED);
+}
+
+/// A hill's file is opened among these files, and synced twice.
+fn sync_among<R: Files>(rt: &impl Abort, files: &R, calls: &Cell<Calls>, path: &str, first: &[u8])
+where
+    R::File: TryLock,
+{
+    let opened = HillFile::open(files, path, Sharing::Alone);
+    expect_syncs(rt, calls, opened, first);
+}
+
 /// A hill's file is made, each call is made of it, and it is removed.
 const CALLED: [HillCall; 2] = [HillCall::MakeAndCall, HillCall::Remove];
+
+/// A hill that may be changed is written again at its first sync, and nothing else is.
+const SYNCS: [HillCall; 4] = [
+    HillCall::Sync(b"KOTHHIL2", &DOUBTED),
+    HillCall::Sync(b"KOTHHIL1", &SYNCED),
+    HillCall::Sync(b"KOTHHIL", &SYNCED),
+    HillCall::Remove,
+];
+
+#[test]
+fn syncs_of_a_hill(rt: HostRuntime) {
+    at_place(&rt, rt.process(), "hill-synced", &SYNCS);
+}
 
 #[test]
 fn each_call_of_a_hill(rt: HostRuntime) {

@@ -1,4 +1,5 @@
-//! The writes and syncs of the device over a hill's file: none is done if the path leads elsewhere, or the file is too short.
+//! The writes and syncs of the device over a hill's file: none is done if the path leads elsewhere, if the file is too short, or if it has
+//! other headers.
 
 use crate::calls::{Step, expect_faults};
 use crate::deeds::Deed;
@@ -68,6 +69,63 @@ fn a_cut_file(rt: HostRuntime) {
     expect_made(&rt, path, 3, Existing::Kept, Ok(3));
     let hill = HillFile::open(&rt, path, Sharing::Alone);
     by_turns(&rt, hill, "it is opened", path, &CUT);
+}
+
+/// Another file's bytes are copied into it: they stay as they are. When the first ones are back, it is synced.
+const COPIED: [Turn<'static>; 11] = [
+    Turn::On(Step::Sync),
+    Turn::At(Deed::Write(&[6; 1536])),
+    Turn::On(Step::Unwritten(2, 0)),
+    Turn::On(Step::Refused(1)),
+    Turn::On(Step::Read(2, 6)),
+    Turn::At(Deed::Holds(&[6; 1536])),
+    Turn::At(Deed::Write(&[0; 1536])),
+    Turn::On(Step::Write(1, 7)),
+    Turn::On(Step::Sync),
+    Turn::On(Step::Faults(2)),
+    Turn::At(Deed::Remove("")),
+];
+
+#[test]
+fn a_file_copied_over(rt: HostRuntime) {
+    on_hill(&rt, rt.process(), "hill-copied", &[], &COPIED, &[]);
+}
+
+/// A file that is shared is only read, and its headers may change.
+const BESIDE: [Turn<'static>; 7] = [
+    Turn::On(Step::Sync),
+    Turn::At(Deed::Write(&[6; 1536])),
+    Turn::On(Step::Sync),
+    Turn::On(Step::Read(0, 6)),
+    Turn::On(Step::Unwritten(2, 0)),
+    Turn::At(Deed::Holds(&[6; 1536])),
+    Turn::At(Deed::Remove("")),
+];
+
+#[test]
+fn a_shared_file(rt: HostRuntime) {
+    let place = place(&rt, rt.process(), "hill-beside");
+    let path = place.as_str();
+    expect_made(&rt, path, 3, Existing::Kept, Ok(3));
+    let hill = HillFile::open(&rt, path, Sharing::Shared);
+    by_turns(&rt, hill, "it is opened", path, &BESIDE);
+}
+
+/// A file of one sector has no room for headers.
+const SMALL: [Turn<'static>; 4] = [
+    Turn::On(Step::Sectors(1)),
+    Turn::On(Step::Unwritten(0, 0)),
+    Turn::On(Step::Refused(1)),
+    Turn::At(Deed::Remove("")),
+];
+
+#[test]
+fn a_small_file(rt: HostRuntime) {
+    let place = place(&rt, rt.process(), "hill-small");
+    let path = place.as_str();
+    expect_made(&rt, path, 1, Existing::Kept, Ok(1));
+    let hill = HillFile::open(&rt, path, Sharing::Alone);
+    by_turns(&rt, hill, "it is opened", path, &SMALL);
 }
 
 /// A path that is a link leads to the file.

@@ -6,6 +6,7 @@
 //! - `files` and `file_calls`: the device over a file, and the calls that reach the file, counted by the files in `watched`;
 //! - `hill_files`, `hill_syncs` and `hill_calls`: of the device over a hill's file its lock and what becomes of a file that is there, the
 //!   syncs that are refused, and the calls that reach the file;
+//! - `careful`: the device that looks at the headers, over a file that another program writes at each moment;
 //! - `growths`: each growth of memory refused in turn.
 //!
 //! `calls` has the calls of a device as the tests make them, and `disk` what they do to files. `places` goes through tables of both, and
@@ -14,6 +15,8 @@
 
 #[cfg(test)]
 mod calls;
+#[cfg(test)]
+mod careful;
 #[cfg(test)]
 mod deeds;
 #[cfg(test)]

@@ -11,7 +11,7 @@ use std::os::unix::net::SocketAddr;
 use std::path::PathBuf;
 
 /// Calls that are written down at most.
-pub(crate) const MOST: usize = 16;
+pub(crate) const MOST: usize = 64;
 
 /// The calls on files since the last time that they were read, each a letter: `o`pened, loc`k`ed, `m`easured, `l`engthened, `s`ought,
 /// `r`ead, `w`ritten whole, written in `p`art, s`y`nced. The call of this number fails, counted from 0.
@@ -57,7 +57,7 @@ pub(crate) fn new_calls(fails_at: usize) -> Cell<Calls> {
 }
 
 /// Writes a call down, and fails if it is the one that is to fail.
-fn note(calls: &Cell<Calls>, letter: u8) -> io::Result<()> {
+pub(crate) fn note(calls: &Cell<Calls>, letter: u8) -> io::Result<()> {
     let mut so_far = calls.get();
     let number = so_far.count;
     if number < MOST {

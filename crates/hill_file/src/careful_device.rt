@@ -1,0 +1,183 @@
+//! The device that looks at the headers before it writes, and believes no sync after one that failed.
+
+ghost use Rattle.std.specs.Prelude.{◌≡◌, ◌⊎◌, ⊤, ◌++◌, false, [], ◌∷◌, IfOk, MatchResult};
+ghost use Rattle.hill_file.specs.Careful.{careful_facts, EachWasWritten, Goes, HasDone, IsAsRead, IsCounted, IsLook, IsPut, IsRead, IsSync, Settles, opening};
+ghost use Rattle.{sector_disk.specs.Served.IsServed, hill_file.specs.Done.Done};
+
+use crate::sector_file::{Headers, SectorFile};
+use sector_disk::{Device, Fault};
+
+/// A device over a file of sectors, which notices if somebody else wrote the file's headers.
+///
+/// It knows both headers as they were when it was opened, or as it wrote them since. Before each write and each sync, and again after a
+/// sync, it looks whether the file has them and each sector. If not, the call is a fault, and writes nothing. After a sync that failed,
+/// and when it was opened in doubt, the next one first writes each sector again as it reads it.
+#[derive(Drop)]
+pub struct CarefulDevice<F> {
+    file: F,
+    sectors: u32,
+    known: Headers,
+    doubt: bool,
+    faults: u64,
+}
+
+impl<F: SectorFile + Drop> CarefulDevice<F> {
+    /// The device over this file. It has counted no fault. `Fault` if the file's length or its headers can't be read. If it has fewer than
+    /// two sectors, it has no headers, and the device writes and syncs nothing.
+    ///
+    /// In `doubt` the device doesn't know whether an earlier sync of the file failed.
+    pub fn open(file: F, doubt: bool) -> Result<CarefulDevice<F>, Fault>
+        ensures faults { IfOk result (λ device. device.faults ≡ 0) }
+        ensures begins { F.happened file [] → IfOk result (λ device. HasDone F.happened (opening device.known doubt) device []
+            ⊎ HasDone F.happened (opening device.known doubt) device (Done.Looked device.known ∷ [])) }
+    {
+        let mut file = file;
+        let sectors = file.length()?;
+        let known = if sectors < 2 {
+            Headers::ZEROS
+        } else {
+            file.headers()?
+        };
+        Ok(CarefulDevice {
+            file,
+            sectors,
+            known,
+            doubt,
+            faults: 0,
+        })
+    }
+}
+
+impl<F: SectorFile> CarefulDevice<F> {
+    /// Both headers, as they are known.
+    pub fn known(&self) -> Headers
+        ensures { result ≡ self.now.known }
+    {
+        self.known
+    }
+
+    /// The file has each sector, and the headers that are known.
+    fn look(&mut self) -> Result<(), Fault>
+        ensures size { self.new.sectors ≡ self.old.sectors }
+        ensures faults { self.new.faults ≡ self.old.faults }
+        ensures doubt { self.new.doubt ≡ self.old.doubt }
+        ensures goes { Goes F.happened (IsLook result) self.old self.new }
+    {
+        let sectors = self.file.length()?;
+        let found = self.file.headers()?;
+        if self.sectors <= sectors && found == self.known {
+            Ok(())
+        } else {
+            Err(Fault)
+        }
+    }
+
+    /// Writes a sector, after a look.
+    fn put(&mut self, n: u32, from: &[u8; 512]) -> Result<(), Fault>
+        ensures size { self.new.sectors ≡ self.old.sectors }
+        ensures faults { self.new.faults ≡ self.old.faults }
+        ensures doubt { self.new.doubt ≡ self.old.doubt }
+        ensures goes { Goes F.happened (IsPut n from.now result) self.old self.new }
+    {
+        self.look()?;
+        self.file.write(n, from)?;
+        self.known.take(n, from);
+        Ok(())
+    }
+
+    /// Writes each sector again, as it is read.
+    fn put_all(&mut self) -> Result<(), Fault>
+        ensures size { self.new.sectors ≡ self.old.sectors }
+        ensures faults { self.new.faults ≡ self.old.faults }
+        ensures doubt { self.new.doubt ≡ self.old.doubt }
+        ensures goes { Goes F.happened (λ start log done. IsAsRead done
+            × MatchResult result (λ _. EachWasWritten self.old.sectors (done ++ log)) (λ _. ⊤)) self.old self.new }
+    {
+        let mut content = [0; 512];
+        for n in 0..self.sectors {
+            self.file.read(n, &mut content)?;
+            self.put(n, &content)?;
+        }
+        Ok(())
+    }
+
+    /// Writes each sector again, if a sync isn't to be believed.
+    fn freshen(&mut self) -> Result<(), Fault>
+        ensures size { self.new.sectors ≡ self.old.sectors }
+        ensures faults { self.new.faults ≡ self.old.faults }
+        ensures goes { Goes F.happened (λ start log done. IsAsRead done
+            × MatchResult result (λ _. (self.new.doubt ≡ false) ⊎ EachWasWritten self.new.sectors (done ++ log)) (λ _. ⊤)) self.old self.new }
+    {
+        if self.doubt { self.put_all() } else { Ok(()) }
+    }
+
+    /// Syncs the file, and takes note whether that failed.
+    fn settle(&mut self) -> Result<(), Fault>
+        ensures size { self.new.sectors ≡ self.old.sectors }
+        ensures faults { self.new.faults ≡ self.old.faults }
+        ensures goes { Settles F.happened result self.old self.new }
+    {
+        let answer = self.file.sync();
+        self.doubt = answer.is_err();
+        answer
+    }
+
+    /// Syncs the file between two looks.
+    fn sync_whole(&mut self) -> Result<(), Fault>
+        ensures size { self.new.sectors ≡ self.old.sectors }
+        ensures faults { self.new.faults ≡ self.old.faults }
+        ensures goes { Goes F.happened (IsSync self.old.sectors result) self.old self.new }
+    {
+        self.look()?;
+        self.freshen()?;
+        self.settle()?;
+        self.look()
+    }
+}
+
+/// Counts the fault of a call that failed.
+fn counted(faults: &mut u64, answer: Result<(), Fault>) -> Result<(), Fault>
+    ensures same { result ≡ answer }
+    ensures counted { IsCounted faults.old faults.new result }
+{
+    if answer.is_err() {
+        *faults = faults.saturating_add(1);
+    }
+    answer
+}
+
+impl<F: SectorFile> Device for CarefulDevice<F> {
+    ghost facts = { careful_facts };
+
+    fn sectors(&self) -> u32 {
+        self.sectors
+    }
+
+    fn faults(&self) -> u64 {
+        self.faults
+    }
+
+    fn read(&mut self, n: u32, to: &mut [u8; 512]) -> Result<(), Fault>
+        ensures served { IsServed careful_facts self.old self.new result }
+        ensures goes { Goes F.happened (IsRead n to.new result) self.old self.new }
+    {
+        let answer = self.file.read(n, to);
+        counted(&mut self.faults, answer)
+    }
+
+    fn write(&mut self, n: u32, from: &[u8; 512]) -> Result<(), Fault>
+        ensures served { IsServed careful_facts self.old self.new result }
+        ensures goes { Goes F.happened (IsPut n from.now result) self.old self.new }
+    {
+        let answer = self.put(n, from);
+        counted(&mut self.faults, answer)
+    }
+
+    fn sync(&mut self) -> Result<(), Fault>
+        ensures served { IsServed careful_facts self.old self.new result }
+        ensures goes { Goes F.happened (IsSync self.old.sectors result) self.old self.new }
+    {
+        let answer = self.sync_whole();
+        counted(&mut self.faults, answer)
+    }
+}

@@ -1,0 +1,116 @@
+//! The file that a path leads to.
+
+ghost use Rattle.std.specs.Prelude.{⊤};
+
+use crate::sector_file::{Headers, SectorFile};
+use sector_disk::{Fault, SECTOR_BYTES};
+use std::fs::{Files, Metadata, OpenFile};
+use std::io;
+use std::io::{Read, Seek, SeekFrom, Write};
+use std::os::unix::fs::MetadataExt;
+
+/// What the header of a hill begins with, in the format in which hills are written.
+const BEGINNING: &[u8] = b"KOTHHIL2";
+
+/// Whether the file is locked for this program alone.
+#[derive(Clone, Copy, Debug, PartialEq, Eq)]
+pub enum Sharing {
+    /// Its lock is taken, so no other program that takes it works on the file.
+    Alone,
+    /// Its lock is neither taken nor looked at. The file is read alone: another program may change its headers, and each write is a fault.
+    Shared,
+}
+
+/// An open file, and the path that has to lead to it.
+#[derive(Drop)]
+pub(crate) struct PlacedFile<'f, R: Files> {
+    pub rt: &'f R,
+    pub path: &'f str,
+    pub handle: R::File,
+    pub sharing: Sharing,
+}
+
+impl<R: Files> PlacedFile<'_, R> {
+    /// The number of the file's whole sectors, 2³² - 1 if it has more. Nothing if the path leads elsewhere by now.
+    pub(crate) fn sectors_in_place(&self) -> io::Result<Option<u32>> {
+        let open = self.handle.metadata()?;
+        let found = self.rt.metadata(self.path)?;
+        if !is_same_file(&open, &found) {
+            return Ok(None);
+        }
+        let sectors = open.len() / SECTOR_BYTES;
+        Ok(Some(u32::try_from(sectors).unwrap_or(u32::MAX)))
+    }
+
+    /// One of the headers begins as one of a hill, in a file that isn't shared.
+    pub(crate) fn begins_as_a_hill(&mut self) -> io::Result<bool> {
+        match self.sharing {
+            Sharing::Alone => {
+                let headers = read_headers(&mut self.handle)?;
+                Ok(headers.even.starts_with(BEGINNING) || headers.odd.starts_with(BEGINNING))
+            }
+            Sharing::Shared => Ok(false),
+        }
+    }
+}
+
+impl<R: Files> SectorFile for PlacedFile<'_, R> {
+    // What the system did is not recorded.
+    ghost happened = { λ _ _. ⊤ };
+
+    fn length(&mut self) -> Result<u32, Fault> {
+        match self.sectors_in_place() {
+            Ok(Some(sectors)) => Ok(sectors),
+            Ok(None) | Err(_) => Err(Fault),
+        }
+    }
+
+    /// Those of a file that is shared are not looked at: they are zeros.
+    fn headers(&mut self) -> Result<Headers, Fault> {
+        match self.sharing {
+            Sharing::Alone => read_headers(&mut self.handle).or(Err(Fault)),
+            Sharing::Shared => Ok(Headers::ZEROS),
+        }
+    }
+
+    fn read(&mut self, n: u32, to: &mut [u8; 512]) -> Result<(), Fault> {
+        read_from(&mut self.handle, n, to).or(Err(Fault))
+    }
+
+    fn write(&mut self, n: u32, from: &[u8; 512]) -> Result<(), Fault> {
+        match self.sharing {
+            Sharing::Alone => write_to(&mut self.handle, n, from).or(Err(Fault)),
+            Sharing::Shared => Err(Fault),
+        }
+    }
+
+    fn sync(&mut self) -> Result<(), Fault> {
+        self.handle.sync_all().or(Err(Fault))
+    }
+}
+
+/// Reads both headers, one after the other.
+fn read_headers<F: Read + Seek>(file: &mut F) -> io::Result<Headers> {
+    let mut even = [0; 512];
+    let mut odd = [0; 512];
+    read_from(file, 0, &mut even)?;
+    file.read_exact(&mut odd)?;
+    Ok(Headers { even, odd })
+}
+
+/// Reads a sector.
+fn read_from<F: Read + Seek>(file: &mut F, n: u32, to: &mut [u8; 512]) -> io::Result<()> {
+    file.seek(SeekFrom::Start(u64::from(n) * SECTOR_BYTES))?;
+    file.read_exact(to)
+}
+
+/// Writes a sector.
+fn write_to<F: Write + Seek>(file: &mut F, n: u32, from: &[u8; 512]) -> io::Result<()> {
+    file.seek(SeekFrom::Start(u64::from(n) * SECTOR_BYTES))?;
+    file.write_all(from)
+}
+
+/// Whether they are of one file, by its device and its number there.
+fn is_same_file(one: &Metadata, other: &Metadata) -> bool {
+    one.dev() == other.dev() && one.ino() == other.ino()
+}
