@@ -2,9 +2,10 @@
 
 ghost use Rattle.std.specs.Prelude.{◌≡◌, ◌<◌, length, IfOk, Err};
 ghost use Rattle.{war_types.specs.{Warrior.Fits, declared.fault.AsmKind.TheVariants.SourceTooLong}, redcode_names.specs.Gives.fault_at};
-ghost use Rattle.redcode_asm.specs.{Assembly.assembly, Within.{AssemblesWithin, refused}};
+ghost use Rattle.redcode_asm.specs.{Assembly.assembly, Within.{AssemblesWithin, MaySpend, refused}};
 
 use crate::assembler::assemble;
+use redcode_expand::SOURCE_LIMIT;
 use std::alloc::Allocator;
 use war_types::{AsmFault, Settings, Warrior};
 
@@ -28,11 +29,13 @@ pub fn assemble_within<A: Allocator + Copy>(
     settings: &Settings,
     steps: u64,
 ) -> Result<Warrior<A>, Unassembled>
-    ensures assembled { AssemblesWithin result (assembly settings.now source.now) }
+    ensures assembled { AssemblesWithin (MaySpend steps source.now) result (assembly settings.now source.now) }
     ensures too_long { 65536 < length source.now → result ≡ Err (refused (fault_at 0 SourceTooLong)) }
     ensures fits { IfOk result (Fits settings.now) }
 {
-    let _steps = steps;
+    if source.len() <= SOURCE_LIMIT && steps < source.len() as u64 {
+        return Err(Unassembled::StepsSpent);
+    }
     match assemble(alloc, source, settings) {
         Ok(warrior) => Ok(warrior),
         Err(fault) => Err(Unassembled::Refused(fault)),
