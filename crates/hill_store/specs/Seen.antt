@@ -1,6 +1,6 @@
 -- A store as its caller sees it, and what a submission makes of it.
-use Rattle.std.specs.Prelude.{◌≡◌, ◌≢◌, ◌⊎◌, ℕ, ◌+◌, ◌-◌, ◌^◌, Bool, true, false, List, Ok}
-use Rattle.{war_types.specs.{Warrior.WarriorParts, declared.fault.AsmFault.AsmFault, declared.fault.AsmKind.AsmKind}, redcode_asm.specs.Assembly.assembly}
+use Rattle.std.specs.Prelude.{◌≡◌, ◌≢◌, ◌⊎◌, ℕ, ◌+◌, ◌-◌, ◌^◌, Bool, true, false, List, Option, None, Some, Ok}
+use Rattle.{war_types.specs.{Warrior.WarriorParts, declared.fault.AsmFault.AsmFault, declared.fault.AsmKind.AsmKind}, redcode_asm.specs.{Assembly.assembly, Within.MaySpend}}
 use Rattle.{koth_hill.specs.Kept.{Kept, IsKept, step_kept, verdict_kept}, sector_disk.specs.{Facts.DeviceFacts, Image.Images, Served.Failed}, hill_images.specs.Stands.Reads}
 use Rattle.hill_store.specs.{declared.reply.Reply.Reply, Earned.{kept_reply, kept_next, reply_judged}}
 
@@ -47,6 +47,11 @@ pub record IsLeft {D : Type 0} (old new : Seen D) : Type 0 where
 abbrev pub Assembled : {D : Type 0} → Seen D → List ℕ → Type 0
 Assembled old source = (w : WarriorParts) × (assembly old.hill.settings source ≡ Ok w)
 
+-- steps are limited, and an assembly of the source may spend those that it has
+abbrev pub MayBeSpent : Option ℕ → List ℕ → Type 0
+MayBeSpent None source = ⊥
+MayBeSpent (Some steps) source = MaySpend steps source
+
 -- what a submission made of a store, by its reply and by the results that its hill keeps; if these are true, `IsAnew` says more
 abbrev pub Submits : {D : Type 0} → DeviceFacts D → Seen D → List ℕ → Reply → Seen D → Type 0
 Submits facts old source (Reply.Placed entry rank score) new =
@@ -59,6 +64,11 @@ Submits facts old source Reply.Memory new = IsLeft old new
 Submits facts old source Reply.Worn new = (old.generation ≡ 2 ^ 64 - 1) × Assembled old source × IsLeft old new
 Submits facts old source Reply.Disk new = Assembled old source × IsCut facts old (kept_next old.hill source) new
 Submits facts old source Reply.Reopen new = (old.reopen ≡ true) × (new ≡ old)
+
+-- what it made within a number of steps, if there is one: without a reply nothing, since they may be spent
+abbrev pub SubmitsWithin : {D : Type 0} → DeviceFacts D → Option ℕ → Seen D → List ℕ → Option Reply → Seen D → Type 0
+SubmitsWithin facts steps old source None new = MayBeSpent steps source × (new ≡ old)
+SubmitsWithin facts steps old source (Some reply) new = Submits facts old source reply new
 
 -- what a warrior that was assembled made of a store, by its reply
 abbrev pub Challenges : {D : Type 0} → DeviceFacts D → Seen D → WarriorParts → Reply → Seen D → Type 0

@@ -2,10 +2,11 @@
 
 ghost use Rattle.std.specs.Prelude.{◌≡◌, ◌⊎◌, ◌↔◌, ℕ, ◌+◌, ◌-◌, ◌^◌, ◌<◌, ◌≤◌, true, false, List, [], ◌∷◌, Option, Err, None, IfOk, IfErr, IfSome, OnErr, MatchResult};
 ghost use Rattle.war_types.specs.{Warrior.{WarriorParts, Fits}, declared.settings.RawSettings.RawSettings};
+ghost use Rattle.redcode_asm.specs.{Assembly.assembly, Within.AssemblesWithin};
 ghost use Rattle.{koth_hill.specs.{Table.table, Kept.{AreTrue, AreTrueBefore, IsKept as IsKeptHill, IsUntrue, hill_in, table_kept, verdict_kept}, Rows.rows_parts}, sector_disk.specs.Served.IsKept};
 ghost use Rattle.{hill_bytes.specs.Layout.{old_layout, sectors_for}, hill_images.specs.Opening.IsNotOpened};
 ghost use Rattle.hill_store.specs.{Kept.IsAnew, Runs.{Runs, texts}, Opened.{IsCreated, IsMigrated, IsNotCreated, IsNotMigrated, IsOpened}, Earned.reply_judged};
-ghost use Rattle.hill_store.specs.{Holding.{Holds, HoldsIn, HoldsMore, IsDecided, IsHolding, IsMoved, IsUndecided, IsUnmoved}, Seen.{Seen, IsAnswered, IsCut, IsLeft, Submits, Challenges, IsRefusal}};
+ghost use Rattle.hill_store.specs.{Holding.{Holds, HoldsIn, HoldsMore, IsDecided, IsHolding, IsMoved, IsUndecided, IsUnmoved}, Seen.{Seen, IsAnswered, IsCut, IsLeft, MayBeSpent, Submits, SubmitsWithin, Challenges, IsRefusal}};
 
 use crate::migration::{MigrateFault, MigrateSide};
 use crate::reply::Reply;
@@ -16,7 +17,7 @@ use hill_images::{
 };
 use koth_hill::{Hill, Row, Untrue, Verdict};
 use mars_core::Arena;
-use redcode_asm::assemble;
+use redcode_asm::{Unassembled, assemble, assemble_within};
 use sector_disk::{Device, Fault};
 use std::alloc::{AllocError, Allocator};
 use std::marker::Model;
@@ -156,7 +157,23 @@ impl<D: Device, A: Allocator + Copy> Store<D, A> {
         ensures kept { IsKept D.facts self.old.device self.new.device }
         ensures worn { self.old.generation ≡ 2 ^ 64 - 1 → self.new ≡ self.old }
     {
-        self.reply_to(source)
+        match self.submit_within(source, None) {
+            Some(reply) => reply,
+            None => unreachable!(),
+        }
+    }
+
+    /// Submits a source as `submit` does, in this number of steps if there is one. If the assembly spends them, nothing is submitted, and there
+    /// is no reply: so it will be with the same source again.
+    pub fn submit_within(&mut self, source: &[u8], steps: Option<u64>) -> Option<Reply>
+        ensures submits { SubmitsWithin D.facts steps self.old source.now result self.new }
+        ensures anew { AreTrue self.old.hill → IfSome result (λ reply. IsAnew self.old.hill source.now reply self.new.hill) }
+        ensures holds { (s : RawSettings) (before : List (List ℕ)) → IsHolding D.facts s before self.old
+            → IfSome result (λ reply. HoldsMore D.facts s before (source.now ∷ []) (reply ∷ []) self.new) }
+        ensures kept { IsKept D.facts self.old.device self.new.device }
+        ensures worn { self.old.generation ≡ 2 ^ 64 - 1 → self.new ≡ self.old }
+    {
+        self.reply_to(source, steps)
     }
 
     /// Submits these sources one after another, up to the first that is answered `Disk`, and answers the replies in their
@@ -180,19 +197,20 @@ impl<D: Device, A: Allocator + Copy> Store<D, A> {
         Ok(replies)
     }
 
-    /// Assembles a source, and has its warrior judged.
-    fn reply_to(&mut self, source: &[u8]) -> Reply
-        ensures submits { Submits D.facts self.old source.now result self.new }
+    /// Assembles a source, in this number of steps if there is one, and has its warrior judged.
+    fn reply_to(&mut self, source: &[u8], steps: Option<u64>) -> Option<Reply>
+        ensures submits { SubmitsWithin D.facts steps self.old source.now result self.new }
         ensures hill { IsKeptHill self.old.hill }
         ensures kept { IsKept D.facts self.old.device self.new.device }
         ensures worn { self.old.generation ≡ 2 ^ 64 - 1 → self.new ≡ self.old }
     {
         if self.reopen {
-            return Reply::Reopen;
+            return Some(Reply::Reopen);
         }
-        match assemble(self.alloc, source, self.hill.settings()) {
-            Ok(warrior) => self.challenge(warrior),
-            Err(fault) => refused(fault),
+        match assembled(self.alloc, source, self.hill.settings(), steps) {
+            Ok(warrior) => Some(self.challenge(warrior)),
+            Err(Unassembled::Refused(fault)) => Some(refused(fault)),
+            Err(Unassembled::StepsSpent) => None,
         }
     }
 
@@ -300,6 +318,25 @@ impl<D: Device, A: Allocator> Store<D, A> {
         ensures { result ≡ self.device }
     {
         self.device
+    }
+}
+
+/// The warrior of a source, in this number of steps if there is one.
+fn assembled<A: Allocator + Copy>(
+    alloc: A,
+    source: &[u8],
+    settings: &Settings,
+    steps: Option<u64>,
+) -> Result<Warrior<A>, Unassembled>
+    ensures assembled { AssemblesWithin (MayBeSpent steps source.now) result (assembly settings.now source.now) }
+    ensures fits { IfOk result (Fits settings.now) }
+{
+    match steps {
+        Some(steps) => assemble_within(alloc, source, settings, steps),
+        None => match assemble(alloc, source, settings) {
+            Ok(warrior) => Ok(warrior),
+            Err(fault) => Err(Unassembled::Refused(fault)),
+        },
     }
 }
 

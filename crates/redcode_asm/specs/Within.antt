@@ -1,5 +1,5 @@
 -- What an assembly within a budget of steps answers.
-use Rattle.std.specs.Prelude.{◌≡◌, ⊤, Bool, true, false, ◌&&◌, if◌then◌else◌, Result, Ok, Err}
+use Rattle.std.specs.Prelude.{◌≡◌, ◌≤◌, ◌^◌, ℕ, List, length, Bool, true, false, ◌&&◌, if◌then◌else◌, Result, Ok, Err}
 use Rattle.{war_types.specs.{declared.fault.AsmFault.AsmFault, declared.fault.AsmKind.AsmKind, Warrior.WarriorParts}, redcode_asm.specs.{declared.within.Unassembled.Unassembled, Assembly.Assembles}}
 use Rattle.redcode_asm.specs.declared.within.Unassembled.TheVariants as why
 
@@ -14,8 +14,12 @@ is_memory _ = false
 abbrev pub cause_of : AsmFault → Bool → Unassembled
 cause_of fault are_spent = if are_spent && is_memory fault.kind then why.StepsSpent else why.Refused fault
 
--- An answer that is given is what was expected, unless memory ran out. Steps that are spent say nothing.
-abbrev pub AssemblesWithin : Result WarriorParts Unassembled → Result WarriorParts AsmFault → Type 0
-AssemblesWithin (Ok warrior) expected = expected ≡ Ok warrior
-AssemblesWithin (Err (why.Refused fault)) expected = Assembles (Err fault) expected
-AssemblesWithin (Err why.StepsSpent) expected = ⊤
+-- an assembly of this source may take more than this number of steps
+abbrev pub MaySpend : ℕ → List ℕ → Type 0
+MaySpend steps source = (length source ≤ 65536) × (steps ≤ 2 ^ 62)
+
+-- An answer that is given is what was expected, unless memory ran out. Steps that are spent say nothing about it, but for what is so then.
+abbrev pub AssemblesWithin : Type 0 → Result WarriorParts Unassembled → Result WarriorParts AsmFault → Type 0
+AssemblesWithin Spent (Ok warrior) expected = expected ≡ Ok warrior
+AssemblesWithin Spent (Err (why.Refused fault)) expected = Assembles (Err fault) expected
+AssemblesWithin Spent (Err why.StepsSpent) expected = Spent

@@ -1,8 +1,8 @@
 //! An assembly within a budget of steps.
 
-ghost use Rattle.std.specs.Prelude.{◌≡◌, ◌≢◌, ◌<◌, ◌^◌, length, IfOk, Err};
+ghost use Rattle.std.specs.Prelude.{◌≡◌, ◌<◌, length, IfOk, Err};
 ghost use Rattle.{war_types.specs.{Warrior.Fits, declared.fault.AsmKind.TheVariants.SourceTooLong}, redcode_names.specs.Gives.fault_at};
-ghost use Rattle.redcode_asm.specs.{Assembly.assembly, Within.{AssemblesWithin, refused, cause_of}, declared.within.Unassembled.TheVariants.StepsSpent};
+ghost use Rattle.redcode_asm.specs.{Assembly.assembly, Within.{AssemblesWithin, MaySpend, refused, cause_of}};
 
 use crate::assembler::assemble_by;
 use redcode_expand::Steps;
@@ -29,10 +29,9 @@ pub fn assemble_within<A: Allocator + Copy>(
     settings: &Settings,
     steps: u64,
 ) -> Result<Warrior<A>, Unassembled>
-    ensures assembled { AssemblesWithin result (assembly settings.now source.now) }
+    ensures assembled { AssemblesWithin (MaySpend steps source.now) result (assembly settings.now source.now) }
     ensures too_long { 65536 < length source.now → result ≡ Err (refused (fault_at 0 SourceTooLong)) }
     ensures fits { IfOk result (Fits settings.now) }
-    ensures enough { 2 ^ 62 < steps → result ≢ Err StepsSpent }
 {
     let mut left = Steps::new(steps);
     match assemble_by(alloc, source, settings, &mut left) {

@@ -43,6 +43,21 @@ fn a_list_of_submissions(rt: HostRuntime) {
     expect_list(&rt, blank_in(&rt, rt.alloc()));
 }
 
+/// A source whose assembly spends its steps is not submitted, and its device is not called. Within enough of them it is.
+fn expect_spent<D: Device + Drop>(rt: &(impl Abort + AllocGlobal), device: D) {
+    let mut store = created_on(rt, rt.alloc(), counted(device));
+    for (steps, reply) in [(0, None), (1_000_000, Some(FIRST))] {
+        let found = store.submit_within(b"MOV 0,1", Some(steps));
+        expect_same(rt, &found, &reply, "a reply within some steps");
+    }
+    expect_calls(rt, store, 5 + 7);
+}
+
+#[test]
+fn steps_that_are_spent(rt: HostRuntime) {
+    expect_spent(&rt, blank_in(&rt, rt.alloc()));
+}
+
 /// The table of a hill of one warrior.
 const ONE_ROW: [Numbers; 1] = [(1, 0, 0)];
 
