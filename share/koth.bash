@@ -38,8 +38,8 @@ _koth_takes() {
             kinds=('file')
             ;;
         'serve')
-            options='--port --peers --peers-per-address --listen --connections --http --host --replays --quiet --create -h --help -s --core -p --processes -l --length -d --distance -c --cycles -r --rounds --read-limit --write-limit --seed --capacity'
-            valued='--port --peers --peers-per-address --listen --connections --http --host -s --core -p --processes -l --length -d --distance -c --cycles -r --rounds --read-limit --write-limit --seed --capacity'
+            options='--port --peers --peers-per-address --steps --listen --connections --http --host --replays --quiet --create -h --help -s --core -p --processes -l --length -d --distance -c --cycles -r --rounds --read-limit --write-limit --seed --capacity'
+            valued='--port --peers --peers-per-address --steps --listen --connections --http --host -s --core -p --processes -l --length -d --distance -c --cycles -r --rounds --read-limit --write-limit --seed --capacity'
             kinds=('file')
             ;;
         'audit')

@@ -1,7 +1,7 @@
 -- What the command `check` writes, and how it ends.
-use Rattle.std.specs.{Prelude.{◌≡◌, ℕ, Bool, true, false, if◌then◌else◌, Option, List, length, All, Result, Ok, Err}, Io.KnownBytes.Keeps}
+use Rattle.std.specs.{Prelude.{◌≡◌, ◌⊎◌, ℕ, Bool, true, false, if◌then◌else◌, Option, List, length, All, Result, Ok, Err}, Io.KnownBytes.Keeps}
 use Rattle.war_types.specs.{Warrior.WarriorParts, declared.fault.AsmFault.AsmFault, declared.settings.RawSettings.RawSettings, declared.settings.SettingsFault.SettingsFault}
-use Rattle.{redcode_asm.specs.Assembly.assembly, koth_commands.specs.{Answer.EndsGiven, Failure.failure_word, Pair.IsFaultOf, Streams.Streams, Told.{TellsWord, WritesSome}}}
+use Rattle.{redcode_asm.specs.{Assembly.assembly, Within.MaySpend}, koth_words.specs.declared.given.TheConstants.STEPS, koth_commands.specs.{Answer.EndsGiven, Failure.failure_word, Pair.IsFaultOf, Streams.Streams, Told.{TellsWord, WritesSome}}}
 use Rattle.koth_commands.specs.{declared.status.Status.Status, declared.failure.Failure.Failure}
 
 -- the source assembles to a warrior
@@ -27,14 +27,22 @@ pub record AreTaken (s : RawSettings) (count : ℕ) : Type 0 where
   pub taken : All (IsTaken s) sources
   pub all : length sources ≡ count
 
--- how `check` of `count` files ends, by what the output and then standard error hold before and after. It is silent if the source in each
--- file assembles. It writes something and ends as refused if one doesn't. Or a file or a stream failed, or memory ran out
+-- nothing was written, or a source was read of which an assembly may spend what a service gives it by default, and that is told
+abbrev pub Warns : Option (List ℕ) → Option (List ℕ) → Type 0
+Warns old new = Keeps old new ⊎ (((source : List ℕ) × MaySpend STEPS source) × WritesSome old new)
+
+-- and a word after that
+abbrev pub WarnsAndTells : List ℕ → Option (List ℕ) → Option (List ℕ) → Type 0
+WarnsAndTells word old new = (mid : Option (List ℕ)) × Warns old mid × TellsWord word mid new
+
+-- how `check` of `count` files ends, by what the output and then standard error hold before and after. It writes nothing on the output if the
+-- source in each file assembles. It writes something and ends as refused if one doesn't. Or a file or a stream failed, or memory ran out
 abbrev pub EndsCheckUnder : RawSettings → ℕ → Status → Option (List ℕ) → Option (List ℕ) → Option (List ℕ) → Option (List ℕ) → Type 0
-EndsCheckUnder s count Status.Done o p e f = AreTaken s count × Keeps o p × Keeps e f
-EndsCheckUnder s count Status.Refused o p e f = ((fault : AsmFault) × IsFaultOf s fault) × WritesSome o p × Keeps e f
+EndsCheckUnder s count Status.Done o p e f = AreTaken s count × Keeps o p × Warns e f
+EndsCheckUnder s count Status.Refused o p e f = ((fault : AsmFault) × IsFaultOf s fault) × WritesSome o p × Warns e f
 EndsCheckUnder s count Status.WordFault o p e f = ⊥
-EndsCheckUnder s count Status.StreamFault o p e f = WritesSome o p × TellsWord (failure_word Failure.Stream) e f
-EndsCheckUnder s count Status.NoMemory o p e f = WritesSome o p × TellsWord (failure_word Failure.Memory) e f
+EndsCheckUnder s count Status.StreamFault o p e f = WritesSome o p × WarnsAndTells (failure_word Failure.Stream) e f
+EndsCheckUnder s count Status.NoMemory o p e f = WritesSome o p × WarnsAndTells (failure_word Failure.Memory) e f
 
 -- how `check` ends: as under the settings that are given, with their refusal, or out of memory
 abbrev pub EndsCheck : ℕ → Result RawSettings SettingsFault → Status → Streams → Streams → Type 0

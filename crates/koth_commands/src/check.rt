@@ -1,7 +1,7 @@
 //! The command `check`: what is wrong with sources, for people or for editors.
 
 ghost use Rattle.std.specs.{Prelude.{◌≡◌, None, false, true, length, OnErr, OnOk, IfOk}, Io.KnownBytes.Keeps};
-ghost use Rattle.{war_types.specs.Settings.settings_of, koth_commands.specs.{Check.{status_behind, EndsCheck, EndsCheckUnder, Checks, Finds}, Streams.streams, Told.WritesSome}};
+ghost use Rattle.{war_types.specs.Settings.settings_of, koth_commands.specs.{Check.{status_behind, EndsCheck, EndsCheckUnder, Checks, Finds, Warns}, Streams.streams, Told.WritesSome}};
 
 use crate::cause::Cause;
 use crate::failure::Trouble;
@@ -9,7 +9,9 @@ use crate::settings::refuse_settings;
 use crate::source::read_source;
 use crate::status::Status;
 use crate::stream::write_whole;
-use koth_words::{Checked, Form};
+use crate::telling::write_both;
+use koth_words::{Checked, Form, STEPS};
+use redcode_asm::{Unassembled, assemble_within};
 use redcode_diagnosis::{Diagnosis, diagnose, json_of, text_of};
 use std::alloc::{AllocError, Allocator};
 use std::io::Write;
@@ -17,8 +19,8 @@ use std::rt::Files;
 use war_types::{RawSettings, Settings};
 
 /// Writes every refusal of the sources in files, under the settings that are given. A refusal is written for people, with the line's text
-/// and a caret under the fault, or as a line of JSON. Settings that are out of their ranges are refused before a file is read. The first
-/// file that can't be read ends it.
+/// and a caret under the fault, or as a line of JSON. Standard error says of which sources an assembly takes more steps than a service allows
+/// by default. Settings that are out of their ranges are refused before a file is read. The first file that can't be read ends it.
 pub fn check<R: Files, A: Allocator + Copy, O: Write, E: Write>(
     rt: &R,
     alloc: A,
@@ -50,7 +52,7 @@ fn check_files<R: Files, A: Allocator + Copy, O: Write, E: Write>(
 {
     let mut status = Status::Done;
     for path in checked.files.as_slice() {
-        match check_file(rt, alloc, settings, path, checked.form, output) {
+        match check_file(rt, alloc, settings, path, checked.form, output, errors) {
             Ok(is_refused) => status = status_behind(status, is_refused),
             Err(trouble) => return trouble.tell(alloc, errors),
         }
@@ -66,22 +68,42 @@ fn status_behind(status: Status, is_refused: bool) -> Status
 }
 
 /// Writes every refusal of the source in a file, and says whether there is one.
-fn check_file<'p, R: Files, A: Allocator + Copy, O: Write>(
+fn check_file<'p, R: Files, A: Allocator + Copy, O: Write, E: Write>(
     rt: &R,
     alloc: A,
     settings: &Settings,
     path: &'p str,
     form: Form,
     output: &mut O,
+    errors: &mut E,
 ) -> Result<bool, Trouble<'p>>
     ensures found { IfOk result (λ is_refused. Checks settings.now is_refused (O.contents output.old) (O.contents output.new)) }
     ensures part { OnErr result (WritesSome (O.contents output.old) (O.contents output.new)) }
+    ensures warned { Warns (E.contents errors.old) (E.contents errors.new) }
 {
     let text = match read_source(rt, alloc, path) {
         Ok(text) => text,
         Err(trouble) => return Err(trouble),
     };
+    warn_if_slow(alloc, settings, path, text.as_slice(), errors);
     check_source(alloc, settings, path, text.as_slice(), form, output)
+}
+
+/// Says that the assembly of a source takes more steps than a service allows by default, if it does.
+fn warn_if_slow<A: Allocator + Copy, E: Write>(
+    alloc: A,
+    settings: &Settings,
+    path: &str,
+    source: &[u8],
+    errors: &mut E,
+)
+    ensures { Warns (E.contents errors.old) (E.contents errors.new) }
+{
+    let assembled = assemble_within(alloc, source, settings, u64::from(STEPS));
+    if let Err(Unassembled::StepsSpent) = assembled {
+        let told = b": over 20000000 steps: a service doesn't assemble it (--steps)\n";
+        let _ = write_both(errors, path.as_bytes(), told);
+    }
 }
 
 /// Writes every refusal of a source, and says whether there is one.

@@ -249,6 +249,7 @@ fn end_text(how: HowEnded) -> &'static str {
         HowEnded::By(PeerEnd::EndOfInput) => "ended by the peer",
         HowEnded::By(PeerEnd::Limit) => "ended: 16 MiB were taken",
         HowEnded::By(PeerEnd::Unread) => "ended: the peer takes no answer",
+        HowEnded::By(PeerEnd::StepsSpent) => "ended: the source takes too long to assemble",
         HowEnded::By(PeerEnd::StoreFailed) => "DISK the device failed: the hill was opened again",
         HowEnded::By(PeerEnd::Memory) => "ended: memory ran out",
         HowEnded::Silent => "ended: the peer was silent for too long",

@@ -37,6 +37,7 @@ struct Hosting<'f, R, A> {
     log: Log<'f, R>,
     links: Links,
     names: &'f [&'f str],
+    steps: u32,
 }
 
 impl<'f, R: Files + Clock, A: Allocator + Copy> Host<HillFile<'f, R>, A> for Hosting<'f, R, A>
@@ -45,7 +46,7 @@ where
 {
     type Fault = HillFault;
 
-    ghost shows = { λ host store. record { names = map (λ name. name.now) host.names.now; pages = λ page text. IsShown host.links store.hill page text } };
+    ghost shows = { λ host store. record { names = map (λ name. name.now) host.names.now; pages = λ page text. IsShown host.links store.hill page text; steps = host.steps } };
 
     /// The file is closed first, since it is locked while it is open.
     fn reopen(&self, device: HillFile<'f, R>) -> Result<HillStore<'f, R, A>, HillFault> {
@@ -58,6 +59,10 @@ where
 
     fn names(&self) -> &[&str] {
         self.names
+    }
+
+    fn steps(&self) -> u64 {
+        u64::from(self.steps)
     }
 
     fn page(
@@ -74,7 +79,7 @@ where
 }
 
 /// Serves sessions on the hill in a file over connections to an address and a port, `peers` at once at most, of which `peers_per_address` of one
-/// address if that is given, and ends after `connections` sessions if that is given. The line `LISTENING port` says that peers may connect, and
+/// address if that is given, and ends after `connections` sessions if that is given. It assembles no source in more than `steps` steps. The line `LISTENING port` says that peers may connect, and
 /// to which port if the system chooses it. What happens is written on standard error, unless the service is quiet, and so is where browsers see
 /// the hill, if they may.
 ///
@@ -123,6 +128,7 @@ where
         log: Log::new(rt, service.quiet),
         links: links_for(service.replays),
         names: service.hosts.as_slice(),
+        steps: service.steps,
     };
     let (store, mut sockets) = match begin(&host, settings, service, output, errors) {
         Ok(begun) => begun,

@@ -93,6 +93,7 @@ module _ {A : Type 0} where
   idle_by (Some PeerEnd.EndOfInput) inbox closed s over read due = inr read.0
   idle_by (Some PeerEnd.Limit) inbox closed s over read due = inr read.0
   idle_by (Some PeerEnd.Unread) inbox closed s over read due = inl (ap is_some over)
+  idle_by (Some PeerEnd.StepsSpent) inbox closed s over read due = inl (ap is_some over)
   idle_by (Some PeerEnd.StoreFailed) inbox closed s over read due = inl (ap is_some over)
   idle_by (Some PeerEnd.Memory) inbox closed s over read due = inl (ap is_some over)
 
@@ -107,6 +108,7 @@ module _ {A : Type 0} where
   ended_by PeerEnd.EndOfInput inbox closed s over at_end reads = inr (λ reader. let read = reads reader in read.0, inl (let read = reads Reader.Session in at_end ∙ read.1))
   ended_by PeerEnd.Limit inbox closed s over at_end reads = inr (λ reader. let read = reads reader in read.0, inr (let read = reads Reader.Session in read.1))
   ended_by PeerEnd.Unread inbox closed s over at_end reads = inl (ap is_some over)
+  ended_by PeerEnd.StepsSpent inbox closed s over at_end reads = inl (ap is_some over)
   ended_by PeerEnd.StoreFailed inbox closed s over at_end reads = inl (ap is_some over)
   ended_by PeerEnd.Memory inbox closed s over at_end reads = inl (ap is_some over)
 
@@ -181,6 +183,7 @@ module _ {A : Type 0} where
         has_all s peer stands none,
       )
   cause_by most n PeerEnd.Unread m peer stands is none = stands.over ∙ ap over_by is
+  cause_by most n PeerEnd.StepsSpent m peer stands is none = (stands.over ∙ ap over_by is, has_all (m.sessions n) peer stands none)
   cause_by most n PeerEnd.StoreFailed m peer stands is none = (stands.over ∙ ap over_by is, has_all (m.sessions n) peer stands none)
   cause_by most n PeerEnd.Memory m peer stands is none = (stands.over ∙ ap over_by is, has_all (m.sessions n) peer stands none)
 

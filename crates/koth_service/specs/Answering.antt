@@ -3,11 +3,12 @@ use Rattle.std.specs.Prelude.{◌≡◌, ◌⊎◌, ℕ, Bool, List, Option, Som
 use Rattle.koth_http.specs.{Asked.{FindsAsked, IsAsked}, Response.{page_response, refusal_response}}
 use Rattle.koth_http.specs.{declared.asked.Asked.Asked, declared.refusal.Refusal.Refusal, declared.target.Page.Page}
 
--- what browsers see of a hill: the names that its machine has beside its addresses and `localhost`, and the texts of
--- its pages
+-- What a host has of a hill: the names that its machine has beside its addresses and `localhost`, the texts of its
+-- pages, which browsers see, and how many steps the assembly of a source may take.
 pub record Site : Type 1 where
   pub names : List (List ℕ)
   pub pages : Page → List ℕ → Type 0
+  pub steps : ℕ
 
 -- no text is shown
 abbrev pub ShowsNothing : (List ℕ → Type 0) → Type 0

@@ -1,7 +1,7 @@
 -- What may happen in a service.
 use Rattle.std.specs.Prelude.{◌≡◌, ◌⊎◌, ⊤, ℕ, ◌-◌, ◌<◌, ◌≤◌, true, false, List, [], ◌∷◌, ◌++◌, length}
 use Rattle.std.specs.Prelude.{Option, None, Some, IsSome}
-use Rattle.{sector_disk.specs.{Facts.DeviceFacts, Served.IsKept}, hill_store.specs.{Opened.IsOpened, Seen.Seen}}
+use Rattle.{sector_disk.specs.{Facts.DeviceFacts, Served.IsKept}, hill_store.specs.{Opened.IsOpened, Seen.{MayBeSpent, Seen}}}
 use Rattle.koth_protocol.specs.Commands.{Command, Reader, commands_read}
 use Rattle.koth_session.specs.{Sessions.{AreServed, IsLeftOff, KeepsCut, KeepsList}, Transcript.{Exchange, command_in}}
 use Rattle.koth_session.specs.{Peer.IsFull, Peers.ComesBefore, declared.end.PeerEnd.PeerEnd}
@@ -63,14 +63,16 @@ HasNoRoom n command m =
     (unsent : List ℕ) × ((m.sessions n).went ++ unsent ≡ (m.sessions n).owed) × IsFull m.now.hill command unsent
 
 -- The command whose turn it is ended its session, and was not carried out: it is `QUIT`, or its answer may have no
--- room, or memory ran out.
-abbrev pub Stops : {D : Type 0} → ℕ → PeerEnd → Moment D → Type 0
-Stops n PeerEnd.Quit m = IsTurn n Command.Quit m
-Stops n PeerEnd.EndOfInput m = ⊥
-Stops n PeerEnd.Limit m = ⊥
-Stops n PeerEnd.Unread m = (command : Command) × IsTurn n command m × HasNoRoom n command m
-Stops n PeerEnd.StoreFailed m = ⊥
-Stops n PeerEnd.Memory m = (command : Command) × IsTurn n command m
+-- room, or it is a source of which an assembly may spend this number of steps, or memory ran out.
+abbrev pub Stops : {D : Type 0} → ℕ → ℕ → PeerEnd → Moment D → Type 0
+Stops steps n PeerEnd.Quit m = IsTurn n Command.Quit m
+Stops steps n PeerEnd.EndOfInput m = ⊥
+Stops steps n PeerEnd.Limit m = ⊥
+Stops steps n PeerEnd.Unread m = (command : Command) × IsTurn n command m × HasNoRoom n command m
+Stops steps n PeerEnd.StepsSpent m =
+    (source : List ℕ) × IsTurn n (Command.Submit source) m × MayBeSpent (Some steps) source
+Stops steps n PeerEnd.StoreFailed m = ⊥
+Stops steps n PeerEnd.Memory m = (command : Command) × IsTurn n command m
 
 -- if a device is lawful, its hill was opened
 abbrev pub OpensAgain : {D : Type 0} → DeviceFacts D → D → Seen D → Type 0
@@ -87,7 +89,7 @@ abbrev pub owed_by : Option (List ℕ) → List ℕ
 owed_by None = []
 owed_by (Some reply) = reply
 
--- what browsers see of a store
+-- what a host has of a store
 abbrev pub Shows : Type 0 → Type 1
 Shows D = Seen D → Site
 
@@ -152,6 +154,8 @@ IsCause most n (HowEnded.By PeerEnd.EndOfInput) m =
 IsCause most n (HowEnded.By PeerEnd.Limit) m =
     (length (m.sessions n).came ≡ 16777216) × IsThrough (m.sessions n) × HasAll (m.sessions n)
 IsCause most n (HowEnded.By PeerEnd.Unread) m = (m.sessions n).over ≡ Some PeerEnd.Unread
+IsCause most n (HowEnded.By PeerEnd.StepsSpent) m =
+    ((m.sessions n).over ≡ Some PeerEnd.StepsSpent) × HasAll (m.sessions n)
 IsCause most n (HowEnded.By PeerEnd.StoreFailed) m =
     ((m.sessions n).over ≡ Some PeerEnd.StoreFailed) × HasAll (m.sessions n)
 IsCause most n (HowEnded.By PeerEnd.Memory) m = ((m.sessions n).over ≡ Some PeerEnd.Memory) × HasAll (m.sessions n)
@@ -191,7 +195,7 @@ Follows facts shows most (Happening.On (Noted.Shown n bytes)) m =
     Begins ((m.browsers n).went ++ bytes) (owed_by (m.browsers n).reply)
 Follows facts shows most (Happening.On (Noted.Left n)) m = ⊤
 Follows facts shows most (Happening.Answered n e new) m = Answers facts n e new m
-Follows facts shows most (Happening.Stopped n end) m = Stops n end m
+Follows facts shows most (Happening.Stopped n end) m = Stops (shows m.now).steps n end m
 Follows facts shows most (Happening.CutOff n source new) m = Breaks facts n source new m
 Follows facts shows most (Happening.Reopened new) m = Reopens facts new m
 Follows facts shows most (Happening.Disconnected n how) m = MayDisconnect most n how m

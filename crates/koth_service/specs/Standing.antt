@@ -19,6 +19,7 @@ over_by (Some PeerEnd.Quit) = Some PeerEnd.Quit
 over_by (Some PeerEnd.EndOfInput) = None
 over_by (Some PeerEnd.Limit) = None
 over_by (Some PeerEnd.Unread) = Some PeerEnd.Unread
+over_by (Some PeerEnd.StepsSpent) = Some PeerEnd.StepsSpent
 over_by (Some PeerEnd.StoreFailed) = Some PeerEnd.StoreFailed
 over_by (Some PeerEnd.Memory) = Some PeerEnd.Memory
 

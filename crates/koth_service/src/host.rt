@@ -53,7 +53,7 @@ pub trait Host<D: Device, A: Allocator> {
     /// Why the hill can't be opened again.
     type Fault;
 
-    // What browsers see of a store.
+    // What browsers see of a store, and how many steps the assembly of a source may take.
     ghost shows: { Self → Seen D → Site };
 
     /// Opens the hill of this device again, after the device failed in a submission and the store was closed.
@@ -64,6 +64,10 @@ pub trait Host<D: Device, A: Allocator> {
     /// The names of the hill's machine that requests of browsers may be for, beside its addresses and `localhost`.
     fn names(&self) -> &[&str]
         ensures { (store : Seen D) → map (λ name. name.now) result.now ≡ (Self.shows self.now store).names };
+
+    /// How many steps the assembly of a source may take: one that spends them is not submitted.
+    fn steps(&self) -> u64
+        ensures { (store : Seen D) → result ≡ (Self.shows self.now store).steps };
 
     /// The text of a page of the store's hill, HTML in ASCII, or none if there is no such page. `AllocError` comes if memory ran out.
     fn page(&self, store: &Store<D, A>, page: Page) -> Result<Option<Vec<u8, A>>, AllocError>

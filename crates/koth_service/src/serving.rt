@@ -22,7 +22,7 @@ pub(crate) fn serve_one<S: Sockets, D: Device, A: Allocator + Copy, H: Host<D, A
     ensures served { KeepsOnBy S.happened D.facts (H.shows host.now) result sockets.old desk.old sockets.new desk.new }
     ensures told { Grows (E.contents errors.old) (E.contents errors.new) }
 {
-    let step = desk.peers.serve_next(&mut desk.store);
+    let step = desk.peers.serve_next(host.steps(), &mut desk.store);
     desk.clock = desk.clock.max(sockets.now());
     desk.is_busy |= !matches!(step, Step::Nobody);
     match step {

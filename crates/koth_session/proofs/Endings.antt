@@ -1,5 +1,5 @@
 -- How a session over two streams ends by a command, and what was answered before it.
-use Rattle.std.proofs.{Common.{◌≡◌, inl, inr, ℕ, arith, List, [], ◌∷◌, ◌++◌, length, take, Option, Some, refl, sym, ap, subst, append-nil}, KnownBytes.{Appends-nil, Appends-trans, Consumes-trans, Keeps-refl}}
+use Rattle.std.proofs.{Common.{◌≡◌, inl, inr, ℕ, arith, List, [], ◌∷◌, ◌++◌, length, take, Option, None, Some, refl, sym, ap, subst, append-nil}, KnownBytes.{Appends-nil, Appends-trans, Consumes-trans, Keeps-refl}}
 use Rattle.{std.specs.Io.KnownBytes.{Appends, Consumes}, koth_hill.specs.Kept.Kept, sector_disk.specs.{Facts.DeviceFacts, Served.IsKept}, sector_disk.proofs.Kept.{kept_on, kept_same}}
 use Rattle.{hill_store.specs.Seen.Seen, koth_protocol.specs.Commands.Command, koth_session.specs.Peer.{AnswersPeer, IsFull}}
 use Rattle.koth_session.specs.Sessions.{AnswersCommand, AnswersFirst, AreServed, EndsSo, IsAnsweredTo, Scene, scene}
@@ -35,13 +35,14 @@ module _ {D : Type 0} (facts : DeviceFacts D) where
 
   -- a command that ended its peer's session
   pub ended_so : (end : PeerEnd) (command : Command) (old new : Seen D) (unsent unsent_new : List ℕ) (output : Option (List ℕ)) → unsent ≡ []
-      → AnswersPeer facts command (Some end) unsent old unsent_new new
+      → AnswersPeer facts None command (Some end) unsent old unsent_new new
       → AnswersCommand facts command (Some (end_of end)) (scene output old) (scene output new)
   ended_so PeerEnd.Quit command old new unsent unsent_new output none is = (is.0, is.1, Keeps-refl output)
   ended_so PeerEnd.EndOfInput command old new unsent unsent_new output none is = absurd is
   ended_so PeerEnd.Limit command old new unsent unsent_new output none is = absurd is
   ended_so PeerEnd.Unread command old new unsent unsent_new output none is =
       (full_shows command old.hill unsent none is.0, is.1, Keeps-refl output)
+  ended_so PeerEnd.StepsSpent command old new unsent unsent_new output none is = absurd is.2
   ended_so PeerEnd.StoreFailed command old new unsent unsent_new output none is = (is.0, is.1, is.2, Keeps-refl output)
   ended_so PeerEnd.Memory command old new unsent unsent_new output none is =
       (elim is.0 [ inl shows ↦ shows | inr some ↦ absurd (some none) ], is.1, Keeps-refl output)

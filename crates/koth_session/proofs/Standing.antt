@@ -141,12 +141,12 @@ quits reader met.Quit bytes others is same = refl
 quits reader met.Request bytes others is same = absurd (cc)
 quits reader met.Bad bytes others is same = absurd (cc)
 
-module _ {D A : Type 0} (facts : DeviceFacts D) where
+module _ {D A : Type 0} (facts : DeviceFacts D) (steps : Option ℕ) where
   pub answered_now : (old new : Peer A) (store now : Seen D) → is_due_now old ≡ true → new.closed ≡ old.closed → new.end ≡ settled_now None new
       → ((reader : Reader) (came : List ℕ) (done : List Command) (command : Command) → IsReadTo reader old.inbox came done → IsNext reader old.inbox.due old.inbox.script.source command
       → IsReadTo reader new.inbox came (done ++ command ∷ []))
       → (is_met new.inbox.due ≡ true → length new.inbox.waiting < length old.inbox.waiting)
-      → AnswersPeer facts (command_of old) None old.outbox.unsent store new.outbox.unsent now → Serves facts None old store new now
+      → AnswersPeer facts steps (command_of old) None old.outbox.unsent store new.outbox.unsent now → Serves facts steps None old store new now
   answered_now old new store now due same_closed stands passes fewer answers = record {
     answers = answers;
     reads = λ reader came done taken is.
@@ -164,7 +164,7 @@ module _ {D A : Type 0} (facts : DeviceFacts D) where
 
   left_by : (reader : Reader) (end : PeerEnd) (old new : Peer A) (store now : Seen D) (came : List ℕ) (done : List Command) → is_met old.inbox.due ≡ true
       → IsTaken reader old.inbox.due → IsReadTo reader old.inbox came done
-      → AnswersPeer facts (command_of old) (Some end) old.outbox.unsent store new.outbox.unsent now → HasRead reader (Some end) new.inbox new.closed came done
+      → AnswersPeer facts steps (command_of old) (Some end) old.outbox.unsent store new.outbox.unsent now → HasRead reader (Some end) new.inbox new.closed came done
   left_by reader PeerEnd.Quit old new store now came done is taken r answers =
       let those = those_came reader old.inbox came done r in
       those.1 ∙ ap (λ l. done ++ l) (quits reader old.inbox.due old.inbox.script.source those.0 is answers.0)
@@ -173,6 +173,10 @@ module _ {D A : Type 0} (facts : DeviceFacts D) where
   left_by reader PeerEnd.Unread old new store now came done is taken r answers =
       let those = those_came reader old.inbox came done r in
       let b = behind_met reader old.inbox.due old.inbox.script.source those.0 is taken in (command_of old, b.0, those.1 ∙ ap (λ l. done ++ l) b.1)
+  left_by reader PeerEnd.StepsSpent old new store now came done is taken r answers =
+      let those = those_came reader old.inbox came done r in
+      let b = behind_met reader old.inbox.due old.inbox.script.source those.0 is taken in
+      (answers.0, b.0, those.1 ∙ ap (λ l. done ++ l) b.1 ∙ ap (λ (k : Command). done ++ k ∷ b.0) answers.1)
   left_by reader PeerEnd.StoreFailed old new store now came done is taken r answers =
       let those = those_came reader old.inbox came done r in
       let b = behind_met reader old.inbox.due old.inbox.script.source those.0 is taken in
@@ -182,7 +186,7 @@ module _ {D A : Type 0} (facts : DeviceFacts D) where
       let b = behind_met reader old.inbox.due old.inbox.script.source those.0 is taken in (command_of old, b.0, those.1 ∙ ap (λ l. done ++ l) b.1)
 
   pub ended_now : (end : PeerEnd) (old new : Peer A) (store now : Seen D) → is_due_now old ≡ true → new.closed ≡ old.closed → new.end ≡ Some end
-      → AnswersPeer facts (command_of old) (Some end) old.outbox.unsent store new.outbox.unsent now → Serves facts (Some end) old store new now
+      → AnswersPeer facts steps (command_of old) (Some end) old.outbox.unsent store new.outbox.unsent now → Serves facts steps (Some end) old store new now
   ended_now end old new store now due same_closed ended answers = record {
     answers = answers;
     reads = λ reader came done taken is.

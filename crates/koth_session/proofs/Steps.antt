@@ -2,32 +2,35 @@
 use Rattle.{std.proofs.Common.{◌≡◌, ℕ, List, None, Option, Some, refl}, sector_disk.specs.Facts.DeviceFacts, hill_store.specs.Seen.Seen}
 use Rattle.{koth_protocol.specs.Commands.Command, koth_session.specs.{Peer.AnswersPeer, Peers.{ServesNext, ServesOne, Slots, step_after}, declared.end.PeerEnd.PeerEnd}}
 
-module _ {D : Type 0} (facts : DeviceFacts D) where
-  pub same_unsent : (end : PeerEnd) (command : Command) (unsent new : List ℕ) (store now : Seen D) → AnswersPeer facts command (Some end) unsent store new now → new ≡ unsent
+module _ {D : Type 0} (facts : DeviceFacts D) (steps : Option ℕ) where
+  pub same_unsent : (end : PeerEnd) (command : Command) (unsent new : List ℕ) (store now : Seen D) → AnswersPeer facts steps command (Some end) unsent store new now → new ≡ unsent
   same_unsent PeerEnd.Quit command unsent new store now is = is.2
   same_unsent PeerEnd.EndOfInput command unsent new store now is = absurd is
   same_unsent PeerEnd.Limit command unsent new store now is = absurd is
   same_unsent PeerEnd.Unread command unsent new store now is = is.2
+  same_unsent PeerEnd.StepsSpent command unsent new store now is = is.4
   same_unsent PeerEnd.StoreFailed command unsent new store now is = is.3
   same_unsent PeerEnd.Memory command unsent new store now is = is.2
 
   -- without a fault of the device
   pub same_store : (end : PeerEnd) (command : Command) (unsent new : List ℕ) (store now : Seen D) → step_after (Some end) 0 ≡ step_after None 0
-      → AnswersPeer facts command (Some end) unsent store new now → now ≡ store
+      → AnswersPeer facts steps command (Some end) unsent store new now → now ≡ store
   same_store PeerEnd.Quit command unsent new store now sound is = is.1
   same_store PeerEnd.EndOfInput command unsent new store now sound is = absurd is
   same_store PeerEnd.Limit command unsent new store now sound is = absurd is
   same_store PeerEnd.Unread command unsent new store now sound is = is.1
+  same_store PeerEnd.StepsSpent command unsent new store now sound is = is.3
   same_store PeerEnd.StoreFailed command unsent new store now sound is = absurd (cc)
   same_store PeerEnd.Memory command unsent new store now sound is = is.1
 
-module _ {D A : Type 0} (facts : DeviceFacts D) where
+module _ {D A : Type 0} (facts : DeviceFacts D) (steps : Option ℕ) where
   pub serves_next : (outcome : Option PeerEnd) (n : ℕ) (old : Slots A) (start : ℕ) (store : Seen D) (new : Slots A) (next : ℕ) (now : Seen D)
-      → ServesOne facts outcome n old start store new next now → ServesNext facts (step_after outcome n) old start store new next now
+      → ServesOne facts steps outcome n old start store new next now → ServesNext facts steps (step_after outcome n) old start store new next now
   serves_next None n old start store new next now one = (None, refl, one)
   serves_next (Some PeerEnd.Quit) n old start store new next now one = (Some PeerEnd.Quit, refl, one)
   serves_next (Some PeerEnd.EndOfInput) n old start store new next now one = (Some PeerEnd.EndOfInput, refl, one)
   serves_next (Some PeerEnd.Limit) n old start store new next now one = (Some PeerEnd.Limit, refl, one)
   serves_next (Some PeerEnd.Unread) n old start store new next now one = (Some PeerEnd.Unread, refl, one)
+  serves_next (Some PeerEnd.StepsSpent) n old start store new next now one = (Some PeerEnd.StepsSpent, refl, one)
   serves_next (Some PeerEnd.StoreFailed) n old start store new next now one = one
   serves_next (Some PeerEnd.Memory) n old start store new next now one = (Some PeerEnd.Memory, refl, one)

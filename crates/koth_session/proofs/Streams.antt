@@ -91,19 +91,19 @@ module _ {D A : Type 0} (facts : DeviceFacts D) where
       }
 
   pub ended_by : (end : PeerEnd) (came : List ℕ) (peer new : Peer A) (output : Option (List ℕ)) (a : Scene D) (store now : Seen D)
-      → is_due_now peer ≡ true → Serves facts (Some end) peer store new now → IsServing facts came peer a (scene output store)
+      → is_due_now peer ≡ true → Serves facts None (Some end) peer store new now → IsServing facts came peer a (scene output store)
       → AnswersFirst facts came (end_of end) a (scene output now)
   ended_by end came peer new output a store now due serves is =
       ends_first (end_of end) came peer a (scene output store) (scene output now) due is
       (ended_so facts end (command_of peer) store now peer.outbox.unsent new.outbox.unsent output is.unsent serves.answers)
 
   -- what is to be sent of a command that was carried out is its answer
-  sent_is : (peer new : Peer A) (store now : Seen D) → (serves : Serves facts None peer store new now) → peer.outbox.unsent ≡ []
+  sent_is : (peer new : Peer A) (store now : Seen D) → (serves : Serves facts None None peer store new now) → peer.outbox.unsent ≡ []
       → new.outbox.unsent ≡ answer store.hill serves.answers.0
   sent_is peer new store now serves none = serves.answers.3 ∙ ap (λ l. l ++ answer store.hill serves.answers.0) none
 
   pub write_failed : (came : List ℕ) (peer new : Peer A) (output written : Option (List ℕ)) (a : Scene D) (store now : Seen D)
-      → is_due_now peer ≡ true → Serves facts None peer store new now → WritesPart output written new.outbox.unsent
+      → is_due_now peer ≡ true → Serves facts None None peer store new now → WritesPart output written new.outbox.unsent
       → IsServing facts came peer a (scene output store) → AnswersFirst facts came SessionEnd.WriteFault a (scene written now)
   write_failed came peer new output written a store now due serves part is =
       ends_first SessionEnd.WriteFault came peer a (scene output store) (scene written now) due is (
@@ -117,7 +117,7 @@ module _ {D A : Type 0} (facts : DeviceFacts D) where
   same_due served new count sends = rw (sends.end, sends.inbox) refl
 
   -- fewer bytes wait then
-  pub fewer_wait : (peer served new : Peer A) (store now : Seen D) (count : ℕ) → Serves facts None peer store served now → Sends served count new
+  pub fewer_wait : (peer served new : Peer A) (store now : Seen D) (count : ℕ) → Serves facts None None peer store served now → Sends served count new
       → is_due_now new ≡ true → length new.inbox.waiting < length peer.inbox.waiting
   fewer_wait peer served new store now count serves sends due =
       let same = ap (λ (i : Inbox A). length i.waiting) sends.inbox in
@@ -125,7 +125,7 @@ module _ {D A : Type 0} (facts : DeviceFacts D) where
       omega (arith, same, less)
 
   pub answered : (came : List ℕ) (peer served new : Peer A) (output written : Option (List ℕ)) (a : Scene D) (store now : Seen D)
-      (count : ℕ) → Serves facts None peer store served now → Sends served count new → count ≡ length served.outbox.unsent → Appends output written served.outbox.unsent
+      (count : ℕ) → Serves facts None None peer store served now → Sends served count new → count ≡ length served.outbox.unsent → Appends output written served.outbox.unsent
       → IsServing facts came peer a (scene output store) → is_due_now peer ≡ true → IsServing facts came new a (scene written now)
   answered came peer served new output written a store now count serves sends all whole is due =
       let e = serves.answers.0 in
@@ -174,5 +174,6 @@ module _ {D A : Type 0} (facts : DeviceFacts D) where
       at PeerEnd.Limit open_now read = (read.1, all read.0)
       at PeerEnd.Quit open_now read = absurd open_now
       at PeerEnd.Unread open_now read = absurd open_now
+      at PeerEnd.StepsSpent open_now read = absurd open_now
       at PeerEnd.StoreFailed open_now read = absurd open_now
       at PeerEnd.Memory open_now read = absurd open_now

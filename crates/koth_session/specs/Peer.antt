@@ -1,7 +1,7 @@
 -- One session as a value: what came of it, what was carried out, and what is to be sent.
 use Rattle.std.specs.Prelude.{◌≡◌, ◌≢◌, ◌⊎◌, ⊤, ℕ, ◌+◌, ◌<◌, ◌≤◌, nat_le, Bool, true, false, if◌then◌else◌, List, []}
 use Rattle.std.specs.Prelude.{◌∷◌, ◌++◌, drop, length, Option, None, Some}
-use Rattle.{koth_hill.specs.Kept.{Kept, table_kept}, sector_disk.specs.Facts.DeviceFacts, hill_store.specs.Seen.Seen}
+use Rattle.{koth_hill.specs.Kept.{Kept, table_kept}, sector_disk.specs.Facts.DeviceFacts, hill_store.specs.Seen.{MayBeSpent, Seen}}
 use Rattle.{hill_store.specs.declared.reply.Reply.Reply, koth_session.specs.Reply.reply_line}
 use Rattle.koth_protocol.specs.Commands.{Command, Reader, commands_read, kept_source}
 use Rattle.koth_protocol.specs.{Table.show_text, declared.script.Met.Met}
@@ -54,6 +54,8 @@ HasRead reader (Some PeerEnd.Limit) inbox closed came done =
     (commands_read reader came ≡ done) × (length came ≡ 16777216)
 HasRead reader (Some PeerEnd.Unread) inbox closed came done =
     (command : Command) × (behind : List Command) × (commands_read reader came ≡ done ++ command ∷ behind)
+HasRead reader (Some PeerEnd.StepsSpent) inbox closed came done =
+    (source : List ℕ) × (behind : List Command) × (commands_read reader came ≡ done ++ Command.Submit source ∷ behind)
 HasRead reader (Some PeerEnd.StoreFailed) inbox closed came done =
     (source : List ℕ) × (behind : List Command) × (commands_read reader came ≡ done ++ Command.Submit source ∷ behind)
 HasRead reader (Some PeerEnd.Memory) inbox closed came done =
@@ -125,24 +127,28 @@ Says text (Some PeerEnd.Memory) unsent new = (length text ≤ 96 → unsent ≢ 
 Says text (Some PeerEnd.Quit) unsent new = ⊥
 Says text (Some PeerEnd.EndOfInput) unsent new = ⊥
 Says text (Some PeerEnd.Limit) unsent new = ⊥
+Says text (Some PeerEnd.StepsSpent) unsent new = ⊥
 Says text (Some PeerEnd.StoreFailed) unsent new = ⊥
 
 -- What came of a command: it was carried out on the store, and its answer stands after those that are unsent; or the
--- session ends. For want of memory it does only at `SHOW`, or while answers are unsent.
-abbrev pub AnswersPeer : {D : Type 0} → DeviceFacts D → Command → Option PeerEnd → List ℕ → Seen D → List ℕ → Seen D
+-- session ends. For want of memory it does only at `SHOW`, or while answers are unsent. For want of steps it does only
+-- at a source of which an assembly may spend those that it has.
+abbrev pub AnswersPeer : {D : Type 0} → DeviceFacts D → Option ℕ → Command → Option PeerEnd → List ℕ → Seen D → List ℕ → Seen D
     → Type 0
-AnswersPeer facts command None unsent old unsent_new new =
+AnswersPeer facts steps command None unsent old unsent_new new =
     (e : Exchange) × (command ≡ command_in e) × AreServed facts old new (e ∷ [])
     × (unsent_new ≡ unsent ++ answer old.hill e)
-AnswersPeer facts command (Some PeerEnd.Quit) unsent old unsent_new new =
+AnswersPeer facts steps command (Some PeerEnd.Quit) unsent old unsent_new new =
     (command ≡ Command.Quit) × (new ≡ old) × (unsent_new ≡ unsent)
-AnswersPeer facts command (Some PeerEnd.EndOfInput) unsent old unsent_new new = ⊥
-AnswersPeer facts command (Some PeerEnd.Limit) unsent old unsent_new new = ⊥
-AnswersPeer facts command (Some PeerEnd.Unread) unsent old unsent_new new =
+AnswersPeer facts steps command (Some PeerEnd.EndOfInput) unsent old unsent_new new = ⊥
+AnswersPeer facts steps command (Some PeerEnd.Limit) unsent old unsent_new new = ⊥
+AnswersPeer facts steps command (Some PeerEnd.Unread) unsent old unsent_new new =
     IsFull old.hill command unsent × (new ≡ old) × (unsent_new ≡ unsent)
-AnswersPeer facts command (Some PeerEnd.StoreFailed) unsent old unsent_new new =
+AnswersPeer facts steps command (Some PeerEnd.StepsSpent) unsent old unsent_new new =
+    (source : List ℕ) × (command ≡ Command.Submit source) × MayBeSpent steps source × (new ≡ old) × (unsent_new ≡ unsent)
+AnswersPeer facts steps command (Some PeerEnd.StoreFailed) unsent old unsent_new new =
     (source : List ℕ) × (command ≡ Command.Submit source) × IsLeftOff facts old new source × (unsent_new ≡ unsent)
-AnswersPeer facts command (Some PeerEnd.Memory) unsent old unsent_new new =
+AnswersPeer facts steps command (Some PeerEnd.Memory) unsent old unsent_new new =
     ((command ≡ Command.Show) ⊎ (unsent ≢ [])) × (new ≡ old) × (unsent_new ≡ unsent)
 
 -- If the command was a submission that was answered, this is its reply, and the reply's line is the answer.
@@ -162,10 +168,10 @@ end_after (Some end) otherwise = Some end
 abbrev pub command_of : {A : Type 0} → Peer A → Command
 command_of peer = command_due peer.inbox.due (kept_source peer.inbox.script.source)
 
--- the command that was due was carried out, or it ended the session
-pub record Serves {D A : Type 0} (facts : DeviceFacts D) (outcome : Option PeerEnd) (old_peer : Peer A) (old : Seen D)
-    (new_peer : Peer A) (new : Seen D) : Type 0 where
-  pub answers : AnswersPeer facts (command_of old_peer) outcome old_peer.outbox.unsent old new_peer.outbox.unsent new
+-- the command that was due was carried out, a source within these steps if there are any, or it ended the session
+pub record Serves {D A : Type 0} (facts : DeviceFacts D) (steps : Option ℕ) (outcome : Option PeerEnd)
+    (old_peer : Peer A) (old : Seen D) (new_peer : Peer A) (new : Seen D) : Type 0 where
+  pub answers : AnswersPeer facts steps (command_of old_peer) outcome old_peer.outbox.unsent old new_peer.outbox.unsent new
   pub reads : (reader : Reader) (came : List ℕ) (done : List Command) → IsTaken reader old_peer.inbox.due
       → IsPeer reader old_peer came done
       → IsPeer reader new_peer came (done_after outcome done (command_of old_peer))

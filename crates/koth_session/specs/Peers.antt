@@ -97,11 +97,11 @@ pub record IsFirstFree {A : Type 0} (slots : Slots A) (n : ℕ) : Type 0 where
 
 -- One peer's turn: the command that is due of the first peer from there on was carried out, or ended its session. It is
 -- no browser's request.
-pub record ServesOne {D A : Type 0} (facts : DeviceFacts D) (outcome : Option PeerEnd) (n : ℕ) (old : Slots A)
-    (start : ℕ) (old_store : Seen D) (new : Slots A) (next : ℕ) (new_store : Seen D) : Type 0 where
+pub record ServesOne {D A : Type 0} (facts : DeviceFacts D) (steps : Option ℕ) (outcome : Option PeerEnd) (n : ℕ)
+    (old : Slots A) (start : ℕ) (old_store : Seen D) (new : Slots A) (next : ℕ) (new_store : Seen D) : Type 0 where
   pub first : IsFirstDue old start n
   pub taken : asks_at old n ≡ false
-  pub moves : MovesAt (λ p q. Serves facts outcome p old_store q new_store) n old new
+  pub moves : MovesAt (λ p q. Serves facts steps outcome p old_store q new_store) n old new
   pub next_is : next ≡ n + 1
 
 -- what a step reports
@@ -111,19 +111,20 @@ step_after (Some PeerEnd.Quit) n = Step.Served n
 step_after (Some PeerEnd.EndOfInput) n = Step.Served n
 step_after (Some PeerEnd.Limit) n = Step.Served n
 step_after (Some PeerEnd.Unread) n = Step.Served n
+step_after (Some PeerEnd.StepsSpent) n = Step.Served n
 step_after (Some PeerEnd.StoreFailed) n = Step.StoreFailed n
 step_after (Some PeerEnd.Memory) n = Step.Served n
 
-abbrev pub ServesNext : {D A : Type 0} → DeviceFacts D → Step → Slots A → ℕ → Seen D → Slots A → ℕ → Seen D → Type 0
-ServesNext facts Step.Nobody old start old_store new next new_store =
+abbrev pub ServesNext : {D A : Type 0} → DeviceFacts D → Option ℕ → Step → Slots A → ℕ → Seen D → Slots A → ℕ → Seen D → Type 0
+ServesNext facts steps Step.Nobody old start old_store new next new_store =
     ((p : ℕ) → is_due_at old p ≡ false) × (new ≡ old) × (next ≡ start) × (new_store ≡ old_store)
-ServesNext facts (Step.Served n) old start old_store new next new_store =
+ServesNext facts steps (Step.Served n) old start old_store new next new_store =
     (outcome : Option PeerEnd) × (step_after outcome n ≡ Step.Served n)
-    × ServesOne facts outcome n old start old_store new next new_store
-ServesNext facts (Step.Asked n) old start old_store new next new_store =
+    × ServesOne facts steps outcome n old start old_store new next new_store
+ServesNext facts steps (Step.Asked n) old start old_store new next new_store =
     IsFirstDue old start n × (asks_at old n ≡ true) × (new ≡ old) × (next ≡ start) × (new_store ≡ old_store)
-ServesNext facts (Step.StoreFailed n) old start old_store new next new_store =
-    ServesOne facts (Some PeerEnd.StoreFailed) n old start old_store new next new_store
+ServesNext facts steps (Step.StoreFailed n) old start old_store new next new_store =
+    ServesOne facts steps (Some PeerEnd.StoreFailed) n old start old_store new next new_store
 
 -- ---- what connecting makes of them
 

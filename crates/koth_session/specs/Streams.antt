@@ -13,6 +13,7 @@ IsOpen (Some PeerEnd.EndOfInput) = ⊤
 IsOpen (Some PeerEnd.Limit) = ⊤
 IsOpen (Some PeerEnd.Quit) = ⊥
 IsOpen (Some PeerEnd.Unread) = ⊥
+IsOpen (Some PeerEnd.StepsSpent) = ⊥
 IsOpen (Some PeerEnd.StoreFailed) = ⊥
 IsOpen (Some PeerEnd.Memory) = ⊥
 
@@ -43,5 +44,6 @@ end_of PeerEnd.Quit = SessionEnd.Quit
 end_of PeerEnd.EndOfInput = SessionEnd.EndOfInput
 end_of PeerEnd.Limit = SessionEnd.Limit
 end_of PeerEnd.Unread = SessionEnd.Memory
+end_of PeerEnd.StepsSpent = SessionEnd.Memory
 end_of PeerEnd.StoreFailed = SessionEnd.StoreFailed
 end_of PeerEnd.Memory = SessionEnd.Memory

@@ -1,6 +1,6 @@
 //! What a command is answered, after the answers that are unsent.
 
-ghost use Rattle.std.specs.Prelude.{◌≡◌, ◌+◌, ◌<◌, ◌≤◌, ◌++◌, true, None, length};
+ghost use Rattle.std.specs.Prelude.{◌≡◌, ℕ, ◌+◌, ◌<◌, ◌≤◌, ◌++◌, true, Option, None, length};
 ghost use Rattle.{koth_protocol.specs.Commands.Command, koth_session.specs.{Inbox.is_met, Peer.{command_due, AnswersPeer, IsReplied, Says}, Reply.reply_line, Sessions.has_failed}};
 
 use crate::end::PeerEnd;
@@ -12,11 +12,12 @@ use sector_disk::Device;
 use std::alloc::{AllocError, Allocator};
 use war_types::AsmKind;
 
-/// Carries a command out, and answers it. The reply to a submission is kept.
+/// Carries a command out, a source within these steps if there are any, and answers it. The reply to a submission is kept.
 pub(crate) fn answer<D: Device, A: Allocator + Copy>(
     alloc: A,
     due: Met,
     source: &[u8],
+    steps: Option<u64>,
     outbox: &mut Outbox<A>,
     reply: &mut Option<Reply>,
     store: &mut Store<D, A>,
@@ -24,10 +25,10 @@ pub(crate) fn answer<D: Device, A: Allocator + Copy>(
     requires met { is_met due ≡ true }
     requires none { reply.old ≡ None }
     ensures replied { IsReplied result outbox.old.unsent outbox.new.unsent reply.new }
-    ensures answers { AnswersPeer D.facts (command_due due source.now) result outbox.old.unsent store.old outbox.new.unsent store.new }
+    ensures answers { AnswersPeer D.facts steps (command_due due source.now) result outbox.old.unsent store.old outbox.new.unsent store.new }
 {
     match due {
-        Met::Submit => submit(source, outbox, reply, store),
+        Met::Submit => submit(source, steps, outbox, reply, store),
         Met::Show => show(alloc, outbox, store),
         Met::Quit => Some(PeerEnd::Quit),
         Met::Request | Met::Bad => say(outbox, b"BAD\n"),
@@ -38,13 +39,14 @@ pub(crate) fn answer<D: Device, A: Allocator + Copy>(
 /// Submits a source, once there is room and memory for the reply.
 fn submit<D: Device, A: Allocator + Copy>(
     source: &[u8],
+    steps: Option<u64>,
     outbox: &mut Outbox<A>,
     kept: &mut Option<Reply>,
     store: &mut Store<D, A>,
 ) -> Option<PeerEnd>
     requires { kept.old ≡ None }
     ensures replied { IsReplied result outbox.old.unsent outbox.new.unsent kept.new }
-    ensures answers { AnswersPeer D.facts (Command.Submit source.now) result outbox.old.unsent store.old outbox.new.unsent store.new }
+    ensures answers { AnswersPeer D.facts steps (Command.Submit source.now) result outbox.old.unsent store.old outbox.new.unsent store.new }
 {
     if outbox.room() < REPLY_MOST {
         return Some(PeerEnd::Unread);
@@ -52,7 +54,10 @@ fn submit<D: Device, A: Allocator + Copy>(
     if let Err(AllocError) = outbox.reserve(REPLY_MOST) {
         return Some(PeerEnd::Memory);
     }
-    let reply = store.submit(source);
+    let reply = match store.submit_within(source, steps) {
+        Some(reply) => reply,
+        None => return Some(PeerEnd::StepsSpent),
+    };
     if has_failed(&reply) {
         return Some(PeerEnd::StoreFailed);
     }
@@ -81,7 +86,7 @@ fn show<D: Device, A: Allocator + Copy>(
     outbox: &mut Outbox<A>,
     store: &Store<D, A>,
 ) -> Option<PeerEnd>
-    ensures { AnswersPeer D.facts Command.Show result outbox.old.unsent store.now outbox.new.unsent store.now }
+    ensures { (steps : Option ℕ) → AnswersPeer D.facts steps Command.Show result outbox.old.unsent store.now outbox.new.unsent store.now }
 {
     match table_of(alloc, store) {
         Ok(text) => say(outbox, text.as_slice()),

@@ -11,6 +11,8 @@ pub enum PeerEnd {
     Limit,
     /// The next answer may have no room, since 1,048,576 bytes of answers at most may be unsent: the command was not carried out.
     Unread,
+    /// The assembly of the next source spent the steps that it may: the source was not submitted.
+    StepsSpent,
     /// The device failed in a submission, now or earlier, which is not answered: close the store, and open it again.
     StoreFailed,
     /// A growth of memory was refused for an answer: the command was not carried out.

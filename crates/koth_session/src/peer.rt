@@ -39,10 +39,16 @@ impl<A: Allocator + Copy> Peer<A> {
 
     /// Carries out the command that is due, on the store, and puts its answer after those that are unsent. It returns how the
     /// command ended the session, if it did: with `Quit`, or with `StoreFailed` if the device failed in it. With `Unread`, if its
-    /// answer may have no room, and with `Memory`, if a growth was refused, the command was not carried out.
-    pub fn serve<D: Device>(&mut self, alloc: A, store: &mut Store<D, A>) -> Option<PeerEnd>
+    /// answer may have no room, with `Memory`, if a growth was refused, and with `StepsSpent`, if it is a source whose assembly spends these
+    /// steps, the command was not carried out.
+    pub fn serve<D: Device>(
+        &mut self,
+        alloc: A,
+        steps: Option<u64>,
+        store: &mut Store<D, A>,
+    ) -> Option<PeerEnd>
         requires { is_due_now self.old ≡ true }
-        ensures serves { Serves D.facts result self.old store.old self.new store.new }
+        ensures serves { Serves D.facts steps result self.old store.old self.new store.new }
         ensures replied { IsReplied result self.old.outbox.unsent self.new.outbox.unsent self.new.reply }
     {
         self.reply = None;
@@ -50,6 +56,7 @@ impl<A: Allocator + Copy> Peer<A> {
             alloc,
             self.inbox.due(),
             self.inbox.source(),
+            steps,
             &mut self.outbox,
             &mut self.reply,
             store,

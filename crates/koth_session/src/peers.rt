@@ -1,6 +1,6 @@
 //! Many sessions on one store, each served in turn.
 
-ghost use Rattle.std.specs.Prelude.{◌≡◌, ℕ, ◌≤◌, true, length, option_copied, None, IfOk};
+ghost use Rattle.std.specs.Prelude.{◌≡◌, ℕ, ◌≤◌, true, length, option_copied, None, Some, IfOk};
 ghost use Rattle.koth_session.specs.{Peer.{Closes, Sends, Serves, Takes}, Peers.{end_in, is_due_at, is_due_in, is_finished_in, may_come_at, may_come_in, peer_at}};
 ghost use Rattle.koth_session.specs.Peers.{step_after, unsent_at, unsent_in, Connects, Moves, MovesAt, OnlyAt, ServesNext};
 
@@ -78,9 +78,10 @@ impl<A: Allocator + Copy> Peers<A> {
     }
 
     /// Carries out one command at most: that of the first peer that has one due, beginning after the peer served last and going
-    /// round. A browser's request is not carried out, and the turn stays where it is until that peer has left.
-    pub fn serve_next<D: Device>(&mut self, store: &mut Store<D, A>) -> Step
-        ensures { ServesNext D.facts result self.old.slots.items self.old.next store.old self.new.slots.items self.new.next store.new }
+    /// round. A browser's request is not carried out, and the turn stays where it is until that peer has left. Nor is a source whose assembly
+    /// spends these steps.
+    pub fn serve_next<D: Device>(&mut self, steps: u64, store: &mut Store<D, A>) -> Step
+        ensures { ServesNext D.facts (Some steps) result self.old.slots.items self.old.next store.old self.new.slots.items self.new.next store.new }
     {
         let Some(number) = next_due(self.slots.as_slice(), self.next) else {
             return Step::Nobody;
@@ -89,7 +90,7 @@ impl<A: Allocator + Copy> Peers<A> {
             return Step::Asked(number);
         }
         self.next = number + 1;
-        let outcome = serve_at(self.alloc, &mut self.slots[number], store);
+        let outcome = serve_at(self.alloc, steps, &mut self.slots[number], store);
         step_after(outcome, number)
     }
 }
@@ -237,14 +238,15 @@ fn pass_at<A: Allocator>(slot: &mut Option<Peer<A>>, count: usize)
 /// Carries out the command that is due of a peer.
 fn serve_at<D: Device, A: Allocator + Copy>(
     alloc: A,
+    steps: u64,
     slot: &mut Option<Peer<A>>,
     store: &mut Store<D, A>,
 ) -> Option<PeerEnd>
     requires { is_due_in slot.old ≡ true }
-    ensures { Moves (λ old new. Serves D.facts result old store.old new store.new) slot.old slot.new }
+    ensures { Moves (λ old new. Serves D.facts (Some steps) result old store.old new store.new) slot.old slot.new }
 {
     match slot {
-        Some(peer) => peer.serve(alloc, store),
+        Some(peer) => peer.serve(alloc, Some(steps), store),
         None => unreachable!(),
     }
 }
@@ -261,6 +263,7 @@ fn step_after(outcome: Option<PeerEnd>, number: usize) -> Step
             | PeerEnd::EndOfInput
             | PeerEnd::Limit
             | PeerEnd::Unread
+            | PeerEnd::StepsSpent
             | PeerEnd::Memory,
         ) => Step::Served(number),
     }

@@ -133,7 +133,7 @@ fn answer_next<W: Write, D: Device, A: Allocator + Copy>(
     ensures ok { result ≡ None → output.new.faults ≡ output.old.faults }
     ensures rose { result ≡ Some SessionEnd.WriteFault → Rose output.old.faults output.new.faults }
 {
-    if let Some(end) = peer.serve(alloc, store) {
+    if let Some(end) = peer.serve(alloc, None, store) {
         return Some(end_of(end));
     }
     if let Err(WriteFault) = send(output, peer.unsent()) {
@@ -145,7 +145,7 @@ fn answer_next<W: Write, D: Device, A: Allocator + Copy>(
 }
 
 /// How a session over streams ends where its peer ended so. Since nothing was unsent, a command had no room or memory for its answer only
-/// if it was `SHOW`, and no room only if the table is over 1,048,576 bytes.
+/// if it was `SHOW`, and no room only if the table is over 1,048,576 bytes. No steps are spent where none are given.
 fn end_of(end: PeerEnd) -> SessionEnd
     ensures { result ≡ end_of end }
 {
@@ -154,6 +154,6 @@ fn end_of(end: PeerEnd) -> SessionEnd
         PeerEnd::EndOfInput => SessionEnd::EndOfInput,
         PeerEnd::Limit => SessionEnd::Limit,
         PeerEnd::StoreFailed => SessionEnd::StoreFailed,
-        PeerEnd::Unread | PeerEnd::Memory => SessionEnd::Memory,
+        PeerEnd::Unread | PeerEnd::StepsSpent | PeerEnd::Memory => SessionEnd::Memory,
     }
 }

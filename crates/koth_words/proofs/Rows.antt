@@ -160,23 +160,25 @@ versions = (refl, refl, refl)
 
 -- what the words of a service give it, and what they give it if the options are left out
 abbrev many_given : List Row
-many_given = given_by (codes "koth" ∷ codes "serve" ∷ codes "a.hill" ∷ codes "--port=0" ∷ codes "--peers" ∷ codes "1024" ∷ codes "--peers-per-address=4" ∷ codes "--listen=0.0.0.0" ∷ codes "--http=8080" ∷ [])
+many_given = given_by (codes "koth" ∷ codes "serve" ∷ codes "a.hill" ∷ codes "--port=0" ∷ codes "--peers" ∷ codes "1024" ∷ codes "--peers-per-address=4" ∷ codes "--steps=5" ∷ codes "--listen=0.0.0.0" ∷ codes "--http=8080" ∷ [])
 
 abbrev plain_given : List Row
 plain_given = given_by (codes "koth" ∷ codes "serve" ∷ codes "a.hill" ∷ codes "--port=0" ∷ [])
 
 services : (number_or 64 (one_of (codes "peers") many_given) ≡ 1024)
     × (number_given 4294967296 (one_of (codes "peers-per-address") many_given) ≡ Some 4)
+    × (number_or 20000000 (one_of (codes "steps") many_given) ≡ 5)
     × (first_of (codes "listen") many_given ≡ Some (codes "0.0.0.0"))
     × (number_given 4294967296 (one_of (codes "http") many_given) ≡ Some 8080)
     × (number_or 64 (one_of (codes "peers") plain_given) ≡ 64)
     × (number_given 4294967296 (one_of (codes "peers-per-address") plain_given) ≡ None)
+    × (number_or 20000000 (one_of (codes "steps") plain_given) ≡ 20000000)
     × (first_of (codes "listen") plain_given ≡ None)
     × (number_given 4294967296 (one_of (codes "http") plain_given) ≡ None)
     × (replays_named (codes "koth" ∷ codes "serve" ∷ codes "a.hill" ∷ codes "--port=0" ∷ codes "--http=8080" ∷ codes "--replays" ∷ []) ≡ true)
     × (replays_named (codes "koth" ∷ codes "serve" ∷ codes "a.hill" ∷ codes "--port=0" ∷ codes "--http=8080" ∷ []) ≡ false)
 unfolding clap_on_literals koth_app
-services = (refl, refl, refl, refl, refl, refl, refl, refl, refl, refl)
+services = (refl, refl, refl, refl, refl, refl, refl, refl, refl, refl, refl, refl)
 
 -- an address of either kind is given, and 127.0.0.1 is the one if the option is left out
 addresses_ask : AsksFor (codes "serve") (codes "koth" ∷ codes "serve" ∷ codes "a.hill" ∷ codes "--port=0" ∷ codes "--listen=0.0.0.0" ∷ [])

@@ -64,8 +64,8 @@ abbrev pub show_app : App
 show_app = with_view (with_flag (with_file (new_app (codes "show")) (codes "FILE")) (codes "matches"))
 
 abbrev pub serve_app : App
-serve_app = with_settings (with_flag (with_flag (with_flag (with_rule (with_ranged (with_option (with_rule (with_ranged (with_ranged (with_rule (with_file (new_app (codes "serve")) (codes "FILE"))
-    (required_rule (codes "port") 65535)) (codes "peers") 1 1024) (codes "peers-per-address") 1 1024) (text_rule (codes "listen"))) (codes "connections")) (codes "http") 0 65535)
+serve_app = with_settings (with_flag (with_flag (with_flag (with_rule (with_ranged (with_option (with_rule (with_option (with_ranged (with_ranged (with_rule (with_file (new_app (codes "serve"))
+    (codes "FILE")) (required_rule (codes "port") 65535)) (codes "peers") 1 1024) (codes "peers-per-address") 1 1024) (codes "steps")) (text_rule (codes "listen"))) (codes "connections")) (codes "http") 0 65535)
     (texts_rule (codes "host"))) (codes "replays")) (codes "quiet")) (codes "create"))
 
 abbrev pub audit_app : App

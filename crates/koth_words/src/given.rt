@@ -16,6 +16,9 @@ use std::net::IpAddr;
 /// Peers that are served at once, unless `--peers` is given.
 const PEERS: u32 = 64;
 
+/// Steps that the assembly of a source may take in a service, unless `--steps` is given.
+pub const STEPS: u32 = 20_000_000;
+
 /// The address to listen at, unless `--listen` is given.
 const THIS_MACHINE: &str = "127.0.0.1";
 
@@ -161,6 +164,7 @@ pub(crate) fn service_named<'w>(
     ensures peers { IfOk result (λ service. service.peers ≡ number_or 64 (one_of (codes "peers") (rows_of (found_of matches.now)))) }
     ensures peers_per_address { IfOk result (λ service. service.peers_per_address
         ≡ number_given 4294967296 (one_of (codes "peers-per-address") (rows_of (found_of matches.now)))) }
+    ensures steps { IfOk result (λ service. service.steps ≡ number_or 20000000 (one_of (codes "steps") (rows_of (found_of matches.now)))) }
     ensures listen { IfOk result (λ service. IsAddress (first_of (codes "listen") (rows_of (found_of matches.now))) service.listen) }
     ensures connections { IfOk result (λ service. service.connections
         ≡ number_given 4294967296 (one_of (codes "connections") (rows_of (found_of matches.now)))) }
@@ -176,6 +180,7 @@ pub(crate) fn service_named<'w>(
         port: port_given(matches),
         peers: number_given(matches, "peers", PEERS),
         peers_per_address: number_if_given(matches, "peers-per-address"),
+        steps: number_given(matches, "steps", STEPS),
         listen: address_given(matches),
         connections: number_if_given(matches, "connections"),
         http: number_if_given(matches, "http"),

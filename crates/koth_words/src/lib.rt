@@ -13,6 +13,7 @@ mod given;
 mod options;
 mod words;
 
+pub use given::STEPS;
 pub use options::DEFAULTS;
 pub use words::{
     Checked, Creation, Fighters, Form, Migration, NoRequest, Request, Service, Shown, Source,

@@ -129,6 +129,8 @@ pub struct Service<'w> {
     pub peers: u32,
     /// Most peers of one address that are served at once; further ones are refused. `None` for no limit.
     pub peers_per_address: Option<u32>,
+    /// How many steps the assembly of a source may take.
+    pub steps: u32,
     /// The address to listen at.
     pub listen: IpAddr,
     /// Connections to serve before the service ends; `None` for no limit.

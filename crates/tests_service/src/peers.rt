@@ -30,7 +30,18 @@ fn serve<D: Device, A: Allocator + Copy>(
     store: &mut Store<D, A>,
     step: Step,
 ) {
-    assert_eq!(rt; peers.serve_next(store), step);
+    serve_within(rt, peers, store, 1_000_000, step);
+}
+
+/// A step within this number of steps of an assembly serves this.
+fn serve_within<D: Device, A: Allocator + Copy>(
+    rt: &impl Abort,
+    peers: &mut Peers<A>,
+    store: &mut Store<D, A>,
+    steps: u64,
+    step: Step,
+) {
+    assert_eq!(rt; peers.serve_next(steps, store), step);
 }
 
 /// A peer's session has ended so, or goes on.
@@ -71,6 +82,7 @@ enum Script {
     InTurn,
     OneHill,
     Unread,
+    Spent,
     Asked,
 }
 
@@ -85,6 +97,7 @@ fn follow(rt: &(impl Abort + AllocGlobal), most: usize, script: Script) {
             end_each(rt, &mut peers, &mut store);
         }
         Script::Unread => leave_unread(rt, &mut peers, &mut store),
+        Script::Spent => spend(rt, &mut peers, &mut store),
         Script::Asked => ask(rt, &mut peers, &mut store),
     }
     drop(peers);
@@ -208,6 +221,28 @@ fn leave_unread<D: Device>(
     waits(rt, peers, 0, 1_048_576);
     expect(rt, !peers.is_finished(0), "it is not finished");
     send(rt, peers, 1, "BAD\n");
+}
+
+/// A source whose assembly spends its steps is not submitted: its session ends, and nothing more of it is carried out. What it was answered
+/// is sent still, and the other one is served.
+#[test]
+fn spent(rt: HostRuntime) {
+    follow(&rt, 2, Script::Spent);
+}
+
+fn spend<D: Device>(rt: &impl Abort, peers: &mut Peers<Global>, store: &mut Store<D, Global>) {
+    connect_two(rt, peers);
+    come(rt, peers, 0, "\nSUBMIT\nMOV 0, 1\n.\nSHOW\n");
+    come(rt, peers, 1, "SHOW\nSHOW\n");
+    serve(rt, peers, store, Step::Served(0));
+    serve(rt, peers, store, Step::Served(1));
+    serve_within(rt, peers, store, 0, Step::Served(0));
+    ended(rt, peers, 0, Some(PeerEnd::StepsSpent));
+    serve(rt, peers, store, Step::Served(1));
+    serve(rt, peers, store, Step::Nobody);
+    send(rt, peers, 0, "BAD\n");
+    send(rt, peers, 1, ".\n.\n");
+    expect(rt, peers.is_finished(0), "it is finished");
 }
 
 /// A browser's request is not carried out, and the turn waits for its peer to leave.

@@ -54,7 +54,7 @@ pub(crate) struct Shut;
 impl Host<Fuse, Global> for Clerk {
     type Fault = Shut;
 
-    ghost shows = { λ _ _. record { names = codes "here.example" ∷ []; pages = λ page _. page ≡ pages.Hill } };
+    ghost shows = { λ _ _. record { names = codes "here.example" ∷ []; pages = λ page _. page ≡ pages.Hill; steps = 1000000 } };
 
     fn reopen(&self, device: Fuse) -> Result<Store<Fuse, Global>, Shut> {
         let openings = self.openings.get();
@@ -70,6 +70,10 @@ impl Host<Fuse, Global> for Clerk {
 
     fn names(&self) -> &[&str] {
         &["here.example"]
+    }
+
+    fn steps(&self) -> u64 {
+        1_000_000
     }
 
     /// The page of the hill says how many are on it. No round has one.

@@ -6,14 +6,14 @@ pub returns-in-Nobody-step-clause-served : goal.returns-in-Nobody-step-clause-se
 returns-in-Nobody-step-clause-served g c = λ start browsers on.
     let ticks = ticked g.S.Sockets.happened g.D.Device.facts (g.H.Host.shows c.args.host.now) start browsers c.args.sockets.now c.now.new.self (peers_of c.args.desk.now) c.args.desk.now.store
     c.now.result c.max-desk.result c.now.ensures c.max-desk.ensures on in
-    rw c.in-Nobody-step.is (nobody g.S.Sockets.happened g.D.Device.facts (g.H.Host.shows c.args.host.now) start browsers c.now.new.self _ c.serve_next-step.new.self.slots.items c.serve_next-step.new.self.next c.args.desk.now.store
+    rw c.in-Nobody-step.is (nobody g.S.Sockets.happened g.D.Device.facts (g.H.Host.shows c.args.host.now) start browsers c.now.new.self c.steps.result c.steps.ensures _ c.serve_next-step.new.self.slots.items c.serve_next-step.new.self.next c.args.desk.now.store
     c.serve_next-step.new.store (rw c.in-Nobody-step.is at c.serve_next-step.ensures) ticks)
 
 pub returns-in-Asked-clause-served : goal.returns-in-Asked-clause-served
 returns-in-Asked-clause-served g c = λ start browsers on.
     let ticks = ticked g.S.Sockets.happened g.D.Device.facts (g.H.Host.shows c.args.host.now) start browsers c.args.sockets.now c.now.new.self (peers_of c.args.desk.now) c.args.desk.now.store
     c.now.result c.max-desk.result c.now.ensures c.max-desk.ensures on in
-    let next = asked g.S.Sockets.happened g.D.Device.facts (g.H.Host.shows c.args.host.now) start browsers c.now.new.self c.in-Asked.number _ c.serve_next-step.new.self.slots.items c.serve_next-step.new.self.next c.args.desk.now.store
+    let next = asked g.S.Sockets.happened g.D.Device.facts (g.H.Host.shows c.args.host.now) start browsers c.now.new.self c.steps.result c.steps.ensures c.in-Asked.number _ c.serve_next-step.new.self.slots.items c.serve_next-step.new.self.next c.args.desk.now.store
     c.serve_next-step.new.store (rw c.in-Asked.is at c.serve_next-step.ensures) ticks in
     c.let_go.ensures.served start browsers next.0 next.1
 
@@ -21,12 +21,12 @@ pub returns-in-Served-clause-served : goal.returns-in-Served-clause-served
 returns-in-Served-clause-served g c = λ start browsers on.
     let ticks = ticked g.S.Sockets.happened g.D.Device.facts (g.H.Host.shows c.args.host.now) start browsers c.args.sockets.now c.now.new.self (peers_of c.args.desk.now) c.args.desk.now.store
     c.now.result c.max-desk.result c.now.ensures c.max-desk.ensures on in
-    served g.S.Sockets.happened g.D.Device.facts (g.H.Host.shows c.args.host.now) start browsers c.now.new.self c.in-Served.number _ c.serve_next-step.new.self.slots.items c.serve.new.self.seats.items
+    served g.S.Sockets.happened g.D.Device.facts (g.H.Host.shows c.args.host.now) start browsers c.now.new.self c.steps.result c.steps.ensures c.in-Served.number _ c.serve_next-step.new.self.slots.items c.serve.new.self.seats.items
     c.serve_next-step.new.self.next c.args.desk.now.store c.serve_next-step.new.store (rw c.in-Served.is at c.serve_next-step.ensures) c.serve.ensures ticks
 
 pub returns-in-StoreFailed-clause-served : goal.returns-in-StoreFailed-clause-served
 returns-in-StoreFailed-clause-served g c = λ start browsers on.
     let ticks = ticked g.S.Sockets.happened g.D.Device.facts (g.H.Host.shows c.args.host.now) start browsers c.args.sockets.now c.now.new.self (peers_of c.args.desk.now) c.args.desk.now.store
     c.now.result c.max-desk.result c.now.ensures c.max-desk.ensures on in
-    cut_off g.S.Sockets.happened g.D.Device.facts (g.H.Host.shows c.args.host.now) start browsers c.now.new.self c.in-StoreFailed.number _ c.serve_next-step.new.self.slots.items c.serve-in-StoreFailed.new.self.seats.items
+    cut_off g.S.Sockets.happened g.D.Device.facts (g.H.Host.shows c.args.host.now) start browsers c.now.new.self c.steps.result c.steps.ensures c.in-StoreFailed.number _ c.serve_next-step.new.self.slots.items c.serve-in-StoreFailed.new.self.seats.items
     c.serve_next-step.new.self.next c.args.desk.now.store c.serve_next-step.new.store (rw c.in-StoreFailed.is at c.serve_next-step.ensures) c.serve-in-StoreFailed.ensures ticks

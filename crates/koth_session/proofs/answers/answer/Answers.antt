@@ -9,6 +9,6 @@ either_bad m bytes (inr is) = rw is refl
 
 pub returns-in-Request-clause-answers : goal.returns-in-Request-clause-answers
 returns-in-Request-clause-answers g c =
-    subst (λ k. AnswersPeer g.D.Device.facts k c.say.result c.args.outbox.now.unsent c.args.store.now c.say.new.outbox.unsent c.args.store.now)
+    subst (λ k. AnswersPeer g.D.Device.facts c.args.steps k c.say.result c.args.outbox.now.unsent c.args.store.now c.say.new.outbox.unsent c.args.store.now)
     (either_bad c.args.due c.args.source.now c.in-Request.is)
-    (bad_said g.D.Device.facts c.say.result c.args.outbox.now.unsent c.say.new.outbox.unsent c.args.store.now c.say.ensures)
+    (bad_said g.D.Device.facts c.args.steps c.say.result c.args.outbox.now.unsent c.say.new.outbox.unsent c.args.store.now c.say.ensures)
