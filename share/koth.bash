@@ -30,7 +30,8 @@ _koth_takes() {
             kinds=('file')
             ;;
         'submit')
-            options='--plain --table -h --help'
+            options='--wait --plain --table -h --help'
+            valued='--wait'
             kinds=('file' 'source')
             ;;
         'show')

@@ -5,7 +5,7 @@ ghost use Rattle.std.specs.Prelude.{◌≡◌, ◌≤◌, IfErr, IfOk};
 ghost use Rattle.hill_file.specs.OpenFault.{IsOfSystem, IsWhateverHeld};
 
 use crate::careful_device::CarefulDevice;
-use crate::lock::TryLock;
+use crate::lock::{TryLock, require_held};
 use crate::open_fault::OpenFault;
 use crate::placed_file::{PlacedFile, Sharing};
 use crate::sector_file::Headers;
@@ -57,8 +57,9 @@ where
 {
     /// The device over the file at this path, which has to be there. It has counted no fault.
     ///
-    /// `Locked` if `sharing` is `Alone` and another program holds the lock. `Failed` with `NotFound` if there is no file, or another by the
-    /// time that it is locked, with `Other` if its headers can't be read, and else with the system's reason, as for a folder. Never
+    /// `Locked` if `sharing` is `Alone` and another program holds the lock. `Failed` with `NotFound` if there is no file, with
+    /// `StaleNetworkFileHandle` if there is another by the time that it is locked, with `Other` if its headers can't be read, and else with
+    /// the system's reason, as for a folder. Never
     /// `Occupied`.
     pub fn open(rt: &'f R, path: &'f str, sharing: Sharing) -> Result<HillFile<'f, R>, OpenFault>
         ensures faults { IfOk result (λ hill. hill.faults ≡ 0) }
@@ -118,11 +119,60 @@ where
         };
         HillFile::over(file, sectors)
     }
+
+    /// A device of at least `sectors` sectors, which all hold zeros, over a new file at this path, locked for this program alone. It has
+    /// counted no fault. Only its owner may read and write the file. The zeros have reached the disk.
+    ///
+    /// `Failed` with `AlreadyExists` if there is something at this path, a link too, and then nothing is changed. `Failed` as `open` says,
+    /// with `Unsupported` if the lock is granted to another open as well, and with the system's reason if the file can't be created,
+    /// written or synced, as with `StorageFull`. After each of these faults the file is removed, if the system lets it be. Never
+    /// `Occupied`.
+    pub fn make_new(rt: &'f R, path: &'f str, sectors: u32) -> Result<HillFile<'f, R>, OpenFault>
+        ensures enough { IfOk result (λ hill. sectors ≤ hill.sectors) }
+        ensures faults { IfOk result (λ hill. hill.faults ≡ 0) }
+        ensures held { IfErr result IsWhateverHeld }
+    {
+        let mut options = File::options();
+        options.read(true).write(true).create_new(true);
+        options.mode(OWNER_ONLY);
+        let handle = options.open(rt, path)?;
+        match HillFile::over_new(rt, path, handle, sectors) {
+            Ok(hill) => Ok(hill),
+            Err(fault) => {
+                let _ = rt.remove_file(path);
+                Err(fault)
+            }
+        }
+    }
+
+    /// The same over the file of this handle, which was just created.
+    fn over_new(
+        rt: &'f R,
+        path: &'f str,
+        mut handle: R::File,
+        sectors: u32,
+    ) -> Result<HillFile<'f, R>, OpenFault>
+        ensures enough { IfOk result (λ hill. sectors ≤ hill.sectors) }
+        ensures faults { IfOk result (λ hill. hill.faults ≡ 0) }
+        ensures held { IfErr result IsWhateverHeld }
+    {
+        handle.lock_now()?;
+        require_held(rt, path)?;
+        write_zeros(&mut handle, sectors)?;
+        handle.sync_all()?;
+        let file = PlacedFile {
+            rt,
+            path,
+            handle,
+            sharing: Sharing::Alone,
+        };
+        HillFile::over(file, sectors)
+    }
 }
 
 impl<'f, R: Files> HillFile<'f, R> {
-    /// The device over this file, in doubt if the file holds a hill that may be changed. `Failed` with `NotFound` if the path leads elsewhere by
-    /// now, with `UnexpectedEof` if it has fewer than `least` sectors, and with `Other` if its headers can't be read.
+    /// The device over this file, in doubt if the file holds a hill that may be changed. `Failed` with `StaleNetworkFileHandle`
+    /// if the path leads elsewhere by now, with `UnexpectedEof` if it has fewer than `least` sectors, and with `Other` if its headers can't be read.
     fn over(file: PlacedFile<'f, R>, least: u32) -> Result<HillFile<'f, R>, OpenFault>
         ensures enough { IfOk result (λ hill. least ≤ hill.sectors) }
         ensures faults { IfOk result (λ hill. hill.faults ≡ 0) }
@@ -130,7 +180,7 @@ impl<'f, R: Files> HillFile<'f, R> {
     {
         let mut file = file;
         let Some(sectors) = file.sectors_in_place()? else {
-            return Err(OpenFault::Failed(ErrorKind::NotFound));
+            return Err(OpenFault::Failed(ErrorKind::StaleNetworkFileHandle));
         };
         let doubt = 2 <= sectors && file.begins_as_a_hill()?;
         let Ok(device) = CarefulDevice::open(file, doubt) else {

@@ -1,10 +1,11 @@
 //! The lock of a file.
 #![tactic(auto, using(crate::proofs::OfSystem::fault_of_system, crate::proofs::OfSystem::whatever_held))]
 
-ghost use Rattle.{std.specs.Prelude.IfErr, hill_file.specs.OpenFault.IsWhateverHeld};
+ghost use Rattle.{std.specs.Prelude.IfErr, hill_file.specs.OpenFault.{IsOfSystem, IsWhateverHeld}};
 
 use crate::open_fault::OpenFault;
-use std::fs::{File, TryLockError};
+use std::fs::{File, Files, TryLockError};
+use std::io::ErrorKind;
 
 /// A file whose lock can be taken without waiting. The system releases the lock with the handle, also if the program is stopped.
 pub trait TryLock {
@@ -20,5 +21,22 @@ impl TryLock for File {
             Err(TryLockError::WouldBlock) => Err(OpenFault::Locked),
             Err(TryLockError::Error(error)) => Err(OpenFault::from(error)),
         }
+    }
+}
+
+/// The lock of the file at this path, which this program holds, keeps another open of the file from taking it. `Failed` with `Unsupported` if
+/// it doesn't: some file systems grant a lock to everybody, as of networks. Never `Locked`.
+pub fn require_held<R: Files>(rt: &R, path: &str) -> Result<(), OpenFault>
+where
+    R::File: TryLock,
+    ensures { IfErr result IsOfSystem }
+{
+    let mut options = File::options();
+    options.read(true).write(true);
+    let handle = options.open(rt, path)?;
+    match handle.lock_now() {
+        Err(OpenFault::Locked) => Ok(()),
+        Ok(()) => Err(OpenFault::Failed(ErrorKind::Unsupported)),
+        Err(fault) => Err(fault),
     }
 }

@@ -111,6 +111,6 @@ fn write_to<F: Write + Seek>(file: &mut F, n: u32, from: &[u8; 512]) -> io::Resu
 }
 
 /// Whether they are of one file, by its device and its number there.
-fn is_same_file(one: &Metadata, other: &Metadata) -> bool {
+pub(crate) fn is_same_file(one: &Metadata, other: &Metadata) -> bool {
     one.dev() == other.dev() && one.ino() == other.ino()
 }

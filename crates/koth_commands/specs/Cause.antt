@@ -1,6 +1,6 @@
 -- What people are told of what failed, and why.
 use Rattle.std.specs.{Prelude.{ℕ, List, ◌++◌, codes, decimal}, declared.io.ErrorKind.ErrorKind}
-use Rattle.koth_commands.specs.{declared.cause.Cause.Cause, declared.cause.Reason.Reason, declared.cause.Subject.Subject}
+use Rattle.koth_commands.specs.{Name.shown_name, declared.cause.Cause.Cause, declared.cause.Reason.Reason, declared.cause.Subject.Subject}
 
 -- the reason for an error of the system
 abbrev pub error_reason : ErrorKind → Reason
@@ -17,6 +17,9 @@ error_reason ErrorKind.FileTooLarge = Reason.Size
 error_reason ErrorKind.InvalidInput = Reason.NoFile
 error_reason ErrorKind.AddrInUse = Reason.InUse
 error_reason ErrorKind.ResourceBusy = Reason.InUse
+error_reason ErrorKind.StaleNetworkFileHandle = Reason.Replaced
+error_reason ErrorKind.AlreadyExists = Reason.Taken
+error_reason ErrorKind.Unsupported = Reason.Unfit
 error_reason ErrorKind.AddrNotAvailable = Reason.Elsewhere
 error_reason ErrorKind.BrokenPipe = Reason.ReaderGone
 error_reason ErrorKind.WriteZero = Reason.NoRoom
@@ -37,6 +40,10 @@ reason_text Reason.Full = codes "the disk is full"
 reason_text Reason.Size = codes "the file would be too large"
 reason_text Reason.NoFile = codes "it is no plain file"
 reason_text Reason.InUse = codes "another program uses it"
+reason_text Reason.Locked = codes "another program uses it; koth submit --wait SECONDS waits for it"
+reason_text Reason.Replaced = codes "another file has this name"
+reason_text Reason.Taken = codes "its name with .new after it is taken; remove that file, unless koth create is at work"
+reason_text Reason.Unfit = codes "its file system lacks locks or links that a hill needs; take a local disk"
 reason_text Reason.Elsewhere = codes "it is not of this machine"
 reason_text Reason.ReaderGone = codes "its reader is gone"
 reason_text Reason.NoRoom = codes "no more can be written"
@@ -45,6 +52,7 @@ reason_text Reason.TooShort = codes "it is too short for its hill"
 reason_text Reason.NotEmpty = codes "it isn't empty; --overwrite makes a hill of it all the same"
 reason_text Reason.NoHill = codes "it holds no hill"
 reason_text Reason.OldHill = codes "a hill of the old format; koth migrate FILE NEW moves it to a new file"
+reason_text Reason.Header = codes "one of its headers can't be read, so its last submission may be missing; compare it with a copy"
 reason_text Reason.Damaged = codes "a warrior in it can't be read; go back to a copy"
 reason_text Reason.Unreadable = codes "it can't be read; go back to a copy"
 reason_text Reason.Device = codes "reading or writing it failed"
@@ -60,19 +68,19 @@ source_name Subject.Connection = codes "a peer"
 source_name Subject.Input = codes "standard input"
 source_name Subject.Output = codes "standard output"
 
+-- what a command worked on, as messages have it
+abbrev pub subject_name : Subject → List ℕ
+subject_name (Subject.File path) = shown_name path.now
+subject_name (Subject.Warrior path entry) = shown_name path.now ++ (codes ", warrior " ++ decimal entry)
+subject_name (Subject.Port port) = codes "port " ++ decimal port
+subject_name Subject.Connection = codes "a connection"
+subject_name Subject.Input = codes "standard input"
+subject_name Subject.Output = codes "standard output"
+
 -- the line of a subject with this name, and why it failed
 abbrev pub reason_told : List ℕ → Reason → List ℕ
 reason_told name reason = name ++ (codes ": " ++ (reason_text reason ++ codes "\n"))
 
--- the line that says what failed, and why
-abbrev pub subject_told : Subject → Reason → List ℕ
-subject_told (Subject.File path) reason = reason_told path.now reason
-subject_told (Subject.Warrior path entry) reason = path.now ++ (codes ", warrior " ++ reason_told (decimal entry) reason)
-subject_told (Subject.Port port) reason = reason_told (codes "port " ++ decimal port) reason
-subject_told Subject.Connection reason = reason_told (codes "a connection") reason
-subject_told Subject.Input reason = reason_told (codes "standard input") reason
-subject_told Subject.Output reason = reason_told (codes "standard output") reason
-
 -- the line of a cause
 abbrev pub cause_told : Cause → List ℕ
-cause_told cause = subject_told cause.subject cause.reason
+cause_told cause = reason_told (subject_name cause.subject) cause.reason

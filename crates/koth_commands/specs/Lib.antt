@@ -1,6 +1,7 @@
 -- The three streams, how the program ends, and what it reports of a failure and of its cause.
 pub mod Streams
 pub mod Status
+pub mod Name
 pub mod Cause
 pub mod Told
 pub mod Failure

@@ -1,8 +1,10 @@
 //! What failed, and why, as people are told it.
 
-ghost use Rattle.std.specs.Prelude.{◌≡◌, ◌++◌, codes, decimal, string_bytes, IfOk};
-ghost use Rattle.koth_commands.specs.Cause.{cause_told, error_reason, reason_text, reason_told, source_name};
+ghost use Rattle.std.specs.Prelude.{◌≡◌, ◌++◌, codes, decimal, IfOk, OnOk};
+ghost use Rattle.koth_commands.specs.{Cause.{cause_told, error_reason, reason_text, reason_told, source_name, subject_name}, Name.shown_name};
 
+use crate::name::put_name;
+use koth_text::put_number;
 use std::alloc::{AllocError, Allocator};
 use std::io::ErrorKind;
 
@@ -31,6 +33,14 @@ pub enum Reason {
     NoFile,
     /// Another program uses it.
     InUse,
+    /// Another program has the lock of a hill's file.
+    Locked,
+    /// Another file has this name by now.
+    Replaced,
+    /// The name under which a new file is made first is taken.
+    Taken,
+    /// The file system keeps no locks, or has no links.
+    Unfit,
     /// The address is not of this machine.
     Elsewhere,
     /// Nobody reads what is written.
@@ -47,6 +57,8 @@ pub enum Reason {
     NoHill,
     /// The file holds a hill of the old format.
     OldHill,
+    /// One of the headers in the file can't be read.
+    Header,
     /// A warrior in the file can't be read.
     Damaged,
     /// It can't be read.
@@ -76,6 +88,14 @@ impl Reason {
             Reason::Size => "the file would be too large",
             Reason::NoFile => "it is no plain file",
             Reason::InUse => "another program uses it",
+            Reason::Locked => { "another program uses it; koth submit --wait SECONDS waits for it" }
+            Reason::Replaced => "another file has this name",
+            Reason::Taken => {
+                "its name with .new after it is taken; remove that file, unless koth create is at work"
+            }
+            Reason::Unfit => {
+                "its file system lacks locks or links that a hill needs; take a local disk"
+            }
             Reason::Elsewhere => "it is not of this machine",
             Reason::ReaderGone => "its reader is gone",
             Reason::NoRoom => "no more can be written",
@@ -85,6 +105,9 @@ impl Reason {
             Reason::NoHill => "it holds no hill",
             Reason::OldHill => {
                 "a hill of the old format; koth migrate FILE NEW moves it to a new file"
+            }
+            Reason::Header => {
+                "one of its headers can't be read, so its last submission may be missing; compare it with a copy"
             }
             Reason::Damaged => "a warrior in it can't be read; go back to a copy",
             Reason::Unreadable => "it can't be read; go back to a copy",
@@ -111,6 +134,9 @@ pub fn reason_of(kind: ErrorKind) -> Reason
         ErrorKind::FileTooLarge => Reason::Size,
         ErrorKind::InvalidInput => Reason::NoFile,
         ErrorKind::AddrInUse | ErrorKind::ResourceBusy => Reason::InUse,
+        ErrorKind::StaleNetworkFileHandle => Reason::Replaced,
+        ErrorKind::AlreadyExists => Reason::Taken,
+        ErrorKind::Unsupported => Reason::Unfit,
         ErrorKind::AddrNotAvailable => Reason::Elsewhere,
         ErrorKind::BrokenPipe => Reason::ReaderGone,
         ErrorKind::WriteZero => Reason::NoRoom,
@@ -161,7 +187,7 @@ pub struct Cause<'s> {
 impl<'s> Cause<'s> {
     /// A file, and why it failed.
     pub fn file(path: &'s str, reason: Reason) -> Cause<'s>
-        ensures { cause_told result ≡ reason_told path.now reason }
+        ensures { cause_told result ≡ reason_told (shown_name path.now) reason }
     {
         Cause {
             subject: Subject::File(path),
@@ -181,45 +207,55 @@ impl<'s> Cause<'s> {
 }
 
 /// The line that says what failed, and why.
-pub(crate) fn cause_text<A: Allocator>(alloc: A, cause: Cause<'_>) -> Result<String<A>, AllocError>
-    ensures { IfOk result (λ text. string_bytes text ≡ cause_told cause.entry) }
+pub(crate) fn cause_text<A: Allocator>(alloc: A, cause: Cause<'_>) -> Result<Vec<u8, A>, AllocError>
+    ensures { IfOk result (λ text. text.items ≡ cause_told cause.entry) }
 {
-    let reason = cause.reason;
-    match cause.subject {
-        Subject::File(path) => named_text(alloc, path, reason),
-        Subject::Warrior(path, entry) => warrior_text(alloc, path, entry, reason),
-        Subject::Port(port) => port_text(alloc, port, reason),
-        Subject::Connection => named_text(alloc, "a connection", reason),
-        Subject::Input => named_text(alloc, "standard input", reason),
-        Subject::Output => named_text(alloc, "standard output", reason),
+    let mut text = Vec::new(alloc);
+    put_subject(&mut text, cause.subject)?;
+    put_reason(&mut text, cause.reason)?;
+    Ok(text)
+}
+
+/// Puts what a command worked on.
+fn put_subject<A: Allocator>(text: &mut Vec<u8, A>, subject: Subject<'_>) -> Result<(), AllocError>
+    ensures { OnOk result (text.new.items ≡ text.old.items ++ subject_name subject.entry) }
+{
+    match subject {
+        Subject::File(path) => put_name(text, path),
+        Subject::Warrior(path, entry) => put_warrior(text, path, entry),
+        Subject::Port(port) => put_port(text, port),
+        Subject::Connection => text.extend_from_slice(b"a connection"),
+        Subject::Input => text.extend_from_slice(b"standard input"),
+        Subject::Output => text.extend_from_slice(b"standard output"),
     }
 }
 
-/// The line of a subject with this name.
-fn named_text<A: Allocator>(alloc: A, name: &str, reason: Reason) -> Result<String<A>, AllocError>
-    ensures { IfOk result (λ text. string_bytes text ≡ reason_told name.now reason) }
-{
-    let why = reason.text();
-    format!(in alloc; "{}: {}\n", name, why)
-}
-
-/// The line of a warrior of the hill in the file at this path.
-fn warrior_text<A: Allocator>(
-    alloc: A,
+/// Puts a warrior of the hill in the file at this path.
+fn put_warrior<A: Allocator>(
+    text: &mut Vec<u8, A>,
     path: &str,
     entry: u64,
-    reason: Reason,
-) -> Result<String<A>, AllocError>
-    ensures { IfOk result (λ text. string_bytes text ≡ path.now ++ (codes ", warrior " ++ reason_told (decimal entry) reason)) }
+) -> Result<(), AllocError>
+    ensures { OnOk result (text.new.items ≡ text.old.items ++ (shown_name path.now ++ (codes ", warrior " ++ decimal entry))) }
 {
-    let why = reason.text();
-    format!(in alloc; "{}, warrior {}: {}\n", path, entry, why)
+    put_name(text, path)?;
+    text.extend_from_slice(b", warrior ")?;
+    put_number(text, entry)
 }
 
-/// The line of a port of this machine.
-fn port_text<A: Allocator>(alloc: A, port: u16, reason: Reason) -> Result<String<A>, AllocError>
-    ensures { IfOk result (λ text. string_bytes text ≡ reason_told (codes "port " ++ decimal port) reason) }
+/// Puts a port of this machine.
+fn put_port<A: Allocator>(text: &mut Vec<u8, A>, port: u16) -> Result<(), AllocError>
+    ensures { OnOk result (text.new.items ≡ text.old.items ++ (codes "port " ++ decimal port)) }
 {
-    let why = reason.text();
-    format!(in alloc; "port {}: {}\n", port, why)
+    text.extend_from_slice(b"port ")?;
+    put_number(text, u64::from(port))
+}
+
+/// Puts the end of the line, with the reason.
+fn put_reason<A: Allocator>(text: &mut Vec<u8, A>, reason: Reason) -> Result<(), AllocError>
+    ensures { OnOk result (text.new.items ≡ reason_told text.old.items reason) }
+{
+    text.extend_from_slice(b": ")?;
+    text.extend_from_slice(reason.text().as_bytes())?;
+    text.extend_from_slice(b"\n")
 }

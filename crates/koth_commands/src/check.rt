@@ -5,6 +5,7 @@ ghost use Rattle.{war_types.specs.Settings.settings_of, koth_commands.specs.{Che
 
 use crate::cause::Cause;
 use crate::failure::Trouble;
+use crate::name::diagnosis_text;
 use crate::settings::refuse_settings;
 use crate::source::read_source;
 use crate::status::Status;
@@ -12,7 +13,7 @@ use crate::stream::write_whole;
 use crate::telling::write_both;
 use koth_words::{Checked, Form, STEPS};
 use redcode_asm::{Unassembled, assemble_within};
-use redcode_diagnosis::{Diagnosis, diagnose, json_of, text_of};
+use redcode_diagnosis::{Diagnosis, diagnose, json_of};
 use std::alloc::{AllocError, Allocator};
 use std::io::Write;
 use std::rt::Files;
@@ -162,7 +163,7 @@ fn write_one<'p, A: Allocator + Copy, O: Write>(
     ensures { WritesSome (O.contents output.old) (O.contents output.new) }
 {
     let told = match form {
-        Form::Text => text_of(alloc, path.as_bytes(), source, diagnosis),
+        Form::Text => diagnosis_text(alloc, path, source, diagnosis),
         Form::Json => json_of(alloc, path.as_bytes(), source, diagnosis),
     };
     let Ok(text) = told else {

@@ -2,8 +2,9 @@
 
 ghost use Rattle.koth_commands.specs.Told.{WritesSome};
 
+use crate::name::diagnosis_text;
 use crate::stream::write_whole;
-use redcode_diagnosis::{diagnose, text_of};
+use redcode_diagnosis::diagnose;
 use std::alloc::{AllocError, Allocator};
 use std::io::Write;
 use war_types::Settings;
@@ -33,7 +34,7 @@ fn explanation<A: Allocator + Copy>(
 ) -> Result<Option<Vec<u8, A>>, AllocError> {
     let found = diagnose(alloc, source, settings)?;
     match found.as_slice().first() {
-        Some(first) => Ok(Some(text_of(alloc, path.as_bytes(), source, first)?)),
+        Some(first) => Ok(Some(diagnosis_text(alloc, path, source, first)?)),
         None => Ok(None),
     }
 }

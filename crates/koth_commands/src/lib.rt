@@ -7,6 +7,7 @@
 //! - `pair`: the warriors from two files, and the answer if there are none;
 //! - `asm`, `check`, `fight`, `replay`: a command each;
 //! - `answer`: the answer to a source; `settings`: the report of settings that are refused;
+//! - `name`: the name of a file as messages have it;
 //! - `failure`, `status`: the report of a failed stream or of a lack of memory, and how the program ends.
 //!
 //! Each says what is written and how the program ends as a function of the settings and of what was read (`EndsAsm`, `EndsFight`,
@@ -21,6 +22,7 @@ pub mod check;
 mod explanation;
 mod failure;
 pub mod fight;
+mod name;
 mod pair;
 pub mod replay;
 mod settings;

@@ -43,7 +43,7 @@ pub fn tell_word<A: Allocator, E: Write>(
 {
     match cause {
         Some(cause) => match cause_text(alloc, cause) {
-            Ok(text) => tell_text(word, Apart::Blank, text.as_bytes(), errors),
+            Ok(text) => tell_text(word, Apart::Blank, text.as_slice(), errors),
             Err(AllocError) => tell_text(word, Apart::Line, b"", errors),
         },
         None => tell_text(word, Apart::Line, b"", errors),

@@ -8,7 +8,7 @@ use Rattle.{koth_words.specs.{declared.words.Source.Source, declared.words.View.
 use Rattle.koth_commands.specs.{Check.{EndsCheck, EndsCheckUnder}, Failure.failure_word, Fight.{EndsFight, EndsFightUnder}, Replay.{EndsReplay, EndsReplayUnder, with_round}}
 use Rattle.koth_commands.specs.{Streams.{Streams, streams, unread}, Told.TellsWord, declared.status.Status.Status, declared.status.Status.TheVariants.{NoMemory, WordFault}}
 use Rattle.{koth_commands.specs.declared.failure.Failure.Failure, koth_commands.proofs.Told.{kept_part, keeps_some, writes_nothing}}
-use Rattle.koth_server.specs.{Hills.{EndsCreate, EndsHill, EndsMade, EndsServe, EndsService, EndsSubmit, Said, SaysCreated, SaysShown, TellsFault, listening_line}, Audit.EndsAudit}
+use Rattle.koth_server.specs.{Hills.{AfterNote, EndsCreate, EndsHill, EndsMade, EndsServe, EndsService, EndsSubmit, Said, SaysCreated, SaysShown, TellsFault, TellsNote, listening_line}, Audit.EndsAudit}
 use Rattle.koth_server.specs.{Migration.SaysMigrated, Page.SaysPage, Run.{CommandEnds, EndsRequest, EndsWithout, viewed}, Seed.seed_hint, declared.hill_fault.HillFault.TheVariants.Failed}
 
 -- one fact or the other
@@ -31,12 +31,12 @@ EndsNamed name view given status before after =
     (Either (bytes_eq name (codes "check")) (EndsCheck (length (unwrap_or (all_of (codes "FILE") given) [])) settings status u v)
     (Either (bytes_eq name (codes "fight")) (EndsFight shown settings status u v)
     (Either (bytes_eq name (codes "create")) (EndsCreate (has_flag (codes "draw-seed") given) (settings_in given) status u v)
-    (Either (bytes_eq name (codes "submit")) (EndsSubmit shown status u v)
-    (Either (bytes_eq name (codes "show")) (EndsHill (SaysShown shown (matches_in given)) status u v)
-    (Either (bytes_eq name (codes "audit")) (EndsAudit status u v)
+    (Either (bytes_eq name (codes "submit")) (AfterNote (EndsSubmit shown status) u v)
+    (Either (bytes_eq name (codes "show")) (AfterNote (EndsHill (SaysShown shown (matches_in given)) status) u v)
+    (Either (bytes_eq name (codes "audit")) (AfterNote (EndsAudit status) u v)
     (Either (bytes_eq name (codes "migrate")) (EndsHill SaysMigrated status u v)
-    (Either (bytes_eq name (codes "page")) (EndsHill SaysPage status u v)
-    (Either (bytes_eq name (codes "serve")) (EndsServe settings status u v)
+    (Either (bytes_eq name (codes "page")) (AfterNote (EndsHill SaysPage status) u v)
+    (Either (bytes_eq name (codes "serve")) (AfterNote (EndsServe settings status) u v)
     (Either (bytes_eq name (codes "replay")) (EndsReplay (number_or 1 (one_of (codes "round") given)) settings status u v) ⊤))))))))))
 
 -- ---- a request: the command that the arguments name ended so, under the settings that they give
@@ -64,12 +64,12 @@ module _ (view : View) (e : Text × List Row) (status : Status) (before after : 
   named (Create given creation) asks ends = subst Ends (sym asks.0)
       (subst (λ d. EndsCreate d (settings_in e.1) status (unread before) (unread after)) asks.4
       (subst (λ s. EndsCreate creation.draw_seed s status (unread before) (unread after)) asks.1 ends.0))
-  named (Submit files) asks ends = subst Ends (sym asks.0) (subst (λ v. EndsSubmit (viewed v view) status (unread before) (unread after)) asks.3 ends.0)
+  named (Submit files) asks ends = subst Ends (sym asks.0) (subst (λ v. AfterNote (EndsSubmit (viewed v view) status) (unread before) (unread after)) asks.3 ends.0)
   named (Show shown) asks ends = subst Ends (sym asks.0)
-      (subst (λ v. EndsHill (SaysShown (viewed v view) (matches_in e.1)) status (unread before) (unread after)) asks.3
-      (subst (λ m. EndsHill (SaysShown (viewed shown.view view) m) status (unread before) (unread after)) asks.2 ends.0))
+      (subst (λ v. AfterNote (EndsHill (SaysShown (viewed v view) (matches_in e.1)) status) (unread before) (unread after)) asks.3
+      (subst (λ m. AfterNote (EndsHill (SaysShown (viewed shown.view view) m) status) (unread before) (unread after)) asks.2 ends.0))
   named (Serve given service) asks ends =
-      subst Ends (sym asks.0) (subst (λ s. EndsServe (settings_of s) status (unread before) (unread after)) asks.1 ends.0)
+      subst Ends (sym asks.0) (subst (λ s. AfterNote (EndsServe (settings_of s) status) (unread before) (unread after)) asks.1 ends.0)
   named (Audit file) asks ends = subst Ends (sym asks.0) ends.0
   named (Migrate files) asks ends = subst Ends (sym asks.0) ends.0
   named (Page file) asks ends = subst Ends (sym asks.0) ends.0
@@ -188,16 +188,17 @@ module _ (i o p e f : Option (List ℕ)) (kept : Keeps o p) (told : TellsWord (f
   named_no_memory name view given =
       let settings = settings_of (settings_in given) in
       let shown = viewed (view_in given) view in
+      let none : TellsNote e e = inl (Keeps-refl e) in
       either (bytes_eq name (codes "asm")) _ _ (asm_no_memory (is_input (first_of (codes "FILE") given)) settings)
       (either (bytes_eq name (codes "check")) _ _ (check_no_memory (length (unwrap_or (all_of (codes "FILE") given) [])) settings)
       (either (bytes_eq name (codes "fight")) _ _ (fight_no_memory shown settings)
       (either (bytes_eq name (codes "create")) _ _ (create_no_memory (has_flag (codes "draw-seed") given) (settings_in given))
-      (either (bytes_eq name (codes "submit")) _ _ (submit_no_memory None o p e f kept told shown)
-      (either (bytes_eq name (codes "show")) _ _ (hill_no_memory None o p e f kept told (SaysShown shown (matches_in given)))
-      (either (bytes_eq name (codes "audit")) _ _ (audit_no_memory None o p e f kept told)
+      (either (bytes_eq name (codes "submit")) _ _ (e, none, submit_no_memory None o p e f kept told shown)
+      (either (bytes_eq name (codes "show")) _ _ (e, none, hill_no_memory None o p e f kept told (SaysShown shown (matches_in given)))
+      (either (bytes_eq name (codes "audit")) _ _ (e, none, audit_no_memory None o p e f kept told)
       (either (bytes_eq name (codes "migrate")) _ _ (hill_no_memory None o p e f kept told SaysMigrated)
-      (either (bytes_eq name (codes "page")) _ _ (hill_no_memory None o p e f kept told SaysPage)
-      (either (bytes_eq name (codes "serve")) _ _ (serve_no_memory settings)
+      (either (bytes_eq name (codes "page")) _ _ (e, none, hill_no_memory None o p e f kept told SaysPage)
+      (either (bytes_eq name (codes "serve")) _ _ (e, none, serve_no_memory settings)
       (either (bytes_eq name (codes "replay")) _ ⊤ (replay_no_memory (number_or 1 (one_of (codes "round") given)) settings) tt))))))))))
 
 module _ (i o p e f : Option (List ℕ)) (status : Status) where

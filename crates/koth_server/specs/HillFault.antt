@@ -1,6 +1,6 @@
 -- What is reported of a command on a hill that was not carried out.
 use Rattle.std.specs.Prelude.{ℕ, Option, None, Some, option_map, List, ◌++◌, codes, decimal}
-use Rattle.{hill_file.specs.declared.open_fault.OpenFault.OpenFault, hill_images.specs.declared.refusal.Refusal.Refusal, koth_commands.specs.Cause.{cause_told, error_reason, reason_told}}
+use Rattle.{hill_file.specs.declared.open_fault.OpenFault.OpenFault, hill_images.specs.declared.refusal.Refusal.Refusal, koth_commands.specs.{Cause.{cause_told, error_reason, reason_told}, Name.shown_name}}
 use Rattle.koth_commands.specs.{Failure.{failure_status, failure_word}, declared.cause.Reason.Reason, declared.status.Status.Status, declared.failure.Failure.Failure}
 use Rattle.koth_server.specs.{declared.hill_fault.HillFault.HillFault, declared.hill_fault.HillFault.TheVariants.{TooSmall, Occupied, NotAHill, OldHill, Damaged, Failed}}
 use Rattle.koth_server.specs.declared.trouble.HillTrouble.{HillTrouble}
@@ -35,7 +35,7 @@ fault_reason (Failed Failure.Memory) = Reason.Memory
 
 -- what people read of the warrior with this entry, on the hill in this file, that can't be read
 abbrev pub damage_told : List ℕ → ℕ → List ℕ
-damage_told path entry = path ++ (codes ", warrior " ++ reason_told (decimal entry) Reason.Unreadable)
+damage_told path entry = reason_told (shown_name path ++ (codes ", warrior " ++ decimal entry)) Reason.Unreadable
 
 -- a store's refusal: a device's fault and lack of memory have no name of their own
 abbrev pub fault_of_refusal : Refusal → HillFault
@@ -60,7 +60,7 @@ fault_of_file (OpenFault.Failed kind) = stream_failed
 -- and why, unless memory ran out
 abbrev pub open_reason : OpenFault → Option Reason
 open_reason OpenFault.Memory = None
-open_reason OpenFault.Locked = Some Reason.InUse
+open_reason OpenFault.Locked = Some Reason.Locked
 open_reason OpenFault.Occupied = Some Reason.NotEmpty
 open_reason (OpenFault.Failed kind) = Some (error_reason kind)
 

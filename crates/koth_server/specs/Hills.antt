@@ -102,6 +102,14 @@ pub record TellsFault (said : Said) (status : Status) (before after : Streams) :
   pub output : WritesAt said fault before.output after.output
   pub told : TellsWord (fault_word fault) before.errors after.errors
 
+-- what is written on standard error before the hill in a file is opened: nothing, or that one of its headers can't be read
+abbrev pub TellsNote : Option (List ℕ) → Option (List ℕ) → Type 0
+TellsNote old new = Keeps old new ⊎ TellsWord (codes "NOTE") old new
+
+-- such a note, and then how a command ends
+abbrev pub AfterNote : (Streams → Streams → Type 0) → Streams → Streams → Type 0
+AfterNote ends before after = (noted : Option (List ℕ)) × TellsNote before.errors noted × ends (record before { errors = noted }) after
+
 -- how such a command ends: carried out, with nothing on standard error, or with a fault
 abbrev pub EndsHill : Said → Status → Streams → Streams → Type 0
 EndsHill said status before after =

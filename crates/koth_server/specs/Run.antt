@@ -5,7 +5,7 @@ use Rattle.koth_words.specs.{Words.{draw_seed_named, given_by, matches_named, re
 use Rattle.koth_words.specs.{declared.words.Request.Request, declared.words.Request.TheVariants.{Asm, Check, Fight, Create, Submit, Show, Serve, Audit, Migrate, Page, Replay}}
 use Rattle.{koth_words.specs.declared.words.View.View, koth_commands.specs.{Answer.Tells, Asm.{EndsAsmFrom, EndsAsmOf}, Check.EndsCheck, Fight.EndsFight, Replay.EndsReplay}}
 use Rattle.koth_commands.specs.{Status.status_code, Streams.{Streams, unread}, declared.status.Status.Status, declared.failure.Failure.Failure}
-use Rattle.koth_server.specs.{Hills.{EndsCreate, EndsHill, EndsServe, EndsSubmit, SaysShown}, Audit.EndsAudit, Migration.SaysMigrated, Page.SaysPage}
+use Rattle.koth_server.specs.{Hills.{AfterNote, EndsCreate, EndsHill, EndsServe, EndsSubmit, SaysShown}, Audit.EndsAudit, Migration.SaysMigrated, Page.SaysPage}
 
 -- the code is that of a status of which this holds
 abbrev pub Leaves : ℕ → (Status → Type 0) → Type 0
@@ -23,12 +23,13 @@ CommandEnds view (Check given checked) status before after =
 CommandEnds view (Fight given files) status before after =
     EndsFight (viewed files.view view) (settings_of given) status (unread before) (unread after)
 CommandEnds view (Create given creation) status before after = EndsCreate creation.draw_seed given status (unread before) (unread after)
-CommandEnds view (Submit files) status before after = EndsSubmit (viewed files.view view) status (unread before) (unread after)
-CommandEnds view (Show shown) status before after = EndsHill (SaysShown (viewed shown.view view) shown.matches) status (unread before) (unread after)
-CommandEnds view (Audit file) status before after = EndsAudit status (unread before) (unread after)
+CommandEnds view (Submit files) status before after = AfterNote (EndsSubmit (viewed files.view view) status) (unread before) (unread after)
+CommandEnds view (Show shown) status before after =
+    AfterNote (EndsHill (SaysShown (viewed shown.view view) shown.matches) status) (unread before) (unread after)
+CommandEnds view (Audit file) status before after = AfterNote (EndsAudit status) (unread before) (unread after)
 CommandEnds view (Migrate files) status before after = EndsHill SaysMigrated status (unread before) (unread after)
-CommandEnds view (Page file) status before after = EndsHill SaysPage status (unread before) (unread after)
-CommandEnds view (Serve given service) status before after = EndsServe (settings_of given) status (unread before) (unread after)
+CommandEnds view (Page file) status before after = AfterNote (EndsHill SaysPage status) (unread before) (unread after)
+CommandEnds view (Serve given service) status before after = AfterNote (EndsServe (settings_of given) status) (unread before) (unread after)
 CommandEnds view (Replay given watched) status before after = EndsReplay watched.round (settings_of given) status (unread before) (unread after)
 
 -- how a run ends that carried a request out: as its command does, and never as at a fault of the arguments
@@ -59,13 +60,15 @@ pub record EndsRun (view : View) (given : List (List ℕ)) (status : Status) (be
   pub fight : AsksFor (codes "fight") given
       → EndsFight (viewed (view_named given) view) (settings_of (settings_named given)) status (unread before) (unread after)
   pub create : AsksFor (codes "create") given → EndsCreate (draw_seed_named given) (settings_named given) status (unread before) (unread after)
-  pub submit : AsksFor (codes "submit") given → EndsSubmit (viewed (view_named given) view) status (unread before) (unread after)
+  pub submit : AsksFor (codes "submit") given
+      → AfterNote (EndsSubmit (viewed (view_named given) view) status) (unread before) (unread after)
   pub show : AsksFor (codes "show") given
-      → EndsHill (SaysShown (viewed (view_named given) view) (matches_named given)) status (unread before) (unread after)
-  pub audit : AsksFor (codes "audit") given → EndsAudit status (unread before) (unread after)
+      → AfterNote (EndsHill (SaysShown (viewed (view_named given) view) (matches_named given)) status) (unread before) (unread after)
+  pub audit : AsksFor (codes "audit") given → AfterNote (EndsAudit status) (unread before) (unread after)
   pub migrate : AsksFor (codes "migrate") given → EndsHill SaysMigrated status (unread before) (unread after)
-  pub page : AsksFor (codes "page") given → EndsHill SaysPage status (unread before) (unread after)
-  pub serve : AsksFor (codes "serve") given → EndsServe (settings_of (settings_named given)) status (unread before) (unread after)
+  pub page : AsksFor (codes "page") given → AfterNote (EndsHill SaysPage status) (unread before) (unread after)
+  pub serve : AsksFor (codes "serve") given
+      → AfterNote (EndsServe (settings_of (settings_named given)) status) (unread before) (unread after)
   pub replay : AsksFor (codes "replay") given
       → EndsReplay (round_named given) (settings_of (settings_named given)) status (unread before) (unread after)
   pub words : AreTaken given → status ≢ Status.WordFault

@@ -3,25 +3,24 @@
 ghost use Rattle.std.specs.Prelude.{◌≡◌, ◌≢◌, None, false, true, IfOk};
 ghost use Rattle.{hill_store.specs.Opened.IsCreated, koth_commands.specs.Streams.streams, koth_server.specs.Hills.{EndsCreate, EndsMade, EndsMadeBy, SaysCreated, Tries}};
 
-use crate::files::HillStore;
 use crate::hill_fault::HillFault;
 use crate::seed::{drawn_seed, seed_hint};
 use crate::trouble::{HillTrouble, fault_of_refusal};
-use hill_file::{Existing, HillFile, TryLock};
+use hill_file::{Existing, HillFile, Place, TryLock, name_beside};
 use hill_store::{Store, sectors_for};
 use koth_commands::{Status, reason_of, refuse_settings, write_whole};
 use koth_words::Creation;
 use sector_disk::Device;
-use std::alloc::Allocator;
+use std::alloc::{AllocError, Allocator};
 use std::io::Write;
 use std::random::RandomSource;
 use std::rt::Files;
 use war_types::{RawSettings, Settings};
 
-/// Makes the file if it is missing, just large enough for the hill, and creates the hill in it. Settings that are out of
-/// their ranges are refused before the file is touched. A file that holds anything but zeros is refused as `Occupied` and stays as it is,
-/// unless the arguments say that it is to be overwritten. What the default seed means is written on standard error after the hill was made,
-/// and a seed that is drawn, if they say so, nowhere but in the file.
+/// Creates the hill in a new file, just large enough for it, that only its owner may read and write, and puts that in its place when it is
+/// whole. Settings that are out of their ranges are refused before that. A link that is there, and a file that holds anything but zeros or
+/// is of another owner, is refused as `Occupied` and stays as it is, unless the arguments say that it is to be overwritten. What the default
+/// seed means is written on standard error after the hill was made, and a seed that is drawn, if they say so, nowhere but in the file.
 pub(crate) fn create<R: Files + RandomSource, A: Allocator + Copy, O: Write, E: Write>(
     rt: &R,
     alloc: A,
@@ -137,34 +136,74 @@ where
         Existing::Kept
     };
     match create_hill(rt, alloc, settings, creation.hill, existing) {
-        Ok(store) => {
-            drop(store);
-            say_created(output)
-        }
+        Ok(()) => say_created(output),
         Err(trouble) => Err(trouble),
     }
 }
 
-/// Makes the file at this path if it is missing, just large enough for the hill, and creates the hill in it, which is open then.
+/// Creates a hill in a new file, just large enough for it, which then takes its place at this path.
 pub(crate) fn create_hill<'f, R: Files, A: Allocator + Copy>(
-    rt: &'f R,
+    rt: &R,
     alloc: A,
     settings: Settings,
     path: &'f str,
     existing: Existing,
-) -> Result<HillStore<'f, R, A>, HillTrouble<'f>>
+) -> Result<(), HillTrouble<'f>>
 where
     R::File: TryLock,
-    ensures { IfOk result (λ store. store.reopen ≡ false) }
 {
-    let sectors = sectors_for(settings.capacity());
-    let device = match HillFile::make(rt, alloc, path, sectors, existing) {
+    match name_beside(alloc, path) {
+        Ok(new) => create_beside(rt, alloc, settings, path, new.as_str(), existing),
+        Err(AllocError) => Err(HillTrouble::memory()),
+    }
+}
+
+/// The same with this name for the new file until then.
+fn create_beside<'f, R: Files, A: Allocator + Copy>(
+    rt: &R,
+    alloc: A,
+    settings: Settings,
+    path: &'f str,
+    new: &str,
+    existing: Existing,
+) -> Result<(), HillTrouble<'f>>
+where
+    R::File: TryLock,
+{
+    let place = match Place::take(rt, path, existing) {
+        Ok(place) => place,
+        Err(fault) => return Err(HillTrouble::unopened(path, fault)),
+    };
+    match create_new(rt, alloc, settings, path, new) {
+        Ok(()) => match place.fill(new) {
+            Ok(()) => Ok(()),
+            Err(fault) => Err(HillTrouble::unopened(path, fault)),
+        },
+        Err(trouble) => Err(trouble),
+    }
+}
+
+/// Creates the hill in a new file of the name `new`, for the place at this path. The file is removed if that fails.
+fn create_new<'f, R: Files, A: Allocator + Copy>(
+    rt: &R,
+    alloc: A,
+    settings: Settings,
+    path: &'f str,
+    new: &str,
+) -> Result<(), HillTrouble<'f>>
+where
+    R::File: TryLock,
+{
+    let device = match HillFile::make_new(rt, new, sectors_for(settings.capacity())) {
         Ok(device) => device,
         Err(fault) => return Err(HillTrouble::unopened(path, fault)),
     };
     match create_on(alloc, settings, device) {
-        Ok(store) => Ok(store),
-        Err(fault) => Err(HillTrouble::of(path, fault)),
+        Ok(_store) => Ok(()),
+        Err(fault) => {
+            let _ = rt.remove_file(new);
+            Err(HillTrouble::of(path, fault))
+        }
     }
 }
 

@@ -1,12 +1,65 @@
-//! Which warrior of a hill can't be read.
+//! Which warrior or header of a hill can't be read.
 
 ghost use Rattle.std.specs.Prelude.{◌≡◌, ◌≤◌};
+ghost use Rattle.koth_server.specs.Hills.{TellsNote};
 
 use hill_bytes::{Header, SECTORS, Slot, decode_header};
+use hill_file::{HillFile, Sharing, TryLock};
 use hill_images::sectors_for;
+use koth_commands::{Cause, Reason, tell_word};
 use sector_disk::Device;
 use std::alloc::{AllocError, Allocator};
+use std::io::Write;
+use std::rt::Files;
 use war_types::Settings;
+
+/// Reports that a header in the file at this path can't be read though it begins as one, if the hill is there by the other one.
+pub(crate) fn tell_lost_header<R: Files, A: Allocator, E: Write>(
+    rt: &R,
+    alloc: A,
+    path: &str,
+    errors: &mut E,
+)
+where
+    R::File: TryLock,
+    ensures { TellsNote (E.contents errors.old) (E.contents errors.new) }
+{
+    if has_lost_header(rt, path) {
+        tell_word(
+            alloc,
+            "NOTE",
+            Some(Cause::file(path, Reason::Header)),
+            errors,
+        );
+    }
+}
+
+/// Whether there is such a header. It is looked for twice, since a service may be writing it.
+fn has_lost_header<R: Files>(rt: &R, path: &str) -> bool
+where
+    R::File: TryLock,
+{
+    match HillFile::open(rt, path, Sharing::Shared) {
+        Ok(mut device) => is_header_lost(&mut device) && is_header_lost(&mut device),
+        Err(_) => false,
+    }
+}
+
+/// Whether one of the first two sectors holds a header, and the other one begins as a header does and holds none.
+fn is_header_lost<D: Device>(device: &mut D) -> bool {
+    match (header_at(device, 0), header_at(device, 1)) {
+        (Some(_), None) => begins_as_header(device, 1),
+        (None, Some(_)) => begins_as_header(device, 0),
+        _ => false,
+    }
+}
+
+fn begins_as_header<D: Device>(device: &mut D, n: u32) -> bool {
+    match sector(device, n) {
+        Some(bytes) => bytes.starts_with(b"KOTHHIL2"),
+        None => false,
+    }
+}
 
 /// The entry of the first warrior, in the order in which they entered, whose slot holds no warrior of this hill. `None` if all can be read,
 /// or if that can't be known: the device fails, memory runs out, or there is no header.

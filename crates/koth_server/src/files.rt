@@ -7,11 +7,16 @@ use crate::damage::damaged_entry;
 use crate::hill_fault::HillFault;
 use crate::old_hill::holds_old_hill;
 use crate::trouble::{HillTrouble, fault_of_refusal};
-use hill_file::{HillFile, Sharing, TryLock};
+use hill_file::{HillFile, Sharing, TryLock, require_held};
 use hill_store::{Refusal, Store};
 use sector_disk::{Device, Fault};
 use std::alloc::Allocator;
-use std::rt::Files;
+use std::rt::{Clock, Files};
+use std::thread::sleep;
+use std::time::Duration;
+
+/// How often a lock is tried again in a second.
+const TRIES: u64 = 20;
 
 /// A hill in a file.
 pub(crate) type HillStore<'f, R, A> = Store<HillFile<'f, R>, A>;
@@ -34,6 +39,48 @@ where
         },
         Err(fault) => Err(HillTrouble::unopened(path, fault)),
     }
+}
+
+/// Opens the hill in a file for this program alone, if the file's lock keeps all others out.
+pub(crate) fn open_alone<'f, R: Files, A: Allocator + Copy>(
+    rt: &'f R,
+    alloc: A,
+    path: &'f str,
+) -> Result<HillStore<'f, R, A>, HillTrouble<'f>>
+where
+    R::File: TryLock,
+    ensures { IfOk result (λ store. store.reopen ≡ false) }
+{
+    match open_hill(rt, alloc, path, Sharing::Alone) {
+        Ok(store) => match require_held(rt, path) {
+            Ok(()) => Ok(store),
+            Err(fault) => Err(HillTrouble::unopened(path, fault)),
+        },
+        Err(trouble) => Err(trouble),
+    }
+}
+
+/// Opens the hill in a file for this program alone. As long as another program has the lock of the file, that is tried again, for this
+/// number of seconds.
+pub(crate) fn open_within<'f, R: Files + Clock, A: Allocator + Copy>(
+    rt: &'f R,
+    alloc: A,
+    path: &'f str,
+    seconds: u32,
+) -> Result<HillStore<'f, R, A>, HillTrouble<'f>>
+where
+    R::File: TryLock,
+    ensures { IfOk result (λ store. store.reopen ≡ false) }
+{
+    for _ in 0..u64::from(seconds) * TRIES {
+        match open_hill(rt, alloc, path, Sharing::Alone) {
+            Err(trouble) if trouble.is_lock() => {
+                sleep(rt, Duration::from_millis(1000 / TRIES));
+            }
+            opened => return opened,
+        }
+    }
+    open_hill(rt, alloc, path, Sharing::Alone)
 }
 
 /// Why the hill in a file isn't opened. If a warrior in it can't be read, the file is read once more for which one it is.

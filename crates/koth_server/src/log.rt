@@ -211,7 +211,8 @@ impl<'r, R: Clock> Log<'r, R> {
             Some(_) => "",
             None => "; --http PORT shows it to browsers",
         };
-        format!(in alloc; "{} created {}{}\n", self.seconds(), service.hill, pages)
+        let hill = service.hill.escape_debug();
+        format!(in alloc; "{} created {}{}\n", self.seconds(), hill, pages)
     }
 
     fn address_line<A: Allocator>(

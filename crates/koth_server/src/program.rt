@@ -5,6 +5,7 @@ ghost use Rattle.{koth_commands.specs.Streams.streams, koth_server.specs.Run.{vi
 
 use crate::audit::audit;
 use crate::create::create;
+use crate::damage::tell_lost_header;
 use crate::migrate::migrate;
 use crate::page::page;
 use crate::serve::serve;
@@ -115,19 +116,29 @@ where
             errors,
         ),
         Request::Create(given, creation) => create(rt, alloc, given, creation, output, errors),
-        Request::Submit(files) => submit(
-            rt,
-            alloc,
-            files,
-            viewed(files.view, view),
-            output,
-            errors,
-        ),
-        Request::Show(shown) => show(rt, alloc, shown, viewed(shown.view, view), output, errors),
-        Request::Audit(file) => audit(rt, alloc, file, output, errors),
+        Request::Submit(files) => {
+            let view = viewed(files.view, view);
+            tell_lost_header(rt, alloc, files.hill, errors);
+            submit(rt, alloc, files, view, output, errors)
+        }
+        Request::Show(shown) => {
+            let view = viewed(shown.view, view);
+            tell_lost_header(rt, alloc, shown.hill, errors);
+            show(rt, alloc, shown, view, output, errors)
+        }
+        Request::Audit(file) => {
+            tell_lost_header(rt, alloc, file, errors);
+            audit(rt, alloc, file, output, errors)
+        }
         Request::Migrate(files) => migrate(rt, alloc, files, output, errors),
-        Request::Page(file) => page(rt, alloc, file, output, errors),
-        Request::Serve(given, ref service) => serve(rt, alloc, given, service, output, errors),
+        Request::Page(file) => {
+            tell_lost_header(rt, alloc, file, errors);
+            page(rt, alloc, file, output, errors)
+        }
+        Request::Serve(given, ref service) => {
+            tell_lost_header(rt, alloc, service.hill, errors);
+            serve(rt, alloc, given, service, output, errors)
+        }
         Request::Replay(given, watched) => replay(
             rt,
             alloc,

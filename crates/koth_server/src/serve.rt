@@ -5,7 +5,7 @@ ghost use Rattle.{war_types.specs.Settings.settings_of, koth_commands.specs.{Str
 ghost use Rattle.koth_server.specs.{Hills.{listening_line, Announces, AnnouncesPart, EndsServe, EndsService}, Pages.IsShown};
 
 use crate::create::create_hill;
-use crate::files::{HillStore, open_hill};
+use crate::files::{HillStore, open_alone, open_hill};
 use crate::hill_fault::HillFault;
 use crate::log::Log;
 use crate::pages::{links_for, page_shown};
@@ -186,18 +186,33 @@ where
     ensures open { IfOk result (λ store. store.reopen ≡ false) }
     ensures told { WritesSome (E.contents errors.old) (E.contents errors.new) }
 {
+    match create_if_asked(host, settings, service, errors) {
+        Ok(()) => open_alone(host.rt, host.alloc, host.path),
+        Err(trouble) => Err(trouble),
+    }
+}
+
+/// Creates the hill in the file if that is asked for and the file holds nothing, and reports that.
+fn create_if_asked<'f, R: Files + Clock, A: Allocator + Copy, E: LogWrite>(
+    host: &Hosting<'f, R, A>,
+    settings: Settings,
+    service: &'f Service<'f>,
+    errors: &mut E,
+) -> Result<(), HillTrouble<'f>>
+where
+    R::File: TryLock,
+    ensures { WritesSome (E.contents errors.old) (E.contents errors.new) }
+{
     if !service.create {
-        return open_hill(host.rt, host.alloc, host.path, Sharing::Alone);
+        return Ok(());
     }
     match create_hill(host.rt, host.alloc, settings, host.path, Existing::Kept) {
-        Ok(store) => {
+        Ok(()) => {
             host.log
                 .tell_created(host.alloc, service, settings.seed(), errors);
-            Ok(store)
+            Ok(())
         }
-        Err(trouble) if matches!(trouble.fault, HillFault::Occupied) => {
-            open_hill(host.rt, host.alloc, host.path, Sharing::Alone)
-        }
+        Err(trouble) if matches!(trouble.fault, HillFault::Occupied) => Ok(()),
         Err(trouble) => Err(trouble),
     }
 }

@@ -3,10 +3,10 @@
 ghost use Rattle.std.specs.Prelude.{◌≡◌, ◌≢◌, ◌⊎◌, [], false, None, IfSome};
 ghost use Rattle.{koth_views.specs.{Placing.placing_view, Roster.roster}, koth_commands.specs.Streams.streams, koth_server.specs.Hills.{EndsReply, EndsSubmission, EndsSubmit, ExplainsReply}};
 
-use crate::files::open_hill;
+use crate::files::open_within;
 use crate::reply_status::status_of;
 use crate::trouble::{HillTrouble, tell_output};
-use hill_file::{Sharing, TryLock};
+use hill_file::TryLock;
 use hill_store::{Reply, Store};
 use koth_commands::{Status, explain, read_source, write_both};
 use koth_hill::Hill;
@@ -16,13 +16,13 @@ use koth_words::{Submission, View};
 use sector_disk::Device;
 use std::alloc::{AllocError, Allocator};
 use std::io::Write;
-use std::rt::Files;
+use std::rt::{Clock, Files};
 use war_types::Settings;
 
 /// Submits the source in a file to the hill in another, and writes the reply. The hill is opened before the source is
-/// read. The reply to a warrior that is placed or falls is written once that is durable. After a refusal's line standard error gets the
+/// read. If another program has its lock, that is tried again for as long as the arguments say. The reply to a warrior that is placed or falls is written once that is durable. After a refusal's line standard error gets the
 /// place in the source and the reason.
-pub(crate) fn submit<R: Files, A: Allocator + Copy, O: Write, E: Write>(
+pub(crate) fn submit<R: Files + Clock, A: Allocator + Copy, O: Write, E: Write>(
     rt: &R,
     alloc: A,
     files: Submission<'_>,
@@ -37,7 +37,7 @@ where
         (streams None (O.contents output.new) (E.contents errors.new)) }
     ensures words { result ≢ Status.WordFault }
 {
-    match open_hill(rt, alloc, files.hill, Sharing::Alone) {
+    match open_within(rt, alloc, files.hill, files.wait) {
         Ok(mut store) => submit_file(rt, alloc, &mut store, files.source, view, output, errors),
         Err(trouble) => trouble.tell(alloc, errors),
     }

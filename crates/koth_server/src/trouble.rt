@@ -1,7 +1,7 @@
 //! Why a command on a hill was not carried out, what it worked on, and what is reported of it.
 
 ghost use Rattle.std.specs.Prelude.{◌≡◌, codes, option_map};
-ghost use Rattle.koth_commands.specs.{Cause.reason_told, Failure.{cause_of, failure_of, failure_word}, Told.{TellsCause, TellsWord}};
+ghost use Rattle.koth_commands.specs.{Cause.reason_told, Name.shown_name, Failure.{cause_of, failure_of, failure_word}, Told.{TellsCause, TellsWord}};
 ghost use Rattle.koth_server.specs.HillFault.{damage_told, fault_of_file, fault_of_refusal, fault_reason, open_reason, stream_failed, trouble_told};
 
 use crate::hill_fault::HillFault;
@@ -35,10 +35,21 @@ impl<'t> HillTrouble<'t> {
         self.fault.status()
     }
 
+    /// Whether it is that another program has the lock of a hill's file.
+    pub(crate) fn is_lock(&self) -> bool {
+        matches!(
+            self.cause,
+            Some(Cause {
+                reason: Reason::Locked,
+                ..
+            })
+        )
+    }
+
     /// This fault of the hill in a file.
     pub(crate) fn of(path: &'t str, fault: HillFault) -> HillTrouble<'t>
         ensures fault { result.fault ≡ fault }
-        ensures cause { trouble_told result ≡ Some (reason_told path.now (fault_reason fault)) }
+        ensures cause { trouble_told result ≡ Some (reason_told (shown_name path.now) (fault_reason fault)) }
     {
         HillTrouble {
             fault,
@@ -63,7 +74,7 @@ impl<'t> HillTrouble<'t> {
     /// A file that failed for this reason.
     pub(crate) fn file(path: &'t str, reason: Reason) -> HillTrouble<'t>
         ensures fault { result.fault ≡ stream_failed }
-        ensures cause { trouble_told result ≡ Some (reason_told path.now reason) }
+        ensures cause { trouble_told result ≡ Some (reason_told (shown_name path.now) reason) }
     {
         HillTrouble {
             fault: HillFault::Failed(Failure::Stream),
@@ -115,7 +126,7 @@ impl<'t> HillTrouble<'t> {
     /// A store refused the hill in a file.
     pub(crate) fn refused(path: &'t str, refusal: Refusal) -> HillTrouble<'t>
         ensures fault { result.fault ≡ fault_of_refusal refusal }
-        ensures cause { trouble_told result ≡ Some (reason_told path.now (fault_reason (fault_of_refusal refusal))) }
+        ensures cause { trouble_told result ≡ Some (reason_told (shown_name path.now) (fault_reason (fault_of_refusal refusal))) }
     {
         HillTrouble::of(path, fault_of_refusal(refusal))
     }
@@ -123,11 +134,11 @@ impl<'t> HillTrouble<'t> {
     /// A hill's file can't be worked on.
     pub(crate) fn unopened(path: &'t str, fault: OpenFault) -> HillTrouble<'t>
         ensures fault { result.fault ≡ fault_of_file fault }
-        ensures cause { trouble_told result ≡ option_map (λ reason. reason_told path.now reason) (open_reason fault) }
+        ensures cause { trouble_told result ≡ option_map (λ reason. reason_told (shown_name path.now) reason) (open_reason fault) }
     {
         match fault {
             OpenFault::Memory => HillTrouble::memory(),
-            OpenFault::Locked => HillTrouble::file(path, Reason::InUse),
+            OpenFault::Locked => HillTrouble::file(path, Reason::Locked),
             OpenFault::Occupied => HillTrouble::of(path, HillFault::Occupied),
             OpenFault::Failed(kind) => HillTrouble::file(path, reason_of(kind)),
         }

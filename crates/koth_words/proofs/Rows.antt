@@ -206,6 +206,15 @@ rounds : (number_or 1 (one_of (codes "round") (given_by (codes "koth" ∷ codes 
 unfolding clap_on_literals koth_app
 rounds = (refl, refl, refl)
 
+-- the seconds for which a submission waits, and none if that isn't asked for
+waits : (number_or 0 (one_of (codes "wait") (given_by (codes "koth" ∷ codes "submit" ∷ codes "a.hill" ∷ codes "a.red" ∷ codes "--wait=30" ∷ []))) ≡ 30)
+    × (number_or 0 (one_of (codes "wait") (given_by (codes "koth" ∷ codes "submit" ∷ codes "a.hill" ∷ codes "a.red" ∷ []))) ≡ 0)
+    × (takes koth_app (codes "koth" ∷ codes "submit" ∷ codes "a.hill" ∷ codes "a.red" ∷ codes "--wait=0" ∷ []) ≡ false)
+    × (takes koth_app (codes "koth" ∷ codes "submit" ∷ codes "a.hill" ∷ codes "a.red" ∷ codes "--wait=3601" ∷ []) ≡ false)
+    × (takes koth_app (codes "koth" ∷ codes "audit" ∷ codes "a.hill" ∷ codes "--wait=1" ∷ []) ≡ false)
+unfolding clap_on_literals koth_app
+waits = (refl, refl, refl, refl, refl)
+
 -- no peers, peers past the greatest, in all or of one address, a port past the greatest, no rounds or rounds past the greatest, and a round of a command that shows none are not taken
 ranges : (takes koth_app (codes "koth" ∷ codes "serve" ∷ codes "a.hill" ∷ codes "--port=0" ∷ codes "--peers=0" ∷ []) ≡ false)
     × (takes koth_app (codes "koth" ∷ codes "serve" ∷ codes "a.hill" ∷ codes "--port=0" ∷ codes "--peers=1025" ∷ []) ≡ false)

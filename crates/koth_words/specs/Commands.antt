@@ -58,7 +58,7 @@ abbrev pub create_app : App
 create_app = with_settings (with_flag (with_flag (with_file (new_app (codes "create")) (codes "FILE")) (codes "overwrite")) (codes "draw-seed"))
 
 abbrev pub submit_app : App
-submit_app = with_view (with_file (with_file (new_app (codes "submit")) (codes "FILE")) (codes "SOURCE"))
+submit_app = with_view (with_ranged (with_file (with_file (new_app (codes "submit")) (codes "FILE")) (codes "SOURCE")) (codes "wait") 1 3600)
 
 abbrev pub show_app : App
 show_app = with_view (with_flag (with_file (new_app (codes "show")) (codes "FILE")) (codes "matches"))

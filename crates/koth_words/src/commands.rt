@@ -84,7 +84,9 @@ fn submit_command<'a>(heap: Global) -> Result<Command<'a>, AllocError>
     let hill = file(heap, "FILE", "Hill file");
     let source = file(heap, "SOURCE", "File of the warrior's source");
     let command = with_arg(Ok(described(heap, "submit", about)), hill);
-    with_view(heap, with_arg(command, source))
+    let help = "Seconds to wait if another program has the hill's lock, 1 to 3600 [default: none]";
+    let wait = ranged(heap, "wait", 1, 3600, help);
+    with_view(heap, with_arg(with_arg(command, source), wait))
 }
 
 fn show_command<'a>(heap: Global) -> Result<Command<'a>, AllocError>

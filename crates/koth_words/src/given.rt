@@ -134,11 +134,13 @@ pub(crate) fn submission_named<'w>(matches: &ArgMatches<'w>) -> Submission<'w>
     ensures hill { result.hill.now ≡ text_or_none (first_of (codes "FILE") (rows_of (found_of matches.now))) }
     ensures source { result.source.now ≡ text_or_none (first_of (codes "SOURCE") (rows_of (found_of matches.now))) }
     ensures view { result.view ≡ view_in (rows_of (found_of matches.now)) }
+    ensures wait { result.wait ≡ number_or 0 (one_of (codes "wait") (rows_of (found_of matches.now))) }
 {
     Submission {
         hill: file_named(matches, "FILE"),
         source: file_named(matches, "SOURCE"),
         view: view_given(matches),
+        wait: number_given(matches, "wait", 0),
     }
 }
 

@@ -107,6 +107,8 @@ pub struct Submission<'w> {
     pub source: &'w str,
     /// The layout that is asked for, if one is.
     pub view: Option<View>,
+    /// Seconds for which the hill's lock is tried again if another program has it, at most 3,600; 0 if that isn't asked for.
+    pub wait: u32,
 }
 
 /// The file of a hill, and what is written of it.

@@ -2,6 +2,8 @@
 
 use crate::compare::{expect, expect_number, expect_same_bytes};
 use std::fs;
+use std::fs::Permissions;
+use std::os::unix::fs::{MetadataExt, PermissionsExt};
 use std::process::Abort;
 use std::rt::Files;
 
@@ -73,6 +75,35 @@ pub(crate) fn put_result(
     put_byte(rt, bytes.as_mut_slice(), 9 * 512 + 391, younger);
     put_bytes(rt, file, bytes.as_slice());
     drop(bytes);
+}
+
+/// Puts another byte into a file, at this place.
+pub(crate) fn put_one_byte(
+    rt: &(impl Abort + Files + AllocGlobal),
+    file: &str,
+    at: usize,
+    byte: u8,
+) {
+    let mut bytes = read(rt, file);
+    put_byte(rt, bytes.as_mut_slice(), at, byte);
+    put_bytes(rt, file, bytes.as_slice());
+    drop(bytes);
+}
+
+/// Makes a link to a path.
+pub(crate) fn link(rt: &(impl Abort + Files), file: &str, to: &str) {
+    rt.symlink(to, file).expect(rt, "it is made");
+}
+
+/// Gives a file this mode.
+pub(crate) fn set_mode(rt: &(impl Abort + Files), file: &str, mode: u32) {
+    fs::set_permissions(rt, file, Permissions::from_mode(mode)).expect(rt, "it is set");
+}
+
+/// It is a file and no link, and only its owner may read and write it.
+pub(crate) fn expect_private(rt: &(impl Abort + Files), file: &str) {
+    let found = fs::symlink_metadata(rt, file).expect(rt, "it is there");
+    expect_number(rt, u64::from(found.mode()), 0o100600, file);
 }
 
 /// Puts another byte in the place of this one.

@@ -2,7 +2,8 @@
 
 use crate::compare::expect;
 use crate::files::{
-    exists, expect_bytes, expect_length, expect_old_hill, put, put_old_hill, put_result, remove,
+    exists, expect_bytes, expect_length, expect_old_hill, expect_private, link, put, put_old_hill,
+    put_one_byte, put_result, remove, set_mode,
 };
 use crate::program::{Host, check, check_told, expect_done, run_line, text_in};
 use crate::words::{check_fault, check_help, check_options};
@@ -18,6 +19,12 @@ pub(crate) enum Step {
     PutOldHill(&'static str),
     /// Another result is put into the file of a hill: the rounds that the older won, and the younger.
     PutResult(&'static str, u8, u8),
+    /// A link to the second path is made at the first one.
+    Link(&'static str, &'static str),
+    /// A file gets this mode.
+    SetMode(&'static str, u32),
+    /// Another byte is put into a file, at this place.
+    PutByte(&'static str, usize, u8),
     /// A file is removed.
     Remove(&'static str),
     /// A file has this text.
@@ -26,6 +33,8 @@ pub(crate) enum Step {
     OldHill(&'static str),
     /// A file has this length.
     Length(&'static str, u64),
+    /// It is a file and no link, and only its owner may read and write it.
+    Private(&'static str),
     /// A file is not there.
     Missing(&'static str),
     /// Words, what they write, the word that they tell, and their status, as `check` has them.
@@ -76,10 +85,14 @@ fn act(rt: &(impl Abort + Host), step: Step) {
         Step::Put(file, text) => put(rt, file, text),
         Step::PutOldHill(file) => put_old_hill(rt, file),
         Step::PutResult(file, older, younger) => put_result(rt, file, older, younger),
+        Step::Link(file, to) => link(rt, file, to),
+        Step::SetMode(file, mode) => set_mode(rt, file, mode),
+        Step::PutByte(file, at, byte) => put_one_byte(rt, file, at, byte),
         Step::Remove(file) => remove(rt, file),
         Step::Text(file, text) => expect_bytes(rt, file, text.as_bytes()),
         Step::OldHill(file) => expect_old_hill(rt, file),
         Step::Length(file, length) => expect_length(rt, file, length),
+        Step::Private(file) => expect_private(rt, file),
         Step::Missing(file) => expect_missing(rt, file),
         Step::Run(line, output, word, status) => check(rt, line, output, word, status),
         Step::Tell(line, view, output, errors, status) => {

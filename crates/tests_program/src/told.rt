@@ -124,12 +124,14 @@ const MADE: [Step; 1] = steps! {
 };
 
 /// What is told of a hill that another program uses.
-const IN_USE: &str = "DISK told_lock.hill: another program uses it\n";
+const IN_USE: &str =
+    "DISK told_lock.hill: another program uses it; koth submit --wait SECONDS waits for it\n";
 
 /// What is done while it is used.
-const USED: [Step; 6] = steps! {
+const USED: [Step; 7] = steps! {
     Tell("koth audit told_lock.hill", View::Table, "", IN_USE, 3);
     Tell("koth submit told_lock.hill x", View::Table, "", IN_USE, 3);
+    Tell("koth submit told_lock.hill x --wait 1", View::Table, "", IN_USE, 3);
     Tell("koth create told_lock.hill --overwrite", View::Table, "", IN_USE, 3);
     Tell("koth serve told_lock.hill --port 0", View::Table, "", IN_USE, 3);
     Tell("koth serve told_lock.hill --port 0 --create", View::Table, "", IN_USE, 3);

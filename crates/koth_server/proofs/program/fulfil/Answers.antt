@@ -30,19 +30,19 @@ returns-in-Create g c =
 pub returns-in-Submit : goal.returns-in-Submit
 returns-in-Submit g c =
     let after = streams (g.I.Read.remaining c.args.input.now) (g.O.Write.contents c.submit.new.output) (g.E.Write.contents c.submit.new.errors) in
-    let ends = rw c.viewed-in-Submit.ensures at c.submit.ensures.ends in
-    request_ends _ _ _ _ _ after c.in-Submit.is ends c.submit.ensures.words
+    let ends = rw c.viewed-in-Submit-view.ensures at c.submit.ensures.ends in
+    request_ends _ _ _ _ _ after c.in-Submit.is (_, c.tell_lost_header-in-Submit.ensures, ends) c.submit.ensures.words
 
 pub returns-in-Show : goal.returns-in-Show
 returns-in-Show g c =
     let after = streams (g.I.Read.remaining c.args.input.now) (g.O.Write.contents c.show.new.output) (g.E.Write.contents c.show.new.errors) in
-    let ends = rw c.viewed-in-Show.ensures at c.show.ensures.ends in
-    request_ends _ _ _ _ _ after c.in-Show.is ends c.show.ensures.words
+    let ends = rw c.viewed-in-Show-view.ensures at c.show.ensures.ends in
+    request_ends _ _ _ _ _ after c.in-Show.is (_, c.tell_lost_header-in-Show.ensures, ends) c.show.ensures.words
 
 pub returns-in-Audit : goal.returns-in-Audit
 returns-in-Audit g c =
     let after = streams (g.I.Read.remaining c.args.input.now) (g.O.Write.contents c.audit.new.output) (g.E.Write.contents c.audit.new.errors) in
-    request_ends _ _ _ _ _ after c.in-Audit.is c.audit.ensures.ends c.audit.ensures.words
+    request_ends _ _ _ _ _ after c.in-Audit.is (_, c.tell_lost_header-in-Audit.ensures, c.audit.ensures.ends) c.audit.ensures.words
 
 pub returns-in-Migrate : goal.returns-in-Migrate
 returns-in-Migrate g c =
@@ -52,12 +52,12 @@ returns-in-Migrate g c =
 pub returns-in-Page : goal.returns-in-Page
 returns-in-Page g c =
     let after = streams (g.I.Read.remaining c.args.input.now) (g.O.Write.contents c.page.new.output) (g.E.Write.contents c.page.new.errors) in
-    request_ends _ _ _ _ _ after c.in-Page.is c.page.ensures.ends c.page.ensures.words
+    request_ends _ _ _ _ _ after c.in-Page.is (_, c.tell_lost_header-in-Page.ensures, c.page.ensures.ends) c.page.ensures.words
 
 pub returns-in-Serve : goal.returns-in-Serve
 returns-in-Serve g c =
     let after = streams (g.I.Read.remaining c.args.input.now) (g.O.Write.contents c.serve.new.output) (g.E.Write.contents c.serve.new.errors) in
-    request_ends _ _ _ _ _ after c.in-Serve.is c.serve.ensures.ends c.serve.ensures.words
+    request_ends _ _ _ _ _ after c.in-Serve.is (_, c.tell_lost_header-in-Serve.ensures, c.serve.ensures.ends) c.serve.ensures.words
 
 pub returns-in-Replay : goal.returns-in-Replay
 returns-in-Replay g c =
