@@ -5,10 +5,12 @@ ghost use Rattle.{hill_store.specs.Opened.IsOpened, koth_server.specs.OldHill.{I
 
 use crate::damage::damaged_entry;
 use crate::hill_fault::HillFault;
+use crate::left::is_another_hill;
 use crate::old_hill::holds_old_hill;
 use crate::trouble::{HillTrouble, fault_of_refusal};
-use hill_file::{HillFile, Sharing, TryLock, require_held};
+use hill_file::{Headers, HillFile, Sharing, TryLock, require_held};
 use hill_store::{Refusal, Store};
+use koth_commands::Reason;
 use sector_disk::{Device, Fault};
 use std::alloc::Allocator;
 use std::rt::{Clock, Files};
@@ -81,6 +83,32 @@ where
         }
     }
     open_hill(rt, alloc, path, Sharing::Alone)
+}
+
+/// Opens the hill in a file again, which a device has left with these headers. If another hill is there, or an earlier state of that one, nothing
+/// is written, and another program is said to use the file.
+pub(crate) fn reopen_hill<'f, R: Files, A: Allocator + Copy>(
+    rt: &'f R,
+    alloc: A,
+    path: &'f str,
+    left: &Headers,
+) -> Result<HillStore<'f, R, A>, HillTrouble<'f>>
+where
+    R::File: TryLock,
+    ensures { IfOk result (λ store. store.reopen ≡ false) }
+{
+    match HillFile::open(rt, path, Sharing::Alone) {
+        Ok(device) => {
+            if is_another_hill(left, &device.settled()) {
+                return Err(HillTrouble::file(path, Reason::InUse));
+            }
+            match open_on(alloc, device) {
+                Ok(store) => Ok(store),
+                Err(fault) => Err(trouble_of_opening(rt, alloc, path, fault)),
+            }
+        }
+        Err(fault) => Err(HillTrouble::unopened(path, fault)),
+    }
 }
 
 /// Why the hill in a file isn't opened. If a warrior in it can't be read, the file is read once more for which one it is.

@@ -26,6 +26,7 @@ mod create;
 mod damage;
 mod files;
 mod hill_fault;
+mod left;
 mod log;
 mod migrate;
 mod old_hill;

@@ -5,12 +5,12 @@ ghost use Rattle.{war_types.specs.Settings.settings_of, koth_commands.specs.{Str
 ghost use Rattle.koth_server.specs.{Hills.{listening_line, Announces, AnnouncesPart, EndsServe, EndsService}, Pages.IsShown};
 
 use crate::create::create_hill;
-use crate::files::{HillStore, open_alone, open_hill};
+use crate::files::{HillStore, open_alone, reopen_hill};
 use crate::hill_fault::HillFault;
 use crate::log::Log;
 use crate::pages::{links_for, page_shown};
 use crate::trouble::HillTrouble;
-use hill_file::{Existing, HillFile, Sharing, TryLock};
+use hill_file::{Existing, Headers, HillFile, Sharing, TryLock};
 use koth_commands::{Cause, Failure, Status, Subject, reason_of, refuse_settings, write_whole};
 use koth_http::Page;
 use koth_page::Links;
@@ -19,6 +19,7 @@ use koth_service::{Event, Host, LogWrite, ServiceFault, serve_peers};
 use koth_sockets::PolledSockets;
 use koth_words::Service;
 use std::alloc::{AllocError, Allocator};
+use std::cell::Cell;
 use std::io;
 use std::io::{ErrorKind, Write};
 use std::net::{Net, SocketAddr};
@@ -38,6 +39,8 @@ struct Hosting<'f, R, A> {
     links: Links,
     names: &'f [&'f str],
     steps: u32,
+    /// The headers with which the hill was left when its device failed.
+    left: Cell<Headers>,
 }
 
 impl<'f, R: Files + Clock, A: Allocator + Copy> Host<HillFile<'f, R>, A> for Hosting<'f, R, A>
@@ -48,10 +51,12 @@ where
 
     ghost shows = { λ host store. record { names = map (λ name. name.now) host.names.now; pages = λ page text. IsShown host.links store.hill page text; steps = host.steps } };
 
-    /// The file is closed first, since it is locked while it is open.
+    /// The file is closed first, since it is locked while it is open. If another hill is in it then, that isn't opened.
     fn reopen(&self, device: HillFile<'f, R>) -> Result<HillStore<'f, R, A>, HillFault> {
+        let left = device.settled();
+        self.left.set(left);
         drop(device);
-        match open_hill(self.rt, self.alloc, self.path, Sharing::Alone) {
+        match reopen_hill(self.rt, self.alloc, self.path, &left) {
             Ok(store) => Ok(store),
             Err(trouble) => Err(trouble.fault),
         }
@@ -129,6 +134,7 @@ where
         links: links_for(service.replays),
         names: service.hosts.as_slice(),
         steps: service.steps,
+        left: Cell::new(Headers::ZEROS),
     };
     let (store, mut sockets) = match begin(&host, settings, service, output, errors) {
         Ok(begun) => begun,
@@ -313,7 +319,7 @@ fn trouble_at<'f, R: Files + Clock, A: Allocator + Copy>(
 where
     R::File: TryLock,
 {
-    open_hill(host.rt, host.alloc, host.path, Sharing::Alone)
+    reopen_hill(host.rt, host.alloc, host.path, &host.left.get())
         .err()
         .unwrap_or(HillTrouble::of(host.path, fault))
 }

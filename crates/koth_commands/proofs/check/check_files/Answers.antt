@@ -2,9 +2,6 @@
 use Rattle.{std.proofs.{Common.{inl, rules, length}, KnownBytes.Keeps-refl}, koth_commands.proofs.Checked.{all_checked, failed_check, one_checked, warns_more}}
 use Rattle.koth_commands.proofs.check.check_files.Goals as goal
 
-pub loop-path-init-field-warned : goal.loop-path-init-field-warned
-loop-path-init-field-warned g c = inl (Keeps-refl _)
-
 pub returns-in-Err : goal.returns-in-Err
 returns-in-Err g c =
     let begun = g.E.Write.contents c.args.errors.now in

@@ -30,13 +30,13 @@ returns-in-Create g c =
 pub returns-in-Submit : goal.returns-in-Submit
 returns-in-Submit g c =
     let after = streams (g.I.Read.remaining c.args.input.now) (g.O.Write.contents c.submit.new.output) (g.E.Write.contents c.submit.new.errors) in
-    let ends = rw c.viewed-in-Submit-view.ensures at c.submit.ensures.ends in
-    request_ends _ _ _ _ _ after c.in-Submit.is (_, c.tell_lost_header-in-Submit.ensures, ends) c.submit.ensures.words
+    let ends = rw c.viewed-view.ensures at c.submit.ensures.ends in
+    request_ends _ _ _ _ _ after c.in-Submit.is (_, c.tell_lost_header.ensures, ends) c.submit.ensures.words
 
 pub returns-in-Show : goal.returns-in-Show
 returns-in-Show g c =
     let after = streams (g.I.Read.remaining c.args.input.now) (g.O.Write.contents c.show.new.output) (g.E.Write.contents c.show.new.errors) in
-    let ends = rw c.viewed-in-Show-view.ensures at c.show.ensures.ends in
+    let ends = rw c.viewed-view-in-Show.ensures at c.show.ensures.ends in
     request_ends _ _ _ _ _ after c.in-Show.is (_, c.tell_lost_header-in-Show.ensures, ends) c.show.ensures.words
 
 pub returns-in-Audit : goal.returns-in-Audit
