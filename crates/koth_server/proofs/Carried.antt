@@ -166,7 +166,7 @@ module _ (i o p e f : Option (List ℕ)) (kept : Keeps o p) (told : TellsWord (f
 
   check_no_memory : (count : ℕ) (r : Result RawSettings SettingsFault) → EndsCheck count r NoMemory (streams None o e) (streams None p f)
   check_no_memory count r = given_no_memory None o p e f kept told (λ s end u v. EndsCheckUnder s count end u.output v.output u.errors v.errors) r
-      (λ s. (keeps_some o p kept, told))
+      (λ s. (keeps_some o p kept, (e, inl (Keeps-refl e), told)))
 
   fight_no_memory : (view : View) (r : Result RawSettings SettingsFault) → EndsFight view r NoMemory (streams None o e) (streams None p f)
   fight_no_memory view r = given_no_memory None o p e f kept told (λ s end u v. EndsFightUnder s view end u.output v.output u.errors v.errors) r
