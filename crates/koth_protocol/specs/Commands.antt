@@ -54,9 +54,6 @@ abbrev pub commands_read : Reader → List ℕ → List Command
 commands_read reader bytes = read_from reader None (lines_of bytes)
 
 -- as a session reads them
-abbrev pub commands_from : Option (List ℕ) → List (List ℕ) → List Command
-commands_from source lines = read_from Reader.Session source lines
-
 abbrev pub commands_of : List ℕ → List Command
 commands_of bytes = commands_read Reader.Session bytes
 

@@ -7,9 +7,6 @@ pub record NumberedLine : Type 0 where
   pub number : ℕ
   pub text : List ℕ
 
-abbrev pub numbered_line : ℕ → List ℕ → NumberedLine
-numbered_line number text = record { number = number; text = text }
-
 -- a byte before the first of these lines
 abbrev pub onto_first : ℕ → List (List ℕ) → List (List ℕ)
 onto_first b [] = (b ∷ []) ∷ []
