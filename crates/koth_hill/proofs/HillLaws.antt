@@ -1,18 +1,69 @@
 -- The laws of hills.
-use Rattle.{std.proofs.Common.{◌≡◌, ℕ, ◌+◌, ◌<◌, ◌≤◌, ◌⊎◌, inl, inr, true, false, List, [], ◌∷◌, length, refl, sym, ap, subst, ◌∙◌, arith, Option, None, Some}, std.specs.Prelude.if◌then◌else◌}
-use Rattle.{std.proofs.lemmas.Bool.{cond-true, cond-false, cases_lt, cases_Bool, ne_eqb}, war_types.specs.Warrior.WarriorParts, koth_hill.specs.declared.score.Score.Score}
+use Rattle.{std.proofs.Common.{◌≡◌, ℕ, ◌+◌, ◌<◌, ◌≤◌, ◌⊎◌, inl, inr, true, false, Bool, List, [], ◌∷◌, ◌++◌, length, map, zero, suc, refl, sym, ap, subst, ◌∙◌, arith, Option, None, Some}, std.specs.Prelude.{◌==◌, if◌then◌else◌}}
+use Rattle.{std.proofs.lemmas.Bool.{cond-true, cond-false, cases_lt, cases_Bool, eq-eqb, ne_eqb}, war_types.specs.Warrior.WarriorParts, koth_hill.specs.declared.score.Score.Score}
 use Rattle.koth_hill.specs.{declared.verdict.Verdict.Verdict, Hill.{Member, Hill, Results, with_age, fights, RiseFrom, IsHill, points}, Scores.{score_of, scores_of, rank_among}}
-use Rattle.koth_hill.specs.{Table.{RowParts, table}, Step.{challenger, enlarged, falling_by, falling, is_entry, without, one_older, stays, after_stay, step, verdict, matches_with}}
-use Rattle.{koth_hill.specs.Laws.{In, IsRanking, IsLeast, WasAged, LeastFalls, OthersStay}, koth_hill.proofs.{Members.older, Verdicts.{step-stays, step-falls, judged-falls}}}
+use Rattle.koth_hill.specs.{Table.{RowParts, row_with, rows_of_rank, rows_by_rank, table}, Step.{challenger, enlarged, falling_by, falling, is_entry, without, one_older, stays, after_stay, step, verdict, matches_with}}
+use Rattle.{koth_hill.specs.Laws.{In, InRows, IsRanking, IsLeast, WasAged, LeastFalls, OthersStay}, koth_hill.proofs.{Members.older, Verdicts.{step-stays, step-falls, judged-falls}}}
 use Rattle.koth_hill.proofs.{Order.{InScores, above-cases, above-lower, rank-most, rank-one}, Counted.one-of_rank, Scored.{scores-rising, scores-length, In-scores, table-length, table-sorted}}
 use Rattle.koth_hill.proofs.{Agrees.In-left, Admitted.{In-push, without-In, IsLast, last_among-some, enlarged-rising, falling-one, falling-room, falling-last}}
 
 -- ---- tables
 
+no-room : (r k : ℕ) → r ≤ k → k < r + 0 → ⊥
+no-room r k least below = omega (arith, least, below)
+
+InRows-left : (xs ys : List RowParts) (row : RowParts) → InRows row xs → InRows row (xs ++ ys)
+InRows-left [] ys row here = absurd here
+InRows-left (x ∷ xs) ys row (inl same) = inl same
+InRows-left (x ∷ xs) ys row (inr later) = inr (InRows-left xs ys row later)
+
+InRows-right : (xs ys : List RowParts) (row : RowParts) → InRows row ys → InRows row (xs ++ ys)
+InRows-right [] ys row here = here
+InRows-right (x ∷ xs) ys row here = inr (InRows-right xs ys row here)
+
+module _ (f : Results) (whole : List Member) (m : Member) where
+  abbrev all : List Score
+  all = scores_of f whole
+
+  abbrev row : RowParts
+  row = row_with (points f whole m) m
+
+  -- a member's row is among those of its rank
+  in-rank : (ms : List Member) (r : ℕ) → In m ms → rank_among all (score_of f whole m) ≡ r → InRows row (rows_of_rank all r ms (map (score_of f whole) ms))
+  in-rank [] r here is = absurd here
+  in-rank (x ∷ ms) r here is =
+      let later : List RowParts = rows_of_rank all r ms (map (score_of f whole) ms) in
+      let first : List RowParts = row_with (points f whole x) x ∷ later in
+      let b : Bool = rank_among all (score_of f whole x) == r in
+      elim here [
+        | inl same ↦
+            let P : Member → Type 0 = λ y. InRows row (if rank_among all (score_of f whole y) == r then row_with (points f whole y) y ∷ later else later) in
+            subst P same (subst (InRows row) (sym (cond-true (rank_among all (score_of f whole m) == r) (row ∷ later) later (eq-eqb _ r is))) (inl refl))
+        | inr more ↦
+            let kept : InRows row later = in-rank ms r more is in
+            elim (cases_Bool b) [
+              | inl so ↦ subst (InRows row) (sym (cond-true b first later so)) (inr kept)
+              | inr other ↦ subst (InRows row) (sym (cond-false b first later other)) kept
+            ]
+      ]
+
+  -- and so among those of all ranks from one on that reach it
+  in-ranks : (n r : ℕ) → In m whole → r ≤ rank_among all (score_of f whole m) → rank_among all (score_of f whole m) < r + n → InRows row (rows_by_rank all whole r n)
+  in-ranks zero r here least below = absurd (no-room r (rank_among all (score_of f whole m)) least below)
+  in-ranks (suc n) r here least below = elim (cases_lt r (rank_among all (score_of f whole m))) [
+    | inl less ↦ InRows-right (rows_of_rank all r whole all) (rows_by_rank all whole (r + 1) n) row (in-ranks n (r + 1) here (omega (arith, less)) (omega (arith, below)))
+    | inr most ↦ InRows-left (rows_of_rank all r whole all) (rows_by_rank all whole (r + 1) n) row (in-rank whole r here (omega (arith, least, most)))
+  ]
+
 table-ranking : (h : Hill) → IsHill h → IsRanking h (table h)
 unfolding table
 table-ranking h is = record {
   each = table-length (fights h.settings) h.members;
+  members = λ m here.
+      let score : Score = score_of (fights h.settings) h.members m in
+      let most : rank_among (scores_of (fights h.settings) h.members) score ≤ length (scores_of (fights h.settings) h.members) =
+      rank-most (scores_of (fights h.settings) h.members) score (In-scores (fights h.settings) h.members m here) in
+      in-ranks (fights h.settings) h.members m (length h.members) 1 here (omega arith) (omega (arith, most, scores-length (fights h.settings) h.members));
   sorted = table-sorted (fights h.settings) h.members is.rising;
   ranks = λ r least most. one-of_rank (scores_of (fights h.settings) h.members) r (scores-rising (fights h.settings) h.members is.rising) least
       (omega (arith, most, scores-length (fights h.settings) h.members));

@@ -1,7 +1,7 @@
 -- Laws of hills, for every hill and every warrior.
 use Rattle.std.specs.Prelude.{◌≡◌, ℕ, ◌+◌, ◌<◌, ◌≤◌, ◌⊎◌, if◌then◌else◌, List, [], ◌∷◌, length, Option, Some, None}
 use Rattle.war_types.specs.Warrior.{WarriorParts}
-use Rattle.koth_hill.specs.{Hill.{Member, Hill, with_age, fights, points}, Scores.{scores_of, of_rank}, Table.RowParts, Step.{challenger, enlarged, falling, stays}}
+use Rattle.koth_hill.specs.{Hill.{Member, Hill, with_age, fights, points}, Scores.{scores_of, of_rank}, Table.{RowParts, row_with}, Step.{challenger, enlarged, falling, stays}}
 
 -- one of these members
 abbrev pub In : Member → List Member → Type 0
@@ -23,10 +23,17 @@ abbrev pub AreSorted : List RowParts → Type 0
 AreSorted [] = Unit {0}
 AreSorted (x ∷ xs) = AreAfter x xs × AreSorted xs
 
+-- one of these rows
+abbrev pub InRows : RowParts → List RowParts → Type 0
+InRows row [] = ⊥
+InRows row (x ∷ xs) = (row ≡ x) ⊎ InRows row xs
+
 -- the lines of a hill's table are a ranking
 pub record IsRanking (h : Hill) (rows : List RowParts) : Type 0 where
-  -- a row for each member
+  -- as many rows as members
   pub each : length rows ≡ length h.members
+  -- and each member's is among them, with its points
+  pub members : (m : Member) → In m h.members → InRows (row_with (points (fights h.settings) h.members m) m) rows
   -- each before all that follow it
   pub sorted : AreSorted rows
   -- and of each rank from 1 to the number of members there is one member
