@@ -2,3 +2,5 @@
 pub mod OfSystem
 -- what a careful device has done, step by step: for each of its functions
 pub mod Steps
+-- zeros that are read one part after another
+mod Taken

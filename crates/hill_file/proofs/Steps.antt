@@ -52,7 +52,7 @@ module _ {F : Type 0} (happened : F → List Done → Type 0) (start : Opening) 
   pub read_on : {T E : Type 0} (device : CarefulDevice F) (file : F) (faults n : ℕ) (content : List ℕ) (result : Result T E)
       → Reads happened n device.file content result file → HasDone happened start device log
       → HasGone (IsRead n content result start log)
-      (record { file = file; sectors = device.sectors; known = device.known; doubt = device.doubt; faults = faults })
+      (record { file = file; sectors = device.sectors; known = device.known; settled = device.settled; doubt = device.doubt; faults = faults })
   read_on device file faults n content (Ok value) reads on =
       (Done.Read n content ∷ [], refl, record { history = reads log on.history; known = on.known; careful = on.careful; sure = on.sure })
   read_on device file faults n content (Err error) reads on =
@@ -102,24 +102,14 @@ module _ {F : Type 0} (happened : F → List Done → Type 0) (start : Opening) 
       → HasGone (IsSync sectors result start log) device
   unlooked sectors device result done err is on = (done, (look_as_read done is, at_err _ result err tt), on)
 
-  -- not every sector was written again
-  pub unwritten : {T E : Type 0} (sectors : ℕ) (device : CarefulDevice F) (result : Result T E) (headers : Headers) (done : List Done) → IsErr result
+  -- one of the steps after that look failed
+  pub broken_off : {T E : Type 0} (sectors : ℕ) (device : CarefulDevice F) (result : Result T E) (headers : Headers) (done : List Done) → IsErr result
       → IsAsRead done → HasDone happened start device (done ++ Done.Looked headers ∷ log)
       → HasGone (IsSync sectors result start log) device
-  unwritten sectors device result headers done err is on = (
+  broken_off sectors device result headers done err is on = (
     done ++ Done.Looked headers ∷ [],
     (as_read_looked done headers is, at_err _ result err tt),
     subst (λ xs. HasDone happened start device xs) (whole done headers) on,
-  )
-
-  -- the sync of the file failed
-  pub unsynced : {T E : Type 0} (sectors : ℕ) (device : CarefulDevice F) (result : Result T E) (headers : Headers) (done : List Done) → IsErr result
-      → IsAsRead done → HasDone happened start device (Done.Unsynced ∷ (done ++ Done.Looked headers ∷ log))
-      → HasGone (IsSync sectors result start log) device
-  unsynced sectors device result headers done err is on = (
-    Done.Unsynced ∷ (done ++ Done.Looked headers ∷ []),
-    (as_read_looked done headers is, at_err _ result err tt),
-    subst (λ xs. HasDone happened start device (Done.Unsynced ∷ xs)) (whole done headers) on,
   )
 
   -- the last look, in whatever way it came out
@@ -140,15 +130,9 @@ module _ {F : Type 0} (happened : F → List Done → Type 0) (start : Opening) 
     subst (λ xs. HasDone happened start device (Done.Looked (remembered start (done ++ Done.Looked headers ∷ log)) ∷ Done.Synced ∷ xs)) (whole done headers)
         (subst (λ xs. HasDone happened start device (xs ++ Done.Synced ∷ (done ++ Done.Looked headers ∷ log))) looked on),
   )
-  synced sectors device (Err error) headers done last is sure (inl looked) on = (
-    Done.Synced ∷ (done ++ Done.Looked headers ∷ []),
-    (as_read_looked done headers is, tt),
-    subst (λ xs. HasDone happened start device (Done.Synced ∷ xs)) (whole done headers)
-        (subst (λ xs. HasDone happened start device (xs ++ Done.Synced ∷ (done ++ Done.Looked headers ∷ log))) looked on),
-  )
-  synced sectors device (Err error) headers done last is sure (inr (found, looked)) on = (
-    Done.Looked found ∷ Done.Synced ∷ (done ++ Done.Looked headers ∷ []),
-    (as_read_looked done headers is, tt),
-    subst (λ xs. HasDone happened start device (Done.Looked found ∷ Done.Synced ∷ xs)) (whole done headers)
-        (subst (λ xs. HasDone happened start device (xs ++ Done.Synced ∷ (done ++ Done.Looked headers ∷ log))) looked on),
-  )
+  synced {T = T} {E = E} sectors device (Err error) headers done last is sure (inl looked) on =
+      broken_off {T = T} {E = E} sectors device (Err error) headers (Done.Synced ∷ done) refl is
+      (subst (λ xs. HasDone happened start device (xs ++ Done.Synced ∷ (done ++ Done.Looked headers ∷ log))) looked on)
+  synced {T = T} {E = E} sectors device (Err error) headers done last is sure (inr (found, looked)) on =
+      broken_off {T = T} {E = E} sectors device (Err error) headers (Done.Looked found ∷ Done.Synced ∷ done) refl is
+      (subst (λ xs. HasDone happened start device (xs ++ Done.Synced ∷ (done ++ Done.Looked headers ∷ log))) looked on)

@@ -17,7 +17,8 @@ headers_after n content headers =
     if n == 0 then record { even = content; odd = headers.odd }
     else (if n == 1 then record { even = headers.even; odd = content } else headers)
 
--- The headers as they are remembered: what was last written to each of them since the device was opened, or what was found then.
+-- The headers as they are remembered: what was last written to each of them since the device was opened, or what was
+-- found then.
 abbrev pub remembered : Opening → List Done → Headers
 remembered start [] = start.headers
 remembered start (Done.Looked headers ∷ log) = remembered start log
@@ -61,8 +62,8 @@ WasWritten k (Done.Unsynced ∷ log) = ⊥
 abbrev pub EachWasWritten : ℕ → List Done → Type 0
 EachWasWritten sectors log = (k : ℕ) → k < sectors → WasWritten k log
 
--- A sync may be believed: none failed since the device was opened without doubt, or since one that came when each sector was written since
--- the last one that failed, and since the device was opened.
+-- A sync may be believed: none failed since the device was opened without doubt, or since one that came when each
+-- sector was written since the last one that failed, and since the device was opened.
 abbrev pub IsSure : Opening → ℕ → List Done → Type 0
 IsSure start sectors [] = start.doubt ≡ false
 IsSure start sectors (Done.Looked headers ∷ log) = IsSure start sectors log
@@ -72,16 +73,18 @@ IsSure start sectors (Done.Tried n content ∷ log) = IsSure start sectors log
 IsSure start sectors (Done.Synced ∷ log) = IsSure start sectors log ⊎ EachWasWritten sectors log
 IsSure start sectors (Done.Unsynced ∷ log) = ⊥
 
--- What a device has done since it was opened: this is true of its file, it knows the headers as they are remembered, it was careful, and it is
--- in doubt unless its syncs may be believed.
-pub record HasDone {F : Type 0} (happened : F → List Done → Type 0) (start : Opening) (device : CarefulDevice F) (log : List Done) : Type 0 where
+-- What a device has done since it was opened: this is true of its file, it knows the headers as they are remembered, it
+-- was careful, and it is in doubt unless its syncs may be believed.
+pub record HasDone {F : Type 0} (happened : F → List Done → Type 0) (start : Opening) (device : CarefulDevice F)
+    (log : List Done) : Type 0 where
   pub history : happened device.file log
   pub known : device.known ≡ remembered start log
   pub careful : IsCareful start log
   pub sure : device.doubt ≡ false → IsSure start device.sectors log
 
 -- What a call of a device has done: something that is so, whatever was done before.
-abbrev pub Goes : {F : Type 0} → (F → List Done → Type 0) → (Opening → List Done → List Done → Type 0) → CarefulDevice F → CarefulDevice F → Type 0
+abbrev pub Goes : {F : Type 0} → (F → List Done → Type 0) → (Opening → List Done → List Done → Type 0)
+    → CarefulDevice F → CarefulDevice F → Type 0
 Goes happened IsSo old new = (start : Opening) (log : List Done) → HasDone happened start old log
     → (done : List Done) × IsSo start log done × HasDone happened start new (done ++ log)
 
@@ -95,11 +98,13 @@ IsLookAtMost done = (done ≡ []) ⊎ ((headers : Headers) × (done ≡ Done.Loo
 
 -- the headers are as they are remembered, or no more was done than a look
 abbrev pub IsLook : {T E : Type 0} → Result T E → Opening → List Done → List Done → Type 0
-IsLook result start log done = MatchResult result (λ _. done ≡ Done.Looked (remembered start log) ∷ []) (λ _. IsLookAtMost done)
+IsLook result start log done =
+    MatchResult result (λ _. done ≡ Done.Looked (remembered start log) ∷ []) (λ _. IsLookAtMost done)
 
 -- this content was written after such a look, or that was tried, or no more was done than a look
 abbrev pub IsPut : {T E : Type 0} → ℕ → List ℕ → Result T E → Opening → List Done → List Done → Type 0
-IsPut n content result start log done = MatchResult result (λ _. done ≡ Done.Wrote n content ∷ Done.Looked (remembered start log) ∷ [])
+IsPut n content result start log done =
+    MatchResult result (λ _. done ≡ Done.Wrote n content ∷ Done.Looked (remembered start log) ∷ [])
     (λ _. IsLookAtMost done ⊎ (done ≡ Done.Tried n content ∷ Done.Looked (remembered start log) ∷ []))
 
 -- this content was read from this sector right before the last look
@@ -119,18 +124,22 @@ IsAsRead (Done.Unsynced ∷ done) = IsAsRead done
 
 -- What was done ends with a sync that may be believed, and a look that found the headers as they are remembered.
 abbrev pub EndsSynced : ℕ → Opening → List Done → Type 0
-EndsSynced sectors start (Done.Looked headers ∷ Done.Synced ∷ log) = (headers ≡ remembered start log) × IsSure start sectors (Done.Synced ∷ log)
+EndsSynced sectors start (Done.Looked headers ∷ Done.Synced ∷ log) =
+    (headers ≡ remembered start log) × IsSure start sectors (Done.Synced ∷ log)
 EndsSynced sectors start log = ⊥
 
 -- what a sync has done: it wrote nothing but what it read, and if it is answered `Ok`, it ends as it should
 abbrev pub IsSync : {T E : Type 0} → ℕ → Result T E → Opening → List Done → List Done → Type 0
-IsSync sectors result start log done = IsAsRead done × MatchResult result (λ _. EndsSynced sectors start (done ++ log)) (λ _. ⊤)
+IsSync sectors result start log done =
+    IsAsRead done × MatchResult result (λ _. EndsSynced sectors start (done ++ log)) (λ _. ⊤)
 
 -- what the sync of the file has done, if the device had no doubt or wrote each sector before
-abbrev pub Settles : {F T E : Type 0} → (F → List Done → Type 0) → Result T E → CarefulDevice F → CarefulDevice F → Type 0
+abbrev pub Settles : {F T E : Type 0} → (F → List Done → Type 0) → Result T E
+    → CarefulDevice F → CarefulDevice F → Type 0
 Settles happened result old new = (start : Opening) (log : List Done) → HasDone happened start old log
     → (old.doubt ≡ false) ⊎ EachWasWritten old.sectors log
-    → MatchResult result (λ _. HasDone happened start new (Done.Synced ∷ log) × IsSure start old.sectors (Done.Synced ∷ log))
+    → MatchResult result
+    (λ _. HasDone happened start new (Done.Synced ∷ log) × IsSure start old.sectors (Done.Synced ∷ log))
     (λ _. HasDone happened start new (Done.Unsynced ∷ log))
 
 -- one fault more is counted at an Err, up to the greatest u64
@@ -141,4 +150,5 @@ pub record IsCounted {T E : Type 0} (old new : ℕ) (result : Result T E) : Type
 
 -- A device over a file of sectors is lawful in no contract.
 abbrev pub careful_facts : {F : Type 0} → DeviceFacts (CarefulDevice F)
-careful_facts = record { size = λ device. device.sectors; lawful = λ _. ⊥; disk = λ _. untold; faults = λ device. device.faults }
+careful_facts =
+    record { size = λ device. device.sectors; lawful = λ _. ⊥; disk = λ _. untold; faults = λ device. device.faults }

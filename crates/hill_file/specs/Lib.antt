@@ -4,3 +4,5 @@ pub mod OpenFault
 pub mod Done
 -- what a careful device has done with its file
 pub mod Careful
+-- the zeros that a file holds
+pub mod Zeros

@@ -17,6 +17,7 @@ pub struct CarefulDevice<F> {
     file: F,
     sectors: u32,
     known: Headers,
+    settled: Headers,
     doubt: bool,
     faults: u64,
 }
@@ -26,8 +27,9 @@ impl<F: SectorFile + Drop> CarefulDevice<F> {
     /// two sectors, it has no headers, and the device writes and syncs nothing.
     ///
     /// In `doubt` the device doesn't know whether an earlier sync of the file failed.
-    pub fn open(file: F, doubt: bool) -> Result<CarefulDevice<F>, Fault>
+    pub fn over(file: F, doubt: bool) -> Result<CarefulDevice<F>, Fault>
         ensures faults { IfOk result (λ device. device.faults ≡ 0) }
+        ensures settled { IfOk result (λ device. device.settled ≡ device.known) }
         ensures begins { F.happened file [] → IfOk result (λ device. HasDone F.happened (opening device.known doubt) device []
             ⊎ HasDone F.happened (opening device.known doubt) device (Done.Looked device.known ∷ [])) }
     {
@@ -42,6 +44,7 @@ impl<F: SectorFile + Drop> CarefulDevice<F> {
             file,
             sectors,
             known,
+            settled: known,
             doubt,
             faults: 0,
         })
@@ -49,11 +52,11 @@ impl<F: SectorFile + Drop> CarefulDevice<F> {
 }
 
 impl<F: SectorFile> CarefulDevice<F> {
-    /// Both headers, as they are known.
-    pub fn known(&self) -> Headers
-        ensures { result ≡ self.now.known }
+    /// Both headers as they were at the last sync that was answered `Ok`, or when the device was opened.
+    pub fn settled(&self) -> Headers
+        ensures { result ≡ self.now.settled }
     {
-        self.known
+        self.settled
     }
 
     /// The file has each sector, and the headers that are known.
@@ -61,6 +64,7 @@ impl<F: SectorFile> CarefulDevice<F> {
         ensures size { self.new.sectors ≡ self.old.sectors }
         ensures faults { self.new.faults ≡ self.old.faults }
         ensures doubt { self.new.doubt ≡ self.old.doubt }
+        ensures settled { self.new.settled ≡ self.old.settled }
         ensures goes { Goes F.happened (IsLook result) self.old self.new }
     {
         let sectors = self.file.length()?;
@@ -77,6 +81,7 @@ impl<F: SectorFile> CarefulDevice<F> {
         ensures size { self.new.sectors ≡ self.old.sectors }
         ensures faults { self.new.faults ≡ self.old.faults }
         ensures doubt { self.new.doubt ≡ self.old.doubt }
+        ensures settled { self.new.settled ≡ self.old.settled }
         ensures goes { Goes F.happened (IsPut n from.now result) self.old self.new }
     {
         self.look()?;
@@ -90,6 +95,7 @@ impl<F: SectorFile> CarefulDevice<F> {
         ensures size { self.new.sectors ≡ self.old.sectors }
         ensures faults { self.new.faults ≡ self.old.faults }
         ensures doubt { self.new.doubt ≡ self.old.doubt }
+        ensures settled { self.new.settled ≡ self.old.settled }
         ensures goes { Goes F.happened (λ start log done. IsAsRead done
             × MatchResult result (λ _. EachWasWritten self.old.sectors (done ++ log)) (λ _. ⊤)) self.old self.new }
     {
@@ -105,6 +111,7 @@ impl<F: SectorFile> CarefulDevice<F> {
     fn freshen(&mut self) -> Result<(), Fault>
         ensures size { self.new.sectors ≡ self.old.sectors }
         ensures faults { self.new.faults ≡ self.old.faults }
+        ensures settled { self.new.settled ≡ self.old.settled }
         ensures goes { Goes F.happened (λ start log done. IsAsRead done
             × MatchResult result (λ _. (self.new.doubt ≡ false) ⊎ EachWasWritten self.new.sectors (done ++ log)) (λ _. ⊤)) self.old self.new }
     {
@@ -115,6 +122,7 @@ impl<F: SectorFile> CarefulDevice<F> {
     fn settle(&mut self) -> Result<(), Fault>
         ensures size { self.new.sectors ≡ self.old.sectors }
         ensures faults { self.new.faults ≡ self.old.faults }
+        ensures settled { self.new.settled ≡ self.old.settled }
         ensures goes { Settles F.happened result self.old self.new }
     {
         let answer = self.file.sync();
@@ -126,6 +134,7 @@ impl<F: SectorFile> CarefulDevice<F> {
     fn sync_whole(&mut self) -> Result<(), Fault>
         ensures size { self.new.sectors ≡ self.old.sectors }
         ensures faults { self.new.faults ≡ self.old.faults }
+        ensures settled { self.new.settled ≡ self.old.settled }
         ensures goes { Goes F.happened (IsSync self.old.sectors result) self.old self.new }
     {
         self.look()?;
@@ -159,6 +168,7 @@ impl<F: SectorFile> Device for CarefulDevice<F> {
 
     fn read(&mut self, n: u32, to: &mut [u8; 512]) -> Result<(), Fault>
         ensures served { IsServed careful_facts self.old self.new result }
+        ensures settled { self.new.settled ≡ self.old.settled }
         ensures goes { Goes F.happened (IsRead n to.new result) self.old self.new }
     {
         let answer = self.file.read(n, to);
@@ -167,6 +177,7 @@ impl<F: SectorFile> Device for CarefulDevice<F> {
 
     fn write(&mut self, n: u32, from: &[u8; 512]) -> Result<(), Fault>
         ensures served { IsServed careful_facts self.old self.new result }
+        ensures settled { self.new.settled ≡ self.old.settled }
         ensures goes { Goes F.happened (IsPut n from.now result) self.old self.new }
     {
         let answer = self.put(n, from);
@@ -175,9 +186,13 @@ impl<F: SectorFile> Device for CarefulDevice<F> {
 
     fn sync(&mut self) -> Result<(), Fault>
         ensures served { IsServed careful_facts self.old self.new result }
+        ensures settled { MatchResult result (λ _. self.new.settled ≡ self.new.known) (λ _. self.new.settled ≡ self.old.settled) }
         ensures goes { Goes F.happened (IsSync self.old.sectors result) self.old self.new }
     {
         let answer = self.sync_whole();
+        if answer.is_ok() {
+            self.settled = self.known;
+        }
         counted(&mut self.faults, answer)
     }
 }

@@ -8,14 +8,12 @@ use crate::careful_device::CarefulDevice;
 use crate::lock::{TryLock, require_held};
 use crate::open_fault::OpenFault;
 use crate::placed_file::{PlacedFile, Sharing};
-use crate::sector_file::Headers;
 use crate::zeros::{require_zeros, write_zeros};
-use sector_disk::{Device, Fault, sync_name};
+use sector_disk::{Device, sync_name};
 use std::alloc::Allocator;
 use std::fs::{File, Files, OpenFile};
 use std::io;
 use std::io::ErrorKind;
-use std::marker::Model;
 use std::os::unix::fs::OpenOptionsExt;
 
 /// Who may read and write a file that is made: its owner.
@@ -30,28 +28,15 @@ pub enum Existing {
     Overwritten,
 }
 
-/// A device over the file at a path: the n-th 512 bytes of the file are sector n. It keeps the file's lock, if it took it, until it is
+/// A careful device over the file at a path: the n-th 512 bytes of the file are sector n. It keeps the file's lock, if it took it, until it is
 /// dropped.
 ///
-/// Before each write and each sync, and again after a sync, which takes its time, it looks whether the path still leads to the file that is
-/// open, and the file still has each of the device's sectors and the headers that the device knows, as `CarefulDevice` says. If not, or if
-/// the system doesn't say, the call is a fault. So a hill whose file was removed, replaced, cut or written by another program is never said
-/// to be synced, and nothing is written over what was copied in. It is lawful in no contract.
-#[derive(Drop)]
-pub struct HillFile<'f, R: Files> {
-    device: CarefulDevice<PlacedFile<'f, R>>,
-    settled: Headers,
-}
+/// It looks before each write and each sync, and after a sync, which takes its time: the path has to lead to the file that is open still. If it
+/// doesn't, or if the system doesn't say, the call is a fault. So a hill whose file was removed, replaced, cut or written by another program
+/// is never said to be synced, and nothing is written over what was copied in.
+pub type HillFile<'f, R> = CarefulDevice<PlacedFile<'f, R>>;
 
-impl<'f, R: Files> Model for HillFile<'f, R> {
-    ghost use Rattle.sector_disk.specs.File.{FileState};
-
-    ghost Value = { FileState };
-
-    ghost view = { λ hill. record { sectors = hill.device.sectors; faults = hill.device.faults } };
-}
-
-impl<'f, R: Files> HillFile<'f, R>
+impl<'f, R: Files> CarefulDevice<PlacedFile<'f, R>>
 where
     R::File: TryLock,
 {
@@ -59,8 +44,7 @@ where
     ///
     /// `Locked` if `sharing` is `Alone` and another program holds the lock. `Failed` with `NotFound` if there is no file, with
     /// `StaleNetworkFileHandle` if there is another by the time that it is locked, with `Other` if its headers can't be read, and else with
-    /// the system's reason, as for a folder. Never
-    /// `Occupied`.
+    /// the system's reason, as for a folder. Never `Occupied`.
     pub fn open(rt: &'f R, path: &'f str, sharing: Sharing) -> Result<HillFile<'f, R>, OpenFault>
         ensures faults { IfOk result (λ hill. hill.faults ≡ 0) }
         ensures shared { sharing ≡ Sharing.Shared → IfErr result IsOfSystem }
@@ -79,7 +63,7 @@ where
             handle,
             sharing,
         };
-        HillFile::over(file, 0)
+        device_over(file, 0)
     }
 
     /// A device of at least `sectors` sectors, which all hold zeros, over the file at this path, locked for this program alone. It has
@@ -117,7 +101,7 @@ where
             handle,
             sharing: Sharing::Alone,
         };
-        HillFile::over(file, sectors)
+        device_over(file, sectors)
     }
 
     /// A device of at least `sectors` sectors, which all hold zeros, over a new file at this path, locked for this program alone. It has
@@ -136,7 +120,7 @@ where
         options.read(true).write(true).create_new(true);
         options.mode(OWNER_ONLY);
         let handle = options.open(rt, path)?;
-        match HillFile::over_new(rt, path, handle, sectors) {
+        match over_new(rt, path, handle, sectors) {
             Ok(hill) => Ok(hill),
             Err(fault) => {
                 let _ = rt.remove_file(path);
@@ -144,88 +128,56 @@ where
             }
         }
     }
-
-    /// The same over the file of this handle, which was just created.
-    fn over_new(
-        rt: &'f R,
-        path: &'f str,
-        mut handle: R::File,
-        sectors: u32,
-    ) -> Result<HillFile<'f, R>, OpenFault>
-        ensures enough { IfOk result (λ hill. sectors ≤ hill.sectors) }
-        ensures faults { IfOk result (λ hill. hill.faults ≡ 0) }
-        ensures held { IfErr result IsWhateverHeld }
-    {
-        handle.lock_now()?;
-        require_held(rt, path)?;
-        write_zeros(&mut handle, sectors)?;
-        handle.sync_all()?;
-        let file = PlacedFile {
-            rt,
-            path,
-            handle,
-            sharing: Sharing::Alone,
-        };
-        HillFile::over(file, sectors)
-    }
 }
 
-impl<'f, R: Files> HillFile<'f, R> {
-    /// The device over this file, in doubt if the file holds a hill that may be changed. `Failed` with `StaleNetworkFileHandle`
-    /// if the path leads elsewhere by now, with `UnexpectedEof` if it has fewer than `least` sectors, and with `Other` if its headers can't be read.
-    fn over(file: PlacedFile<'f, R>, least: u32) -> Result<HillFile<'f, R>, OpenFault>
-        ensures enough { IfOk result (λ hill. least ≤ hill.sectors) }
-        ensures faults { IfOk result (λ hill. hill.faults ≡ 0) }
-        ensures system { IfErr result IsOfSystem }
-    {
-        let mut file = file;
-        let Some(sectors) = file.sectors_in_place()? else {
-            return Err(OpenFault::Failed(ErrorKind::StaleNetworkFileHandle));
-        };
-        let doubt = 2 <= sectors && file.begins_as_a_hill()?;
-        let Ok(device) = CarefulDevice::open(file, doubt) else {
-            return Err(OpenFault::Failed(ErrorKind::Other));
-        };
-        if device.sectors() < least {
-            return Err(OpenFault::Failed(ErrorKind::UnexpectedEof));
-        }
-        let settled = device.known();
-        Ok(HillFile { device, settled })
-    }
-
-    /// Both headers as they were at the last sync that was answered `Ok`, or when the file was opened. They are zeros if it is shared.
-    pub fn settled(&self) -> Headers {
-        self.settled
-    }
+/// The same over the file of this handle, which was just created.
+fn over_new<'f, R: Files>(
+    rt: &'f R,
+    path: &'f str,
+    mut handle: R::File,
+    sectors: u32,
+) -> Result<HillFile<'f, R>, OpenFault>
+where
+    R::File: TryLock,
+    ensures enough { IfOk result (λ hill. sectors ≤ hill.sectors) }
+    ensures faults { IfOk result (λ hill. hill.faults ≡ 0) }
+    ensures held { IfErr result IsWhateverHeld }
+{
+    handle.lock_now()?;
+    require_held(rt, path)?;
+    write_zeros(&mut handle, sectors)?;
+    handle.sync_all()?;
+    let file = PlacedFile {
+        rt,
+        path,
+        handle,
+        sharing: Sharing::Alone,
+    };
+    device_over(file, sectors)
 }
 
-impl<R: Files> Device for HillFile<'_, R> {
-    ghost use Rattle.sector_disk.specs.File.{file_facts};
-
-    ghost facts = { file_facts };
-
-    fn sectors(&self) -> u32 {
-        self.device.sectors()
+/// The device over this file, in doubt if the file holds a hill that may be changed. `Failed` with `StaleNetworkFileHandle` if the path leads
+/// elsewhere by now, with `UnexpectedEof` if it has fewer than `least` sectors, and with `Other` if its headers can't be read.
+fn device_over<'f, R: Files>(
+    file: PlacedFile<'f, R>,
+    least: u32,
+) -> Result<HillFile<'f, R>, OpenFault>
+    ensures enough { IfOk result (λ hill. least ≤ hill.sectors) }
+    ensures faults { IfOk result (λ hill. hill.faults ≡ 0) }
+    ensures system { IfErr result IsOfSystem }
+{
+    let mut file = file;
+    let Some(sectors) = file.sectors_in_place()? else {
+        return Err(OpenFault::Failed(ErrorKind::StaleNetworkFileHandle));
+    };
+    let doubt = 2 <= sectors && file.begins_as_a_hill()?;
+    let Ok(device) = CarefulDevice::over(file, doubt) else {
+        return Err(OpenFault::Failed(ErrorKind::Other));
+    };
+    if device.sectors() < least {
+        return Err(OpenFault::Failed(ErrorKind::UnexpectedEof));
     }
-
-    fn faults(&self) -> u64 {
-        self.device.faults()
-    }
-
-    fn read(&mut self, n: u32, to: &mut [u8; 512]) -> Result<(), Fault> {
-        self.device.read(n, to)
-    }
-
-    fn write(&mut self, n: u32, from: &[u8; 512]) -> Result<(), Fault> {
-        self.device.write(n, from)
-    }
-
-    /// What was written has reached the disk, as far as the system says, in the file to which the path led.
-    fn sync(&mut self) -> Result<(), Fault> {
-        self.device.sync()?;
-        self.settled = self.device.known();
-        Ok(())
-    }
+    Ok(device)
 }
 
 /// Gives a file this many sectors of zeros at its front, which have reached the disk.

@@ -123,7 +123,7 @@ fn fault_of_link(error: &io::Error) -> OpenFault {
     }
 }
 
-/// Makes the names in the folder of this path reach the disk.
+/// Makes the names in the folder of this path reach the disk. It takes no memory: the file is in its place by then.
 fn sync_folder<R: Files>(rt: &R, path: &str) -> io::Result<()> {
     let folder = match Path::new(path).parent() {
         Some(folder) if !folder.as_os_str().is_empty() => folder,

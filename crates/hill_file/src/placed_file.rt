@@ -1,6 +1,7 @@
 //! The file that a path leads to.
 
-ghost use Rattle.std.specs.Prelude.{⊤};
+ghost use Rattle.std.specs.Prelude.{◌≡◌, ⊤, Ok, false, IsErr};
+ghost use Rattle.hill_file.specs.Done.{Looks, Writes};
 
 use crate::sector_file::{Headers, SectorFile};
 use sector_disk::{Fault, SECTOR_BYTES};
@@ -23,11 +24,11 @@ pub enum Sharing {
 
 /// An open file, and the path that has to lead to it.
 #[derive(Drop)]
-pub(crate) struct PlacedFile<'f, R: Files> {
-    pub rt: &'f R,
-    pub path: &'f str,
-    pub handle: R::File,
-    pub sharing: Sharing,
+pub struct PlacedFile<'f, R: Files> {
+    pub(crate) rt: &'f R,
+    pub(crate) path: &'f str,
+    pub(crate) handle: R::File,
+    pub(crate) sharing: Sharing,
 }
 
 impl<R: Files> PlacedFile<'_, R> {
@@ -43,7 +44,10 @@ impl<R: Files> PlacedFile<'_, R> {
     }
 
     /// One of the headers begins as one of a hill, in a file that isn't shared.
-    pub(crate) fn begins_as_a_hill(&mut self) -> io::Result<bool> {
+    pub(crate) fn begins_as_a_hill(&mut self) -> io::Result<bool>
+        ensures sharing { self.new.sharing ≡ self.old.sharing }
+        ensures shared { self.old.sharing ≡ Sharing.Shared → result ≡ Ok false }
+    {
         match self.sharing {
             Sharing::Alone => {
                 let headers = read_headers(&mut self.handle)?;
@@ -66,7 +70,11 @@ impl<R: Files> SectorFile for PlacedFile<'_, R> {
     }
 
     /// Those of a file that is shared are not looked at: they are zeros.
-    fn headers(&mut self) -> Result<Headers, Fault> {
+    fn headers(&mut self) -> Result<Headers, Fault>
+        ensures looks { Looks (λ _ _. ⊤) self.old result self.new }
+        ensures sharing { self.new.sharing ≡ self.old.sharing }
+        ensures shared { self.old.sharing ≡ Sharing.Shared → result ≡ Ok Headers.ZEROS }
+    {
         match self.sharing {
             Sharing::Alone => read_headers(&mut self.handle).or(Err(Fault)),
             Sharing::Shared => Ok(Headers::ZEROS),
@@ -77,7 +85,11 @@ impl<R: Files> SectorFile for PlacedFile<'_, R> {
         read_from(&mut self.handle, n, to).or(Err(Fault))
     }
 
-    fn write(&mut self, n: u32, from: &[u8; 512]) -> Result<(), Fault> {
+    fn write(&mut self, n: u32, from: &[u8; 512]) -> Result<(), Fault>
+        ensures writes { Writes (λ _ _. ⊤) n self.old from.now result self.new }
+        ensures sharing { self.new.sharing ≡ self.old.sharing }
+        ensures shared { self.old.sharing ≡ Sharing.Shared → IsErr result × (self.new ≡ self.old) }
+    {
         match self.sharing {
             Sharing::Alone => write_to(&mut self.handle, n, from).or(Err(Fault)),
             Sharing::Shared => Err(Fault),
@@ -89,12 +101,12 @@ impl<R: Files> SectorFile for PlacedFile<'_, R> {
     }
 }
 
-/// Reads both headers, one after the other.
+/// Reads both headers at once.
 fn read_headers<F: Read + Seek>(file: &mut F) -> io::Result<Headers> {
-    let mut even = [0; 512];
-    let mut odd = [0; 512];
-    read_from(file, 0, &mut even)?;
-    file.read_exact(&mut odd)?;
+    let mut both = [[0; 512]; 2];
+    file.seek(SeekFrom::Start(0))?;
+    file.read_exact(both.as_flattened_mut())?;
+    let [even, odd] = both;
     Ok(Headers { even, odd })
 }
 

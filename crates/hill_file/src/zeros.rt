@@ -1,6 +1,7 @@
 //! The zeros that a new hill starts from: a file is searched for other bytes, and zeros are written to it.
 
-ghost use Rattle.std.specs.Prelude.{◌≡◌, ◌↔◌, All, IsTrue};
+ghost use Rattle.std.specs.Prelude.{◌≡◌, ◌↔◌, IfErr, IfSome, IsTrue, OnOk};
+ghost use Rattle.hill_file.specs.Zeros.{AreZeros};
 
 use crate::open_fault::OpenFault;
 use std::fs::OpenFile;
@@ -11,7 +12,10 @@ use std::io::{ErrorKind, Read, Seek, SeekFrom, Write};
 const CHUNK_BYTES: usize = 4096;
 
 /// Reads the file to its end. `Occupied` at the first byte that isn't zero, and `Failed` with `ResourceBusy` if the file grows meanwhile.
-pub(crate) fn require_zeros<F: Read + OpenFile>(file: &mut F) -> Result<(), OpenFault> {
+pub(crate) fn require_zeros<F: Read + OpenFile>(file: &mut F) -> Result<(), OpenFault>
+    ensures zeros { OnOk result (IfSome (F.remaining file.old) AreZeros) }
+    ensures other { IfErr result (λ fault. fault ≡ OpenFault.Occupied → IfSome (F.remaining file.old) (λ bytes. AreZeros bytes → ⊥)) }
+{
     let mut bytes = [0; CHUNK_BYTES];
     let length = file.metadata()?.len();
     // Each read but the one at the end gives a byte at least.
@@ -29,7 +33,7 @@ pub(crate) fn require_zeros<F: Read + OpenFile>(file: &mut F) -> Result<(), Open
 
 /// Each of these bytes is zero.
 fn are_zeros(bytes: &[u8]) -> bool
-    ensures { IsTrue result ↔ All (λ byte. byte ≡ 0) bytes.now }
+    ensures { IsTrue result ↔ AreZeros bytes.now }
 {
     bytes.iter().all(|byte| *byte == 0)
 }

@@ -1,7 +1,7 @@
 -- The headers that are found: the newest of a format, and whether there is one of either.
 use Rattle.std.proofs.{Common.{◌≡◌, ◌≢◌, ℕ, inl, inr, ◌%◌, ◌<◌, ◌≤◌, Bool, true, false, ◌||◌, is_some, List, Option, Some, None, sym, ap, subst, ◌∙◌, arith}, lemmas.Bool.cases_eq}
 use Rattle.{hill_bytes.specs.{declared.format.Format.Format, Layout.{Layout, HeaderParts, IsHeader, layout_of, new_layout, old_layout}}, hill_bytes.proofs.Codes.one_header}
-use Rattle.{hill_images.specs.{Stands.IsNewestIn, Found.{HoldsIf, IsFoundIn, IsHeaderAt, IsNewestFound}, Opening.{HoldsHeader, HoldsOneIf}}, hill_images.proofs.Newest.parity_low}
+use Rattle.{hill_images.specs.{Stands.IsNewestIn, Found.{HoldsIf, IsFoundIn, IsHeaderAt, IsNewestFound}, Opening.{HoldsHeader, HoldsOldIf, HoldsOneIf}}, hill_images.proofs.Newest.parity_low}
 
 -- a header of the other parity is not the sector's, and no other is there
 pub other_parity : (layout : Layout) (n : ℕ) (bytes : List ℕ) (h : HeaderParts) → h.generation % 2 ≢ n → IsHeader layout bytes h → IsFoundIn layout n bytes None
@@ -76,3 +76,8 @@ pub holds_one : (image : ℕ → List ℕ) (even odd : Bool) → HoldsIf 0 (imag
 holds_one image true odd is_even is_odd = found_held image 0 is_even
 holds_one image false true is_even is_odd = found_held image 1 is_odd
 holds_one image false false is_even is_odd = λ format. by_parity (layout_of format) image (λ g. ⊥) (is_even format) (is_odd format)
+
+-- whether a device holds one of the old format, by the newest that was found
+pub holds_old : (image : ℕ → List ℕ) (found : Option HeaderParts) → IsNewestFound old_layout image found → HoldsOldIf image (is_some found)
+holds_old image (Some h) is = (h, is.here)
+holds_old image None is = is

@@ -11,3 +11,5 @@ pub mod Opening
 pub mod Writing
 -- laws of what is stored, for all bytes and every image
 pub mod Laws
+-- what a hill has lost
+pub mod Damage

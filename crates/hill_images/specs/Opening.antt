@@ -2,7 +2,7 @@
 use Rattle.std.specs.Prelude.{◌≡◌, ◌⊎◌, ℕ, ◌%◌, ◌<◌, ◌≤◌, Bool, true, false, List, [], ◌∷◌}
 use Rattle.{war_types.specs.{declared.settings.RawSettings.RawSettings, Settings.AreSettings}, koth_hill.specs.Kept.{Kept, new_kept}}
 use Rattle.sector_disk.specs.{Facts.DeviceFacts, Disk.{Disk, current, synced}, Image.{IsImage, Images}, Changes.Begun, Served.Failed}
-use Rattle.hill_bytes.specs.{declared.format.Format.Format, Layout.{Layout, HeaderParts, header_parts, IsHeader, layout_of, new_layout, sectors_in}}
+use Rattle.hill_bytes.specs.{declared.format.Format.Format, Layout.{Layout, HeaderParts, header_parts, IsHeader, layout_of, new_layout, old_layout, sectors_in}}
 use Rattle.hill_images.specs.{declared.refusal.Refusal.Refusal, Stands.{IsNewestIn, ShowsIn, Reads, IsReady}, Named.IsSoundIn}
 
 -- no sector holds a valid header of this layout
@@ -23,6 +23,15 @@ pub record HoldsHeader (image : ℕ → List ℕ) : Type 0 where
 abbrev pub HoldsOneIf : (ℕ → List ℕ) → Bool → Type 0
 HoldsOneIf image true = HoldsHeader image
 HoldsOneIf image false = HoldsNone image
+
+-- a sector holds a valid header of the old format
+abbrev pub HoldsOld : (ℕ → List ℕ) → Type 0
+HoldsOld image = (h : HeaderParts) × IsHeader old_layout (image (h.generation % 2)) h
+
+-- whether one of the first two sectors does
+abbrev pub HoldsOldIf : (ℕ → List ℕ) → Bool → Type 0
+HoldsOldIf image true = HoldsOld image
+HoldsOldIf image false = HoldsNoneIn old_layout image
 
 -- the first header of a hill
 abbrev pub first_header : RawSettings → HeaderParts

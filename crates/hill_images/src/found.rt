@@ -2,7 +2,7 @@
 
 ghost use Rattle.std.specs.Prelude.{◌≡◌, ℕ, ◌%◌, ◌<◌, ◌≤◌, List, IfOk};
 ghost use Rattle.{sector_disk.specs.{Disk.current, Served.IsServed}, hill_bytes.specs.Layout.{IsHeader, Layout, layout_of}};
-ghost use Rattle.hill_images.specs.{Found.{HoldsIf, IsFoundIn, IsNewestFound}, Opening.HoldsOneIf, Stands.IsNewestIn};
+ghost use Rattle.hill_images.specs.{Found.{HoldsIf, IsFoundIn, IsNewestFound}, Opening.{HoldsOldIf, HoldsOneIf}, Stands.IsNewestIn};
 
 use hill_bytes::{Format, Header, decode_in};
 use sector_disk::{Device, Fault};
@@ -32,6 +32,16 @@ pub(crate) fn holds_header<D: Device>(device: &mut D) -> Result<bool, Fault>
     let even = holds_one_in(device, 0)?;
     let odd = holds_one_in(device, 1)?;
     Ok(even || odd)
+}
+
+/// Whether a device holds a header of the old format. Nothing is written.
+pub fn holds_old_hill<D: Device>(device: &mut D) -> Result<bool, Fault>
+    requires { 2 ≤ D.facts.size device.old }
+    ensures served { IsServed D.facts device.old device.new result }
+    ensures found { D.facts.lawful device.old → IfOk result (HoldsOldIf (current (D.facts.disk device.old))) }
+{
+    let found = newest_header(device, Format::Old)?;
+    Ok(found.is_some())
 }
 
 /// The header of a format that a sector holds; `None` if it holds none, or one of the other parity.
@@ -64,7 +74,7 @@ fn is_header(n: u32, bytes: &[u8; 512]) -> bool
     valid_header(Format::Old, n, bytes).is_some() || valid_header(Format::New, n, bytes).is_some()
 }
 
-fn valid_header(format: Format, n: u32, bytes: &[u8; 512]) -> Option<Header>
+pub(crate) fn valid_header(format: Format, n: u32, bytes: &[u8; 512]) -> Option<Header>
     ensures { IsFoundIn (layout_of format) n bytes.now result }
 {
     match decode_in(format, bytes) {

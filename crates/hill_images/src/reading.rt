@@ -105,14 +105,14 @@ fn bout_of(wins: Wins, rounds: u16) -> Bout
 
 /// What a slot holds.
 #[derive(Drop)]
-struct Held<A: Allocator> {
+pub(crate) struct Held<A: Allocator> {
     warrior: Warrior<A>,
     /// By the slots of older warriors.
     results: [Wins; RESULTS],
 }
 
 /// Reads the warrior of a slot, and its results.
-fn read_warrior<D: Device, A: Allocator + Copy>(
+pub(crate) fn read_warrior<D: Device, A: Allocator + Copy>(
     alloc: A,
     device: &mut D,
     format: Format,

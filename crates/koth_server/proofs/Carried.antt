@@ -9,7 +9,8 @@ use Rattle.koth_commands.specs.{Check.{EndsCheck, EndsCheckUnder}, Failure.failu
 use Rattle.koth_commands.specs.{Streams.{Streams, streams, unread}, Told.TellsWord, declared.status.Status.Status, declared.status.Status.TheVariants.{NoMemory, WordFault}}
 use Rattle.{koth_commands.specs.declared.failure.Failure.Failure, koth_commands.proofs.Told.{kept_part, keeps_some, writes_nothing}}
 use Rattle.koth_server.specs.{Hills.{AfterNote, EndsCreate, EndsHill, EndsMade, EndsServe, EndsService, EndsSubmit, Said, SaysCreated, SaysShown, TellsFault, TellsNote, listening_line}, Audit.EndsAudit}
-use Rattle.koth_server.specs.{Migration.SaysMigrated, Page.SaysPage, Run.{CommandEnds, EndsRequest, EndsWithout, viewed}, Seed.seed_hint, declared.hill_fault.HillFault.TheVariants.Failed}
+use Rattle.koth_server.specs.{Migration.SaysMigrated, Page.SaysPage, Run.{CommandEnds, EndsRequest, EndsWithout, viewed}, Seed.seed_hint}
+use Rattle.koth_files.specs.declared.hill_fault.HillFault.TheVariants.{Failed}
 
 -- one fact or the other
 abbrev Either : Bool → Type 0 → Type 0 → Type 0

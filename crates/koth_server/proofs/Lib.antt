@@ -1,7 +1,6 @@
 mod Audited
 mod Carried
 mod Logged
-mod OldHeaders
 mod Replies
 mod Said
 mod Shown

@@ -3,7 +3,7 @@ use Rattle.{std.proofs.Common.{◌≡◌, ◌≢◌, ◌∙◌, ℕ, List, Optio
 use Rattle.{std.proofs.KnownBytes.Keeps-refl, koth_hill.specs.Kept.Kept, sector_disk.specs.Facts.DeviceFacts, hill_store.specs.{Seen.{Seen, Submits}, declared.reply.Reply.Reply}}
 use Rattle.{koth_words.specs.declared.words.View.View, koth_commands.specs.{Streams.Streams, declared.status.Status.Status, declared.failure.Failure.Failure}}
 use Rattle.koth_server.specs.{Hills.{EndsSubmission, EndsSubmit, Said, SaysPart, Tries, WritesAt}, Migration.{SaysMigrated, TellsMigrated, migrated_line}, ReplyStatus.reply_status}
-use Rattle.koth_server.specs.{declared.hill_fault.HillFault.HillFault, declared.trouble.HillTrouble.HillTrouble}
+use Rattle.koth_files.specs.{declared.hill_fault.HillFault.HillFault, declared.trouble.HillTrouble.HillTrouble}
 
 -- nothing was written
 pub nothing_new : (said : Said) (fault : HillFault) (o p : Option (List ℕ)) → Keeps o p → WritesAt said fault o p

@@ -1,7 +1,7 @@
 -- How the program ends with a refusal, and with a fault of a hill.
 use Rattle.{std.proofs.Common.{◌≡◌, ◌⊎◌, sym, ap, inl, inr}, war_types.specs.declared.fault.AsmFault.AsmFault, hill_store.specs.declared.reply.Reply.Reply}
 use Rattle.koth_commands.specs.{declared.status.Status.Status, declared.failure.Failure.Failure}
-use Rattle.koth_server.specs.{declared.hill_fault.HillFault.HillFault, HillFault.fault_status, ReplyStatus.reply_status}
+use Rattle.{koth_files.specs.{declared.hill_fault.HillFault.HillFault, HillFault.fault_status}, koth_server.specs.ReplyStatus.reply_status}
 
 pub refused-status : (reply : Reply) → ((fault : AsmFault) × (reply ≡ Reply.Refused fault)) ⊎ (reply ≡ Reply.Worn) → Status.Refused ≡ reply_status reply
 refused-status reply is = elim is [

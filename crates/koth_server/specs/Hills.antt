@@ -5,7 +5,8 @@ use Rattle.{koth_match.specs.Seeds.IsSeed, koth_hill.specs.Kept.{Kept, table_kep
 use Rattle.{hill_store.specs.{Seen.{Seen, Submits}, declared.reply.Reply.Reply}, koth_protocol.specs.{Matches.matches_text, Table.show_text, Written.WritesPart}, koth_session.specs.Reply.reply_line}
 use Rattle.{koth_words.specs.declared.words.View.View, koth_views.specs.{Standing.hill_view, Matrix.matches_view, Placing.placing_view, Roster.roster}}
 use Rattle.koth_commands.specs.{Answer.{EndsGiven, Tells}, Failure.failure_word, Told.{TellsWord, WritesSome}, Streams.Streams, declared.status.Status.Status, declared.failure.Failure.Failure}
-use Rattle.koth_server.specs.{HillFault.{fault_status, fault_word}, ReplyStatus.reply_status, Seed.seed_hint, declared.hill_fault.HillFault.HillFault, declared.trouble.HillTrouble.HillTrouble}
+use Rattle.koth_files.specs.{HillFault.{fault_status, fault_word}, declared.hill_fault.HillFault.HillFault, declared.trouble.HillTrouble.HillTrouble}
+use Rattle.koth_server.specs.{ReplyStatus.reply_status, Seed.seed_hint}
 
 -- the line that names the port
 abbrev pub listening_line : ℕ → List ℕ

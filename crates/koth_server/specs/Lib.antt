@@ -1,8 +1,5 @@
--- What is reported of a fault of a hill, and how the program ends with it, and with a reply.
-pub mod HillFault
+-- How the program ends with a reply.
 pub mod ReplyStatus
--- What is reported of a device whose hill is not opened, and of a hill of the old format.
-pub mod OldHill
 -- The seed that is drawn for a hill, and what is told of the default one.
 pub mod Seed
 -- What each command on a hill writes and how it ends.

@@ -1,7 +1,7 @@
 -- What moving the hill in a file of the old format to another file writes, and how it ends.
 use Rattle.std.specs.{Prelude.{◌≡◌, ◌⊎◌, ℕ, List, Option, Result, Ok, Err, IsErrAnd, codes}, Io.KnownBytes.{Appends, Keeps}}
 use Rattle.{sector_disk.specs.Facts.DeviceFacts, hill_store.specs.{Opened.{IsMigrated, IsNotMigrated}, Seen.Seen, declared.migration.MigrateFault.MigrateFault}, koth_protocol.specs.Written.WritesPart}
-use Rattle.{koth_commands.specs.declared.status.Status.Status, koth_server.specs.{HillFault.{fault_of_refusal, stream_failed}, Hills.Said, declared.trouble.HillTrouble.HillTrouble}}
+use Rattle.{koth_commands.specs.declared.status.Status.Status, koth_files.specs.{HillFault.{fault_of_refusal, stream_failed}, declared.trouble.HillTrouble.HillTrouble}, koth_server.specs.Hills.Said}
 
 abbrev pub migrated_line : List ℕ
 migrated_line = codes "MIGRATED\n"

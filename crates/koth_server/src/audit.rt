@@ -4,11 +4,10 @@ ghost use Rattle.std.specs.{Prelude.{◌≡◌, ◌≢◌, ◌≤◌, ◌++◌, 
 ghost use Rattle.{koth_protocol.specs.Written.WritesPart, koth_commands.specs.Streams.streams};
 ghost use Rattle.koth_server.specs.Audit.{EndsAudit, EndsAuditOf, audit_answer, audit_status, counts_line, pair_line, told_of, untrue_text};
 
-use crate::files::open_hill;
-use crate::trouble::tell_output;
 use hill_file::{Sharing, TryLock};
 use hill_store::{Store, Untrue};
 use koth_commands::{Status, StreamFault, write_both, write_whole};
+use koth_files::{open_hill, tell_output};
 use koth_match::Bout;
 use koth_protocol::Line;
 use sector_disk::Device;

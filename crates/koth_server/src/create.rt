@@ -1,17 +1,14 @@
 //! The command `create`: a hill without warriors in a file.
 
-ghost use Rattle.std.specs.Prelude.{◌≡◌, ◌≢◌, None, false, true, IfOk};
-ghost use Rattle.{hill_store.specs.Opened.IsCreated, koth_commands.specs.Streams.streams, koth_server.specs.Hills.{EndsCreate, EndsMade, EndsMadeBy, SaysCreated, Tries}};
+ghost use Rattle.std.specs.Prelude.{◌≡◌, ◌≢◌, None, false, true};
+ghost use Rattle.{koth_commands.specs.Streams.streams, koth_server.specs.Hills.{EndsCreate, EndsMade, EndsMadeBy, SaysCreated, Tries}};
 
-use crate::hill_fault::HillFault;
 use crate::seed::{drawn_seed, seed_hint};
-use crate::trouble::{HillTrouble, fault_of_refusal};
-use hill_file::{Existing, HillFile, Place, TryLock, name_beside};
-use hill_store::{Store, sectors_for};
+use hill_file::{Existing, TryLock};
 use koth_commands::{Status, reason_of, refuse_settings, write_whole};
+use koth_files::{HillTrouble, create_hill};
 use koth_words::Creation;
-use sector_disk::Device;
-use std::alloc::{AllocError, Allocator};
+use std::alloc::Allocator;
 use std::io::Write;
 use std::random::RandomSource;
 use std::rt::Files;
@@ -138,86 +135,6 @@ where
     match create_hill(rt, alloc, settings, creation.hill, existing) {
         Ok(()) => say_created(output),
         Err(trouble) => Err(trouble),
-    }
-}
-
-/// Creates a hill in a new file, just large enough for it, which then takes its place at this path.
-pub(crate) fn create_hill<'f, R: Files, A: Allocator + Copy>(
-    rt: &R,
-    alloc: A,
-    settings: Settings,
-    path: &'f str,
-    existing: Existing,
-) -> Result<(), HillTrouble<'f>>
-where
-    R::File: TryLock,
-{
-    match name_beside(alloc, path) {
-        Ok(new) => create_beside(rt, alloc, settings, path, new.as_str(), existing),
-        Err(AllocError) => Err(HillTrouble::memory()),
-    }
-}
-
-/// The same with this name for the new file until then.
-fn create_beside<'f, R: Files, A: Allocator + Copy>(
-    rt: &R,
-    alloc: A,
-    settings: Settings,
-    path: &'f str,
-    new: &str,
-    existing: Existing,
-) -> Result<(), HillTrouble<'f>>
-where
-    R::File: TryLock,
-{
-    let place = match Place::take(rt, path, existing) {
-        Ok(place) => place,
-        Err(fault) => return Err(HillTrouble::unopened(path, fault)),
-    };
-    match create_new(rt, alloc, settings, path, new) {
-        Ok(()) => match place.fill(new) {
-            Ok(()) => Ok(()),
-            Err(fault) => Err(HillTrouble::unopened(path, fault)),
-        },
-        Err(trouble) => Err(trouble),
-    }
-}
-
-/// Creates the hill in a new file of the name `new`, for the place at this path. The file is removed if that fails.
-fn create_new<'f, R: Files, A: Allocator + Copy>(
-    rt: &R,
-    alloc: A,
-    settings: Settings,
-    path: &'f str,
-    new: &str,
-) -> Result<(), HillTrouble<'f>>
-where
-    R::File: TryLock,
-{
-    let device = match HillFile::make_new(rt, new, sectors_for(settings.capacity())) {
-        Ok(device) => device,
-        Err(fault) => return Err(HillTrouble::unopened(path, fault)),
-    };
-    match create_on(alloc, settings, device) {
-        Ok(_store) => Ok(()),
-        Err(fault) => {
-            let _ = rt.remove_file(new);
-            Err(HillTrouble::of(path, fault))
-        }
-    }
-}
-
-/// Creates the hill on a device.
-fn create_on<D: Device + Drop, A: Allocator + Copy>(
-    alloc: A,
-    settings: Settings,
-    device: D,
-) -> Result<Store<D, A>, HillFault>
-    ensures { IfOk result (IsCreated D.facts device settings) }
-{
-    match Store::create(alloc, device, settings) {
-        Ok(store) => Ok(store),
-        Err((_device, refusal)) => Err(fault_of_refusal(refusal)),
     }
 }
 

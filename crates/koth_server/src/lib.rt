@@ -7,43 +7,41 @@
 //! - `program`: `run`, which carries out what the arguments of the command line ask for, by `koth_words`, and ends with a status;
 //! - `create`, `submit`, `show`, `page`, `audit`, `migrate`, `serve`: a command on a hill each, and `log`: what a service reports;
 //! - `pages`: the pages that browsers of a service ask for;
-//! - `files`: the hill in a file, opened, `old_hill`: how one of the old format is known, and `damage`: which warrior can't be read;
+//! - `damage`: what is told of a header that can't be read;
 //! - `seed`: the seed that `create` draws, and what is told of the default one;
-//! - `hill_fault`, `trouble`, `reply_status`: what is reported of a hill that can't be worked on, and how the program ends then, and with
-//!   a reply.
+//! - `host`: what a service goes on with when its device failed, and `ports`: where it listens;
+//! - `reply_status`: how the program ends with a reply.
 //!
 //! The clause of `run` gives what is written and how it ends as a function of the arguments and of what was read (`asm`, `fight`, `create`,
 //! `submit`, `show`, `page`, `audit`, `migrate`, `serve`). At wrong arguments nothing is read, and nothing is written on the output
 //! (`word_fault`). What a service does is in `koth_service`.
 //!
 //! Settings must be checked before anything is read, and a hill opened before a source is. `asm`, `fight` and the statuses are in
-//! `koth_commands`, a session and its lines in `koth_session`, and this crate passes on what is public of them.
+//! `koth_commands`, hills in files and their faults in `koth_files`, a session and its lines in `koth_session`, and this crate passes on what
+//! is public of them.
 #![tactic(auto)]
 
 mod arguments;
 mod audit;
 mod create;
 mod damage;
-mod files;
-mod hill_fault;
-mod left;
+mod host;
 mod log;
 mod migrate;
-mod old_hill;
 mod page;
 mod pages;
+mod ports;
 mod program;
 mod reply_status;
 mod seed;
 mod serve;
 mod show;
 mod submit;
-mod trouble;
 mod typed;
 
 pub use arguments::refuse_arguments;
-pub use hill_fault::HillFault;
 pub use koth_commands::{Failure, Status};
+pub use koth_files::{HillFault, HillTrouble};
 pub use koth_protocol::{Counted, ReadFault, WriteFault};
 pub use koth_service::LogWrite;
 pub use koth_session::{SessionEnd, session, write_reply};
@@ -51,5 +49,4 @@ pub use koth_sockets::PolledLog;
 pub use koth_words::View;
 pub use program::run;
 pub use seed::drawn_seed;
-pub use trouble::HillTrouble;
 pub use typed::Typed;

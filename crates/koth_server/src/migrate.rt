@@ -3,10 +3,10 @@
 ghost use Rattle.std.specs.Prelude.{◌≡◌, ◌≢◌, None};
 ghost use Rattle.{koth_commands.specs.Streams.streams, koth_server.specs.{Hills.{EndsHill, Tries}, Migration.{MigratesTo, SaysMigrated, TellsMigrated}}};
 
-use crate::trouble::HillTrouble;
 use hill_file::{Existing, HillFile, Sharing, TryLock};
 use hill_store::{MigrateSide, Store, sectors_for};
 use koth_commands::{Status, write_whole};
+use koth_files::HillTrouble;
 use koth_words::Migration;
 use sector_disk::Device;
 use std::alloc::Allocator;

@@ -3,11 +3,10 @@
 ghost use Rattle.std.specs.Prelude.{◌≡◌, ◌≢◌, IfOk, None};
 ghost use Rattle.{koth_page.specs.Page.hill_page, koth_commands.specs.Streams.streams, koth_server.specs.{Hills.{EndsHill, Tries}, Page.{PagesOf, SaysPage}}};
 
-use crate::files::open_hill;
-use crate::trouble::HillTrouble;
 use hill_file::{Sharing, TryLock};
 use hill_store::Store;
 use koth_commands::{Status, write_whole};
+use koth_files::{HillTrouble, open_hill};
 use koth_page::{Links, hill_page};
 use sector_disk::Device;
 use std::alloc::{AllocError, Allocator};

@@ -3,11 +3,10 @@
 ghost use Rattle.std.specs.Prelude.{◌≡◌, ◌≢◌, IfOk, None, true};
 ghost use Rattle.{koth_commands.specs.Streams.streams, koth_server.specs.Hills.{EndsHill, SaysShown, ShowsOf, Tries, shown_lines, shown_table, shown_text}};
 
-use crate::files::open_hill;
-use crate::trouble::HillTrouble;
 use hill_file::{Sharing, TryLock};
 use hill_store::Store;
 use koth_commands::{Status, write_whole};
+use koth_files::{HillTrouble, open_hill};
 use koth_protocol::matches_text;
 use koth_session::table_of;
 use koth_views::{hill_view, matches_view};

@@ -3,12 +3,11 @@
 ghost use Rattle.std.specs.Prelude.{◌≡◌, ◌≢◌, ◌⊎◌, [], false, None, IfSome};
 ghost use Rattle.{koth_views.specs.{Placing.placing_view, Roster.roster}, koth_commands.specs.Streams.streams, koth_server.specs.Hills.{EndsReply, EndsSubmission, EndsSubmit, ExplainsReply}};
 
-use crate::files::open_within;
 use crate::reply_status::status_of;
-use crate::trouble::{HillTrouble, tell_output};
 use hill_file::TryLock;
 use hill_store::{Reply, Store};
 use koth_commands::{Status, explain, read_source, write_both};
+use koth_files::{HillTrouble, open_within, tell_output};
 use koth_hill::Hill;
 use koth_session::line_of;
 use koth_views::{Entered, placing_view, roster};

@@ -114,7 +114,7 @@ fn opened<'c>(
     doubt: bool,
 ) -> CarefulDevice<FakeFile<'c>> {
     begin(held, calls, NEVER);
-    let device = CarefulDevice::open(FakeFile { held, calls }, doubt).expect(rt, "it is opened");
+    let device = CarefulDevice::over(FakeFile { held, calls }, doubt).expect(rt, "it is opened");
     expect_calls(rt, calls, Some(b"mh"));
     expect_sectors(rt, &device, 3);
     device

@@ -1,6 +1,6 @@
 -- The answer is that of the store's hill, or a part of it.
 use Rattle.{std.proofs.Common.{refl, subst, inl, inr}, std.specs.Io.KnownBytes.Appends, koth_protocol.specs.Written.WritesPart, koth_commands.specs.declared.failure.Failure.TheVariants.Stream}
-use Rattle.{koth_server.specs.{declared.hill_fault.HillFault.TheVariants.Failed, Audit.{audit_answer, audit_status}}, koth_server.proofs.Audited.is_audited}
+use Rattle.{koth_files.specs.declared.hill_fault.HillFault.TheVariants.Failed, koth_server.specs.Audit.{audit_answer, audit_status}, koth_server.proofs.Audited.is_audited}
 use Rattle.koth_server.proofs.audit.audit_store.Goals as goal
 
 pub returns-in-Ok-clause-ends : goal.returns-in-Ok-clause-ends

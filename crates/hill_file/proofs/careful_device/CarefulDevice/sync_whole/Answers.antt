@@ -1,5 +1,5 @@
 use Rattle.std.proofs.Common.{subst, ◌∷◌, ◌++◌, ◌∙◌}
-use Rattle.hill_file.{specs.{Careful.{HasDone, IsSure, remembered}, Done.Done}, proofs.Steps.{synced, unsynced, unwritten}}
+use Rattle.hill_file.{specs.{Careful.{HasDone, IsSure, remembered}, Done.Done}, proofs.Steps.{broken_off, synced}}
 use Rattle.hill_file.proofs.careful_device.CarefulDevice.sync_whole.Goals as goal
 
 pub returns-in_err-freshen-clause-goes : goal.returns-in_err-freshen-clause-goes
@@ -7,7 +7,7 @@ returns-in_err-freshen-clause-goes g c = λ start log on.
     let look = c.in_ok-look.ensures.goes start log on in
     let looked = subst (λ xs. HasDone g.F.SectorFile.happened start c.look.new.self (xs ++ log)) look.1 look.2 in
     let fresh = c.in_err-freshen.ensures.goes start (Done.Looked (remembered start log) ∷ log) looked in
-    unwritten g.F.SectorFile.happened start log c.args.self.now.sectors c.freshen.new.self c.from_residual-in_err-freshen.result (remembered start log) fresh.0
+    broken_off g.F.SectorFile.happened start log c.args.self.now.sectors c.freshen.new.self c.from_residual-in_err-freshen.result (remembered start log) fresh.0
     c.from_residual-in_err-freshen.ensures.0 fresh.1.0 fresh.2
 
 pub returns-in_err-settle-clause-goes : goal.returns-in_err-settle-clause-goes
@@ -15,8 +15,8 @@ returns-in_err-settle-clause-goes g c = λ start log on.
     let look = c.in_ok-look.ensures.goes start log on in
     let looked = subst (λ xs. HasDone g.F.SectorFile.happened start c.look.new.self (xs ++ log)) look.1 look.2 in
     let fresh = c.in_ok-freshen.ensures.goes start (Done.Looked (remembered start log) ∷ log) looked in
-    unsynced g.F.SectorFile.happened start log c.args.self.now.sectors c.settle.new.self c.from_residual-in_err-settle.result (remembered start log) fresh.0
-    c.from_residual-in_err-settle.ensures.0 fresh.1.0
+    broken_off g.F.SectorFile.happened start log c.args.self.now.sectors c.settle.new.self c.from_residual-in_err-settle.result (remembered start log)
+    (Done.Unsynced ∷ fresh.0) c.from_residual-in_err-settle.ensures.0 fresh.1.0
     (c.in_err-settle.ensures.goes start (fresh.0 ++ Done.Looked (remembered start log) ∷ log) fresh.2 fresh.1.1)
 
 pub returns-clause-goes : goal.returns-clause-goes

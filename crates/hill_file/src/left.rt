@@ -2,12 +2,12 @@
 
 ghost use Rattle.std.specs.Prelude.{◌≡◌, ◌≢◌, true, false};
 
+use crate::sector_file::Headers;
 use hill_bytes::decode_header;
-use hill_file::Headers;
 
 /// Whether a file with the headers `found` holds a hill, and not the one that was left with the headers `left`: neither as it was left, nor
 /// with a submission more.
-pub(crate) fn is_another_hill(left: &Headers, found: &Headers) -> bool
+pub fn is_another_hill(left: &Headers, found: &Headers) -> bool
     ensures same { found.now ≡ left.now → result ≡ false }
 {
     holds_a_hill(found) && !keeps_newest(left, found)

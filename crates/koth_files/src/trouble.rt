@@ -1,8 +1,8 @@
 //! Why a command on a hill was not carried out, what it worked on, and what is reported of it.
 
-ghost use Rattle.std.specs.Prelude.{◌≡◌, codes, option_map};
+ghost use Rattle.std.specs.Prelude.{◌≡◌, ◌↔◌, IsTrue, codes, option_map};
 ghost use Rattle.koth_commands.specs.{Cause.reason_told, Name.shown_name, Failure.{cause_of, failure_of, failure_word}, Told.{TellsCause, TellsWord}};
-ghost use Rattle.koth_server.specs.HillFault.{damage_told, fault_of_file, fault_of_refusal, fault_reason, open_reason, stream_failed, trouble_told};
+ghost use Rattle.koth_files.specs.HillFault.{damage_told, fault_of_file, fault_of_refusal, fault_reason, open_reason, stream_failed, trouble_told, IsLock};
 
 use crate::hill_fault::HillFault;
 use hill_file::OpenFault;
@@ -22,11 +22,11 @@ pub struct HillTrouble<'t> {
 }
 
 impl<'t> HillTrouble<'t> {
-    ghost use Rattle.koth_server.specs.HillFault.{fault_status, fault_word};
+    ghost use Rattle.koth_files.specs.HillFault.{fault_status, fault_word};
 
     /// Writes the fault's word, and after it what failed and why, and returns how the program ends. If that can't be written, the status
     /// alone says it.
-    pub(crate) fn tell<A: Allocator, E: Write>(self, alloc: A, errors: &mut E) -> Status
+    pub fn tell<A: Allocator, E: Write>(self, alloc: A, errors: &mut E) -> Status
         ensures status { result ≡ fault_status self.entry.fault }
         ensures told { TellsWord (fault_word self.entry.fault) (E.contents errors.old) (E.contents errors.new) }
         ensures cause { TellsCause (fault_word self.entry.fault) self.entry.cause (E.contents errors.old) (E.contents errors.new) }
@@ -36,18 +36,17 @@ impl<'t> HillTrouble<'t> {
     }
 
     /// Whether it is that another program has the lock of a hill's file.
-    pub(crate) fn is_lock(&self) -> bool {
-        matches!(
-            self.cause,
-            Some(Cause {
-                reason: Reason::Locked,
-                ..
-            })
-        )
+    pub fn is_lock(&self) -> bool
+        ensures { IsTrue result ↔ IsLock self.now }
+    {
+        match self.cause {
+            Some(cause) => cause.reason == Reason::Locked,
+            None => false,
+        }
     }
 
     /// This fault of the hill in a file.
-    pub(crate) fn of(path: &'t str, fault: HillFault) -> HillTrouble<'t>
+    pub fn of(path: &'t str, fault: HillFault) -> HillTrouble<'t>
         ensures fault { result.fault ≡ fault }
         ensures cause { trouble_told result ≡ Some (reason_told (shown_name path.now) (fault_reason fault)) }
     {
@@ -58,7 +57,7 @@ impl<'t> HillTrouble<'t> {
     }
 
     /// The warrior with this entry, on the hill in a file, can't be read.
-    pub(crate) fn damaged(path: &'t str, entry: u64) -> HillTrouble<'t>
+    pub fn damaged(path: &'t str, entry: u64) -> HillTrouble<'t>
         ensures fault { result.fault ≡ HillFault.Damaged }
         ensures cause { trouble_told result ≡ Some (damage_told path.now entry) }
     {
@@ -72,7 +71,7 @@ impl<'t> HillTrouble<'t> {
     }
 
     /// A file that failed for this reason.
-    pub(crate) fn file(path: &'t str, reason: Reason) -> HillTrouble<'t>
+    pub fn file(path: &'t str, reason: Reason) -> HillTrouble<'t>
         ensures fault { result.fault ≡ stream_failed }
         ensures cause { trouble_told result ≡ Some (reason_told (shown_name path.now) reason) }
     {
@@ -83,7 +82,7 @@ impl<'t> HillTrouble<'t> {
     }
 
     /// A stream or a port that failed.
-    pub(crate) fn stream(cause: Cause<'t>) -> HillTrouble<'t>
+    pub fn stream(cause: Cause<'t>) -> HillTrouble<'t>
         ensures fault { result.fault ≡ stream_failed }
         ensures cause { result.cause ≡ Some cause.entry }
     {
@@ -94,7 +93,7 @@ impl<'t> HillTrouble<'t> {
     }
 
     /// Standard output failed.
-    pub(crate) fn output(fault: StreamFault) -> HillTrouble<'t>
+    pub fn output(fault: StreamFault) -> HillTrouble<'t>
         ensures fault { result.fault ≡ stream_failed }
         ensures cause { trouble_told result ≡ Some (reason_told (codes "standard output") fault.reason) }
     {
@@ -102,7 +101,7 @@ impl<'t> HillTrouble<'t> {
     }
 
     /// Memory ran out.
-    pub(crate) fn memory() -> HillTrouble<'t>
+    pub fn memory() -> HillTrouble<'t>
         ensures fault { result.fault ≡ HillFault.Failed Failure.Memory }
         ensures cause { result.cause ≡ None }
     {
@@ -113,7 +112,7 @@ impl<'t> HillTrouble<'t> {
     }
 
     /// A source's file can't be read, or memory ran out.
-    pub(crate) fn from_source(trouble: Trouble<'t>) -> HillTrouble<'t>
+    pub fn from_source(trouble: Trouble<'t>) -> HillTrouble<'t>
         ensures fault { result.fault ≡ HillFault.Failed (failure_of trouble.entry) }
         ensures cause { result.cause ≡ cause_of trouble.entry }
     {
@@ -124,7 +123,7 @@ impl<'t> HillTrouble<'t> {
     }
 
     /// A store refused the hill in a file.
-    pub(crate) fn refused(path: &'t str, refusal: Refusal) -> HillTrouble<'t>
+    pub fn refused(path: &'t str, refusal: Refusal) -> HillTrouble<'t>
         ensures fault { result.fault ≡ fault_of_refusal refusal }
         ensures cause { trouble_told result ≡ Some (reason_told (shown_name path.now) (fault_reason (fault_of_refusal refusal))) }
     {
@@ -132,7 +131,7 @@ impl<'t> HillTrouble<'t> {
     }
 
     /// A hill's file can't be worked on.
-    pub(crate) fn unopened(path: &'t str, fault: OpenFault) -> HillTrouble<'t>
+    pub fn unopened(path: &'t str, fault: OpenFault) -> HillTrouble<'t>
         ensures fault { result.fault ≡ fault_of_file fault }
         ensures cause { trouble_told result ≡ option_map (λ reason. reason_told (shown_name path.now) reason) (open_reason fault) }
     {
@@ -160,11 +159,7 @@ pub(crate) fn fault_of_refusal(refusal: Refusal) -> HillFault
 }
 
 /// Reports that standard output failed, and returns how the program ends.
-pub(crate) fn tell_output<A: Allocator, E: Write>(
-    alloc: A,
-    fault: StreamFault,
-    errors: &mut E,
-) -> Status
+pub fn tell_output<A: Allocator, E: Write>(alloc: A, fault: StreamFault, errors: &mut E) -> Status
     ensures status { result ≡ Status.StreamFault }
     ensures told { TellsWord (failure_word Failure.Stream) (E.contents errors.old) (E.contents errors.new) }
 {

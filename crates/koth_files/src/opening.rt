@@ -1,14 +1,12 @@
-//! Hills in files.
+//! How the hill in a file is opened.
 
-ghost use Rattle.std.specs.Prelude.{◌≡◌, ◌≤◌, false, IfErr, IfOk};
-ghost use Rattle.{hill_store.specs.Opened.IsOpened, koth_server.specs.OldHill.{IsUnopened, TellsNoHill, TellsRefusal}};
+ghost use Rattle.std.specs.Prelude.{◌≡◌, ◌≤◌, ◌↔◌, false, IfErr, IfOk, IfSome, IsTrue};
+ghost use Rattle.{sector_disk.specs.{Disk.current, Served.IsServed}, hill_images.specs.Damage.{IsDamaged, LosesHeader}, hill_store.specs.Opened.IsOpened, koth_files.specs.OldHill.{IsUnopened, TellsNoHill, TellsRefusal}};
 
-use crate::damage::damaged_entry;
 use crate::hill_fault::HillFault;
-use crate::left::is_another_hill;
-use crate::old_hill::holds_old_hill;
 use crate::trouble::{HillTrouble, fault_of_refusal};
-use hill_file::{Headers, HillFile, Sharing, TryLock, require_held};
+use hill_file::{Headers, HillFile, Sharing, TryLock, is_another_hill, require_held};
+use hill_images::{first_damaged, holds_old_hill, loses_header};
 use hill_store::{Refusal, Store};
 use koth_commands::Reason;
 use sector_disk::{Device, Fault};
@@ -21,10 +19,10 @@ use std::time::Duration;
 const TRIES: u64 = 20;
 
 /// A hill in a file.
-pub(crate) type HillStore<'f, R, A> = Store<HillFile<'f, R>, A>;
+pub type HillStore<'f, R, A> = Store<HillFile<'f, R>, A>;
 
 /// Opens the hill in a file.
-pub(crate) fn open_hill<'f, R: Files, A: Allocator + Copy>(
+pub fn open_hill<'f, R: Files, A: Allocator + Copy>(
     rt: &'f R,
     alloc: A,
     path: &'f str,
@@ -44,7 +42,7 @@ where
 }
 
 /// Opens the hill in a file for this program alone, if the file's lock keeps all others out.
-pub(crate) fn open_alone<'f, R: Files, A: Allocator + Copy>(
+pub fn open_alone<'f, R: Files, A: Allocator + Copy>(
     rt: &'f R,
     alloc: A,
     path: &'f str,
@@ -64,7 +62,7 @@ where
 
 /// Opens the hill in a file for this program alone. As long as another program has the lock of the file, that is tried again, for this
 /// number of seconds.
-pub(crate) fn open_within<'f, R: Files + Clock, A: Allocator + Copy>(
+pub fn open_within<'f, R: Files + Clock, A: Allocator + Copy>(
     rt: &'f R,
     alloc: A,
     path: &'f str,
@@ -87,7 +85,7 @@ where
 
 /// Opens the hill in a file again, which a device has left with these headers. If another hill is there, or an earlier state of that one, nothing
 /// is written, and another program is said to use the file.
-pub(crate) fn reopen_hill<'f, R: Files, A: Allocator + Copy>(
+pub fn reopen_hill<'f, R: Files, A: Allocator + Copy>(
     rt: &'f R,
     alloc: A,
     path: &'f str,
@@ -137,9 +135,56 @@ where
     R::File: TryLock,
 {
     match HillFile::open(rt, path, Sharing::Shared) {
-        Ok(mut device) => damaged_entry(alloc, &mut device),
+        Ok(mut device) => damaged_on(alloc, &mut device),
         Err(_) => None,
     }
+}
+
+/// That of the hill on a device.
+fn damaged_on<D: Device, A: Allocator + Copy>(alloc: A, device: &mut D) -> Option<u64>
+    ensures { D.facts.lawful device.old → IfSome result (IsDamaged (current (D.facts.disk device.old))) }
+{
+    if device.sectors() < 2 {
+        return None;
+    }
+    first_damaged(alloc, device)
+}
+
+/// Whether a header in the file at this path can't be read though it begins as one, and the hill is there by the other one. It is looked for
+/// twice, since a service may be writing it.
+pub fn has_lost_header<R: Files>(rt: &R, path: &str) -> bool
+where
+    R::File: TryLock,
+{
+    match HillFile::open(rt, path, Sharing::Shared) {
+        Ok(mut device) => is_lost_twice(&mut device),
+        Err(_) => false,
+    }
+}
+
+/// Whether two looks at a device, one after the other, find such a header.
+fn is_lost_twice<D: Device>(device: &mut D) -> bool {
+    if device.sectors() < 2 {
+        return false;
+    }
+    match lost_header(device) {
+        Ok(true) => lost_header(device).unwrap_or(false),
+        Ok(false) | Err(Fault) => false,
+    }
+}
+
+/// Whether one of the headers of a device is such a one.
+fn lost_header<D: Device>(device: &mut D) -> Result<bool, Fault>
+    requires { 2 ≤ D.facts.size device.old }
+    ensures served { IsServed D.facts device.old device.new result }
+    ensures lost { D.facts.lawful device.old → IfOk result (λ lost.
+        IsTrue lost ↔ LosesHeader (current (D.facts.disk device.old) 0) (current (D.facts.disk device.old) 1)) }
+{
+    let mut even = [0; 512];
+    let mut odd = [0; 512];
+    device.read(0, &mut even)?;
+    device.read(1, &mut odd)?;
+    Ok(loses_header(&even, &odd))
 }
 
 /// Opens the hill on a device.

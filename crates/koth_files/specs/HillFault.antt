@@ -1,9 +1,9 @@
 -- What is reported of a command on a hill that was not carried out.
-use Rattle.std.specs.Prelude.{ℕ, Option, None, Some, option_map, List, ◌++◌, codes, decimal}
+use Rattle.std.specs.Prelude.{◌≡◌, ℕ, Option, None, Some, option_map, List, ◌++◌, codes, decimal}
 use Rattle.{hill_file.specs.declared.open_fault.OpenFault.OpenFault, hill_images.specs.declared.refusal.Refusal.Refusal, koth_commands.specs.{Cause.{cause_told, error_reason, reason_told}, Name.shown_name}}
-use Rattle.koth_commands.specs.{Failure.{failure_status, failure_word}, declared.cause.Reason.Reason, declared.status.Status.Status, declared.failure.Failure.Failure}
-use Rattle.koth_server.specs.{declared.hill_fault.HillFault.HillFault, declared.hill_fault.HillFault.TheVariants.{TooSmall, Occupied, NotAHill, OldHill, Damaged, Failed}}
-use Rattle.koth_server.specs.declared.trouble.HillTrouble.{HillTrouble}
+use Rattle.koth_commands.specs.{Failure.{failure_status, failure_word}, declared.cause.{Cause.Cause, Reason.Reason}, declared.status.Status.Status, declared.failure.Failure.Failure}
+use Rattle.koth_files.specs.{declared.hill_fault.HillFault.HillFault, declared.hill_fault.HillFault.TheVariants.{TooSmall, Occupied, NotAHill, OldHill, Damaged, Failed}}
+use Rattle.koth_files.specs.declared.trouble.HillTrouble.{HillTrouble}
 
 -- the word on standard error
 abbrev pub fault_word : HillFault → List ℕ
@@ -63,6 +63,10 @@ open_reason OpenFault.Memory = None
 open_reason OpenFault.Locked = Some Reason.Locked
 open_reason OpenFault.Occupied = Some Reason.NotEmpty
 open_reason (OpenFault.Failed kind) = Some (error_reason kind)
+
+-- another program has the lock of the file
+abbrev pub IsLock : HillTrouble → Type 0
+IsLock trouble = (cause : Cause) × (trouble.cause ≡ Some cause) × (cause.reason ≡ Reason.Locked)
 
 -- the line of its cause, if that is known
 abbrev pub trouble_told : HillTrouble → Option (List ℕ)

@@ -21,10 +21,10 @@ pub enum HillFault {
 
 impl HillFault {
     ghost use Rattle.std.specs.Prelude.{◌≡◌};
-    ghost use Rattle.koth_server.specs.HillFault.{fault_reason, fault_status, fault_word};
+    ghost use Rattle.koth_files.specs.HillFault.{fault_reason, fault_status, fault_word};
 
     /// The word that programs know it by.
-    pub(crate) fn word(self) -> &'static str
+    pub fn word(self) -> &'static str
         ensures { result.now ≡ fault_word self }
     {
         match self {
@@ -37,7 +37,7 @@ impl HillFault {
     }
 
     /// How the program ends with it.
-    pub(crate) fn status(self) -> Status
+    pub fn status(self) -> Status
         ensures { result ≡ fault_status self }
     {
         match self {
@@ -47,7 +47,7 @@ impl HillFault {
     }
 
     /// What people read of it.
-    pub(crate) fn reason(self) -> Reason
+    pub fn reason(self) -> Reason
         ensures { result ≡ fault_reason self }
     {
         match self {

@@ -1,22 +1,8 @@
 -- How it is known that a device holds a hill of the old format, and what is reported of a device whose hill is not opened.
-use Rattle.std.specs.Prelude.{◌≡◌, ◌≢◌, ◌⊎◌, ℕ, ◌%◌, Bool, true, false, List, Some, None}
-use Rattle.{sector_disk.specs.{Disk.current, Facts.DeviceFacts, Served.{Failed, IsKept}}, hill_bytes.specs.Layout.{HeaderParts, IsHeader, old_layout}}
-use Rattle.{hill_images.specs.{Found.IsFoundIn, Opening.{HoldsNoneIn, IsNotOpened}, declared.refusal.Refusal.Refusal}, koth_server.specs.HillFault.fault_of_refusal}
-use Rattle.koth_server.specs.{declared.hill_fault.HillFault.HillFault, declared.hill_fault.HillFault.TheVariants.{TooSmall, Occupied, NotAHill, OldHill, Damaged, Failed as Fails}}
-
--- whether these bytes, as sector n, are a valid header of the old format
-abbrev pub IsOldHeaderIf : ℕ → List ℕ → Bool → Type 0
-IsOldHeaderIf n bytes true = (h : HeaderParts) × IsFoundIn old_layout n bytes (Some h)
-IsOldHeaderIf n bytes false = IsFoundIn old_layout n bytes None
-
--- a sector holds a valid header of the old format
-abbrev pub HoldsOld : (ℕ → List ℕ) → Type 0
-HoldsOld image = (h : HeaderParts) × IsHeader old_layout (image (h.generation % 2)) h
-
--- whether one of the first two sectors does
-abbrev pub HoldsOldIf : (ℕ → List ℕ) → Bool → Type 0
-HoldsOldIf image true = HoldsOld image
-HoldsOldIf image false = HoldsNoneIn old_layout image
+use Rattle.std.specs.Prelude.{◌≡◌, ◌≢◌, ◌⊎◌}
+use Rattle.{sector_disk.specs.{Disk.current, Facts.DeviceFacts, Served.{Failed, IsKept}}, hill_bytes.specs.Layout.old_layout}
+use Rattle.{hill_images.specs.{Opening.{HoldsNoneIn, HoldsOld, IsNotOpened}, declared.refusal.Refusal.Refusal}, koth_files.specs.HillFault.fault_of_refusal}
+use Rattle.koth_files.specs.{declared.hill_fault.HillFault.HillFault, declared.hill_fault.HillFault.TheVariants.{TooSmall, Occupied, NotAHill, OldHill, Damaged, Failed as Fails}}
 
 -- what is reported of a device without a hill of the new format: whether it holds a hill of the old one, unless reading it for that failed
 abbrev pub TellsNoHill : {D : Type 0} → DeviceFacts D → D → D → HillFault → Type 0

@@ -1,6 +1,6 @@
 -- The word is written with its cause, and so with some text.
 use Rattle.{std.proofs.Common.subst, koth_commands.specs.Told.TellsWord, koth_commands.proofs.Told.cause_word}
-use Rattle.koth_server.proofs.trouble.HillTrouble.tell.Goals as goal
+use Rattle.koth_files.proofs.trouble.HillTrouble.tell.Goals as goal
 
 pub returns-clause-told : goal.returns-clause-told
 returns-clause-told g c =
