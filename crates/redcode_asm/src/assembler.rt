@@ -36,7 +36,6 @@ pub fn assemble<A: Allocator + Copy>(
 }
 
 /// The same within a budget of steps: `Memory` is answered too if they are spent.
-#[tactic(auto, unfolding(crate::specs::Assembly::assembly))]
 pub(crate) fn assemble_by<A: Allocator + Copy>(
     alloc: A,
     source: &[u8],

@@ -2,7 +2,7 @@
 use Rattle.std.proofs.Common.{◌≡◌, ℕ, zero, suc, ◌+◌, ◌/◌, ◌%◌, ◌<◌, ◌≤◌, Bool, ◌||◌, ◌&&◌, true, false, if◌then◌else◌, List, [], ◌∷◌, ◌++◌, length, map, is_some, Option, Some, None, codes, refl, sym}
 use Rattle.{std.proofs.Common.{ap, subst, ◌∙◌, arith, inl, inr}, std.specs.{Prelude.{◌==◌, decimal}, Fmt.{digits, digits_onto, digit_glyph}, Str.bytes_eq}}
 use Rattle.{std.proofs.{lemmas.Bool.{cases_Bool, or_parts}, lemmas.Slice.Eq.bytes_eq-Decides}, redcode_text.specs.{Tokens.Piece, declared.vocabulary.Word.Word}}
-use Rattle.redcode_lines.specs.{declared.reading.LineForm.LineForm, Line.{SourceLine, has_text, is_name, is_name_token, taken_while, dropped_while}, Capped.has_and}
+use Rattle.redcode_lines.specs.{declared.reading.LineForm.LineForm, Line.{SourceLine, has_and, has_text, is_name, is_name_token, taken_while, dropped_while}}
 use Rattle.redcode_copies.specs.Counter.{Counter, number_token, is_counter, is_join, joined, joined_from, kept, numbered, is_label, behind_operation, behind_word, without_word, copied_tokens, in_copy}
 use Rattle.redcode_copies.specs.{Counter.in_copies, Plain.{has_number, number_of, number_or_token, number_by, modifier_count, kept_behind, kept_count, changed_from, plain_copy}}
 

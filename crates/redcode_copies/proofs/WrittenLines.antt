@@ -1,7 +1,7 @@
 -- A line without an `&` as it is written in a copy.
 use Rattle.std.proofs.{Common.{◌≡◌, ℕ, zero, suc, false, List, [], ◌∷◌, ◌++◌, ◌-◌, length, map, take, drop, refl, sym, ap, ◌∙◌, arith, length-take}, lemmas.List.length-map}
 use Rattle.{redcode_text.specs.{declared.token.Token.Token, Tokens.{Piece, piece_of, pieces}}, redcode_lines.specs.Line.{SourceLine, is_name_token, taken_while, dropped_while}}
-use Rattle.{redcode_lines.specs.Capped.has_and, redcode_lines.proofs.Readings.take-taken_while, redcode_copies.specs.{Counter.{Counter, in_copies}, Views.{line_tokens, with_tokens}}}
+use Rattle.{redcode_lines.specs.Line.has_and, redcode_lines.proofs.Readings.take-taken_while, redcode_copies.specs.{Counter.{Counter, in_copies}, Views.{line_tokens, with_tokens}}}
 use Rattle.{redcode_copies.specs.Plain.{has_number, number_by, kept_count, changed_from}, redcode_copies.proofs.PlainLines.{copies-plain, none-changed}}
 
 -- ---- the tokens that are written

@@ -1,7 +1,7 @@
 //! Lines without an `&`: in them no name is joined, so all counters are replaced at once.
 
 ghost use Rattle.std.specs.Prelude.{◌≡◌, ◌≤◌, ◌++◌, false, length, map, take, drop, Some, None, IfOk, OnOk, MatchOption};
-ghost use Rattle.{redcode_text.specs.Tokens.{piece_of, pieces}, redcode_lines.specs.{Capped.has_and, Views.line_read}};
+ghost use Rattle.{redcode_text.specs.Tokens.{piece_of, pieces}, redcode_lines.specs.{Line.has_and, Views.line_read}};
 ghost use Rattle.redcode_copies.specs.{Counter.in_copies, Plain.{changed_from, has_number, kept_behind, kept_count, modifier_count, number_by}, Views.with_tokens};
 
 use crate::counter::number_token;

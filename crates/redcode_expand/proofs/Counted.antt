@@ -1,7 +1,7 @@
 -- Each address of a walk is a number of instructions among its lines, and each of an expansion as well.
 use Rattle.std.proofs.Common.{◌≡◌, ℕ, zero, suc, ◌+◌, ◌<◌, Bool, if◌then◌else◌, List, [], ◌∷◌, ◌++◌, length, take, drop, unwrap_or, Option, Some, None, Result, Ok, Err, refl, arith, true}
-use Rattle.{std.proofs.Common.{false, nat_lt, sym, ◌∙◌}, std.specs.Bool.⊤, std.proofs.lemmas.List.{take_all, take-append-le, length-append}, std.specs.{Result.IfOk, Str.bytes_eq}}
-use Rattle.{war_types.specs.declared.fault.AsmKind.AsmKind, redcode_lines.specs.Source.live_lines, redcode_names.specs.Gives.{◌>>=◌, fault_at, Gives}}
+use Rattle.{std.proofs.Common.{false, nat_lt, sym, ◌∙◌}, std.specs.Bool.⊤, std.proofs.lemmas.List.{take_all, take-append-le, length-append}, std.specs.Str.bytes_eq}
+use Rattle.{war_types.specs.declared.fault.AsmKind.AsmKind, redcode_lines.specs.Source.live_lines, redcode_names.specs.Gives.{◌>>=◌, fault_at}}
 use Rattle.redcode_expand.specs.Walk.{ExpandedLine, WalkState, Begun, begun, begun_as, begun_of, closed, copied, copies, copies_of, counted, equated, labelled, step, step_by, until_end}
 use Rattle.redcode_expand.specs.{Walk.{walk, walk_all, walk_begin, with_line, with_other, with_word, worded}, Laws.{instruction_of, instructions, before_at, IsPlace, AreCounted}}
 use Rattle.redcode_expand.specs.Expansion.{Expansion, all_replaced, expansion, finished, line_replaced}
@@ -243,12 +243,8 @@ place-among old new (label ∷ labels) name address same are is =
 counted-finished : (st : WalkState) → IsCounted st → Holds AreCounted (finished st)
 counted-finished st h1 = grind (arith, lines-of, from-at, place-among)
 
-expansion-counted : (s : RawSettings) (source : List ℕ) → Holds AreCounted (expansion s source)
+pub expansion-counted : (s : RawSettings) (source : List ℕ) → Holds AreCounted (expansion s source)
 unfolding expansion
 expansion-counted s source =
     either AreCounted (nat_lt 65536 (length source)) (Err (fault_at 0 AsmKind.SourceTooLong)) (walk_all s (parsed (source_lines (live_lines source))) walk_begin >>= finished) tt
     (bind IsCounted AreCounted (walk_all s (parsed (source_lines (live_lines source))) walk_begin) finished (holds-all s (parsed (source_lines (live_lines source)))) (λ st is. counted-finished st is))
-
--- what is expanded is counted
-pub if-counted : (s : RawSettings) (source : List ℕ) (result : Result Expansion AsmFault) → Gives (λ e. e) result (expansion s source) → IfOk result AreCounted
-if-counted s source result h1 = grind (arith, expansion-counted)

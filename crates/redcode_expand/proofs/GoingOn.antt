@@ -1,10 +1,10 @@
 -- How the walk goes on within open blocks: after a line, a FOR and a ROF, at the end of a copy, and whether a FOR has its ROF.
 use Rattle.std.proofs.Common.{◌≡◌, ◌≢◌, ℕ, suc, ◌+◌, ◌≤◌, Bool, true, false, List, [], ◌∷◌, ◌++◌, drop, nat_eq, Result, Ok, refl, sym, ap, ◌∙◌, arith, subst, zero, ◌-◌, ◌*◌, ◌<◌, length, Option, Some}
 use Rattle.{std.proofs.Common.leb, std.specs.Prelude.if◌then◌else◌, std.proofs.{lemmas.Bool.{true≢false, cond_both}, lemmas.Bool.Decides.nat_tests, lemmas.List.{drop_all, length-drop}}}
-use Rattle.{redcode_names.specs.Gives.{◌>>=◌, Fails}, redcode_expand.specs.{Marks.AreFromRof, Walk.{WalkState, Begun, walk, step, begun, closed, copied, copies, until_end, begun_as, IsCopied}}}
+use Rattle.{redcode_names.specs.Gives.{◌>>=◌, Fails}, redcode_expand.specs.{declared.marked_lines.Edge.Edge, Cut.{cut_walk, with_cut}, Marks.{AreFromRof, edge_of}, Walk.{WalkState, Begun, walk, step, begun, closed, copied, copies, until_end, begun_as, IsCopied}}}
 use Rattle.redcode_expand.specs.Rest.{OpenBlock, open_block, counters_of, more_copies, behind_copy, rest_of, counts, AreOpen, steps_left, GoesOn, IsUnmatched}
 use Rattle.redcode_expand.proofs.Words.{AsmFault, RawSettings, SourceLine, Blocks, Parsed, parsed, behind_for, finish, one_line, block, open_for, behind_by, behind_rof, with_body, Counter, counter_of}
-use Rattle.redcode_expand.proofs.Words.{Word}
+use Rattle.redcode_expand.proofs.{Cut.rest-after, Words.Word}
 use Rattle.redcode_text.specs.declared.vocabulary.Word.TheVariants as words
 
 -- ---- the steps that are left
@@ -76,10 +76,29 @@ rest-ended s ls bs left st h1 = grind (arith, walk-ended, copy-ended)
 
 -- ---- the lines of the walk
 
+line-rest : (s : RawSettings) (ls : List SourceLine) (bs : List OpenBlock) (at : ℕ) (line : SourceLine) (st : WalkState)
+    → st.ended ≡ false → drop at ls ≡ line ∷ drop (at + 1) ls → edge_of line.word ≡ Edge.Neither
+    → rest_of s ls bs (parsed (drop at ls)) st ≡ step s (counters_of bs) line st >>= rest_of s ls bs (parsed (drop (at + 1) ls))
+line-rest s ls bs at line st h1 h2 h3 = grind arith
+
 pub line-fails : (s : RawSettings) (ls : List SourceLine) (bs : List OpenBlock) (at : ℕ) (line : SourceLine) (st : WalkState) (fault : AsmFault)
-    → st.ended ≡ false → drop at ls ≡ line ∷ drop (at + 1) ls → line.word ≢ Some words.For → line.word ≢ Some words.Rof
-    → Fails fault (step s (counters_of bs) line st) → Fails fault (rest_of s ls bs (parsed (drop at ls)) st)
-line-fails s ls bs at line st fault h1 h2 h3 h4 h5 = grind arith
+    → st.ended ≡ false → drop at ls ≡ line ∷ drop (at + 1) ls → edge_of line.word ≡ Edge.Neither
+    → Fails fault (with_cut (step s (counters_of bs) line st)) → Fails fault (rest_of s ls bs (parsed (drop at ls)) st)
+line-fails s ls bs at line st fault h1 h2 h3 h4 = grind (arith, line-rest)
+
+line-open : (ls : List SourceLine) (bs : List OpenBlock) (at : ℕ) (line : SourceLine) → drop at ls ≡ line ∷ drop (at + 1) ls → edge_of line.word ≡ Edge.Neither
+    → AreOpen ls bs (parsed (drop at ls)).1 → AreOpen ls bs (parsed (drop (at + 1) ls)).1
+line-open ls bs at line h1 h2 h3 = grind arith
+
+-- a line that makes no block
+pub line-goes-on : (s : RawSettings) (ls : List SourceLine) (bs : List OpenBlock) (at : ℕ) (line : SourceLine) (st new : WalkState) → at < length ls → st.ended ≡ false
+    → drop at ls ≡ line ∷ drop (at + 1) ls → edge_of line.word ≡ Edge.Neither → AreOpen ls bs (parsed (drop at ls)).1 → with_cut (step s (counters_of bs) line st) ≡ Ok (cut_walk new)
+    → new.counted ≡ st.counted + 1 → st.counted < 4096 → length ls ≤ 65536 → GoesOn s ls (rest_of s ls bs (parsed (drop at ls)) st) (steps_left ls bs at st) bs (at + 1) new
+line-goes-on s ls bs at line st new some going read neither opened is counts room few = record {
+  rest = rest-after s ls bs (parsed (drop (at + 1) ls)) (step s (counters_of bs) line st) new is ∙ ap with_cut (sym (line-rest s ls bs at line st going read neither));
+  opened = line-open ls bs at line read neither opened;
+  less = omega (arith, counts, room, few, some, one-or-none bs new, one-or-none bs st);
+}
 
 -- at a FOR
 pub for-here : (ls : List SourceLine) (at : ℕ) (line : SourceLine) → drop at ls ≡ line ∷ drop (at + 1) ls → line.word ≡ Some words.For
@@ -114,10 +133,10 @@ block-goes-on s ls bs at line st new name (suc m) few some going read word opene
     let less-one : suc m - 1 ≡ m = omega arith in
     let start : counts (open_block line.number (counter_of name 1) m new.counted (at + 1) ∷ bs) new ≡ 0 = ap (λ (b : Bool). if b then 0 else 1) (nat_eq-same new.counted) in
     rw less-one (record {
-      rest = sym (
+      rest = ap with_cut (sym (
           ap (λ (p : Parsed). rest_of s ls bs p st) here ∙ rest-begun s ls bs line left found.0 found.1 st at-rof going
           ∙ ap (λ (x : Result Begun AsmFault). x >>= begun_rest s ls bs line left.0 found.0 found.1) done
-          ∙ copies-go s ls bs name line.number 1 m (at + 1) found.0 found.1 new at-rof (same-end ∙ going));
+          ∙ copies-go s ls bs name line.number 1 m (at + 1) found.0 found.1 new at-rof (same-end ∙ going)));
       opened = subst (λ (rs : List (SourceLine × Blocks)). AreOpen ls (open_block line.number (counter_of name 1) m new.counted (at + 1) ∷ bs) rs) (sym at-rof)
           (at-rof, subst (λ (rs : List (SourceLine × Blocks)). AreOpen ls bs (with_body line left.0 rs).1) at-rof opened-here);
       less = fewer-behind st.counted new.counted _ (counts bs st) (length ls - (at + 1)) (length ls - at) same (omega (arith, start)) (omega arith);

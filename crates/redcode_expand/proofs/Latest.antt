@@ -3,10 +3,10 @@ use Rattle.std.proofs.Common.{◌≡◌, ℕ, zero, suc, ◌+◌, ◌<◌, ◌�
 use Rattle.{std.specs.{Prelude.{All, slice_set}}, std.proofs.lemmas.{Bool.{eqb-true}, Bool.Decides.nat_tests, List.Elements.{All-head, All-tail, All-replicate}}}
 use Rattle.std.proofs.{lemmas.List.{get_or-replicate, get_or-set_same, get_or-set_other, length-map, length-replicate, length-set, map-set}}
 use Rattle.{redcode_names.specs.Gives.◌>>=◌, redcode_names.proofs.Unchanged.replaced-left, redcode_text.specs.Value.value_of, redcode_expand.specs.{declared.counts.Stamped.Stamped, Marks.{line_in, IsSameCount, ReadSame}}}
-use Rattle.redcode_expand.specs.Kept.{CountList, Keeps, count_list, counter_before, kept_at, latest_of, AreFixed, AreKept, AreLatest, IsLatest, IsStamped}
+use Rattle.redcode_expand.specs.Kept.{CountList, count_list, counter_before, kept_at, latest_of, AreFixed, AreKept, AreLatest, IsLatest, IsStamped}
 use Rattle.redcode_expand.specs.Walk.{Begun, WalkState, begun, begun_as, copies_of, count_by, walk_begin}
 use Rattle.redcode_expand.proofs.{Words.{AsmFault, RawSettings, Piece, SourceLine, labels_of, names_among, Counter, in_copies, in_copy, EquList, replaced, left_over, after_rounds, is_name, Names, for_labels, predefined, Word}}
-use Rattle.redcode_expand.proofs.{GoingOn.{nat_eq-other, nat_eq-same}, Keeping.{None≢Some, all-later, all-same, none-kept}, PlainCounts.copies-word}
+use Rattle.redcode_expand.proofs.{GoingOn.{nat_eq-other, nat_eq-same}, Keeping.{None≢Some, all-same, none-kept}, PlainCounts.copies-word}
 use Rattle.redcode_text.specs.declared.vocabulary.Word.TheVariants as words
 
 -- ---- epochs
@@ -176,10 +176,11 @@ kept-none s lines counts n room is = subst (AreKept s lines [] walk_begin) (sym 
 })
 
 -- whatever counters there are then, those that stay the same are kept
-pub kept-later : (s : RawSettings) (lines : List SourceLine) (cs after : List Counter) (st new : WalkState) (counts risen : CountList) → Keeps s st.names.equs new.names.equs
+pub kept-later : (s : RawSettings) (lines : List SourceLine) (cs after : List Counter) (st new : WalkState) (counts risen : CountList)
+    → (AreFixed s lines st.names.equs counts.fixed → AreFixed s lines new.names.equs counts.fixed)
     → risen ≡ count_list counts.fixed (replicate (length counts.latest) None) → AreKept s lines cs st counts → AreKept s lines after new risen
 kept-later s lines cs after st new counts risen keeps is are = subst (AreKept s lines after new) (sym is) (record {
-  fixed = all-later s lines st.names.equs new.names.equs counts.fixed keeps are.fixed;
+  fixed = keeps are.fixed;
   latest = latest-none s lines after new (length counts.latest) are.latest.room;
 })
 

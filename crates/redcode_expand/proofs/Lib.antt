@@ -6,8 +6,8 @@ mod GoingOn
 mod Marks
 mod Rows
 mod RowsOfBlocks
-mod Alike
-mod Capped
+mod Cut
+mod Shown
 mod Keeping
 mod Latest
 mod AddedEqus

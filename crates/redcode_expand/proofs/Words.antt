@@ -2,7 +2,7 @@
 pub use Rattle.war_types.specs.declared.fault.AsmFault.{AsmFault}
 pub use Rattle.war_types.specs.declared.settings.RawSettings.{RawSettings}
 pub use Rattle.redcode_text.specs.Tokens.{Piece}
-pub use Rattle.redcode_lines.specs.Line.{SourceLine, labels_of, behind_labels, label_tokens, names_among, is_name}
+pub use Rattle.redcode_lines.specs.Line.{SourceLine, labels_of, behind_labels, label_tokens, names_among, is_name, has_and}
 pub use Rattle.redcode_lines.specs.Block.{Blocks, Parsed, parsed, behind_by, with_body, finish, one_line, block, open_for, source_lines, behind_for, behind_rof}
 pub use Rattle.redcode_copies.specs.Counter.{Counter, in_copies, counter_of, in_copy}
 pub use Rattle.redcode_copies.specs.Plain.{changed_from, kept_count, number_by, plain_copy, has_number, number_of}
@@ -11,4 +11,3 @@ pub use Rattle.redcode_names.specs.Name.{Names, defined, all_defined, but_last, 
 pub use Rattle.redcode_text.specs.declared.vocabulary.Word.{Word}
 pub use Rattle.redcode_lines.specs.declared.line.LineKind.{LineKind}
 pub use Rattle.redcode_lines.specs.declared.reading.LineForm.{LineForm}
-pub use Rattle.redcode_lines.specs.Capped.{has_and, has_operands, is_limited, is_capped, capped}

@@ -2,6 +2,8 @@
 pub mod Walk
 -- and its result, with the names of EQUs replaced
 pub mod Expansion
+-- what the code keeps of a walk, and shows of an expansion
+pub mod Cut
 -- laws that hold of them
 pub mod Laws
 -- what the code keeps: what is left of a source within blocks that are open

@@ -1,6 +1,6 @@
 -- What the walk knows of the lines of a source before it reads them. No part of the definition: a shorter way to the same.
 use Rattle.std.specs.Prelude.{◌≡◌, ℕ, ◌+◌, ◌<◌, ◌≤◌, Bool, false, not, ◌||◌, ◌&&◌, List, [], ◌∷◌, length, drop, Option, Some, None, ⊤, slice_index_or}
-use Rattle.{redcode_text.specs.{declared.vocabulary.Word.Word, Tokens.Piece}, redcode_lines.specs.{Line.{SourceLine, is_name, source_line}, Block.parsed, Capped.has_and}}
+use Rattle.{redcode_text.specs.{declared.vocabulary.Word.Word, Tokens.Piece}, redcode_lines.specs.{Line.{SourceLine, has_and, is_name, source_line}, Block.parsed}}
 use Rattle.{redcode_lines.specs.declared.reading.LineForm.LineForm, redcode_names.specs.Equ.has_tokens, redcode_expand.specs.{declared.marked_lines.Edge.Edge, declared.marked_lines.Mark.Mark}}
 
 -- the line at this index

@@ -2,7 +2,7 @@
 use Rattle.std.specs.Prelude.{◌≡◌, ℕ, suc, ◌+◌, ◌-◌, ◌*◌, ◌≤◌, ◌<◌, ◌^◌, Bool, true, false, IsTrue, nat_eq, if◌then◌else◌, List, [], ◌∷◌, ◌++◌, length, drop, ⊤, Option, Some, None, Result, Ok, Err}
 use Rattle.{std.specs.{Option.option_map, Str.bytes_eq}, war_types.specs.{declared.fault.AsmFault.AsmFault, declared.settings.RawSettings.RawSettings, declared.fault.AsmKind.AsmKind}}
 use Rattle.{redcode_lines.specs.{Line.SourceLine, Block.{Blocks, Parsed, parsed}}, redcode_copies.specs.Counter.{Counter, counter_of}}
-use Rattle.{redcode_names.specs.{Gives.{◌>>=◌, fault_at}, Name.{LabelList, address_of}}, redcode_expand.specs.Walk.{WalkState, walk, copies, copied, closed, unmatched, until_end}}
+use Rattle.{redcode_names.specs.{Gives.{◌>>=◌, fault_at}, Name.{LabelList, address_of}}, redcode_expand.specs.{Cut.with_cut, Walk.{WalkState, walk, copies, copied, closed, unmatched, until_end}}}
 
 -- a block whose copies are being written
 pub record OpenBlock : Type 0 where
@@ -65,9 +65,10 @@ steps_left lines blocks at st = (4096 - st.counted) * 131074 + (counts blocks st
 abbrev pub walk_steps : ℕ
 walk_steps = 537010177 * 2 ^ 32
 
--- how the walk goes on within these blocks at the line of this index: what is left is what was due, and fewer steps than these are left
+-- how the walk goes on within these blocks at the line of this index: what is left is what was due, both cut, and fewer steps than these
+-- are left
 pub record GoesOn (s : RawSettings) (lines : List SourceLine) (due : Result WalkState AsmFault) (steps : ℕ) (blocks : List OpenBlock) (at : ℕ) (st : WalkState) : Type 0 where
-  pub rest : rest_of s lines blocks (parsed (drop at lines)) st ≡ due
+  pub rest : with_cut (rest_of s lines blocks (parsed (drop at lines)) st) ≡ with_cut due
   pub opened : AreOpen lines blocks (parsed (drop at lines)).1
   pub less : steps_left lines blocks at st < steps
 

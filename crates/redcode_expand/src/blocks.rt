@@ -3,7 +3,7 @@
 ghost use Rattle.std.specs.Prelude.{◌≡◌, ◌+◌, ◌<◌, ◌≤◌, ◌∷◌, [], false, Some, drop, length, IfSome, MatchResult, OnOk};
 ghost use Rattle.{war_types.specs.declared.fault.AsmKind.TheVariants.UnmatchedFor, redcode_text.specs.declared.vocabulary.Word.TheVariants.{For, Rof}, redcode_lines.specs.Block.parsed};
 ghost use Rattle.{redcode_names.specs.Gives.{Gives, Fails, fault_at}, redcode_expand.specs.Rest.{counters_of, rest_of, rest_behind, steps_left, walk_steps, AreOpen, GoesOn, IsUnmatched, Passes}};
-ghost use Rattle.redcode_expand.specs.{Walk.{walk_all, walk_begin, begun, closed}, Kept.AreKept, Marks.line_in};
+ghost use Rattle.redcode_expand.specs.{Walk.{walk_all, walk_begin, begun, closed}, Kept.AreKept, Cut.{cut_walk, with_cut}, Marks.line_in};
 
 use crate::beginning::begun_at;
 use crate::counts::Counts;
@@ -29,7 +29,7 @@ pub(crate) fn walk_all<'s, A: Allocator + Copy>(
 ) -> Result<Walk<'s, A>, AsmFault>
     requires { length lines.now ≤ 65536 }
     ensures steps { steps.old ≤ steps.new + walk_steps }
-    ensures walk { Gives (λ walk. walk) result (walk_all settings.now (parsed lines.now) walk_begin) }
+    ensures walk { Gives cut_walk result (with_cut (walk_all settings.now (parsed lines.now) walk_begin)) }
 {
     let mut counts = Counts::new(alloc, lines.len())?;
     let lines = MarkedLines::new(alloc, lines)?;
@@ -49,7 +49,7 @@ fn walk_marked<'s, A: Allocator + Copy>(
     requires few { length lines.now ≤ 65536 }
     requires kept { AreKept settings.now lines.now [] walk_begin counts.old }
     ensures steps { steps.old ≤ steps.new + walk_steps }
-    ensures walk { Gives (λ walk. walk) result (walk_all settings.now (parsed lines.now) walk_begin) }
+    ensures walk { Gives cut_walk result (with_cut (walk_all settings.now (parsed lines.now) walk_begin)) }
 {
     let mut walk = Walk::new(alloc, hash);
     match walk_begun(
@@ -75,7 +75,7 @@ fn walk_begun<'s, A: Allocator + Copy>(
     requires begin { walk.old ≡ walk_begin }
     requires kept { AreKept settings.now lines.now [] walk_begin counts.old }
     ensures steps { steps.old ≤ steps.new + walk_steps }
-    ensures walk { Gives (λ _. walk.new) result (walk_all settings.now (parsed lines.now) walk_begin) }
+    ensures walk { Gives (λ _. cut_walk walk.new) result (with_cut (walk_all settings.now (parsed lines.now) walk_begin)) }
 {
     let mut blocks = OpenBlocks::new(alloc, region, hash);
     walk_lines(settings, walk, &mut blocks, counts, lines, steps)
@@ -95,7 +95,7 @@ fn walk_lines<'s, A: Allocator + Copy>(
     requires none { blocks.old ≡ [] }
     requires kept { AreKept settings.now lines.now [] walk_begin counts.old }
     ensures steps { steps.old ≤ steps.new + walk_steps }
-    ensures walk { Gives (λ _. walk.new) result (walk_all settings.now (parsed lines.now) walk_begin) }
+    ensures walk { Gives (λ _. cut_walk walk.new) result (with_cut (walk_all settings.now (parsed lines.now) walk_begin)) }
 {
     let mut at = 0;
     while at < lines.len() && !walk.ended {

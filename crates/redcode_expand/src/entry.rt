@@ -1,9 +1,15 @@
 //! Lines of an expanded source.
 
+ghost use Rattle.std.specs.Prelude.{◌≡◌, ◌++◌, IfOk};
+ghost use Rattle.{redcode_text.specs.Tokens.{piece_of, pieces}, redcode_lines.specs.Line.is_bad, redcode_expand.specs.Cut.{cut_tokens, first_bad}};
+
 use redcode_lines::Line;
-use redcode_text::{Token, Word};
-use std::alloc::Allocator;
+use redcode_text::{Token, TokenKind, Word};
+use std::alloc::{AllocError, Allocator};
 use std::marker::Model;
+
+/// A word, a dot, a modifier's name, and one operand more than a line may have.
+const MOST_TOKENS: usize = 516;
 
 /// A line of an expanded source, with its texts.
 #[derive(Drop)]
@@ -15,8 +21,8 @@ pub struct Entry<'s, A: Allocator> {
     /// The text after the word of a `;name` or an `;author` line; empty for other lines.
     pub title: &'s [u8],
     /// The tokens of an operation, `ORG` or `END` from that word on. Of an assertion those after its word, of `;name` and `;author`
-    /// none, of any other line those after its labels. In operands and expressions the names of `EQU` lines are replaced. A comment
-    /// at the end is left out.
+    /// none, of any other line the first 516 after its labels, and of those after these the first that is none of the language's. In
+    /// operands and expressions the names of `EQU` lines are replaced. A comment at the end is left out.
     pub tokens: Vec<Token<'s>, A>,
 }
 
@@ -26,4 +32,55 @@ impl<'s, A: Allocator> Model for Entry<'s, A> {
     ghost Value = { ExpandedLine };
 
     ghost view = { λ e. record { source_line = e.line.source_line; kind = e.line.kind; word = e.word; before = e.line.before; title = e.title.now; tokens = pieces e.tokens.items } };
+}
+
+/// Of the tokens of a line no more than shows what is wrong with it.
+pub(crate) fn cut<'s, A: Allocator>(
+    alloc: A,
+    tokens: &[Token<'s>],
+) -> Result<Vec<Token<'s>, A>, AllocError>
+    ensures { IfOk result (λ kept. pieces kept.items ≡ cut_tokens (pieces tokens.now)) }
+{
+    if tokens.len() <= MOST_TOKENS {
+        let all = Vec::from_slice(alloc, tokens)?;
+        return Ok(all);
+    }
+    let (front, behind) = tokens.split_at(MOST_TOKENS);
+    let kept = joined(alloc, front, first_bad(behind))?;
+    Ok(kept)
+}
+
+/// The first token that is none of the language's, alone; none if all are.
+fn first_bad<'t, 's>(tokens: &'t [Token<'s>]) -> &'t [Token<'s>]
+    ensures { pieces result.now ≡ first_bad (pieces tokens.entry.now) }
+{
+    let mut rest = tokens;
+    while let [first, behind @ ..] = rest {
+        if is_bad(first) {
+            return &rest[..1];
+        }
+        rest = behind;
+    }
+    &[]
+}
+
+/// Whether a token is none of the language's.
+fn is_bad(token: &Token<'_>) -> bool
+    ensures { result ≡ is_bad (piece_of token.now) }
+{
+    matches!(token.kind, TokenKind::Bad)
+}
+
+/// The tokens `before`, and then `behind`.
+pub(crate) fn joined<'s, A: Allocator>(
+    alloc: A,
+    before: &[Token<'s>],
+    behind: &[Token<'s>],
+) -> Result<Vec<Token<'s>, A>, AllocError>
+    ensures { IfOk result (λ all. all.items ≡ before.now ++ behind.now) }
+{
+    let mut all = Vec::with_capacity(alloc, before.len().saturating_add(behind.len()))?;
+    all.extend_from_slice(before)?;
+    all.extend_from_slice(behind)?;
+    Ok(all)
 }

@@ -1,17 +1,16 @@
 //! The lines of a source written out, with the names of `EQU`s in their operands replaced.
 
-ghost use Rattle.std.specs.Prelude.{◌≡◌, ◌<◌, ◌≤◌, ◌+◌, ◌^◌, ◌++◌, [], length, IfOk, Err};
+ghost use Rattle.std.specs.Prelude.{◌≡◌, ◌<◌, ◌≤◌, ◌+◌, ◌^◌, [], length, IfOk, Err};
 ghost use Rattle.{war_types.specs.declared.fault.AsmKind.TheVariants.SourceTooLong, redcode_lines.specs.Block.parsed, redcode_names.specs.Gives.{Gives, fault_at}};
-ghost use Rattle.redcode_expand.specs.{Laws.{AreCounted, BlocksAreWrittenOut}, Expansion.{expansion, address_of, all_replaced, line_replaced, with_names, expansion_of_blocks}};
+ghost use Rattle.redcode_expand.specs.{Laws.{AreCounted, BlocksAreWrittenOut}, Expansion.{expansion, address_of, all_replaced, line_replaced, with_names, expansion_of_blocks}, Cut.{shown, with_shown}};
 
 use crate::blocks::walk_all;
-use crate::entry::Entry;
+use crate::entry::{Entry, joined};
 use crate::steps::Steps;
 use bumpalo::Bump;
 use redcode_lines::{SourceLine, live_source, operands_of, source_lines};
 use redcode_names::{Equs, Labels, NameHash, Names, TOKEN_LIMIT, too_many, written};
-use redcode_text::Token;
-use std::alloc::{AllocError, Allocator};
+use std::alloc::Allocator;
 use std::marker::Model;
 use war_types::{AsmFault, AsmKind, Settings};
 
@@ -43,14 +42,16 @@ impl<'s, A: Allocator + Copy> Model for Expanded<'s, A> {
 /// last round. `ForCount`: a count that has no value. Then the first line is refused as `EquLimit` whose operands break these limits.
 /// `Memory` is answered only if an allocation failed.
 ///
-/// The numbers of copies, and the names that are joined to them, lie in the region.
+/// Of the tokens of a line that is none of the language no more are kept than its `Entry` says, so the clause compares what is `shown` of
+/// the lines: those tokens, and of any other line all of it. The numbers of copies, and the names that are joined to them, lie in the
+/// region.
 pub fn expand<'s, A: Allocator + Copy>(
     alloc: A,
     region: &'s Bump<A>,
     source: &'s [u8],
     settings: &Settings,
 ) -> Result<Expanded<'s, A>, AsmFault>
-    ensures gives { Gives (λ expanded. expanded) result (expansion settings.now source.entry.now) }
+    ensures gives { Gives shown result (with_shown (expansion settings.now source.entry.now)) }
     ensures too_long { 65536 < length source.entry.now → result ≡ Err (fault_at 0 SourceTooLong) }
     ensures written { BlocksAreWrittenOut settings.now }
     ensures counted { IfOk result AreCounted }
@@ -68,7 +69,7 @@ pub fn expand_within<'s, A: Allocator + Copy>(
     settings: &Settings,
     steps: &mut Steps,
 ) -> Result<Expanded<'s, A>, AsmFault>
-    ensures gives { Gives (λ expanded. expanded) result (expansion settings.now source.entry.now) }
+    ensures gives { Gives shown result (with_shown (expansion settings.now source.entry.now)) }
     ensures too_long { 65536 < length source.entry.now → result ≡ Err (fault_at 0 SourceTooLong) }
     ensures written { BlocksAreWrittenOut settings.now }
     ensures counted { IfOk result AreCounted }
@@ -97,7 +98,7 @@ fn expanded_lines<'s, A: Allocator + Copy>(
 ) -> Result<Expanded<'s, A>, AsmFault>
     requires { length lines.now ≤ 65536 }
     ensures steps { steps.old ≤ steps.new + 2 ^ 62 }
-    ensures expanded { Gives (λ expanded. expanded) result (expansion_of_blocks settings.now (parsed lines.now)) }
+    ensures expanded { Gives shown result (with_shown (expansion_of_blocks settings.now (parsed lines.now))) }
 {
     match walk_all(alloc, region, lines, settings, hash, steps) {
         Ok(walk) => walk.finish(steps),
@@ -185,20 +186,6 @@ fn replace_in<'s, A: Allocator + Copy>(
         title: entry.title,
         tokens,
     })
-}
-
-/// The tokens `before`, and then `after`.
-fn joined<'s, A: Allocator + Copy>(
-    alloc: A,
-    before: &[Token<'s>],
-    behind: &[Token<'s>],
-) -> Result<Vec<Token<'s>, A>, AllocError>
-    ensures { IfOk result (λ all. all.items ≡ before.now ++ behind.now) }
-{
-    let mut all = Vec::with_capacity(alloc, before.len().saturating_add(behind.len()))?;
-    all.extend_from_slice(before)?;
-    all.extend_from_slice(behind)?;
-    Ok(all)
 }
 
 /// The lines with the names of `EQU`s replaced in their operands, and the labels.

@@ -2,10 +2,10 @@
 
 ghost use Rattle.std.specs.Prelude.{◌≡◌, ◌+◌, ◌<◌, ◌≤◌, ◌^◌, [], true, Ok, OnOk};
 ghost use Rattle.{redcode_text.specs.Tokens.pieces, redcode_lines.specs.{declared.line.LineKind.TheVariants.{End, Operation}, Line.labels_of, Views.line_read}};
-ghost use Rattle.{redcode_names.specs.{Equ.has_equ, Gives.Gives}, redcode_expand.specs.{Expansion.finished, Rest.counters_of}};
+ghost use Rattle.{redcode_names.specs.{Equ.has_equ, Gives.Gives}, redcode_expand.specs.{Cut.{cut_walk, with_cut}, Expansion.finished, Rest.counters_of}};
 ghost use Rattle.redcode_expand.specs.Walk.{walk_begin, closed, copied, counted, labelled, with_line, placed, statement, lined, step, step_as, IsCopied};
 
-use crate::entry::Entry;
+use crate::entry::{Entry, cut};
 use crate::expanded::{Expanded, expanded_of};
 use crate::open_blocks::OpenBlocks;
 use crate::steps::Steps;
@@ -96,7 +96,7 @@ impl<'s, A: Allocator + Copy> Walk<'s, A> {
         blocks: &OpenBlocks<'s, A>,
         line: Reading<'_, 's>,
     ) -> Result<(), AsmFault>
-        ensures step { Gives (λ _. self.new) result (step settings.now (counters_of blocks.now) (line_read line.entry) self.old) }
+        ensures step { Gives (λ _. cut_walk self.new) result (with_cut (step settings.now (counters_of blocks.now) (line_read line.entry) self.old)) }
         ensures counted { OnOk result ((self.new.counted ≡ self.old.counted + 1) × (self.old.counted < 4096)) }
     {
         match blocks.copy_of(line)? {
@@ -107,7 +107,7 @@ impl<'s, A: Allocator + Copy> Walk<'s, A> {
 
     /// Walks over a line as it reads.
     fn step_as(&mut self, settings: &Settings, line: Reading<'_, 's>) -> Result<(), AsmFault>
-        ensures step { Gives (λ _. self.new) result (step_as settings.now (line_read line.entry) self.old) }
+        ensures step { Gives (λ _. cut_walk self.new) result (with_cut (step_as settings.now (line_read line.entry) self.old)) }
         ensures counted { OnOk result ((self.new.counted ≡ self.old.counted + 1) × (self.old.counted < 4096)) }
     {
         match line.form {
@@ -163,7 +163,7 @@ impl<'s, A: Allocator + Copy> Walk<'s, A> {
         title: &'s [u8],
         tokens: &[Token<'s>],
     ) -> Result<(), AsmFault>
-        ensures lined { Gives (λ _. self.new) result (lined number kind title.entry.now (pieces tokens.now) self.old) }
+        ensures lined { Gives (λ _. cut_walk self.new) result (with_cut (lined number kind title.entry.now (pieces tokens.now) self.old)) }
         ensures counted { OnOk result ((self.new.counted ≡ self.old.counted + 1) × (self.old.counted < 4096)) }
     {
         self.count(number)?;
@@ -172,7 +172,7 @@ impl<'s, A: Allocator + Copy> Walk<'s, A> {
 
     /// A line that has tokens.
     fn statement(&mut self, settings: &Settings, line: Reading<'_, 's>) -> Result<(), AsmFault>
-        ensures statement { Gives (λ _. self.new) result (statement settings.now (line_read line.entry) self.old) }
+        ensures statement { Gives (λ _. cut_walk self.new) result (with_cut (statement settings.now (line_read line.entry) self.old)) }
         ensures counted { OnOk result ((self.new.counted ≡ self.old.counted + 1) × (self.old.counted < 4096)) }
     {
         self.count(line.number)?;
@@ -190,7 +190,7 @@ impl<'s, A: Allocator + Copy> Walk<'s, A> {
     /// A line without its labels.
     fn place(&mut self, line: Reading<'_, 's>) -> Result<(), AsmFault>
         requires { self.old.before < self.old.counted }
-        ensures placed { Gives (λ _. self.new) result (Ok (placed (line_read line.entry) self.old)) }
+        ensures placed { Gives (λ _. cut_walk self.new) result (Ok (cut_walk (placed (line_read line.entry) self.old))) }
         ensures counted { self.new.counted ≡ self.old.counted }
     {
         let number = line.number;
@@ -215,7 +215,7 @@ impl<'s, A: Allocator + Copy> Walk<'s, A> {
         tokens: &[Token<'s>],
     ) -> Result<(), AsmFault>
         requires { self.old.before < self.old.counted }
-        ensures pushed { Gives (λ _. self.new) result (Ok (record (with_line number Operation word [] (pieces tokens.now) self.old) { before = self.old.before + 1 })) }
+        ensures pushed { Gives (λ _. cut_walk self.new) result (Ok (cut_walk (record (with_line number Operation word [] (pieces tokens.now) self.old) { before = self.old.before + 1 }))) }
         ensures counted { self.new.counted ≡ self.old.counted }
     {
         self.push(number, LineKind::Operation, word, b"", tokens)?;
@@ -230,7 +230,7 @@ impl<'s, A: Allocator + Copy> Walk<'s, A> {
         word: Option<Word>,
         tokens: &[Token<'s>],
     ) -> Result<(), AsmFault>
-        ensures pushed { Gives (λ _. self.new) result (Ok (record (with_line number End word [] (pieces tokens.now) self.old) { ended = true })) }
+        ensures pushed { Gives (λ _. cut_walk self.new) result (Ok (cut_walk (record (with_line number End word [] (pieces tokens.now) self.old) { ended = true }))) }
         ensures counted { self.new.counted ≡ self.old.counted }
     {
         self.push(number, LineKind::End, word, b"", tokens)?;
@@ -267,7 +267,7 @@ impl<'s, A: Allocator + Copy> Walk<'s, A> {
             .define_all(settings, line.number, address, line.labels())
     }
 
-    /// A further line of the expanded source.
+    /// A further line of the expanded source. Of its tokens no more are kept than show what is wrong with it.
     fn push(
         &mut self,
         number: u32,
@@ -276,7 +276,7 @@ impl<'s, A: Allocator + Copy> Walk<'s, A> {
         title: &'s [u8],
         tokens: &[Token<'s>],
     ) -> Result<(), AsmFault>
-        ensures pushed { Gives (λ _. self.new) result (Ok (with_line number kind word title.entry.now (pieces tokens.now) self.old)) }
+        ensures pushed { Gives (λ _. cut_walk self.new) result (Ok (cut_walk (with_line number kind word title.entry.now (pieces tokens.now) self.old))) }
         ensures counted { self.new.counted ≡ self.old.counted }
     {
         let line = Line {
@@ -284,7 +284,7 @@ impl<'s, A: Allocator + Copy> Walk<'s, A> {
             kind,
             before: self.before,
         };
-        let tokens = Vec::from_slice(self.alloc, tokens)?;
+        let tokens = cut(self.alloc, tokens)?;
         self.entries.push(Entry {
             line,
             word,

@@ -8,7 +8,5 @@ pub mod Block
 pub mod Operand
 -- the text of a line, and a place in it
 pub mod Place
--- what the code keeps of a line that is too long
-pub mod Capped
 -- what a contract sees of a line in memory
 pub mod Views

@@ -19,8 +19,20 @@ is_comment _ = false
 abbrev pub is_no_comment : Piece → Bool
 is_no_comment token = not (is_comment token.kind)
 
+abbrev pub is_bad_kind : TokenKind → Bool
+is_bad_kind TokenKind.Bad = true
+is_bad_kind _ = false
+
+abbrev pub is_bad : Piece → Bool
+is_bad token = is_bad_kind token.kind
+
 abbrev pub has_text : List ℕ → Piece → Bool
 has_text text token = bytes_eq token.text text
+
+-- an & is among the tokens
+abbrev pub has_and : List Piece → Bool
+has_and [] = false
+has_and (token ∷ tokens) = has_text (codes "&") token || has_and tokens
 
 -- the reserved word that a token is
 abbrev pub word_at : Piece → Option Word

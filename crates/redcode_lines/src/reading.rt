@@ -2,7 +2,7 @@
 
 ghost use Rattle.std.specs.Prelude.{◌≡◌, ◌≤◌, drop, length};
 ghost use Rattle.redcode_text.specs.Tokens.{piece_of, pieces};
-ghost use Rattle.redcode_lines.specs.{Line.{behind_labels, dropped_while, has_text, is_name, is_name_token, labels_of, line_word, names_among, tokens_from_word, word_at}, Capped.has_and};
+ghost use Rattle.redcode_lines.specs.{Line.{behind_labels, dropped_while, has_and, has_text, is_name, is_name_token, labels_of, line_word, names_among, tokens_from_word, word_at}};
 ghost use Rattle.redcode_lines.specs.{Operand.{operands_of, behind_modifier}, Views.line_read};
 
 use crate::line::LineKind;

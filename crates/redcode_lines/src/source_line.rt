@@ -1,17 +1,14 @@
 //! The lines of a source that are not skipped.
 
-ghost use Rattle.std.specs.Prelude.{◌≡◌, ◌+◌, ◌≤◌, ◌<◌, ◌++◌, ◌∷◌, [], None, length, drop, map, OnOk, IfOk};
+ghost use Rattle.std.specs.Prelude.{◌≡◌, ◌+◌, ◌≤◌, ◌<◌, ◌++◌, ◌∷◌, [], None, length, drop, OnOk, IfOk};
 ghost use Rattle.{redcode_text.specs.Tokens.pieces, redcode_lines.specs.{Source.{directive_of, lines_of, numbered_from}, Line.{source_line, statement, statement_tokens}}};
-ghost use Rattle.redcode_lines.specs.{Capped.{capped, is_limited}, Block.{directive_line, line_by, source_lines}, declared.reading.LineForm.TheVariants.Assert};
+ghost use Rattle.redcode_lines.specs.{Block.{directive_line, line_by, source_lines}, declared.reading.LineForm.TheVariants.Assert};
 
-use crate::reading::{LineForm, Reading, from_word, has_and};
+use crate::reading::{LineForm, Reading, from_word};
 use crate::source::{Directive, directive_of, first_line};
 use redcode_text::{Token, TokenKind, Word, scan};
 use std::alloc::{AllocError, Allocator};
 use std::marker::Model;
-
-/// A word, a dot, a modifier's name, and one operand more than a line may have.
-const MOST_TOKENS: usize = 516;
 
 /// A line of the source that is not skipped, without its comment.
 #[derive(Drop)]
@@ -38,7 +35,7 @@ impl<'s, A: Allocator> Model for SourceLine<'s, A> {
 
 impl<'s, A: Allocator> SourceLine<'s, A> {
     ghost use Rattle.std.specs.Prelude.{◌≡◌};
-    ghost use Rattle.redcode_lines.specs.{Capped.{capped, is_capped}, Views.line_read};
+    ghost use Rattle.redcode_lines.specs.Views.{line_read};
 
     /// Its number in the source, counted from 1.
     pub fn number(&self) -> u32
@@ -52,25 +49,6 @@ impl<'s, A: Allocator> SourceLine<'s, A> {
         ensures { result ≡ self.now.word }
     {
         self.word
-    }
-
-    /// Whether it has the same number of operands in each copy, and may have 512 of them at most.
-    fn is_capped(&self) -> bool
-        ensures { result ≡ is_capped self.now }
-    {
-        let line = self.reading();
-        is_limited(line.form, line.word) && !has_and(line.front) && !has_and(line.tokens)
-    }
-
-    /// The tokens of the line that show whether it has more operands than it may have.
-    fn capped(mut self) -> Self
-        ensures { result ≡ capped self.entry }
-    {
-        let most = self.front.saturating_add(MOST_TOKENS);
-        if self.tokens.len() > most && self.is_capped() {
-            self.tokens.truncate(most);
-        }
-        self
     }
 
     /// How it reads in the source.
@@ -89,19 +67,7 @@ impl<'s, A: Allocator> SourceLine<'s, A> {
     }
 }
 
-/// Whether the operands of a line of this form and word may be 512 tokens at most.
-fn is_limited(form: LineForm, word: Option<Word>) -> bool
-    ensures { result ≡ is_limited form word }
-{
-    match (form, word) {
-        (_, Some(Word::Operation(_) | Word::Pspace | Word::Org | Word::End)) => true,
-        (LineForm::Assert, None) => true,
-        _ => false,
-    }
-}
-
-/// The lines of a source whose first line has the number `first`. Lines that are skipped are left out, and of each line no more
-/// tokens are kept than show whether it is too long.
+/// The lines of a source whose first line has the number `first`. Lines that are skipped are left out.
 pub fn source_lines<'s, A: Allocator + Copy>(
     alloc: A,
     first: u32,
@@ -109,7 +75,7 @@ pub fn source_lines<'s, A: Allocator + Copy>(
 ) -> Result<Vec<SourceLine<'s, A>, A>, AllocError>
     requires counted { 1 ≤ first }
     requires short { first + length source.now ≤ 65537 }
-    ensures lines { IfOk result (λ lines. lines.items ≡ map capped (source_lines (numbered_from first (lines_of source.entry.now)))) }
+    ensures lines { IfOk result (λ lines. lines.items ≡ source_lines (numbered_from first (lines_of source.entry.now))) }
     ensures few { IfOk result (λ lines. length lines.items ≤ length source.entry.now) }
 {
     let mut lines = Vec::new(alloc);
@@ -132,7 +98,7 @@ fn append_line<'s, A: Allocator + Copy>(
     lines: &mut Vec<SourceLine<'s, A>, A>,
 ) -> Result<(), AllocError>
     requires { length line.now ≤ 65536 }
-    ensures { OnOk result (lines.new.items ≡ lines.old.items ++ map capped (line_by number line.entry.now (directive_of line.entry.now))) }
+    ensures { OnOk result (lines.new.items ≡ lines.old.items ++ line_by number line.entry.now (directive_of line.entry.now)) }
 {
     match directive_of(line) {
         Some((directive, text)) => append_directive(alloc, number, directive, text, lines),
@@ -141,7 +107,7 @@ fn append_line<'s, A: Allocator + Copy>(
             if tokens.is_empty() {
                 return Ok(());
             }
-            lines.push(statement(number, tokens).capped())?;
+            lines.push(statement(number, tokens))?;
             Ok(())
         }
     }
@@ -156,7 +122,7 @@ fn append_directive<'s, A: Allocator + Copy>(
     lines: &mut Vec<SourceLine<'s, A>, A>,
 ) -> Result<(), AllocError>
     requires { length text.now ≤ 65536 }
-    ensures { OnOk result (lines.new.items ≡ lines.old.items ++ map capped (directive_line number directive text.entry.now)) }
+    ensures { OnOk result (lines.new.items ≡ lines.old.items ++ directive_line number directive text.entry.now) }
 {
     match directive {
         Directive::Redcode | Directive::Remark => {}
@@ -164,7 +130,7 @@ fn append_directive<'s, A: Allocator + Copy>(
         Directive::Author => lines.push(titled(alloc, number, LineForm::Author, text))?,
         Directive::Assert => {
             let tokens = statement_tokens(alloc, text)?;
-            lines.push(assertion(number, tokens).capped())?;
+            lines.push(assertion(number, tokens))?;
         }
     }
     Ok(())

@@ -1,3 +1,4 @@
 mod Lookups
 pub mod Replacing
 pub mod Unchanged
+pub mod Cut

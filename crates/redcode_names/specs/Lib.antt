@@ -6,3 +6,5 @@ pub mod Equ
 pub mod Name
 -- which EQU a token names, and what the code writes of tokens
 pub mod Written
+-- and what it keeps of EQUs
+pub mod Cut

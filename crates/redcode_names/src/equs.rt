@@ -1,7 +1,7 @@
 //! The names of a source's EQU lines.
 #![tactic(auto, using(crate::proofs::Lookups::names))]
 
-ghost use Rattle.std.specs.Prelude.{◌≡◌, ◌++◌, ◌∷◌, [], false, map, OnOk};
+ghost use Rattle.std.specs.Prelude.{◌≡◌, ◌++◌, ◌∷◌, [], false, map, take, OnOk};
 ghost use Rattle.{redcode_text.specs.Tokens.{piece_of, pieces}, redcode_names.specs.{Equ.{body_at, has_equ, is_equ}, Written.{Stands, bodies_of}}};
 
 use crate::name_key::{NameHash, NameKey};
@@ -10,6 +10,9 @@ use redcode_lines::is_name;
 use redcode_text::Token;
 use std::alloc::{AllocError, Allocator};
 use std::marker::Model;
+
+/// One token more than operands may have.
+const MOST_TOKENS: usize = 513;
 
 /// Names with the tokens that they stand for, in the order of their definition.
 #[derive(Drop)]
@@ -74,14 +77,25 @@ impl<'s, A: Allocator + Copy> Equs<'s, A> {
         }
     }
 
-    /// Adds an EQU of a new name.
+    /// Adds an EQU of a new name. Of its body no more is kept than shows that it is too long.
     pub(crate) fn add(&mut self, name: &'s [u8], body: &[Token<'s>]) -> Result<(), AllocError>
         requires { is_equ self.old name.now ≡ false }
-        ensures { OnOk result (self.new ≡ self.old ++ (name.entry.now, pieces body.now) ∷ []) }
+        ensures { OnOk result (self.new ≡ self.old ++ (name.entry.now, take 513 (pieces body.now)) ∷ []) }
     {
         let name = NameKey { bytes: name };
-        let body = Vec::from_slice(self.alloc, body)?;
+        let body = Vec::from_slice(self.alloc, kept(body))?;
         self.bodies.insert(name, body)?;
         Ok(())
+    }
+}
+
+/// No more of the tokens of a body than shows that it is too long.
+fn kept<'t, 's>(body: &'t [Token<'s>]) -> &'t [Token<'s>]
+    ensures { pieces result.now ≡ take 513 (pieces body.entry.now) }
+{
+    if body.len() <= MOST_TOKENS {
+        body
+    } else {
+        &body[..MOST_TOKENS]
     }
 }

@@ -2,7 +2,7 @@
 
 ghost use Rattle.std.specs.Prelude.{◌≡◌, ◌↔◌, [], length, option_map, IsTrue};
 ghost use Rattle.{redcode_text.specs.Tokens.pieces, redcode_lines.specs.Line.names_among};
-ghost use Rattle.redcode_names.specs.{Gives.{Gives, fault_at}, Equ.has_word, Name.{names_of, defined, all_defined, but_last, equ_defined, equ_line, for_labels}};
+ghost use Rattle.redcode_names.specs.{Gives.{Gives, fault_at}, Equ.has_word, Cut.{cut_names, with_cut}, Name.{names_of, defined, all_defined, but_last, equ_defined, equ_line, for_labels}};
 
 use crate::equs::Equs;
 use crate::labels::Labels;
@@ -114,7 +114,8 @@ impl<'s, A: Allocator + Copy> Names<'s, A> {
         Ok(name)
     }
 
-    /// Defines the names of an EQU line: the last of its labels with this body, and those before it at this address.
+    /// Defines the names of an EQU line: the last of its labels with this body, and those before it at this address. Of the body no more
+    /// is kept than shows that it is too long.
     pub fn equate_line(
         &mut self,
         settings: &Settings,
@@ -123,7 +124,7 @@ impl<'s, A: Allocator + Copy> Names<'s, A> {
         labels: &[Token<'s>],
         body: &[Token<'s>],
     ) -> Result<(), AsmFault>
-        ensures { Gives (λ _. self.new) result (equ_line settings.now number address (pieces body.now) (names_among (pieces labels.now)) self.old) }
+        ensures { Gives (λ _. cut_names self.new) result (with_cut (equ_line settings.now number address (pieces body.now) (names_among (pieces labels.now)) self.old)) }
     {
         match self.define_but_last(settings, number, address, labels)? {
             Some(name) => self.equate(settings, number, name, body),
@@ -139,7 +140,7 @@ impl<'s, A: Allocator + Copy> Names<'s, A> {
         name: &'s [u8],
         body: &[Token<'s>],
     ) -> Result<(), AsmFault>
-        ensures { Gives (λ _. self.new) result (equ_defined settings.now number (pieces body.now) name.entry.now self.old) }
+        ensures { Gives (λ _. cut_names self.new) result (with_cut (equ_defined settings.now number (pieces body.now) name.entry.now self.old)) }
     {
         let is_taken = predefined(settings, 0, name).is_some()
             || self.labels.address_of(name).is_some()

@@ -1,14 +1,8 @@
 -- What the tokens of a line say.
-use Rattle.std.specs.Prelude.{Bool, true, false, ℕ, List, [], ◌∷◌, Option, Some, None, Result, Ok, Err, ℤ}
-use Rattle.{war_types.specs.{declared.fault.AsmKind.AsmKind, declared.instr.Instr.Instr}, redcode_text.specs.{declared.token.TokenKind.TokenKind, declared.vocabulary.Word.Word, Operators.Value}}
+use Rattle.std.specs.Prelude.{ℕ, List, [], ◌∷◌, Option, Some, None, Result, Ok, Err, ℤ}
+use Rattle.{war_types.specs.{declared.fault.AsmKind.AsmKind, declared.instr.Instr.Instr}, redcode_text.specs.{declared.vocabulary.Word.Word, Operators.Value}}
 use Rattle.{redcode_text.specs.{Tokens.Piece, Value.value_of}, redcode_statement.specs.{declared.statement.Statement.Statement, Chain.◌>>=◌, Sides.{before_comma, behind_comma}}}
-
-abbrev pub is_bad_kind : TokenKind → Bool
-is_bad_kind TokenKind.Bad = true
-is_bad_kind _ = false
-
-abbrev pub is_bad : Piece → Bool
-is_bad token = is_bad_kind token.kind
+pub use Rattle.redcode_lines.specs.Line.{is_bad_kind, is_bad}
 
 -- ---- the expression of ORG, END and ;assert, which a comma ends
 

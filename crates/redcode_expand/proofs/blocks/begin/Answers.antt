@@ -1,5 +1,5 @@
 use Rattle.{std.proofs.Common.{arith, ◌-◌, ◌+◌, subst, ℕ, Bool, List, ◌∷◌, sym, ap, ◌∙◌, drop}, redcode_lines.specs.Block.parsed, redcode_copies.specs.Counter.counter_of}
-use Rattle.{redcode_expand.specs.{Marks.line_in, Rest.{OpenBlock, counters_of, open_block, rest_of, steps_left, GoesOn, IsUnmatched}}, redcode_expand.proofs.{AddedEqus.keeps-same, GoingOn.block-goes-on, Latest.{kept-later, kept-same}}}
+use Rattle.{redcode_expand.specs.{Marks.line_in, Rest.{OpenBlock, counters_of, open_block, rest_of, steps_left, GoesOn, IsUnmatched}}, redcode_expand.proofs.{GoingOn.block-goes-on, Latest.{kept-later, kept-same}}}
 use Rattle.redcode_expand.proofs.blocks.begin.Goals as goal
 
 pub returns-clause-goes_on : goal.returns-clause-goes_on
@@ -29,7 +29,7 @@ returns-then-begun-eq0-clause-kept g c =
 pub returns-clause-kept : goal.returns-clause-kept
 returns-clause-kept g c =
     kept-later c.args.settings.now c.args.lines.now (counters_of c.args.blocks.now) (counters_of c.push.new.self) c.begun_at.new.walk c.begun_at.new.walk c.begun_at.new.counts c.rise.new.self
-    (keeps-same c.args.settings.now c.begun_at.new.walk.names.equs) c.in_ok-rise.ensures c.in_ok-begun.ensures.kept
+    (λ fixed. fixed) c.in_ok-rise.ensures c.in_ok-begun.ensures.kept
 
 pub overflow_sub-left : goal.overflow_sub-left
 overflow_sub-left g c = omega (arith, c.if-begun-eq0.false)

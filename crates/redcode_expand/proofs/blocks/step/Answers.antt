@@ -1,12 +1,18 @@
-use Rattle.{std.proofs.{lemmas.Grind.common_steps, Common.{arith, sym, ◌∙◌}}, redcode_lines.specs.Views.line_read, redcode_expand.specs.Rest.counters_of}
-use Rattle.redcode_expand.proofs.{AddedEqus.step-keeps, Latest.kept-later, Marks.{line-drop, word-for, word-rof}}
+use Rattle.{std.proofs.{lemmas.Grind.common_steps, Common.{arith, ap, sym, ◌∙◌}}, redcode_lines.specs.{Line.SourceLine, Views.line_read}, redcode_expand.specs.{Marks.{edge_of, line_in}, Rest.counters_of, Walk.{WalkState, step}}}
+use Rattle.redcode_expand.proofs.{AddedEqus.step-keeps, Cut.due-of, GoingOn.{line-fails, line-goes-on}, Keeping.all-later, Latest.kept-later, Marks.{line-drop, word-for, word-rof}, Shown.counts-alike}
 use Rattle.redcode_expand.proofs.blocks.step.Goals as goal
 
 pub returns-in_ok-step-in-Neither-clause-kept : goal.returns-in_ok-step-in-Neither-clause-kept
 returns-in_ok-step-in-Neither-clause-kept g c =
+    let s = c.args.settings.now in
     let cs = counters_of c.args.blocks.now in
-    kept-later c.args.settings.now c.args.lines.now cs cs c.args.walk.now c.step.new.self c.args.counts.now c.rise-in-Neither.new.self
-    (step-keeps c.args.settings.now cs (line_read c.reading.result) c.args.walk.now c.step.new.self c.in_ok-step-in-Neither.ensures.step) c.in_ok-rise-in-Neither.ensures c.requires.kept
+    let st = c.args.walk.now in
+    let counts = c.args.counts.now.fixed in
+    let due = due-of (step s cs (line_read c.reading.result) st) c.step.new.self c.in_ok-step-in-Neither.ensures.step in
+    kept-later s c.args.lines.now cs cs st c.step.new.self c.args.counts.now c.rise-in-Neither.new.self
+    (λ are. counts-alike s c.args.lines.now due.0.names.equs c.step.new.self.names.equs counts (ap (λ (w : WalkState). w.names.equs) due.2)
+    (all-later s c.args.lines.now st.names.equs due.0.names.equs counts (step-keeps s cs (line_read c.reading.result) st due.0 due.1) are))
+    c.in_ok-rise-in-Neither.ensures c.requires.kept
 
 pub begin-requires-clause-line : goal.begin-requires-clause-line
 begin-requires-clause-line g c = line-drop c.args.lines.now c.args.at c.requires.some
@@ -21,10 +27,17 @@ pub end_copy-requires-clause-word : goal.end_copy-requires-clause-word
 end_copy-requires-clause-word g c = word-rof _ (sym c.edge.ensures ∙ c.in-Rof.is)
 
 pub returns-in_err-step-in-Neither-clause-goes_on : goal.returns-in_err-step-in-Neither-clause-goes_on
-returns-in_err-step-in-Neither-clause-goes_on g c = grind (arith, common_steps)
+returns-in_err-step-in-Neither-clause-goes_on g c =
+    let neither = ap (λ (l : SourceLine). edge_of l.word) c.reading.ensures.line ∙ sym c.edge.ensures ∙ c.in-Neither.is in
+    let fails = line-fails c.args.settings.now c.args.lines.now c.args.blocks.now c.args.at (line_read c.reading.result) c.args.walk.now _ c.requires.goes_on c.reading.ensures.first neither
+    c.in_err-step-in-Neither.ensures.step in
+    grind (arith, common_steps)
 
 pub returns-in_ok-step-in-Neither-clause-goes_on : goal.returns-in_ok-step-in-Neither-clause-goes_on
-returns-in_ok-step-in-Neither-clause-goes_on g c = grind (arith, common_steps)
+returns-in_ok-step-in-Neither-clause-goes_on g c =
+    let neither = ap (λ (l : SourceLine). edge_of l.word) c.reading.ensures.line ∙ sym c.edge.ensures ∙ c.in-Neither.is in
+    line-goes-on c.args.settings.now c.args.lines.now c.args.blocks.now c.args.at (line_read c.reading.result) c.args.walk.now c.step.new.self c.requires.some c.requires.goes_on
+    c.reading.ensures.first neither c.requires.opened c.in_ok-step-in-Neither.ensures.step c.in_ok-step-in-Neither.ensures.counted.0 c.in_ok-step-in-Neither.ensures.counted.1 c.requires.few
 
 pub overflow_add-result : goal.overflow_add-result
 overflow_add-result g c = omega (arith, c.requires.some, c.requires.few)

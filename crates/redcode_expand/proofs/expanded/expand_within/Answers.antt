@@ -1,24 +1,23 @@
-use Rattle.{std.proofs.Common.{◌≡◌, ℕ, ◌≤◌, List, Result, length, map, le-ltb, sym, ap, subst, ◌∙◌}, war_types.specs.{declared.settings.RawSettings.RawSettings, declared.fault.AsmFault.AsmFault}}
-use Rattle.{redcode_lines.specs.{Source.{NumberedLine, lines_of, numbered_from, live_lines}, Capped.capped, Line.SourceLine, Block.{parsed, source_lines}}, redcode_names.specs.Gives.Gives}
-use Rattle.{redcode_expand.specs.Expansion.{Expansion, expansion, expansion_of_blocks}, redcode_expand.proofs.{Capped.capped-same, Counted.if-counted, WrittenOut.blocks-written}}
+use Rattle.{std.proofs.Common.{◌≡◌, ℕ, ◌≤◌, List, Result, length, le-ltb, sym, ap, subst, ◌∙◌}, war_types.specs.{declared.settings.RawSettings.RawSettings, declared.fault.AsmFault.AsmFault}}
+use Rattle.{redcode_lines.specs.{Source.{NumberedLine, lines_of, numbered_from, live_lines}, Line.SourceLine, Block.{parsed, source_lines}}, redcode_names.specs.Gives.Gives}
+use Rattle.{redcode_expand.specs.{Expansion.{Expansion, expansion, expansion_of_blocks}, Cut.{shown, with_shown}}, redcode_expand.proofs.{Shown.if-counted, WrittenOut.blocks-written}}
 use Rattle.redcode_expand.proofs.expanded.expand_within.Goals as goal
 
 -- the result of the walk over all lines is due
 expansion-found : (s : RawSettings) (source text : List ℕ) (number : ℕ) (lines : List SourceLine) → length source ≤ 65536
-    → numbered_from number (lines_of text) ≡ live_lines source → lines ≡ map capped (source_lines (numbered_from number (lines_of text)))
+    → numbered_from number (lines_of text) ≡ live_lines source → lines ≡ source_lines (numbered_from number (lines_of text))
     → expansion s source ≡ expansion_of_blocks s (parsed lines)
 unfolding expansion
 expansion-found s source text number lines short live are =
     rw (le-ltb 65536 _ short)
-    (sym (capped-same s (source_lines (live_lines source)))
-    ∙ ap (λ (ls : List SourceLine). expansion_of_blocks s (parsed ls)) (sym (are ∙ ap (λ (ns : List NumberedLine). map capped (source_lines ns)) live)))
+    (ap (λ (ls : List SourceLine). expansion_of_blocks s (parsed ls)) (sym (are ∙ ap (λ (ns : List NumberedLine). source_lines ns) live)))
 
 pub returns-clause-gives : goal.returns-clause-gives
 returns-clause-gives g c =
     let s = c.args.settings.now in
     let due = expansion-found s c.args.source.now c.live_source-number.result.1.now c.live_source-number.result.0 c.as_slice.result.now
     c.if-source-gt-SOURCE_LIMIT.false c.live_source-number.ensures.lines (c.as_slice.ensures.value ∙ c.in_ok-lines.ensures.lines) in
-    subst (λ (r : Result Expansion AsmFault). Gives (λ (expanded : Expansion). expanded) c.expanded_lines.result r) (sym due) c.expanded_lines.ensures.expanded
+    subst (λ (r : Result Expansion AsmFault). Gives shown c.expanded_lines.result (with_shown r)) (sym due) c.expanded_lines.ensures.expanded
 
 pub returns-clause-written : goal.returns-clause-written
 returns-clause-written g c = blocks-written c.args.settings.now
