@@ -1,0 +1,4 @@
+mod OfSystem
+mod Moves
+mod Steady
+mod Takings
