@@ -23,7 +23,7 @@ SameHeaders old new = (n : ℕ) → n < 2 → new n ≡ old n
 holds_same : (old new : ℕ → List ℕ) (h : HeaderParts) → SameHeaders old new → Holds new h → Holds old h
 holds_same old new h same here = subst (λ bytes. IsHeader new_layout bytes h) (same (h.generation % 2) (parity_low h.generation)) here
 
-same_back : (old new : ℕ → List ℕ) → SameHeaders old new → SameHeaders new old
+pub same_back : (old new : ℕ → List ℕ) → SameHeaders old new → SameHeaders new old
 same_back old new same n low = sym (same n low)
 
 pub newest_same : (old new : ℕ → List ℕ) (h : HeaderParts) → SameHeaders old new → IsNewest new h → IsNewest old h

@@ -63,9 +63,18 @@ pub record RefusalStood (size : ℕ) (old new : ℕ → List ℕ) (why : Refusal
 
 -- why no hill was seen
 abbrev pub IsNotSeen : {S : Type 0} → DeviceFacts S → S → S → LookRefusal → Type 0
-IsNotSeen facts old new (LookRefusal.Refused why) =
-    (why ≡ Refusal.Disk → Failed facts old new) × (facts.lawful old → RefusalStood (facts.size old) (shown facts old) (shown facts new) why)
+IsNotSeen facts old new (LookRefusal.Refused Refusal.Disk) = Failed facts old new
+IsNotSeen facts old new (LookRefusal.Refused Refusal.Memory) = Unit {0}
+IsNotSeen facts old new (LookRefusal.Refused Refusal.Occupied) = ⊥
+IsNotSeen facts old new (LookRefusal.Refused Refusal.TooSmall) = facts.lawful old → RefusalStood (facts.size old) (shown facts old) (shown facts new) Refusal.TooSmall
+IsNotSeen facts old new (LookRefusal.Refused Refusal.NotAHill) = facts.lawful old → RefusalStood (facts.size old) (shown facts old) (shown facts new) Refusal.NotAHill
+IsNotSeen facts old new (LookRefusal.Refused Refusal.Damaged) = facts.lawful old → RefusalStood (facts.size old) (shown facts old) (shown facts new) Refusal.Damaged
 IsNotSeen facts old new LookRefusal.Changing = facts.lawful old → shown facts new ≡ shown facts old → ⊥
+
+-- why none was seen of sectors that read as this image all the time: opening is refused so
+abbrev pub IsNotSeenIn : ℕ → (ℕ → List ℕ) → LookRefusal → Type 0
+IsNotSeenIn size image (LookRefusal.Refused why) = Refuses size image why
+IsNotSeenIn size image LookRefusal.Changing = ⊥
 
 -- A device in memory fails only for lack of memory.
 abbrev pub of_memory : Refusal → Refusal

@@ -1,8 +1,8 @@
 //! How a hill is seen without being written.
 
-ghost use Rattle.std.specs.Prelude.{◌≡◌, false, IfErr, IfOk, OnOk};
+ghost use Rattle.std.specs.Prelude.{◌≡◌, false, IfErr, IfOk, MatchResult, OnOk};
 ghost use Rattle.{sector_disk.specs.{Image.Images, Memory.{memory_disk, memory_size}, Served.IsKept}, hill_images.specs.Stands.Reads};
-ghost use Rattle.hill_look.specs.Looked.{HillStood, IsNotSeen, of_memory, shown};
+ghost use Rattle.hill_look.specs.Looked.{HillStood, IsNotSeen, IsNotSeenIn, of_memory, shown};
 
 use crate::refusal::LookRefusal;
 use crate::source::Source;
@@ -26,6 +26,8 @@ pub fn look_at_hill<S: Source, A: Allocator + Copy>(
     ensures open_now { IfOk result (λ store. store.reopen ≡ false) }
     ensures stood { S.facts.lawful source.old → IfOk result (λ store. HillStood (S.facts.size source.old) (shown S.facts source.old) (shown S.facts source.new) store.hill store.generation) }
     ensures reads { IfOk result (λ store. Images (memory_disk store.device) (λ image. Reads (memory_size store.device) image store.hill)) }
+    ensures still { S.facts.lawful source.old → shown S.facts source.new ≡ shown S.facts source.old
+        → MatchResult result (λ store. Reads (S.facts.size source.old) (shown S.facts source.old) store.hill) (IsNotSeenIn (S.facts.size source.old) (shown S.facts source.old)) }
     ensures refused { IfErr result (IsNotSeen S.facts source.old source.new) }
 {
     let device = match look(alloc, source) {

@@ -33,6 +33,7 @@ pub fn look<S: Source, A: Allocator + Copy>(
     ensures faultless { OnOk result (S.facts.faults source.new ≡ S.facts.faults source.old) }
     ensures small { S.facts.size source.old < 2 → (result ≡ Err (LookRefusal.Refused Refusal.TooSmall)) × (source.new ≡ source.old) }
     ensures size { IfOk result (λ device. memory_size device ≡ min (S.facts.size source.old) 86) }
+    ensures headers { IfOk result (λ device. 2 ≤ memory_size device) }
     ensures taken { S.facts.lawful source.old → IfOk result (WasTaken (shown S.facts source.old) (shown S.facts source.new)) }
     ensures refused { IfErr result (IsNotTaken S.facts source.old source.new) }
 {
