@@ -54,7 +54,7 @@ module _ (size : ℕ) (memory : MemoryState) (moment : ℕ → List ℕ) (size_i
   slots_same h newest room =
       slots_taken h.settings.capacity h.counter h.entries room newest.here.header.entries
       (λ n free. subst (λ (x : HeaderParts). Apart new_layout n x.entries) (one_newest moment free.header h free.newest newest)
-          (apart_slot new_layout n free.slot free.header.entries free.from free.to free.free))
+      (apart_slot new_layout n free.slot free.header.entries free.from free.to free.free))
 
   -- it is the hill that stood
   pub reads_moment : (hill : Kept) → Reads (memory_size memory) (taken memory) hill → Reads size moment hill

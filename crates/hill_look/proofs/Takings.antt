@@ -21,7 +21,7 @@ pub slots_more : (old mid new : ℕ → List ℕ) (k : ℕ) (content : List ℕ)
 slots_more old mid new k content memory below moved stood before n past within = elim (cases_eq n k) [
   | inl this ↦ subst (λ m. StoodAt old new m (taken (set_at k content memory) m)) (sym this) (subst (StoodAt old new k) (sym (taken_same k content memory below)) stood)
   | inr other ↦ subst (StoodAt old new n) (sym (taken_other k n content memory other))
-    (stood_within old old mid new n (taken memory n) (stays old) moved (before n past (omega (arith, within, other))))
+      (stood_within old old mid new n (taken memory n) (stays old) moved (before n past (omega (arith, within, other))))
 ]
 
 -- ---- what stood

@@ -84,3 +84,8 @@ of_memory Refusal.Occupied = Refusal.Occupied
 of_memory Refusal.Memory = Refusal.Memory
 of_memory Refusal.NotAHill = Refusal.NotAHill
 of_memory Refusal.Damaged = Refusal.Damaged
+
+-- opening refuses what was read, for a reason that it has
+abbrev pub IsRefusedIn : MemoryState → LookRefusal → Type 0
+IsRefusedIn memory (LookRefusal.Refused why) = (found : Refusal) × Refuses (memory_size memory) (taken memory) found × (why ≡ of_memory found)
+IsRefusedIn memory LookRefusal.Changing = ⊥

@@ -1,8 +1,8 @@
 //! How a hill is seen without being written.
 
 ghost use Rattle.std.specs.Prelude.{◌≡◌, false, IfErr, IfOk, MatchResult, OnOk};
-ghost use Rattle.{sector_disk.specs.{Image.Images, Memory.{memory_disk, memory_size}, Served.IsKept}, hill_images.specs.Stands.Reads};
-ghost use Rattle.hill_look.specs.Looked.{HillStood, IsNotSeen, IsNotSeenIn, of_memory, shown};
+ghost use Rattle.{sector_disk.specs.{Image.Images, Memory.{memory_disk, memory_facts, memory_size}, Served.IsKept}, hill_images.specs.Stands.Reads, hill_store.specs.Opened.IsOpened};
+ghost use Rattle.hill_look.specs.Looked.{HillStood, IsNotSeen, IsNotSeenIn, IsRefusedIn, of_memory, shown};
 
 use crate::refusal::LookRefusal;
 use crate::source::Source;
@@ -30,10 +30,20 @@ pub fn look_at_hill<S: Source, A: Allocator + Copy>(
         → MatchResult result (λ store. Reads (S.facts.size source.old) (shown S.facts source.old) store.hill) (IsNotSeenIn (S.facts.size source.old) (shown S.facts source.old)) }
     ensures refused { IfErr result (IsNotSeen S.facts source.old source.new) }
 {
-    let device = match look(alloc, source) {
-        Ok(device) => device,
-        Err(refusal) => return Err(refusal),
-    };
+    match look(alloc, source) {
+        Ok(device) => opened(alloc, device),
+        Err(refusal) => Err(refusal),
+    }
+}
+
+/// Opens what was read.
+fn opened<A: Allocator + Copy>(
+    alloc: A,
+    device: MemoryDevice<A>,
+) -> Result<Store<MemoryDevice<A>, A>, LookRefusal>
+    ensures opened { IfOk result (IsOpened memory_facts device) }
+    ensures refused { IfErr result (IsRefusedIn device) }
+{
     match Store::open(alloc, device) {
         Ok(store) => Ok(store),
         Err((_, refusal)) => Err(LookRefusal::Refused(of_memory(refusal))),

@@ -19,7 +19,7 @@ loop-try-preserved g c =
           changed old mid new c.loop-try.before c.in_ok-after.after (c.loop-try.invariant.stood lawful)
           (headers_within old mid new new c.in_ok-after.after (c.loop-try.invariant.moved lawful) (stays new) (c.in_ok-after.ensures.stood later))
           (c.in_ok-after.ensures.moved later) (λ same.
-              let even = (bytes_decides c.in_ok-after.after.even c.loop-try.before.even).1 (ap (λ (headers : Headers). headers.even) same) in
-              let odd = (bytes_decides c.in_ok-after.after.odd c.loop-try.before.odd).1 (ap (λ (headers : Headers). headers.odd) same) in
-              true≢false (sym (c.eq.ensures ∙ ap₂ (λ (x y : Bool). x && y) even odd) ∙ c.if-eq.false));
+          let even = (bytes_decides c.in_ok-after.after.even c.loop-try.before.even).1 (ap (λ (headers : Headers). headers.even) same) in
+          let odd = (bytes_decides c.in_ok-after.after.odd c.loop-try.before.odd).1 (ap (λ (headers : Headers). headers.odd) same) in
+          true≢false (sym (c.eq.ensures ∙ ap₂ (λ (x y : Bool). x && y) even odd) ∙ c.if-eq.false));
     }

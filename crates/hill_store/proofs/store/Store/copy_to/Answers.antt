@@ -22,5 +22,5 @@ returns-clause-fresh g c =
     let room : sectors_for c.self.inside.hill.settings.capacity ≤ g.N.Device.facts.size c.args.new.now =
     subst (λ (s : RawSettings). sectors_for s.capacity ≤ g.N.Device.facts.size c.args.new.now) c.self.invariant.named.settings enough in
     subst (λ (s : Seen _). g.N.Device.facts.lawful c.args.new.now → Images (g.N.Device.facts.disk c.args.new.now) HoldsNone
-        → Images (g.N.Device.facts.disk c.write_hill.new.device) (λ image. HoldsNone image ⊎ Reads (g.N.Device.facts.size c.write_hill.new.device) image s.hill)) c.self.view_is
+    → Images (g.N.Device.facts.disk c.write_hill.new.device) (λ image. HoldsNone image ⊎ Reads (g.N.Device.facts.size c.write_hill.new.device) image s.hill)) c.self.view_is
     (fresh g.N.Device.facts c.args.new.now c.write_hill.new.device c.self.inside.header c.self.inside.hill c.write_hill.ensures.kept room c.write_hill.result c.write_hill.ensures.written c.write_hill.ensures.refused)
