@@ -38,7 +38,7 @@ fn stopped_at(
     calls: u64,
 ) -> MemoryDevice<Global> {
     let copy = device.stopped(&[]).expect(rt, "there is memory");
-    let fuse = FuseDevice::new(copy, OPENING + calls, FuseKind::Stop);
+    let fuse = FuseDevice::new(copy, OPENING.saturating_add(calls), FuseKind::Stop);
     let mut store = opened(rt.alloc(), fuse).expect(rt, "it opens");
     let reply = submit(&mut store, b"MOV 0,1");
     assert!(rt; matches!(reply, Reply::Placed { .. }) == (calls == PLACING));
@@ -51,7 +51,7 @@ fn images(rt: &(impl Abort + AllocGlobal)) -> Vec<MemoryDevice<Global>, Global> 
     let mut images = Vec::new(rt.alloc());
     for calls in 0..PLACING + 1 {
         let image = stopped_at(rt, &device, calls);
-        images.push(image).expect(rt, "there is memory");
+        assert!(rt; images.push(image).is_ok());
     }
     images
 }
@@ -74,8 +74,8 @@ fn changing(rt: &(impl Abort + AllocGlobal)) -> Passing {
     let one = one_on(rt);
     let two = stopped_at(rt, &one, PLACING);
     let mut devices = Vec::new(rt.alloc());
-    devices.push(one).expect(rt, "there is memory");
-    devices.push(two).expect(rt, "there is memory");
+    assert!(rt; devices.push(one).is_ok());
+    assert!(rt; devices.push(two).is_ok());
     Passing {
         devices,
         every: TRY,

@@ -94,11 +94,7 @@ fn place_at(reads: u64, every: u64, goes: Goes, count: usize) -> usize {
     }
 }
 
-fn read_within(
-    device: &mut MemoryDevice<Global>,
-    n: u32,
-    to: &mut [u8; 512],
-) -> Result<(), Fault> {
+fn read_within(device: &mut MemoryDevice<Global>, n: u32, to: &mut [u8; 512]) -> Result<(), Fault> {
     if n >= device.sectors() {
         return Err(Fault);
     }
