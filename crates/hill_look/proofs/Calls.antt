@@ -1,9 +1,9 @@
 -- What the calls of a store do to a device, write by write.
-use Rattle.std.proofs.Common.{◌≡◌, inl, inr, ℕ, ◌+◌, ◌%◌, ◌<◌, ◌≤◌, List, [], ◌∷◌, ◌++◌, length, Option, refl, sym, ap, subst, ◌∙◌, arith}
-use Rattle.{war_types.specs.Warrior.WarriorParts, sector_disk.specs.{Changes.Begun, Disk.{Disk, current, synced, wrote}, Image.put}, sector_disk.proofs.Images.current-wrote}
-use Rattle.hill_bytes.specs.{declared.wins.Wins.Wins, Layout.{HeaderParts, IsHeaderParts, SlotIsFree, header_bytes, new_layout, slot_at, slot_bytes}}
-use Rattle.{hill_bytes.proofs.SlotBytes.length-slot, hill_images.specs.{Places.{commits, header_passed, header_placed, places, writes_from}, Stands.IsNewest}, hill_images.proofs.Newest.newest_elsewhere}
-use Rattle.{hill_look.specs.{Laws.CallsMoveOn, Meanwhile.{MayWrite, MovesOn, Write, Writes, after_write}}, hill_look.proofs.Moves.{moves_more, stays}}
+use Rattle.std.proofs.Common.{◌≡◌, inl, inr, ℕ, ◌+◌, ◌%◌, ◌≤◌, List, [], ◌∷◌, ◌++◌, length, refl, sym, subst, arith}
+use Rattle.{sector_disk.specs.{Changes.Begun, Disk.{Disk, current, synced, wrote}}, sector_disk.proofs.Images.current-wrote}
+use Rattle.hill_bytes.specs.{Layout.{HeaderParts, IsHeaderParts, SlotIsFree, header_bytes, new_layout, slot_at, slot_bytes}}
+use Rattle.{hill_bytes.proofs.SlotBytes.length-slot, hill_images.specs.{Places.{commits, header_passed, header_placed, writes_from}, Stands.IsNewest}, hill_images.proofs.Newest.newest_elsewhere}
+use Rattle.{hill_look.specs.{Laws.CallsMoveOn, Meanwhile.{MayWrite, MovesOn, Write, after_write}}, hill_look.proofs.Moves.{moves_more, stays}}
 
 one_write : (image : ℕ → List ℕ) (write : Write) → MayWrite image write → MovesOn image (after_write write image)
 one_write image write may = record { writes = write ∷ []; made = (may, refl) }

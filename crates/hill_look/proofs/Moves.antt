@@ -1,6 +1,6 @@
 -- How a store moves on, one run of writes after another.
-use Rattle.std.proofs.Common.{◌≡◌, ℕ, List, [], ◌∷◌, ◌++◌, refl, subst}
-use Rattle.hill_look.specs.Meanwhile.{Write, MayWrite, after_write, Writes, MovesOn, StoodAt}
+use Rattle.std.proofs.Common.{ℕ, List, [], ◌∷◌, ◌++◌, refl, subst}
+use Rattle.hill_look.specs.Meanwhile.{Write, after_write, Writes, MovesOn, StoodAt}
 
 pub stays : (image : ℕ → List ℕ) → MovesOn image image
 stays image = record { writes = []; made = refl }

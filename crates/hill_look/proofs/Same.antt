@@ -1,5 +1,5 @@
 -- What was read shows the hill that stood, and is refused for a reason that stood.
-use Rattle.std.proofs.Common.{◌≡◌, ℕ, inl, inr, ◌+◌, ◌%◌, ◌<◌, ◌≤◌, min, List, [], ◌∷◌, All, refl, sym, ap, subst, ◌∙◌, arith}
+use Rattle.std.proofs.Common.{◌≡◌, ℕ, inl, inr, ◌+◌, ◌%◌, ◌<◌, ◌≤◌, min, List, [], ◌∷◌, All, refl, sym, subst, ◌∙◌, arith}
 use Rattle.std.proofs.lemmas.List.Elements.{All-nil, All-cons, All-head, All-tail}
 use Rattle.{war_types.specs.declared.settings.RawSettings.RawSettings, koth_hill.specs.{Hill.Member, Kept.Kept}, sector_disk.specs.Memory.{MemoryState, memory_size}}
 use Rattle.hill_bytes.specs.{declared.header.HeaderEntry.HeaderEntry, Layout.{HeaderParts, IsEntry, IsHeader, new_layout, sectors_for, slot_at, slot_in}}

@@ -1,5 +1,5 @@
 -- Headers rise, so one that is found again stood all the time. While both stand, the slots of the newest one's members do.
-use Rattle.std.proofs.{Common.{◌≡◌, ◌≢◌, ◌⊎◌, inl, inr, ℕ, ◌+◌, ◌%◌, ◌<◌, ◌≤◌, List, [], ◌∷◌, refl, sym, ap, subst, ◌∙◌, arith}, lemmas.Bool.cases_eq}
+use Rattle.std.proofs.{Common.{◌≡◌, ◌⊎◌, inl, inr, ℕ, ◌%◌, ◌<◌, ◌≤◌, List, [], ◌∷◌, refl, sym, ap, subst, ◌∙◌, arith}, lemmas.Bool.cases_eq}
 use Rattle.{sector_disk.specs.Image.put, sector_disk.proofs.Images.{put-same, put-other}}
 use Rattle.{war_types.specs.declared.settings.RawSettings.RawSettings, hill_bytes.specs.Layout.{HeaderParts, IsHeader, code_room, header_bytes, new_layout, slot_at}}
 use Rattle.{hill_images.specs.Stands.IsNewest, hill_images.proofs.Newest.parity_low}

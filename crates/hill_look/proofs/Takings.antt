@@ -1,5 +1,5 @@
 -- What was read into memory, sector by sector, each at a moment of its own.
-use Rattle.std.proofs.{Common.{◌≡◌, ◌≢◌, inl, inr, ℕ, zero, suc, ◌+◌, ◌<◌, ◌≤◌, List, [], refl, sym, ap, subst, ◌∙◌, arith}, lemmas.Bool.cases_eq, lemmas.List.{get_or-set_same, get_or-set_other, length-set}}
+use Rattle.std.proofs.{Common.{◌≡◌, ◌≢◌, inl, inr, ℕ, zero, suc, ◌+◌, ◌<◌, ◌≤◌, List, [], sym, ap, subst, ◌∙◌, arith}, lemmas.Bool.cases_eq, lemmas.List.{get_or-set_same, get_or-set_other, length-set}}
 use Rattle.{sector_disk.specs.{Disk.last_of, Memory.{MemoryState, SectorState, memory_size, nothing, sector_of, set_at}}, hill_file.specs.declared.sector_file.Headers.Headers}
 use Rattle.hill_look.specs.{Looked.{HeadersStood, SlotsStood, WasTaken, taken}, Meanwhile.{IsFree, MovesOn, StoodAt}}
 use Rattle.hill_look.proofs.{Moves.{moves_more, stays, stood_within}, Steady.{SameHeaders, slot_stands, steady}}

@@ -1,4 +1,4 @@
-use Rattle.{std.proofs.Common.{◌≡◌, Bool, ◌&&◌, refl, sym, ap, ap₂, true≢false, ◌∙◌}, std.specs.Cmp.Lexicographic.bytes_decides, hill_file.specs.declared.sector_file.Headers.Headers, sector_disk.proofs.Kept.{kept_on, kept_where_served}}
+use Rattle.{std.proofs.Common.{Bool, ◌&&◌, refl, sym, ap, ap₂, true≢false, ◌∙◌}, std.specs.Cmp.Lexicographic.bytes_decides, hill_file.specs.declared.sector_file.Headers.Headers, sector_disk.proofs.Kept.{kept_on, kept_where_served}}
 use Rattle.hill_look.{specs.Looked.shown, proofs.{Moves.{moves_more, stays}, Takings.{changed, headers_within}}}
 use Rattle.hill_look.proofs.taking.fill.Goals as goal
 

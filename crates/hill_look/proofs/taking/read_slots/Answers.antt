@@ -1,4 +1,4 @@
-use Rattle.{std.proofs.Common.{◌≡◌, ℕ, ◌+◌, ◌<◌, ◌≤◌, refl, sym, ap, subst, ◌∙◌, arith}, sector_disk.specs.Memory.{MemoryState, memory_size}, sector_disk.proofs.Kept.{kept_on, kept_where_served}}
+use Rattle.{std.proofs.Common.{ℕ, ◌+◌, ◌<◌, ◌≤◌, refl, sym, ap, subst, ◌∙◌, arith}, sector_disk.specs.Memory.{MemoryState, memory_size}, sector_disk.proofs.Kept.{kept_on, kept_where_served}}
 use Rattle.hill_look.{specs.{Looked.{shown, taken}, Meanwhile.StoodAt}, proofs.{Moves.{moves_more, stays, stood_within}, Takings.{size_set, slots_more}}}
 use Rattle.hill_look.proofs.taking.read_slots.Goals as goal
 

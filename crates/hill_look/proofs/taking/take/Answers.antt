@@ -1,5 +1,5 @@
-use Rattle.{std.proofs.Common.{◌≡◌, ◌≤◌, sym, ap, subst, ◌∙◌, arith}, sector_disk.specs.Memory.{memory_size, set_at}}
-use Rattle.hill_look.{specs.Looked.{WasTaken, shown}, proofs.{Moves.{moves_more, stood_within, stays}, Takings.{headers_within, was_taken}}}
+use Rattle.{std.proofs.Common.{◌≤◌, sym, ap, subst, ◌∙◌, arith}, sector_disk.specs.Memory.{memory_size, set_at}}
+use Rattle.hill_look.{specs.Looked.{WasTaken, shown}, proofs.{Moves.{moves_more, stays}, Takings.{headers_within, was_taken}}}
 use Rattle.hill_look.proofs.taking.take.Goals as goal
 
 pub returns-in_err-headers-clause-moved : goal.returns-in_err-headers-clause-moved
