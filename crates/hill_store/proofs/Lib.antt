@@ -8,3 +8,4 @@ pub mod Moving
 pub mod Eventful
 pub mod Counting
 pub mod Fought
+mod Copying

@@ -12,3 +12,5 @@ pub mod Kept
 -- the life of a device through openings, submissions, faults and stops, and what the calls of a store are in it
 pub mod Lives
 pub mod Calls
+-- what is asked of a store without changing it
+pub mod Read

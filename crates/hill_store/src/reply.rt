@@ -1,8 +1,9 @@
 //! What a submission is answered.
 
 ghost use Rattle.std.specs.Prelude.{◌≡◌};
-ghost use Rattle.hill_store.specs.Runs.{is_disk};
+ghost use Rattle.hill_store.specs.{Earned.reply_judged, Runs.is_disk};
 
+use koth_hill::Verdict;
 use war_types::AsmFault;
 
 /// The answer to a submission.
@@ -25,6 +26,24 @@ pub enum Reply {
 }
 
 impl Reply {
+    /// The answer to a submission of which this is the verdict.
+    pub fn judged(judged: &Verdict) -> Reply
+        ensures { result ≡ reply_judged judged.now }
+    {
+        if judged.stays {
+            Reply::Placed {
+                entry: judged.entry,
+                rank: judged.rank,
+                score: judged.score,
+            }
+        } else {
+            Reply::Fell {
+                entry: judged.entry,
+                score: judged.score,
+            }
+        }
+    }
+
     /// Whether the device failed in this submission.
     pub fn is_disk(&self) -> bool
         ensures { result ≡ is_disk self.now }

@@ -5,8 +5,10 @@ ghost use Rattle.war_types.specs.{Warrior.{WarriorParts, Fits}, declared.setting
 ghost use Rattle.redcode_asm.specs.{Assembly.assembly, Within.AssemblesWithin};
 ghost use Rattle.{koth_hill.specs.{Table.table, Kept.{AreTrue, AreTrueBefore, IsKept as IsKeptHill, IsUntrue, hill_in, table_kept, verdict_kept}, Rows.rows_parts}, sector_disk.specs.Served.IsKept};
 ghost use Rattle.{hill_bytes.specs.Layout.{old_layout, sectors_for}, hill_images.specs.Opening.IsNotOpened};
-ghost use Rattle.hill_store.specs.{Kept.IsAnew, Runs.{Runs, texts}, Opened.{IsCreated, IsMigrated, IsNotCreated, IsNotMigrated, IsOpened}, Earned.reply_judged};
+ghost use Rattle.hill_store.specs.{Kept.IsAnew, Runs.{Runs, texts}, Opened.{IsCreated, IsMigrated, IsNotCreated, IsNotMigrated, IsOpened}};
 ghost use Rattle.hill_store.specs.{Holding.{Holds, HoldsIn, HoldsMore, IsDecided, IsHolding, IsMoved, IsUndecided, IsUnmoved}, Seen.{Seen, IsAnswered, IsCut, IsLeft, MayBeSpent, Submits, SubmitsWithin, Challenges, IsRefusal}};
+
+mod reading;
 
 use crate::migration::{MigrateFault, MigrateSide};
 use crate::reply::Reply;
@@ -250,7 +252,7 @@ impl<D: Device, A: Allocator + Copy> Store<D, A> {
             Ok(()) => {
                 self.hill.admit(warrior, judged);
                 self.header = header;
-                answer(judged)
+                Reply::judged(judged)
             }
             Err(Fault) => fail(&mut self.reopen),
         }
@@ -270,7 +272,7 @@ impl<D: Device, A: Allocator + Copy> Store<D, A> {
             Ok(()) => {
                 self.hill.pass(judged);
                 self.header = header;
-                answer(judged)
+                Reply::judged(judged)
             }
             Err(Fault) => fail(&mut self.reopen),
         }
@@ -354,23 +356,6 @@ fn fail(reopen: &mut bool) -> Reply
 {
     *reopen = true;
     Reply::Disk
-}
-
-fn answer(judged: &Verdict) -> Reply
-    ensures { result ≡ reply_judged judged.now }
-{
-    if judged.stays {
-        Reply::Placed {
-            entry: judged.entry,
-            rank: judged.rank,
-            score: judged.score,
-        }
-    } else {
-        Reply::Fell {
-            entry: judged.entry,
-            score: judged.score,
-        }
-    }
 }
 
 fn refused(fault: AsmFault) -> Reply

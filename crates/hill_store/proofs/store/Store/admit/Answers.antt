@@ -25,7 +25,7 @@ pub returns-in-Ok-clause-challenges : goal.returns-in-Ok-clause-challenges
 returns-in-Ok-clause-challenges g c =
     let sound : IsSound g.D.Device.facts c.place.new.device (header_placed c.self.inside.header c.args.judged.now.falls c.free_slot-slot.result) (step_kept c.self.inside.hill c.args.warrior) c.self.inside.arena.settings c.self.inside.reopen =
     (admit_sound g.D.Device.facts c.self.inside.device c.place.new.device c.self.inside.header c.self.inside.hill c.self.inside.arena.settings c.self.inside.reopen c.args.warrior c.args.judged.now c.free_slot-slot.result (may_admit g.D.Device.facts c.self.inside.device c.self.inside.header c.self.inside.hill c.self.inside.arena.settings c.self.inside.reopen c.args.warrior c.args.judged.now c.free_slot-slot.result c.args.self.now c.entries.result.now c.self.view_is c.self.invariant c.requires.is_open c.requires.more c.requires.fits c.requires.verdict c.requires.stays c.entries.ensures.value c.free_slot-slot.ensures.free c.free_slot-slot.ensures.within) c.in-Ok.ensures.titled c.in-Ok.ensures.served.same_size c.in-Ok.ensures.served.same_laws.0 (λ is_lawful. subst (λ changes. g.D.Device.facts.disk c.place.new.device ≡ after changes (g.D.Device.facts.disk c.self.inside.device)) (places_are c.self.inside.header c.header_placed-header.result c.self.inside.hill c.args.warrior c.args.judged.now c.free_slot-slot.result c.results_by_slot-results.result c.header_placed-header.ensures (results_are c.self.inside.header c.self.inside.hill c.args.warrior c.args.judged.now c.results_by_slot-results.result c.entries-2.result.now c.bouts.result.now c.results_by_slot-results.ensures.value c.entries-2.ensures.value c.bouts.ensures (c.requires.verdict ∙ ap (λ (s : Seen _). verdict_kept s.hill c.args.warrior) (sym c.self.view_is)))) (c.in-Ok.ensures.changes is_lawful))) in
-    answers g.D.Device.facts c.args.self.now (seen c.place.new.device c.admit.new.self c.header_placed-header.result.generation c.self.inside.reopen) c.args.warrior c.args.judged.now c.answer.result c.answer.ensures c.requires.verdict (record {
+    answers g.D.Device.facts c.args.self.now (seen c.place.new.device c.admit.new.self c.header_placed-header.result.generation c.self.inside.reopen) c.args.warrior c.args.judged.now c.judged.result c.judged.ensures c.requires.verdict (record {
       was_open = c.requires.is_open;
       hill = c.admit.ensures.kept ∙ ap (λ (s : Seen _). step_kept s.hill c.args.warrior) c.self.view_is;
       kept = subst IsKeptHill (sym c.admit.ensures.kept) sound.kept;

@@ -26,7 +26,7 @@ invariant_of-self g c =
 pub returns-in-Ok-clause-challenges : goal.returns-in-Ok-clause-challenges
 returns-in-Ok-clause-challenges g c = λ w. λ judged_is.
     let next : step_kept c.args.self.now.hill w ≡ kept_fall c.args.self.now.hill = pass_step c.args.self.now.hill w c.args.judged.now judged_is c.requires.falls in
-    answers g.D.Device.facts c.args.self.now (seen c.commit.new.device c.pass.new.self c.header_passed-header.result.generation c.self.inside.reopen) w c.args.judged.now c.answer.result c.answer.ensures judged_is (record {
+    answers g.D.Device.facts c.args.self.now (seen c.commit.new.device c.pass.new.self c.header_passed-header.result.generation c.self.inside.reopen) w c.args.judged.now c.judged.result c.judged.ensures judged_is (record {
       was_open = c.requires.is_open;
       kept = subst IsKeptHill (sym c.pass.ensures.after) (IsKept-fall c.self.inside.hill c.self.invariant.kept (hill_passed (hill_in c.self.inside.hill) c.self.invariant.kept.hill));
       hill = c.pass.ensures.after ∙ ap (λ (s : Seen _). kept_fall s.hill) c.self.view_is ∙ sym next;

@@ -1,0 +1,10 @@
+//! Tests of the public calls of `hill_look`, and of the calls of a store that change nothing.
+//!
+//! `passing` is a source that goes from one device's sectors to the next one's while it is read, and may fail at a read. `looks` looks at it.
+//! What is expected was counted by hand.
+#![tactic(auto)]
+
+#[cfg(test)]
+mod looks;
+#[cfg(test)]
+mod passing;
