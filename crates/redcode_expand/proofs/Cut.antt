@@ -233,8 +233,3 @@ pub rest-after : (s : RawSettings) (ls : List SourceLine) (bs : List OpenBlock) 
     → with_cut (rest_of s ls bs left new) ≡ with_cut (m >>= rest_of s ls bs left)
 rest-after s ls bs left m new is =
     sym (rest-cut s ls bs left new) ∙ ap (λ (r : Walked). with_cut (r >>= rest_of s ls bs left)) (sym is) ∙ sym (through m (rest_of s ls bs left) (rest-cut s ls bs left))
-
--- the state that was due, which is cut as the one that was found
-pub due-of : (m : Walked) (new : WalkState) → with_cut m ≡ Ok (cut_walk new) → (st : WalkState) × (m ≡ Ok st) × (cut_walk st ≡ cut_walk new)
-due-of (Ok st) new is = (st, refl, cc)
-due-of (Err fault) new is = absurd cc
