@@ -1,5 +1,5 @@
 -- What the lines of a walk make of its EQUs.
-use Rattle.std.proofs.Common.{unwrap_or, arith, ◌≡◌, ℕ, List, drop, Option, Result, Ok, subst}
+use Rattle.std.proofs.Common.{unwrap_or, arith, ◌≡◌, ℕ, List, [], drop, Option, Result, Ok, refl, subst}
 use Rattle.{std.specs.Bool.⊤, redcode_names.specs.Gives.◌>>=◌, redcode_expand.specs.Walk.{WalkState, Begun, begun_as, labelled, copies_of, begun_of, begun, closed}}
 use Rattle.redcode_expand.proofs.{Words.{AsmFault, RawSettings, SourceLine, labels_of, Counter, in_copies, EquList, Names, defined, all_defined, but_last, for_labels}, Counted.{Holds, bind, all-hold, last-hold}}
 

@@ -1,14 +1,15 @@
 -- A walk whose lines and EQUs are cut goes on in the same way: each step gives the same when it is cut again.
 use Rattle.std.proofs.Common.{◌≡◌, ◌⊎◌, ℕ, zero, suc, ◌+◌, ◌-◌, ◌<◌, ◌≤◌, Bool, true, false, nat_lt, nat_eq, if◌then◌else◌, List, [], ◌∷◌, ◌++◌, length, take, drop, map, Option, Some, None, Result, Ok, Err, refl, sym, ap, ◌∙◌, arith, inl, inr}
-use Rattle.std.proofs.{Common.{append-nil, length-append, lt-ltb}, lemmas.Bool.{cases_Bool, ltb-true, ltb-false}, lemmas.List.{map-append, take_all, drop_all, take-map, drop-map, length-map, length-take-le}}
+use Rattle.std.proofs.{Common.{append-nil, length-append, lt-ltb}, lemmas.Bool.{cases_Bool, ltb-true, ltb-false}, lemmas.List.{map-append, take_all, drop_all, take-map, drop-map, length-take-le}}
 use Rattle.{war_types.specs.declared.fault.AsmKind.AsmKind, redcode_lines.specs.Operand.operands_of, redcode_lines.specs.Line.is_bad}
 use Rattle.{redcode_names.specs.{Equ.replaced, Gives.{◌>>=◌, fault_at}, Cut.{cut_equs, cut_names}}, redcode_names.proofs.{Unchanged.tokens-same, Cut.{cut-twice, replaced-cut, all-cut, last_cut, last-cut, line-cut}}}
+use Rattle.redcode_text.specs.{declared.token.Token.Token, Tokens.{piece_of, pieces}}
 use Rattle.redcode_names.specs.Cut as names
-use Rattle.redcode_expand.specs.Walk.{ExpandedLine, WalkState, Begun, begun_as, begun_of, begun, closed, copied, copies, counted, equated, labelled, lined, placed, placed_by, step, step_by, until_end, unmatched}
+use Rattle.redcode_expand.specs.Walk.{ExpandedLine, WalkState, Begun, begun_as, begun_of, begun, closed, copied, copies, counted, equated, labelled, lined, placed, placed_by, step, step_by, until_end, unmatched, walk_state}
 use Rattle.redcode_expand.specs.Walk.{walk, with_line, with_word, worded, is_equ_word}
 use Rattle.redcode_expand.specs.{Expansion.{Expansion, all_replaced, finished, line_replaced}, Rest.{OpenBlock, counters_of, behind_copy, more_copies, rest_of}}
 use Rattle.redcode_expand.specs.Cut.{first_bad, cut_tokens, cut_line, cut_lines, cut_walk, with_cut, shown, shown_line, shown_lines, shown_tokens, with_shown}
-use Rattle.redcode_expand.proofs.Words.{AsmFault, RawSettings, Piece, SourceLine, labels_of, behind_labels, Counter, counter_of, in_copies, Names, LineKind, LineForm, Word, Blocks, Parsed, parsed, finish, one_line, block, open_for}
+use Rattle.redcode_expand.proofs.Words.{AsmFault, RawSettings, Piece, SourceLine, labels_of, behind_labels, Counter, counter_of, in_copies, Names, all_defined, equ_line, LineKind, LineForm, Word, Blocks, Parsed, parsed, finish, one_line, block, open_for}
 use Rattle.redcode_text.specs.declared.vocabulary.Word.TheVariants as words
 use Rattle.redcode_lines.specs.declared.line.LineKind.TheVariants as lines
 use Rattle.redcode_lines.specs.declared.reading.LineForm.TheVariants as forms
@@ -30,7 +31,9 @@ unfolding cut_tokens
 tokens-short ts short = rw (take_all 516 ts short, drop_all 516 ts short) (append-nil ts)
 
 -- what is kept of a line
-pub ruleset tokens = (tokens-short, take-map, drop-map, length-map)
+pub tokens-parts : (ts : List Token) → cut_tokens (pieces ts) ≡ pieces (take 516 ts) ++ first_bad (pieces (drop 516 ts))
+unfolding cut_tokens
+tokens-parts ts = rw (take-map piece_of 516 ts, drop-map piece_of 516 ts) refl
 
 pub tokens-long : (ts : List Piece) → 516 ≤ length ts → 516 ≤ length (cut_tokens ts)
 unfolding cut_tokens
@@ -84,8 +87,8 @@ nothing : Stable (λ st. Ok st)
 nothing st = ap (λ (st : WalkState). Ok st) (walk-twice st)
 
 if-same : (b : Bool) (x y x' y' : Walked) → with_cut x ≡ with_cut x' → with_cut y ≡ with_cut y' → with_cut (if b then x else y) ≡ with_cut (if b then x' else y')
-if-same true x y x' y' yes no = yes
-if-same false x y x' y' yes no = no
+if-same true x y x' y' h1 h2 = h1
+if-same false x y x' y' h1 h2 = h2
 
 until : (f : WalkState → Walked) → Stable f → Stable (until_end f)
 until f stable st = if-same st.ended (Ok (cut_walk st)) (f (cut_walk st)) (Ok st) (f st) (nothing st) (stable st)
@@ -119,10 +122,23 @@ line-put line kind word title ts st =
     rw (cut-twice st.names.equs, map-append cut_line (cut_lines st.lines) (new ∷ []), map-append cut_line st.lines (new ∷ []), lines-twice st.lines) refl
 
 -- a line was put after the others, with its tokens cut
-pub line-pushed : (ls : List ExpandedLine) (line : ExpandedLine) → cut_lines (ls ++ cut_line line ∷ []) ≡ cut_lines (ls ++ line ∷ [])
+line-pushed : (ls : List ExpandedLine) (line : ExpandedLine) → cut_lines (ls ++ cut_line line ∷ []) ≡ cut_lines (ls ++ line ∷ [])
 line-pushed ls line = rw (map-append cut_line ls (cut_line line ∷ []), map-append cut_line ls (line ∷ []), tokens-twice line.tokens) refl
 
-pub ruleset put = (line-pushed)
+abbrev new_line : ℕ → LineKind → Option Word → ℕ → List ℕ → List Piece → ExpandedLine
+new_line line kind word before title tokens = record { source_line = line; kind = kind; word = word; before = before; title = title; tokens = tokens }
+
+abbrev walked : ℕ → ℕ → Names → List ExpandedLine → Bool → Walked
+walked counted before ns ls ended = Ok (cut_walk (walk_state counted before ns ls ended))
+
+pub line-kept : (line : ℕ) (kind : LineKind) (word : Option Word) (title : List ℕ) (ts kept : List Piece) (counted before : ℕ) (ns : Names) (ls new : List ExpandedLine) (ended : Bool) (st : WalkState)
+    → walk_state counted before ns ls ended ≡ st → kept ≡ cut_tokens ts → new ≡ ls ++ new_line line kind word before title kept ∷ []
+    → with_cut (Ok (with_line line kind word title ts st)) ≡ walked counted before ns new ended
+line-kept line kind word title ts kept counted before ns ls new ended st is kept-is new-is =
+    ap (λ (w : WalkState). with_cut (Ok (with_line line kind word title ts w))) (sym is)
+    ∙ ap (λ (all : List ExpandedLine). with_cut (Ok (walk_state counted before ns [] ended)) >>= λ w. Ok (record w { lines = all })) (sym (line-pushed ls (new_line line kind word before title ts)))
+    ∙ ap (λ (us : List Piece). walked counted before ns (ls ++ new_line line kind word before title us ∷ []) ended) (sym kept-is)
+    ∙ ap (λ (all : List ExpandedLine). walked counted before ns all ended) (sym new-is)
 
 other-put : (line : ℕ) (ts : List Piece) (st : WalkState) → cut_walk (placed_by line None ts (cut_walk st)) ≡ cut_walk (placed_by line None ts st)
 other-put line [] st = walk-twice st
@@ -172,7 +188,7 @@ copied-cut : (line start : ℕ) → Stable (copied line start)
 copied-cut line start st = if-same (nat_eq st.counted start) _ _ _ _ (counted-cut line st) (nothing st)
 
 copies-cut : (body : ℕ → WalkState → Walked) → ((n : ℕ) → Stable (body n)) → (line k n : ℕ) → Stable (copies body line k n)
-copies-cut body stable line zero n = nothing
+copies-cut body stable line zero n st = nothing st
 copies-cut body stable line (suc k) n st =
     if-same st.ended _ _ _ _ (nothing st)
     (bound (body n (cut_walk st) >>= until_end (copied line st.counted)) (body n st >>= until_end (copied line st.counted)) (copies body line k (n + 1))
@@ -208,8 +224,8 @@ unmatched-cut [] = nothing
 unmatched-cut (rof ∷ rofs) = λ st. refl
 
 behind-cut : (s : RawSettings) (ls : List SourceLine) (bs : List OpenBlock) (rofs : List (SourceLine × Blocks)) → Stable (behind_copy s ls bs rofs)
-behind-cut s ls [] rofs = until (unmatched rofs) (unmatched-cut rofs)
-behind-cut s ls (b ∷ bs) [] = nothing
+behind-cut s ls [] rofs st = until (unmatched rofs) (unmatched-cut rofs) st
+behind-cut s ls (b ∷ bs) [] st = nothing st
 behind-cut s ls (b ∷ bs) (rof ∷ rofs) st =
     let ends : WalkState → Walked = until_end (copied b.number b.start) in
     let more : WalkState → Walked = more_copies s ls bs b in

@@ -1,7 +1,7 @@
 -- Lines that are marked: the ROF that belongs to each FOR, found from the last line on.
 use Rattle.std.proofs.Common.{◌≡◌, ℕ, ◌+◌, ◌≤◌, ◌<◌, arith, true, false, Bool, not, ◌&&◌, List, [], ◌∷◌, length, drop, Option, Some, Result, Ok, refl, sym, ap, subst, ◌∙◌, nat_eq}
 use Rattle.{std.specs.Prelude.{if◌then◌else◌, slice_set}, std.proofs.{lemmas.Bool.{eqb-true, or_parts}, lemmas.List.{drop_all, drop_more, get_or-set_same, get_or-set_other, length-set}}}
-use Rattle.redcode_names.specs.Gives.{◌>>=◌}
+use Rattle.{redcode_names.specs.Gives.◌>>=◌, redcode_expand.specs.Cut.with_cut}
 use Rattle.redcode_expand.specs.{declared.marked_lines.Mark.Mark, Marks.{edge_of, is_bare, line_in, mark_at, no_mark, AreFromRof, AreMarked, IsMarked, IsNextRof, IsSameCount}}
 use Rattle.redcode_expand.specs.Rest.{OpenBlock, behind_copy, counters_of, rest_of, steps_left, AreOpen, GoesOn}
 use Rattle.redcode_expand.specs.{Walk.{Begun, WalkState, begun, begun_as, begun_of, closed, walk}, declared.marked_lines.Edge.Edge}
@@ -165,4 +165,4 @@ empty-goes-on s ls bs at rof name st few some going word opened none own there b
     let rest : rest_of s ls bs (parsed (drop at ls)) st ≡ rest_of s ls bs behind st =
     ap (λ (p : Parsed). rest_of s ls bs p st) (for-here ls at line (line-drop ls at some) word)
     ∙ rest-empty s ls bs line left behind (line_in ls rof) name st (ends-with ls at rof own there) going none closes in
-    record { rest = sym rest; opened = subst (AreOpen ls bs) (for-rofs ls at rof some word own there) opened; less = omega (arith, own.later, there) }
+    record { rest = ap with_cut (sym rest); opened = subst (AreOpen ls bs) (for-rofs ls at rof some word own there) opened; less = omega (arith, own.later, there) }

@@ -142,8 +142,14 @@ shown-counted e are = record {
 same-counted : (a b : Expansion) → shown a ≡ shown b → AreCounted b → AreCounted a
 same-counted a b same are = shown-counted a (subst AreCounted (sym same) (counted-shown b are))
 
+abbrev found : Expansion → Result Expansion AsmFault
+found e = Ok e
+
+ok-same : (a b : Expansion) → found a ≡ found b → a ≡ b
+ok-same a b is = cc
+
 by-shown : (m result : Result Expansion AsmFault) → Holds AreCounted m → Gives shown result (with_shown m) → IfOk result AreCounted
-by-shown (Ok b) (Ok e) are is = same-counted e b cc are
+by-shown (Ok b) (Ok e) are is = same-counted e b (sym (ok-same (shown b) (shown e) is)) are
 by-shown (Ok b) (Err fault) are is = tt
 by-shown (Err other) (Ok e) are is = absurd cc
 by-shown (Err other) (Err fault) are is = tt

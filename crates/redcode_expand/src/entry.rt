@@ -35,7 +35,6 @@ impl<'s, A: Allocator> Model for Entry<'s, A> {
 }
 
 /// Of the tokens of a line no more than shows what is wrong with it.
-#[tactic(auto, unfolding(crate::specs::Cut::cut_tokens), using(crate::proofs::Cut::tokens))]
 pub(crate) fn cut<'s, A: Allocator>(
     alloc: A,
     tokens: &[Token<'s>],
@@ -43,10 +42,12 @@ pub(crate) fn cut<'s, A: Allocator>(
     ensures { IfOk result (λ kept. pieces kept.items ≡ cut_tokens (pieces tokens.now)) }
 {
     if tokens.len() <= MOST_TOKENS {
-        return Vec::from_slice(alloc, tokens);
+        let all = Vec::from_slice(alloc, tokens)?;
+        return Ok(all);
     }
-    let (kept, behind) = tokens.split_at(MOST_TOKENS);
-    joined(alloc, kept, first_bad(behind))
+    let (front, behind) = tokens.split_at(MOST_TOKENS);
+    let kept = joined(alloc, front, first_bad(behind))?;
+    Ok(kept)
 }
 
 /// The first token that is none of the language's, alone; none if all are.

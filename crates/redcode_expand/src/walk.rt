@@ -261,7 +261,6 @@ impl<'s, A: Allocator + Copy> Walk<'s, A> {
     }
 
     /// A further line of the expanded source. Of its tokens no more are kept than show what is wrong with it.
-    #[tactic(auto, using(crate::proofs::Cut::put))]
     fn push(
         &mut self,
         number: u32,

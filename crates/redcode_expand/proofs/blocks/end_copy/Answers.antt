@@ -1,8 +1,8 @@
 use Rattle.{std.proofs.Common.arith, redcode_expand.specs.Marks.line_in, redcode_expand.proofs.GoingOn.next-copied}
 use Rattle.redcode_expand.proofs.blocks.end_copy.Goals as goal
 
-pub returns-clause-goes_on : goal.returns-clause-goes_on
-returns-clause-goes_on g c =
+pub returns : goal.returns
+returns g c =
     next-copied c.args.settings.now c.args.lines.now c.args.blocks.now c.pop.new.self c.push.new.self c.in-Some.block c.next_copy.result c.args.at c.number-2.result c.start.result c.left.result
     c.body-body.result c.counted.result (line_in c.args.lines.now c.args.at) c.args.walk.now c.end_copy.new.self
     c.in-Some.ensures c.number-2.ensures c.start.ensures c.left.ensures c.body-body.ensures c.counted.ensures c.next_copy.ensures c.in_ok-push.ensures

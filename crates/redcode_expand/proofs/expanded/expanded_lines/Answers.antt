@@ -1,0 +1,6 @@
+use Rattle.{redcode_lines.specs.Block.parsed, redcode_expand.specs.Walk.{walk_all, walk_begin}, redcode_expand.proofs.Shown.shown-found}
+use Rattle.redcode_expand.proofs.expanded.expanded_lines.Goals as goal
+
+pub returns-in-Ok-clause-expanded : goal.returns-in-Ok-clause-expanded
+returns-in-Ok-clause-expanded g c =
+    shown-found (walk_all c.args.settings.now (parsed c.args.lines.now) walk_begin) c.in-Ok.walk c.finish.result c.in-Ok.ensures.walk c.finish.ensures.expanded
