@@ -212,8 +212,8 @@ walk-cut s cs (block for body rof rest) st =
     let next : Begun → Walked = λ b. copies (inner b.counter) for.number b.copies 1 b.state in
     let begins : WalkState → Walked = λ st. begun s cs for st >>= next in
     let stable : Stable begins = λ st.
-        ap (λ (m : Result Begun AsmFault). with_cut (m >>= next)) (begun-cut s (in_copies cs for) st)
-        ∙ begun-then (begun_of s (in_copies cs for) st) next (λ now name n. copies-cut (inner name) (λ k. walk-cut s (cs ++ counter_of name k ∷ []) body) for.number n 1 now) in
+    ap (λ (m : Result Begun AsmFault). with_cut (m >>= next)) (begun-cut s (in_copies cs for) st)
+    ∙ begun-then (begun_of s (in_copies cs for) st) next (λ now name n. copies-cut (inner name) (λ k. walk-cut s (cs ++ counter_of name k ∷ []) body) for.number n 1 now) in
     bound (until_end begins (cut_walk st) >>= until_end (closed s cs rof)) (until_end begins st >>= until_end (closed s cs rof)) (walk s cs rest)
     (bound (until_end begins (cut_walk st)) (until_end begins st) (until_end (closed s cs rof)) (until begins stable st) (until (closed s cs rof) (closed-cut s cs rof)))
     (walk-cut s cs rest)
@@ -249,8 +249,3 @@ pub rest-after : (s : RawSettings) (ls : List SourceLine) (bs : List OpenBlock) 
     → with_cut (rest_of s ls bs left new) ≡ with_cut (m >>= rest_of s ls bs left)
 rest-after s ls bs left m new is =
     sym (rest-cut s ls bs left new) ∙ ap (λ (r : Walked). with_cut (r >>= rest_of s ls bs left)) (sym is) ∙ sym (through m (rest_of s ls bs left) (rest-cut s ls bs left))
-
--- the state that was due, which is cut as the one that was found
-pub due-of : (m : Walked) (new : WalkState) → with_cut m ≡ Ok (cut_walk new) → (st : WalkState) × (m ≡ Ok st) × (cut_walk st ≡ cut_walk new)
-due-of (Ok st) new is = (st, refl, cc)
-due-of (Err fault) new is = absurd cc

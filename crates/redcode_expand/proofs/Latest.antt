@@ -1,12 +1,12 @@
 -- Counts that stay until a counter or CURLINE changes: what is kept of them, and how a block begins by one.
-use Rattle.std.proofs.Common.{◌≡◌, ℕ, zero, suc, ◌+◌, ◌<◌, ◌≤◌, ◌^◌, Bool, true, false, nat_eq, if◌then◌else◌, List, [], ◌∷◌, length, map, drop, replicate, Option, Some, None, Result, Ok, Err, refl, sym, ap, ◌∙◌, arith, subst}
+use Rattle.std.proofs.Common.{◌≡◌, ℕ, zero, suc, ◌+◌, ◌<◌, ◌≤◌, ◌^◌, Bool, true, false, nat_eq, if◌then◌else◌, List, [], ◌∷◌, length, map, drop, replicate, Option, Some, None, Result, Ok, Err, refl, sym, ap, ◌∙◌, arith, subst, inl, inr}
 use Rattle.{std.specs.{Prelude.{All, slice_set}}, std.proofs.lemmas.{Bool.{eqb-true}, Bool.Decides.nat_tests, List.Elements.{All-head, All-tail, All-replicate}}}
 use Rattle.std.proofs.{lemmas.List.{get_or-replicate, get_or-set_same, get_or-set_other, length-map, length-replicate, length-set, map-set}}
-use Rattle.{redcode_names.specs.Gives.◌>>=◌, redcode_names.proofs.Unchanged.replaced-left, redcode_text.specs.Value.value_of, redcode_expand.specs.{declared.counts.Stamped.Stamped, Marks.{line_in, IsSameCount, ReadSame}}}
-use Rattle.redcode_expand.specs.Kept.{CountList, count_list, counter_before, kept_at, latest_of, AreFixed, AreKept, AreLatest, IsLatest, IsStamped}
-use Rattle.redcode_expand.specs.Walk.{Begun, WalkState, begun, begun_as, copies_of, count_by, walk_begin}
+use Rattle.{redcode_names.specs.Gives.{◌>>=◌, Fails}, redcode_names.proofs.Unchanged.replaced-left, redcode_text.specs.Value.value_of, redcode_expand.specs.{declared.counts.Stamped.Stamped, Marks.{line_in, IsSameCount, ReadSame}}}
+use Rattle.redcode_expand.specs.Kept.{counter_before, kept_at, latest_of, AreKept, IsLatest, IsStamped}
+use Rattle.redcode_expand.specs.Walk.{Begun, ExpandedLine, WalkState, begun, begun_as, begun_of, copies_of, count_by, walk_begin, walk_state}
 use Rattle.redcode_expand.proofs.{Words.{AsmFault, RawSettings, Piece, SourceLine, labels_of, names_among, Counter, in_copies, in_copy, EquList, replaced, left_over, after_rounds, is_name, Names, for_labels, predefined, Word}}
-use Rattle.redcode_expand.proofs.{GoingOn.{nat_eq-other, nat_eq-same}, Keeping.{None≢Some, all-same, none-kept}, PlainCounts.copies-word}
+use Rattle.redcode_expand.proofs.{GoingOn.{nat_eq-other, nat_eq-same}, Marks.copies-word, PlacedNames.None≢Some}
 use Rattle.redcode_text.specs.declared.vocabulary.Word.TheVariants as words
 
 -- ---- epochs
@@ -19,10 +19,6 @@ pub forgotten : (epoch : ℕ) (xs : List Stamped) → All (IsStamped epoch) xs �
 forgotten epoch [] are = refl
 forgotten epoch (x ∷ xs) are =
     rw (other-epoch x.epoch epoch (All-head (IsStamped epoch) x xs are), forgotten epoch xs (All-tail (IsStamped epoch) x xs are)) refl
-
--- what is kept by both lists
-pub both : (a b c d : List (Option ℕ)) → a ≡ b → c ≡ d → count_list a c ≡ count_list b d
-both a b c d one other = rw (one, other) refl
 
 pub forgotten-all : (epoch : ℕ) (xs : List Stamped) (latest : List (Option ℕ)) → map (latest_of epoch) xs ≡ latest → All (IsStamped epoch) xs
     → map (latest_of (epoch + 1)) xs ≡ replicate (length latest) None
@@ -161,51 +157,36 @@ begun-before s cs line st b is =
 
 -- ---- what is kept
 
-latest-none : (s : RawSettings) (lines : List SourceLine) (cs : List Counter) (st : WalkState) (n : ℕ) → n ≡ length lines → AreLatest s lines cs st (replicate n None)
+latest-none : (s : RawSettings) (lines : List SourceLine) (cs : List Counter) (st : WalkState) (n : ℕ) → n ≡ length lines → AreKept s lines cs st (replicate n None)
 latest-none s lines cs st n is = record {
   room = length-replicate n None ∙ is;
   kept = λ at m some read. absurd (None≢Some m (kept_at (replicate n None) at) (get_or-replicate n at None None (omega (arith, is, some))) read);
 }
 
 -- at first there is none
-pub kept-none : (s : RawSettings) (lines : List SourceLine) (counts : CountList) (n : ℕ) → n ≡ length lines → counts ≡ count_list (replicate n None) (replicate n None)
-    → AreKept s lines [] walk_begin counts
-kept-none s lines counts n room is = subst (AreKept s lines [] walk_begin) (sym is) (record {
-  fixed = none-kept s lines [] (replicate n None) (ap (λ (k : ℕ). replicate k None) room);
-  latest = latest-none s lines [] walk_begin n room;
-})
+pub kept-none : (s : RawSettings) (lines : List SourceLine) (counts : List (Option ℕ)) (n : ℕ) → n ≡ length lines → counts ≡ replicate n None → AreKept s lines [] walk_begin counts
+kept-none s lines counts n room is = subst (AreKept s lines [] walk_begin) (sym is) (latest-none s lines [] walk_begin n room)
 
--- whatever counters there are then, those that stay the same are kept
-pub kept-later : (s : RawSettings) (lines : List SourceLine) (cs after : List Counter) (st new : WalkState) (counts risen : CountList)
-    → (AreFixed s lines st.names.equs counts.fixed → AreFixed s lines new.names.equs counts.fixed)
-    → risen ≡ count_list counts.fixed (replicate (length counts.latest) None) → AreKept s lines cs st counts → AreKept s lines after new risen
-kept-later s lines cs after st new counts risen keeps is are = subst (AreKept s lines after new) (sym is) (record {
-  fixed = keeps are.fixed;
-  latest = latest-none s lines after new (length counts.latest) are.latest.room;
-})
+-- nor after a line, or in another copy
+pub kept-later : (s : RawSettings) (lines : List SourceLine) (cs after : List Counter) (st new : WalkState) (counts risen : List (Option ℕ)) → risen ≡ replicate (length counts) None
+    → AreKept s lines cs st counts → AreKept s lines after new risen
+kept-later s lines cs after st new counts risen is are = subst (AreKept s lines after new) (sym is) (latest-none s lines after new (length counts) are.room)
 
-latest-same : (s : RawSettings) (lines : List SourceLine) (cs : List Counter) (st new : WalkState) (counts : List (Option ℕ)) → new.names.equs ≡ st.names.equs → new.before ≡ st.before
-    → AreLatest s lines cs st counts → AreLatest s lines cs new counts
-latest-same s lines cs st new counts equs before are = record {
+-- all are, while EQUs and CURLINE stay
+pub kept-same : (s : RawSettings) (lines : List SourceLine) (cs : List Counter) (st new : WalkState) (counts : List (Option ℕ)) → new.names.equs ≡ st.names.equs → new.before ≡ st.before
+    → AreKept s lines cs st counts → AreKept s lines cs new counts
+kept-same s lines cs st new counts equs before are = record {
   room = are.room;
   kept = λ at n some read.
       let was = are.kept at n some read in
       record { count = rw (equs, before) was.count; few = was.few };
 }
 
--- all are, while EQUs and CURLINE stay
-pub kept-same : (s : RawSettings) (lines : List SourceLine) (cs : List Counter) (st new : WalkState) (counts : CountList) → new.names.equs ≡ st.names.equs → new.before ≡ st.before
-    → AreKept s lines cs st counts → AreKept s lines cs new counts
-kept-same s lines cs st new counts equs before are = record {
-  fixed = all-same s lines st.names.equs new.names.equs counts.fixed equs are.fixed;
-  latest = latest-same s lines cs st new counts.latest equs before are.latest;
-}
-
 some-same : (n m : ℕ) → Some n ≡ Some m → n ≡ m
 some-same n m is = cc
 
 latest-at : (s : RawSettings) (lines : List SourceLine) (cs : List Counter) (st : WalkState) (counts : List (Option ℕ)) (at place n m : ℕ) (b : Bool) → nat_eq place at ≡ b → at < length counts
-    → place < length lines → kept_at (slice_set counts at (Some n)) place ≡ Some m → IsLatest s cs st (line_in lines at) n → AreLatest s lines cs st counts → IsLatest s cs st (line_in lines place) m
+    → place < length lines → kept_at (slice_set counts at (Some n)) place ≡ Some m → IsLatest s cs st (line_in lines at) n → AreKept s lines cs st counts → IsLatest s cs st (line_in lines place) m
 latest-at s lines cs st counts at place n m true same within some read is are =
     let here : place ≡ at = eqb-true place at same in
     let value : Some n ≡ Some m = sym (get_or-set_same counts at (Some n) None within) ∙ ap (λ (k : ℕ). kept_at (slice_set counts at (Some n)) k) (sym here) ∙ read in
@@ -214,42 +195,52 @@ latest-at s lines cs st counts at place n m false other within some read is are 
     are.kept place m some (sym (get_or-set_other counts at place (Some n) None (nat_eq-other place at other)) ∙ read)
 
 -- one more is kept: that of a line which reads the same
-pub kept-with : (s : RawSettings) (lines : List SourceLine) (cs : List Counter) (st : WalkState) (counts after : CountList) (at count n : ℕ) → IsSameCount lines at count
+pub kept-with : (s : RawSettings) (lines : List SourceLine) (cs : List Counter) (st : WalkState) (counts after : List (Option ℕ)) (at count n : ℕ) → IsSameCount lines at count
     → copies_of s 0 st.before st.names.equs (drop 1 (in_copies cs (line_in lines at)).tokens) ≡ Ok n → n < 2 ^ 63 → AreKept s lines cs st counts
-    → after ≡ count_list counts.fixed (slice_set counts.latest count (Some n)) → AreKept s lines cs st after
+    → after ≡ slice_set counts count (Some n) → AreKept s lines cs st after
 kept-with s lines cs st counts after at count n same counted few are is =
     let tokens : (in_copies cs (line_in lines at)).tokens ≡ (in_copies cs (line_in lines count)).tokens = copies-same cs (line_in lines at) (line_in lines count) same.same in
     let now : IsLatest s cs st (line_in lines count) n =
     record { count = ap (λ (ts : List Piece). copies_of s 0 st.before st.names.equs (drop 1 ts)) (sym tokens) ∙ counted; few = few } in
-    let within : count < length counts.latest = omega (arith, are.latest.room, same.some) in
+    let within : count < length counts = omega (arith, are.room, same.some) in
     subst (AreKept s lines cs st) (sym is) (record {
-      fixed = are.fixed;
-      latest = record {
-        room = length-set counts.latest count (Some n) ∙ are.latest.room;
-        kept = λ place m some read. latest-at s lines cs st counts.latest count place n m (nat_eq place count) refl within some read now are.latest;
-      };
+      room = length-set counts count (Some n) ∙ are.room;
+      kept = λ place m some read. latest-at s lines cs st counts count place n m (nat_eq place count) refl within some read now are;
     })
 
 -- a count that is kept of a line that reads the same
-pub latest-count : (s : RawSettings) (lines : List SourceLine) (cs : List Counter) (st : WalkState) (counts : CountList) (at count n : ℕ) → IsSameCount lines at count
-    → kept_at counts.latest count ≡ Some n → AreKept s lines cs st counts → IsLatest s cs st (line_in lines at) n
+pub latest-count : (s : RawSettings) (lines : List SourceLine) (cs : List Counter) (st : WalkState) (counts : List (Option ℕ)) (at count n : ℕ) → IsSameCount lines at count
+    → kept_at counts count ≡ Some n → AreKept s lines cs st counts → IsLatest s cs st (line_in lines at) n
 latest-count s lines cs st counts at count n same read are =
-    let kept = are.latest.kept count n same.some read in
+    let kept = are.kept count n same.some read in
     record {
       count = ap (λ (ts : List Piece). copies_of s 0 st.before st.names.equs (drop 1 ts)) (copies-same cs (line_in lines at) (line_in lines count) same.same) ∙ kept.count;
       few = kept.few;
     }
 
 -- one more is kept after a block began without labels
-pub kept-learned : (s : RawSettings) (lines : List SourceLine) (cs : List Counter) (st new : WalkState) (counts mid after : CountList) (at count n : ℕ) (counter : List ℕ)
+pub kept-learned : (s : RawSettings) (lines : List SourceLine) (cs : List Counter) (st new : WalkState) (counts after : List (Option ℕ)) (at count n : ℕ) (counter : List ℕ)
     → (line_in lines at).word ≡ Some words.For → length (line_in lines at).front ≤ 1 → begun s cs (line_in lines at) st ≡ Ok (begun_as new counter n) → n < 2 ^ 63 → IsSameCount lines at count
-    → AreFixed s lines new.names.equs mid.fixed → mid.latest ≡ counts.latest → AreKept s lines cs st counts → after ≡ count_list mid.fixed (slice_set mid.latest count (Some n))
-    → AreKept s lines cs new after
-kept-learned s lines cs st new counts mid after at count n counter word short is few same fixed latest are learns =
+    → AreKept s lines cs st counts → after ≡ slice_set counts count (Some n) → AreKept s lines cs new after
+kept-learned s lines cs st new counts after at count n counter word short is few same are learns =
     let began = began-alone s cs (line_in lines at) st new counter n word short is in
-    let stays : AreLatest s lines cs new counts.latest =
-    latest-same s lines cs st new counts.latest (ap (λ (w : WalkState). w.names.equs) began.state) (ap (λ (w : WalkState). w.before) began.state) are.latest in
-    let kept : AreKept s lines cs new mid = record { fixed = fixed; latest = subst (AreLatest s lines cs new) (sym latest) stays } in
-    let counted : copies_of s 0 new.before new.names.equs (drop 1 (in_copies cs (line_in lines at)).tokens) ≡ Ok n =
-    ap (λ (w : WalkState). copies_of s 0 w.before w.names.equs (drop 1 (in_copies cs (line_in lines at)).tokens)) began.state ∙ began.count in
-    kept-with s lines cs new mid after at count n same counted few kept learns
+    subst (λ (w : WalkState). AreKept s lines cs w after) (sym began.state) (kept-with s lines cs st counts after at count n same began.count few are learns)
+
+-- ---- a block as it reads
+
+-- what is due after the labels of a FOR
+pub begun-due : (s : RawSettings) (line : SourceLine) (st : WalkState) (counted before : ℕ) (old new : Names) (lines : List ExpandedLine) (ended : Bool) (labels : List (List ℕ)) (count : List Piece)
+    (name : List ℕ) → walk_state counted before old lines ended ≡ st → labels ≡ labels_of line → for_labels s line.number before labels old ≡ Ok (new, name) → count ≡ drop 1 line.tokens
+    → begun_of s line st ≡ copies_of s line.number before new.equs count >>= λ n. Ok (begun_as (walk_state counted before new lines ended) name n)
+begun-due s line st counted before old new lines ended labels count name st-is labels-are defines count-is =
+    let counts : List Piece → Names × List ℕ → Result Begun AsmFault =
+    λ ts found. copies_of s line.number before found.0.equs ts >>= λ n. Ok (begun_as (walk_state counted before found.0 lines ended) found.1 n) in
+    ap (begun_of s line) (sym st-is) ∙ ap (λ (ls : List (List ℕ)). for_labels s line.number before ls old >>= counts (drop 1 line.tokens)) (sym labels-are)
+    ∙ ap (λ (r : Result (Names × List ℕ) AsmFault). r >>= counts (drop 1 line.tokens)) defines ∙ ap (λ (ts : List Piece). counts ts (new, name)) (sym count-is)
+
+pub begun-refused : (due : Result Begun AsmFault) (st : WalkState) (name : List ℕ) (m : Result ℕ AsmFault) (fault : AsmFault) → due ≡ m >>= (λ n. Ok (begun_as st name n)) → Fails fault m
+    → Fails fault due
+begun-refused due st name m fault due-is fails = elim fails [
+  | inl none ↦ inl none
+  | inr refused ↦ inr (due-is ∙ ap (λ (r : Result ℕ AsmFault). r >>= λ n. Ok (begun_as st name n)) refused)
+]

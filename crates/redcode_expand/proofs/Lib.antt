@@ -1,14 +1,12 @@
 mod Words
 mod Unchanged
 mod PlacedNames
-mod PlainCounts
 mod GoingOn
 mod Marks
 mod Rows
 mod RowsOfBlocks
 mod Cut
 mod Shown
-mod Keeping
 mod Latest
 mod AddedEqus
 mod Counted

@@ -2,11 +2,11 @@
 use Rattle.std.proofs.Common.{◌≡◌, ℕ, ◌+◌, ◌≤◌, ◌<◌, arith, true, false, Bool, not, ◌&&◌, List, [], ◌∷◌, length, drop, Option, Some, Result, Ok, refl, sym, ap, subst, ◌∙◌, nat_eq}
 use Rattle.{std.specs.Prelude.{if◌then◌else◌, slice_set}, std.proofs.{lemmas.Bool.{eqb-true, or_parts}, lemmas.List.{drop_all, drop_more, get_or-set_same, get_or-set_other, length-set}}}
 use Rattle.{redcode_names.specs.Gives.◌>>=◌, redcode_expand.specs.Cut.with_cut}
-use Rattle.redcode_expand.specs.{declared.marked_lines.Mark.Mark, Marks.{edge_of, has_name, is_bare, line_in, mark_at, no_mark, AreFromRof, AreMarked, IsMarked, IsNextRof, IsSameCount}}
-use Rattle.redcode_expand.specs.{Kept.{AreFixed, kept_at}, Rest.{OpenBlock, behind_copy, counters_of, rest_of, steps_left, AreOpen, GoesOn}}
+use Rattle.redcode_expand.specs.{declared.marked_lines.Mark.Mark, Marks.{edge_of, is_bare, line_in, mark_at, no_mark, AreFromRof, AreMarked, IsMarked, IsNextRof, IsSameCount}}
+use Rattle.redcode_expand.specs.Rest.{OpenBlock, behind_copy, counters_of, rest_of, steps_left, AreOpen, GoesOn}
 use Rattle.redcode_expand.specs.{Walk.{Begun, WalkState, begun, begun_as, begun_of, closed, walk}, declared.marked_lines.Edge.Edge}
-use Rattle.redcode_expand.proofs.Words.{AsmFault, RawSettings, Piece, SourceLine, Blocks, Parsed, parsed, with_body, behind_by, behind_for, has_tokens, Counter, has_number, Word, has_and}
-use Rattle.redcode_expand.proofs.{GoingOn.{begun_rest, for-here, rest-begun, rof-here, nat_eq-other}, Keeping.begun-kept, PlainCounts.{begun-unnamed, closed-none}}
+use Rattle.redcode_expand.proofs.Words.{AsmFault, RawSettings, Piece, SourceLine, Blocks, Parsed, parsed, with_body, behind_by, behind_for, has_tokens, labels_of, Counter, in_copy, in_copies, Word, has_and}
+use Rattle.redcode_expand.proofs.GoingOn.{begun_rest, for-here, rest-begun, rof-here, nat_eq-other}
 use Rattle.redcode_text.specs.declared.vocabulary.Word.TheVariants as words
 
 -- ---- a line and its edge
@@ -101,83 +101,68 @@ one-marked ls marks from mark there are is = record {
 
 -- ---- what the code asks for
 
--- no counter is among tokens that have no names
-pub unnamed : (cs : List Counter) (ts : List Piece) → has_name ts ≡ false → has_number cs ts ≡ false
-unnamed cs [] none = refl
-unnamed cs (t ∷ ts) none = grind (arith, or_parts, unnamed cs ts)
-
 no-tokens : (ts : List Piece) → not (has_tokens ts) ≡ true → ts ≡ []
 no-tokens [] h = refl
 no-tokens (t ∷ ts) h = absurd cc
 
-not-true : (b : Bool) → not b ≡ true → b ≡ false
-not-true b h = grind arith
-
 both-first : (a b : Bool) → (a && b) ≡ true → a ≡ true
 both-first a b h = grind arith
-
-both-second : (a b : Bool) → (a && b) ≡ true → b ≡ true
-both-second a b h = grind arith
 
 pub bare-front : (line : SourceLine) → is_bare line ≡ true → line.front ≡ []
 bare-front line is = no-tokens line.front (both-first (not (has_tokens line.front)) (not (has_and line.tokens)) is)
 
-pub bare-plain : (line : SourceLine) → is_bare line ≡ true → has_and line.tokens ≡ false
-bare-plain line is = not-true (has_and line.tokens) (both-second (not (has_tokens line.front)) (not (has_and line.tokens)) is)
+pub copies-word : (cs : List Counter) (line : SourceLine) → (in_copies cs line).word ≡ line.word
+copies-word [] line = refl
+copies-word (c ∷ cs) line = copies-word cs (in_copy c line)
 
--- a FOR without labels whose count names no counter begins as it stands in the source
-pub begun-bare : (s : RawSettings) (cs : List Counter) (line read : SourceLine) (st : WalkState) → read ≡ line → line.word ≡ Some words.For → is_bare line ≡ true
-    → has_number cs (drop 1 line.tokens) ≡ false → begun s cs line st ≡ begun_of s read st
-begun-bare s cs line read st is word bare none =
-    begun-unnamed s cs line st word (bare-front line bare) (bare-plain line bare) none ∙ ap (λ (l : SourceLine). begun_of s l st) (sym is)
+copies-front : (cs : List Counter) (line : SourceLine) → line.front ≡ [] → (in_copies cs line).front ≡ []
+copies-front [] line none = none
+copies-front (c ∷ cs) line none = copies-front cs (in_copy c line) (grind arith)
+
+pub front-labels : (line : SourceLine) (w : Word) → line.word ≡ Some w → line.front ≡ [] → labels_of line ≡ []
+front-labels line w word none = rw (word, none) refl
 
 -- a ROF without labels does nothing
+pub closed-none : (s : RawSettings) (cs : List Counter) (line : SourceLine) (st : WalkState) (w : Word) → line.word ≡ Some w → line.front ≡ [] → closed s cs line st ≡ Ok st
+closed-none s cs line st w h1 h2 = grind (arith, front-labels, copies-word, copies-front)
+
 pub closed-bare : (s : RawSettings) (cs : List Counter) (line : SourceLine) (st : WalkState) → line.word ≡ Some words.Rof → is_bare line ≡ true → closed s cs line st ≡ Ok st
 closed-bare s cs line st word bare = closed-none s cs line st words.Rof word (bare-front line bare)
 
 -- what was marked of a line that was read
 pub marked-is : (ls : List SourceLine) (at rof : ℕ) (line read : SourceLine) (mark : Mark) → at < length ls → drop at ls ≡ line ∷ drop (at + 1) ls → read ≡ line
-    → mark.edge ≡ edge_of read.word → mark.is_bare ≡ is_bare read → mark.has_names ≡ has_name (drop 1 read.tokens) → mark.rof ≡ rof → IsNextRof ls (at + 1) rof → IsSameCount ls at mark.count → IsMarked ls at mark
-marked-is ls at rof line read mark some first is edge bare names own next same =
+    → mark.edge ≡ edge_of read.word → mark.is_bare ≡ is_bare read → mark.rof ≡ rof → IsNextRof ls (at + 1) rof → IsSameCount ls at mark.count → IsMarked ls at mark
+marked-is ls at rof line read mark some first is edge bare own next same =
     let here : read ≡ line_in ls at = is ∙ sym (line-first ls at line some first) in
     record {
       edge = edge ∙ ap (λ (l : SourceLine). edge_of l.word) here;
       bare = bare ∙ ap is_bare here;
-      names = names ∙ ap (λ (l : SourceLine). has_name (drop 1 l.tokens)) here;
       rof = subst (IsNextRof ls (at + 1)) (sym own) next;
       count = same;
     }
 
 -- ---- a block without a copy
 
-rest-empty : (s : RawSettings) (ls : List SourceLine) (bs : List OpenBlock) (line : SourceLine) (left behind : Parsed) (rof : SourceLine) (st : WalkState) → left.1 ≡ (rof, behind.0) ∷ behind.1
-    → st.ended ≡ false → begun s (counters_of bs) line st ≡ Ok (begun_as st [] 0) → closed s (counters_of bs) rof st ≡ Ok st
+rest-empty : (s : RawSettings) (ls : List SourceLine) (bs : List OpenBlock) (line : SourceLine) (left behind : Parsed) (rof : SourceLine) (name : List ℕ) (st : WalkState) → left.1 ≡ (rof, behind.0) ∷ behind.1
+    → st.ended ≡ false → begun s (counters_of bs) line st ≡ Ok (begun_as st name 0) → closed s (counters_of bs) rof st ≡ Ok st
     → rest_of s ls bs (behind_for line left) st ≡ rest_of s ls bs behind st
-rest-empty s ls bs line left behind rof st ends going none closes =
+rest-empty s ls bs line left behind rof name st ends going none closes =
     rest-begun s ls bs line left (rof, behind.0) behind.1 st ends going
     ∙ ap (λ (x : Result Begun AsmFault). x >>= begun_rest s ls bs line left.0 (rof, behind.0) behind.1) none
     ∙ ap (λ (b : Bool). (if b then Ok st else closed s (counters_of bs) rof st) >>= walk s (counters_of bs) behind.0 >>= behind_copy s ls bs behind.1) going
     ∙ ap (λ (x : Result WalkState AsmFault). x >>= walk s (counters_of bs) behind.0 >>= behind_copy s ls bs behind.1) closes
 
 -- a block without a copy and without labels leaves the state as it is
-pub empty-goes-on : (s : RawSettings) (ls : List SourceLine) (bs : List OpenBlock) (at rof : ℕ) (st : WalkState) → length ls ≤ 65536 → at < length ls → st.ended ≡ false
-    → (line_in ls at).word ≡ Some words.For → AreOpen ls bs (parsed (drop at ls)).1 → begun s (counters_of bs) (line_in ls at) st ≡ Ok (begun_as st [] 0) → IsNextRof ls (at + 1) rof
+pub empty-goes-on : (s : RawSettings) (ls : List SourceLine) (bs : List OpenBlock) (at rof : ℕ) (name : List ℕ) (st : WalkState) → length ls ≤ 65536 → at < length ls → st.ended ≡ false
+    → (line_in ls at).word ≡ Some words.For → AreOpen ls bs (parsed (drop at ls)).1 → begun s (counters_of bs) (line_in ls at) st ≡ Ok (begun_as st name 0) → IsNextRof ls (at + 1) rof
     → rof < length ls → is_bare (line_in ls rof) ≡ true
     → GoesOn s ls (rest_of s ls bs (parsed (drop at ls)) st) (steps_left ls bs at st) bs (rof + 1) st
-empty-goes-on s ls bs at rof st few some going word opened none own there bare =
+empty-goes-on s ls bs at rof name st few some going word opened none own there bare =
     let line : SourceLine = line_in ls at in
     let left : Parsed = parsed (drop (at + 1) ls) in
     let behind : Parsed = parsed (drop (rof + 1) ls) in
     let closes : closed s (counters_of bs) (line_in ls rof) st ≡ Ok st = closed-bare s (counters_of bs) (line_in ls rof) st (rof-word ls rof own.from there) bare in
     let rest : rest_of s ls bs (parsed (drop at ls)) st ≡ rest_of s ls bs behind st =
     ap (λ (p : Parsed). rest_of s ls bs p st) (for-here ls at line (line-drop ls at some) word)
-    ∙ rest-empty s ls bs line left behind (line_in ls rof) st (ends-with ls at rof own there) going none closes in
+    ∙ rest-empty s ls bs line left behind (line_in ls rof) name st (ends-with ls at rof own there) going none closes in
     record { rest = ap with_cut (sym rest); opened = subst (AreOpen ls bs) (for-rofs ls at rof some word own there) opened; less = omega (arith, own.later, there) }
-
--- the count of a FOR that has no labels and no names
-pub begun-empty : (s : RawSettings) (cs : List Counter) (ls : List SourceLine) (counts : List (Option ℕ)) (at : ℕ) (st : WalkState) → at < length ls → (line_in ls at).word ≡ Some words.For
-    → AreFixed s ls st.names.equs counts → is_bare (line_in ls at) ≡ true → has_name (drop 1 (line_in ls at).tokens) ≡ false → kept_at counts at ≡ Some 0
-    → begun s cs (line_in ls at) st ≡ Ok (begun_as st [] 0)
-begun-empty s cs ls counts at st some word kept bare names none =
-    let line : SourceLine = line_in ls at in
-    begun-bare s cs line line st refl word bare (unnamed cs (drop 1 line.tokens) names) ∙ begun-kept s line st 0 (kept.kept at line 0 some (line-drop ls at some) none)

@@ -2,10 +2,10 @@
 use Rattle.std.proofs.Common.{◌≡◌, ℕ, zero, suc, ◌<◌, ◌≤◌, ◌^◌, Bool, true, false, if◌then◌else◌, List, [], ◌∷◌, ◌++◌, length, get_or, Option, Some, None, refl, sym, ap, ◌∙◌, subst, inl}
 use Rattle.std.proofs.{Common.{inr, arith, ◌+◌, ◌&&◌, ◌||◌, reverse, take, eqb}, lemmas.Bool.{cases_Bool, eqb-true}, lemmas.Slice.Eq.bytes_eq-Decides}
 use Rattle.{std.specs.{Option.{is_some, option_map}, Str.bytes_eq}, indexmap.specs.IndexMap.insert_entry, std.proofs.{lemmas.Grind.common_steps, lemmas.List.{reverse-append, take_more}}}
-use Rattle.redcode_expand.specs.Rest.{OpenBlock, ArePlaced, AreFew, counters_in, place_in, counters_of}
+use Rattle.redcode_expand.specs.Rest.{OpenBlock, ArePlaced, counters_in, place_in, counters_of}
 use Rattle.redcode_expand.proofs.Words.{number_of, has_number, LabelList, address_of, Piece, SourceLine, is_name, Counter, in_copy, in_copies}
 
-None≢Some : {X : Type 0} (x : X) (o : Option X) → o ≡ None → o ≡ Some x → ⊥
+pub None≢Some : {X : Type 0} (x : X) (o : Option X) → o ≡ None → o ≡ Some x → ⊥
 None≢Some x o none some = cc
 
 same-some : {X : Type 0} (x y : X) (o : Option X) → o ≡ Some x → o ≡ Some y → x ≡ y
@@ -130,16 +130,6 @@ numbered-place bs name there none = grind (arith, none-is)
 pub unnumbered : (o : Option ℕ) → is_some o ≡ false → o ≡ None
 unnumbered o h1 = grind arith
 
--- ---- the numbers of counters
-
-pub few-front : (bs others : List OpenBlock) → AreFew (counters_in (bs ++ others)) → AreFew (counters_in bs)
-few-front [] others few = tt
-few-front (b ∷ bs) others few = (few.0, few-front bs others few.1)
-
-pub few-behind : (bs : List OpenBlock) (b : OpenBlock) → AreFew (counters_in bs) → b.counter.number < 2 ^ 63 → AreFew (counters_in (bs ++ b ∷ []))
-few-behind [] b few small = (small, tt)
-few-behind (x ∷ bs) b few small = grind (arith, few-behind bs b)
-
 -- ---- counters
 
 counters-outer : (bs : List OpenBlock) (b : OpenBlock) → counters_of (bs ++ b ∷ []) ≡ b.counter ∷ counters_of bs
@@ -150,18 +140,6 @@ counters-outer (x ∷ xs) b = ap (λ (cs : List Counter). cs ++ x.counter ∷ []
 pub counters-reverse : (bs : List OpenBlock) → counters_of (reverse bs) ≡ counters_in bs
 counters-reverse [] = refl
 counters-reverse (b ∷ bs) = ap counters_of (reverse-append (b ∷ []) bs) ∙ counters-outer (reverse bs) b ∙ ap (λ (cs : List Counter). b.counter ∷ cs) (counters-reverse bs)
-
--- without counters none is named
-none-named : (ts : List Piece) → has_number [] ts ≡ false
-none-named [] = refl
-none-named (t ∷ ts) = none-by (is_name t.kind) (has_number [] ts) (none-named ts)
-  where
-    none-by : (named others : Bool) → others ≡ false → ((named && false) || others) ≡ false
-    none-by true others is = is
-    none-by false others is = is
-
-pub nothing-named : (bs items : List OpenBlock) (ts : List Piece) (count : ℕ) → reverse items ≡ bs → count ≡ length items → eqb count 0 ≡ true → false ≡ has_number (counters_of bs) ts
-nothing-named bs items ts count h1 h2 h3 = grind (arith, eqb-true, common_steps, none-named)
 
 -- ---- one block more
 

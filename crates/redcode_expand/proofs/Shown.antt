@@ -4,7 +4,7 @@ use Rattle.std.{proofs.{lemmas.Bool.{cases_Bool, ltb-true, ltb-false}, lemmas.Li
 use Rattle.{war_types.specs.declared.fault.AsmKind.AsmKind, redcode_lines.specs.Operand.operands_of}
 use Rattle.{redcode_names.specs.{Equ.replaced, Gives.{◌>>=◌, fault_at, Fails, Gives}, Cut.cut_equs, Name.address_of}, redcode_names.proofs.Cut.replaced-cut}
 use Rattle.redcode_expand.specs.{Walk.{ExpandedLine, WalkState}, Expansion.{Expansion, all_replaced, before_operands, expansion, finished, line_replaced}, Laws.{instruction_of, instructions, before_at, IsPlace, AreCounted}}
-use Rattle.redcode_expand.specs.{Cut.{cut_tokens, cut_line, cut_lines, cut_walk, with_cut, shown, shown_line, shown_lines, shown_tokens, with_shown}, Kept.{AreFixed, IsFixed, IsKept}}
+use Rattle.redcode_expand.specs.Cut.{cut_tokens, cut_line, cut_lines, cut_walk, with_cut, shown, shown_line, shown_lines, shown_tokens, with_shown}
 use Rattle.redcode_expand.proofs.{Cut.{tokens-short, tokens-long, tokens-twice}, Counted.{Holds, expansion-counted}, Unchanged.line-same, Words.{AsmFault, RawSettings, Piece, SourceLine, LabelList, EquList, LineKind}}
 use Rattle.redcode_lines.specs.declared.line.LineKind.TheVariants as lines
 
@@ -157,20 +157,3 @@ by-shown (Err other) (Err fault) are is = tt
 -- what is expanded is counted
 pub if-counted : (s : RawSettings) (source : List ℕ) (result : Result Expansion AsmFault) → Gives shown result (with_shown (expansion s source)) → IfOk result AreCounted
 if-counted s source result is = by-shown (expansion s source) result (expansion-counted s source) is
-
--- ---- counts that are kept
-
-replaced-alike : (line : ℕ) (a b : EquList) (ts : List Piece) → cut_equs a ≡ cut_equs b → replaced line a ts ≡ replaced line b ts
-replaced-alike line a b ts same = sym (replaced-cut line a ts) ∙ ap (λ (equs : EquList). replaced line equs ts) same ∙ replaced-cut line b ts
-
-fixed-alike : (s : RawSettings) (line : ℕ) (a b : EquList) (ts : List Piece) (n : ℕ) → cut_equs a ≡ cut_equs b → IsFixed s line a ts n → IsFixed s line b ts n
-fixed-alike s line a b ts n same is =
-    record { left = is.left; replaces = sym (replaced-alike line a b ts same) ∙ is.replaces; fixed = is.fixed; copies = is.copies }
-
-pub counts-alike : (s : RawSettings) (lines : List SourceLine) (a b : EquList) (counts : List (Option ℕ)) → cut_equs a ≡ cut_equs b → AreFixed s lines a counts → AreFixed s lines b counts
-counts-alike s lines a b counts same are = record {
-  room = are.room;
-  kept = λ at line n some read is.
-      let kept : IsKept s a line n = are.kept at line n some read is in
-      record { labels = kept.labels; count = fixed-alike s line.number a b _ n same kept.count; few = kept.few };
-}

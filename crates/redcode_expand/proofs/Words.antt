@@ -7,7 +7,7 @@ pub use Rattle.redcode_lines.specs.Block.{Blocks, Parsed, parsed, behind_by, wit
 pub use Rattle.redcode_copies.specs.Counter.{Counter, in_copies, counter_of, in_copy}
 pub use Rattle.redcode_copies.specs.Plain.{changed_from, kept_count, number_by, plain_copy, has_number, number_of}
 pub use Rattle.redcode_names.specs.Equ.{EquList, body_of, has_tokens, replaced, body_at, round, has_equ, left_over, after_rounds}
-pub use Rattle.redcode_names.specs.Name.{Names, defined, all_defined, but_last, equ_defined, equ_named, equ_line, predefined, for_labels, LabelList, address_of, is_loose}
+pub use Rattle.redcode_names.specs.Name.{Names, defined, all_defined, but_last, equ_defined, equ_named, equ_line, predefined, for_labels, LabelList, address_of}
 pub use Rattle.redcode_text.specs.declared.vocabulary.Word.{Word}
 pub use Rattle.redcode_lines.specs.declared.line.LineKind.{LineKind}
 pub use Rattle.redcode_lines.specs.declared.reading.LineForm.{LineForm}

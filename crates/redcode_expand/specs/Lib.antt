@@ -8,9 +8,7 @@ pub mod Cut
 pub mod Laws
 -- what the code keeps: what is left of a source within blocks that are open
 pub mod Rest
--- counts that stay the same
+-- counts that were worked out
 pub mod Kept
--- and counts with the values of counters
-pub mod Values
 -- what it knows of lines before it reads them
 pub mod Marks

@@ -1,6 +1,6 @@
 -- What the walk knows of the lines of a source before it reads them. No part of the definition: a shorter way to the same.
-use Rattle.std.specs.Prelude.{◌≡◌, ℕ, ◌+◌, ◌<◌, ◌≤◌, Bool, false, not, ◌||◌, ◌&&◌, List, [], ◌∷◌, length, drop, Option, Some, None, ⊤, slice_index_or}
-use Rattle.{redcode_text.specs.{declared.vocabulary.Word.Word, Tokens.Piece}, redcode_lines.specs.{Line.{SourceLine, has_and, is_name, source_line}, Block.parsed}}
+use Rattle.std.specs.Prelude.{◌≡◌, ℕ, ◌+◌, ◌<◌, ◌≤◌, Bool, false, not, ◌&&◌, List, [], ◌∷◌, length, drop, Option, Some, None, ⊤, slice_index_or}
+use Rattle.{redcode_text.specs.declared.vocabulary.Word.Word, redcode_lines.specs.{Line.{SourceLine, has_and, source_line}, Block.parsed}}
 use Rattle.{redcode_lines.specs.declared.reading.LineForm.LineForm, redcode_names.specs.Equ.has_tokens, redcode_expand.specs.{declared.marked_lines.Edge.Edge, declared.marked_lines.Mark.Mark}}
 
 -- the line at this index
@@ -16,11 +16,6 @@ edge_of _ = Edge.Neither
 -- nothing stands before its word, and no & after it
 abbrev pub is_bare : SourceLine → Bool
 is_bare line = not (has_tokens line.front) && not (has_and line.tokens)
-
--- a name is among the tokens
-abbrev pub has_name : List Piece → Bool
-has_name [] = false
-has_name (token ∷ tokens) = is_name token.kind || has_name tokens
 
 -- these lines are none, or the first is a ROF
 abbrev pub AreFromRof : List SourceLine → Type 0
@@ -48,12 +43,11 @@ pub record IsSameCount (lines : List SourceLine) (at count : ℕ) : Type 0 where
 pub record IsMarked (lines : List SourceLine) (at : ℕ) (mark : Mark) : Type 0 where
   pub edge : mark.edge ≡ edge_of (line_in lines at).word
   pub bare : mark.is_bare ≡ is_bare (line_in lines at)
-  pub names : mark.has_names ≡ has_name (drop 1 (line_in lines at).tokens)
   pub rof : IsNextRof lines (at + 1) mark.rof
   pub count : IsSameCount lines at mark.count
 
 abbrev pub no_mark : Mark
-no_mark = record { edge = Edge.For; is_bare = false; has_names = false; joins = false; rof = 0; count = 0 }
+no_mark = record { edge = Edge.For; is_bare = false; joins = false; rof = 0; count = 0 }
 
 abbrev pub mark_at : List Mark → ℕ → Mark
 mark_at marks at = slice_index_or marks at no_mark

@@ -103,8 +103,3 @@ place_in (b ∷ bs) name = if bytes_eq name b.counter.name then Some 0 else opti
 -- each counter's name has the index of the first block that has it, the outermost block being the first
 abbrev pub ArePlaced : LabelList → List OpenBlock → Type 0
 ArePlaced places bs = (name : List ℕ) → (place : ℕ) → place_in bs name ≡ Some place → address_of places name ≡ Some place
-
--- the numbers of counters are values
-abbrev pub AreFew : List Counter → Type 0
-AreFew [] = ⊤
-AreFew (c ∷ cs) = (c.number < 2 ^ 63) × AreFew cs

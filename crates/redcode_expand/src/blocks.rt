@@ -201,7 +201,8 @@ fn behind_empty<'s, A: Allocator + Copy>(
         let steps = steps_left lines.now blocks.now at walk.now in
         IfSome result (λ next. GoesOn settings.now lines.now due steps blocks.now next walk.now) }
 {
-    if !lines.is_bare(at) || lines.has_names(at) || !counts.is_none(at) {
+    let is_none = matches!(counts.at(lines.count(at)), Some(0));
+    if lines.reading(at).front.len() > 1 || !is_none {
         return None;
     }
     let rof = lines.rof_behind(at);
@@ -283,7 +284,6 @@ fn end_copy<'s, A: Allocator + Copy>(
     ensures goes_on { let due = rest_of settings.now lines.now blocks.old (parsed (drop at lines.now)) walk.old in
         let steps = steps_left lines.now blocks.old at walk.old in
         MatchResult result (λ next. GoesOn settings.now lines.now due steps blocks.new next walk.new) (λ fault. Fails fault due) }
-    ensures equs { OnOk result (walk.new.names.equs ≡ walk.old.names.equs) }
 {
     let Some(block) = blocks.pop() else {
         return Err(AsmFault {

@@ -4,11 +4,11 @@
 //! say whether there is anything to read.
 
 ghost use Rattle.std.specs.Prelude.{◌≡◌, ◌+◌, ◌<◌, ◌∷◌, drop, length, IfOk};
-ghost use Rattle.{redcode_text.specs.Tokens.pieces, redcode_lines.specs.Views.line_read, redcode_expand.specs.Marks.{edge_of, has_name, is_bare, line_in, AreMarked, IsNextRof, IsSameCount}};
+ghost use Rattle.{redcode_lines.specs.Views.line_read, redcode_expand.specs.Marks.{edge_of, is_bare, line_in, AreMarked, IsNextRof, IsSameCount}};
 
 use crate::same_counts::SameCounts;
-use redcode_lines::{Reading, SourceLine, behind_first, has_and, is_name, line_at};
-use redcode_text::{Token, Word};
+use redcode_lines::{Reading, SourceLine, has_and, line_at};
+use redcode_text::Word;
 use std::alloc::{AllocError, Allocator};
 use std::marker::Model;
 
@@ -28,8 +28,6 @@ pub(crate) struct Mark {
     pub edge: Edge,
     /// Whether nothing stands before its word, and no `&` after it.
     pub is_bare: bool,
-    /// Whether a name is among the tokens after its first.
-    pub has_names: bool,
     /// The index of the `ROF` that matches this `FOR`, or that ends the block of any other line; `lines.len()` or more if there is none.
     pub rof: usize,
     /// Whether an `&` is among its tokens.
@@ -63,7 +61,6 @@ impl<'l, 's, A: Allocator + Copy> MarkedLines<'l, 's, A> {
         let blank = Mark {
             edge: Edge::Neither,
             is_bare: false,
-            has_names: false,
             joins: false,
             rof: 0,
             count: 0,
@@ -114,14 +111,6 @@ impl<'l, 's, A: Allocator + Copy> MarkedLines<'l, 's, A> {
         self.marks[at].is_bare
     }
 
-    /// Whether a name is among the tokens after its first.
-    pub(crate) fn has_names(&self, at: usize) -> bool
-        requires { at < length self.now }
-        ensures { result ≡ has_name (drop 1 (line_in self.now at).tokens) }
-    {
-        self.marks[at].has_names
-    }
-
     /// The index of the `ROF` that matches the `FOR` at index `at`; `len()` or more if there is none.
     pub(crate) fn rof_behind(&self, at: usize) -> usize
         requires { at < length self.now }
@@ -161,14 +150,12 @@ impl Mark {
     fn of(line: Reading<'_, '_>, rof: usize, count: usize) -> Mark
         ensures edge { result.edge ≡ edge_of (line_read line.entry).word }
         ensures bare { result.is_bare ≡ is_bare (line_read line.entry) }
-        ensures names { result.has_names ≡ has_name (drop 1 (line_read line.entry).tokens) }
         ensures rof { result.rof ≡ rof }
         ensures count { result.count ≡ count }
     {
         Mark {
             edge: edge_of(line.word),
             is_bare: line.front.is_empty() && !has_and(line.tokens),
-            has_names: has_name(behind_first(line.tokens)),
             joins: has_and(line.front) || has_and(line.tokens),
             rof,
             count,
@@ -185,20 +172,6 @@ fn edge_of(word: Option<Word>) -> Edge
         Some(Word::Rof) => Edge::Rof,
         _ => Edge::Neither,
     }
-}
-
-/// Whether a name is among the tokens.
-fn has_name(tokens: &[Token<'_>]) -> bool
-    ensures { result ≡ has_name (pieces tokens.now) }
-{
-    let mut rest = tokens;
-    while let [first, behind @ ..] = rest {
-        if is_name(first) {
-            return true;
-        }
-        rest = behind;
-    }
-    false
 }
 
 /// Marks each line, the last one first, so that the `ROF`s after a line are known.

@@ -1,15 +1,14 @@
 //! The blocks whose copies are being written.
 
-ghost use Rattle.std.specs.Prelude.{◌≡◌, ◌<◌, ◌^◌, ◌∷◌, [], length, true, None, Some, IfOk, IfSome, OnOk, MatchOption};
-ghost use Rattle.{redcode_text.specs.Tokens.pieces, redcode_lines.specs.Views.line_read, redcode_copies.specs.{Counter.in_copies, Plain.{has_number, number_of}, Views.with_tokens}};
-ghost use Rattle.{redcode_names.specs.Name.address_of, redcode_expand.specs.Rest.{AreFew, ArePlaced, counters_in, counters_of, has_none, place_in}};
+ghost use Rattle.std.specs.Prelude.{◌≡◌, ◌∷◌, [], length, true, None, Some, IfOk, OnOk, MatchOption};
+ghost use Rattle.{redcode_lines.specs.Views.line_read, redcode_copies.specs.{Counter.in_copies, Plain.number_of, Views.with_tokens}};
+ghost use Rattle.{redcode_names.specs.Name.address_of, redcode_expand.specs.Rest.{ArePlaced, counters_in, counters_of, has_none, place_in}};
 
 use crate::open_block::OpenBlock;
 use bumpalo::Bump;
-use redcode_copies::{Counters, LineCopy, has_counter, in_copy, plain_copy};
+use redcode_copies::{Counters, LineCopy, in_copy, plain_copy};
 use redcode_lines::{Reading, has_and};
 use redcode_names::{CounterNames, NameHash};
-use redcode_text::Token;
 use std::alloc::{AllocError, Allocator};
 use std::marker::Model;
 
@@ -27,13 +26,13 @@ pub(crate) struct OpenBlocks<'s, A: Allocator + Copy> {
 }
 
 impl<'s, A: Allocator + Copy> Model for OpenBlocks<'s, A> {
-    ghost use Rattle.{std.specs.Prelude.{List, reverse}, redcode_expand.specs.Rest.{OpenBlock, ArePlaced, AreFew, counters_in}};
+    ghost use Rattle.{std.specs.Prelude.{List, reverse}, redcode_expand.specs.Rest.{OpenBlock, ArePlaced}};
 
     ghost Value = { List OpenBlock };
 
     ghost view = { λ b. reverse b.blocks.items };
 
-    ghost invariant = { λ b. ArePlaced b.names b.blocks.items × AreFew (counters_in b.blocks.items) };
+    ghost invariant = { λ b. ArePlaced b.names b.blocks.items };
 }
 
 impl<'s, A: Allocator + Copy> OpenBlocks<'s, A> {
@@ -50,8 +49,7 @@ impl<'s, A: Allocator + Copy> OpenBlocks<'s, A> {
     }
 
     pub(crate) fn is_empty(&self) -> bool
-        ensures none { result ≡ has_none self.now }
-        ensures few { AreFew (counters_of self.now) }
+        ensures { result ≡ has_none self.now }
     {
         self.blocks.is_empty()
     }
@@ -78,21 +76,10 @@ impl<'s, A: Allocator + Copy> OpenBlocks<'s, A> {
     }
 
     /// The number of the outermost counter of this name.
-    pub(crate) fn copy_number(&self, name: &[u8]) -> Option<u64>
-        ensures number { result ≡ number_of (counters_of self.now) name.now }
-        ensures few { IfSome result (λ n. n < 2 ^ 63) }
+    fn copy_number(&self, name: &[u8]) -> Option<u64>
+        ensures { result ≡ number_of (counters_of self.now) name.now }
     {
         number_of(&self.names, self.blocks.as_slice(), name)
-    }
-
-    /// Whether a counter is among the tokens.
-    pub(crate) fn are_among(&self, tokens: &[Token<'_>]) -> bool
-        ensures { result ≡ has_number (counters_of self.now) (pieces tokens.now) }
-    {
-        if self.blocks.is_empty() {
-            return false;
-        }
-        has_counter(self, tokens)
     }
 
     /// A line within the copies that are being written; `None` if it reads as it stands in the source.
@@ -145,8 +132,7 @@ fn number_of<A: Allocator + Copy>(
     name: &[u8],
 ) -> Option<u64>
     requires { ArePlaced names.now blocks.now }
-    ensures number { result ≡ number_of (counters_in blocks.now) name.now }
-    ensures few { IfSome result (λ n. n < 2 ^ 63) }
+    ensures { result ≡ number_of (counters_in blocks.now) name.now }
 {
     if blocks.len() <= FEW {
         return number_among(blocks, name);
@@ -165,8 +151,7 @@ fn number_of<A: Allocator + Copy>(
 
 /// The same, found by comparing one block after another.
 fn number_among(blocks: &[OpenBlock<'_>], name: &[u8]) -> Option<u64>
-    ensures number { result ≡ number_of (counters_in blocks.now) name.now }
-    ensures few { IfSome result (λ n. n < 2 ^ 63) }
+    ensures { result ≡ number_of (counters_in blocks.now) name.now }
 {
     let mut rest = blocks;
     while let [first, behind @ ..] = rest {

@@ -2,7 +2,7 @@
 
 ghost use Rattle.std.specs.Prelude.{◌≡◌, ◌+◌, ◌<◌, ◌≤◌, ◌^◌, [], true, Ok, OnOk};
 ghost use Rattle.{redcode_text.specs.Tokens.pieces, redcode_lines.specs.{declared.line.LineKind.TheVariants.{End, Operation}, Line.labels_of, Views.line_read}};
-ghost use Rattle.{redcode_names.specs.{Equ.has_equ, Gives.Gives}, redcode_expand.specs.{Cut.{cut_walk, with_cut}, Expansion.finished, Rest.counters_of}};
+ghost use Rattle.{redcode_names.specs.Gives.Gives, redcode_expand.specs.{Cut.{cut_walk, with_cut}, Expansion.finished, Rest.counters_of}};
 ghost use Rattle.redcode_expand.specs.Walk.{walk_begin, closed, copied, counted, labelled, with_line, placed, statement, lined, step, step_as, IsCopied};
 
 use crate::entry::{Entry, cut};
@@ -80,13 +80,6 @@ impl<'s, A: Allocator + Copy> Walk<'s, A> {
         ensures { result ≡ self.now.before }
     {
         self.before
-    }
-
-    /// Whether the name of an `EQU` so far is among the tokens.
-    pub(crate) fn names_equ(&self, tokens: &[Token<'_>]) -> bool
-        ensures { result ≡ has_equ self.now.names.equs (pieces tokens.now) }
-    {
-        !self.names.has_no_equs() && self.names.equs.are_among(tokens)
     }
 
     /// Walks over a line within blocks.

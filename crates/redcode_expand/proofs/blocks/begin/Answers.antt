@@ -29,7 +29,7 @@ returns-then-begun-eq0-clause-kept g c =
 pub returns-clause-kept : goal.returns-clause-kept
 returns-clause-kept g c =
     kept-later c.args.settings.now c.args.lines.now (counters_of c.args.blocks.now) (counters_of c.push.new.self) c.begun_at.new.walk c.begun_at.new.walk c.begun_at.new.counts c.rise.new.self
-    (λ fixed. fixed) c.in_ok-rise.ensures c.in_ok-begun.ensures.kept
+    c.in_ok-rise.ensures c.in_ok-begun.ensures.kept
 
 pub overflow_sub-left : goal.overflow_sub-left
 overflow_sub-left g c = omega (arith, c.if-begun-eq0.false)

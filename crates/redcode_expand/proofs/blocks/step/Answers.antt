@@ -1,18 +1,11 @@
 use Rattle.{std.proofs.{lemmas.Grind.common_steps, Common.{arith, ap, sym, ◌∙◌}}, redcode_lines.specs.{Line.SourceLine, Views.line_read}, redcode_expand.specs.{Marks.{edge_of, line_in}, Rest.counters_of, Walk.{WalkState, step}}}
-use Rattle.redcode_expand.proofs.{AddedEqus.step-keeps, Cut.due-of, GoingOn.{line-fails, line-goes-on}, Keeping.all-later, Latest.kept-later, Marks.{line-drop, word-for, word-rof}, Shown.counts-alike}
+use Rattle.redcode_expand.proofs.{GoingOn.{line-fails, line-goes-on}, Latest.kept-later, Marks.{line-drop, word-for, word-rof}}
 use Rattle.redcode_expand.proofs.blocks.step.Goals as goal
 
 pub returns-in_ok-step-in-Neither-clause-kept : goal.returns-in_ok-step-in-Neither-clause-kept
 returns-in_ok-step-in-Neither-clause-kept g c =
-    let s = c.args.settings.now in
     let cs = counters_of c.args.blocks.now in
-    let st = c.args.walk.now in
-    let counts = c.args.counts.now.fixed in
-    let due = due-of (step s cs (line_read c.reading.result) st) c.step.new.self c.in_ok-step-in-Neither.ensures.step in
-    kept-later s c.args.lines.now cs cs st c.step.new.self c.args.counts.now c.rise-in-Neither.new.self
-    (λ are. counts-alike s c.args.lines.now due.0.names.equs c.step.new.self.names.equs counts (ap (λ (w : WalkState). w.names.equs) due.2)
-    (all-later s c.args.lines.now st.names.equs due.0.names.equs counts (step-keeps s cs (line_read c.reading.result) st due.0 due.1) are))
-    c.in_ok-rise-in-Neither.ensures c.requires.kept
+    kept-later c.args.settings.now c.args.lines.now cs cs c.args.walk.now c.step.new.self c.args.counts.now c.rise-in-Neither.new.self c.in_ok-rise-in-Neither.ensures c.requires.kept
 
 pub begin-requires-clause-line : goal.begin-requires-clause-line
 begin-requires-clause-line g c = line-drop c.args.lines.now c.args.at c.requires.some

@@ -1,10 +1,8 @@
-use Rattle.{std.proofs.Common.arith, redcode_expand.proofs.{Keeping.nothing-kept, Latest.{all-stamped, both, none-stamped}}}
+use Rattle.{std.proofs.Common.arith, redcode_expand.proofs.Latest.{all-stamped, none-stamped}}
 use Rattle.redcode_expand.proofs.counts.Counts.new.Goals as goal
 
 pub returns : goal.returns
-returns g c =
-    both _ _ _ _ (nothing-kept c.args.lines c.in_ok-counts.counts.items (c.in_ok-counts.ensures.items_if_clones_equal (λ y h. grind arith)))
-    (none-stamped c.args.lines c.in_ok-latest.latest.items (c.in_ok-latest.ensures.items_if_clones_equal (λ y h. grind arith)))
+returns g c = none-stamped c.args.lines c.in_ok-counts.counts.items (c.in_ok-counts.ensures.items_if_clones_equal (λ y h. grind arith))
 
 pub invariant_of-result : goal.invariant_of-result
-invariant_of-result g c = all-stamped c.args.lines c.in_ok-latest.latest.items (c.in_ok-latest.ensures.items_if_clones_equal (λ y h. grind arith))
+invariant_of-result g c = all-stamped c.args.lines c.in_ok-counts.counts.items (c.in_ok-counts.ensures.items_if_clones_equal (λ y h. grind arith))
