@@ -212,8 +212,8 @@ walk-cut s cs (block for body rof rest) st =
     let next : Begun → Walked = λ b. copies (inner b.counter) for.number b.copies 1 b.state in
     let begins : WalkState → Walked = λ st. begun s cs for st >>= next in
     let stable : Stable begins = λ st.
-        ap (λ (m : Result Begun AsmFault). with_cut (m >>= next)) (begun-cut s (in_copies cs for) st)
-        ∙ begun-then (begun_of s (in_copies cs for) st) next (λ now name n. copies-cut (inner name) (λ k. walk-cut s (cs ++ counter_of name k ∷ []) body) for.number n 1 now) in
+    ap (λ (m : Result Begun AsmFault). with_cut (m >>= next)) (begun-cut s (in_copies cs for) st)
+    ∙ begun-then (begun_of s (in_copies cs for) st) next (λ now name n. copies-cut (inner name) (λ k. walk-cut s (cs ++ counter_of name k ∷ []) body) for.number n 1 now) in
     bound (until_end begins (cut_walk st) >>= until_end (closed s cs rof)) (until_end begins st >>= until_end (closed s cs rof)) (walk s cs rest)
     (bound (until_end begins (cut_walk st)) (until_end begins st) (until_end (closed s cs rof)) (until begins stable st) (until (closed s cs rof) (closed-cut s cs rof)))
     (walk-cut s cs rest)

@@ -18,7 +18,6 @@ pub cut-added : (equs : EquList) (name : List ℕ) (body : List Piece) → cut_e
 cut-added [] name body = rw (take-take 513 513 body (omega arith)) refl
 cut-added (equ ∷ equs) name body = rw (cut-added equs name body) refl
 
-
 is_equ-cut : (equs : EquList) (name : List ℕ) → is_equ (cut_equs equs) name ≡ is_equ equs name
 is_equ-cut [] name = refl
 is_equ-cut (equ ∷ equs) name = rw (is_equ-cut equs name) refl
