@@ -1,7 +1,7 @@
 -- The expanded lines and the labels of a source, or the first fault in the order of the refusals.
 use Rattle.std.specs.Prelude.{ℕ, ◌-◌, nat_lt, if◌then◌else◌, List, [], ◌∷◌, ◌++◌, length, take, Result, Ok, Err}
 use Rattle.{war_types.specs.{declared.fault.AsmFault.AsmFault, declared.settings.RawSettings.RawSettings, declared.fault.AsmKind.AsmKind}, redcode_text.specs.Tokens.Piece}
-use Rattle.redcode_lines.specs.{declared.line.Line.Line, declared.line.LineKind.LineKind, Operand.operands_of, Source.{NumberedLine, live_lines}, Block.{Parsed, parsed, source_lines}}
+use Rattle.redcode_lines.specs.{declared.line.LineKind.LineKind, Operand.operands_of, Source.{NumberedLine, live_lines}, Block.{Parsed, parsed, source_lines}}
 use Rattle.{redcode_names.specs.{Gives.{◌>>=◌, fault_at}, Equ.{EquList, replaced}, Name.{LabelList, Names}}, redcode_expand.specs.Walk.{WalkState, walk_all, walk_begin}}
 pub use Rattle.redcode_names.specs.Name.{address_of, predefined}
 pub use Rattle.redcode_expand.specs.Walk.{ExpandedLine}
@@ -9,10 +9,6 @@ pub use Rattle.redcode_expand.specs.Walk.{ExpandedLine}
 pub record Expansion : Type 0 where
   pub lines : List ExpandedLine
   pub labels : LabelList
-
--- what a line says beside its tokens and its title
-abbrev pub line_of : ExpandedLine → Line
-line_of line = record { source_line = line.source_line; kind = line.kind; before = line.before }
 
 -- the tokens before them
 abbrev pub before_operands : LineKind → List Piece → List Piece
