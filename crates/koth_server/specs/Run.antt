@@ -1,11 +1,12 @@
 -- How a run ends.
 use Rattle.std.specs.{Prelude.{◌≡◌, ◌≢◌, ◌⊎◌, ℕ, List, [], length, Option, codes, unwrap_or}, Io.KnownBytes.Keeps}
-use Rattle.{clap.specs.Words.{Text, all_of, one_of}, war_types.specs.Settings.settings_of, koth_words.specs.Options.number_or}
-use Rattle.koth_words.specs.{Words.{draw_seed_named, given_by, matches_named, reads_input, settings_named, view_named, AreTaken, AreWrong, AsksFor}, declared.words.NoRequest.NoRequest}
+use Rattle.{clap.specs.Words.{Row, Text, all_of, one_of}, war_types.specs.{Settings.settings_of, declared.settings.RawSettings.RawSettings}, koth_words.specs.Options.number_or}
+use Rattle.koth_words.specs.{Words.{draw_seed_named, given_by, given_of, has_flag, matches_in, reads_input, settings_named, view_named, AreTaken, AreWrong, AsksFor}, declared.words.NoRequest.NoRequest}
 use Rattle.koth_words.specs.{declared.words.Request.Request, declared.words.Request.TheVariants.{Asm, Check, Fight, Create, Submit, Show, Serve, Audit, Migrate, Page, Replay}}
 use Rattle.{koth_words.specs.declared.words.View.View, koth_commands.specs.{Answer.Tells, Asm.{EndsAsmFrom, EndsAsmOf}, Check.EndsCheck, Fight.EndsFight, Replay.EndsReplay}}
 use Rattle.koth_commands.specs.{Status.status_code, Streams.{Streams, unread}, declared.status.Status.Status, declared.failure.Failure.Failure}
-use Rattle.koth_server.specs.{Hills.{AfterNote, EndsCreate, EndsHill, EndsServe, EndsSubmit, SaysShown}, Audit.EndsAudit, Migration.SaysMigrated, Page.SaysPage}
+use Rattle.koth_server.specs.{Hills.{AfterNote, EndsCreate, EndsHill, EndsServe, EndsSubmit, SaysShown, Sight, sight_of}, Audit.EndsAudit, Migration.SaysMigrated, Page.SaysPage}
+use Rattle.koth_server.specs.Settled.{EndsBy, EndsSettled}
 
 -- the code is that of a status of which this holds
 abbrev pub Leaves : ℕ → (Status → Type 0) → Type 0
@@ -14,6 +15,10 @@ Leaves code holds = (status : Status) × (code ≡ status_code status) × holds 
 -- the view that the arguments ask for, and else the usual one
 abbrev pub viewed : Option View → View → View
 viewed asked usual = unwrap_or asked usual
+
+-- what of a hill these words ask for
+abbrev pub sight_in : List Row → Sight
+sight_in rows = record { matches = matches_in rows; settings = has_flag (codes "settings") rows; with_seed = has_flag (codes "with-seed") rows }
 
 -- how a request's command ends under these settings, if it takes any, and if tables are in this view unless it asks for one
 abbrev pub CommandEnds : RawSettings → View → Request → Status → Streams → Streams → Type 0
@@ -25,7 +30,7 @@ CommandEnds settings view (Fight given files) status before after =
 CommandEnds settings view (Create given creation) status before after = EndsCreate creation.draw_seed settings status (unread before) (unread after)
 CommandEnds settings view (Submit files) status before after = AfterNote (EndsSubmit (viewed files.view view) status) (unread before) (unread after)
 CommandEnds settings view (Show shown) status before after =
-    AfterNote (EndsHill (SaysShown (viewed shown.view view) shown.matches) status) (unread before) (unread after)
+    AfterNote (EndsHill (SaysShown (viewed shown.view view) (sight_of shown)) status) (unread before) (unread after)
 CommandEnds settings view (Audit file) status before after = AfterNote (EndsAudit status) (unread before) (unread after)
 CommandEnds settings view (Migrate files) status before after = EndsHill SaysMigrated status (unread before) (unread after)
 CommandEnds settings view (Page file) status before after = AfterNote (EndsHill SaysPage status) (unread before) (unread after)
@@ -70,7 +75,7 @@ pub record EndsRun (view : View) (given : List (List ℕ)) (status : Status) (be
   pub submit : AsksFor (codes "submit") given
       → AfterNote (EndsSubmit (viewed (view_named given) view) status) (unread before) (unread after)
   pub show : AsksFor (codes "show") given
-      → AfterNote (EndsHill (SaysShown (viewed (view_named given) view) (matches_named given)) status) (unread before) (unread after)
+      → AfterNote (EndsHill (SaysShown (viewed (view_named given) view) (sight_in (given_by given))) status) (unread before) (unread after)
   pub audit : AsksFor (codes "audit") given → AfterNote (EndsAudit status) (unread before) (unread after)
   pub migrate : AsksFor (codes "migrate") given → EndsHill SaysMigrated status (unread before) (unread after)
   pub page : AsksFor (codes "page") given → AfterNote (EndsHill SaysPage status) (unread before) (unread after)

@@ -19,8 +19,8 @@ pub(crate) fn settled<'g, R: Files, A: Allocator + Copy>(
 ) -> Result<RawSettings, HillTrouble<'g>>
 where
     R::File: TryLock,
-    ensures settled { IfOk result (AreSettled given) }
-    ensures unreadable { IfErr result (λ trouble. names_hill given ≡ true) }
+    ensures settled { IfOk result (AreSettled given.entry) }
+    ensures unreadable { IfErr result (λ trouble. names_hill given.entry ≡ true) }
 {
     match given {
         Some(given) => settings_of(rt, alloc, given),
@@ -35,8 +35,8 @@ fn settings_of<'g, R: Files, A: Allocator + Copy>(
 ) -> Result<RawSettings, HillTrouble<'g>>
 where
     R::File: TryLock,
-    ensures settled { IfOk result (AreGiven (is_some given.like) given.base given.chosen) }
-    ensures unreadable { IfErr result (λ trouble. is_some given.like ≡ true) }
+    ensures settled { IfOk result (AreGiven (is_some given.entry.like) given.entry.base given.entry.chosen) }
+    ensures unreadable { IfErr result (λ trouble. is_some given.entry.like ≡ true) }
 {
     match given.like {
         Some(path) => match open_hill(rt, alloc, path, Sharing::Shared) {
