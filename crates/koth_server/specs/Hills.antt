@@ -3,7 +3,7 @@ use Rattle.std.specs.{Prelude.{◌≡◌, ◌≢◌, ◌⊎◌, ℕ, Bool, true,
 use Rattle.war_types.specs.{Settings.settings_of, declared.settings.RawSettings.RawSettings, declared.settings.SettingsFault.SettingsFault}
 use Rattle.{koth_match.specs.Seeds.IsSeed, koth_hill.specs.Kept.{Kept, table_kept}, sector_disk.specs.Facts.DeviceFacts}
 use Rattle.{hill_store.specs.{Seen.{Seen, Submits}, declared.reply.Reply.Reply}, koth_protocol.specs.{Matches.matches_text, Table.show_text, Written.WritesPart}, koth_session.specs.Reply.reply_line}
-use Rattle.{koth_words.specs.declared.words.View.View, koth_views.specs.{Standing.hill_view, Matrix.matches_view, Placing.placing_view, Roster.roster}}
+use Rattle.{koth_hills.specs.Settings.settings_text, koth_words.specs.{declared.words.Shown.Shown, declared.words.View.View}, koth_views.specs.{Standing.hill_view, Matrix.matches_view, Placing.placing_view, Roster.roster}}
 use Rattle.koth_commands.specs.{Answer.{EndsGiven, Tells}, Failure.failure_word, Told.{TellsWord, WritesSome}, Streams.Streams, declared.status.Status.Status, declared.failure.Failure.Failure}
 use Rattle.koth_files.specs.{HillFault.{fault_status, fault_word}, declared.hill_fault.HillFault.HillFault, declared.trouble.HillTrouble.HillTrouble}
 use Rattle.koth_server.specs.{ReplyStatus.reply_status, Seed.seed_hint}
@@ -45,6 +45,15 @@ abbrev pub SaysReply : View → Said
 SaysReply view status text = (old : Kept) × (new : Kept) × (reply : Reply)
     × (reply ≢ Reply.Reopen) × (status ≡ reply_status reply) × IsReplyText view old new reply text
 
+-- what is to be seen of a hill: its table, with the matrix of its matches or without, or its settings, with the seed or without
+pub record Sight : Type 0 where
+  pub matches : Bool
+  pub settings : Bool
+  pub with_seed : Bool
+
+abbrev pub sight_of : Shown → Sight
+sight_of shown = record { matches = shown.matches; settings = shown.settings; with_seed = shown.with_seed }
+
 -- the table of this hill, by the results that it keeps, and after it their matrix, if that is asked for: for programs
 abbrev pub shown_lines : Bool → Kept → List ℕ
 shown_lines matches hill = if matches then show_text (table_kept hill) ++ matches_text hill else show_text (table_kept hill)
@@ -57,12 +66,16 @@ abbrev pub shown_text : View → Bool → Kept → List ℕ
 shown_text View.Plain matches hill = shown_lines matches hill
 shown_text View.Table matches hill = shown_table matches hill
 
-abbrev pub ShowsOf : View → Bool → Kept → Said
-ShowsOf view matches hill status text = (status ≡ Status.Done) × (text ≡ shown_text view matches hill)
+-- the table, or the settings in its place
+abbrev pub sight_text : View → Sight → Kept → List ℕ
+sight_text view sight hill = if sight.settings then settings_text sight.with_seed hill.settings else shown_text view sight.matches hill
+
+abbrev pub ShowsOf : View → Sight → Kept → Said
+ShowsOf view sight hill status text = (status ≡ Status.Done) × (text ≡ sight_text view sight hill)
 
 -- the same of some hill
-abbrev pub SaysShown : View → Bool → Said
-SaysShown view matches status text = (hill : Kept) × ShowsOf view matches hill status text
+abbrev pub SaysShown : View → Sight → Said
+SaysShown view sight status text = (hill : Kept) × ShowsOf view sight hill status text
 
 -- a port
 abbrev pub SaysPort : Said

@@ -5,6 +5,7 @@
 //!
 //! - `arguments` and `typed`: an argument that is no text, and standard input at a terminal, both before anything is read;
 //! - `program`: `run`, which carries out what the arguments of the command line ask for, by `koth_words`, and ends with a status;
+//! - `settled`: the settings under which a command is carried out;
 //! - `create`, `submit`, `show`, `page`, `audit`, `migrate`, `serve`: a command on a hill each, and `log`: what a service reports;
 //! - `pages`: the pages that browsers of a service ask for;
 //! - `damage`: what is told of a header that can't be read;
@@ -35,6 +36,7 @@ mod program;
 mod reply_status;
 mod seed;
 mod serve;
+mod settled;
 mod show;
 mod submit;
 mod typed;

@@ -1,0 +1,2 @@
+-- The settings of a hill, as options.
+pub mod Settings
