@@ -9,24 +9,24 @@ _koth_takes() {
             kinds=('command')
             ;;
         'asm')
-            options='-h --help -s --core -p --processes -l --length -d --distance -c --cycles -r --rounds --read-limit --write-limit --seed --capacity'
-            valued='-s --core -p --processes -l --length -d --distance -c --cycles -r --rounds --read-limit --write-limit --seed --capacity'
+            options='-h --help --like --preset -s --core -p --processes -l --length -d --distance -c --cycles -r --rounds --read-limit --write-limit --seed --capacity'
+            valued='--like --preset -s --core -p --processes -l --length -d --distance -c --cycles -r --rounds --read-limit --write-limit --seed --capacity'
             kinds=('source')
             ;;
         'check')
-            options='--format -h --help -s --core -p --processes -l --length -d --distance -c --cycles -r --rounds --read-limit --write-limit --seed --capacity'
-            valued='--format -s --core -p --processes -l --length -d --distance -c --cycles -r --rounds --read-limit --write-limit --seed --capacity'
+            options='--format -h --help --like --preset -s --core -p --processes -l --length -d --distance -c --cycles -r --rounds --read-limit --write-limit --seed --capacity'
+            valued='--format --like --preset -s --core -p --processes -l --length -d --distance -c --cycles -r --rounds --read-limit --write-limit --seed --capacity'
             kinds=('source')
             further='source'
             ;;
         'fight')
-            options='--plain --table -h --help -s --core -p --processes -l --length -d --distance -c --cycles -r --rounds --read-limit --write-limit --seed --capacity'
-            valued='-s --core -p --processes -l --length -d --distance -c --cycles -r --rounds --read-limit --write-limit --seed --capacity'
+            options='--plain --table -h --help --like --preset -s --core -p --processes -l --length -d --distance -c --cycles -r --rounds --read-limit --write-limit --seed --capacity'
+            valued='--like --preset -s --core -p --processes -l --length -d --distance -c --cycles -r --rounds --read-limit --write-limit --seed --capacity'
             kinds=('source' 'source')
             ;;
         'create')
-            options='--overwrite --draw-seed -h --help -s --core -p --processes -l --length -d --distance -c --cycles -r --rounds --read-limit --write-limit --seed --capacity'
-            valued='-s --core -p --processes -l --length -d --distance -c --cycles -r --rounds --read-limit --write-limit --seed --capacity'
+            options='--overwrite --draw-seed -h --help --like --preset -s --core -p --processes -l --length -d --distance -c --cycles -r --rounds --read-limit --write-limit --seed --capacity'
+            valued='--like --preset -s --core -p --processes -l --length -d --distance -c --cycles -r --rounds --read-limit --write-limit --seed --capacity'
             kinds=('file')
             ;;
         'submit')
@@ -35,12 +35,12 @@ _koth_takes() {
             kinds=('file' 'source')
             ;;
         'show')
-            options='--matches --plain --table -h --help'
+            options='--matches --settings --with-seed --plain --table -h --help'
             kinds=('file')
             ;;
         'serve')
-            options='--port --peers --peers-per-address --steps --listen --connections --http --host --replays --quiet --create -h --help -s --core -p --processes -l --length -d --distance -c --cycles -r --rounds --read-limit --write-limit --seed --capacity'
-            valued='--port --peers --peers-per-address --steps --listen --connections --http --host -s --core -p --processes -l --length -d --distance -c --cycles -r --rounds --read-limit --write-limit --seed --capacity'
+            options='--port --peers --peers-per-address --steps --listen --connections --http --host --replays --quiet --create -h --help --preset -s --core -p --processes -l --length -d --distance -c --cycles -r --rounds --read-limit --write-limit --seed --capacity'
+            valued='--port --peers --peers-per-address --steps --listen --connections --http --host --preset -s --core -p --processes -l --length -d --distance -c --cycles -r --rounds --read-limit --write-limit --seed --capacity'
             kinds=('file')
             ;;
         'audit')
@@ -56,8 +56,8 @@ _koth_takes() {
             kinds=('file')
             ;;
         'replay')
-            options='--round -h --help -s --core -p --processes -l --length -d --distance -c --cycles -r --rounds --read-limit --write-limit --seed --capacity'
-            valued='--round -s --core -p --processes -l --length -d --distance -c --cycles -r --rounds --read-limit --write-limit --seed --capacity'
+            options='--round -h --help --like --preset -s --core -p --processes -l --length -d --distance -c --cycles -r --rounds --read-limit --write-limit --seed --capacity'
+            valued='--round --like --preset -s --core -p --processes -l --length -d --distance -c --cycles -r --rounds --read-limit --write-limit --seed --capacity'
             kinds=('source' 'source')
             ;;
         'help')
@@ -71,7 +71,18 @@ _koth_takes() {
 _koth_value() {
     kind=''
     case $1 in
+        'asm --like') kind='file' ;;
+        'asm --preset') kind='94nop tiny nano' ;;
         'check --format') kind='text json' ;;
+        'check --like') kind='file' ;;
+        'check --preset') kind='94nop tiny nano' ;;
+        'fight --like') kind='file' ;;
+        'fight --preset') kind='94nop tiny nano' ;;
+        'create --like') kind='file' ;;
+        'create --preset') kind='94nop tiny nano' ;;
+        'serve --preset') kind='94nop tiny nano' ;;
+        'replay --like') kind='file' ;;
+        'replay --preset') kind='94nop tiny nano' ;;
         *[\<\>]) kind='file' ;;
     esac
 }
