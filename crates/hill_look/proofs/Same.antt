@@ -3,9 +3,9 @@ use Rattle.std.proofs.Common.{◌≡◌, ℕ, inl, inr, ◌+◌, ◌%◌, ◌<�
 use Rattle.std.proofs.lemmas.List.Elements.{All-nil, All-cons, All-head, All-tail}
 use Rattle.{war_types.specs.declared.settings.RawSettings.RawSettings, koth_hill.specs.{Hill.Member, Kept.Kept}, sector_disk.specs.Memory.{MemoryState, memory_size}}
 use Rattle.hill_bytes.specs.{declared.header.HeaderEntry.HeaderEntry, Layout.{HeaderParts, IsEntry, IsHeader, new_layout, sectors_for, slot_at, slot_in}}
-use Rattle.hill_images.specs.{declared.refusal.Refusal.Refusal, Opening.Refuses, Stands.{AllHeld, IsNewest, Reads, Shows, slots_of}}
+use Rattle.hill_images.specs.{declared.refusal.Refusal.Refusal, Stands.{AllHeld, IsNewest, Reads, Shows, slots_of}}
 use Rattle.hill_images.proofs.{Held.{Apart, apart_slot, held_same}, Newest.{one_newest, parity_low}, Results.{AreSame, results-same}, Sectors.{from-same, slot_before}}
-use Rattle.hill_look.specs.{Looked.taken, Meanwhile.IsFree}
+use Rattle.hill_look.specs.{Looked.{Refuses, taken}, Meanwhile.IsFree}
 use Rattle.hill_look.proofs.Steady.{SameHeaders, newest_same, same_back}
 
 are_back : (image other : ℕ → List ℕ) (es : List HeaderEntry) → AreSame new_layout image other es → AreSame new_layout other image es

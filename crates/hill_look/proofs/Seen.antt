@@ -1,8 +1,8 @@
 -- What opening finds in what was read is what stood: for `look_at_hill`.
 use Rattle.std.proofs.Common.{◌≡◌, ℕ, ◌<◌, ◌≤◌, false, min, List, Result, Ok, Err, IfErr, IfOk, MatchResult, inl, sym, ap, subst, ◌∙◌}
 use Rattle.sector_disk.specs.{Facts.DeviceFacts, Image.Images, Memory.{MemoryState, memory_disk, memory_facts, memory_size}}
-use Rattle.{hill_images.specs.{declared.refusal.Refusal.Refusal, Opening.Refuses, Stands.Reads}, hill_store.specs.{Opened.IsOpened, Seen.Seen}}
-use Rattle.hill_look.specs.{declared.refusal.LookRefusal.LookRefusal, Looked.{HillStood, IsNotSeen, IsNotSeenIn, IsNotTaken, IsRefusedIn, RefusalStood, WasTaken, of_memory, shown, taken}, Meanwhile.{IsFree, MovesOn}}
+use Rattle.{hill_images.specs.{declared.refusal.Refusal.Refusal, Stands.Reads}, hill_store.specs.{Opened.IsOpened, Seen.Seen}}
+use Rattle.hill_look.specs.{declared.refusal.LookRefusal.LookRefusal, Looked.{HillStood, IsNotSeen, IsNotSeenIn, IsNotTaken, IsRefusedIn, RefusalStood, Refuses, WasTaken, of_memory, shown, taken}, Meanwhile.{IsFree, MovesOn}}
 use Rattle.hill_look.proofs.{Moves.stays, Same.{newest_moment, reads_moment, refuses_moment}, Steady.{SameHeaders, free_same, slot_stands, steady}}
 
 -- what was taken of sectors that are as they were

@@ -1,9 +1,13 @@
 -- What was read of a hill while a store may have written it, and which hill that is.
 use Rattle.std.specs.Prelude.{◌≡◌, ℕ, ◌<◌, ◌≤◌, Bool, true, false, List}
 use Rattle.sector_disk.specs.{Facts.DeviceFacts, Disk.current, Memory.{MemoryState, memory_disk, memory_size}, Served.Failed}
-use Rattle.{hill_file.specs.declared.sector_file.Headers.Headers, hill_bytes.specs.Layout.HeaderParts, koth_hill.specs.Kept.Kept}
-use Rattle.hill_images.specs.{declared.refusal.Refusal.Refusal, Opening.Refuses, Stands.{IsNewest, Reads}}
+use Rattle.{hill_file.specs.declared.sector_file.Headers.Headers, hill_bytes.specs.Layout.{HeaderParts, new_layout}, koth_hill.specs.Kept.Kept}
+use Rattle.hill_images.specs.{declared.refusal.Refusal.Refusal, Opening.RefusesIn, Stands.{IsNewest, Reads}}
 use Rattle.hill_look.specs.{declared.refusal.LookRefusal.LookRefusal, Meanwhile.{IsFree, MovesOn, StoodAt}}
+
+-- why sectors that read as this image are not opened
+abbrev pub Refuses : ℕ → (ℕ → List ℕ) → Refusal → Type 0
+Refuses size image why = RefusesIn new_layout size image why
 
 -- what reads of a source give now
 abbrev pub shown : {S : Type 0} → DeviceFacts S → S → ℕ → List ℕ
