@@ -95,5 +95,8 @@ pub record IsRecovered {D : Type 0} (layout : Layout) (facts : DeviceFacts D) (o
 
 -- ---- in the new layout
 
+abbrev pub Refuses : ℕ → (ℕ → List ℕ) → Refusal → Type 0
+Refuses size image why = RefusesIn new_layout size image why
+
 abbrev pub IsNotOpened : {D : Type 0} → DeviceFacts D → D → D → Refusal → Type 0
 IsNotOpened facts old new why = IsNotOpenedIn new_layout facts old new why

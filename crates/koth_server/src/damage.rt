@@ -2,7 +2,6 @@
 
 ghost use Rattle.koth_server.specs.Hills.{TellsNote};
 
-use hill_file::TryLock;
 use koth_commands::{Cause, Reason, tell_word};
 use koth_files::has_lost_header;
 use std::alloc::Allocator;
@@ -10,17 +9,15 @@ use std::io::Write;
 use std::rt::Files;
 
 /// Reports that a header in the file at this path can't be read though it begins as one, if the hill is there by the other one.
-pub(crate) fn tell_lost_header<R: Files, A: Allocator, E: Write>(
+pub(crate) fn tell_lost_header<R: Files, A: Allocator + Copy, E: Write>(
     rt: &R,
     alloc: A,
     path: &str,
     errors: &mut E,
 )
-where
-    R::File: TryLock,
     ensures { TellsNote (E.contents errors.old) (E.contents errors.new) }
 {
-    if has_lost_header(rt, path) {
+    if has_lost_header(rt, alloc, path) {
         tell_word(
             alloc,
             "NOTE",

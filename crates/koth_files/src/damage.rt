@@ -1,0 +1,65 @@
+//! What the hill in a file has lost, found without writing the file.
+
+ghost use Rattle.std.specs.Prelude.{◌≡◌, ◌≤◌, ◌↔◌, IfOk, IfSome, IsTrue};
+ghost use Rattle.{sector_disk.specs.{Disk.current, Served.{IsKept, IsServed}}, hill_images.specs.Damage.LosesHeader, koth_files.specs.Looking.{IsDamagedSeen, IsLostSeen}};
+
+use hill_images::{first_damaged, loses_header};
+use hill_look::{FileSource, Source, look};
+use sector_disk::{Device, Fault};
+use std::alloc::Allocator;
+use std::rt::Files;
+
+/// Whether a header in the file at this path can't be read though it begins as one, and the hill is there by the other one.
+pub fn has_lost_header<R: Files, A: Allocator + Copy>(rt: &R, alloc: A, path: &str) -> bool {
+    match FileSource::open(rt, path) {
+        Ok(mut source) => is_lost(alloc, &mut source),
+        Err(_) => false,
+    }
+}
+
+/// That of the hill that a source holds.
+fn is_lost<S: Source, A: Allocator + Copy>(alloc: A, source: &mut S) -> bool
+    ensures { S.facts.lawful source.old → IsTrue result → IsLostSeen S.facts source.old source.new }
+{
+    match look(alloc, source) {
+        Ok(mut device) => lost_header(&mut device).unwrap_or(false),
+        Err(_) => false,
+    }
+}
+
+/// Whether one of the headers of a device is such a one.
+fn lost_header<D: Device>(device: &mut D) -> Result<bool, Fault>
+    requires { 2 ≤ D.facts.size device.old }
+    ensures served { IsServed D.facts device.old device.new result }
+    ensures lost { D.facts.lawful device.old → IfOk result (λ lost.
+        IsTrue lost ↔ LosesHeader (current (D.facts.disk device.old) 0) (current (D.facts.disk device.old) 1)) }
+{
+    let mut even = [0; 512];
+    let mut odd = [0; 512];
+    device.read(0, &mut even)?;
+    device.read(1, &mut odd)?;
+    Ok(loses_header(&even, &odd))
+}
+
+/// The entry of the first warrior of the hill in a file that can't be read, if that can be known.
+pub(crate) fn damaged_in<R: Files, A: Allocator + Copy>(
+    rt: &R,
+    alloc: A,
+    path: &str,
+) -> Option<u64> {
+    match FileSource::open(rt, path) {
+        Ok(mut source) => damaged_seen(alloc, &mut source),
+        Err(_) => None,
+    }
+}
+
+/// That of the hill that a source holds.
+pub(crate) fn damaged_seen<S: Source, A: Allocator + Copy>(alloc: A, source: &mut S) -> Option<u64>
+    ensures kept { IsKept S.facts source.old source.new }
+    ensures damaged { S.facts.lawful source.old → IfSome result (IsDamagedSeen S.facts source.old source.new) }
+{
+    match look(alloc, source) {
+        Ok(mut device) => first_damaged(alloc, &mut device),
+        Err(_) => None,
+    }
+}
