@@ -1,16 +1,21 @@
 -- What is reported of a hill that was looked at and isn't shown, and what it has lost.
-use Rattle.std.specs.Prelude.{◌≡◌, ℕ, List}
+use Rattle.std.specs.Prelude.{◌≡◌, ◌↔◌, ℕ, Bool, IsTrue, List}
 use Rattle.{sector_disk.specs.{Facts.DeviceFacts, Memory.MemoryState}, hill_images.specs.{Damage.{IsDamaged, LosesHeader}, Opening.HoldsOld, declared.refusal.Refusal.Refusal}}
-use Rattle.hill_look.specs.{Looked.{IsNotSeen, WasTaken, shown, taken}, declared.refusal.LookRefusal.LookRefusal}
+use Rattle.hill_look.specs.{Meanwhile.StoodAt, Looked.{IsNotSeen, WasTaken, shown, taken}, declared.refusal.LookRefusal.LookRefusal}
 use Rattle.koth_files.specs.{HillFault.{fault_of_refusal, stream_failed}, declared.hill_fault.HillFault.HillFault, declared.hill_fault.HillFault.TheVariants.{TooSmall, Occupied, NotAHill, OldHill, Damaged, Failed}}
 
 -- what was read of a source has this
 abbrev pub Sees : {S : Type 0} → DeviceFacts S → S → S → ((ℕ → List ℕ) → Type 0) → Type 0
 Sees facts old new Has = (memory : MemoryState) × WasTaken (shown facts old) (shown facts new) memory × Has (taken memory)
 
--- a header that can't be read, beside one that can
-abbrev pub IsLostSeen : {S : Type 0} → DeviceFacts S → S → S → Type 0
-IsLostSeen facts old new = Sees facts old new (λ image. LosesHeader (image 0) (image 1))
+-- whether what was read of both sectors has a header that can't be read, beside one that can
+pub record IsLostSeen {S : Type 0} (facts : DeviceFacts S) (old new : S) (lost : Bool) : Type 0 where
+  pub middle : S
+  pub even : List ℕ
+  pub odd : List ℕ
+  pub first : StoodAt (shown facts old) (shown facts middle) 0 even
+  pub second : StoodAt (shown facts middle) (shown facts new) 1 odd
+  pub loses : IsTrue lost ↔ LosesHeader even odd
 
 -- a warrior that can't be read, the first one, with this entry
 abbrev pub IsDamagedSeen : {S : Type 0} → DeviceFacts S → S → S → ℕ → Type 0

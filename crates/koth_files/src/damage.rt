@@ -5,39 +5,40 @@ ghost use Rattle.{sector_disk.specs.{Disk.current, Served.{IsKept, IsServed}}, h
 
 use hill_images::{first_damaged, loses_header};
 use hill_look::{FileSource, Source, look};
-use sector_disk::{Device, Fault};
+use sector_disk::Fault;
 use std::alloc::Allocator;
 use std::rt::Files;
 
-/// Whether a header in the file at this path can't be read though it begins as one, and the hill is there by the other one.
-pub fn has_lost_header<R: Files, A: Allocator + Copy>(rt: &R, alloc: A, path: &str) -> bool {
+/// Whether a header in the file at this path can't be read though it begins as one, and the hill is there by the other one. It is looked for
+/// twice, since a service may be writing it.
+pub fn has_lost_header<R: Files>(rt: &R, path: &str) -> bool {
     match FileSource::open(rt, path) {
-        Ok(mut source) => is_lost(alloc, &mut source),
+        Ok(mut source) => is_lost_twice(&mut source),
         Err(_) => false,
     }
 }
 
-/// That of the hill that a source holds.
-fn is_lost<S: Source, A: Allocator + Copy>(alloc: A, source: &mut S) -> bool
-    ensures { S.facts.lawful source.old → IsTrue result → IsLostSeen S.facts source.old source.new }
-{
-    match look(alloc, source) {
-        Ok(mut device) => lost_header(&mut device).unwrap_or(false),
-        Err(_) => false,
+/// Whether two looks at a source, one after the other, find such a header.
+fn is_lost_twice<S: Source>(source: &mut S) -> bool {
+    if source.sectors() < 2 {
+        return false;
+    }
+    match lost_header(source) {
+        Ok(true) => lost_header(source).unwrap_or(false),
+        Ok(false) | Err(Fault) => false,
     }
 }
 
-/// Whether one of the headers of a device is such a one.
-fn lost_header<D: Device>(device: &mut D) -> Result<bool, Fault>
-    requires { 2 ≤ D.facts.size device.old }
-    ensures served { IsServed D.facts device.old device.new result }
-    ensures lost { D.facts.lawful device.old → IfOk result (λ lost.
-        IsTrue lost ↔ LosesHeader (current (D.facts.disk device.old) 0) (current (D.facts.disk device.old) 1)) }
+/// Whether one of the headers of a source is such a one.
+fn lost_header<S: Source>(source: &mut S) -> Result<bool, Fault>
+    requires { 2 ≤ S.facts.size source.old }
+    ensures served { IsServed S.facts source.old source.new result }
+    ensures lost { S.facts.lawful source.old → IfOk result (IsLostSeen S.facts source.old source.new) }
 {
     let mut even = [0; 512];
     let mut odd = [0; 512];
-    device.read(0, &mut even)?;
-    device.read(1, &mut odd)?;
+    source.read(0, &mut even)?;
+    source.read(1, &mut odd)?;
     Ok(loses_header(&even, &odd))
 }
 

@@ -9,7 +9,7 @@ use std::io::Write;
 use std::rt::Files;
 
 /// Reports that a header in the file at this path can't be read though it begins as one, if the hill is there by the other one.
-pub(crate) fn tell_lost_header<R: Files, A: Allocator + Copy, E: Write>(
+pub(crate) fn tell_lost_header<R: Files, A: Allocator, E: Write>(
     rt: &R,
     alloc: A,
     path: &str,
@@ -17,7 +17,7 @@ pub(crate) fn tell_lost_header<R: Files, A: Allocator + Copy, E: Write>(
 )
     ensures { TellsNote (E.contents errors.old) (E.contents errors.new) }
 {
-    if has_lost_header(rt, alloc, path) {
+    if has_lost_header(rt, path) {
         tell_word(
             alloc,
             "NOTE",
