@@ -1,12 +1,13 @@
 //! How the hill in a file is opened.
 
-ghost use Rattle.std.specs.Prelude.{◌≡◌, ◌≤◌, ◌↔◌, false, IfErr, IfOk, IfSome, IsTrue};
-ghost use Rattle.{sector_disk.specs.{Disk.current, Served.IsServed}, hill_images.specs.Damage.{IsDamaged, LosesHeader}, hill_store.specs.Opened.IsOpened, koth_files.specs.OldHill.{IsUnopened, TellsNoHill, TellsRefusal}};
+ghost use Rattle.std.specs.Prelude.{◌≡◌, ◌≤◌, false, IfErr, IfOk};
+ghost use Rattle.{hill_store.specs.Opened.IsOpened, koth_files.specs.OldHill.{IsUnopened, TellsNoHill, TellsRefusal}};
 
+use crate::damage::damaged_in;
 use crate::hill_fault::HillFault;
 use crate::trouble::{HillTrouble, fault_of_refusal};
 use hill_file::{Headers, HillFile, Sharing, TryLock, is_another_hill, require_held};
-use hill_images::{first_damaged, holds_old_hill, loses_header};
+use hill_images::holds_old_hill;
 use hill_store::{Refusal, Store};
 use koth_commands::Reason;
 use sector_disk::{Device, Fault};
@@ -21,18 +22,17 @@ const TRIES: u64 = 20;
 /// A hill in a file.
 pub type HillStore<'f, R, A> = Store<HillFile<'f, R>, A>;
 
-/// Opens the hill in a file.
-pub fn open_hill<'f, R: Files, A: Allocator + Copy>(
+/// Opens the hill in a file, whose lock is taken.
+fn open_hill<'f, R: Files, A: Allocator + Copy>(
     rt: &'f R,
     alloc: A,
     path: &'f str,
-    sharing: Sharing,
 ) -> Result<HillStore<'f, R, A>, HillTrouble<'f>>
 where
     R::File: TryLock,
     ensures { IfOk result (λ store. store.reopen ≡ false) }
 {
-    match HillFile::open(rt, path, sharing) {
+    match HillFile::open(rt, path, Sharing::Alone) {
         Ok(device) => match open_on(alloc, device) {
             Ok(store) => Ok(store),
             Err(fault) => Err(trouble_of_opening(rt, alloc, path, fault)),
@@ -51,7 +51,7 @@ where
     R::File: TryLock,
     ensures { IfOk result (λ store. store.reopen ≡ false) }
 {
-    match open_hill(rt, alloc, path, Sharing::Alone) {
+    match open_hill(rt, alloc, path) {
         Ok(store) => match require_held(rt, path) {
             Ok(()) => Ok(store),
             Err(fault) => Err(HillTrouble::unopened(path, fault)),
@@ -73,14 +73,14 @@ where
     ensures { IfOk result (λ store. store.reopen ≡ false) }
 {
     for _ in 0..u64::from(seconds) * TRIES {
-        match open_hill(rt, alloc, path, Sharing::Alone) {
+        match open_hill(rt, alloc, path) {
             Err(trouble) if trouble.is_lock() => {
                 sleep(rt, Duration::from_millis(1000 / TRIES));
             }
             opened => return opened,
         }
     }
-    open_hill(rt, alloc, path, Sharing::Alone)
+    open_hill(rt, alloc, path)
 }
 
 /// Opens the hill in a file again, which a device has left with these headers. If another hill is there, or an earlier state of that one, nothing
@@ -129,64 +129,6 @@ where
     }
 }
 
-/// The entry of the first warrior of the hill in a file that can't be read, if that can be known.
-fn damaged_in<R: Files, A: Allocator + Copy>(rt: &R, alloc: A, path: &str) -> Option<u64>
-where
-    R::File: TryLock,
-{
-    match HillFile::open(rt, path, Sharing::Shared) {
-        Ok(mut device) => damaged_on(alloc, &mut device),
-        Err(_) => None,
-    }
-}
-
-/// That of the hill on a device.
-fn damaged_on<D: Device, A: Allocator + Copy>(alloc: A, device: &mut D) -> Option<u64>
-    ensures { D.facts.lawful device.old → IfSome result (IsDamaged (current (D.facts.disk device.old))) }
-{
-    if device.sectors() < 2 {
-        return None;
-    }
-    first_damaged(alloc, device)
-}
-
-/// Whether a header in the file at this path can't be read though it begins as one, and the hill is there by the other one. It is looked for
-/// twice, since a service may be writing it.
-pub fn has_lost_header<R: Files>(rt: &R, path: &str) -> bool
-where
-    R::File: TryLock,
-{
-    match HillFile::open(rt, path, Sharing::Shared) {
-        Ok(mut device) => is_lost_twice(&mut device),
-        Err(_) => false,
-    }
-}
-
-/// Whether two looks at a device, one after the other, find such a header.
-fn is_lost_twice<D: Device>(device: &mut D) -> bool {
-    if device.sectors() < 2 {
-        return false;
-    }
-    match lost_header(device) {
-        Ok(true) => lost_header(device).unwrap_or(false),
-        Ok(false) | Err(Fault) => false,
-    }
-}
-
-/// Whether one of the headers of a device is such a one.
-fn lost_header<D: Device>(device: &mut D) -> Result<bool, Fault>
-    requires { 2 ≤ D.facts.size device.old }
-    ensures served { IsServed D.facts device.old device.new result }
-    ensures lost { D.facts.lawful device.old → IfOk result (λ lost.
-        IsTrue lost ↔ LosesHeader (current (D.facts.disk device.old) 0) (current (D.facts.disk device.old) 1)) }
-{
-    let mut even = [0; 512];
-    let mut odd = [0; 512];
-    device.read(0, &mut even)?;
-    device.read(1, &mut odd)?;
-    Ok(loses_header(&even, &odd))
-}
-
 /// Opens the hill on a device.
 fn open_on<D: Device + Drop, A: Allocator + Copy>(
     alloc: A,
@@ -213,7 +155,7 @@ fn fault_of_opening<D: Device>(device: &mut D, refusal: Refusal) -> HillFault
 }
 
 /// The fault for a device that holds no hill. If the device fails, the fault says nothing of the old format.
-fn fault_without_hill<D: Device>(device: &mut D) -> HillFault
+pub(crate) fn fault_without_hill<D: Device>(device: &mut D) -> HillFault
     requires { 2 ≤ D.facts.size device.old }
     ensures { TellsNoHill D.facts device.old device.new result }
 {

@@ -4,10 +4,9 @@ ghost use Rattle.std.specs.{Prelude.{◌≡◌, ◌≢◌, ◌≤◌, ◌++◌, 
 ghost use Rattle.{koth_protocol.specs.Written.WritesPart, koth_commands.specs.Streams.streams};
 ghost use Rattle.koth_server.specs.Audit.{EndsAudit, EndsAuditOf, audit_answer, audit_status, counts_line, pair_line, told_of, untrue_text};
 
-use hill_file::{Sharing, TryLock};
 use hill_store::{Store, Untrue};
 use koth_commands::{Status, StreamFault, write_both, write_whole};
-use koth_files::{open_hill, tell_output};
+use koth_files::{look_hill, tell_output};
 use koth_match::Bout;
 use koth_protocol::Line;
 use sector_disk::Device;
@@ -17,7 +16,8 @@ use std::rt::Files;
 
 /// Fights every pair of the hill in a file again, and writes `true` if each result that is kept is its match's, else `false`. Then it writes
 /// on standard error the first pair whose result isn't, by the younger warrior's entry and then the older's. It writes their entries, the
-/// result that is kept, and that of their match, each as the rounds that the older won, that the younger won, and ties.
+/// result that is kept, and that of their match, each as the rounds that the older won, that the younger won, and ties. The file is only read,
+/// and its lock is not taken.
 pub(crate) fn audit<R: Files, A: Allocator + Copy, O: Write, E: Write>(
     rt: &R,
     alloc: A,
@@ -25,14 +25,12 @@ pub(crate) fn audit<R: Files, A: Allocator + Copy, O: Write, E: Write>(
     output: &mut O,
     errors: &mut E,
 ) -> Status
-where
-    R::File: TryLock,
     ensures ends { EndsAudit result
         (streams None (O.contents output.old) (E.contents errors.old))
         (streams None (O.contents output.new) (E.contents errors.new)) }
     ensures words { result ≢ Status.WordFault }
 {
-    match open_hill(rt, alloc, path, Sharing::Alone) {
+    match look_hill(rt, alloc, path) {
         Ok(mut store) => audit_store(alloc, &mut store, output, errors),
         Err(trouble) => trouble.tell(alloc, errors),
     }

@@ -2,7 +2,6 @@
 
 ghost use Rattle.koth_server.specs.Hills.{TellsNote};
 
-use hill_file::TryLock;
 use koth_commands::{Cause, Reason, tell_word};
 use koth_files::has_lost_header;
 use std::alloc::Allocator;
@@ -16,8 +15,6 @@ pub(crate) fn tell_lost_header<R: Files, A: Allocator, E: Write>(
     path: &str,
     errors: &mut E,
 )
-where
-    R::File: TryLock,
     ensures { TellsNote (E.contents errors.old) (E.contents errors.new) }
 {
     if has_lost_header(rt, path) {

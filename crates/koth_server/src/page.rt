@@ -3,18 +3,17 @@
 ghost use Rattle.std.specs.Prelude.{◌≡◌, ◌≢◌, IfOk, None};
 ghost use Rattle.{koth_page.specs.Page.hill_page, koth_commands.specs.Streams.streams, koth_server.specs.{Hills.{EndsHill, Tries}, Page.{PagesOf, SaysPage}}};
 
-use hill_file::{Sharing, TryLock};
 use hill_store::Store;
 use koth_commands::{Status, write_whole};
-use koth_files::{HillTrouble, open_hill};
+use koth_files::{HillTrouble, look_hill};
 use koth_page::{Links, hill_page};
 use sector_disk::Device;
 use std::alloc::{AllocError, Allocator};
 use std::io::Write;
 use std::rt::Files;
 
-/// Writes the page of the hill in a file: one file of HTML, whole on the output. The hill's lock is not taken, so `page` can show a hill while
-/// a service works on it.
+/// Writes the page of the hill in a file: one file of HTML, whole on the output. The file is only read, and its lock is not taken: so
+/// `page` can show a hill while a service works on it.
 pub(crate) fn page<R: Files, A: Allocator + Copy, O: Write, E: Write>(
     rt: &R,
     alloc: A,
@@ -22,8 +21,6 @@ pub(crate) fn page<R: Files, A: Allocator + Copy, O: Write, E: Write>(
     output: &mut O,
     errors: &mut E,
 ) -> Status
-where
-    R::File: TryLock,
     ensures ends { EndsHill SaysPage result
         (streams None (O.contents output.old) (E.contents errors.old))
         (streams None (O.contents output.new) (E.contents errors.new)) }
@@ -41,11 +38,9 @@ fn page_file<'p, R: Files, A: Allocator + Copy, O: Write>(
     path: &'p str,
     output: &mut O,
 ) -> Result<Status, HillTrouble<'p>>
-where
-    R::File: TryLock,
     ensures { Tries SaysPage result (O.contents output.old) (O.contents output.new) }
 {
-    match open_hill(rt, alloc, path, Sharing::Shared) {
+    match look_hill(rt, alloc, path) {
         Ok(store) => page_store(alloc, &store, output),
         Err(trouble) => Err(trouble),
     }

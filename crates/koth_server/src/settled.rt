@@ -3,21 +3,18 @@
 ghost use Rattle.std.specs.Prelude.{◌≡◌, true, IfErr, IfOk, is_some};
 ghost use Rattle.koth_server.specs.Settled.{AreGiven, AreSettled, names_hill};
 
-use hill_file::{Sharing, TryLock};
-use koth_files::{HillTrouble, open_hill};
+use koth_files::{HillTrouble, look_hill};
 use koth_words::{DEFAULTS, Given};
 use std::alloc::Allocator;
 use std::rt::Files;
 use war_types::RawSettings;
 
-/// The settings that a request gives; the default ones if it gives none. If it names a hill, that is looked at, without its lock.
+/// The settings that a request gives; the default ones if it gives none. If it names a hill, that is looked at, and nothing is written to it.
 pub(crate) fn settled<'g, R: Files, A: Allocator + Copy>(
     rt: &'g R,
     alloc: A,
     given: Option<Given<'g>>,
 ) -> Result<RawSettings, HillTrouble<'g>>
-where
-    R::File: TryLock,
     ensures settled { IfOk result (AreSettled given.entry) }
     ensures unreadable { IfErr result (λ trouble. names_hill given.entry ≡ true) }
 {
@@ -32,13 +29,11 @@ fn settings_of<'g, R: Files, A: Allocator + Copy>(
     alloc: A,
     given: Given<'g>,
 ) -> Result<RawSettings, HillTrouble<'g>>
-where
-    R::File: TryLock,
     ensures settled { IfOk result (AreGiven (is_some given.entry.like) given.entry.base given.entry.chosen) }
     ensures unreadable { IfErr result (λ trouble. is_some given.entry.like ≡ true) }
 {
     match given.like {
-        Some(path) => match open_hill(rt, alloc, path, Sharing::Shared) {
+        Some(path) => match look_hill(rt, alloc, path) {
             Ok(store) => Ok(given.settings_like(store.hill().settings())),
             Err(trouble) => Err(trouble),
         },

@@ -3,10 +3,9 @@
 ghost use Rattle.std.specs.Prelude.{◌≡◌, ◌≢◌, IfOk, None, true};
 ghost use Rattle.{koth_commands.specs.Streams.streams, koth_server.specs.Hills.{EndsHill, SaysShown, ShowsOf, Tries, shown_lines, shown_table, shown_text, sight_of, sight_text}};
 
-use hill_file::{Sharing, TryLock};
 use hill_store::Store;
 use koth_commands::{Status, write_whole};
-use koth_files::{HillTrouble, open_hill};
+use koth_files::{HillTrouble, look_hill};
 use koth_hills::settings_text;
 use koth_protocol::matches_text;
 use koth_session::table_of;
@@ -18,7 +17,8 @@ use std::io::Write;
 use std::rt::Files;
 
 /// Writes the table of the hill in a file, as a session answers `SHOW`, or in columns for people. If that is asked for, the matrix of its
-/// matches follows: who won how many rounds against whom. Or it writes the hill's settings as options in place of these. The hill's lock is not taken, so `show` can show a hill while a service works on it.
+/// matches follows: who won how many rounds against whom. Or it writes the hill's settings as options in place of these. The file is only
+/// read, and its lock is not taken: so `show` can show a hill while a service works on it.
 pub(crate) fn show<R: Files, A: Allocator + Copy, O: Write, E: Write>(
     rt: &R,
     alloc: A,
@@ -27,8 +27,6 @@ pub(crate) fn show<R: Files, A: Allocator + Copy, O: Write, E: Write>(
     output: &mut O,
     errors: &mut E,
 ) -> Status
-where
-    R::File: TryLock,
     ensures ends { EndsHill (SaysShown view (sight_of shown.entry)) result
         (streams None (O.contents output.old) (E.contents errors.old))
         (streams None (O.contents output.new) (E.contents errors.new)) }
@@ -47,11 +45,9 @@ fn show_file<'s, R: Files, A: Allocator + Copy, O: Write>(
     view: View,
     output: &mut O,
 ) -> Result<Status, HillTrouble<'s>>
-where
-    R::File: TryLock,
     ensures { Tries (SaysShown view (sight_of shown.entry)) result (O.contents output.old) (O.contents output.new) }
 {
-    match open_hill(rt, alloc, shown.hill, Sharing::Shared) {
+    match look_hill(rt, alloc, shown.hill) {
         Ok(store) => show_store(alloc, &store, shown, view, output),
         Err(trouble) => Err(trouble),
     }

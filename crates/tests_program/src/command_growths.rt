@@ -43,16 +43,17 @@ macro_rules! commands {
 type Row = (u64, u64, Command);
 
 /// A source is read into a buffer and assembled by 9 growths. A hill is created by 5, the members and an arena's four, after two for
-/// the name of its new file, and opened by these and the code of the one warrior. The hill of the old format that is moved to a file that is
+/// the name of its new file, and opened by these and the code of the one warrior.
+/// One that is looked at is read into memory first. The hill of the old format that is moved to a file that is
 /// made has three warriors. Texts grow from 8 bytes to 16, 32 and 64, load text from 4.
 const COMMANDS: [Row; 8] = commands! {
     1 + 9 + 5, 0 => "koth asm", "MOV 0, 1\n" => "ORG 0\nMOV.I  $     0, $     1\nEND\n", 0;
     10 + 10 + 4 + 1, 0 => "koth fight growths.red growths.red --core=64 --cycles=100 --processes=8 --length=10 --distance=10 --rounds=2", ""
         => "0 0 2\n", 0;
     2 + 5, 0 => small!("koth create growing.hill"), "" => "CREATED\n", 0;
-    6 + 1 + 3, 0 => "koth show growths.hill", "" => "1 1 0 0 Unnamed by Anonymous\n.\n", 0;
-    6 + 1 + 3 + 1 + 2 + 1, 0 => "koth show growths.hill --matches", "" => "1 1 0 0 Unnamed by Anonymous\n.\n    1\n 1  -\n", 0;
-    6, 0 => "koth audit growths.hill", "" => "true\n", 0;
+    1 + 6 + 1 + 3, 0 => "koth show growths.hill", "" => "1 1 0 0 Unnamed by Anonymous\n.\n", 0;
+    1 + 6 + 1 + 3 + 1 + 2 + 1, 0 => "koth show growths.hill --matches", "" => "1 1 0 0 Unnamed by Anonymous\n.\n    1\n 1  -\n", 0;
+    1 + 6, 0 => "koth audit growths.hill", "" => "true\n", 0;
     1 + 5 + 3, 0 => "koth migrate old_growths.hill growing.hill", "" => "MIGRATED\n", 0;
     6 + 1, 9 => "koth submit growths.hill growths.red", "" => "PLACED 2 2 2\n", 0;
 };

@@ -129,13 +129,13 @@ const IN_USE: &str =
 
 /// What is done while it is used.
 const USED: [Step; 7] = steps! {
-    Tell("koth audit told_lock.hill", View::Table, "", IN_USE, 3);
     Tell("koth submit told_lock.hill x", View::Table, "", IN_USE, 3);
     Tell("koth submit told_lock.hill x --wait 1", View::Table, "", IN_USE, 3);
     Tell("koth create told_lock.hill --overwrite", View::Table, "", IN_USE, 3);
     Tell("koth serve told_lock.hill --port 0", View::Table, "", IN_USE, 3);
     Tell("koth serve told_lock.hill --port 0 --create", View::Table, "", IN_USE, 3);
     Run("koth show told_lock.hill", ".\n", "", 0);
+    Run("koth audit told_lock.hill", "true\n", "", 0);
 };
 
 /// What is done after that.
@@ -144,7 +144,7 @@ const FREE: [Step; 2] = steps! {
     Remove("told_lock.hill");
 };
 
-/// Two programs don't work on one hill, but it can be shown.
+/// Two programs don't work on one hill, but it can be shown and audited.
 #[test]
 fn a_hill_that_is_worked_on(rt: HostRuntime) {
     play(&rt, &MADE);
