@@ -45,6 +45,7 @@ mod pages;
 mod program;
 #[cfg(test)]
 mod seeds;
+#[cfg(test)]
 mod settings;
 #[cfg(test)]
 mod steps;
