@@ -2,8 +2,10 @@ pub mod Rows
 pub mod Divisors
 pub mod Pairs
 pub mod Turns
+pub mod Passes
 pub mod Marks
 pub mod Loads
 pub mod Words
 pub mod Reaches
+pub mod Executions
 pub mod Touched

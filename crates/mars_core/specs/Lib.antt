@@ -10,6 +10,7 @@ pub mod Arena
 pub mod Touched
 -- Operands and turns without limits, and that they are the same.
 pub mod Whole
+pub mod Passes
 pub mod Laws
 -- Of the code alone, for private contracts: what its values mean, the words of its cells, and the queues that it keeps.
 pub mod Code

@@ -107,8 +107,7 @@ impl<A: Allocator> Core<A> {
 }
 
 /// Puts an address after the others of a list.
-#[cold]
-#[inline(never)]
+#[inline(always)]
 fn list(written: &mut [u16], count: &mut usize, at: u16)
     requires room { count.old < length written.old }
     ensures written { written.new ≡ slice_set written.old count.old at }
