@@ -29,14 +29,14 @@ module _ {D : Type 0} (facts : DeviceFacts D) (before after : Seen D) (source : 
   pub says_submission : (view : View) (status : Status) (u v : Streams) → before.reopen ≡ false → EndsSubmission facts before source after view status u v
       → EndsSubmit view status u v
   says_submission view status u v is_open (reply, submits, inl said) =
-      inl (before.hill, after.hill, reply, never_reopen reply submits is_open, said)
+      inl (before.hill, after.hill, source, reply, never_reopen reply submits is_open, said)
   says_submission view status u v is_open (reply, submits, inr (is, (text, tells, written), told)) = inr record {
     fault = HillFault.Failed Failure.Stream;
     ends = is;
     output = inr record {
       status = reply_status reply;
       text = text;
-      answer = (before.hill, after.hill, reply, never_reopen reply submits is_open, refl, tells);
+      answer = (before.hill, after.hill, source, reply, never_reopen reply submits is_open, refl, tells);
       written = written;
     };
     told = told;

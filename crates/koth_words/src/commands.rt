@@ -6,7 +6,7 @@ ghost use Rattle.koth_words.specs.Commands.{asm_app, audit_app, check_app, creat
 ghost use Rattle.koth_words.specs.Commands.{wants_subcommand, with_version, with_view, IsReadAs};
 
 use crate::arguments::{file, files, flag, port, ranged, source, text, texts};
-use crate::options::{option, with_settings};
+use crate::options::{option, with_like, with_settings};
 use clap::{Arg, Command};
 use std::alloc::{AllocError, Global};
 
@@ -42,7 +42,7 @@ fn asm_command<'a>(heap: Global) -> Result<Command<'a>, AllocError>
     ensures { IfOk result (IsReadAs asm_app) }
 {
     let command = described(heap, "asm", "Assembles a source, and writes its load text");
-    with_settings(heap, with_arg(Ok(command), source(heap)))
+    with_like(heap, with_arg(Ok(command), source(heap)))
 }
 
 fn check_command<'a>(heap: Global) -> Result<Command<'a>, AllocError>
@@ -51,7 +51,7 @@ fn check_command<'a>(heap: Global) -> Result<Command<'a>, AllocError>
     let about = "Assembles sources, and reports what is wrong with them";
     let command = with_arg(Ok(described(heap, "check", about)), files(heap));
     let help = "Format of the report, text or json [default: text]";
-    with_settings(heap, with_arg(command, text(heap, "format", "FORM", help)))
+    with_like(heap, with_arg(command, text(heap, "format", "FORM", help)))
 }
 
 fn fight_command<'a>(heap: Global) -> Result<Command<'a>, AllocError>
@@ -61,7 +61,7 @@ fn fight_command<'a>(heap: Global) -> Result<Command<'a>, AllocError>
     let a = file(heap, "A", "File of the older warrior");
     let b = file(heap, "B", "File of the younger warrior");
     let command = with_arg(Ok(described(heap, "fight", about)), a);
-    with_settings(heap, with_view(heap, with_arg(command, b)))
+    with_like(heap, with_view(heap, with_arg(command, b)))
 }
 
 fn create_command<'a>(heap: Global) -> Result<Command<'a>, AllocError>
@@ -74,7 +74,7 @@ fn create_command<'a>(heap: Global) -> Result<Command<'a>, AllocError>
     let command = with_arg(command, overwrite);
     let help = "Draw the seed at random, and never print it; not with --seed";
     let draw_seed = flag(heap, "draw-seed", help);
-    with_settings(heap, with_arg(command, draw_seed))
+    with_like(heap, with_arg(command, draw_seed))
 }
 
 fn submit_command<'a>(heap: Global) -> Result<Command<'a>, AllocError>
@@ -96,7 +96,11 @@ fn show_command<'a>(heap: Global) -> Result<Command<'a>, AllocError>
     let hill = file(heap, "FILE", "Hill file");
     let command = with_arg(Ok(described(heap, "show", about)), hill);
     let help = "Write after the table how many rounds each warrior won against each other";
-    with_view(heap, with_arg(command, flag(heap, "matches", help)))
+    let command = with_arg(command, flag(heap, "matches", help));
+    let help = "Write the hill's settings as options in place of the table; not with --matches";
+    let command = with_arg(command, flag(heap, "settings", help));
+    let help = "Write the seed too, with --settings";
+    with_view(heap, with_arg(command, flag(heap, "with-seed", help)))
 }
 
 fn serve_command<'a>(heap: Global) -> Result<Command<'a>, AllocError>
@@ -170,7 +174,7 @@ fn replay_command<'a>(heap: Global) -> Result<Command<'a>, AllocError>
     let b = file(heap, "B", "File of the younger warrior");
     let command = with_arg(with_arg(Ok(described(heap, "replay", about)), a), b);
     let help = "Round that is shown, 1 to 1000 [default: 1]";
-    with_settings(
+    with_like(
         heap,
         with_arg(command, ranged(heap, "round", 1, 1000, help)),
     )

@@ -2,7 +2,7 @@
 
 ghost use Rattle.std.specs.Prelude.{◌≡◌, ◌↔◌, [], Some, codes, map, option_map, unwrap_or, IfOk, IsTrue};
 ghost use Rattle.{clap.specs.Words.{all_of, first_of, found_of, one_of, rows_of}, koth_words.specs.Options.{number_below, number_given, number_or}};
-ghost use Rattle.koth_words.specs.Words.{form_in, has_flag, has_known_form, has_one_seed, has_one_view, has_option, has_setting, matches_in, text_or_none};
+ghost use Rattle.koth_words.specs.Words.{form_in, has_flag, has_known_form, has_one_seed, has_one_sight, has_one_view, has_option, has_setting, matches_in, text_or_none};
 ghost use Rattle.koth_words.specs.Words.{uses_settings, view_in, HasAddress, IsAddress, IsOfMany, IsSource, WritesAddress};
 
 use crate::options::{number_given, number_if_given};
@@ -123,6 +123,14 @@ pub(crate) fn creation_named<'w>(matches: &ArgMatches<'w>) -> Creation<'w>
     }
 }
 
+/// Whether settings and matches are not both to be shown, and the seed only with the settings.
+pub(crate) fn has_one_sight(matches: &ArgMatches<'_>) -> bool
+    ensures { result ≡ has_one_sight (rows_of (found_of matches.now)) }
+{
+    !(flag_given(matches, "settings") && flag_given(matches, "matches"))
+        && (flag_given(matches, "settings") || !flag_given(matches, "with-seed"))
+}
+
 /// Whether the seed is not both given and drawn.
 pub(crate) fn has_one_seed(matches: &ArgMatches<'_>) -> bool
     ensures { result ≡ has_one_seed (rows_of (found_of matches.now)) }
@@ -147,11 +155,15 @@ pub(crate) fn submission_named<'w>(matches: &ArgMatches<'w>) -> Submission<'w>
 pub(crate) fn shown_named<'w>(matches: &ArgMatches<'w>) -> Shown<'w>
     ensures hill { result.hill.now ≡ text_or_none (first_of (codes "FILE") (rows_of (found_of matches.now))) }
     ensures matches { result.matches ≡ matches_in (rows_of (found_of matches.now)) }
+    ensures settings { result.settings ≡ has_flag (codes "settings") (rows_of (found_of matches.now)) }
+    ensures with_seed { result.with_seed ≡ has_flag (codes "with-seed") (rows_of (found_of matches.now)) }
     ensures view { result.view ≡ view_in (rows_of (found_of matches.now)) }
 {
     Shown {
         hill: file_named(matches, "FILE"),
         matches: flag_given(matches, "matches"),
+        settings: flag_given(matches, "settings"),
+        with_seed: flag_given(matches, "with-seed"),
         view: view_given(matches),
     }
 }
@@ -214,6 +226,7 @@ fn setting_given(matches: &ArgMatches<'_>) -> bool
         | option_given(matches, "capacity")
         | option_given(matches, "read-limit")
         | option_given(matches, "write-limit")
+        | option_given(matches, "preset")
 }
 
 /// The address to listen at.
@@ -285,13 +298,13 @@ pub(crate) fn file_named<'w>(matches: &ArgMatches<'w>, name: &str) -> &'w str
 }
 
 /// The text that is given under this name, if one is.
-fn text_given<'w>(matches: &ArgMatches<'w>, name: &str) -> Option<&'w str>
+pub(crate) fn text_given<'w>(matches: &ArgMatches<'w>, name: &str) -> Option<&'w str>
     ensures { option_map (λ text. text.now) result ≡ first_of name.now (rows_of (found_of matches.now)) }
 {
     matches.get_str(name)
 }
 
-fn option_given(matches: &ArgMatches<'_>, name: &str) -> bool
+pub(crate) fn option_given(matches: &ArgMatches<'_>, name: &str) -> bool
     ensures { result ≡ has_option name.now (rows_of (found_of matches.now)) }
 {
     text_given(matches, name).is_some()

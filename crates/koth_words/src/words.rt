@@ -2,15 +2,15 @@
 
 ghost use Rattle.std.specs.Prelude.{◌≡◌, ◌≢◌, codes, map, IfOk, IfErr, IsErrAnd, string_bytes};
 ghost use Rattle.clap.specs.Words.{found_of, kind_of, rows_of, subcommand_name_of, subcommand_of, subcommand_rows_of};
-ghost use Rattle.koth_words.specs.Words.{given_in, koth_app, AreClear, AreTaken, AreWrong, Asks, AsksBy, HasAddress, IsCommandName, IsRefusal, NamesCommand};
+ghost use Rattle.koth_words.specs.Words.{given_in, given_of, koth_app, AreClear, AreTaken, AreWrong, Asks, AsksBy, HasAddress, IsCommandName, IsRefusal, NamesCommand};
 
 use crate::commands::koth_command;
 use crate::given::{
     checked_named, creation_named, fighters_named, file_named, has_address, has_known_form,
-    has_one_seed, has_one_view, migration_named, service_named, shown_named, source_named,
-    submission_named, uses_settings, watched_named,
+    has_one_seed, has_one_sight, has_one_view, migration_named, service_named, shown_named,
+    source_named, submission_named, uses_settings, watched_named,
 };
-use crate::options::settings_given;
+use crate::settings::{Given, given_named, has_known_preset, has_one_base, settings_given};
 use clap::error::ErrorKind;
 use clap::{ArgMatches, Error};
 use std::alloc::{AllocError, Global};
@@ -21,13 +21,13 @@ use war_types::RawSettings;
 #[derive(Drop)]
 pub enum Request<'w> {
     /// `asm`: assemble a source under these settings, and write its load text.
-    Asm(RawSettings, Source<'w>),
+    Asm(Given<'w>, Source<'w>),
     /// `check`: assemble sources under these settings, and report what is wrong with them.
-    Check(RawSettings, Checked<'w>),
+    Check(Given<'w>, Checked<'w>),
     /// `fight`: play a match under these settings, and write its counts.
-    Fight(RawSettings, Fighters<'w>),
+    Fight(Given<'w>, Fighters<'w>),
     /// `create`: create a hill with these settings in a file.
-    Create(RawSettings, Creation<'w>),
+    Create(Given<'w>, Creation<'w>),
     /// `submit`: submit a source to a hill, and write its reply.
     Submit(Submission<'w>),
     /// `show`: write the table of a hill.
@@ -41,7 +41,28 @@ pub enum Request<'w> {
     /// `page`: write the page of the hill in this file.
     Page(&'w str),
     /// `replay`: write the page of one round of a match under these settings.
-    Replay(RawSettings, Watched<'w>),
+    Replay(Given<'w>, Watched<'w>),
+}
+
+impl<'w> Request<'w> {
+    /// The settings that it gives, if its command takes any but `serve`, whose hill keeps its own.
+    pub fn given(&self) -> Option<Given<'w>>
+        ensures { result ≡ given_of self.now }
+    {
+        match *self {
+            Request::Asm(given, _)
+            | Request::Check(given, _)
+            | Request::Fight(given, _)
+            | Request::Create(given, _)
+            | Request::Replay(given, _) => Some(given),
+            Request::Submit(_)
+            | Request::Show(_)
+            | Request::Serve(..)
+            | Request::Audit(_)
+            | Request::Migrate(_)
+            | Request::Page(_) => None,
+        }
+    }
 }
 
 /// The place that a source is read from.
@@ -117,6 +138,10 @@ pub struct Shown<'w> {
     pub hill: &'w str,
     /// Whether the table of matches is written too: the rounds that each warrior won against each other one.
     pub matches: bool,
+    /// Whether the settings are written in place of the table, as options.
+    pub settings: bool,
+    /// Whether the seed is among them.
+    pub with_seed: bool,
     /// The layout that is asked for, if one is.
     pub view: Option<View>,
 }
@@ -205,11 +230,28 @@ const TWO_SEEDS: &str = "error: the argument '--draw-seed' cannot be used with '
 For more information, try '--help'.
 ";
 
+const UNKNOWN_PRESET: &str = "error: the argument '--preset <NAME>' takes '94nop', 'tiny' or 'nano'
+
+For more information, try '--help'.
+";
+
+const TWO_BASES: &str = "error: the argument '--like <FILE>' cannot be used with '--preset <NAME>'
+
+For more information, try '--help'.
+";
+
+const TWO_SIGHTS: &str =
+    "error: the argument '--settings' cannot be used with '--matches', and '--with-seed' needs '--settings'
+
+For more information, try '--help'.
+";
+
 /// What a command line asks for. The first of `words` is the program's name.
 ///
 /// Words that are taken (`AreTaken`) give the request of their command: words that `koth_app` takes by `clap`'s own definition, with at most one
-/// of `--plain` and `--table`, and of `--draw-seed` and `--seed`, with no format but `text` and `json`, with an address of one machine if one to listen at is given, and
-/// with settings for `serve` only if it may create the hill. All others give a text, as do those that ask for help or for the version. Without memory for any of these the
+/// of `--plain` and `--table`, of `--draw-seed` and `--seed`, of `--like` and `--preset`, and of `--settings` and `--matches`, with `--with-seed` only beside `--settings`,
+/// with no format but `text` and `json`, with no preset but `94nop`, `tiny` and `nano`, with an address of one machine if one to listen at is given, and with settings for
+/// `serve` only if it may create the hill. All others give a text, as do those that ask for help or for the version. Without memory for any of these the
 /// answer is `NoRequest::Memory`.
 pub fn parse(heap: Global, words: &[String]) -> Result<Request<'_>, NoRequest>
     ensures request { IfOk result (λ request.
@@ -253,6 +295,15 @@ fn request_of<'w>(heap: Global, matches: &ArgMatches<'w>) -> Result<Request<'w>,
     if !has_one_seed(given) {
         return Err(word_fault(heap, TWO_SEEDS));
     }
+    if !has_known_preset(given) {
+        return Err(word_fault(heap, UNKNOWN_PRESET));
+    }
+    if !has_one_base(given) {
+        return Err(word_fault(heap, TWO_BASES));
+    }
+    if !has_one_sight(given) {
+        return Err(word_fault(heap, TWO_SIGHTS));
+    }
     match asked(heap, name, given) {
         Ok(request) => Ok(request),
         Err(AllocError) => Err(NoRequest::Memory),
@@ -265,25 +316,24 @@ fn asked<'w>(heap: Global, name: &str, given: &ArgMatches<'w>) -> Result<Request
     requires listen { HasAddress (rows_of (found_of given.now)) }
     ensures { IfOk result (Asks (name.now, rows_of (found_of given.now))) }
 {
-    let settings = settings_given(given);
     match name {
-        "asm" => Ok(Request::Asm(settings, source_named(given))),
+        "asm" => Ok(Request::Asm(given_named(given), source_named(given))),
         "check" => match checked_named(heap, given) {
-            Ok(checked) => Ok(Request::Check(settings, checked)),
+            Ok(checked) => Ok(Request::Check(given_named(given), checked)),
             Err(error) => Err(error),
         },
-        "fight" => Ok(Request::Fight(settings, fighters_named(given))),
-        "create" => Ok(Request::Create(settings, creation_named(given))),
+        "fight" => Ok(Request::Fight(given_named(given), fighters_named(given))),
+        "create" => Ok(Request::Create(given_named(given), creation_named(given))),
         "submit" => Ok(Request::Submit(submission_named(given))),
         "show" => Ok(Request::Show(shown_named(given))),
         "serve" => match service_named(heap, given) {
-            Ok(service) => Ok(Request::Serve(settings, service)),
+            Ok(service) => Ok(Request::Serve(settings_given(given), service)),
             Err(error) => Err(error),
         },
         "audit" => Ok(Request::Audit(file_named(given, "FILE"))),
         "migrate" => Ok(Request::Migrate(migration_named(given))),
         "page" => Ok(Request::Page(file_named(given, "FILE"))),
-        "replay" => Ok(Request::Replay(settings, watched_named(given))),
+        "replay" => Ok(Request::Replay(given_named(given), watched_named(given))),
         _ => unreachable!(),
     }
 }
