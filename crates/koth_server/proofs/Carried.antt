@@ -1,15 +1,16 @@
 -- What a run promises for its arguments, from how its request ended, or from why there is none.
-use Rattle.std.proofs.Common.{◌≡◌, ◌≢◌, ◌⊎◌, ℕ, Bool, true, false, ap, List, [], Option, None, Some, Result, Ok, Err, inl, inr, ◌∙◌, refl, sym, subst, codes, length, option_map}
+use Rattle.std.proofs.Common.{◌≡◌, ◌≢◌, ◌⊎◌, ℕ, Bool, true, false, true≢false, is_some, ap, List, [], Option, None, Some, Result, Ok, Err, inl, inr, ◌∙◌, refl, sym, subst, codes, length, option_map}
 use Rattle.{std.specs.{Prelude.{⊤, unwrap_or}, Str.bytes_eq}, std.proofs.{lemmas.List.length-map, KnownBytes.Keeps-refl}, std.specs.Io.KnownBytes.Keeps, clap.specs.Walk.{Row, Text}}
 use Rattle.{clap.specs.Words.{all_of, first_of, one_of}, war_types.specs.{declared.settings.RawSettings.RawSettings, declared.settings.SettingsFault.SettingsFault, Settings.settings_of}}
-use Rattle.koth_words.specs.{Options.{number_or, settings_in}, Words.{AsksBy, IsRefusal, IsSource, given_in, has_flag, is_input, matches_in, view_in}, declared.words.NoRequest.NoRequest}
-use Rattle.koth_words.specs.{declared.words.Request.Request, declared.words.Request.TheVariants.{Asm, Check, Fight, Create, Submit, Show, Serve, Audit, Migrate, Page, Replay}}
-use Rattle.{koth_words.specs.{declared.words.Source.Source, declared.words.View.View}, koth_commands.specs.{Answer.EndsGiven, Asm.{EndsAsmFrom, EndsAsmOf, EndsUnder, is_of_input}}}
+use Rattle.koth_words.specs.{Options.number_or, Settings.{IsGiven, base_in, chosen_in, over, settings_in}, Words.{AsksBy, IsRefusal, IsSource, given_in, has_flag, is_input, view_in}}
+use Rattle.{koth_words.specs.{declared.settings.{Chosen.Chosen, Given.Given}, declared.requests.NoRequest.NoRequest}, koth_words.proofs.Texts.same_given}
+use Rattle.koth_words.specs.{declared.requests.Request.Request, declared.requests.Request.TheVariants.{Asm, Check, Fight, Create, Submit, Show, Serve, Audit, Migrate, Page, Replay}}
+use Rattle.{koth_words.specs.{declared.requests.Source.Source, declared.requests.View.View}, koth_commands.specs.{Answer.EndsGiven, Asm.{EndsAsmFrom, EndsAsmOf, EndsUnder, is_of_input}}}
 use Rattle.koth_commands.specs.{Check.{EndsCheck, EndsCheckUnder}, Failure.failure_word, Fight.{EndsFight, EndsFightUnder}, Replay.{EndsReplay, EndsReplayUnder, with_round}}
 use Rattle.koth_commands.specs.{Streams.{Streams, streams, unread}, Told.TellsWord, declared.status.Status.Status, declared.status.Status.TheVariants.{NoMemory, WordFault}}
 use Rattle.{koth_commands.specs.declared.failure.Failure.Failure, koth_commands.proofs.Told.{kept_part, keeps_some, writes_nothing}}
-use Rattle.koth_server.specs.{Hills.{AfterNote, EndsCreate, EndsHill, EndsMade, EndsServe, EndsService, EndsSubmit, Said, SaysCreated, SaysShown, TellsFault, TellsNote, listening_line}, Audit.EndsAudit}
-use Rattle.koth_server.specs.{Migration.SaysMigrated, Page.SaysPage, Run.{CommandEnds, EndsRequest, EndsWithout, viewed}, Seed.seed_hint, declared.hill_fault.HillFault.TheVariants.Failed}
+use Rattle.koth_server.specs.{Hills.{AfterNote, EndsCreate, EndsHill, EndsMade, EndsServe, EndsService, EndsSubmit, Said, SaysCreated, SaysShown, TellsFault, TellsNote, listening_line, sight_of}, Audit.EndsAudit}
+use Rattle.koth_server.specs.{Migration.SaysMigrated, Page.SaysPage, Run.{CommandEnds, EndsRequest, EndsRequestUnder, EndsWithout, sight_in, viewed}, Settled.{AreSettled, EndsBy, EndsSettled, EndsUnder, TellsNoHill, names_hill}, Seed.seed_hint, declared.hill_fault.HillFault.TheVariants.Failed}
 
 -- one fact or the other
 abbrev Either : Bool → Type 0 → Type 0 → Type 0
@@ -23,21 +24,20 @@ either false one other is else = else
 -- How the command of this name ends, with what the arguments give it: nothing is said of any other name.
 abbrev pub EndsNamed : Text → View → List Row → Status → Streams → Streams → Type 0
 EndsNamed name view given status before after =
-    let settings = settings_of (settings_in given) in
     let shown = viewed (view_in given) view in
     let u = unread before in
     let v = unread after in
-    Either (bytes_eq name (codes "asm")) (EndsAsmOf (is_input (first_of (codes "FILE") given)) settings status before after)
-    (Either (bytes_eq name (codes "check")) (EndsCheck (length (unwrap_or (all_of (codes "FILE") given) [])) settings status u v)
-    (Either (bytes_eq name (codes "fight")) (EndsFight shown settings status u v)
-    (Either (bytes_eq name (codes "create")) (EndsCreate (has_flag (codes "draw-seed") given) (settings_in given) status u v)
+    Either (bytes_eq name (codes "asm")) (EndsBy given (λ s. EndsAsmOf (is_input (first_of (codes "FILE") given)) (settings_of s) status before after) status before after)
+    (Either (bytes_eq name (codes "check")) (EndsBy given (λ s. EndsCheck (length (unwrap_or (all_of (codes "FILE") given) [])) (settings_of s) status u v) status before after)
+    (Either (bytes_eq name (codes "fight")) (EndsBy given (λ s. EndsFight shown (settings_of s) status u v) status before after)
+    (Either (bytes_eq name (codes "create")) (EndsBy given (λ s. EndsCreate (has_flag (codes "draw-seed") given) s status u v) status before after)
     (Either (bytes_eq name (codes "submit")) (AfterNote (EndsSubmit shown status) u v)
-    (Either (bytes_eq name (codes "show")) (AfterNote (EndsHill (SaysShown shown (matches_in given)) status) u v)
+    (Either (bytes_eq name (codes "show")) (AfterNote (EndsHill (SaysShown shown (sight_in given)) status) u v)
     (Either (bytes_eq name (codes "audit")) (AfterNote (EndsAudit status) u v)
     (Either (bytes_eq name (codes "migrate")) (EndsHill SaysMigrated status u v)
     (Either (bytes_eq name (codes "page")) (AfterNote (EndsHill SaysPage status) u v)
-    (Either (bytes_eq name (codes "serve")) (AfterNote (EndsServe settings status) u v)
-    (Either (bytes_eq name (codes "replay")) (EndsReplay (number_or 1 (one_of (codes "round") given)) settings status u v) ⊤))))))))))
+    (Either (bytes_eq name (codes "serve")) (AfterNote (EndsServe (settings_of (settings_in given)) status) u v)
+    (Either (bytes_eq name (codes "replay")) (EndsBy given (λ s. EndsReplay (number_or 1 (one_of (codes "round") given)) (settings_of s) status u v) status before after) ⊤))))))))))
 
 -- ---- a request: the command that the arguments name ended so, under the settings that they give
 
@@ -46,36 +46,71 @@ same_source : (name : Option Text) (source : Source) → IsSource name source �
 same_source name Source.Input is = sym is
 same_source name (Source.File path) is = sym is.0
 
+-- how a command ends under settings that are given, one way or another
+under_map : (like : Bool) (base : RawSettings) (chosen : Chosen) (ends other : RawSettings → Type 0) (status : Status) (before after : Streams)
+    → ((s : RawSettings) → ends s → other s) → EndsUnder like base chosen ends status before after → EndsUnder like base chosen other status before after
+under_map like base chosen ends other status before after holds (inl (s, are, ended)) = inl (s, are, holds s ended)
+under_map like base chosen ends other status before after holds (inr tells) = inr tells
+
+-- the same by the words that give the settings
+by_words : (rows : List Row) (given : Given) (ends other : RawSettings → Type 0) (status : Status) (before after : Streams) → IsGiven rows given
+    → ((s : RawSettings) → ends s → other s) → EndsSettled (Some given) ends status before after → EndsBy rows other status before after
+by_words rows given ends other status before after is holds ended =
+    let like = same_given given.like (first_of (codes "like") rows) is.like in
+    under_map (is_some (first_of (codes "like") rows)) (base_in rows) (chosen_in rows) ends other status before after holds
+    (subst (λ l. EndsUnder l (base_in rows) (chosen_in rows) ends status before after) like
+    (subst (λ b. EndsUnder (is_some given.like) b (chosen_in rows) ends status before after) is.base
+    (subst (λ c. EndsUnder (is_some given.like) given.base c ends status before after) is.chosen ended)))
+
+-- a command that was carried out under settings that are given
+pub settled_ends : (given : Option Given) (ends : RawSettings → Type 0) (status : Status) (before after : Streams) (s : RawSettings)
+    → AreSettled given s → ends s → EndsSettled given ends status before after
+settled_ends None ends status before after s are ended = (s, ended)
+settled_ends (Some given) ends status before after s are ended = inl (s, are, ended)
+
+-- or the hill that is named can't be read
+pub unsettled_ends : (given : Option Given) (ends : RawSettings → Type 0) (status : Status) (before after : Streams) → names_hill given ≡ true
+    → TellsNoHill status before after → EndsSettled given ends status before after
+unsettled_ends None ends status before after names tells = absurd (true≢false (sym names))
+unsettled_ends (Some given) ends status before after names tells = inr (names, tells)
+
 module _ (view : View) (e : Text × List Row) (status : Status) (before after : Streams) where
   abbrev Ends : Text → Type 0
   Ends name = EndsNamed name view e.1 status before after
 
+  -- how this request's command ends under these settings
+  abbrev Under : Request → RawSettings → Type 0
+  Under request s = CommandEnds s view request status before after
+
   named : (request : Request) → AsksBy (Some e) request → EndsRequest view request status before after → Ends e.0
   named (Asm given source) asks ends = subst Ends (sym asks.0)
-      (subst (λ b. EndsAsmOf b (settings_of (settings_in e.1)) status before after) (same_source (first_of (codes "FILE") e.1) source asks.2)
-      (subst (λ s. EndsAsmFrom source (settings_of s) status before after) asks.1 ends.0))
+      (by_words e.1 given (Under (Asm given source)) (λ s. EndsAsmOf (is_input (first_of (codes "FILE") e.1)) (settings_of s) status before after) status before after asks.1
+      (λ s ended. subst (λ b. EndsAsmOf b (settings_of s) status before after) (same_source (first_of (codes "FILE") e.1) source asks.2) ended) ends.0)
   named (Check given checked) asks ends = subst Ends (sym asks.0)
-      (subst (λ n. EndsCheck n (settings_of (settings_in e.1)) status (unread before) (unread after))
-      (sym (length-map checked.files.items (λ file. file.now)) ∙ ap length asks.2)
-      (subst (λ s. EndsCheck (length checked.files.items) (settings_of s) status (unread before) (unread after)) asks.1 ends.0))
+      (by_words e.1 given (Under (Check given checked))
+      (λ s. EndsCheck (length (unwrap_or (all_of (codes "FILE") e.1) [])) (settings_of s) status (unread before) (unread after)) status before after asks.1
+      (λ s ended. subst (λ n. EndsCheck n (settings_of s) status (unread before) (unread after))
+      (sym (length-map checked.files.items (λ file. file.now)) ∙ ap length asks.2) ended) ends.0)
   named (Fight given files) asks ends = subst Ends (sym asks.0)
-      (subst (λ v. EndsFight (viewed v view) (settings_of (settings_in e.1)) status (unread before) (unread after)) asks.4
-      (subst (λ s. EndsFight (viewed files.view view) (settings_of s) status (unread before) (unread after)) asks.1 ends.0))
+      (by_words e.1 given (Under (Fight given files)) (λ s. EndsFight (viewed (view_in e.1) view) (settings_of s) status (unread before) (unread after)) status before after asks.1
+      (λ s ended. subst (λ v. EndsFight (viewed v view) (settings_of s) status (unread before) (unread after)) asks.4 ended) ends.0)
   named (Create given creation) asks ends = subst Ends (sym asks.0)
-      (subst (λ d. EndsCreate d (settings_in e.1) status (unread before) (unread after)) asks.4
-      (subst (λ s. EndsCreate creation.draw_seed s status (unread before) (unread after)) asks.1 ends.0))
-  named (Submit files) asks ends = subst Ends (sym asks.0) (subst (λ v. AfterNote (EndsSubmit (viewed v view) status) (unread before) (unread after)) asks.3 ends.0)
-  named (Show shown) asks ends = subst Ends (sym asks.0)
-      (subst (λ v. AfterNote (EndsHill (SaysShown (viewed v view) (matches_in e.1)) status) (unread before) (unread after)) asks.3
-      (subst (λ m. AfterNote (EndsHill (SaysShown (viewed shown.view view) m) status) (unread before) (unread after)) asks.2 ends.0))
+      (by_words e.1 given (Under (Create given creation)) (λ s. EndsCreate (has_flag (codes "draw-seed") e.1) s status (unread before) (unread after)) status before after asks.1
+      (λ s ended. subst (λ d. EndsCreate d s status (unread before) (unread after)) asks.4 ended) ends.0)
+  named (Submit files) asks ends = subst Ends (sym asks.0) (subst (λ v. AfterNote (EndsSubmit (viewed v view) status) (unread before) (unread after)) asks.3 ends.0.1)
+  named (Show shown) asks ends =
+      let same : sight_of shown ≡ sight_in e.1 = λ i. record { matches = asks.2 i; settings = asks.3 i; with_seed = asks.4 i } in
+      subst Ends (sym asks.0)
+      (subst (λ v. AfterNote (EndsHill (SaysShown (viewed v view) (sight_in e.1)) status) (unread before) (unread after)) asks.5
+      (subst (λ m. AfterNote (EndsHill (SaysShown (viewed shown.view view) m) status) (unread before) (unread after)) same ends.0.1))
   named (Serve given service) asks ends =
-      subst Ends (sym asks.0) (subst (λ s. AfterNote (EndsServe (settings_of s) status) (unread before) (unread after)) asks.1 ends.0)
-  named (Audit file) asks ends = subst Ends (sym asks.0) ends.0
-  named (Migrate files) asks ends = subst Ends (sym asks.0) ends.0
-  named (Page file) asks ends = subst Ends (sym asks.0) ends.0
+      subst Ends (sym asks.0) (subst (λ s. AfterNote (EndsServe (settings_of s) status) (unread before) (unread after)) asks.1 ends.0.1)
+  named (Audit file) asks ends = subst Ends (sym asks.0) ends.0.1
+  named (Migrate files) asks ends = subst Ends (sym asks.0) ends.0.1
+  named (Page file) asks ends = subst Ends (sym asks.0) ends.0.1
   named (Replay given watched) asks ends = subst Ends (sym asks.0)
-      (subst (λ n. EndsReplay n (settings_of (settings_in e.1)) status (unread before) (unread after)) asks.4
-      (subst (λ s. EndsReplay watched.round (settings_of s) status (unread before) (unread after)) asks.1 ends.0))
+      (by_words e.1 given (Under (Replay given watched)) (λ s. EndsReplay (number_or 1 (one_of (codes "round") e.1)) (settings_of s) status (unread before) (unread after)) status before after asks.1
+      (λ s ended. subst (λ n. EndsReplay n (settings_of s) status (unread before) (unread after)) asks.4 ended) ends.0)
 
 pub carried : (view : View) (entered : Option (Text × List Row)) (request : Request) (status : Status) (before after : Streams) (name : Text)
     → AsksBy entered request → EndsRequest view request status before after → option_map (λ e. e.0) entered ≡ Some name
@@ -121,9 +156,9 @@ replay_no_word round r status before after ends is =
     (subst (λ t. EndsReplay round r t before after) is ends)
 
 -- a request that is asked for ends as its command does
-pub request_ends : (view : View) (request asked : Request) (status : Status) (before after : Streams) → request ≡ asked
-    → CommandEnds view asked status before after → status ≢ WordFault → EndsRequest view request status before after
-request_ends view request asked status before after is ends words = subst (λ r. EndsRequest view r status before after) (sym is) (ends, words)
+pub request_ends : (settings : RawSettings) (view : View) (request asked : Request) (status : Status) (before after : Streams) → request ≡ asked
+    → CommandEnds settings view asked status before after → status ≢ WordFault → EndsRequestUnder settings view request status before after
+request_ends settings view request asked status before after is ends words = subst (λ r. EndsRequestUnder settings view r status before after) (sym is) (ends, words)
 
 -- ---- no request: lack of memory keeps a command whose arguments are taken from its beginning
 
@@ -184,22 +219,36 @@ module _ (i o p e f : Option (List ℕ)) (kept : Keeps o p) (told : TellsWord (f
   serve_no_memory : (r : Result RawSettings SettingsFault) → EndsServe r NoMemory (streams None o e) (streams None p f)
   serve_no_memory r = given_no_memory None o p e f kept told (λ s. EndsService) r (λ s. service_no_memory None o p e f kept told)
 
+  under_no_memory : (like : Bool) (base : RawSettings) (chosen : Chosen) (ends : RawSettings → Type 0) → ((s : RawSettings) → ends s)
+      → EndsUnder like base chosen ends NoMemory (streams i o e) (streams i p f)
+  under_no_memory false base chosen ends holds = inl (over base chosen, refl, holds (over base chosen))
+  under_no_memory true base chosen ends holds =
+      inr (refl, record { fault = Failed Failure.Memory; ends = refl; input = Keeps-refl i; output = kept; told = told })
+
+  by_no_memory : (rows : List Row) (ends : RawSettings → Type 0) → ((s : RawSettings) → ends s) → EndsBy rows ends NoMemory (streams i o e) (streams i p f)
+  by_no_memory rows ends holds = under_no_memory (is_some (first_of (codes "like") rows)) (base_in rows) (chosen_in rows) ends holds
+
   named_no_memory : (name : Text) (view : View) (given : List Row) → EndsNamed name view given NoMemory (streams i o e) (streams i p f)
   named_no_memory name view given =
-      let settings = settings_of (settings_in given) in
       let shown = viewed (view_in given) view in
+      let drawn = has_flag (codes "draw-seed") given in
+      let of_input = is_input (first_of (codes "FILE") given) in
+      let count = length (unwrap_or (all_of (codes "FILE") given) []) in
+      let round = number_or 1 (one_of (codes "round") given) in
+      let u = streams None o e in
+      let v = streams None p f in
       let none : TellsNote e e = inl (Keeps-refl e) in
-      either (bytes_eq name (codes "asm")) _ _ (asm_no_memory (is_input (first_of (codes "FILE") given)) settings)
-      (either (bytes_eq name (codes "check")) _ _ (check_no_memory (length (unwrap_or (all_of (codes "FILE") given) [])) settings)
-      (either (bytes_eq name (codes "fight")) _ _ (fight_no_memory shown settings)
-      (either (bytes_eq name (codes "create")) _ _ (create_no_memory (has_flag (codes "draw-seed") given) (settings_in given))
+      either (bytes_eq name (codes "asm")) _ _ (by_no_memory given (λ s. EndsAsmOf of_input (settings_of s) NoMemory (streams i o e) (streams i p f)) (λ s. asm_no_memory of_input (settings_of s)))
+      (either (bytes_eq name (codes "check")) _ _ (by_no_memory given (λ s. EndsCheck count (settings_of s) NoMemory u v) (λ s. check_no_memory count (settings_of s)))
+      (either (bytes_eq name (codes "fight")) _ _ (by_no_memory given (λ s. EndsFight shown (settings_of s) NoMemory u v) (λ s. fight_no_memory shown (settings_of s)))
+      (either (bytes_eq name (codes "create")) _ _ (by_no_memory given (λ s. EndsCreate drawn s NoMemory u v) (λ s. create_no_memory drawn s))
       (either (bytes_eq name (codes "submit")) _ _ (e, none, submit_no_memory None o p e f kept told shown)
-      (either (bytes_eq name (codes "show")) _ _ (e, none, hill_no_memory None o p e f kept told (SaysShown shown (matches_in given)))
+      (either (bytes_eq name (codes "show")) _ _ (e, none, hill_no_memory None o p e f kept told (SaysShown shown (sight_in given)))
       (either (bytes_eq name (codes "audit")) _ _ (e, none, audit_no_memory None o p e f kept told)
       (either (bytes_eq name (codes "migrate")) _ _ (hill_no_memory None o p e f kept told SaysMigrated)
       (either (bytes_eq name (codes "page")) _ _ (e, none, hill_no_memory None o p e f kept told SaysPage)
-      (either (bytes_eq name (codes "serve")) _ _ (e, none, serve_no_memory settings)
-      (either (bytes_eq name (codes "replay")) _ ⊤ (replay_no_memory (number_or 1 (one_of (codes "round") given)) settings) tt))))))))))
+      (either (bytes_eq name (codes "serve")) _ _ (e, none, serve_no_memory (settings_of (settings_in given)))
+      (either (bytes_eq name (codes "replay")) _ ⊤ (by_no_memory given (λ s. EndsReplay round (settings_of s) NoMemory u v) (λ s. replay_no_memory round (settings_of s))) tt))))))))))
 
 module _ (i o p e f : Option (List ℕ)) (status : Status) where
   pub without : (name : Text) (view : View) (given : List Row) (none : NoRequest) → none ≡ NoRequest.Memory

@@ -1,7 +1,7 @@
 -- What was written of a command's answer.
 use Rattle.{std.proofs.Common.{◌≡◌, ◌≢◌, ◌∙◌, ℕ, List, Option, Result, Ok, Err, IsErrAnd, false, true≢false, inl, inr, refl, sym, subst}, std.specs.Io.KnownBytes.Keeps}
 use Rattle.{std.proofs.KnownBytes.Keeps-refl, koth_hill.specs.Kept.Kept, sector_disk.specs.Facts.DeviceFacts, hill_store.specs.{Seen.{Seen, Submits}, declared.reply.Reply.Reply}}
-use Rattle.{koth_words.specs.declared.words.View.View, koth_commands.specs.{Streams.Streams, declared.status.Status.Status, declared.failure.Failure.Failure}}
+use Rattle.{koth_words.specs.declared.requests.View.View, koth_commands.specs.{Streams.Streams, declared.status.Status.Status, declared.failure.Failure.Failure}}
 use Rattle.koth_server.specs.{Hills.{EndsSubmission, EndsSubmit, Said, SaysPart, Tries, WritesAt}, Migration.{SaysMigrated, TellsMigrated, migrated_line}, ReplyStatus.reply_status}
 use Rattle.koth_server.specs.{declared.hill_fault.HillFault.HillFault, declared.trouble.HillTrouble.HillTrouble}
 
@@ -29,14 +29,14 @@ module _ {D : Type 0} (facts : DeviceFacts D) (before after : Seen D) (source : 
   pub says_submission : (view : View) (status : Status) (u v : Streams) → before.reopen ≡ false → EndsSubmission facts before source after view status u v
       → EndsSubmit view status u v
   says_submission view status u v is_open (reply, submits, inl said) =
-      inl (before.hill, after.hill, reply, never_reopen reply submits is_open, said)
+      inl (before.hill, after.hill, source, reply, never_reopen reply submits is_open, said)
   says_submission view status u v is_open (reply, submits, inr (is, (text, tells, written), told)) = inr record {
     fault = HillFault.Failed Failure.Stream;
     ends = is;
     output = inr record {
       status = reply_status reply;
       text = text;
-      answer = (before.hill, after.hill, reply, never_reopen reply submits is_open, refl, tells);
+      answer = (before.hill, after.hill, source, reply, never_reopen reply submits is_open, refl, tells);
       written = written;
     };
     told = told;

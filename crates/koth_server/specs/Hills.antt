@@ -3,7 +3,7 @@ use Rattle.std.specs.{Prelude.{◌≡◌, ◌≢◌, ◌⊎◌, ℕ, Bool, true,
 use Rattle.war_types.specs.{Settings.settings_of, declared.settings.RawSettings.RawSettings, declared.settings.SettingsFault.SettingsFault}
 use Rattle.{koth_match.specs.Seeds.IsSeed, koth_hill.specs.Kept.{Kept, table_kept}, sector_disk.specs.Facts.DeviceFacts}
 use Rattle.{hill_store.specs.{Seen.{Seen, Submits}, declared.reply.Reply.Reply}, koth_protocol.specs.{Matches.matches_text, Table.show_text, Written.WritesPart}, koth_session.specs.Reply.reply_line}
-use Rattle.{koth_words.specs.declared.words.View.View, koth_views.specs.{Standing.hill_view, Matrix.matches_view, Placing.placing_view, Roster.roster}}
+use Rattle.{koth_hills.specs.{Fallen.IsFallenText, Settings.settings_text}, koth_words.specs.{declared.requests.Shown.Shown, declared.requests.View.View}, koth_views.specs.{Standing.hill_view, Matrix.matches_view, Placing.placing_view, Roster.roster, declared.entrants.Entered.Entered}}
 use Rattle.koth_commands.specs.{Answer.{EndsGiven, Tells}, Failure.failure_word, Told.{TellsWord, WritesSome}, Streams.Streams, declared.status.Status.Status, declared.failure.Failure.Failure}
 use Rattle.koth_server.specs.{HillFault.{fault_status, fault_word}, ReplyStatus.reply_status, Seed.seed_hint, declared.hill_fault.HillFault.HillFault, declared.trouble.HillTrouble.HillTrouble}
 
@@ -11,15 +11,27 @@ use Rattle.koth_server.specs.{HillFault.{fault_status, fault_word}, ReplyStatus.
 abbrev pub listening_line : ℕ → List ℕ
 listening_line port = codes "LISTENING " ++ decimal port ++ codes "\n"
 
--- what stands after the line of a reply that turned the old hill into the new one: for people what became of the warrior, unless there was
--- no memory for that
-abbrev pub IsPlacing : View → Kept → Kept → Reply → List ℕ → Type 0
-IsPlacing View.Plain old new reply more = more ≡ []
-IsPlacing View.Table old new reply more = (more ≡ []) ⊎ (more ≡ placing_view (roster old) new reply)
+-- what becomes of the warrior of a source, for people, by who stood before and the hill after its reply: of one that fell its matches too, or
+-- none of them
+abbrev pub IsOutcome : List Entered → Kept → List ℕ → Reply → List ℕ → Type 0
+IsOutcome stood new source (Reply.Fell entry score) text =
+    (more : List ℕ) × IsFallenText new source more × (text ≡ placing_view stood new (Reply.Fell entry score) ++ more)
+IsOutcome stood new source (Reply.Placed entry rank score) text = text ≡ placing_view stood new (Reply.Placed entry rank score)
+IsOutcome stood new source (Reply.Refused fault) text = text ≡ []
+IsOutcome stood new source Reply.Memory text = text ≡ []
+IsOutcome stood new source Reply.Worn text = text ≡ []
+IsOutcome stood new source Reply.Disk text = text ≡ []
+IsOutcome stood new source Reply.Reopen text = text ≡ []
+
+-- what stands after the line of a reply to a source that turned the old hill into the new one: for people what became of its warrior, unless
+-- there was no memory for that
+abbrev pub IsPlacing : View → Kept → Kept → List ℕ → Reply → List ℕ → Type 0
+IsPlacing View.Plain old new source reply more = more ≡ []
+IsPlacing View.Table old new source reply more = (more ≡ []) ⊎ IsOutcome (roster old) new source reply more
 
 -- the text of a reply
-abbrev pub IsReplyText : View → Kept → Kept → Reply → List ℕ → Type 0
-IsReplyText view old new reply text = (more : List ℕ) × IsPlacing view old new reply more × (text ≡ reply_line reply ++ more)
+abbrev pub IsReplyText : View → Kept → Kept → List ℕ → Reply → List ℕ → Type 0
+IsReplyText view old new source reply text = (more : List ℕ) × IsPlacing view old new source reply more × (text ≡ reply_line reply ++ more)
 
 -- what is written on standard error besides: some text that explains a refusal, and else nothing
 abbrev pub ExplainsReply : Reply → Option (List ℕ) → Option (List ℕ) → Type 0
@@ -41,8 +53,17 @@ SaysCreated status text = (status ≡ Status.Done) × (text ≡ codes "CREATED\n
 
 -- the text of a reply that a hill gives that was just opened
 abbrev pub SaysReply : View → Said
-SaysReply view status text = (old : Kept) × (new : Kept) × (reply : Reply)
-    × (reply ≢ Reply.Reopen) × (status ≡ reply_status reply) × IsReplyText view old new reply text
+SaysReply view status text = (old : Kept) × (new : Kept) × (source : List ℕ) × (reply : Reply)
+    × (reply ≢ Reply.Reopen) × (status ≡ reply_status reply) × IsReplyText view old new source reply text
+
+-- what is to be seen of a hill: its table, with the matrix of its matches or without, or its settings, with the seed or without
+pub record Sight : Type 0 where
+  pub matches : Bool
+  pub settings : Bool
+  pub with_seed : Bool
+
+abbrev pub sight_of : Shown → Sight
+sight_of shown = record { matches = shown.matches; settings = shown.settings; with_seed = shown.with_seed }
 
 -- the table of this hill, by the results that it keeps, and after it their matrix, if that is asked for: for programs
 abbrev pub shown_lines : Bool → Kept → List ℕ
@@ -56,12 +77,16 @@ abbrev pub shown_text : View → Bool → Kept → List ℕ
 shown_text View.Plain matches hill = shown_lines matches hill
 shown_text View.Table matches hill = shown_table matches hill
 
-abbrev pub ShowsOf : View → Bool → Kept → Said
-ShowsOf view matches hill status text = (status ≡ Status.Done) × (text ≡ shown_text view matches hill)
+-- the table, or the settings in its place
+abbrev pub sight_text : View → Sight → Kept → List ℕ
+sight_text view sight hill = if sight.settings then settings_text sight.with_seed hill.settings else shown_text view sight.matches hill
+
+abbrev pub ShowsOf : View → Sight → Kept → Said
+ShowsOf view sight hill status text = (status ≡ Status.Done) × (text ≡ sight_text view sight hill)
 
 -- the same of some hill
-abbrev pub SaysShown : View → Bool → Said
-SaysShown view matches status text = (hill : Kept) × ShowsOf view matches hill status text
+abbrev pub SaysShown : View → Sight → Said
+SaysShown view sight status text = (hill : Kept) × ShowsOf view sight hill status text
 
 -- a port
 abbrev pub SaysPort : Said
@@ -134,9 +159,9 @@ EndsCreate true given status before after =
 
 -- a submission that a store answered, which turned the old hill into the new one: the text of the reply was written, and a refusal was
 -- explained
-pub record SaysSubmitted (view : View) (old new : Kept) (reply : Reply) (status : Status) (before after : Streams) : Type 0 where
+pub record SaysSubmitted (view : View) (old new : Kept) (source : List ℕ) (reply : Reply) (status : Status) (before after : Streams) : Type 0 where
   pub text : List ℕ
-  pub tells : IsReplyText view old new reply text
+  pub tells : IsReplyText view old new source reply text
   pub ends : status ≡ reply_status reply
   pub written : Appends before.output after.output text
   pub explained : ExplainsReply reply before.errors after.errors
@@ -144,7 +169,7 @@ pub record SaysSubmitted (view : View) (old new : Kept) (reply : Reply) (status 
 -- how `submit` ends: with the reply of a hill that was just opened, or with a fault
 abbrev pub EndsSubmit : View → Status → Streams → Streams → Type 0
 EndsSubmit view status before after =
-    ((old : Kept) × (new : Kept) × (reply : Reply) × (reply ≢ Reply.Reopen) × SaysSubmitted view old new reply status before after)
+    ((old : Kept) × (new : Kept) × (source : List ℕ) × (reply : Reply) × (reply ≢ Reply.Reopen) × SaysSubmitted view old new source reply status before after)
     ⊎ TellsFault (SaysReply view) status before after
 
 -- how writing a reply and a text after it ends, by what the output and then standard error hold before and after
@@ -156,8 +181,8 @@ EndsReply reply more status o p e f =
 -- how the submission of a source to a store ends: with its reply, or with a part of the reply's text if the output failed
 abbrev pub EndsSubmission : {D : Type 0} → DeviceFacts D → Seen D → List ℕ → Seen D → View → Status → Streams → Streams → Type 0
 EndsSubmission facts old source new view status before after = (reply : Reply) × Submits facts old source reply new
-    × (SaysSubmitted view old.hill new.hill reply status before after
-    ⊎ ((status ≡ Status.StreamFault) × ((text : List ℕ) × IsReplyText view old.hill new.hill reply text × WritesPart before.output after.output text)
+    × (SaysSubmitted view old.hill new.hill source reply status before after
+    ⊎ ((status ≡ Status.StreamFault) × ((text : List ℕ) × IsReplyText view old.hill new.hill source reply text × WritesPart before.output after.output text)
     × Tells Failure.Stream before after))
 
 -- how a service ends: after its line, or with a fault, and then a part of that line may stand on the output; the log stands on standard error

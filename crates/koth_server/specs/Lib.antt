@@ -12,5 +12,7 @@ pub mod Migration
 pub mod Page
 -- The pages that browsers ask for.
 pub mod Pages
+-- The settings under which a command is carried out.
+pub mod Settled
 -- The number that a run leaves with.
 pub mod Run

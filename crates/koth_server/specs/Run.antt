@@ -1,11 +1,12 @@
 -- How a run ends.
 use Rattle.std.specs.{Prelude.{◌≡◌, ◌≢◌, ◌⊎◌, ℕ, List, [], length, Option, codes, unwrap_or}, Io.KnownBytes.Keeps}
-use Rattle.{clap.specs.Words.{Text, all_of, one_of}, war_types.specs.Settings.settings_of, koth_words.specs.Options.number_or}
-use Rattle.koth_words.specs.{Words.{draw_seed_named, given_by, matches_named, reads_input, settings_named, view_named, AreTaken, AreWrong, AsksFor}, declared.words.NoRequest.NoRequest}
-use Rattle.koth_words.specs.{declared.words.Request.Request, declared.words.Request.TheVariants.{Asm, Check, Fight, Create, Submit, Show, Serve, Audit, Migrate, Page, Replay}}
-use Rattle.{koth_words.specs.declared.words.View.View, koth_commands.specs.{Answer.Tells, Asm.{EndsAsmFrom, EndsAsmOf}, Check.EndsCheck, Fight.EndsFight, Replay.EndsReplay}}
+use Rattle.{clap.specs.Words.{Row, Text, all_of, one_of}, war_types.specs.{Settings.settings_of, declared.settings.RawSettings.RawSettings}, koth_words.specs.Options.number_or}
+use Rattle.koth_words.specs.{Words.{draw_seed_named, given_by, given_of, has_flag, matches_in, reads_input, settings_named, view_named, AreTaken, AreWrong, AsksFor}, declared.requests.NoRequest.NoRequest}
+use Rattle.koth_words.specs.{declared.requests.Request.Request, declared.requests.Request.TheVariants.{Asm, Check, Fight, Create, Submit, Show, Serve, Audit, Migrate, Page, Replay}}
+use Rattle.{koth_words.specs.declared.requests.View.View, koth_commands.specs.{Answer.Tells, Asm.{EndsAsmFrom, EndsAsmOf}, Check.EndsCheck, Fight.EndsFight, Replay.EndsReplay}}
 use Rattle.koth_commands.specs.{Status.status_code, Streams.{Streams, unread}, declared.status.Status.Status, declared.failure.Failure.Failure}
-use Rattle.koth_server.specs.{Hills.{AfterNote, EndsCreate, EndsHill, EndsServe, EndsSubmit, SaysShown}, Audit.EndsAudit, Migration.SaysMigrated, Page.SaysPage}
+use Rattle.koth_server.specs.{Hills.{AfterNote, EndsCreate, EndsHill, EndsServe, EndsSubmit, SaysShown, Sight, sight_of}, Audit.EndsAudit, Migration.SaysMigrated, Page.SaysPage}
+use Rattle.koth_server.specs.Settled.{EndsBy, EndsSettled}
 
 -- the code is that of a status of which this holds
 abbrev pub Leaves : ℕ → (Status → Type 0) → Type 0
@@ -15,26 +16,35 @@ Leaves code holds = (status : Status) × (code ≡ status_code status) × holds 
 abbrev pub viewed : Option View → View → View
 viewed asked usual = unwrap_or asked usual
 
--- how a request's command ends if tables are in this view unless it asks for one
-abbrev pub CommandEnds : View → Request → Status → Streams → Streams → Type 0
-CommandEnds view (Asm given source) status before after = EndsAsmFrom source (settings_of given) status before after
-CommandEnds view (Check given checked) status before after =
-    EndsCheck (length checked.files.items) (settings_of given) status (unread before) (unread after)
-CommandEnds view (Fight given files) status before after =
-    EndsFight (viewed files.view view) (settings_of given) status (unread before) (unread after)
-CommandEnds view (Create given creation) status before after = EndsCreate creation.draw_seed given status (unread before) (unread after)
-CommandEnds view (Submit files) status before after = AfterNote (EndsSubmit (viewed files.view view) status) (unread before) (unread after)
-CommandEnds view (Show shown) status before after =
-    AfterNote (EndsHill (SaysShown (viewed shown.view view) shown.matches) status) (unread before) (unread after)
-CommandEnds view (Audit file) status before after = AfterNote (EndsAudit status) (unread before) (unread after)
-CommandEnds view (Migrate files) status before after = EndsHill SaysMigrated status (unread before) (unread after)
-CommandEnds view (Page file) status before after = AfterNote (EndsHill SaysPage status) (unread before) (unread after)
-CommandEnds view (Serve given service) status before after = AfterNote (EndsServe (settings_of given) status) (unread before) (unread after)
-CommandEnds view (Replay given watched) status before after = EndsReplay watched.round (settings_of given) status (unread before) (unread after)
+-- what of a hill these words ask for
+abbrev pub sight_in : List Row → Sight
+sight_in rows = record { matches = matches_in rows; settings = has_flag (codes "settings") rows; with_seed = has_flag (codes "with-seed") rows }
 
--- how a run ends that carried a request out: as its command does, and never as at a fault of the arguments
+-- how a request's command ends under these settings, if it takes any, and if tables are in this view unless it asks for one
+abbrev pub CommandEnds : RawSettings → View → Request → Status → Streams → Streams → Type 0
+CommandEnds settings view (Asm given source) status before after = EndsAsmFrom source (settings_of settings) status before after
+CommandEnds settings view (Check given checked) status before after =
+    EndsCheck (length checked.files.items) (settings_of settings) status (unread before) (unread after)
+CommandEnds settings view (Fight given files) status before after =
+    EndsFight (viewed files.view view) (settings_of settings) status (unread before) (unread after)
+CommandEnds settings view (Create given creation) status before after = EndsCreate creation.draw_seed settings status (unread before) (unread after)
+CommandEnds settings view (Submit files) status before after = AfterNote (EndsSubmit (viewed files.view view) status) (unread before) (unread after)
+CommandEnds settings view (Show shown) status before after =
+    AfterNote (EndsHill (SaysShown (viewed shown.view view) (sight_of shown)) status) (unread before) (unread after)
+CommandEnds settings view (Audit file) status before after = AfterNote (EndsAudit status) (unread before) (unread after)
+CommandEnds settings view (Migrate files) status before after = EndsHill SaysMigrated status (unread before) (unread after)
+CommandEnds settings view (Page file) status before after = AfterNote (EndsHill SaysPage status) (unread before) (unread after)
+CommandEnds settings view (Serve given service) status before after = AfterNote (EndsServe (settings_of given) status) (unread before) (unread after)
+CommandEnds settings view (Replay given watched) status before after = EndsReplay watched.round (settings_of settings) status (unread before) (unread after)
+
+-- the same, and never as at a fault of the arguments
+abbrev pub EndsRequestUnder : RawSettings → View → Request → Status → Streams → Streams → Type 0
+EndsRequestUnder settings view request status before after = CommandEnds settings view request status before after × (status ≢ Status.WordFault)
+
+-- how a run ends that carried a request out: as its command does under the settings that it gives, and never as at a fault of the arguments
 abbrev pub EndsRequest : View → Request → Status → Streams → Streams → Type 0
-EndsRequest view request status before after = CommandEnds view request status before after × (status ≢ Status.WordFault)
+EndsRequest view request status before after =
+    EndsSettled (given_of request) (λ settings. CommandEnds settings view request status before after) status before after × (status ≢ Status.WordFault)
 
 -- how a run ends at arguments that ask for no command; the input is not read
 abbrev pub EndsWithout : NoRequest → Status → Streams → Streams → Type 0
@@ -54,23 +64,25 @@ round_named given = number_or 1 (one_of (codes "round") (given_by given))
 -- the settings that they give. Only wrong arguments end as a fault of the arguments, and then nothing is read, and nothing is written on the
 -- output.
 pub record EndsRun (view : View) (given : List (List ℕ)) (status : Status) (before after : Streams) : Type 0 where
-  pub asm : AsksFor (codes "asm") given → EndsAsmOf (reads_input given) (settings_of (settings_named given)) status before after
+  pub asm : AsksFor (codes "asm") given
+      → EndsBy (given_by given) (λ s. EndsAsmOf (reads_input given) (settings_of s) status before after) status before after
   pub check : AsksFor (codes "check") given
-      → EndsCheck (length (files_named given)) (settings_of (settings_named given)) status (unread before) (unread after)
+      → EndsBy (given_by given) (λ s. EndsCheck (length (files_named given)) (settings_of s) status (unread before) (unread after)) status before after
   pub fight : AsksFor (codes "fight") given
-      → EndsFight (viewed (view_named given) view) (settings_of (settings_named given)) status (unread before) (unread after)
-  pub create : AsksFor (codes "create") given → EndsCreate (draw_seed_named given) (settings_named given) status (unread before) (unread after)
+      → EndsBy (given_by given) (λ s. EndsFight (viewed (view_named given) view) (settings_of s) status (unread before) (unread after)) status before after
+  pub create : AsksFor (codes "create") given
+      → EndsBy (given_by given) (λ s. EndsCreate (draw_seed_named given) s status (unread before) (unread after)) status before after
   pub submit : AsksFor (codes "submit") given
       → AfterNote (EndsSubmit (viewed (view_named given) view) status) (unread before) (unread after)
   pub show : AsksFor (codes "show") given
-      → AfterNote (EndsHill (SaysShown (viewed (view_named given) view) (matches_named given)) status) (unread before) (unread after)
+      → AfterNote (EndsHill (SaysShown (viewed (view_named given) view) (sight_in (given_by given))) status) (unread before) (unread after)
   pub audit : AsksFor (codes "audit") given → AfterNote (EndsAudit status) (unread before) (unread after)
   pub migrate : AsksFor (codes "migrate") given → EndsHill SaysMigrated status (unread before) (unread after)
   pub page : AsksFor (codes "page") given → AfterNote (EndsHill SaysPage status) (unread before) (unread after)
   pub serve : AsksFor (codes "serve") given
       → AfterNote (EndsServe (settings_of (settings_named given)) status) (unread before) (unread after)
   pub replay : AsksFor (codes "replay") given
-      → EndsReplay (round_named given) (settings_of (settings_named given)) status (unread before) (unread after)
+      → EndsBy (given_by given) (λ s. EndsReplay (round_named given) (settings_of s) status (unread before) (unread after)) status before after
   pub words : AreTaken given → status ≢ Status.WordFault
   pub wrong : AreWrong given → (status ≡ Status.WordFault) ⊎ (status ≡ Status.NoMemory)
   pub word_fault : status ≡ Status.WordFault → Keeps before.input after.input × Keeps before.output after.output

@@ -5,6 +5,7 @@
 //!
 //! - `arguments` and `typed`: an argument that is no text, and standard input at a terminal, both before anything is read;
 //! - `program`: `run`, which carries out what the arguments of the command line ask for, by `koth_words`, and ends with a status;
+//! - `settled`: the settings under which a command is carried out;
 //! - `create`, `submit`, `show`, `page`, `audit`, `migrate`, `serve`: a command on a hill each, and `log`: what a service reports;
 //! - `pages`: the pages that browsers of a service ask for;
 //! - `files`: the hill in a file, opened, `old_hill`: how one of the old format is known, and `damage`: which warrior can't be read;
@@ -36,6 +37,7 @@ mod program;
 mod reply_status;
 mod seed;
 mod serve;
+mod settled;
 mod show;
 mod submit;
 mod trouble;

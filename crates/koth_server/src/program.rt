@@ -1,7 +1,7 @@
 //! A run of the program, from its arguments to its status.
 
 ghost use Rattle.std.specs.Prelude.{◌≡◌, None, map, string_bytes};
-ghost use Rattle.{koth_commands.specs.Streams.streams, koth_server.specs.Run.{viewed, EndsRequest, EndsRun, EndsWithout, Leaves}};
+ghost use Rattle.{koth_commands.specs.Streams.streams, koth_server.specs.Run.{viewed, EndsRequest, EndsRequestUnder, EndsRun, EndsWithout, Leaves}};
 
 use crate::audit::audit;
 use crate::create::create;
@@ -9,6 +9,7 @@ use crate::damage::tell_lost_header;
 use crate::migrate::migrate;
 use crate::page::page;
 use crate::serve::serve;
+use crate::settled::settled;
 use crate::show::show;
 use crate::submit::submit;
 use hill_file::TryLock;
@@ -24,6 +25,7 @@ use std::io::{Read, Write};
 use std::net::Net;
 use std::random::RandomSource;
 use std::rt::{Clock, Files};
+use war_types::RawSettings;
 
 /// Does what the arguments ask for, and returns the exit status: 0 done, 1 refused, 2 wrong arguments, 3 a stream or a file failed, 4 out of
 /// memory. The first of `words` is the program's name. They are parsed on `heap`, and all other memory comes from `alloc`. If the arguments
@@ -103,19 +105,48 @@ where
         (streams (I.remaining input.old) (O.contents output.old) (E.contents errors.old))
         (streams (I.remaining input.new) (O.contents output.new) (E.contents errors.new)) }
 {
+    match settled(rt, alloc, request.given()) {
+        Ok(settings) => fulfil_under(rt, alloc, settings, request, view, input, output, errors),
+        Err(trouble) => trouble.tell(alloc, errors),
+    }
+}
+
+/// Carries out a request under these settings, if its command takes any.
+fn fulfil_under<
+    R: Files + Net + Clock + RandomSource,
+    A: Allocator + Copy,
+    I: Read,
+    O: Write,
+    E: LogWrite,
+>(
+    rt: &R,
+    alloc: A,
+    settings: RawSettings,
+    request: &Request<'_>,
+    view: View,
+    input: &mut I,
+    output: &mut O,
+    errors: &mut E,
+) -> Status
+where
+    R::File: TryLock,
+    ensures { EndsRequestUnder settings view request.now result
+        (streams (I.remaining input.old) (O.contents output.old) (E.contents errors.old))
+        (streams (I.remaining input.new) (O.contents output.new) (E.contents errors.new)) }
+{
     match *request {
-        Request::Asm(given, source) => asm(rt, alloc, given, source, input, output, errors),
-        Request::Check(given, ref checked) => check(rt, alloc, given, checked, output, errors),
-        Request::Fight(given, files) => fight(
+        Request::Asm(_, source) => asm(rt, alloc, settings, source, input, output, errors),
+        Request::Check(_, ref checked) => check(rt, alloc, settings, checked, output, errors),
+        Request::Fight(_, files) => fight(
             rt,
             alloc,
-            given,
+            settings,
             files,
             viewed(files.view, view),
             output,
             errors,
         ),
-        Request::Create(given, creation) => create(rt, alloc, given, creation, output, errors),
+        Request::Create(_, creation) => create(rt, alloc, settings, creation, output, errors),
         Request::Submit(files) => {
             let view = viewed(files.view, view);
             tell_lost_header(rt, alloc, files.hill, errors);
@@ -139,10 +170,10 @@ where
             tell_lost_header(rt, alloc, service.hill, errors);
             serve(rt, alloc, given, service, output, errors)
         }
-        Request::Replay(given, watched) => replay(
+        Request::Replay(_, watched) => replay(
             rt,
             alloc,
-            given,
+            settings,
             watched.older,
             watched.younger,
             watched.round,

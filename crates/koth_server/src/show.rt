@@ -1,13 +1,14 @@
 //! The command `show`: the table of the hill in a file, and the matrix of its matches.
 
 ghost use Rattle.std.specs.Prelude.{◌≡◌, ◌≢◌, IfOk, None, true};
-ghost use Rattle.{koth_commands.specs.Streams.streams, koth_server.specs.Hills.{EndsHill, SaysShown, ShowsOf, Tries, shown_lines, shown_table, shown_text}};
+ghost use Rattle.{koth_commands.specs.Streams.streams, koth_server.specs.Hills.{EndsHill, SaysShown, ShowsOf, Tries, shown_lines, shown_table, shown_text, sight_of, sight_text}};
 
 use crate::files::open_hill;
 use crate::trouble::HillTrouble;
 use hill_file::{Sharing, TryLock};
 use hill_store::Store;
 use koth_commands::{Status, write_whole};
+use koth_hills::settings_text;
 use koth_protocol::matches_text;
 use koth_session::table_of;
 use koth_views::{hill_view, matches_view};
@@ -18,7 +19,7 @@ use std::io::Write;
 use std::rt::Files;
 
 /// Writes the table of the hill in a file, as a session answers `SHOW`, or in columns for people. If that is asked for, the matrix of its
-/// matches follows: who won how many rounds against whom. The hill's lock is not taken, so `show` can show a hill while a service works on it.
+/// matches follows: who won how many rounds against whom. Or it writes the hill's settings as options in place of these. The hill's lock is not taken, so `show` can show a hill while a service works on it.
 pub(crate) fn show<R: Files, A: Allocator + Copy, O: Write, E: Write>(
     rt: &R,
     alloc: A,
@@ -29,7 +30,7 @@ pub(crate) fn show<R: Files, A: Allocator + Copy, O: Write, E: Write>(
 ) -> Status
 where
     R::File: TryLock,
-    ensures ends { EndsHill (SaysShown view shown.entry.matches) result
+    ensures ends { EndsHill (SaysShown view (sight_of shown.entry)) result
         (streams None (O.contents output.old) (E.contents errors.old))
         (streams None (O.contents output.new) (E.contents errors.new)) }
     ensures words { result ≢ Status.WordFault }
@@ -49,25 +50,25 @@ fn show_file<'s, R: Files, A: Allocator + Copy, O: Write>(
 ) -> Result<Status, HillTrouble<'s>>
 where
     R::File: TryLock,
-    ensures { Tries (SaysShown view shown.entry.matches) result (O.contents output.old) (O.contents output.new) }
+    ensures { Tries (SaysShown view (sight_of shown.entry)) result (O.contents output.old) (O.contents output.new) }
 {
     match open_hill(rt, alloc, shown.hill, Sharing::Shared) {
-        Ok(store) => show_store(alloc, &store, shown.matches, view, output),
+        Ok(store) => show_store(alloc, &store, shown, view, output),
         Err(trouble) => Err(trouble),
     }
 }
 
-/// Writes the table of a store's hill, and the matrix of its matches if that is asked for.
+/// Writes what is asked for of a store's hill.
 fn show_store<'s, D: Device, A: Allocator + Copy, O: Write>(
     alloc: A,
     store: &Store<D, A>,
-    matches: bool,
+    shown: Shown<'_>,
     view: View,
     output: &mut O,
 ) -> Result<Status, HillTrouble<'s>>
-    ensures { Tries (ShowsOf view matches store.now.hill) result (O.contents output.old) (O.contents output.new) }
+    ensures { Tries (ShowsOf view (sight_of shown.entry) store.now.hill) result (O.contents output.old) (O.contents output.new) }
 {
-    let text = match shown_text(alloc, store, matches, view) {
+    let text = match sight_text(alloc, store, shown, view) {
         Ok(text) => text,
         Err(AllocError) => return Err(HillTrouble::memory()),
     };
@@ -77,6 +78,23 @@ fn show_store<'s, D: Device, A: Allocator + Copy, O: Write>(
     }
 }
 
+/// The table of a store's hill, or its settings in place of that.
+fn sight_text<D: Device, A: Allocator + Copy>(
+    alloc: A,
+    store: &Store<D, A>,
+    shown: Shown<'_>,
+    view: View,
+) -> Result<Vec<u8, A>, AllocError>
+    ensures { IfOk result (λ text. text.items ≡ sight_text view (sight_of shown.entry) store.now.hill) }
+{
+    if shown.settings {
+        settings_text(alloc, store.hill().settings(), shown.with_seed)
+    } else {
+        shown_text(alloc, store, shown.matches, view)
+    }
+}
+
+/// The table of a store's hill, and the matrix of its matches if that is asked for.
 fn shown_text<D: Device, A: Allocator + Copy>(
     alloc: A,
     store: &Store<D, A>,

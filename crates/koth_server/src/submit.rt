@@ -1,7 +1,8 @@
 //! The command `submit`: one submission to the hill in a file.
 
-ghost use Rattle.std.specs.Prelude.{◌≡◌, ◌≢◌, ◌⊎◌, [], false, None, IfSome};
-ghost use Rattle.{koth_views.specs.{Placing.placing_view, Roster.roster}, koth_commands.specs.Streams.streams, koth_server.specs.Hills.{EndsReply, EndsSubmission, EndsSubmit, ExplainsReply}};
+ghost use Rattle.std.specs.Prelude.{◌≡◌, ◌≢◌, ◌⊎◌, ℕ, ◌++◌, List, [], false, None, IfOk, IfSome, OnOk};
+ghost use Rattle.{koth_hills.specs.Fallen.IsFallenText, koth_views.specs.Roster.roster, koth_commands.specs.Streams.streams};
+ghost use Rattle.koth_server.specs.Hills.{EndsReply, EndsSubmission, EndsSubmit, ExplainsReply, IsOutcome};
 
 use crate::files::open_within;
 use crate::reply_status::status_of;
@@ -10,6 +11,7 @@ use hill_file::TryLock;
 use hill_store::{Reply, Store};
 use koth_commands::{Status, explain, read_source, write_both};
 use koth_hill::Hill;
+use koth_hills::fallen_text;
 use koth_session::line_of;
 use koth_views::{Entered, placing_view, roster};
 use koth_words::{Submission, View};
@@ -95,7 +97,7 @@ fn submit_source<D: Device, A: Allocator + Copy, O: Write, E: Write>(
 {
     let before = roster_for(alloc, view, store.hill());
     let reply = store.submit(source.text);
-    let placing = placing_text(alloc, &before, store.hill(), &reply);
+    let placing = placing_text(alloc, &before, store.hill(), source.text, &reply);
     let settings = store.hill().settings();
     answer_reply(
         alloc,
@@ -142,23 +144,53 @@ fn roster_for<A: Allocator + Copy>(alloc: A, view: View, hill: &Hill<A>) -> Opti
     }
 }
 
-/// Where a warrior stands after its submission, if that was asked for and there is memory for it; else nothing.
+/// What became of a source's warrior, if that was asked for and there is memory for it; else nothing.
 fn placing_text<A: Allocator + Copy>(
     alloc: A,
     before: &Option<Vec<Entered, A>>,
     hill: &Hill<A>,
+    source: &[u8],
     reply: &Reply,
 ) -> Vec<u8, A>
     ensures none { before.now ≡ None → result.items ≡ [] }
-    ensures some { IfSome before.now (λ stood. (result.items ≡ []) ⊎ (result.items ≡ placing_view stood.items hill.now reply.now)) }
+    ensures some { IfSome before.now (λ stood. (result.items ≡ []) ⊎ IsOutcome stood.items hill.now source.now reply.now result.items) }
 {
     match before {
-        Some(before) => match placing_view(alloc, before.as_slice(), hill, reply) {
+        Some(before) => match outcome_text(alloc, before.as_slice(), hill, source, reply) {
             Ok(text) => text,
             Err(AllocError) => Vec::new(alloc),
         },
         None => Vec::new(alloc),
     }
+}
+
+/// Where a warrior stands after its submission, or that it fell, and then its matches.
+fn outcome_text<A: Allocator + Copy>(
+    alloc: A,
+    before: &[Entered],
+    hill: &Hill<A>,
+    source: &[u8],
+    reply: &Reply,
+) -> Result<Vec<u8, A>, AllocError>
+    ensures { IfOk result (λ text. IsOutcome before.now hill.now source.now reply.now text.items) }
+{
+    let mut text = placing_view(alloc, before, hill, reply)?;
+    if let Reply::Fell { .. } = *reply {
+        put_fallen(alloc, &mut text, hill, source)?;
+    }
+    Ok(text)
+}
+
+fn put_fallen<A: Allocator + Copy>(
+    alloc: A,
+    text: &mut Vec<u8, A>,
+    hill: &Hill<A>,
+    source: &[u8],
+) -> Result<(), AllocError>
+    ensures { OnOk result ((more : List ℕ) × IsFallenText hill.now source.now more × (text.new.items ≡ text.old.items ++ more)) }
+{
+    let more = fallen_text(alloc, hill, source)?;
+    text.extend_from_slice(more.as_slice())
 }
 
 /// Writes on standard error the place in a source and the reason, if it is refused.

@@ -1,4 +1,5 @@
 mod Addresses
+mod Back
 mod Build
 mod Entered
 mod Flags

@@ -1,19 +1,19 @@
 -- Rows of the definitions, computed.
 use Rattle.{std.proofs.Common.{◌≡◌, true, false, true≢false, List, [], ◌∷◌, Some, None, Ok, codes, refl, sym, inr}, clap.specs.Words.{Row, all_of, fault_of, first_of, one_of, subcommand_of, takes}}
 use Rattle.{clap.proofs.OnLiterals.clap_on_literals, clap.specs.declared.error.kind.ErrorKind.ErrorKind, war_types.specs.Settings.settings_of}
-use Rattle.koth_words.specs.Options.{default_settings, number_given, number_or}
+use Rattle.koth_words.specs.{Options.{default_settings, number_given, number_or}, Settings.{chosen_in, given_as, over, preset_settings}}
 use Rattle.koth_words.specs.Words.{AreTaken, AreWrong, AsksFor, IsAddress}
 use Rattle.koth_words.specs.Words.{create_named, draw_seed_named, form_named, given_by, given_in, koth_app, matches_named, overwrite_named, reads_input, replays_named, settings_named}
-use Rattle.{koth_words.specs.{Words.view_named, declared.words.{Form.Form, View.View}}, koth_words.proofs.Addresses.{any_address, every_address, every_address_is_one, every_long_address, every_long_address_is_one, four, not_here, not_to_a_group, not_to_all, not_with_port, this_machine}}
+use Rattle.{koth_words.specs.{Words.view_named, declared.requests.{Form.Form, View.View}}, koth_words.proofs.Addresses.{any_address, every_address, every_address_is_one, every_long_address, every_long_address_is_one, four, not_here, not_to_a_group, not_to_all, not_with_port, this_machine}}
 
 -- the premise of `asm` is met by these words
 asm_asks : AsksFor (codes "asm") (codes "koth" ∷ codes "asm" ∷ [])
 unfolding clap_on_literals koth_app
-asm_asks = ((refl, (refl, refl, refl, tt, refl)), refl)
+asm_asks = ((refl, (refl, refl, refl, tt, refl, refl, refl, refl)), refl)
 
 fight_asks : AsksFor (codes "fight") (codes "koth" ∷ codes "fight" ∷ codes "a.red" ∷ codes "b.red" ∷ codes "--rounds=3" ∷ [])
 unfolding clap_on_literals koth_app
-fight_asks = ((refl, (refl, refl, refl, tt, refl)), refl)
+fight_asks = ((refl, (refl, refl, refl, tt, refl, refl, refl, refl)), refl)
 
 hills_ask : AsksFor (codes "create") (codes "koth" ∷ codes "create" ∷ codes "a.hill" ∷ codes "--seed=7" ∷ [])
     × AsksFor (codes "submit") (codes "koth" ∷ codes "submit" ∷ codes "a.hill" ∷ codes "a.red" ∷ [])
@@ -25,7 +25,7 @@ hills_ask : AsksFor (codes "create") (codes "koth" ∷ codes "create" ∷ codes 
     × AsksFor (codes "page") (codes "koth" ∷ codes "page" ∷ codes "a.hill" ∷ [])
     × AsksFor (codes "replay") (codes "koth" ∷ codes "replay" ∷ codes "a.red" ∷ codes "b.red" ∷ codes "--round=1000" ∷ codes "-r5" ∷ [])
 unfolding clap_on_literals koth_app
-hills_ask = (((refl, (refl, refl, refl, tt, refl)), refl), ((refl, (refl, refl, refl, tt, refl)), refl), ((refl, (refl, refl, refl, tt, refl)), refl), ((refl, (refl, refl, refl, tt, refl)), refl), ((refl, (refl, refl, refl, tt, refl)), refl), ((refl, (refl, refl, refl, tt, refl)), refl), ((refl, (refl, refl, refl, tt, refl)), refl), ((refl, (refl, refl, refl, tt, refl)), refl), ((refl, (refl, refl, refl, tt, refl)), refl))
+hills_ask = (((refl, (refl, refl, refl, tt, refl, refl, refl, refl)), refl), ((refl, (refl, refl, refl, tt, refl, refl, refl, refl)), refl), ((refl, (refl, refl, refl, tt, refl, refl, refl, refl)), refl), ((refl, (refl, refl, refl, tt, refl, refl, refl, refl)), refl), ((refl, (refl, refl, refl, tt, refl, refl, refl, refl)), refl), ((refl, (refl, refl, refl, tt, refl, refl, refl, refl)), refl), ((refl, (refl, refl, refl, tt, refl, refl, refl, refl)), refl), ((refl, (refl, refl, refl, tt, refl, refl, refl, refl)), refl), ((refl, (refl, refl, refl, tt, refl, refl, refl, refl)), refl))
 
 -- the flag is given if the words have it, after the file or before it, and else not
 matches_given : (matches_named (codes "koth" ∷ codes "show" ∷ codes "h.hill" ∷ codes "--matches" ∷ []) ≡ true)
@@ -94,6 +94,50 @@ faults = (refl, refl, refl, refl, refl, refl)
 defaults_are_settings : settings_of default_settings ≡ Ok (record default_settings { read_limit = 8000; write_limit = 8000 })
 defaults_are_settings = refl
 
+-- the settings of the presets, and numbers that options give in their place
+presets : (settings_named (codes "koth" ∷ codes "asm" ∷ codes "--preset" ∷ codes "94nop" ∷ []) ≡ default_settings)
+    × (settings_named (codes "koth" ∷ codes "asm" ∷ codes "--preset=tiny" ∷ [])
+    ≡ record default_settings { core = 800; cycles = 8000; processes = 800; length = 20; distance = 20 })
+    × (settings_named (codes "koth" ∷ codes "fight" ∷ codes "a" ∷ codes "b" ∷ codes "-r5" ∷ codes "--preset=nano" ∷ codes "--cycles=900" ∷ [])
+    ≡ record default_settings { core = 80; cycles = 900; processes = 80; length = 5; distance = 5; rounds = 5 })
+unfolding clap_on_literals koth_app
+presets = (refl, refl, refl)
+
+presets_are_settings : (settings_of (preset_settings (codes "94nop")) ≡ Ok (record default_settings { read_limit = 8000; write_limit = 8000 }))
+    × (settings_of (preset_settings (codes "tiny")) ≡ Ok (record (preset_settings (codes "tiny")) { read_limit = 800; write_limit = 800 }))
+    × (settings_of (preset_settings (codes "nano")) ≡ Ok (record (preset_settings (codes "nano")) { read_limit = 80; write_limit = 80 }))
+presets_are_settings = (refl, refl, refl)
+
+-- the settings of a hill as one gives them, and numbers that options give in their place
+likes : AsksFor (codes "fight") (codes "koth" ∷ codes "fight" ∷ codes "a" ∷ codes "b" ∷ codes "--like" ∷ codes "h.hill" ∷ codes "--core=900" ∷ [])
+    × (first_of (codes "like") (given_by (codes "koth" ∷ codes "fight" ∷ codes "a" ∷ codes "b" ∷ codes "--like" ∷ codes "h.hill" ∷ codes "--core=900" ∷ [])) ≡ Some (codes "h.hill"))
+    × (over (given_as (record default_settings { core = 800; seed = 7; read_limit = 800; write_limit = 100 }))
+    (chosen_in (given_by (codes "koth" ∷ codes "fight" ∷ codes "a" ∷ codes "b" ∷ codes "--like" ∷ codes "h.hill" ∷ codes "--core=900" ∷ [])))
+    ≡ record default_settings { core = 900; seed = 7; write_limit = 100 })
+    × (takes koth_app (codes "koth" ∷ codes "serve" ∷ codes "h.hill" ∷ codes "--port=0" ∷ codes "--create" ∷ codes "--like=b.hill" ∷ []) ≡ false)
+unfolding clap_on_literals koth_app
+likes = (((refl, (refl, refl, refl, tt, refl, refl, refl, refl)), refl), refl, refl, refl)
+
+-- no other preset, no preset beside a hill, and none for a hill that is there
+no_presets : AreWrong (codes "koth" ∷ codes "asm" ∷ codes "--preset=big" ∷ [])
+    × AreWrong (codes "koth" ∷ codes "check" ∷ codes "a.red" ∷ codes "--preset=nano" ∷ codes "--like=h.hill" ∷ [])
+    × AreWrong (codes "koth" ∷ codes "serve" ∷ codes "a.hill" ∷ codes "--port=0" ∷ codes "--preset=94nop" ∷ [])
+unfolding clap_on_literals koth_app
+no_presets = (inr (refl, λ clear. true≢false (sym clear.5)), inr (refl, λ clear. true≢false (sym clear.6)), inr (refl, λ clear. true≢false (sym clear.2)))
+
+-- the settings of a hill, with its seed or without, and not beside its matches
+settings_shown : AsksFor (codes "show") (codes "koth" ∷ codes "show" ∷ codes "h.hill" ∷ codes "--settings" ∷ [])
+    × AsksFor (codes "show") (codes "koth" ∷ codes "show" ∷ codes "h.hill" ∷ codes "--with-seed" ∷ codes "--settings" ∷ [])
+    × AreWrong (codes "koth" ∷ codes "show" ∷ codes "h.hill" ∷ codes "--settings" ∷ codes "--matches" ∷ [])
+    × AreWrong (codes "koth" ∷ codes "show" ∷ codes "h.hill" ∷ codes "--with-seed" ∷ [])
+unfolding clap_on_literals koth_app
+settings_shown = (
+  ((refl, (refl, refl, refl, tt, refl, refl, refl, refl)), refl),
+  ((refl, (refl, refl, refl, tt, refl, refl, refl, refl)), refl),
+  inr (refl, λ clear. true≢false (sym clear.7)),
+  inr (refl, λ clear. true≢false (sym clear.7)),
+)
+
 -- ---- sources, layouts, formats, and words that `clap` takes and the program refuses
 
 checks_ask : AsksFor (codes "check") (codes "koth" ∷ codes "check" ∷ codes "a.red" ∷ codes "-s64" ∷ codes "b.red" ∷ codes "--format" ∷ codes "json" ∷ [])
@@ -101,7 +145,7 @@ checks_ask : AsksFor (codes "check") (codes "koth" ∷ codes "check" ∷ codes "
     × AsksFor (codes "create") (codes "koth" ∷ codes "create" ∷ codes "a.hill" ∷ codes "--overwrite" ∷ [])
     × AsksFor (codes "serve") (codes "koth" ∷ codes "serve" ∷ codes "a.hill" ∷ codes "--port=0" ∷ codes "--quiet" ∷ [])
 unfolding clap_on_literals koth_app
-checks_ask = (((refl, (refl, refl, refl, tt, refl)), refl), ((refl, (refl, refl, refl, tt, refl)), refl), ((refl, (refl, refl, refl, tt, refl)), refl), ((refl, (refl, refl, refl, tt, refl)), refl))
+checks_ask = (((refl, (refl, refl, refl, tt, refl, refl, refl, refl)), refl), ((refl, (refl, refl, refl, tt, refl, refl, refl, refl)), refl), ((refl, (refl, refl, refl, tt, refl, refl, refl, refl)), refl), ((refl, (refl, refl, refl, tt, refl, refl, refl, refl)), refl))
 
 -- the files in their order, and the form and the setting among them
 checked_files : (all_of (codes "FILE") (given_by (codes "koth" ∷ codes "check" ∷ codes "a.red" ∷ codes "-s64" ∷ codes "b.red" ∷ codes "--format=json" ∷ [])) ≡ Some (codes "a.red" ∷ codes "b.red" ∷ []))
@@ -185,7 +229,7 @@ addresses_ask : AsksFor (codes "serve") (codes "koth" ∷ codes "serve" ∷ code
     × AsksFor (codes "serve") (codes "koth" ∷ codes "serve" ∷ codes "a.hill" ∷ codes "--port=0" ∷ codes "--listen" ∷ codes "::" ∷ [])
     × IsAddress None (four (127 ∷ 0 ∷ 0 ∷ 1 ∷ []))
 unfolding clap_on_literals koth_app
-addresses_ask = (((refl, (refl, refl, refl, (four (0 ∷ 0 ∷ 0 ∷ 0 ∷ []), every_address, every_address_is_one), refl)), refl), ((refl, (refl, refl, refl, (any_address, every_long_address, every_long_address_is_one), refl)), refl), this_machine)
+addresses_ask = (((refl, (refl, refl, refl, (four (0 ∷ 0 ∷ 0 ∷ 0 ∷ []), every_address, every_address_is_one), refl, refl, refl, refl)), refl), ((refl, (refl, refl, refl, (any_address, every_long_address, every_long_address_is_one), refl, refl, refl, refl)), refl), this_machine)
 
 -- no name of a machine, and no address with a port
 names_wrong : AreWrong (codes "koth" ∷ codes "serve" ∷ codes "a.hill" ∷ codes "--port=0" ∷ codes "--listen=here" ∷ [])
@@ -233,7 +277,7 @@ creations : AsksFor (codes "serve") (codes "koth" ∷ codes "serve" ∷ codes "a
     × (create_named (codes "koth" ∷ codes "serve" ∷ codes "a.hill" ∷ codes "--port=0" ∷ codes "--core=64" ∷ codes "--create" ∷ codes "-r5" ∷ []) ≡ true)
     × (create_named (codes "koth" ∷ codes "serve" ∷ codes "a.hill" ∷ codes "--port=0" ∷ []) ≡ false)
 unfolding clap_on_literals koth_app
-creations = (((refl, (refl, refl, refl, tt, refl)), refl), refl, refl, refl)
+creations = (((refl, (refl, refl, refl, tt, refl, refl, refl, refl)), refl), refl, refl, refl)
 
 -- settings for a hill that is there are wrong, the default ones too
 unused_settings : AreWrong (codes "koth" ∷ codes "serve" ∷ codes "a.hill" ∷ codes "--port=0" ∷ codes "--core=64" ∷ [])
@@ -246,4 +290,4 @@ drawn_seeds : AsksFor (codes "create") (codes "koth" ∷ codes "create" ∷ code
     × AreWrong (codes "koth" ∷ codes "create" ∷ codes "h.hill" ∷ codes "--draw-seed" ∷ codes "--seed=1" ∷ [])
     × (takes koth_app (codes "koth" ∷ codes "fight" ∷ codes "a" ∷ codes "b" ∷ codes "--draw-seed" ∷ []) ≡ false)
 unfolding clap_on_literals koth_app
-drawn_seeds = (((refl, (refl, refl, refl, tt, refl)), refl), inr (refl, λ clear. true≢false (sym clear.4)), refl)
+drawn_seeds = (((refl, (refl, refl, refl, tt, refl, refl, refl, refl)), refl), inr (refl, λ clear. true≢false (sym clear.4)), refl)

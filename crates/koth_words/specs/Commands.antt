@@ -1,7 +1,7 @@
 -- The commands of `koth`, as `clap` reads them.
 use Rattle.std.specs.Prelude.{◌≡◌, true, false, List, [], ◌∷◌, codes, fold, Some}
 use Rattle.clap.specs.{Words.{App, Rule, Text, app_of, new_app, new_rule, with_rule, with_subcommand}, declared.builder.command.Command.Command, declared.builder.command.Command.TheViews.out-Command}
-use Rattle.{clap.specs.declared.builder.action.ArgAction.ArgAction, koth_words.specs.Options.{required_rule, with_option, with_ranged, with_settings}}
+use Rattle.{clap.specs.declared.builder.action.ArgAction.ArgAction, koth_words.specs.Options.{required_rule, text_rule, with_like, with_option, with_ranged, with_settings}}
 
 -- a command that `clap` reads as this one, with no argument that its subcommands take too
 abbrev pub IsReadAs : App → Command → Type 0
@@ -23,10 +23,6 @@ file_rule name = record (new_rule name) { required = true }
 abbrev pub files_rule : Text → Rule
 files_rule name = record (file_rule name) { action = Some ArgAction.Append }
 
--- an option with a text
-abbrev pub text_rule : Text → Rule
-text_rule name = record (new_rule name) { long = Some name; value_names = 1 }
-
 -- an option with a text, which may be given more than once
 abbrev pub texts_rule : Text → Rule
 texts_rule name = record (text_rule name) { action = Some ArgAction.Append }
@@ -46,22 +42,22 @@ abbrev pub with_view : App → App
 with_view app = with_flag (with_flag app (codes "plain")) (codes "table")
 
 abbrev pub asm_app : App
-asm_app = with_settings (with_rule (new_app (codes "asm")) (new_rule (codes "FILE")))
+asm_app = with_like (with_rule (new_app (codes "asm")) (new_rule (codes "FILE")))
 
 abbrev pub check_app : App
-check_app = with_settings (with_rule (with_rule (new_app (codes "check")) (files_rule (codes "FILE"))) (text_rule (codes "format")))
+check_app = with_like (with_rule (with_rule (new_app (codes "check")) (files_rule (codes "FILE"))) (text_rule (codes "format")))
 
 abbrev pub fight_app : App
-fight_app = with_settings (with_view (with_file (with_file (new_app (codes "fight")) (codes "A")) (codes "B")))
+fight_app = with_like (with_view (with_file (with_file (new_app (codes "fight")) (codes "A")) (codes "B")))
 
 abbrev pub create_app : App
-create_app = with_settings (with_flag (with_flag (with_file (new_app (codes "create")) (codes "FILE")) (codes "overwrite")) (codes "draw-seed"))
+create_app = with_like (with_flag (with_flag (with_file (new_app (codes "create")) (codes "FILE")) (codes "overwrite")) (codes "draw-seed"))
 
 abbrev pub submit_app : App
 submit_app = with_view (with_ranged (with_file (with_file (new_app (codes "submit")) (codes "FILE")) (codes "SOURCE")) (codes "wait") 1 3600)
 
 abbrev pub show_app : App
-show_app = with_view (with_flag (with_file (new_app (codes "show")) (codes "FILE")) (codes "matches"))
+show_app = with_view (with_flag (with_flag (with_flag (with_file (new_app (codes "show")) (codes "FILE")) (codes "matches")) (codes "settings")) (codes "with-seed"))
 
 abbrev pub serve_app : App
 serve_app = with_settings (with_flag (with_flag (with_flag (with_rule (with_ranged (with_option (with_rule (with_option (with_ranged (with_ranged (with_rule (with_file (new_app (codes "serve"))
@@ -78,12 +74,21 @@ abbrev pub page_app : App
 page_app = with_file (new_app (codes "page")) (codes "FILE")
 
 abbrev pub replay_app : App
-replay_app = with_settings (with_ranged (with_file (with_file (new_app (codes "replay")) (codes "A")) (codes "B")) (codes "round") 1 1000)
+replay_app = with_like (with_ranged (with_file (with_file (new_app (codes "replay")) (codes "A")) (codes "B")) (codes "round") 1 1000)
+
+abbrev pub try_app : App
+try_app = with_view (with_file (with_file (new_app (codes "try")) (codes "FILE")) (codes "SOURCE"))
+
+abbrev pub copy_app : App
+copy_app = with_flag (with_file (with_file (new_app (codes "copy")) (codes "FILE")) (codes "NEW")) (codes "audit")
+
+abbrev pub reseed_app : App
+reseed_app = with_option (with_file (with_file (new_app (codes "reseed")) (codes "FILE")) (codes "NEW")) (codes "seed")
 
 -- the commands, in the order of the help
 abbrev pub koth_commands : List App
 koth_commands = asm_app ∷ check_app ∷ fight_app ∷ create_app ∷ submit_app ∷ show_app ∷ serve_app ∷ audit_app
-    ∷ migrate_app ∷ page_app ∷ replay_app ∷ []
+    ∷ migrate_app ∷ page_app ∷ replay_app ∷ try_app ∷ copy_app ∷ reseed_app ∷ []
 
 -- the program: `koth`, and a command's name with its files and options
 unfoldable pub koth_app : App

@@ -3,6 +3,10 @@ use Rattle.std.specs.{Prelude.{ℕ, ℤ, ◌&&◌, Bool, true, nat_lt, if◌then
 use Rattle.{std.specs.Str.Parse.{digits_value, without_leading_plus}, clap.specs.Words.{App, Row, Rule, Text, new_rule, one_of, with_rule}}
 use Rattle.{clap.specs.declared.builder.value_parser.ValueParser.ValueParser, war_types.specs.declared.settings.RawSettings.RawSettings}
 
+-- an option with a text
+abbrev pub text_rule : Text → Rule
+text_rule name = record (new_rule name) { long = Some name; value_names = 1 }
+
 -- an option with a whole number from the least to the greatest
 abbrev pub ranged_rule : Text → ℤ → ℤ → Rule
 ranged_rule name least greatest = record (new_rule name) {
@@ -42,9 +46,13 @@ abbrev pub with_bounds : App → App
 with_bounds app = with_option (with_option (with_lettered (with_lettered app
     (codes "cycles") 99) (codes "rounds") 114) (codes "read-limit")) (codes "write-limit")
 
--- the command with an option for each setting
+-- the command with an option for a preset, and one for each setting
 abbrev pub with_settings : App → App
-with_settings app = with_option (with_option (with_bounds (with_sizes app)) (codes "seed")) (codes "capacity")
+with_settings app = with_option (with_option (with_bounds (with_sizes (with_rule app (text_rule (codes "preset"))))) (codes "seed")) (codes "capacity")
+
+-- and with one for a hill that has them
+abbrev pub with_like : App → App
+with_like app = with_settings (with_rule app (text_rule (codes "like")))
 
 -- one decimal digit or more, which write a number below the limit
 abbrev pub is_number : ℕ → Text → Bool
@@ -79,19 +87,4 @@ default_settings = record {
   capacity = 20;
   read_limit = 0;
   write_limit = 0;
-}
-
--- the settings that a command's options give
-abbrev pub settings_in : List Row → RawSettings
-settings_in rows = record {
-  core = number_or default_settings.core (one_of (codes "core") rows);
-  cycles = number_or default_settings.cycles (one_of (codes "cycles") rows);
-  processes = number_or default_settings.processes (one_of (codes "processes") rows);
-  length = number_or default_settings.length (one_of (codes "length") rows);
-  distance = number_or default_settings.distance (one_of (codes "distance") rows);
-  rounds = number_or default_settings.rounds (one_of (codes "rounds") rows);
-  seed = number_or default_settings.seed (one_of (codes "seed") rows);
-  capacity = number_or default_settings.capacity (one_of (codes "capacity") rows);
-  read_limit = number_or default_settings.read_limit (one_of (codes "read-limit") rows);
-  write_limit = number_or default_settings.write_limit (one_of (codes "write-limit") rows);
 }

@@ -3,8 +3,8 @@ use Rattle.std.specs.Prelude.{◌≡◌, ◌≢◌, ◌⊎◌, ◌&&◌, ◌||�
 use Rattle.std.specs.{Option.option_map_or, Net.{Addr.{IsMulticastV4, IsMulticastV6, MatchIp, ipv4_octets}, Grammar.IsIpText}, Str.bytes_eq, declared.net.ip_addr.IpAddr.IpAddr}
 use Rattle.clap.specs.{Words.{IsAmong, Row, Text, all_of, fault_of, first_of, one_of, subcommand_of, takes}, declared.error.kind.ErrorKind.ErrorKind}
 use Rattle.war_types.specs.declared.settings.RawSettings.{RawSettings}
-use Rattle.koth_words.specs.{Options.{number_below, number_given, number_or, settings_in}, declared.words.Form.Form, declared.words.NoRequest.NoRequest, declared.words.Request.Request}
-use Rattle.koth_words.specs.{declared.words.Request.TheVariants.{Asm, Check, Fight, Create, Submit, Show, Serve, Audit, Migrate, Page, Replay}, declared.words.Source.Source, declared.words.View.View}
+use Rattle.koth_words.specs.{Options.{number_below, number_given, number_or}, Settings.{IsGiven, has_known_preset, has_one_base, settings_in}, declared.requests.Form.Form, declared.settings.Given.Given, declared.requests.NoRequest.NoRequest, declared.requests.Request.Request}
+use Rattle.koth_words.specs.{declared.requests.Request.TheVariants.{Asm, Check, Fight, Create, Submit, Show, Serve, Audit, Migrate, Page, Replay, Try, Copy, Reseed}, declared.requests.Source.Source, declared.requests.View.View}
 unfoldable pub use Rattle.koth_words.specs.Commands.{koth_app}
 
 -- what a command is given, if one is entered
@@ -18,7 +18,7 @@ given_by words = given_in (subcommand_of koth_app words)
 abbrev pub text_or_none : Option Text → Text
 text_or_none text = unwrap_or text []
 
--- the settings that these words give
+-- the settings that these words give, if they name no hill
 abbrev pub settings_named : List (List ℕ) → RawSettings
 settings_named words = settings_in (given_by words)
 
@@ -38,6 +38,11 @@ matches_in given = has_flag (codes "matches") given
 -- whether `--matches` is given, of `show`
 abbrev pub matches_named : List (List ℕ) → Bool
 matches_named words = matches_in (given_by words)
+
+-- `--settings` and `--matches` are not both given, and `--with-seed` with `--settings` alone
+abbrev pub has_one_sight : List Row → Bool
+has_one_sight given = not (has_flag (codes "settings") given && has_flag (codes "matches") given)
+    && (has_flag (codes "settings") given || not (has_flag (codes "with-seed") given))
 
 -- whether `--overwrite` is given, of `create`
 abbrev pub overwrite_named : List (List ℕ) → Bool
@@ -132,7 +137,7 @@ abbrev pub has_setting : List Row → Bool
 has_setting given = has_option (codes "core") given || has_option (codes "cycles") given || has_option (codes "processes") given
     || has_option (codes "length") given || has_option (codes "distance") given || has_option (codes "rounds") given
     || has_option (codes "seed") given || has_option (codes "capacity") given || has_option (codes "read-limit") given
-    || has_option (codes "write-limit") given
+    || has_option (codes "write-limit") given || has_option (codes "preset") given
 
 -- each setting that is given is used: `serve`, which alone takes a port, uses them with `--create` alone
 abbrev pub uses_settings : List Row → Bool
@@ -144,10 +149,11 @@ has_one_seed given = not (has_flag (codes "draw-seed") given && has_option (code
 
 -- ---- words that are taken, and words that are wrong
 
--- nothing that the program refuses beside `clap`: two layouts, an unknown form, settings without a use, a text in place of an address of one machine, or a seed that is
--- both drawn and given
+-- nothing that the program refuses beside `clap`: two layouts, an unknown form, settings without a use, a text in place of an address of one machine, a seed that is
+-- both drawn and given, an unknown preset, a preset beside a hill, or settings and matches that are both to be shown
 abbrev pub AreClear : List Row → Type 0
 AreClear given = (has_one_view given ≡ true) × (has_known_form given ≡ true) × (uses_settings given ≡ true) × HasAddress given × (has_one_seed given ≡ true)
+    × (has_known_preset given ≡ true) × (has_one_base given ≡ true) × (has_one_sight given ≡ true)
 
 -- the words are taken, by `clap`'s own definition and by `AreClear`
 abbrev pub AreTaken : List (List ℕ) → Type 0
@@ -176,16 +182,16 @@ AreWrong words = HaveFault words ⊎ AreUnclear words
 
 -- the request is that of the command that was entered, by its name and what it was given
 abbrev pub Asks : Text × List Row → Request → Type 0
-Asks entered (Asm settings source) = (entered.0 ≡ codes "asm") × (settings ≡ settings_in entered.1)
+Asks entered (Asm given source) = (entered.0 ≡ codes "asm") × IsGiven entered.1 given
     × IsSource (first_of (codes "FILE") entered.1) source
-Asks entered (Check settings checked) = (entered.0 ≡ codes "check") × (settings ≡ settings_in entered.1)
+Asks entered (Check given checked) = (entered.0 ≡ codes "check") × IsGiven entered.1 given
     × (map (λ file. file.now) checked.files.items ≡ unwrap_or (all_of (codes "FILE") entered.1) [])
     × (checked.form ≡ form_in entered.1)
-Asks entered (Fight settings files) = (entered.0 ≡ codes "fight") × (settings ≡ settings_in entered.1)
+Asks entered (Fight given files) = (entered.0 ≡ codes "fight") × IsGiven entered.1 given
     × (files.older.now ≡ text_or_none (first_of (codes "A") entered.1))
     × (files.younger.now ≡ text_or_none (first_of (codes "B") entered.1))
     × (files.view ≡ view_in entered.1)
-Asks entered (Create settings creation) = (entered.0 ≡ codes "create") × (settings ≡ settings_in entered.1)
+Asks entered (Create given creation) = (entered.0 ≡ codes "create") × IsGiven entered.1 given
     × (creation.hill.now ≡ text_or_none (first_of (codes "FILE") entered.1))
     × (creation.overwrite ≡ has_flag (codes "overwrite") entered.1)
     × (creation.draw_seed ≡ has_flag (codes "draw-seed") entered.1)
@@ -197,6 +203,8 @@ Asks entered (Submit files) = (entered.0 ≡ codes "submit")
 Asks entered (Show shown) = (entered.0 ≡ codes "show")
     × (shown.hill.now ≡ text_or_none (first_of (codes "FILE") entered.1))
     × (shown.matches ≡ matches_in entered.1)
+    × (shown.settings ≡ has_flag (codes "settings") entered.1)
+    × (shown.with_seed ≡ has_flag (codes "with-seed") entered.1)
     × (shown.view ≡ view_in entered.1)
 Asks entered (Serve settings service) = (entered.0 ≡ codes "serve") × (settings ≡ settings_in entered.1)
     × (service.hill.now ≡ text_or_none (first_of (codes "FILE") entered.1))
@@ -218,22 +226,51 @@ Asks entered (Migrate files) = (entered.0 ≡ codes "migrate")
     × (files.new.now ≡ text_or_none (first_of (codes "NEW") entered.1))
 Asks entered (Page file) = (entered.0 ≡ codes "page")
     × (file.now ≡ text_or_none (first_of (codes "FILE") entered.1))
-Asks entered (Replay settings watched) = (entered.0 ≡ codes "replay") × (settings ≡ settings_in entered.1)
+Asks entered (Replay given watched) = (entered.0 ≡ codes "replay") × IsGiven entered.1 given
     × (watched.older.now ≡ text_or_none (first_of (codes "A") entered.1))
     × (watched.younger.now ≡ text_or_none (first_of (codes "B") entered.1))
     × (watched.round ≡ number_or 1 (one_of (codes "round") entered.1))
+Asks entered (Try files) = (entered.0 ≡ codes "try")
+    × (files.hill.now ≡ text_or_none (first_of (codes "FILE") entered.1))
+    × (files.source.now ≡ text_or_none (first_of (codes "SOURCE") entered.1))
+    × (files.view ≡ view_in entered.1)
+Asks entered (Copy files) = (entered.0 ≡ codes "copy")
+    × (files.hill.now ≡ text_or_none (first_of (codes "FILE") entered.1))
+    × (files.new.now ≡ text_or_none (first_of (codes "NEW") entered.1))
+    × (files.audit ≡ has_flag (codes "audit") entered.1)
+Asks entered (Reseed files) = (entered.0 ≡ codes "reseed")
+    × (files.hill.now ≡ text_or_none (first_of (codes "FILE") entered.1))
+    × (files.new.now ≡ text_or_none (first_of (codes "NEW") entered.1))
+    × (files.seed ≡ number_given 4294967296 (one_of (codes "seed") entered.1))
 
 -- the same, if a command was entered
 abbrev pub AsksBy : Option (Text × List Row) → Request → Type 0
 AsksBy None request = ⊥
 AsksBy (Some entered) request = Asks entered request
 
+-- the settings that a request gives, if its command takes any but `serve`, whose hill keeps its own
+abbrev pub given_of : Request → Option Given
+given_of (Asm given source) = Some given
+given_of (Check given checked) = Some given
+given_of (Fight given files) = Some given
+given_of (Create given creation) = Some given
+given_of (Submit files) = None
+given_of (Show shown) = None
+given_of (Serve settings service) = None
+given_of (Audit file) = None
+given_of (Migrate files) = None
+given_of (Page file) = None
+given_of (Replay given watched) = Some given
+given_of (Try files) = None
+given_of (Copy files) = None
+given_of (Reseed files) = None
+
 -- the name of a command
 abbrev pub IsCommandName : Text → Type 0
 IsCommandName name = (name ≡ codes "asm") ⊎ (name ≡ codes "check") ⊎ (name ≡ codes "fight")
     ⊎ (name ≡ codes "create") ⊎ (name ≡ codes "submit") ⊎ (name ≡ codes "show")
     ⊎ (name ≡ codes "serve") ⊎ (name ≡ codes "audit") ⊎ (name ≡ codes "migrate") ⊎ (name ≡ codes "page")
-    ⊎ (name ≡ codes "replay")
+    ⊎ (name ≡ codes "replay") ⊎ (name ≡ codes "try") ⊎ (name ≡ codes "copy") ⊎ (name ≡ codes "reseed")
 
 -- a command is named
 abbrev pub NamesCommand : Option Text → Type 0

@@ -1,7 +1,7 @@
 //! The files, options and flags of the commands, one by one.
 
 ghost use Rattle.std.specs.Prelude.{◌≡◌, codes, false, pos};
-ghost use Rattle.{clap.specs.Words.{new_rule, rule_of}, koth_words.specs.{Commands.{file_rule, files_rule, flag_rule, text_rule, texts_rule}, Options.{ranged_rule, required_rule}}};
+ghost use Rattle.{clap.specs.Words.{new_rule, rule_of}, koth_words.specs.{Commands.{file_rule, files_rule, flag_rule, texts_rule}, Options.{ranged_rule, required_rule, text_rule}}};
 
 use crate::options::option;
 use clap::builder::ValueParser;

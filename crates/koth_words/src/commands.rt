@@ -2,11 +2,11 @@
 
 ghost use Rattle.std.specs.Prelude.{◌≡◌, codes, false, IfOk};
 ghost use Rattle.clap.specs.Words.{App, Rule, new_app, rule_of, with_rule, with_subcommand};
-ghost use Rattle.koth_words.specs.Commands.{asm_app, audit_app, check_app, create_app, fight_app, koth_app, migrate_app, page_app, replay_app, serve_app, show_app, submit_app};
+ghost use Rattle.koth_words.specs.Commands.{asm_app, audit_app, check_app, copy_app, create_app, fight_app, koth_app, migrate_app, page_app, replay_app, reseed_app, serve_app, show_app, submit_app, try_app};
 ghost use Rattle.koth_words.specs.Commands.{wants_subcommand, with_version, with_view, IsReadAs};
 
 use crate::arguments::{file, files, flag, port, ranged, source, text, texts};
-use crate::options::{option, with_settings};
+use crate::options::{option, with_like, with_settings};
 use clap::{Arg, Command};
 use std::alloc::{AllocError, Global};
 
@@ -24,7 +24,10 @@ pub(crate) fn koth_command<'a>(heap: Global) -> Result<Command<'a>, AllocError>
     let command = with_command(command, audit_command(heap));
     let command = with_command(command, migrate_command(heap));
     let command = with_command(command, page_command(heap));
-    with_command(command, replay_command(heap))
+    let command = with_command(command, replay_command(heap));
+    let command = with_command(command, try_command(heap));
+    let command = with_command(command, copy_command(heap));
+    with_command(command, reseed_command(heap))
 }
 
 fn program<'a>(heap: Global) -> Command<'a>
@@ -42,7 +45,7 @@ fn asm_command<'a>(heap: Global) -> Result<Command<'a>, AllocError>
     ensures { IfOk result (IsReadAs asm_app) }
 {
     let command = described(heap, "asm", "Assembles a source, and writes its load text");
-    with_settings(heap, with_arg(Ok(command), source(heap)))
+    with_like(heap, with_arg(Ok(command), source(heap)))
 }
 
 fn check_command<'a>(heap: Global) -> Result<Command<'a>, AllocError>
@@ -51,7 +54,7 @@ fn check_command<'a>(heap: Global) -> Result<Command<'a>, AllocError>
     let about = "Assembles sources, and reports what is wrong with them";
     let command = with_arg(Ok(described(heap, "check", about)), files(heap));
     let help = "Format of the report, text or json [default: text]";
-    with_settings(heap, with_arg(command, text(heap, "format", "FORM", help)))
+    with_like(heap, with_arg(command, text(heap, "format", "FORM", help)))
 }
 
 fn fight_command<'a>(heap: Global) -> Result<Command<'a>, AllocError>
@@ -61,7 +64,7 @@ fn fight_command<'a>(heap: Global) -> Result<Command<'a>, AllocError>
     let a = file(heap, "A", "File of the older warrior");
     let b = file(heap, "B", "File of the younger warrior");
     let command = with_arg(Ok(described(heap, "fight", about)), a);
-    with_settings(heap, with_view(heap, with_arg(command, b)))
+    with_like(heap, with_view(heap, with_arg(command, b)))
 }
 
 fn create_command<'a>(heap: Global) -> Result<Command<'a>, AllocError>
@@ -74,7 +77,7 @@ fn create_command<'a>(heap: Global) -> Result<Command<'a>, AllocError>
     let command = with_arg(command, overwrite);
     let help = "Draw the seed at random, and never print it; not with --seed";
     let draw_seed = flag(heap, "draw-seed", help);
-    with_settings(heap, with_arg(command, draw_seed))
+    with_like(heap, with_arg(command, draw_seed))
 }
 
 fn submit_command<'a>(heap: Global) -> Result<Command<'a>, AllocError>
@@ -96,7 +99,11 @@ fn show_command<'a>(heap: Global) -> Result<Command<'a>, AllocError>
     let hill = file(heap, "FILE", "Hill file");
     let command = with_arg(Ok(described(heap, "show", about)), hill);
     let help = "Write after the table how many rounds each warrior won against each other";
-    with_view(heap, with_arg(command, flag(heap, "matches", help)))
+    let command = with_arg(command, flag(heap, "matches", help));
+    let help = "Write the hill's settings as options in place of the table; not with --matches";
+    let command = with_arg(command, flag(heap, "settings", help));
+    let help = "Write the seed too, with --settings";
+    with_view(heap, with_arg(command, flag(heap, "with-seed", help)))
 }
 
 fn serve_command<'a>(heap: Global) -> Result<Command<'a>, AllocError>
@@ -170,10 +177,46 @@ fn replay_command<'a>(heap: Global) -> Result<Command<'a>, AllocError>
     let b = file(heap, "B", "File of the younger warrior");
     let command = with_arg(with_arg(Ok(described(heap, "replay", about)), a), b);
     let help = "Round that is shown, 1 to 1000 [default: 1]";
-    with_settings(
+    with_like(
         heap,
         with_arg(command, ranged(heap, "round", 1, 1000, help)),
     )
+}
+
+fn try_command<'a>(heap: Global) -> Result<Command<'a>, AllocError>
+    ensures { IfOk result (IsReadAs try_app) }
+{
+    let about = "Writes what a submission of a warrior would be answered; nothing is submitted";
+    let hill = file(heap, "FILE", "Hill file, which stays as it is");
+    let source = file(heap, "SOURCE", "File of the warrior's source");
+    let command = with_arg(Ok(described(heap, "try", about)), hill);
+    with_view(heap, with_arg(command, source))
+}
+
+fn copy_command<'a>(heap: Global) -> Result<Command<'a>, AllocError>
+    ensures { IfOk result (IsReadAs copy_app) }
+{
+    let about = "Copies a hill, which may be served meanwhile, to a new file, and writes COPIED";
+    let hill = file(heap, "FILE", "Hill file, which stays as it is");
+    let new = file(heap, "NEW", "New hill file; nothing may have that name");
+    let command = with_arg(Ok(described(heap, "copy", about)), hill);
+    let command = with_arg(command, new);
+    let help =
+        "Play the match of each pair again first, and copy nothing if a kept result is wrong";
+    with_arg(command, flag(heap, "audit", help))
+}
+
+fn reseed_command<'a>(heap: Global) -> Result<Command<'a>, AllocError>
+    ensures { IfOk result (IsReadAs reseed_app) }
+{
+    let about =
+        "Makes a new hill with another seed, submits the warriors of a hill to it, and writes RESEEDED";
+    let hill = file(heap, "FILE", "Hill file, which stays as it is");
+    let new = file(heap, "NEW", "New hill file; nothing may have that name");
+    let command = with_arg(Ok(described(heap, "reseed", about)), hill);
+    let command = with_arg(command, new);
+    let help = "Seed of the new hill, 1 to 2147483646 [default: one that is drawn]";
+    with_arg(command, option(heap, "seed", help))
 }
 
 /// The command with this one among its own, if both were made.

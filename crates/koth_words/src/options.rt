@@ -2,8 +2,9 @@
 
 ghost use Rattle.std.specs.Prelude.{◌≡◌, IfOk, false};
 ghost use Rattle.clap.specs.Words.{App, found_of, one_of, rows_of, rule_of};
-ghost use Rattle.koth_words.specs.{Commands.IsReadAs, Options.{lettered_rule, number_given, number_or, option_rule, settings_in, with_bounds, with_settings, with_sizes}};
+ghost use Rattle.koth_words.specs.{Commands.IsReadAs, Options.{lettered_rule, number_given, number_or, option_rule, with_bounds, with_like, with_settings, with_sizes}};
 
+use crate::arguments::text;
 use crate::commands::{headed, with_arg};
 use clap::{Arg, ArgMatches, Command, value_parser};
 use std::alloc::{AllocError, Global};
@@ -23,14 +24,31 @@ pub const DEFAULTS: RawSettings = RawSettings {
     write_limit: 0,
 };
 
-/// The command with an option for each of the ten settings, which takes a whole number of 32 bits.
+/// The command with an option for a hill that has the settings, and those of `with_settings`.
+pub(crate) fn with_like<'a>(
+    heap: Global,
+    command: Result<Command<'a>, AllocError>,
+) -> Result<Command<'a>, AllocError>
+    ensures { (app : App) → IfOk command.entry (IsReadAs app) → IfOk result (IsReadAs (with_like app)) }
+{
+    let help =
+        "Take the settings of the hill in this file, its seed too; options beside it stand in their place; not with --preset";
+    let like = text(heap, "like", "FILE", help);
+    with_settings(heap, with_arg(headed(command, "Match"), like))
+}
+
+/// The command with an option for a preset, and one for each of the ten settings, which takes a whole number of 32 bits.
 pub(crate) fn with_settings<'a>(
     heap: Global,
     command: Result<Command<'a>, AllocError>,
 ) -> Result<Command<'a>, AllocError>
     ensures { (app : App) → IfOk command.entry (IsReadAs app) → IfOk result (IsReadAs (with_settings app)) }
 {
-    let command = with_sizes(heap, headed(command, "Match"));
+    let help =
+        "Settings of a known hill; options beside it stand in their place: 94nop, tiny or nano [default: 94nop]";
+    let preset = text(heap, "preset", "NAME", help);
+    let command = with_arg(headed(command, "Match"), preset);
+    let command = with_sizes(heap, command);
     let command = headed(with_bounds(heap, command), "Hill");
     let help =
         "Seed of the positions, 1 to 2147483646; give each hill its own, 1 is known to all [default: 1]";
@@ -90,24 +108,6 @@ pub(crate) fn option<'a>(heap: Global, name: &'a str, help: &'a str) -> Arg<'a>
         .value_name("NUMBER")
         .value_parser(value_parser!(u32))
         .help(help)
-}
-
-/// The settings that the options of a command give, with the default of each option that is left out.
-pub(crate) fn settings_given(matches: &ArgMatches<'_>) -> RawSettings
-    ensures { result ≡ settings_in (rows_of (found_of matches.now)) }
-{
-    RawSettings {
-        core: number_given(matches, "core", DEFAULTS.core),
-        cycles: number_given(matches, "cycles", DEFAULTS.cycles),
-        processes: number_given(matches, "processes", DEFAULTS.processes),
-        length: number_given(matches, "length", DEFAULTS.length),
-        distance: number_given(matches, "distance", DEFAULTS.distance),
-        rounds: number_given(matches, "rounds", DEFAULTS.rounds),
-        seed: number_given(matches, "seed", DEFAULTS.seed),
-        capacity: number_given(matches, "capacity", DEFAULTS.capacity),
-        read_limit: number_given(matches, "read-limit", DEFAULTS.read_limit),
-        write_limit: number_given(matches, "write-limit", DEFAULTS.write_limit),
-    }
 }
 
 /// The number that an option has, or the default if it is left out.

@@ -45,6 +45,7 @@ mod pages;
 mod program;
 #[cfg(test)]
 mod seeds;
+mod settings;
 #[cfg(test)]
 mod steps;
 #[cfg(test)]

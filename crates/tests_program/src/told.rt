@@ -118,6 +118,26 @@ fn columns_for_people(rt: HostRuntime) {
     play(&rt, &COLUMNS_FOR_PEOPLE);
 }
 
+/// What is done in `a_fall`: two stay, and a third falls.
+const A_FALL: [Step; 9] = steps! {
+    Run(small!("koth create told_full.hill"), "CREATED\n", "", 0);
+    Put("told_fell.red", ";name Imp\nMOV 0, 1\n");
+    Run("koth submit told_full.hill told_fell.red", "PLACED 1 1 0\n", "", 0);
+    Put("told_fell.red", ";name Jmp\nJMP 0\n");
+    Run("koth submit told_full.hill told_fell.red", "PLACED 2 2 2\n", "", 0);
+    Put("told_fell.red", "DAT 0, 0\n");
+    Tell("koth submit told_full.hill told_fell.red", View::Table,
+        "FELL 3 0\nentry 3 with 0 points fell: it is not on the hill\nthe lowest that stays has 8 points\nwarrior  author     won  lost  tied\nImp      Anonymous    0     2     0\nJmp      Anonymous    0     2     0\n",
+        "", 0);
+    Remove("told_full.hill");
+    Remove("told_fell.red");
+};
+
+#[test]
+fn a_fall(rt: HostRuntime) {
+    play(&rt, &A_FALL);
+}
+
 /// A hill is made.
 const MADE: [Step; 1] = steps! {
     Run("koth create told_lock.hill --capacity 1 --seed 7", "CREATED\n", "", 0);

@@ -22,7 +22,7 @@ fn expect_fault(rt: &impl Abort, ran: &Ran, part: &str) {
 }
 
 /// Words with a fault, and a part of what is told of it.
-const FAULTS: [Step; 49] = steps! {
+const FAULTS: [Step; 57] = steps! {
     Fault("koth", "requires a subcommand");
     Fault("koth fly", "unrecognized subcommand 'fly'");
     Fault("koth ASM", "unrecognized subcommand 'ASM'");
@@ -67,6 +67,14 @@ const FAULTS: [Step; 49] = steps! {
     Fault("koth create f --create", "unexpected argument '--create'");
     Fault("koth create f --draw-seed --seed 7", "'--draw-seed' cannot be used with '--seed <NUMBER>'");
     Fault("koth fight a b --draw-seed", "unexpected argument '--draw-seed'");
+    Fault("koth asm --preset big", "error: the argument '--preset <NAME>' takes '94nop', 'tiny' or 'nano'\n");
+    Fault("koth fight a b --preset tiny --like f", "error: the argument '--like <FILE>' cannot be used with '--preset <NAME>'\n");
+    Fault("koth serve f --port 0 --preset 94nop", "need '--create'");
+    Fault("koth serve f --port 0 --create --like g", "unexpected argument '--like'");
+    Fault("koth submit f g --preset tiny", "unexpected argument '--preset'");
+    Fault("koth show f --settings --matches", "error: the argument '--settings' cannot be used with '--matches', and '--with-seed' needs '--settings'\n");
+    Fault("koth show f --with-seed", "'--with-seed' needs '--settings'");
+    Fault("koth page f --settings", "unexpected argument '--settings'");
     Fault("koth replay a", "<B>");
     Fault("koth replay a b --round 0", "0 is not in 1..=1000");
     Fault("koth replay a b --round 1001", "1001 is not in 1..=1000");
@@ -89,7 +97,7 @@ pub(crate) fn check_help(rt: &(impl Abort + Host), line: &str, part: &str) {
 }
 
 /// Words that ask for help, and a part of it.
-const HELPS: [Step; 29] = steps! {
+const HELPS: [Step; 32] = steps! {
     Help("koth --help", "Usage: koth <COMMAND>");
     Help("koth -h", "Usage: koth <COMMAND>");
     Help("koth help", "Usage: koth <COMMAND>");
@@ -103,6 +111,9 @@ const HELPS: [Step; 29] = steps! {
     Help("koth submit --help", "<FILE> <SOURCE>");
     Help("koth help show", "Usage: koth show [OPTIONS] <FILE>");
     Help("koth show -h", "--matches");
+    Help("koth show -h", "--settings");
+    Help("koth fight -h", "--like <FILE>");
+    Help("koth serve -h", "94nop, tiny or nano [default: 94nop]");
     Help("koth audit --help", "Usage: koth audit <FILE>");
     Help("koth migrate --help", "Usage: koth migrate <FILE> <NEW>");
     Help("koth asm --help", "1 to 200 [default: 100]");

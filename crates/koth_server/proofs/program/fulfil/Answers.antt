@@ -1,66 +1,26 @@
--- Each command ends as its request says, and none of them ends as at a fault of the arguments.
-use Rattle.{std.proofs.Common.length, war_types.specs.Settings.settings_of, koth_commands.specs.Streams.streams}
-use Rattle.koth_server.proofs.Carried.{asm_no_word, check_no_word, fight_no_word, replay_no_word, request_ends}
+-- Under the settings that the request gives, or with the fault of the hill that it names for them.
+use Rattle.{std.proofs.{Common.{◌≡◌, ◌∙◌, true, sym, subst}, KnownBytes.Keeps-refl}, koth_words.specs.Words.given_of}
+use Rattle.{koth_commands.specs.Streams.streams, koth_server.specs.{Run.CommandEnds, Settled.{AreSettled, names_hill}}, koth_server.proofs.{Carried.{settled_ends, unsettled_ends}, Statuses.never-words}}
 use Rattle.koth_server.proofs.program.fulfil.Goals as goal
 
-pub returns-in-Asm : goal.returns-in-Asm
-returns-in-Asm g c =
-    let after = streams (g.I.Read.remaining c.asm.new.input) (g.O.Write.contents c.asm.new.output) (g.E.Write.contents c.asm.new.errors) in
-    let words = asm_no_word c.in-Asm.source (settings_of c.in-Asm.given) c.asm.result _ after c.asm.ensures in
-    request_ends _ _ _ _ _ after c.in-Asm.is c.asm.ensures words
+pub returns-in-Ok : goal.returns-in-Ok
+returns-in-Ok g c =
+    let are = subst (λ given. AreSettled given c.in-Ok.settings) c.given.ensures c.in-Ok.ensures.settled in (
+      settled_ends (given_of c.args.request.now) (λ s. CommandEnds s c.args.view c.args.request.now c.fulfil_under.result _ _) _ _ _ c.in-Ok.settings are c.fulfil_under.ensures.0,
+      c.fulfil_under.ensures.1,
+    )
 
-pub returns-in-Check : goal.returns-in-Check
-returns-in-Check g c =
-    let after = streams (g.I.Read.remaining c.args.input.now) (g.O.Write.contents c.check.new.output) (g.E.Write.contents c.check.new.errors) in
-    let words = check_no_word (length c.in-Check.checked.files.items) (settings_of c.in-Check.given) c.check.result _ _ c.check.ensures in
-    request_ends _ _ _ _ _ after c.in-Check.is c.check.ensures words
-
-pub returns-in-Fight : goal.returns-in-Fight
-returns-in-Fight g c =
-    let after = streams (g.I.Read.remaining c.args.input.now) (g.O.Write.contents c.fight.new.output) (g.E.Write.contents c.fight.new.errors) in
-    let ends = rw c.viewed.ensures at c.fight.ensures in
-    let words = fight_no_word c.viewed.result (settings_of c.in-Fight.given) c.fight.result _ _ c.fight.ensures in
-    request_ends _ _ _ _ _ after c.in-Fight.is ends words
-
-pub returns-in-Create : goal.returns-in-Create
-returns-in-Create g c =
-    let after = streams (g.I.Read.remaining c.args.input.now) (g.O.Write.contents c.create.new.output) (g.E.Write.contents c.create.new.errors) in
-    request_ends _ _ _ _ _ after c.in-Create.is c.create.ensures.ends c.create.ensures.words
-
-pub returns-in-Submit : goal.returns-in-Submit
-returns-in-Submit g c =
-    let after = streams (g.I.Read.remaining c.args.input.now) (g.O.Write.contents c.submit.new.output) (g.E.Write.contents c.submit.new.errors) in
-    let ends = rw c.viewed-view.ensures at c.submit.ensures.ends in
-    request_ends _ _ _ _ _ after c.in-Submit.is (_, c.tell_lost_header.ensures, ends) c.submit.ensures.words
-
-pub returns-in-Show : goal.returns-in-Show
-returns-in-Show g c =
-    let after = streams (g.I.Read.remaining c.args.input.now) (g.O.Write.contents c.show.new.output) (g.E.Write.contents c.show.new.errors) in
-    let ends = rw c.viewed-view-in-Show.ensures at c.show.ensures.ends in
-    request_ends _ _ _ _ _ after c.in-Show.is (_, c.tell_lost_header-in-Show.ensures, ends) c.show.ensures.words
-
-pub returns-in-Audit : goal.returns-in-Audit
-returns-in-Audit g c =
-    let after = streams (g.I.Read.remaining c.args.input.now) (g.O.Write.contents c.audit.new.output) (g.E.Write.contents c.audit.new.errors) in
-    request_ends _ _ _ _ _ after c.in-Audit.is (_, c.tell_lost_header-in-Audit.ensures, c.audit.ensures.ends) c.audit.ensures.words
-
-pub returns-in-Migrate : goal.returns-in-Migrate
-returns-in-Migrate g c =
-    let after = streams (g.I.Read.remaining c.args.input.now) (g.O.Write.contents c.migrate.new.output) (g.E.Write.contents c.migrate.new.errors) in
-    request_ends _ _ _ _ _ after c.in-Migrate.is c.migrate.ensures.ends c.migrate.ensures.words
-
-pub returns-in-Page : goal.returns-in-Page
-returns-in-Page g c =
-    let after = streams (g.I.Read.remaining c.args.input.now) (g.O.Write.contents c.page.new.output) (g.E.Write.contents c.page.new.errors) in
-    request_ends _ _ _ _ _ after c.in-Page.is (_, c.tell_lost_header-in-Page.ensures, c.page.ensures.ends) c.page.ensures.words
-
-pub returns-in-Serve : goal.returns-in-Serve
-returns-in-Serve g c =
-    let after = streams (g.I.Read.remaining c.args.input.now) (g.O.Write.contents c.serve.new.output) (g.E.Write.contents c.serve.new.errors) in
-    request_ends _ _ _ _ _ after c.in-Serve.is (_, c.tell_lost_header-in-Serve.ensures, c.serve.ensures.ends) c.serve.ensures.words
-
-pub returns-in-Replay : goal.returns-in-Replay
-returns-in-Replay g c =
-    let after = streams (g.I.Read.remaining c.args.input.now) (g.O.Write.contents c.replay.new.output) (g.E.Write.contents c.replay.new.errors) in
-    let words = replay_no_word c.in-Replay.watched.round (settings_of c.in-Replay.given) c.replay.result _ _ c.replay.ensures in
-    request_ends _ _ _ _ _ after c.in-Replay.is c.replay.ensures words
+pub returns-in-Err : goal.returns-in-Err
+returns-in-Err g c =
+    let input = g.I.Read.remaining c.args.input.now in
+    let output = g.O.Write.contents c.args.output.now in
+    let names = subst (λ given. names_hill given ≡ true) c.given.ensures c.in-Err.ensures.unreadable in (
+      unsettled_ends (given_of c.args.request.now) _ _ _ _ names record {
+        fault = c.in-Err.trouble.fault;
+        ends = c.tell.ensures.status;
+        input = Keeps-refl input;
+        output = Keeps-refl output;
+        told = c.tell.ensures.told;
+      },
+      λ is. never-words c.in-Err.trouble.fault (sym c.tell.ensures.status ∙ is),
+    )

@@ -5,4 +5,4 @@ pub returns : goal.returns
 returns c =
     let first = c.with_arg-command.ensures _ _ c.described.ensures c.files.ensures.rule c.files.ensures.global in
     let second = c.with_arg.ensures _ _ first c.text.ensures.rule c.text.ensures.global in
-    c.with_settings.ensures _ second
+    c.with_like.ensures _ second

@@ -1,7 +1,7 @@
 -- The port is read from the text that the matches have.
 use Rattle.{std.proofs.Common.{◌∙◌, ℕ, Option, ap, refl, codes}, std.specs.{Prelude.unwrap_or, Str.Parse.{ExplainsUnsignedError, HasUnsignedDigitsIfOk, ParsesUnsigned}}}
 use Rattle.{clap.proofs.WalkLemmas.one_text-rows, clap.specs.Matches.{found_of, one_text}, koth_words.specs.Options.number_below, koth_words.proofs.Numbers.reads_number}
-use Rattle.koth_words.proofs.given.port_given.Goals as goal
+use Rattle.koth_words.proofs.serving.port_given.Goals as goal
 
 pub returns : goal.returns
 returns c =

@@ -1,6 +1,6 @@
 -- The text is what the matches have.
 use Rattle.{std.proofs.Common.{◌↔◌, subst}, std.specs.Prelude.IsTrue, koth_words.specs.Words.WritesAddress, koth_words.proofs.Addresses.given_is}
-use Rattle.koth_words.proofs.given.has_address.Goals as goal
+use Rattle.koth_words.proofs.serving.has_address.Goals as goal
 
 pub returns-in-Some : goal.returns-in-Some
 returns-in-Some c =

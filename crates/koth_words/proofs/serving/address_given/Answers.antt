@@ -1,6 +1,6 @@
 -- The address is read from the text that the matches have, or from the default.
 use Rattle.{std.proofs.Common.{refl, subst}, std.specs.Net.Grammar.{IsIpText, Parses}, koth_words.proofs.{Addresses.reads_address, Texts.file_text}}
-use Rattle.koth_words.proofs.given.address_given.Goals as goal
+use Rattle.koth_words.proofs.serving.address_given.Goals as goal
 
 pub unwrap-requires : goal.unwrap-requires
 unwrap-requires c =
