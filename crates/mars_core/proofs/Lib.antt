@@ -2,8 +2,12 @@ pub mod Rows
 pub mod Divisors
 pub mod Pairs
 pub mod Turns
+pub mod Passes
+pub mod Windows
 pub mod Marks
 pub mod Loads
+pub mod Places
 pub mod Words
 pub mod Reaches
+pub mod Executions
 pub mod Touched

@@ -1,5 +1,5 @@
 -- What turns make of a round and of its sides' queues, for `turns` and the arena.
-use Rattle.std.proofs.Common.{◌≡◌, ℕ, ◌+◌, ◌-◌, ◌*◌, ◌<◌, ◌≤◌, suc, zero, Bool, true, false, ◌||◌, leb, List, [], ◌∷◌, ◌++◌, length, take, All, Some, refl, sym, ap, ap₂, ◌∙◌, subst, arith}
+use Rattle.std.proofs.Common.{◌≡◌, ◌≢◌, ℕ, ◌+◌, ◌-◌, ◌*◌, ◌/◌, ◌%◌, ◌<◌, ◌≤◌, suc, zero, Bool, true, false, ◌||◌, leb, List, [], ◌∷◌, ◌++◌, length, take, All, Some, refl, sym, ap, ap₂, ◌∙◌, subst, arith}
 use Rattle.std.proofs.{Common.{append-nil, take_all}, lemmas.List.length-take, lemmas.List.Elements.{All-take, All-append, All-tail}, lemmas.Bool.Decides.nat_tests}
 use Rattle.war_types.specs.{declared.instr.Instr.Instr, declared.settings.RawSettings.RawSettings}
 use Rattle.mars_core.specs.{declared.round.Side.Side, Operand.Reach, Effect.{Effect, queues}, Queue.{Processes, processes, queued, front, behind_front}}
@@ -60,7 +60,7 @@ IsQueue-behind : (size limit : ℕ) (queue : List ℕ) → IsQueue size limit qu
 IsQueue-behind size limit [] h = h
 IsQueue-behind size limit (x ∷ xs) h = record { room = omega (arith, h.room); addresses = All-tail (λ a. a < size) x xs h.addresses }
 
-IsQueue-queued : (size : ℕ) (q p : Processes) (more : List ℕ) → IsQueue size q.limit q.addresses → All (λ a. a < size) more → p ≡ queued (without_front q) more → IsQueue size p.limit p.addresses
+pub IsQueue-queued : (size : ℕ) (q p : Processes) (more : List ℕ) → IsQueue size q.limit q.addresses → All (λ a. a < size) more → p ≡ queued (without_front q) more → IsQueue size p.limit p.addresses
 IsQueue-queued size q p more h m e =
     let rest = behind_front q.addresses in
     let P : Processes → Type 0 = λ p. IsQueue size p.limit p.addresses in
@@ -89,7 +89,7 @@ both_live Side.First more first second first' second' f g h own = (own, ap (λ (
 both_live Side.Second more first second first' second' f g h own = (ap (λ (p : Processes). is_empty p.addresses) h.others ∙ f, own)
 
 -- what `is_over` says, by its parts
-is_over-no : (a b : Bool) (m n : ℕ) → a ≡ false → b ≡ false → n < m → (a || b || leb m n) ≡ false
+pub is_over-no : (a b : Bool) (m n : ℕ) → a ≡ false → b ≡ false → n < m → (a || b || leb m n) ≡ false
 is_over-no true b m n ea eb h = cc
 is_over-no false true m n ea eb h = cc
 is_over-no false false m n ea eb h = grind (arith, nat_tests)
@@ -100,10 +100,10 @@ is_over-parts true false m n h = cc
 is_over-parts false true m n h = cc
 is_over-parts false false m n h = (refl, refl, grind (arith, nat_tests))
 
-is_over-first : (a b c : Bool) → a ≡ true → (a || b || c) ≡ true
+pub is_over-first : (a b c : Bool) → a ≡ true → (a || b || c) ≡ true
 is_over-first a b c e = rw e refl
 
-is_over-second : (a b c : Bool) → b ≡ true → (a || b || c) ≡ true
+pub is_over-second : (a b c : Bool) → b ≡ true → (a || b || c) ≡ true
 is_over-second true b c e = refl
 is_over-second false b c e = rw e refl
 
@@ -134,11 +134,11 @@ turned-on : (r : Round) (t : SideTurn) → is_over r ≡ false → turn_of r ≡
 unfolding turned
 turned-on r t o e = rw o (sym (ap (λ x. x.turned) e))
 
-after_turn-on : (r : Round) (t : SideTurn) → is_over r ≡ false → turn_of r ≡ t → after_side r.to_move t.core t.queue r ≡ after_turn r
+pub after_turn-on : (r : Round) (t : SideTurn) → is_over r ≡ false → turn_of r ≡ t → after_side r.to_move t.core t.queue r ≡ after_turn r
 unfolding after_turn
 after_turn-on r t o e = rw o (sym (ap (λ x. after_side r.to_move x.core x.queue r) e))
 
-side_turn-front : (reach : Reach) (limit pc : ℕ) (core core' : List Instr) (queue more : List ℕ) → front queue ≡ Some pc → executed reach core pc ≡ queues core' more →
+pub side_turn-front : (reach : Reach) (limit pc : ℕ) (core core' : List Instr) (queue more : List ℕ) → front queue ≡ Some pc → executed reach core pc ≡ queues core' more →
     side_turn reach limit core queue ≡ side_turned core' (take limit (behind_front queue ++ more)) (turned_by more)
 unfolding side_turn
 side_turn-front reach limit pc core core' [] more f e = cc
@@ -162,7 +162,7 @@ after_side-queues Side.First s used core core' more first second first' second' 
 after_side-queues Side.Second s used core core' more first second first' second' h =
     ap₂ (λ (a b : Processes). round_in s core' a.addresses b.addresses Side.First (used + 1)) (sym h.others) (sym h.own)
 
-after_turns-suc : (m n : ℕ) (r : Round) → m ≡ suc n → after_turns n (after_turn r) ≡ after_turns m r
+pub after_turns-suc : (m n : ℕ) (r : Round) → m ≡ suc n → after_turns n (after_turn r) ≡ after_turns m r
 unfolding after_turns
 after_turns-suc m n r e = rw e refl
 
@@ -244,3 +244,16 @@ after_turns-end (suc n) r h =
     let used : (after_turn r).used ≡ r.used + 1 = kept.1 in
     omega arith in
     after_turns-end n (after_turn r) left)
+
+-- an odd number of turns is one turn, and then an even number
+pub after_turns-odd : (most : ℕ) (r r1 : Round) → most % 2 ≢ 0 → r1 ≡ after_turns 1 r → after_turns (2 * (most / 2)) r1 ≡ after_turns most r
+after_turns-odd most r r1 odd is =
+    let count : most ≡ suc (2 * (most / 2)) = omega (arith, odd) in
+    ap (after_turns (2 * (most / 2))) (is ∙ after_turns-one r) ∙ after_turns-suc most (2 * (most / 2)) r count
+
+-- the one turn keeps the settings
+pub after_turns-one_kept : (r r1 : Round) → is_over r ≡ false → r1 ≡ after_turns 1 r → (r1.settings ≡ r.settings) × (r1.used ≡ r.used + 1)
+after_turns-one_kept r r1 goes is =
+    let same : r1 ≡ after_turn r = is ∙ after_turns-one r in
+    let kept = after_turn-kept r goes in
+    (ap (λ (x : Round). x.settings) same ∙ kept.0, ap (λ (x : Round). x.used) same ∙ kept.1)

@@ -3,21 +3,32 @@ use Rattle.std.proofs.Common.{◌≡◌, ℕ, zero, suc, ◌+◌, ◌-◌, ◌*�
 use Rattle.std.proofs.{Common.arith, lemmas.Nat.{and_comm, and_mask, and-not, or_comm, or_block, or_shifted, shl_whole, field_of}, lemmas.Nat.Bits.{and_high, and_high_mask}}
 use Rattle.std.proofs.{lemmas.Bool.agree_below_at, lemmas.Bool.Decides.{same_from_decides, Decides-eqb, Decides-and, Decides-like}}
 use Rattle.war_types.specs.{declared.instr.Op.Op, declared.instr.Modifier.Modifier, declared.instr.Mode.Mode, declared.instr.Instr.Instr, Bytes.{op_code, modifier_code, mode_code}}
-use Rattle.mars_core.specs.{Cells.{Field, with_number}, Effect.are_equal, Words.{Word, mark, bits_of, word_in, IsWord, mode_at, modifier_at, op_at, is_plain}}
+use Rattle.mars_core.proofs.Places.{handler-below}
+use Rattle.mars_core.specs.{Cells.{Field, with_number}, Effect.are_equal, Words.{Word, mark, kind_code, handler_at, handler_of, bits_of, word_in, IsWord, mode_at, modifier_at, op_at, is_plain}}
 
 -- ---- codes
 
-mode_is_read : (m : Mode) → (mode_at (mode_code m) ≡ m) × (mode_code m < 8)
+pub mode_is_read : (m : Mode) → (mode_at (mode_code m) ≡ m) × (mode_code m < 8)
 mode_is_read Mode.Immediate = (refl, omega arith)
 mode_is_read m = (refl, omega arith)
 
-modifier_is_read : (m : Modifier) → (modifier_at (modifier_code m) ≡ m) × (modifier_code m < 8)
+pub modifier_is_read : (m : Modifier) → (modifier_at (modifier_code m) ≡ m) × (modifier_code m < 8)
 modifier_is_read Modifier.A = (refl, omega arith)
 modifier_is_read m = (refl, omega arith)
 
-op_is_read : (op : Op) → (op_at (op_code op) ≡ op) × (op_code op < 16)
+pub op_is_read : (op : Op) → (op_at (op_code op) ≡ op) × (op_code op < 16)
 op_is_read Op.Dat = (refl, omega arith)
 op_is_read op = (refl, omega arith)
+
+-- the operation with the number of the handler above it
+abbrev head : Instr → ℕ
+head i = op_code i.op + handler_of i * 2 ^ 14
+
+head_is_read : (i : Instr) → (op_at (head i % 16) ≡ i.op) × (head i < 2 ^ 22)
+head_is_read i =
+    let below = (op_is_read i.op).1 in
+    let part : head i % 16 ≡ op_code i.op = omega (arith, below) in
+    (ap op_at part ∙ (op_is_read i.op).0, omega (arith, below, handler-below i))
 
 mark_is_read : (m : Bool) → ((mark m == 1) ≡ m) × (mark m < 2)
 mark_is_read true = (refl, omega arith)
@@ -36,10 +47,11 @@ record HasParts (n p q r s t u v : ℕ) : Type 0 where
   pub b_mode : n / 2 ^ 32 % 8 ≡ r
   pub a_mode : n / 2 ^ 35 % 8 ≡ s
   pub modifier : n / 2 ^ 38 % 8 ≡ t
-  pub op : n / 2 ^ 41 % 16 ≡ u
+  pub op : n / 2 ^ 41 % 16 ≡ u % 16
+  pub handler : n / 2 ^ 55 % 256 ≡ u / 2 ^ 14
   pub marked : n / 2 ^ 63 ≡ v
 
-parts_are_read : (b a c d e f g : ℕ) → b < 2 ^ 16 → a < 2 ^ 16 → c < 8 → d < 8 → e < 8 → f < 16 → g < 2 → HasParts (sum_of_parts b a c d e f g) b a c d e f g
+parts_are_read : (b a c d e f g : ℕ) → b < 2 ^ 16 → a < 2 ^ 16 → c < 8 → d < 8 → e < 8 → f < 2 ^ 22 → g < 2 → HasParts (sum_of_parts b a c d e f g) b a c d e f g
 parts_are_read b a c d e f g hb ha hc hd he hf hg = omega arith
 
 -- ---- the word in the bits of a word
@@ -47,7 +59,7 @@ parts_are_read b a c d e f g hb ha hc hd he hf hg = omega arith
 pub word_in-bits_of : (w : Word) → w.instr.a < 2 ^ 16 → w.instr.b < 2 ^ 16 → word_in (bits_of w) ≡ w
 word_in-bits_of w ha hb =
     let i : Instr = w.instr in
-    let op = op_is_read i.op in
+    let op = head_is_read i in
     let modifier = modifier_is_read i.modifier in
     let a_mode = mode_is_read i.a_mode in
     let b_mode = mode_is_read i.b_mode in
@@ -73,13 +85,22 @@ IsWordOf-bits n w ha hb e =
     let back : word_in n ≡ w = ap word_in e ∙ word_in-bits_of w ha hb in
     record { word = ap bits_of back ∙ sym e; is = back }
 
-sum-below : (n b a c d e f g : ℕ) → b < 2 ^ 16 → a < 2 ^ 16 → c < 8 → d < 8 → e < 8 → f < 16 → g < 2 → sum_of_parts b a c d e f g ≡ n → n < 2 ^ 64
+sum-below : (n b a c d e f g : ℕ) → b < 2 ^ 16 → a < 2 ^ 16 → c < 8 → d < 8 → e < 8 → f < 2 ^ 22 → g < 2 → sum_of_parts b a c d e f g ≡ n → n < 2 ^ 64
 sum-below n b a c d e f g hb ha hc hd he hf hg is = omega arith
 
 pub IsWord-below : (n : ℕ) → IsWord n → n < 2 ^ 64
 IsWord-below n is =
     let w : Word = word_in n in
-    sum-below n _ _ _ _ _ _ _ (omega arith) (omega arith) (mode_is_read w.instr.b_mode).1 (mode_is_read w.instr.a_mode).1 (modifier_is_read w.instr.modifier).1 (op_is_read w.instr.op).1 (mark_is_read w.is_marked).1 is
+    sum-below n _ _ _ _ _ _ _ (omega arith) (omega arith) (mode_is_read w.instr.b_mode).1 (mode_is_read w.instr.a_mode).1 (modifier_is_read w.instr.modifier).1 (head_is_read w.instr).1 (mark_is_read w.is_marked).1 is
+
+sum-handler : (n b a c d e o h g : ℕ) → b < 2 ^ 16 → a < 2 ^ 16 → c < 8 → d < 8 → e < 8 → o < 16 → h < 128 → sum_of_parts b a c d e (o + h * 2 ^ 14) g ≡ n → n / 2 ^ 55 % 128 ≡ h
+sum-handler n b a c d e o h g hb ha hc hd he ho hh is = omega arith
+
+pub handler_is_read : (n : ℕ) (w : Word) → IsWord n → word_in n ≡ w → n / 2 ^ 55 % 128 ≡ handler_of w.instr
+handler_is_read n w is e =
+    let i : Instr = (word_in n).instr in
+    sum-handler n _ _ _ _ _ _ _ _ (omega arith) (omega arith) (mode_is_read i.b_mode).1 (mode_is_read i.a_mode).1 (modifier_is_read i.modifier).1 (op_is_read i.op).1 (handler-below i) is
+    ∙ ap (λ (w : Word). handler_of w.instr) e
 
 -- ---- a part put above others
 
@@ -88,35 +109,30 @@ or_is_sum low part k j below small inside =
     let sum : bit_or (part * 2 ^ k) low ≡ part * 2 ^ k + low = or_shifted part k low below in
     ap (bit_or low) (shl_whole part j k 64 small inside) ∙ or_comm low (part * 2 ^ k) ∙ omega (arith, sum)
 
-abbrev pub packed : ℕ → ℕ → ℕ → ℕ → ℕ → ℕ → ℕ
-packed b a c d e f =
-    bit_or (bit_or (bit_or (bit_or (bit_or b (a * 2 ^ 16 % 2 ^ 64)) (c * 2 ^ 32 % 2 ^ 64)) (d * 2 ^ 35 % 2 ^ 64)) (e * 2 ^ 38 % 2 ^ 64)) (f * 2 ^ 41 % 2 ^ 64)
+abbrev pub packed : ℕ → ℕ → ℕ → ℕ → ℕ
+packed b a kind handler = bit_or (bit_or (bit_or b (a * 2 ^ 16 % 2 ^ 64)) (kind * 2 ^ 32 % 2 ^ 64)) (handler * 2 ^ 55 % 2 ^ 64)
 
-packed_is_sum : (b a c d e f : ℕ) → b < 2 ^ 16 → a < 2 ^ 16 → c < 8 → d < 8 → e < 8 → f < 16 → packed b a c d e f ≡ sum_of_parts b a c d e f 0
-packed_is_sum b a c d e f hb ha hc hd he hf =
+packed_is_sum : (b a k h : ℕ) → b < 2 ^ 16 → a < 2 ^ 16 → k < 2 ^ 13 → h < 2 ^ 8 → packed b a k h ≡ b + a * 2 ^ 16 + k * 2 ^ 32 + h * 2 ^ 55
+packed_is_sum b a k h hb ha hk hh =
     let with_a : ℕ = b + a * 2 ^ 16 in
-    let with_c : ℕ = with_a + c * 2 ^ 32 in
-    let with_d : ℕ = with_c + d * 2 ^ 35 in
-    let with_e : ℕ = with_d + e * 2 ^ 38 in
+    let with_k : ℕ = with_a + k * 2 ^ 32 in
     let put : (low part : ℕ) → ℕ → ℕ = λ low part k. bit_or low (part * 2 ^ k % 2 ^ 64) in
-    ap (λ (x : ℕ). put (put (put (put x c 32) d 35) e 38) f 41) (or_is_sum b a 16 16 hb ha (omega arith))
-    ∙ ap (λ (x : ℕ). put (put (put x d 35) e 38) f 41) (or_is_sum with_a c 32 3 (omega arith) hc (omega arith))
-    ∙ ap (λ (x : ℕ). put (put x e 38) f 41) (or_is_sum with_c d 35 3 (omega arith) hd (omega arith))
-    ∙ ap (λ (x : ℕ). put x f 41) (or_is_sum with_d e 38 3 (omega arith) he (omega arith))
-    ∙ or_is_sum with_e f 41 4 (omega arith) hf (omega arith)
-    ∙ omega arith
+    ap (λ (x : ℕ). put (put x k 32) h 55) (or_is_sum b a 16 16 hb ha (omega arith))
+    ∙ ap (λ (x : ℕ). put x h 55) (or_is_sum with_a k 32 13 (omega arith) hk (omega arith))
+    ∙ or_is_sum with_k h 55 8 (omega arith) hh (omega arith)
+
+pub kind-small : (i : Instr) → kind_code i < 8192
+kind-small i = omega (arith, (mode_is_read i.b_mode).1, (mode_is_read i.a_mode).1, (modifier_is_read i.modifier).1, (op_is_read i.op).1)
 
 abbrev pub unmarked : Instr → Word
 unmarked i = record { instr = i; is_marked = false }
 
-pub IsWordOf-packed : (i : Instr) (b a c d e f : ℕ) → b ≡ i.b → a ≡ i.a → c ≡ mode_code i.b_mode → d ≡ mode_code i.a_mode → e ≡ modifier_code i.modifier → f ≡ op_code i.op →
-    b ≤ 65535 → a ≤ 65535 → IsWordOf (unmarked i) (packed b a c d e f)
-IsWordOf-packed i b a c d e f b_is a_is c_is d_is e_is f_is hb ha =
-    let hc : c < 8 = omega (arith, (mode_is_read i.b_mode).1) in
-    let hd : d < 8 = omega (arith, (mode_is_read i.a_mode).1) in
-    let he : e < 8 = omega (arith, (modifier_is_read i.modifier).1) in
-    let hf : f < 16 = omega (arith, (op_is_read i.op).1) in
-    IsWordOf-bits _ (unmarked i) (omega arith) (omega arith) (packed_is_sum b a c d e f (omega arith) (omega arith) hc hd he hf ∙ omega arith)
+pub IsWordOf-packed : (i : Instr) (b a k h : ℕ) → b ≡ i.b → a ≡ i.a → k ≡ kind_code i → h ≡ handler_at k → b ≤ 65535 → a ≤ 65535 → IsWordOf (unmarked i) (packed b a k h)
+IsWordOf-packed i b a k h b_is a_is k_is h_is hb ha =
+    let handler : h ≡ handler_of i = h_is ∙ ap handler_at k_is in
+    let small : h < 2 ^ 8 = omega (arith, handler-below i, handler) in
+    IsWordOf-bits _ (unmarked i) (omega arith) (omega arith)
+    (packed_is_sum b a k h (omega arith) (omega arith) (omega (arith, kind-small i, k_is)) small ∙ omega (arith, b_is, a_is, k_is, handler))
 
 -- ---- another number
 
@@ -155,13 +171,13 @@ sum-another_b n b c d e f g is = omega arith
 another_a_of : (n a : ℕ) → a ≤ 65535 → IsWord n → IsWordOf (with_instr (with_number Field.A a) (word_in n)) (bit_or (bit_and n (2 ^ 64 - 1 - 0xffff_0000)) (a * 2 ^ 16 % 2 ^ 64))
 another_a_of n a small is =
     let w : Word = word_in n in
-    let sum = sum-another_a n a (mode_code w.instr.b_mode) (mode_code w.instr.a_mode) (modifier_code w.instr.modifier) (op_code w.instr.op) (mark w.is_marked) is in
+    let sum = sum-another_a n a (mode_code w.instr.b_mode) (mode_code w.instr.a_mode) (modifier_code w.instr.modifier) (head w.instr) (mark w.is_marked) is in
     IsWordOf-bits _ (with_instr (with_number Field.A a) w) (omega arith) (omega arith) (another_a n a (IsWord-below n is) (omega arith) ∙ sum)
 
 another_b_of : (n b : ℕ) → b ≤ 65535 → IsWord n → IsWordOf (with_instr (with_number Field.B b) (word_in n)) (bit_or (bit_and n (2 ^ 64 - 2 ^ 16)) b)
 another_b_of n b small is =
     let w : Word = word_in n in
-    let sum = sum-another_b n b (mode_code w.instr.b_mode) (mode_code w.instr.a_mode) (modifier_code w.instr.modifier) (op_code w.instr.op) (mark w.is_marked) is in
+    let sum = sum-another_b n b (mode_code w.instr.b_mode) (mode_code w.instr.a_mode) (modifier_code w.instr.modifier) (head w.instr) (mark w.is_marked) is in
     IsWordOf-bits _ (with_instr (with_number Field.B b) w) (omega arith) (omega arith) (another_b n b (IsWord-below n is) (omega arith) ∙ sum)
 
 pub IsWordOf-another_a : (w : Word) (n a x : ℕ) → IsWord n → word_in n ≡ w → x ≡ a → a ≤ 65535 →
@@ -191,14 +207,14 @@ or_mark n fits =
 abbrev pub with_mark : Word → Word
 with_mark w = record { instr = w.instr; is_marked = true }
 
-sum-mark : (n c d e f g : ℕ) → c < 8 → d < 8 → e < 8 → f < 16 → sum_of_parts (n % 2 ^ 16) (n / 2 ^ 16 % 2 ^ 16) c d e f g ≡ n →
+sum-mark : (n c d e f g : ℕ) → c < 8 → d < 8 → e < 8 → f < 2 ^ 22 → sum_of_parts (n % 2 ^ 16) (n / 2 ^ 16 % 2 ^ 16) c d e f g ≡ n →
     n % 2 ^ 63 + 2 ^ 63 ≡ sum_of_parts (n % 2 ^ 16) (n / 2 ^ 16 % 2 ^ 16) c d e f 1
 sum-mark n c d e f g hc hd he hf is = omega arith
 
 mark_of : (n : ℕ) → IsWord n → IsWordOf (with_mark (word_in n)) (bit_or n (2 ^ 63))
 mark_of n is =
     let w : Word = word_in n in
-    let sum = sum-mark n _ _ _ _ (mark w.is_marked) (mode_is_read w.instr.b_mode).1 (mode_is_read w.instr.a_mode).1 (modifier_is_read w.instr.modifier).1 (op_is_read w.instr.op).1 is in
+    let sum = sum-mark n _ _ _ _ (mark w.is_marked) (mode_is_read w.instr.b_mode).1 (mode_is_read w.instr.a_mode).1 (modifier_is_read w.instr.modifier).1 (head_is_read w.instr).1 is in
     IsWordOf-bits _ (with_mark w) (omega arith) (omega arith) (or_mark n (IsWord-below n is) ∙ sum)
 
 pub IsWordOf-mark : (w : Word) (n : ℕ) → IsWord n → word_in n ≡ w → IsWordOf (with_mark w) (bit_or n (2 ^ 63))
@@ -228,7 +244,10 @@ same_parts m n e =
     ((((op, modifier), a_mode), b_mode), (same_part m n 16 16 (omega arith), (omega arith, tt)))
 
 same_bits : (m n : ℕ) → IsWord m → IsWord n → HaveSameParts (word_in m).instr (word_in n).instr → m * 2 % 2 ^ 64 ≡ n * 2 % 2 ^ 64
-same_bits m n left right same = same_but_mark m n _ _ (mark (word_in m).is_marked) (mark (word_in n).is_marked) left right (omega arith)
+same_bits m n left right same =
+    let kinds_same : kind_code (word_in m).instr ≡ kind_code (word_in n).instr = omega (arith, same.0.0.0.0, same.0.0.0.1, same.0.0.1, same.0.1) in
+    let handlers : handler_of (word_in m).instr ≡ handler_of (word_in n).instr = ap handler_at kinds_same in
+    same_but_mark m n _ _ (mark (word_in m).is_marked) (mark (word_in n).is_marked) left right (omega (arith, handlers))
 
 are_equal_decides : (i j : Instr) → Decides (are_equal Modifier.I i j) (HaveSameParts i j)
 are_equal_decides i j =

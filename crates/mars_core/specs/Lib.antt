@@ -10,8 +10,10 @@ pub mod Arena
 pub mod Touched
 -- Operands and turns without limits, and that they are the same.
 pub mod Whole
+pub mod Passes
 pub mod Laws
--- Of the code alone, for private contracts: what its values mean, the words of its cells, and the queues that it keeps.
+-- Of the code alone, for private contracts: what its values mean, the words of its cells, the queues that it keeps, and windows before them.
 pub mod Code
 pub mod Words
 pub mod Queue
+pub mod Window

@@ -1,6 +1,6 @@
 -- Of the code alone: what a cell holds in 64 bits, and the list of the cells that were written. No definition of turns and rounds names a word
 -- of this file.
-use Rattle.std.specs.Prelude.{◌≡◌, ℕ, ◌+◌, ◌*◌, ◌/◌, ◌%◌, ◌^◌, ◌<◌, ◌≤◌, ◌==◌, Bool, true, false, if◌then◌else◌, List, length, map, slice_index, count_by, All}
+use Rattle.std.specs.Prelude.{◌≡◌, ℕ, ◌+◌, ◌*◌, ◌/◌, ◌%◌, ◌^◌, ◌<◌, ◌≤◌, ◌==◌, Bool, true, false, if◌then◌else◌, List, [], ◌∷◌, length, map, slice_index, count_by, All}
 use Rattle.war_types.specs.{declared.instr.Op.Op, declared.instr.Modifier.Modifier, declared.instr.Mode.Mode, declared.instr.Instr.Instr, Bytes.{op_code, modifier_code, mode_code}}
 use Rattle.mars_core.specs.Cells.{blank}
 
@@ -13,12 +13,40 @@ abbrev pub mark : Bool → ℕ
 mark true = 1
 mark false = 0
 
+-- what an instruction is but for its numbers: its B mode, its A mode, its modifier and its operation in 13 bits
+abbrev pub kind_code : Instr → ℕ
+kind_code i = mode_code i.b_mode + mode_code i.a_mode * 8 + modifier_code i.modifier * 64 + op_code i.op * 512
+
+-- the kinds that have a handler of their own, each at its handler's place; at place 0 stands no kind
+unfoldable pub kinds : List ℕ
+kinds =
+    8192 ∷ 7232 ∷ 7233 ∷ 7236 ∷ 7237 ∷ 7238 ∷ 7239 ∷ 7240 ∷ 7241 ∷ 7244 ∷ 7245 ∷ 7246 ∷ 7247 ∷ 7248 ∷ 7249 ∷ 7252 ∷
+    7253 ∷ 7254 ∷ 7255 ∷ 7256 ∷ 7257 ∷ 7260 ∷ 7261 ∷ 7262 ∷ 7263 ∷ 3656 ∷ 3657 ∷ 3660 ∷ 3661 ∷ 3662 ∷ 3663 ∷ 3665 ∷
+    3672 ∷ 3673 ∷ 3676 ∷ 3677 ∷ 3678 ∷ 3679 ∷ 897 ∷ 898 ∷ 905 ∷ 906 ∷ 907 ∷ 908 ∷ 909 ∷ 910 ∷ 911 ∷ 913 ∷ 914 ∷ 916 ∷
+    917 ∷ 918 ∷ 919 ∷ 921 ∷ 922 ∷ 923 ∷ 924 ∷ 925 ∷ 927 ∷ 929 ∷ 932 ∷ 933 ∷ 934 ∷ 935 ∷ 937 ∷ 940 ∷ 941 ∷ 942 ∷ 943 ∷
+    945 ∷ 948 ∷ 949 ∷ 950 ∷ 951 ∷ 953 ∷ 956 ∷ 957 ∷ 958 ∷ 959 ∷ 641 ∷ 651 ∷ 585 ∷ 777 ∷ 256 ∷ 257 ∷ 261 ∷ 265 ∷ 269 ∷
+    296 ∷ 297 ∷ 300 ∷ 301 ∷ 319 ∷ 5192 ∷ 5193 ∷ 5197 ∷ 5199 ∷ 5384 ∷ 5385 ∷ 5387 ∷ 5388 ∷ 5389 ∷ 5390 ∷ 5391 ∷ 1153 ∷
+    1155 ∷ 1281 ∷ 1289 ∷ 1665 ∷ 1793 ∷ 1801 ∷ 1857 ∷ 1865 ∷ 6025 ∷ 6035 ∷ 6537 ∷ 6547 ∷ 4169 ∷ 4171 ∷ 4361 ∷ 4362 ∷
+    4363 ∷ 4365 ∷ 4681 ∷ 4683 ∷ 4873 ∷ 4875 ∷ 6785 ∷ []
+
+-- the place at which a list has a number, counted on from a place, or 0 if it hasn't
+unfoldable pub place_from : ℕ → ℕ → List ℕ → ℕ
+place_from n place [] = 0
+place_from n place (x ∷ xs) = if x == n then place else place_from n (place + 1) xs
+
+-- the number of the handler of a kind, and of an instruction
+unfoldable pub handler_at : ℕ → ℕ
+handler_at kind = place_from kind 0 kinds
+
+abbrev pub handler_of : Instr → ℕ
+handler_of i = handler_at (kind_code i)
+
 -- the bits of a word: from the lowest on the B number and the A number, 16 each, the B mode, the A mode and the modifier, 3 each, the
--- operation, 4, and the mark as the highest of all
+-- operation, 4, then from bit 55 on the number of its handler, 8, and the mark as the highest of all
 abbrev pub bits_of : Word → ℕ
 bits_of w =
     w.instr.b + w.instr.a * 2 ^ 16 + mode_code w.instr.b_mode * 2 ^ 32 + mode_code w.instr.a_mode * 2 ^ 35
-    + modifier_code w.instr.modifier * 2 ^ 38 + op_code w.instr.op * 2 ^ 41 + mark w.is_marked * 2 ^ 63
+    + modifier_code w.instr.modifier * 2 ^ 38 + (op_code w.instr.op + handler_of w.instr * 2 ^ 14) * 2 ^ 41 + mark w.is_marked * 2 ^ 63
 
 abbrev pub mode_at : ℕ → Mode
 mode_at n =

@@ -1,11 +1,12 @@
 //! The arena in which rounds are played.
 
 ghost use Rattle.std.specs.Prelude.{◌≡◌, ◌+◌, ◌-◌, ◌*◌, ◌<◌, ◌≤◌, Bool, true, false, Option, Some, length, slice_get, All, IfOk, IfSome, MatchOption};
-ghost use Rattle.mars_core.specs.{Queue.front, Round.{is_empty, is_over, queue_of, reach_of, after_turn, turned, after_turns, outcome, fresh, opening, IsRound, CanBegin}, Touched.AreSameBut};
+ghost use Rattle.mars_core.specs.{Queue.front, Whole.whole, Round.{is_empty, is_over, queue_of, reach_of, after_turn, turned, after_turns, outcome, fresh, opening, IsRound, CanBegin}, Touched.AreSameBut};
 
 use crate::cells::Core;
 use crate::limits::{Limits, Whole, Within};
 use crate::load::load;
+use crate::pass::passes;
 use crate::queue::Queue;
 use crate::round::{Outcome, Side, Turned};
 use crate::size::Size;
@@ -122,14 +123,54 @@ impl<A: Allocator> Arena<A> {
         let size = Size::of(self.settings.core());
         let (read, write) = (self.settings.read_limit(), self.settings.write_limit());
         if read == self.settings.core() && write == self.settings.core() {
-            self.turns_under(Whole { size }, most)
+            self.whole_turns(size, most)
         } else {
             self.turns_under(Within::of(size, read, write), most)
         }
     }
 
-    /// Makes them under the settings' limits. Each kind of limits has its loop in a function of its own. In one function, the two loops
-    /// would share the processor's registers.
+    /// Makes them without limits: an odd one first, and then passes.
+    fn whole_turns(&mut self, size: Size, most: u32) -> Turned
+        requires on { is_over self.old ≡ false }
+        requires most { self.old.used + most ≤ 2 * self.old.settings.cycles }
+        requires limits { reach_of self.old.settings ≡ whole size }
+        ensures after { self.new ≡ after_turns most self.old }
+        ensures last { most ≡ 1 → result ≡ turned self.old }
+        ensures round { IsRound self.new }
+    {
+        if most % 2 == 0 {
+            self.passes(size, most / 2);
+            return Turned::Went;
+        }
+        let last = self.turns_under(Whole { size }, 1);
+        if most > 1 && !self.is_over() {
+            self.passes(size, most / 2);
+        }
+        last
+    }
+
+    /// Makes `most` passes without limits, or fewer if the round is over before.
+    fn passes(&mut self, size: Size, most: u32)
+        requires on { is_over self.old ≡ false }
+        requires most { self.old.used + 2 * most ≤ 2 * self.old.settings.cycles }
+        requires limits { reach_of self.old.settings ≡ whole size }
+        ensures after { self.new ≡ after_turns (2 * most) self.old }
+        ensures round { IsRound self.new }
+    {
+        let (left, to_move) = passes(
+            &mut self.core,
+            size,
+            &mut self.first,
+            &mut self.second,
+            self.to_move,
+            most,
+        );
+        self.to_move = to_move;
+        self.used += 2 * most - left;
+    }
+
+    /// Makes them under the settings' limits. Each kind of limits has its loop in a function of its own. In one
+    /// function, the two loops would share the processor's registers.
     #[inline(never)]
     fn turns_under<L: Limits>(&mut self, limits: L, most: u32) -> Turned
         requires on { is_over self.old ≡ false }
@@ -153,8 +194,8 @@ impl<A: Allocator> Arena<A> {
         played.last
     }
 
-    /// The addresses of the cells that the next turn may change, some maybe twice. All other cells keep what they hold. `None` if the round
-    /// is over.
+    /// The addresses of the cells that the next turn may change, some maybe twice. All other cells keep what they hold.
+    /// `None` if the round is over.
     pub fn touchable(&self) -> Option<[u16; 8]>
         ensures same { MatchOption result (is_over self.now ≡ true) (λ addresses. (is_over self.now ≡ false) × AreSameBut addresses self.now.core (after_turn self.now).core) }
         ensures addresses { IfSome result (λ addresses. All (λ a. a < self.now.settings.core) addresses) }

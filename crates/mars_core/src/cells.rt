@@ -66,9 +66,26 @@ impl<A: Allocator> Core<A> {
         Word::in_bits(self.cells[at as usize])
     }
 
-    /// Puts an instruction into the cell at an address.
+    /// Puts an instruction into the cell at an address. Where both have the mark, the word is stored as it is.
     #[inline(always)]
     pub(crate) fn put(&mut self, size: Size, at: u32, word: Word)
+        requires core { IsCore size self.old }
+        requires address { at < size }
+        requires numbers { HasNumbersBelow size word.instr }
+        ensures value { self.new ≡ slice_set self.old at word.instr }
+        ensures core { IsCore size self.new }
+    {
+        let before = Word::in_bits(self.cells[at as usize]);
+        if word.is_marked() && before.is_marked() {
+            self.cells[at as usize] = word.bits();
+        } else {
+            self.put_marked(size, at, word);
+        }
+    }
+
+    /// The same, and marks the cell.
+    #[inline(always)]
+    fn put_marked(&mut self, size: Size, at: u32, word: Word)
         requires core { IsCore size self.old }
         requires address { at < size }
         requires numbers { HasNumbersBelow size word.instr }
@@ -107,8 +124,7 @@ impl<A: Allocator> Core<A> {
 }
 
 /// Puts an address after the others of a list.
-#[cold]
-#[inline(never)]
+#[inline(always)]
 fn list(written: &mut [u16], count: &mut usize, at: u16)
     requires room { count.old < length written.old }
     ensures written { written.new ≡ slice_set written.old count.old at }

@@ -44,18 +44,18 @@ pub(crate) fn execute<L: Limits, A: Allocator>(
 {
     let i = core.cell(size, pc);
     let (a, b) = limits.operands(core, size, pc, i);
-    effect(core, size, limits, pc, i, a, b)
+    effect(core, size, pc, i.op(), i.modifier(), a, b)
 }
 
-/// Executes an instruction that stands at `pc`, once its operands are evaluated, in a core of `size` cells. The limits are for the
-/// compiler alone: each kind of them then has a copy of its own, which is called from one place and written out there.
+/// Executes an instruction of this operation and modifier that stands at `pc`, once its operands are evaluated, in a
+/// core of `size` cells.
 #[inline(always)]
-fn effect<L: Limits, A: Allocator>(
+pub(crate) fn effect<A: Allocator>(
     core: &mut Core<A>,
     size: Size,
-    _limits: L,
     pc: u32,
-    i: Word,
+    op: Op,
+    modifier: Modifier,
     a: Operand,
     b: Operand,
 ) -> Queued
@@ -66,33 +66,33 @@ fn effect<L: Limits, A: Allocator>(
     requires a_numbers { HasNumbersBelow size a.register.instr }
     requires b { b.target < size }
     requires b_numbers { HasNumbersBelow size b.register.instr }
-    ensures value { effect size pc i.instr.op i.instr.modifier (operand_of a) (operand_of b) core.old ≡ queues core.new (addresses result) }
+    ensures value { effect size pc op modifier (operand_of a) (operand_of b) core.old ≡ queues core.new (addresses result) }
     ensures core { IsCore size core.new }
     ensures addresses { All (λ a. a < size) (addresses result) }
 {
-    let next = size.plus(pc, 1);
-    match i.op() {
+    let next = size.next(pc);
+    match op {
         Op::Dat => Queued::Nothing,
         Op::Mov => {
-            copy_to(core, size, i.modifier(), a.register, b.target);
+            copy_to(core, size, modifier, a.register, b.target);
             Queued::One(next)
         }
-        Op::Add => calculates(core, size, pc, Arithmetic::Sum, i.modifier(), a, b),
-        Op::Sub => calculates(core, size, pc, Arithmetic::Difference, i.modifier(), a, b),
-        Op::Mul => calculates(core, size, pc, Arithmetic::Product, i.modifier(), a, b),
-        Op::Div => calculates(core, size, pc, Arithmetic::Quotient, i.modifier(), a, b),
-        Op::Mdl => calculates(core, size, pc, Arithmetic::Remainder, i.modifier(), a, b),
+        Op::Add => calculates(core, size, pc, Arithmetic::Sum, modifier, a, b),
+        Op::Sub => calculates(core, size, pc, Arithmetic::Difference, modifier, a, b),
+        Op::Mul => calculates(core, size, pc, Arithmetic::Product, modifier, a, b),
+        Op::Div => calculates(core, size, pc, Arithmetic::Quotient, modifier, a, b),
+        Op::Mdl => calculates(core, size, pc, Arithmetic::Remainder, modifier, a, b),
         Op::Jmp => Queued::One(a.pointer),
-        Op::Jmz => jump_where(size, pc, a, are_zero(i.modifier(), b.register)),
-        Op::Jmn => jump_where(size, pc, a, !are_zero(i.modifier(), b.register)),
+        Op::Jmz => jump_where(size, pc, a, are_zero(modifier, b.register)),
+        Op::Jmn => jump_where(size, pc, a, !are_zero(modifier, b.register)),
         Op::Djn => {
             let target = core.cell(size, b.target);
-            core.put(size, b.target, all_lowered(size, i.modifier(), target));
-            jump_where(size, pc, a, !fall_to_zero(size, i.modifier(), b.register))
+            core.put(size, b.target, all_lowered(size, modifier, target));
+            jump_where(size, pc, a, !fall_to_zero(size, modifier, b.register))
         }
-        Op::Seq => skip_where(size, pc, are_equal(i.modifier(), a.register, b.register)),
-        Op::Sne => skip_where(size, pc, !are_equal(i.modifier(), a.register, b.register)),
-        Op::Slt => skip_where(size, pc, are_less(i.modifier(), a.register, b.register)),
+        Op::Seq => skip_where(size, pc, are_equal(modifier, a.register, b.register)),
+        Op::Sne => skip_where(size, pc, !are_equal(modifier, a.register, b.register)),
+        Op::Slt => skip_where(size, pc, are_less(modifier, a.register, b.register)),
         Op::Spl => Queued::Two(next, a.pointer),
         Op::Nop => Queued::One(next),
     }
@@ -122,7 +122,7 @@ fn calculates<A: Allocator>(
     let (target, all) = calculated(size, arithmetic, modifier, a.register, b.register, target);
     core.put(size, b.target, target);
     if all {
-        Queued::One(size.plus(pc, 1))
+        Queued::One(size.next(pc))
     } else {
         Queued::Nothing
     }
@@ -139,7 +139,7 @@ fn jump_where(size: Size, pc: u32, a: Operand, test: bool) -> Queued
     if test {
         Queued::One(a.pointer)
     } else {
-        Queued::One(size.plus(pc, 1))
+        Queued::One(size.next(pc))
     }
 }
 

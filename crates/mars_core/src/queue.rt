@@ -1,14 +1,15 @@
 //! Queues of processes.
 
-ghost use Rattle.std.specs.Prelude.{◌≡◌, ℕ, ◌<◌, ◌≤◌, false, [], ◌∷◌, ◌++◌, List, Option, length, slice_get, IfOk};
-ghost use Rattle.mars_core.specs.{Queue.{front, processes, queued, behind_front}, Round.is_empty};
+ghost use Rattle.std.specs.Prelude.{◌≡◌, ℕ, ◌<◌, ◌≤◌, false, [], ◌∷◌, ◌++◌, ◌+◌, ◌-◌, List, Option, length, take, slice_get, IfOk};
+ghost use Rattle.{circular_buffer.specs.Buffer.buffer, mars_core.specs.{Queue.{front, processes, queued, behind_front}, Round.is_empty, Window.waiting}};
 
+use crate::window::{MIDDLE, PLACES};
 use circular_buffer::HeapCircularBuffer;
 use std::alloc::{AllocError, Allocator};
 use std::marker::Model;
 
-/// The processes of a side, by their addresses: first in, first out, in memory that is taken once. The front process stands beside a
-/// ring of the others, so a single process never touches the ring's memory.
+/// The processes of a side, by their addresses: first in, first out, in memory that is taken once. The front process
+/// stands beside a ring of the others. While many turns are made, a `Window` stands before both.
 #[derive(Drop)]
 pub(crate) struct Queue<A: Allocator> {
     /// The front process, if there is one.
@@ -139,5 +140,97 @@ impl<A: Allocator> Queue<A> {
         self.rest.clear();
         self.front = u32::from(address);
         self.has_front = true;
+    }
+
+    /// How many more processes it may hold.
+    pub(crate) fn room(&self) -> usize
+        requires { is_empty self.now.addresses ≡ false }
+        ensures value { result ≡ self.now.limit - length self.now.addresses }
+        ensures within { length self.now.addresses ≤ self.now.limit }
+    {
+        self.rest.capacity() - self.rest.len()
+    }
+
+    /// Queues the first `count` places, and then moves the next processes after the front one to the places from the
+    /// middle on, as many as fit. Answers how many.
+    #[cold]
+    #[inline(never)]
+    pub(crate) fn exchange(&mut self, places: &mut [u16; PLACES], count: usize) -> usize
+        requires lives { is_empty self.old.addresses ≡ false }
+        requires places { length places.old ≡ 1024 }
+        requires count { count ≤ 1024 }
+        requires room { count + length self.old.addresses ≤ self.old.limit }
+        ensures value { waiting 512 result places.new (behind_front self.new.addresses) ≡ waiting 1024 count places.old (behind_front self.old.addresses) }
+        ensures places { length places.new ≡ 1024 }
+        ensures count { result ≤ 512 }
+        ensures full { 1 < length self.new.addresses → result ≡ 512 }
+        ensures all { length self.new.addresses + result ≡ length self.old.addresses + count }
+        ensures limit { self.new.limit ≡ self.old.limit }
+        ensures lives { is_empty self.new.addresses ≡ false }
+    {
+        self.rest.fill_from_slice(&places[..count]);
+        self.rest.read_into(&mut places[MIDDLE..])
+    }
+
+    /// Queues `behind` after the `count` addresses that stand in the places from `head` on, if there is room: first
+    /// those that stand round their end. Answers how many stay there.
+    #[cold]
+    #[inline(never)]
+    pub(crate) fn take_in(
+        &mut self,
+        places: &[u16; PLACES],
+        head: usize,
+        count: usize,
+        behind: u32,
+    ) -> usize
+        requires lives { is_empty self.old.addresses ≡ false }
+        requires places { length places.now ≡ 1024 }
+        requires head { head ≤ 1024 }
+        requires count { count ≤ 1023 }
+        requires past { 1024 ≤ head + count }
+        requires room { count + length self.old.addresses ≤ self.old.limit }
+        requires small { behind ≤ 65535 }
+        ensures value { waiting head result places.now (behind_front self.new.addresses) ≡ take (self.old.limit - 1) (waiting head count places.now (behind_front self.old.addresses) ++ behind ∷ []) }
+        ensures count { result ≤ count }
+        ensures past { 1024 ≤ head + result }
+        ensures room { result + length self.new.addresses ≤ self.new.limit }
+        ensures limit { self.new.limit ≡ self.old.limit }
+        ensures lives { is_empty self.new.addresses ≡ false }
+    {
+        if count >= self.room() {
+            return count;
+        }
+        let past = head + count - PLACES;
+        self.rest.fill_from_slice(&places[..past]);
+        let _queued = self.rest.try_push_back(behind as u16);
+        count - past
+    }
+
+    /// Puts back what a window took: the front process, and `count` others that stand in the places from `head` on.
+    pub(crate) fn put_back(&mut self, places: &[u16; PLACES], front: u32, head: usize, count: usize)
+        requires lives { is_empty self.old.addresses ≡ false }
+        requires places { length places.now ≡ 1024 }
+        requires head { head ≤ 1024 }
+        requires count { count ≤ 1024 }
+        requires room { count + length self.old.addresses ≤ self.old.limit }
+        requires small { front ≤ 65535 }
+        ensures { self.new ≡ processes self.old.limit (front ∷ waiting head count places.now (behind_front self.old.addresses)) }
+    {
+        let end = (head + count).min(PLACES);
+        self.rest.fill_from_slice(&places[..head + count - end]);
+        put_first(&mut self.rest, &places[head..end]);
+        self.front = front;
+    }
+}
+
+/// Puts addresses before a ring's, where there is room for them.
+fn put_first<A: Allocator>(ring: &mut HeapCircularBuffer<u16, A>, addresses: &[u16])
+    requires { length addresses.now + length ring.old.items ≤ ring.old.capacity }
+    ensures { ring.new ≡ buffer (addresses.now ++ ring.old.items) ring.old.capacity }
+{
+    let mut at = addresses.len();
+    while at > 0 {
+        at -= 1;
+        let _put = ring.try_push_front(addresses[at]);
     }
 }

@@ -34,7 +34,8 @@ impl Size {
         }
     }
 
-    /// The sum of two numbers. It is past the core once at most, so nothing is divided.
+    /// The sum of two numbers. It is past the core once at most, so nothing is divided: the sum and the sum without the
+    /// core's cells, which wraps if it is negative, are both computed, and the lesser one is taken without a branch.
     #[inline(always)]
     pub(crate) fn plus(self, m: u32, n: u32) -> u32
         requires m { m < self }
@@ -43,11 +44,19 @@ impl Size {
         ensures below { result < self }
     {
         let sum = m + n;
-        if sum < self.cells {
-            sum
-        } else {
-            sum - self.cells
-        }
+        let less = sum.wrapping_sub(self.cells);
+        if less < sum { less } else { sum }
+    }
+
+    /// The number after one: 0 after the last.
+    #[inline(always)]
+    pub(crate) fn next(self, m: u32) -> u32
+        requires m { m < self }
+        ensures value { result ≡ plus self m 1 }
+        ensures below { result < self }
+    {
+        let next = m + 1;
+        if next == self.cells { 0 } else { next }
     }
 
     /// The difference of two numbers.
@@ -58,7 +67,9 @@ impl Size {
         ensures value { result ≡ minus self m n }
         ensures below { result < self }
     {
-        if n <= m { m - n } else { m + (self.cells - n) }
+        let difference = m.wrapping_sub(n);
+        let more = difference.wrapping_add(self.cells);
+        if more < difference { more } else { difference }
     }
 
     /// A number of the B operand with one of the A operand; `None` for a division by 0.

@@ -2,9 +2,10 @@
 
 ghost use Rattle.std.specs.Prelude.{◌≡◌, ℕ, ◌<◌, ◌≤◌, ◌==◌, Bool, true, false, ◌&&◌};
 ghost use Rattle.war_types.specs.Warrior.{HasNumbersBelow};
-ghost use Rattle.mars_core.specs.{Cells.{number, with_number}, Effect.are_equal, Code.field_of, Words.{Word, IsWord, word_in, op_at, modifier_at, mode_at, is_plain}};
+ghost use Rattle.mars_core.specs.{Cells.{number, with_number}, Effect.are_equal, Code.field_of, Words.{Word, IsWord, word_in, op_at, modifier_at, mode_at, is_plain, kind_code, handler_at, handler_of}};
 
 use crate::field::Field;
+use crate::kinds::KINDS;
 use std::marker::Model;
 use war_types::{Instr, Mode, Modifier, Op};
 
@@ -18,10 +19,13 @@ const MODIFIER: u32 = 38;
 
 const OP: u32 = 41;
 
+const HANDLER: u32 = 55;
+
 const MARK: u32 = 63;
 
-/// An instruction, and the mark of a cell that was written since its core was cleared. The B number stands from bit 0 on, the A number from
-/// bit 16 on, then the B mode, the A mode, the modifier and the operation. The mark is the highest bit.
+/// An instruction, and the mark of a cell that was written since its core was cleared. The B number stands from bit 0
+/// on, the A number from bit 16 on, then the B mode, the A mode, the modifier and the operation; from bit 55 on the
+/// number of its handler. The mark is the highest bit.
 #[derive(Clone, Copy)]
 pub(crate) struct Word {
     bits: u64,
@@ -46,13 +50,9 @@ impl Word {
         ensures instr { result.instr ≡ i }
         ensures unmarked { result.is_marked ≡ false }
     {
+        let kind = kind_of(i);
         Word {
-            bits: wide(i.b)
-                | wide(i.a) << A
-                | u64::from(i.b_mode.code()) << B_MODE
-                | u64::from(i.a_mode.code()) << A_MODE
-                | u64::from(i.modifier.code()) << MODIFIER
-                | u64::from(i.op.code()) << OP,
+            bits: wide(i.b) | wide(i.a) << A | kind << B_MODE | place_of(kind) << HANDLER,
         }
     }
 
@@ -72,6 +72,14 @@ impl Word {
         ensures word { IsWord result }
     {
         self.bits
+    }
+
+    /// The number of the handler.
+    #[inline(always)]
+    pub(crate) fn handler(self) -> u64
+        ensures { result ≡ handler_of self.instr }
+    {
+        self.bits >> HANDLER & 127
     }
 
     /// The instruction.
@@ -178,6 +186,28 @@ impl Word {
     }
 }
 
+/// The operation, the modifier and both modes.
+fn kind_of(i: Instr) -> u64
+    ensures { result ≡ kind_code i }
+{
+    u64::from(i.b_mode.code())
+        + u64::from(i.a_mode.code()) * 8
+        + u64::from(i.modifier.code()) * 64
+        + u64::from(i.op.code()) * 512
+}
+
+/// The number of a kind's handler.
+fn place_of(kind: u64) -> u64
+    ensures { result ≡ handler_at kind }
+{
+    for place in 0..KINDS.len() {
+        if u64::from(KINDS[place]) == kind {
+            return place as u64;
+        }
+    }
+    0
+}
+
 /// A number in 64 bits: it takes the lowest 16.
 fn wide(number: u16) -> u64
     ensures value { result ≡ number }
@@ -187,7 +217,7 @@ fn wide(number: u16) -> u64
 }
 
 #[inline(always)]
-fn op_at(code: u64) -> Op
+pub(crate) fn op_at(code: u64) -> Op
     ensures { result ≡ op_at code }
 {
     match code {
@@ -211,7 +241,7 @@ fn op_at(code: u64) -> Op
 }
 
 #[inline(always)]
-fn modifier_at(code: u64) -> Modifier
+pub(crate) fn modifier_at(code: u64) -> Modifier
     ensures { result ≡ modifier_at code }
 {
     match code {
@@ -226,7 +256,7 @@ fn modifier_at(code: u64) -> Modifier
 }
 
 #[inline(always)]
-fn mode_at(code: u64) -> Mode
+pub(crate) fn mode_at(code: u64) -> Mode
     ensures { result ≡ mode_at code }
 {
     match code {

@@ -11,6 +11,7 @@ use tests_fixtures::{BACK, DIE, IMP, LARGEST, SMALL, STAY, warrior};
 use war_types::{Instr, Settings, Warrior};
 
 mod full_hill;
+mod steps;
 mod untrue;
 
 fn small(rt: &impl Abort, capacity: u32) -> Settings {

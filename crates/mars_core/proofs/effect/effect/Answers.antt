@@ -1,17 +1,17 @@
-use Rattle.std.proofs.{Common.{◌≡◌, ◌∙◌, ℕ, ◌<◌, Bool, not, List, [], ◌∷◌, slice_set, refl, sym, ap, ap₂, arith}, lemmas.List.Elements.{All-cons, All-nil}}
-use Rattle.{war_types.specs.{declared.instr.Op.Op, declared.instr.Modifier.Modifier, declared.instr.Instr.Instr}, mars_core.specs.{Cells.cell, Operand.Operand, Code.operand_of}}
-use Rattle.mars_core.specs.Effect.{Effect, Arithmetic, queues, skip_where, jump_where, calculates, copied, are_zero, are_equal, are_less, all_lowered, put, target, by_op, effect}
+use Rattle.std.proofs.{Common.{◌≡◌, ◌∙◌, ℕ, ◌<◌, Bool, not, List, [], ◌∷◌, refl, sym, ap, ap₂, arith}, lemmas.List.Elements.{All-cons, All-nil}}
+use Rattle.{war_types.specs.{declared.instr.Op.Op, declared.instr.Modifier.Modifier, declared.instr.Instr.Instr}, mars_core.specs.{Operand.Operand, Code.operand_of}}
+use Rattle.mars_core.specs.Effect.{Effect, queues, skip_where, jump_where, by_op, effect}
 use Rattle.mars_core.proofs.effect.effect.Goals as goal
 
 -- the effect, by the arm that the operation takes
-by_arm : (size pc : ℕ) (op found arm : Op) (m : Modifier) (a b : Operand) (core : List Instr) (after : Effect) → found ≡ op → found ≡ arm → by_op size pc arm m a b core ≡ after → effect size pc op m a b core ≡ after
+by_arm : (size pc : ℕ) (op arm : Op) (m : Modifier) (a b : Operand) (core : List Instr) (after : Effect) → op ≡ arm → by_op size pc arm m a b core ≡ after → effect size pc op m a b core ≡ after
 unfolding effect
-by_arm size pc op found arm m a b core after is at made = ap (λ (op : Op). by_op size pc op m a b core) (sym is ∙ at) ∙ made
+by_arm size pc op arm m a b core after is made = ap (λ (op : Op). by_op size pc op m a b core) is ∙ made
 
 pub returns-in-Dat : goal.returns-in-Dat
 returns-in-Dat g c =
     record {
-      value = by_arm _ _ _ _ _ _ _ _ _ _ c.op.ensures c.in-Dat.is
+      value = by_arm _ _ _ _ _ _ _ _ _ c.in-Dat.is
           (refl);
       core = c.requires.core;
       addresses = All-nil (λ (a : ℕ). a < c.args.size);
@@ -19,19 +19,19 @@ returns-in-Dat g c =
 
 pub returns-in-Mov : goal.returns-in-Mov
 returns-in-Mov g c =
-    let put_is = c.copy_to.ensures.value ∙ ap (λ (m : Modifier). slice_set c.args.core.now c.args.b.target (copied m c.args.a.register.instr (cell c.args.core.now c.args.b.target))) c.modifier.ensures in
+    let put_is = c.copy_to.ensures.value in
     record {
-      value = by_arm _ _ _ _ _ _ _ _ _ _ c.op.ensures c.in-Mov.is
-          (ap₂ (λ (core : List Instr) (n : ℕ). queues core (n ∷ [])) (sym put_is) (sym c.plus-next.ensures.value));
+      value = by_arm _ _ _ _ _ _ _ _ _ c.in-Mov.is
+          (ap₂ (λ (core : List Instr) (n : ℕ). queues core (n ∷ [])) (sym put_is) (sym c.next-next.ensures.value));
       core = c.copy_to.ensures.core;
-      addresses = All-cons (λ (a : ℕ). a < c.args.size) c.plus-next.result [] c.plus-next.ensures.below (All-nil (λ (a : ℕ). a < c.args.size));
+      addresses = All-cons (λ (a : ℕ). a < c.args.size) c.next-next.result [] c.next-next.ensures.below (All-nil (λ (a : ℕ). a < c.args.size));
     }
 
 pub returns-in-Add : goal.returns-in-Add
 returns-in-Add g c =
     record {
-      value = by_arm _ _ _ _ _ _ _ _ _ _ c.op.ensures c.in-Add.is
-          (ap (λ (m : Modifier). calculates c.args.size c.args.pc Arithmetic.Sum m (operand_of c.args.a) (operand_of c.args.b) c.args.core.now) (sym c.modifier-in-Add.ensures) ∙ c.calculates.ensures.value);
+      value = by_arm _ _ _ _ _ _ _ _ _ c.in-Add.is
+          (c.calculates.ensures.value);
       core = c.calculates.ensures.core;
       addresses = c.calculates.ensures.addresses;
     }
@@ -39,8 +39,8 @@ returns-in-Add g c =
 pub returns-in-Sub : goal.returns-in-Sub
 returns-in-Sub g c =
     record {
-      value = by_arm _ _ _ _ _ _ _ _ _ _ c.op.ensures c.in-Sub.is
-          (ap (λ (m : Modifier). calculates c.args.size c.args.pc Arithmetic.Difference m (operand_of c.args.a) (operand_of c.args.b) c.args.core.now) (sym c.modifier-in-Sub.ensures) ∙ c.calculates-in-Sub.ensures.value);
+      value = by_arm _ _ _ _ _ _ _ _ _ c.in-Sub.is
+          (c.calculates-in-Sub.ensures.value);
       core = c.calculates-in-Sub.ensures.core;
       addresses = c.calculates-in-Sub.ensures.addresses;
     }
@@ -48,8 +48,8 @@ returns-in-Sub g c =
 pub returns-in-Mul : goal.returns-in-Mul
 returns-in-Mul g c =
     record {
-      value = by_arm _ _ _ _ _ _ _ _ _ _ c.op.ensures c.in-Mul.is
-          (ap (λ (m : Modifier). calculates c.args.size c.args.pc Arithmetic.Product m (operand_of c.args.a) (operand_of c.args.b) c.args.core.now) (sym c.modifier-in-Mul.ensures) ∙ c.calculates-in-Mul.ensures.value);
+      value = by_arm _ _ _ _ _ _ _ _ _ c.in-Mul.is
+          (c.calculates-in-Mul.ensures.value);
       core = c.calculates-in-Mul.ensures.core;
       addresses = c.calculates-in-Mul.ensures.addresses;
     }
@@ -57,8 +57,8 @@ returns-in-Mul g c =
 pub returns-in-Div : goal.returns-in-Div
 returns-in-Div g c =
     record {
-      value = by_arm _ _ _ _ _ _ _ _ _ _ c.op.ensures c.in-Div.is
-          (ap (λ (m : Modifier). calculates c.args.size c.args.pc Arithmetic.Quotient m (operand_of c.args.a) (operand_of c.args.b) c.args.core.now) (sym c.modifier-in-Div.ensures) ∙ c.calculates-in-Div.ensures.value);
+      value = by_arm _ _ _ _ _ _ _ _ _ c.in-Div.is
+          (c.calculates-in-Div.ensures.value);
       core = c.calculates-in-Div.ensures.core;
       addresses = c.calculates-in-Div.ensures.addresses;
     }
@@ -66,8 +66,8 @@ returns-in-Div g c =
 pub returns-in-Mdl : goal.returns-in-Mdl
 returns-in-Mdl g c =
     record {
-      value = by_arm _ _ _ _ _ _ _ _ _ _ c.op.ensures c.in-Mdl.is
-          (ap (λ (m : Modifier). calculates c.args.size c.args.pc Arithmetic.Remainder m (operand_of c.args.a) (operand_of c.args.b) c.args.core.now) (sym c.modifier-in-Mdl.ensures) ∙ c.calculates-in-Mdl.ensures.value);
+      value = by_arm _ _ _ _ _ _ _ _ _ c.in-Mdl.is
+          (c.calculates-in-Mdl.ensures.value);
       core = c.calculates-in-Mdl.ensures.core;
       addresses = c.calculates-in-Mdl.ensures.addresses;
     }
@@ -75,7 +75,7 @@ returns-in-Mdl g c =
 pub returns-in-Jmp : goal.returns-in-Jmp
 returns-in-Jmp g c =
     record {
-      value = by_arm _ _ _ _ _ _ _ _ _ _ c.op.ensures c.in-Jmp.is
+      value = by_arm _ _ _ _ _ _ _ _ _ c.in-Jmp.is
           (refl);
       core = c.requires.core;
       addresses = All-cons (λ (a : ℕ). a < c.args.size) c.args.a.pointer [] c.requires.a (All-nil (λ (a : ℕ). a < c.args.size));
@@ -84,8 +84,8 @@ returns-in-Jmp g c =
 pub returns-in-Jmz : goal.returns-in-Jmz
 returns-in-Jmz g c =
     record {
-      value = by_arm _ _ _ _ _ _ _ _ _ _ c.op.ensures c.in-Jmz.is
-          (ap (λ (t : Bool). queues c.args.core.now (jump_where c.args.size c.args.pc (operand_of c.args.a) t)) (ap (λ (m : Modifier). are_zero m c.args.b.register.instr) (sym c.modifier-in-Jmz.ensures) ∙ ap (λ (t : Bool). t) (sym c.are_zero.ensures)) ∙ ap (queues c.args.core.now) (sym c.jump_where.ensures.value));
+      value = by_arm _ _ _ _ _ _ _ _ _ c.in-Jmz.is
+          (ap (λ (t : Bool). queues c.args.core.now (jump_where c.args.size c.args.pc (operand_of c.args.a) t)) (ap (λ (t : Bool). t) (sym c.are_zero.ensures)) ∙ ap (queues c.args.core.now) (sym c.jump_where.ensures.value));
       core = c.requires.core;
       addresses = c.jump_where.ensures.addresses;
     }
@@ -93,8 +93,8 @@ returns-in-Jmz g c =
 pub returns-in-Jmn : goal.returns-in-Jmn
 returns-in-Jmn g c =
     record {
-      value = by_arm _ _ _ _ _ _ _ _ _ _ c.op.ensures c.in-Jmn.is
-          (ap (λ (t : Bool). queues c.args.core.now (jump_where c.args.size c.args.pc (operand_of c.args.a) t)) (ap (λ (m : Modifier). not (are_zero m c.args.b.register.instr)) (sym c.modifier-in-Jmn.ensures) ∙ ap (λ (t : Bool). not t) (sym c.are_zero-in-Jmn.ensures)) ∙ ap (queues c.args.core.now) (sym c.jump_where-in-Jmn.ensures.value));
+      value = by_arm _ _ _ _ _ _ _ _ _ c.in-Jmn.is
+          (ap (λ (t : Bool). queues c.args.core.now (jump_where c.args.size c.args.pc (operand_of c.args.a) t)) (ap (λ (t : Bool). not t) (sym c.are_zero-in-Jmn.ensures)) ∙ ap (queues c.args.core.now) (sym c.jump_where-in-Jmn.ensures.value));
       core = c.requires.core;
       addresses = c.jump_where-in-Jmn.ensures.addresses;
     }
@@ -102,7 +102,7 @@ returns-in-Jmn g c =
 pub returns-in-Djn : goal.returns-in-Djn
 returns-in-Djn g c =
     record {
-      value = by_arm _ _ _ _ _ _ _ _ _ _ c.op.ensures c.in-Djn.is
+      value = by_arm _ _ _ _ _ _ _ _ _ c.in-Djn.is
           (cc);
       core = c.put.ensures.core;
       addresses = c.jump_where-in-Djn.ensures.addresses;
@@ -111,8 +111,8 @@ returns-in-Djn g c =
 pub returns-in-Seq : goal.returns-in-Seq
 returns-in-Seq g c =
     record {
-      value = by_arm _ _ _ _ _ _ _ _ _ _ c.op.ensures c.in-Seq.is
-          (ap (λ (t : Bool). queues c.args.core.now (skip_where c.args.size c.args.pc t)) (ap (λ (m : Modifier). are_equal m c.args.a.register.instr c.args.b.register.instr) (sym c.modifier-in-Seq.ensures) ∙ ap (λ (t : Bool). t) (sym c.are_equal.ensures)) ∙ ap (queues c.args.core.now) (sym c.skip_where.ensures.value));
+      value = by_arm _ _ _ _ _ _ _ _ _ c.in-Seq.is
+          (ap (λ (t : Bool). queues c.args.core.now (skip_where c.args.size c.args.pc t)) (ap (λ (t : Bool). t) (sym c.are_equal.ensures)) ∙ ap (queues c.args.core.now) (sym c.skip_where.ensures.value));
       core = c.requires.core;
       addresses = c.skip_where.ensures.addresses;
     }
@@ -120,8 +120,8 @@ returns-in-Seq g c =
 pub returns-in-Sne : goal.returns-in-Sne
 returns-in-Sne g c =
     record {
-      value = by_arm _ _ _ _ _ _ _ _ _ _ c.op.ensures c.in-Sne.is
-          (ap (λ (t : Bool). queues c.args.core.now (skip_where c.args.size c.args.pc t)) (ap (λ (m : Modifier). not (are_equal m c.args.a.register.instr c.args.b.register.instr)) (sym c.modifier-in-Sne.ensures) ∙ ap (λ (t : Bool). not t) (sym c.are_equal-in-Sne.ensures)) ∙ ap (queues c.args.core.now) (sym c.skip_where-in-Sne.ensures.value));
+      value = by_arm _ _ _ _ _ _ _ _ _ c.in-Sne.is
+          (ap (λ (t : Bool). queues c.args.core.now (skip_where c.args.size c.args.pc t)) (ap (λ (t : Bool). not t) (sym c.are_equal-in-Sne.ensures)) ∙ ap (queues c.args.core.now) (sym c.skip_where-in-Sne.ensures.value));
       core = c.requires.core;
       addresses = c.skip_where-in-Sne.ensures.addresses;
     }
@@ -129,8 +129,8 @@ returns-in-Sne g c =
 pub returns-in-Slt : goal.returns-in-Slt
 returns-in-Slt g c =
     record {
-      value = by_arm _ _ _ _ _ _ _ _ _ _ c.op.ensures c.in-Slt.is
-          (ap (λ (t : Bool). queues c.args.core.now (skip_where c.args.size c.args.pc t)) (ap (λ (m : Modifier). are_less m c.args.a.register.instr c.args.b.register.instr) (sym c.modifier-in-Slt.ensures) ∙ ap (λ (t : Bool). t) (sym c.are_less.ensures)) ∙ ap (queues c.args.core.now) (sym c.skip_where-in-Slt.ensures.value));
+      value = by_arm _ _ _ _ _ _ _ _ _ c.in-Slt.is
+          (ap (λ (t : Bool). queues c.args.core.now (skip_where c.args.size c.args.pc t)) (ap (λ (t : Bool). t) (sym c.are_less.ensures)) ∙ ap (queues c.args.core.now) (sym c.skip_where-in-Slt.ensures.value));
       core = c.requires.core;
       addresses = c.skip_where-in-Slt.ensures.addresses;
     }
@@ -138,19 +138,19 @@ returns-in-Slt g c =
 pub returns-in-Spl : goal.returns-in-Spl
 returns-in-Spl g c =
     record {
-      value = by_arm _ _ _ _ _ _ _ _ _ _ c.op.ensures c.in-Spl.is
-          (ap (λ (n : ℕ). queues c.args.core.now (n ∷ c.args.a.pointer ∷ [])) (sym c.plus-next.ensures.value));
+      value = by_arm _ _ _ _ _ _ _ _ _ c.in-Spl.is
+          (ap (λ (n : ℕ). queues c.args.core.now (n ∷ c.args.a.pointer ∷ [])) (sym c.next-next.ensures.value));
       core = c.requires.core;
-      addresses = All-cons (λ (a : ℕ). a < c.args.size) c.plus-next.result (c.args.a.pointer ∷ []) c.plus-next.ensures.below (All-cons (λ (a : ℕ). a < c.args.size) c.args.a.pointer [] c.requires.a (All-nil (λ (a : ℕ). a < c.args.size)));
+      addresses = All-cons (λ (a : ℕ). a < c.args.size) c.next-next.result (c.args.a.pointer ∷ []) c.next-next.ensures.below (All-cons (λ (a : ℕ). a < c.args.size) c.args.a.pointer [] c.requires.a (All-nil (λ (a : ℕ). a < c.args.size)));
     }
 
 pub returns-in-Nop : goal.returns-in-Nop
 returns-in-Nop g c =
     record {
-      value = by_arm _ _ _ _ _ _ _ _ _ _ c.op.ensures c.in-Nop.is
-          (ap (λ (n : ℕ). queues c.args.core.now (n ∷ [])) (sym c.plus-next.ensures.value));
+      value = by_arm _ _ _ _ _ _ _ _ _ c.in-Nop.is
+          (ap (λ (n : ℕ). queues c.args.core.now (n ∷ [])) (sym c.next-next.ensures.value));
       core = c.requires.core;
-      addresses = All-cons (λ (a : ℕ). a < c.args.size) c.plus-next.result [] c.plus-next.ensures.below (All-nil (λ (a : ℕ). a < c.args.size));
+      addresses = All-cons (λ (a : ℕ). a < c.args.size) c.next-next.result [] c.next-next.ensures.below (All-nil (λ (a : ℕ). a < c.args.size));
     }
 
 -- ---- what the arms require
@@ -203,5 +203,5 @@ skip_where-requires-in-Sne g c = record { wide = c.requires.wide; pc = c.require
 pub skip_where-requires-in-Slt : goal.skip_where-requires-in-Slt
 skip_where-requires-in-Slt g c = record { wide = c.requires.wide; pc = c.requires.pc }
 
-pub plus-next-requires : goal.plus-next-requires
-plus-next-requires g c = record { m = c.requires.pc; n = omega (arith, c.requires.wide) }
+pub next-next-requires : goal.next-next-requires
+next-next-requires g c = record { m = c.requires.pc }

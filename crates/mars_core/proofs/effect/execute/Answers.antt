@@ -1,14 +1,9 @@
-use Rattle.{std.proofs.Common.{◌≡◌, ℕ, List, sym, ap, ap₂, ◌∙◌}, war_types.specs.declared.instr.Instr.Instr}
-use Rattle.mars_core.specs.{Cells.cell, Operand.{Reach, Operand}, Effect.{Effect, effect}, Round.executed, Code.{Operands, evaluated_both, operands}}
+use Rattle.std.proofs.Common.{sym, ap₂, ◌∙◌}
+use Rattle.war_types.specs.{declared.instr.Op.Op, declared.instr.Modifier.Modifier}
+use Rattle.mars_core.specs.{Effect.effect, Code.operand_of}
+use Rattle.mars_core.proofs.Executions.{by_operands}
 use Rattle.mars_core.proofs.effect.execute.Goals as goal
 
--- an instruction is executed by its operands and its effect
-by_operands : (reach : Reach) (size pc : ℕ) (core core1 : List Instr) (i : Instr) (a b : Operand) (after : Effect) → reach.size ≡ size → i ≡ cell core pc → operands reach core pc i ≡ evaluated_both a b core1 →
-    effect size pc i.op i.modifier a b core1 ≡ after → executed reach core pc ≡ after
-unfolding executed
-by_operands reach size pc core core1 i a b after size_is is both made =
-    ap (λ (i : Instr). let o = operands reach core pc i in effect reach.size pc i.op i.modifier o.a o.b o.core) (sym is)
-    ∙ (ap₂ (λ (n : ℕ) (o : Operands). effect n pc i.op i.modifier o.a o.b o.core) size_is both ∙ made)
-
 pub returns-clause-value : goal.returns-clause-value
-returns-clause-value g c = by_operands _ _ _ _ _ _ _ _ _ c.requires.size c.cell-i.ensures.value c.operands-a.ensures.value c.effect.ensures.value
+returns-clause-value g c = by_operands _ _ _ _ _ _ _ _ _ c.requires.size c.cell-i.ensures.value c.operands-a.ensures.value
+    (ap₂ (λ (op : Op) (m : Modifier). effect c.args.size c.args.pc op m (operand_of c.operands-a.result.0) (operand_of c.operands-a.result.1) c.operands-a.new.core) (sym c.op.ensures) (sym c.modifier.ensures) ∙ c.effect.ensures.value)

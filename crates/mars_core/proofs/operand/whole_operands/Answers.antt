@@ -1,5 +1,6 @@
-use Rattle.{std.proofs.Common.{◌≡◌, ℕ, List, ap, ap₂, ◌∙◌, sym, Bool, true, false, ◌&&◌, refl}, war_types.specs.declared.instr.Instr.Instr}
-use Rattle.mars_core.specs.{Operand.{Operand, Evaluated, evaluated}, Whole.operand, Code.{Operands, evaluated_both, operand_of, whole_operands}, Words.is_plain}
+use Rattle.{std.proofs.Common.{◌≡◌, ap, ap₂, ◌∙◌, sym, Bool, true, false, ◌&&◌, refl}}
+use Rattle.mars_core.specs.{Whole.operand, Code.{operand_of}, Words.is_plain}
+use Rattle.mars_core.proofs.Executions.{both}
 use Rattle.mars_core.proofs.operand.whole_operands.Goals as goal
 
 -- of two tests that both hold each one holds
@@ -13,13 +14,6 @@ second-holds false b both e t = cc
 
 pub plain-b-requires-clause-plain : goal.plain-b-requires-clause-plain
 plain-b-requires-clause-plain g c = ap is_plain c.b_mode.ensures ∙ second-holds _ _ _ c.is_plain.ensures c.if-is_plain.true
-
--- both operands, by the one after the other
-both : (size pc : ℕ) (i : Instr) (core core1 core2 : List Instr) (a b : Operand) → operand size core pc i.a_mode i.a ≡ evaluated a core1 → operand size core1 pc i.b_mode i.b ≡ evaluated b core2 →
-    whole_operands size core pc i ≡ evaluated_both a b core2
-both size pc i core core1 core2 a b one two =
-    let rest : Evaluated → Operands = λ (e : Evaluated). let x = operand size e.core pc i.b_mode i.b in evaluated_both e.operand x.operand x.core in
-    ap rest one ∙ ap (λ (e : Evaluated). evaluated_both a e.operand e.core) two
 
 pub returns-then-is_plain-clause-value : goal.returns-then-is_plain-clause-value
 returns-then-is_plain-clause-value g c =

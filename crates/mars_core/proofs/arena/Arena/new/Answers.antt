@@ -1,5 +1,5 @@
 use Rattle.std.proofs.{Common.{◌≡◌, ℕ, ◌<◌, List, [], replicate, sym, ap, subst, ◌∙◌, arith}, lemmas.List.Elements.All-nil}
-use Rattle.{mars_core.specs.{Cells.blank, Queue.{Processes, processes}, Round.IsQueue, Arena.round_in, declared.round.Side.Side}, mars_core.proofs.Loads.IsCore-replicate}
+use Rattle.{mars_core.specs.{Cells.blank, Queue.{Processes}, Round.IsQueue, Arena.round_in, declared.round.Side.Side}, mars_core.proofs.Loads.IsCore-replicate}
 use Rattle.mars_core.proofs.arena.Arena.new.Goals as goal
 
 pub returns : goal.returns
