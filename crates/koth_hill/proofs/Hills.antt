@@ -3,7 +3,7 @@ use Rattle.std.proofs.Common.{◌≡◌, ℕ, ◌+◌, ◌-◌, ◌<◌, ◌≤�
 use Rattle.{std.specs.{Prelude.if◌then◌else◌, Result.is_ok}, std.proofs.{lemmas.Bool.cond-false, lemmas.List.{length-map, length_push, map-append}}}
 use Rattle.{std.proofs.lemmas.List.Elements.{All-weaker, All-cons, All-nil, All-push}, war_types.specs.{declared.settings.RawSettings.RawSettings, Settings.AreSettings, Warrior.{WarriorParts, Fits}}}
 use Rattle.{koth_match.specs.{declared.bout.Bout.Bout, Match.rounds_in}, koth_hill.specs.{declared.standings.Standing.Standing, declared.verdict.Verdict.Verdict}}
-use Rattle.koth_hill.specs.{Hill.{Member, Hill, AllFit, MayStand, IsHill, member_of, last_entry}, Step.{challenger, enlarged, falling_by, matches_with, stays_by}}
+use Rattle.koth_hill.specs.{Hill.{Member, Hill, AllFit, MayStand, IsHill, member_of, last_entry}, Step.{challenger, enlarged, falling_by, stays_by}}
 use Rattle.koth_hill.specs.Kept.{Kept, Entrant, AreRows, IsKept, entrant_of, entries_of, hill_in, kept_of, members_of, rows_of, fresh, known, kept_fall, kept_stay, result_of, step_kept, verdict_kept}
 use Rattle.koth_hill.specs.Standings.{StandingParts, HaveRounds, judged_among, kept_in, entries_in, rows_in, result_in_standings, standing_of, standing_parts}
 use Rattle.koth_hill.proofs.{Members.IsHill-put_back, ByEntry.{kept_among, entries-entrants, rows-entrants}, Judged.{judged_in, judged-found}, RowsKept.{AreRows-push, matches-rounds}}
@@ -136,11 +136,6 @@ put_back-is seen now es items e entry age w bouts same members rows made pushed 
 
     all : items ≡ es ++ mine ∷ []
     all = pushed ∙ ap (λ (x : Entrant). es ++ x ∷ []) made
-
--- the matches that were fought are the challenger's
-pub fresh-found : (seen : Kept) (es : List Entrant) (s : RawSettings) (w : WarriorParts) (bouts : List Bout) → s ≡ seen.settings → members_of es ≡ seen.members →
-    bouts ≡ matches_with s (members_of es) w → bouts ≡ fresh seen w
-fresh-found seen es s w bouts same members found = found ∙ ap₂ (λ (x : RawSettings) (ms : List Member). matches_with x ms w) same members
 
 -- ---- a challenger that falls
 

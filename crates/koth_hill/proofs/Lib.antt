@@ -21,3 +21,4 @@ pub mod Shown
 pub mod Audits
 pub mod Untruths
 pub mod Admitting
+pub mod Challenges

@@ -9,5 +9,7 @@ pub mod Step
 -- the same with a result kept of each pair, in place of a match fought again
 pub mod Kept
 pub mod Standings
+-- a challenge that is fought in steps
+pub mod Challenge
 -- laws of hills, for every hill and every warrior
 pub mod Laws

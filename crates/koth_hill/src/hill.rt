@@ -3,9 +3,10 @@
 ghost use Rattle.std.specs.Prelude.{◌≡◌, ◌+◌, ◌-◌, ◌<◌, ◌≤◌, ◌^◌, ◌++◌, ◌∷◌, [], All, true, false, length, slice_get, None, Some, IfOk, IfSome};
 ghost use Rattle.{war_types.specs.Warrior.{WarriorParts, Fits}, koth_match.specs.Match.rounds_in};
 ghost use Rattle.koth_hill.specs.{Hill.{last_entry, member_of}, Table.table, Rows.rows_parts, Laws.{IsRanking, LeastFalls, OthersStay}, Step.{verdict, step, matches_with}};
-ghost use Rattle.koth_hill.specs.Kept.{AreTrue, AreTrueBefore, IsKept, IsUntrue, entries_of, hill_in, kept_fall, kept_of, new_kept, result_of, step_kept, table_kept, verdict_kept};
+ghost use Rattle.koth_hill.specs.Kept.{AreTrue, AreTrueBefore, IsKept, IsUntrue, entries_of, fresh, hill_in, kept_fall, kept_of, new_kept, result_of, step_kept, table_kept, verdict_kept};
 
 use crate::bouts::Bouts;
+use crate::challenge::Challenge;
 use crate::falls::{let_fall, place_of, stay_on};
 use crate::fights::{first_difference, matches_with};
 use crate::judging::judged;
@@ -132,13 +133,21 @@ impl<A: Allocator> Hill<A> {
         ensures unchanged { self.new ≡ self.old }
         ensures arena { arena.new.settings ≡ arena.old.settings }
     {
-        let members = self.members.as_slice();
-        let bouts = matches_with(arena, &self.settings, members, challenger);
+        let mut challenge = Challenge::new(self);
+        challenge.fight_out(self, arena, challenger)
+    }
+
+    /// The verdict on a challenger with these results of its matches with all on the hill, by their rising entries.
+    pub(crate) fn verdict_by(&self, bouts: &[Bout]) -> Verdict
+        requires counter { self.now.counter < 2 ^ 64 - 1 }
+        requires fought { (w : WarriorParts) × (bouts.now ≡ fresh self.now w) }
+        ensures { (w : WarriorParts) → bouts.now ≡ fresh self.now w → result ≡ verdict_kept self.now w }
+    {
         let own = Standing {
             entry: self.counter + 1,
-            bouts: bouts.as_slice(),
+            bouts,
         };
-        let standings = Standings::with(members, own);
+        let standings = Standings::with(self.members.as_slice(), own);
         judged(
             standings.as_slice(),
             usize::from(self.settings.capacity()),

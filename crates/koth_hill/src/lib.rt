@@ -1,10 +1,12 @@
 //! The hill: scores, ranks, falls and ages.
 //!
-//! `hill` has the warriors on it, each a `member` with the `bouts` of its matches with those before it. A challenger fights its own
-//! matches (`fights`) and stands after the others (`standings`). `points` and `score` make points and ranks of all their results,
-//! `judging` the `verdict`, and `falls` changes the others if it stays. `table` has each `row` by rank, and `untrue` is what an audit finds.
+//! `hill` has the warriors on it, each a `member` with the `bouts` of its matches with those before it. A challenger fights its
+//! own matches, step by step (`challenge`), and stands after the others (`standings`). `points` and `score` make points and ranks
+//! of all their results, `judging` the `verdict`, and `falls` changes the others if it stays. `table` has each `row` by rank.
+//! An audit fights all matches (`fights`), and `untrue` is what it finds.
 //!
-//! The main clauses: `judge` changes nothing and answers the verdict that is due, with the entry that falls (`LeastFalls`). `admit` and
+//! The main clauses: `judge` changes nothing and answers the verdict that is due, with the entry that falls (`LeastFalls`). It is
+//! the steps of a `Challenge`, one after another (`IsUnderWay`), and whoever has other work makes it between two of them. `admit` and
 //! `pass` take the step that was judged, and leave all others (`OthersStay`). `rows` is the ranking (`IsRanking`), and `first_untrue` finds
 //! the first kept result that its match doesn't give. Each is said twice: by the results that are kept, and, if those are true (`AreTrue`),
 //! by every pair fought again. `IsKept` holds of each hill: entries rise, ages fit the counter, and each pair has one result.
@@ -13,6 +15,7 @@
 #![tactic(auto)]
 
 mod bouts;
+mod challenge;
 mod falls;
 mod fights;
 mod hill;
@@ -26,6 +29,7 @@ mod table;
 mod untrue;
 mod verdict;
 
+pub use challenge::Challenge;
 pub use hill::Hill;
 pub use member::Member;
 pub use row::Row;

@@ -2,7 +2,7 @@
 use Rattle.{std.proofs.Common.{◌≡◌, ◌∙◌, ℕ, ◌+◌, zero, suc, Bool, true, false, List, map, cond, refl, sym, ap, ap₂, arith, add-one}, std.specs.{Prelude.if◌then◌else◌, List.range_with_len}}
 use Rattle.{std.proofs.lemmas.List.FromFn.sum_by-map-range_with_len_more, war_types.specs.{declared.settings.RawSettings.RawSettings, Warrior.WarriorParts}}
 use Rattle.{mars_core.specs.{declared.round.Side.Side, declared.round.Outcome.Outcome, Round.{Round, is_over, turn_of, after_side, after_turn, after_turns}}, koth_match.specs.declared.bout.Bout.Bout}
-use Rattle.koth_match.specs.{Match.{bout_before, match_of, counted, first_in, outcome_at, round_outcome, round_outcomes, rounds_in, is_outcome, times, AreCounts}, Seeds.{position, seed_of_round}}
+use Rattle.koth_match.specs.{Match.{bout_before, counted, first_in, outcome_at, outcomes_before, round_outcome, rounds_in, is_outcome, times, AreCounts}, Seeds.{position, seed_of_round}}
 
 after_side-settings : (m : Side) (r : Round) → (after_side m (turn_of r).core (turn_of r).queue r).settings ≡ r.settings
 after_side-settings Side.First r = refl
@@ -53,17 +53,13 @@ AreCounts-more ends more Outcome.Tie b are e = record {
 }
 
 -- the counts, round after round
-bout_before-counts : (s : RawSettings) (older younger : WarriorParts) (n : ℕ) → AreCounts (map (round_outcome s older younger) (range_with_len 0 n)) (bout_before s older younger n)
+pub bout_before-counts : (s : RawSettings) (older younger : WarriorParts) (n : ℕ) → AreCounts (outcomes_before s older younger n) (bout_before s older younger n)
 bout_before-counts s older younger zero = record { older_wins = refl; younger_wins = refl; ties = refl }
 bout_before-counts s older younger (suc n) =
     let f = round_outcome s older younger in
     let ends : ℕ → List Outcome = λ k. map f (range_with_len 0 k) in
     AreCounts-more (ends n) (ends (suc n)) (f n) (bout_before s older younger n) (bout_before-counts s older younger n)
     (λ x. ap (λ k. times x (ends k)) (sym (add-one n)) ∙ sum_by-map-range_with_len_more (λ o. cond (is_outcome x o) 1 0) f 0 n n (omega arith))
-
-pub match_of-counts : (s : RawSettings) (older younger : WarriorParts) → AreCounts (round_outcomes s older younger) (match_of s older younger)
-unfolding match_of
-match_of-counts s older younger = bout_before-counts s older younger s.rounds
 
 -- the counts of n rounds
 module _ (s : RawSettings) (older younger : WarriorParts) (b : Bout) (n : ℕ) (counts : b ≡ bout_before s older younger n) where

@@ -1,8 +1,8 @@
 -- A match of two warriors: in each of its rounds one side wins, or it is a tie (scores are counted as pMARS does; who moves
 -- first is this project's own).
-use Rattle.std.specs.{Prelude.{ℕ, zero, suc, ◌+◌, ◌*◌, ◌%◌, ◌≡◌, ◌==◌, Bool, true, false, if◌then◌else◌, List, map, count_by}, List.range_with_len}
+use Rattle.std.specs.{Prelude.{ℕ, zero, suc, ◌+◌, ◌*◌, ◌%◌, ◌≡◌, ◌≤◌, ◌==◌, Bool, true, false, if◌then◌else◌, List, map, count_by}, List.range_with_len}
 use Rattle.{war_types.specs.{declared.settings.RawSettings.RawSettings, Warrior.WarriorParts}, mars_core.specs.{declared.round.Side.Side, declared.round.Outcome.Outcome}}
-use Rattle.{mars_core.specs.Round.{opening, after_turns, outcome}, koth_match.specs.{declared.bout.Bout.Bout, Seeds.{position, seed_of_round}}}
+use Rattle.{mars_core.specs.Round.{opening, after_turns, outcome}, koth_match.specs.{declared.bout.Bout.Bout, declared.rounds.Match.Match, Seeds.{position, seed_of_round, IsSeed}}}
 
 -- the older warrior moves first in every second round, the first of them included
 abbrev pub first_in : ℕ → Side
@@ -38,9 +38,13 @@ bout_before s older younger (suc n) = counted (round_outcome s older younger n) 
 unfoldable pub match_of : RawSettings → WarriorParts → WarriorParts → Bout
 match_of s older younger = bout_before s older younger s.rounds
 
+-- how each round before round n ends, in order
+abbrev pub outcomes_before : RawSettings → WarriorParts → WarriorParts → ℕ → List Outcome
+outcomes_before s older younger n = map (round_outcome s older younger) (range_with_len 0 n)
+
 -- how each round ends, in order
 abbrev pub round_outcomes : RawSettings → WarriorParts → WarriorParts → List Outcome
-round_outcomes s older younger = map (round_outcome s older younger) (range_with_len 0 s.rounds)
+round_outcomes s older younger = outcomes_before s older younger s.rounds
 
 abbrev pub is_outcome : Outcome → Outcome → Bool
 is_outcome Outcome.First Outcome.First = true
@@ -57,3 +61,10 @@ pub record AreCounts (ends : List Outcome) (b : Bout) : Type 0 where
   pub older_wins : b.older_wins ≡ times Outcome.First ends
   pub younger_wins : b.younger_wins ≡ times Outcome.Second ends
   pub ties : b.ties ≡ times Outcome.Tie ends
+
+-- a match of these two, some rounds of which were played: their counts, and the seed of the next one
+pub record IsPlayed (s : RawSettings) (older younger : WarriorParts) (m : Match) : Type 0 where
+  pub rounds : m.round ≤ s.rounds
+  pub bout : m.bout ≡ bout_before s older younger m.round
+  pub next : m.seed ≡ seed_of_round s m.round
+  pub seed : IsSeed m.seed

@@ -10,7 +10,8 @@
 //! second round, and in the first one.
 //!
 //! So a match is a function of its settings and its two warriors (`match_of` in `specs`), whatever the arena was used for before. `fight`
-//! promises that it counts this function's value, and that the counts add up to the settings' rounds. `position`, `seed_of_round` and
+//! promises that it counts this function's value, and that the counts add up to the settings' rounds. A `Match` is played in parts: after
+//! each of them its counts are those of the rounds so far (`IsPlayed`), and `fight` is one such part. `position`, `seed_of_round` and
 //! `first_in` serve those who play one round of a match by itself.
 //!
 //! Nothing here takes memory: the arena, which the caller makes, has all that a round needs.
@@ -21,5 +22,5 @@ mod rounds;
 mod seeds;
 
 pub use bout::Bout;
-pub use rounds::{fight, first_in};
+pub use rounds::{Match, fight, first_in};
 pub use seeds::{next_seed, position, seed_of_round};
