@@ -8,4 +8,5 @@ pub mod Moving
 pub mod Eventful
 pub mod Counting
 pub mod Fought
+pub mod Submitting
 mod Copying

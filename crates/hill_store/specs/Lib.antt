@@ -3,6 +3,8 @@ pub mod Earned
 -- a store as its caller sees it, and what creating, opening, moving and one submission make of it
 pub mod Seen
 pub mod Opened
+-- a submission that is begun, and fought in steps
+pub mod Submission
 -- submissions one after another
 pub mod Runs
 -- what a device holds, said by the sources that earn its hill

@@ -2,7 +2,8 @@
 //! bytes of the sectors are those of `hill_bytes`.
 //!
 //! `store` assembles a source, has its warrior judged, makes the outcome durable, and only then counts it; `reply` is what it
-//! answers.
+//! answers. A `submission` may also be made in parts: `begin`, `step` after step, and `finish`. Until it is finished, device
+//! and hill are as they were before, and one that is given up leaves nothing.
 //!
 //! The main clauses: `submit` and `submit_all` answer the reply that is due, and on a lawful device every image then stands for
 //! the hill after the sources that were answered (`Seen`, `Runs`, `Holding` in `specs`). After a stop, `open` finds the hill with
@@ -14,6 +15,7 @@ mod laws;
 mod migration;
 mod reply;
 mod store;
+mod submission;
 
 pub use hill_bytes::{
     Header, HeaderEntry, decode_header, decode_old_header, encode_header, encode_old_header,
@@ -24,3 +26,4 @@ pub use laws::{calls_in_lives, laws_of_kept, laws_of_lives, migrations_in_lives}
 pub use migration::{MigrateFault, MigrateSide};
 pub use reply::Reply;
 pub use store::Store;
+pub use submission::Submission;

@@ -9,6 +9,7 @@ ghost use Rattle.hill_store.specs.{Kept.IsAnew, Runs.{Runs, texts}, Opened.{IsCr
 ghost use Rattle.hill_store.specs.{Holding.{Holds, HoldsIn, HoldsMore, IsDecided, IsHolding, IsMoved, IsUndecided, IsUnmoved}, Seen.{Seen, IsAnswered, IsCut, IsLeft, MayBeSpent, Submits, SubmitsWithin, Challenges, IsRefusal}};
 
 mod reading;
+mod steps;
 
 use crate::migration::{MigrateFault, MigrateSide};
 use crate::reply::Reply;
@@ -199,39 +200,17 @@ impl<D: Device, A: Allocator + Copy> Store<D, A> {
         Ok(replies)
     }
 
-    /// Assembles a source, in this number of steps if there is one, and has its warrior judged.
+    /// Begins with a source, in this number of steps if there is one, and settles what is begun.
     fn reply_to(&mut self, source: &[u8], steps: Option<u64>) -> Option<Reply>
         ensures submits { SubmitsWithin D.facts steps self.old source.now result self.new }
         ensures hill { IsKeptHill self.old.hill }
         ensures kept { IsKept D.facts self.old.device self.new.device }
         ensures worn { self.old.generation ≡ 2 ^ 64 - 1 → self.new ≡ self.old }
     {
-        if self.reopen {
-            return Some(Reply::Reopen);
-        }
-        match assembled(self.alloc, source, self.hill.settings(), steps) {
-            Ok(warrior) => Some(self.challenge(warrior)),
-            Err(Unassembled::Refused(fault)) => Some(refused(fault)),
-            Err(Unassembled::StepsSpent) => None,
-        }
-    }
-
-    /// Judges a warrior, and makes the outcome durable.
-    fn challenge(&mut self, warrior: Warrior<A>) -> Reply
-        requires is_open { self.old.reopen ≡ false }
-        requires fits { Fits self.old.hill.settings warrior }
-        ensures challenges { Challenges D.facts self.old warrior result self.new }
-        ensures kept { IsKept D.facts self.old.device self.new.device }
-        ensures worn { self.old.generation ≡ 2 ^ 64 - 1 → self.new ≡ self.old }
-    {
-        if self.header.generation() == u64::MAX {
-            return Reply::Worn;
-        }
-        let verdict = self.hill.judge(&mut self.arena, &warrior);
-        if verdict.stays {
-            self.admit(warrior, &verdict)
-        } else {
-            self.pass(&verdict)
+        match self.begin(source, steps) {
+            Some(Ok(submission)) => Some(self.settle(submission)),
+            Some(Err(reply)) => Some(reply),
+            None => None,
         }
     }
 

@@ -20,7 +20,7 @@ use std::rt::Files;
 
 /// Opened, locked, measured twice, read to its end, its three sectors written, the file and then its folder synced; and looked for and its
 /// headers read at once, by the file and by the device.
-const MADE: [u8; 18] = *b"okmmrswwwyoymsrmsr";
+const MADE: [u8; 16] = *b"okmmrswwwyoymrmr";
 
 /// What is reported if a call fails.
 const FAILED: Result<u32, OpenFault> = Err(OpenFault::Failed(ErrorKind::Other));
@@ -121,7 +121,7 @@ where
 /// A file that is kept is read before it is written to. One that is overwritten is emptied when its lock is held, and not before.
 const LOCKED: [HillCall; 5] = [
     HillCall::Make(Existing::Kept, NEVER, Ok(3), &MADE),
-    HillCall::Make(Existing::Overwritten, NEVER, Ok(3), b"okmlswwwyoymsrmsr"),
+    HillCall::Make(Existing::Overwritten, NEVER, Ok(3), b"okmlswwwyoymrmr"),
     HillCall::Write(b"a letter"),
     HillCall::Make(Existing::Kept, NEVER, Err(OpenFault::Occupied), b"okmmr"),
     HillCall::Remove,
@@ -178,7 +178,7 @@ fn making_stops_where_a_call_fails(rt: HostRuntime) {
 const FULL: [HillCall; 5] = [
     HillCall::StopMaking(7),
     HillCall::Zeros(512),
-    HillCall::Make(Existing::Kept, NEVER, Ok(3), b"okmmrrswwwyoymsrmsr"),
+    HillCall::Make(Existing::Kept, NEVER, Ok(3), b"okmmrrswwwyoymrmr"),
     HillCall::Zeros(1536),
     HillCall::Remove,
 ];
@@ -207,7 +207,7 @@ where
 /// Opened, looked for and measured. If it is for this program alone, it is locked first, and its headers are read.
 const OPENED: [HillCall; 4] = [
     HillCall::Make(Existing::Kept, NEVER, Ok(3), &MADE),
-    HillCall::Open(Sharing::Alone, b"okmsrmsr"),
+    HillCall::Open(Sharing::Alone, b"okmrmr"),
     HillCall::Open(Sharing::Shared, b"omm"),
     HillCall::Remove,
 ];
@@ -218,13 +218,13 @@ fn opening_locks_the_file(rt: HostRuntime) {
 }
 
 /// A look measures the file, and reads both headers. A write is a look and a write of the sector.
-const WRITTEN: [u8; 5] = *b"msrsw";
+const WRITTEN: [u8; 3] = *b"mrw";
 
 /// A sync is a look, a sync and a look.
-const SYNCED: [u8; 7] = *b"msrymsr";
+const SYNCED: [u8; 5] = *b"mrymr";
 
 /// If the device doubts, each of three sectors is read, and written after a look, between the first look and the sync.
-const DOUBTED: [u8; 28] = *b"msrsrmsrswsrmsrswsrmsrswymsr";
+const DOUBTED: [u8; 17] = *b"mrrmrwrmrwrmrwymr";
 
 /// Each call of a device of three sectors, and each of the file's in it that fails. A read needs no look. After a sync that failed the next
 /// one writes each sector again, and nothing else that fails makes it do so.
@@ -236,13 +236,13 @@ fn expect_each<D: Device + Drop, E: Debug>(
     let mut hill = made.expect(rt, "it is made");
     expect_sectors(rt, &hill, 3);
     expect_script(rt, calls, &mut hill, b'w', &WRITTEN);
-    expect_script(rt, calls, &mut hill, b'r', b"sr");
-    expect_refused(rt, calls, &mut hill, b'y', &SYNCED, 0..3);
-    expect_refused(rt, calls, &mut hill, b'y', &SYNCED, 4..7);
+    expect_script(rt, calls, &mut hill, b'r', b"r");
+    expect_refused(rt, calls, &mut hill, b'y', &SYNCED, 0..2);
+    expect_refused(rt, calls, &mut hill, b'y', &SYNCED, 3..5);
     expect_done(rt, calls, &mut hill, b'y', &SYNCED);
-    expect_answer(rt, calls, &mut hill, b'y', 3, Err(Fault), SYNCED.get(..4));
+    expect_answer(rt, calls, &mut hill, b'y', 2, Err(Fault), SYNCED.get(..3));
     expect_script(rt, calls, &mut hill, b'w', &WRITTEN);
-    expect_refused(rt, calls, &mut hill, b'y', &DOUBTED, 0..25);
+    expect_refused(rt, calls, &mut hill, b'y', &DOUBTED, 0..15);
     expect_done(rt, calls, &mut hill, b'y', &DOUBTED);
     expect_done(rt, calls, &mut hill, b'y', &SYNCED);
 }

@@ -7,6 +7,7 @@ use std::fs::{Files, Metadata, OpenFile, OpenOptions, Permissions};
 use std::io;
 use std::io::{ErrorKind, PipeReader, PipeWriter, Read, Seek, SeekFrom, Write};
 use std::os::fd::BorrowedFd;
+use std::os::unix::fs::FileExt;
 use std::os::unix::net::SocketAddr;
 use std::path::PathBuf;
 
@@ -192,12 +193,29 @@ impl<F: Read> Read for WatchedFile<'_, F> {
 
 impl<F: Write> Write for WatchedFile<'_, F> {
     fn write(&mut self, buf: &[u8]) -> io::Result<usize> {
-        note(self.calls, if buf.len() == 512 { b'w' } else { b'p' })?;
+        note(self.calls, letter_of(buf))?;
         self.file.write(buf)
     }
 
     fn flush(&mut self) -> io::Result<()> {
         self.file.flush()
+    }
+}
+
+/// How a write of these bytes is written down.
+fn letter_of(bytes: &[u8]) -> u8 {
+    if bytes.len() == 512 { b'w' } else { b'p' }
+}
+
+impl<F: FileExt> FileExt for WatchedFile<'_, F> {
+    fn read_at(&self, buf: &mut [u8], offset: u64) -> io::Result<usize> {
+        note(self.calls, b'r')?;
+        self.file.read_at(buf, offset)
+    }
+
+    fn write_at(&self, buf: &[u8], offset: u64) -> io::Result<usize> {
+        note(self.calls, letter_of(buf))?;
+        self.file.write_at(buf, offset)
     }
 }
 

@@ -1,0 +1,129 @@
+//! Submissions in parts: tables between two steps, one that is given up, and growths that are refused where one is begun.
+
+ghost use Rattle.std.specs.Prelude.{◌≡◌};
+ghost use Rattle.{koth_hill.specs.Kept.{verdict_kept}, hill_store.specs.Submission.{IsSubmitting}};
+
+use crate::expecting::{FIRST, SECOND, expect_calls, expect_reply, expect_same, expect_table};
+use crate::hills::{blank_in, created_on};
+use hill_store::{Reply, Store, Submission};
+use koth_hill::Verdict;
+use sector_disk::Device;
+use std::alloc::{Allocator, Global};
+use std::process::Abort;
+use tests_fixtures::Refusing;
+use tests_stores::{Numbers, counted};
+
+/// The table of a hill of one warrior.
+const ONE_ROW: [Numbers; 1] = [(1, 0, 0)];
+
+/// The table with a second one, which has two ties with it.
+const TWO_ROWS: [Numbers; 2] = [(1, 2, 1), (2, 2, 0)];
+
+/// The submission of a source that gives a warrior.
+fn begun<D: Device, A: Allocator + Copy>(
+    rt: &impl Abort,
+    store: &Store<D, A>,
+    source: &[u8],
+) -> Submission<A>
+    ensures { IsSubmitting store.now result }
+{
+    match store.begin(source, None) {
+        Some(Ok(submission)) => submission,
+        Some(Err(_)) | None => panic!(rt; "it gives a warrior"),
+    }
+}
+
+/// Its verdict; before each step the table has these rows.
+fn judged_beside<D: Device, A: Allocator + Copy>(
+    rt: &impl Abort,
+    store: &mut Store<D, A>,
+    submission: &mut Submission<A>,
+    rows: &[Numbers],
+) -> Verdict
+    requires { IsSubmitting store.old submission.old }
+    ensures verdict { result ≡ verdict_kept store.old.hill submission.old.warrior }
+    ensures submitting { IsSubmitting store.old submission.new }
+    ensures warrior { submission.new.warrior ≡ submission.old.warrior }
+    ensures unchanged { store.new ≡ store.old }
+{
+    for _step in 0..100 {
+        expect_table(rt, store, rows);
+        if let Some(verdict) = store.step(submission) {
+            return verdict;
+        }
+    }
+    panic!(rt; "it takes more steps")
+}
+
+/// One that is given up leaves the table and the device as they were, and the next one is judged and placed as if it were the first.
+fn expect_parts<D: Device + Drop>(rt: &(impl Abort + AllocGlobal), device: D) {
+    let mut store = created_on(rt, rt.alloc(), counted(device));
+    expect_reply(rt, &mut store, b"MOV 0,1", FIRST);
+    let mut given_up = begun(rt, &store, b"DAT 0,0");
+    drop(store.step(&mut given_up));
+    drop(given_up);
+    let mut submission = begun(rt, &store, b"JMP 0");
+    let verdict = judged_beside(rt, &mut store, &mut submission, &ONE_ROW);
+    let reply = store.finish(submission, &verdict);
+    drop(verdict);
+    expect_same(rt, &reply, &SECOND, "a reply in parts");
+    expect_table(rt, &store, &TWO_ROWS);
+    expect_calls(rt, store, 5 + 7 + 7);
+}
+
+#[test]
+fn a_submission_in_parts(rt: HostRuntime) {
+    expect_parts(&rt, blank_in(&rt, rt.alloc()));
+}
+
+/// What a source is answered at once, if growth `k` is refused, and how many growths were refused.
+fn expect_begun<D: Device>(
+    rt: &impl Abort,
+    memory: &Refusing<Global>,
+    store: &Store<D, &Refusing<Global>>,
+    k: u64,
+    reply: Option<Reply>,
+    refused: u64,
+) {
+    memory.refuse(k, 1);
+    let found = match store.begin(b"MOV 0,1", None) {
+        Some(Err(reply)) => Some(reply),
+        Some(Ok(_)) | None => None,
+    };
+    expect_same(
+        rt,
+        &(found, memory.refused()),
+        &(reply, refused),
+        "what is begun",
+    );
+}
+
+/// The same nine growths as of a submission in one go. The steps and the end need none.
+fn expect_growths<D: Device + Drop>(rt: &impl Abort, memory: &Refusing<Global>, device: D) {
+    let mut store = created_on(rt, memory, device);
+    for k in 0..9 {
+        expect_begun(rt, memory, &store, k, Some(Reply::Memory), 1);
+    }
+    expect_begun(rt, memory, &store, 9, None, 0);
+    memory.refuse(0, 0);
+    let mut submission = begun(rt, &store, b"MOV 0,1");
+    memory.refuse(0, u64::MAX);
+    let reply = match store.step(&mut submission) {
+        Some(verdict) => store.finish(submission, &verdict),
+        None => panic!(rt; "there is nobody to fight"),
+    };
+    expect_same(
+        rt,
+        &(reply, memory.refused()),
+        &(FIRST, 0),
+        "without memory",
+    );
+    drop(store);
+}
+
+#[test]
+fn each_growth_of_a_submission_that_is_begun(rt: HostRuntime) {
+    let memory = Refusing::new(rt.alloc());
+    expect_growths(&rt, &memory, blank_in(&rt, rt.alloc()));
+    drop(memory);
+}
