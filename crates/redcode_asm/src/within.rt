@@ -22,7 +22,8 @@ pub enum Unassembled {
 ///
 /// An answer that is given is that of `assemble`. A step is a line that is walked over, a token that is read, replaced or worked out,
 /// or a name that is looked up: a copy of a line is walked over too. What the written lines say is not counted: that is less than 4,096
-/// lines of 512 operands. No source takes more than 2^62 steps, and one of more than 65,536 bytes takes none.
+/// lines of 512 operands. A source of L bytes takes fewer than
+/// 537,010,177 (L + 1) (L + 16,385) + 2^32 steps, and one of more than 65,536 bytes takes none.
 pub fn assemble_within<A: Allocator + Copy>(
     alloc: A,
     source: &[u8],

@@ -20,12 +20,27 @@ pub(crate) fn bad_token<'s, A: Allocator + Copy>(
         return assigned(scene, row, name, sign, body);
     }
     match first_bad(row.reading.tokens) {
+        Some(token) if is_byte_order_mark(scene, row.span(token), token) => {
+            told_text(
+                row.span(token),
+                "a byte order mark; save the source without it",
+            )
+        }
         Some(token) => unknown_byte(row.span(token), token.text),
         None => {
             let said = "the body of an `EQU` that is used here has a byte that is no symbol";
             told_text(row.whole(), said)
         }
     }
+}
+
+/// Whether a byte that begins no token is the first of a byte order mark, as some editors write it before a text.
+fn is_byte_order_mark<A: Allocator + Copy>(
+    scene: &Scene<'_, A>,
+    span: Span,
+    token: &Token<'_>,
+) -> bool {
+    span.from == 0 && has_text(token, &[0xef]) && scene.source.starts_with(b"\xef\xbb\xbf")
 }
 
 /// The first of the tokens that is none of the language's.

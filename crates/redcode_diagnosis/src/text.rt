@@ -1,7 +1,7 @@
 //! A refusal as text for people.
 
 ghost use Rattle.std.specs.Prelude.{◌≡◌, ◌++◌, IfOk, OnOk};
-ghost use Rattle.redcode_diagnosis.specs.Text.{Begins, heading};
+ghost use Rattle.redcode_diagnosis.specs.Text.{Begins, heading, shown_line};
 
 use crate::diagnosis::Diagnosis;
 use crate::json::append_numbered;
@@ -14,7 +14,7 @@ use war_types::AsmFault;
 /// Places for the number of a line.
 const NUMBER_PLACES: usize = 5;
 
-/// A refusal of a source as text: `PATH:LINE:COLUMN: Kind: sentence`. If a line is to blame, its text follows, with a caret under each byte
+/// A refusal of a source as text: `PATH:LINE:COLUMN: Kind: sentence`, with line 1 if the source as a whole is to blame. If a line is to blame, its text follows, with a caret under each byte
 /// to blame; if that line stands in a block, so does how it reads in the copy that is refused. Each line ends with a line feed. Control bytes
 /// other than the tab are shown as question marks, but the path as it is. It fails when memory runs out.
 pub fn text_of<A: Allocator + Copy>(
@@ -53,11 +53,18 @@ fn append_heading<A: Allocator>(
 ) -> Result<(), AllocError>
     ensures { OnOk result (text.new.items ≡ heading text.old.items fault column) }
 {
-    append_numbered(text, b":", fault.line)?;
+    append_numbered(text, b":", shown_line(fault.line))?;
     append_numbered(text, b":", column)?;
     text.extend_from_slice(b": ")?;
     text.extend_from_slice(fault.kind.name().as_bytes())?;
     text.extend_from_slice(b": ")
+}
+
+/// The line that an editor goes to: the first one if the source as a whole is to blame.
+fn shown_line(line: u32) -> u32
+    ensures { result ≡ shown_line line }
+{
+    if line == 0 { 1 } else { line }
 }
 
 /// The sentence, and the lines under it.

@@ -8,7 +8,7 @@ use Rattle.redcode_names.specs.Cut as names
 use Rattle.redcode_expand.specs.Walk.{ExpandedLine, WalkState, Begun, begun_as, begun_of, begun, closed, copied, copies, counted, equated, labelled, lined, placed, placed_by, step, step_by, until_end, unmatched, walk_state}
 use Rattle.redcode_expand.specs.Walk.{walk, with_line, with_word, worded, is_equ_word}
 use Rattle.redcode_expand.specs.{Expansion.{Expansion, all_replaced, finished, line_replaced}, Rest.{OpenBlock, counters_of, behind_copy, more_copies, rest_of}}
-use Rattle.redcode_expand.specs.Cut.{first_bad, cut_tokens, cut_line, cut_lines, cut_walk, with_cut, shown, shown_line, shown_lines, shown_tokens, with_shown}
+use Rattle.redcode_expand.specs.Cut.{first_bad, cut_tokens, cut_line, cut_lines, cut_walk, is_limited, kept_tokens, with_cut}
 use Rattle.redcode_expand.proofs.Words.{AsmFault, RawSettings, Piece, SourceLine, labels_of, behind_labels, Counter, counter_of, in_copies, Names, all_defined, equ_line, LineKind, LineForm, Word, Blocks, Parsed, parsed, finish, one_line, block, open_for}
 use Rattle.redcode_text.specs.declared.vocabulary.Word.TheVariants as words
 use Rattle.redcode_lines.specs.declared.line.LineKind.TheVariants as lines
@@ -26,16 +26,15 @@ bad-twice (t ∷ ts) = elim (cases_Bool (is_bad t)) [
   | inr good ↦ rw good (bad-twice ts)
 ]
 
-pub tokens-short : (ts : List Piece) → length ts ≤ 516 → cut_tokens ts ≡ ts
+tokens-short : (ts : List Piece) → length ts ≤ 516 → cut_tokens ts ≡ ts
 unfolding cut_tokens
 tokens-short ts short = rw (take_all 516 ts short, drop_all 516 ts short) (append-nil ts)
 
--- what is kept of a line
-pub tokens-parts : (ts : List Token) → cut_tokens (pieces ts) ≡ pieces (take 516 ts) ++ first_bad (pieces (drop 516 ts))
+tokens-parts : (ts : List Token) → cut_tokens (pieces ts) ≡ pieces (take 516 ts) ++ first_bad (pieces (drop 516 ts))
 unfolding cut_tokens
 tokens-parts ts = rw (take-map piece_of 516 ts, drop-map piece_of 516 ts) refl
 
-pub tokens-long : (ts : List Piece) → 516 ≤ length ts → 516 ≤ length (cut_tokens ts)
+tokens-long : (ts : List Piece) → 516 ≤ length ts → 516 ≤ length (cut_tokens ts)
 unfolding cut_tokens
 tokens-long ts long = omega (arith, length-append (take 516 ts) (first_bad (drop 516 ts)), length-take-le 516 ts long)
 
@@ -56,9 +55,44 @@ tokens-twice ts = elim (cases_Bool (nat_lt 516 (length ts))) [
   | inr short ↦ ap cut_tokens (tokens-short ts (ltb-false 516 (length ts) short))
 ]
 
+taken-twice : (n : ℕ) (ts : List Piece) → take n (take n ts) ≡ take n ts
+taken-twice zero ts = refl
+taken-twice (suc n) [] = refl
+taken-twice (suc n) (t ∷ ts) = ap (λ (us : List Piece). t ∷ us) (taken-twice n ts)
+
+-- ---- what is kept of a line
+
+pub kept-twice : (kind : LineKind) (ts : List Piece) → kept_tokens kind (kept_tokens kind ts) ≡ kept_tokens kind ts
+unfolding kept_tokens
+kept-twice kind ts = elim (cases_Bool (is_limited kind)) [
+  | inl limited ↦ rw limited (taken-twice 516 ts)
+  | inr other ↦ rw other (tokens-twice ts)
+]
+
+pub kept-short : (kind : LineKind) (ts : List Piece) → length ts ≤ 516 → kept_tokens kind ts ≡ ts
+unfolding kept_tokens
+kept-short kind ts short = elim (cases_Bool (is_limited kind)) [
+  | inl limited ↦ rw limited (take_all 516 ts short)
+  | inr other ↦ rw other (tokens-short ts short)
+]
+
+pub kept-long : (kind : LineKind) (ts : List Piece) → 516 ≤ length ts → 516 ≤ length (kept_tokens kind ts)
+unfolding kept_tokens
+kept-long kind ts long = elim (cases_Bool (is_limited kind)) [
+  | inl limited ↦ rw limited (omega (arith, length-take-le 516 ts long))
+  | inr other ↦ rw other (tokens-long ts long)
+]
+
+pub kept-parts : (kind : LineKind) (ts : List Token) → kept_tokens kind (pieces ts) ≡ pieces (take 516 ts) ++ (if is_limited kind then [] else first_bad (pieces (drop 516 ts)))
+unfolding kept_tokens
+kept-parts kind ts = elim (cases_Bool (is_limited kind)) [
+  | inl limited ↦ rw limited (take-map piece_of 516 ts ∙ sym (append-nil (pieces (take 516 ts))))
+  | inr other ↦ rw other (tokens-parts ts)
+]
+
 lines-twice : (ls : List ExpandedLine) → cut_lines (cut_lines ls) ≡ cut_lines ls
 lines-twice [] = refl
-lines-twice (l ∷ ls) = rw (tokens-twice l.tokens, lines-twice ls) refl
+lines-twice (l ∷ ls) = rw (kept-twice l.kind l.tokens, lines-twice ls) refl
 
 walk-twice : (st : WalkState) → cut_walk (cut_walk st) ≡ cut_walk st
 walk-twice st = rw (cut-twice st.names.equs, lines-twice st.lines) refl
@@ -123,7 +157,7 @@ line-put line kind word title ts st =
 
 -- a line was put after the others, with its tokens cut
 line-pushed : (ls : List ExpandedLine) (line : ExpandedLine) → cut_lines (ls ++ cut_line line ∷ []) ≡ cut_lines (ls ++ line ∷ [])
-line-pushed ls line = rw (map-append cut_line ls (cut_line line ∷ []), map-append cut_line ls (line ∷ []), tokens-twice line.tokens) refl
+line-pushed ls line = rw (map-append cut_line ls (cut_line line ∷ []), map-append cut_line ls (line ∷ []), kept-twice line.kind line.tokens) refl
 
 abbrev new_line : ℕ → LineKind → Option Word → ℕ → List ℕ → List Piece → ExpandedLine
 new_line line kind word before title tokens = record { source_line = line; kind = kind; word = word; before = before; title = title; tokens = tokens }
@@ -132,7 +166,7 @@ abbrev walked : ℕ → ℕ → Names → List ExpandedLine → Bool → Walked
 walked counted before ns ls ended = Ok (cut_walk (walk_state counted before ns ls ended))
 
 pub line-kept : (line : ℕ) (kind : LineKind) (word : Option Word) (title : List ℕ) (ts kept : List Piece) (counted before : ℕ) (ns : Names) (ls new : List ExpandedLine) (ended : Bool) (st : WalkState)
-    → walk_state counted before ns ls ended ≡ st → kept ≡ cut_tokens ts → new ≡ ls ++ new_line line kind word before title kept ∷ []
+    → walk_state counted before ns ls ended ≡ st → kept ≡ kept_tokens kind ts → new ≡ ls ++ new_line line kind word before title kept ∷ []
     → with_cut (Ok (with_line line kind word title ts st)) ≡ walked counted before ns new ended
 line-kept line kind word title ts kept counted before ns ls new ended st is kept-is new-is =
     ap (λ (w : WalkState). with_cut (Ok (with_line line kind word title ts w))) (sym is)

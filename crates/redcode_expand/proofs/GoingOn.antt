@@ -1,6 +1,6 @@
 -- How the walk goes on within open blocks: after a line, a FOR and a ROF, at the end of a copy, and whether a FOR has its ROF.
 use Rattle.std.proofs.Common.{◌≡◌, ◌≢◌, ℕ, suc, ◌+◌, ◌≤◌, Bool, true, false, List, [], ◌∷◌, ◌++◌, drop, nat_eq, Result, Ok, refl, sym, ap, ◌∙◌, arith, subst, zero, ◌-◌, ◌*◌, ◌<◌, length, Option, Some}
-use Rattle.{std.proofs.Common.leb, std.specs.Prelude.if◌then◌else◌, std.proofs.{lemmas.Bool.{true≢false, cond_both}, lemmas.Bool.Decides.nat_tests, lemmas.List.{drop_all, length-drop}}}
+use Rattle.{std.proofs.Common.leb, std.specs.Prelude.if◌then◌else◌, std.proofs.{Common.{inl, inr}, lemmas.Bool.{true≢false, cases_Bool, cond_both, eqb-true}, lemmas.Bool.Decides.nat_tests, lemmas.List.{drop_all, length-drop}}}
 use Rattle.{redcode_names.specs.Gives.{◌>>=◌, Fails}, redcode_expand.specs.{declared.marked_lines.Edge.Edge, Cut.{cut_walk, with_cut}, Marks.{AreFromRof, edge_of}, Walk.{WalkState, Begun, walk, step, begun, closed, copied, copies, until_end, begun_as, IsCopied}}}
 use Rattle.redcode_expand.specs.Rest.{OpenBlock, open_block, counters_of, more_copies, behind_copy, rest_of, counts, AreOpen, steps_left, GoesOn, IsUnmatched}
 use Rattle.redcode_expand.proofs.Words.{AsmFault, RawSettings, SourceLine, Blocks, Parsed, parsed, behind_for, finish, one_line, block, open_for, behind_by, behind_rof, with_body, Counter, counter_of}
@@ -165,6 +165,13 @@ pub next-copied : (s : RawSettings) (ls : List SourceLine) (old bs after : List 
     → copied number start st ≡ Ok now → now.ended ≡ st.ended → IsCopied start st.counted now.counted → left ≢ 0
     → GoesOn s ls (rest_of s ls old (parsed (drop at ls)) st) (steps_left ls old at st) after body now
 next-copied s ls old bs after b next at number start left body counted line st now h1 h2 h3 h4 h5 h6 h7 h8 h9 h10 h11 h12 h13 h14 h15 h16 h17 = grind (arith, next-goes-on)
+
+-- a copy counts one line at most at its end
+pub copied-few : (start old new : ℕ) → IsCopied start old new → new ≤ old + 1
+copied-few start old new is = elim (cases_Bool (nat_eq old start)) [
+  | inl same ↦ omega (arith, (is.counts (eqb-true old start same)).0)
+  | inr other ↦ omega (arith, is.stays (nat_eq-other old start other))
+]
 
 -- ---- whether a FOR has its ROF
 

@@ -6,6 +6,8 @@ mod Marks
 mod Rows
 mod RowsOfBlocks
 mod Cut
+mod Short
+mod Budget
 mod Shown
 mod Latest
 mod AddedEqus

@@ -2,7 +2,7 @@
 use Rattle.std.proofs.Common.{◌≡◌, ℕ, ◌+◌, ◌≤◌, ◌<◌, arith, true, false, Bool, not, ◌&&◌, List, [], ◌∷◌, length, drop, Option, Some, Result, Ok, refl, sym, ap, subst, ◌∙◌, nat_eq}
 use Rattle.{std.specs.Prelude.{if◌then◌else◌, slice_set}, std.proofs.{lemmas.Bool.{eqb-true, or_parts}, lemmas.List.{drop_all, drop_more, get_or-set_same, get_or-set_other, length-set}}}
 use Rattle.{redcode_names.specs.Gives.◌>>=◌, redcode_expand.specs.Cut.with_cut}
-use Rattle.redcode_expand.specs.{declared.marked_lines.Mark.Mark, Marks.{edge_of, is_bare, line_in, mark_at, no_mark, AreFromRof, AreMarked, IsMarked, IsNextRof, IsSameCount}}
+use Rattle.redcode_expand.specs.{declared.marked_lines.Mark.Mark, Marks.{edge_of, is_bare, is_long, line_in, mark_at, no_mark, AreFromRof, AreMarked, IsMarked, IsNextRof, IsSameCount}}
 use Rattle.redcode_expand.specs.Rest.{OpenBlock, behind_copy, counters_of, rest_of, steps_left, AreOpen, GoesOn}
 use Rattle.redcode_expand.specs.{Walk.{Begun, WalkState, begun, begun_as, begun_of, closed, walk}, declared.marked_lines.Edge.Edge}
 use Rattle.redcode_expand.proofs.Words.{AsmFault, RawSettings, Piece, SourceLine, Blocks, Parsed, parsed, with_body, behind_by, behind_for, has_tokens, labels_of, Counter, in_copy, in_copies, Word, has_and}
@@ -105,7 +105,7 @@ no-tokens : (ts : List Piece) → not (has_tokens ts) ≡ true → ts ≡ []
 no-tokens [] h = refl
 no-tokens (t ∷ ts) h = absurd cc
 
-both-first : (a b : Bool) → (a && b) ≡ true → a ≡ true
+pub both-first : (a b : Bool) → (a && b) ≡ true → a ≡ true
 both-first a b h = grind arith
 
 pub bare-front : (line : SourceLine) → is_bare line ≡ true → line.front ≡ []
@@ -131,12 +131,13 @@ closed-bare s cs line st word bare = closed-none s cs line st words.Rof word (ba
 
 -- what was marked of a line that was read
 pub marked-is : (ls : List SourceLine) (at rof : ℕ) (line read : SourceLine) (mark : Mark) → at < length ls → drop at ls ≡ line ∷ drop (at + 1) ls → read ≡ line
-    → mark.edge ≡ edge_of read.word → mark.is_bare ≡ is_bare read → mark.rof ≡ rof → IsNextRof ls (at + 1) rof → IsSameCount ls at mark.count → IsMarked ls at mark
-marked-is ls at rof line read mark some first is edge bare own next same =
+    → mark.edge ≡ edge_of read.word → mark.is_bare ≡ is_bare read → mark.is_long ≡ is_long read → mark.rof ≡ rof → IsNextRof ls (at + 1) rof → IsSameCount ls at mark.count → IsMarked ls at mark
+marked-is ls at rof line read mark some first is edge bare long own next same =
     let here : read ≡ line_in ls at = is ∙ sym (line-first ls at line some first) in
     record {
       edge = edge ∙ ap (λ (l : SourceLine). edge_of l.word) here;
       bare = bare ∙ ap is_bare here;
+      long = long ∙ ap is_long here;
       rof = subst (IsNextRof ls (at + 1)) (sym own) next;
       count = same;
     }

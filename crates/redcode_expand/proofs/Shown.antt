@@ -4,8 +4,8 @@ use Rattle.std.{proofs.{lemmas.Bool.{cases_Bool, ltb-true, ltb-false}, lemmas.Li
 use Rattle.{war_types.specs.declared.fault.AsmKind.AsmKind, redcode_lines.specs.Operand.operands_of}
 use Rattle.{redcode_names.specs.{Equ.replaced, Gives.{◌>>=◌, fault_at, Fails, Gives}, Cut.cut_equs, Name.address_of}, redcode_names.proofs.Cut.replaced-cut}
 use Rattle.redcode_expand.specs.{Walk.{ExpandedLine, WalkState}, Expansion.{Expansion, all_replaced, before_operands, expansion, finished, line_replaced}, Laws.{instruction_of, instructions, before_at, IsPlace, AreCounted}}
-use Rattle.redcode_expand.specs.Cut.{cut_tokens, cut_line, cut_lines, cut_walk, with_cut, shown, shown_line, shown_lines, shown_tokens, with_shown}
-use Rattle.redcode_expand.proofs.{Cut.{tokens-short, tokens-long, tokens-twice}, Counted.{Holds, expansion-counted}, Unchanged.line-same, Words.{AsmFault, RawSettings, Piece, SourceLine, LabelList, EquList, LineKind}}
+use Rattle.redcode_expand.specs.Cut.{cut_line, cut_lines, cut_walk, kept_tokens, with_cut, shown, shown_line, shown_lines, shown_tokens, with_shown}
+use Rattle.redcode_expand.proofs.{Cut.{kept-short, kept-long, tokens-twice}, Counted.{Holds, expansion-counted}, Unchanged.line-same, Words.{AsmFault, RawSettings, Piece, SourceLine, LabelList, EquList, LineKind}}
 use Rattle.redcode_lines.specs.declared.line.LineKind.TheVariants as lines
 
 -- ---- a line
@@ -33,7 +33,7 @@ line-long equs line h1 h2 = grind (arith, replaced-long)
 
 line-short : (equs : EquList) (line : ExpandedLine) → length line.tokens ≤ 516 → line_replaced (cut_equs equs) (cut_line line) ≡ line_replaced equs line
 line-short equs line short =
-    ap (λ (ts : List Piece). line_replaced (cut_equs equs) (record line { tokens = ts })) (tokens-short line.tokens short)
+    ap (λ (ts : List Piece). line_replaced (cut_equs equs) (record line { tokens = ts })) (kept-short line.kind line.tokens short)
     ∙ ap (λ (r : Result (List Piece) AsmFault). r >>= λ operands. Ok (record line { tokens = before_operands line.kind line.tokens ++ operands }))
     (replaced-cut line.source_line equs (operands_of line.kind line.tokens))
 
@@ -41,19 +41,20 @@ limited-shown : (equs : EquList) (line : ExpandedLine) → IsLimited line.kind �
 limited-shown equs line is = elim (cases_Bool (nat_lt 516 (length line.tokens))) [
   | inl long ↦
       let many : 516 ≤ length line.tokens = omega (arith, ltb-true 516 (length line.tokens) long) in
-      ap shown_one (line-long (cut_equs equs) (cut_line line) is (tokens-long line.tokens many) ∙ sym (line-long equs line is many))
+      ap shown_one (line-long (cut_equs equs) (cut_line line) is (kept-long line.kind line.tokens many) ∙ sym (line-long equs line is many))
   | inr short ↦ ap shown_one (line-short equs line (ltb-false 516 (length line.tokens) short))
 ]
 
 -- a line without operands
-other-shown : (equs : EquList) (line : ExpandedLine) → operands_of line.kind line.tokens ≡ [] → operands_of line.kind (cut_tokens line.tokens) ≡ []
-    → shown_tokens line.kind (cut_tokens line.tokens) ≡ shown_tokens line.kind line.tokens → shown_one (line_replaced (cut_equs equs) (cut_line line)) ≡ shown_one (line_replaced equs line)
+other-shown : (equs : EquList) (line : ExpandedLine) → operands_of line.kind line.tokens ≡ [] → operands_of line.kind (kept_tokens line.kind line.tokens) ≡ []
+    → shown_tokens line.kind (kept_tokens line.kind line.tokens) ≡ shown_tokens line.kind line.tokens → shown_one (line_replaced (cut_equs equs) (cut_line line)) ≡ shown_one (line_replaced equs line)
 other-shown equs line none none-cut same =
     ap shown_one (line-same (cut_equs equs) (cut_line line) [] (sym none-cut) refl (omega arith))
     ∙ ap (λ (ts : List Piece). Ok (record line { tokens = ts })) same
     ∙ sym (ap shown_one (line-same equs line [] (sym none) refl (omega arith)))
 
 shown-by : (equs : EquList) (kind : LineKind) (line : ExpandedLine) → line.kind ≡ kind → shown_one (line_replaced (cut_equs equs) (cut_line line)) ≡ shown_one (line_replaced equs line)
+unfolding kept_tokens
 shown-by equs lines.Operation line is = limited-shown equs line (subst IsLimited (sym is) tt)
 shown-by equs lines.Org line is = limited-shown equs line (subst IsLimited (sym is) tt)
 shown-by equs lines.End line is = limited-shown equs line (subst IsLimited (sym is) tt)

@@ -1,6 +1,6 @@
 -- What the code keeps of a walk: no more of a line's tokens and of an EQU's body than shows what is wrong with them, and what an
 -- expansion shows of it. This is no part of the definition.
-use Rattle.std.specs.Prelude.{◌≡◌, if◌then◌else◌, List, [], ◌∷◌, ◌++◌, take, drop, map, Result, Ok}
+use Rattle.std.specs.Prelude.{◌≡◌, Bool, true, false, if◌then◌else◌, List, [], ◌∷◌, ◌++◌, take, drop, map, Result, Ok}
 use Rattle.{war_types.specs.declared.fault.AsmFault.AsmFault, redcode_text.specs.Tokens.Piece, redcode_lines.specs.{declared.line.LineKind.LineKind, Line.is_bad}}
 use Rattle.redcode_names.specs.{Gives.◌>>=◌, Cut.cut_names}
 use Rattle.redcode_expand.specs.{Walk.{ExpandedLine, WalkState, walk_state}, Expansion.Expansion}
@@ -14,8 +14,20 @@ first_bad (token ∷ tokens) = if is_bad token then token ∷ [] else first_bad 
 unfoldable pub cut_tokens : List Piece → List Piece
 cut_tokens tokens = take 516 tokens ++ first_bad (drop 516 tokens)
 
+-- the lines that have operands or an expression: more than 512 of them are refused, whatever they are
+abbrev pub is_limited : LineKind → Bool
+is_limited LineKind.Operation = true
+is_limited LineKind.Org = true
+is_limited LineKind.End = true
+is_limited LineKind.Assert = true
+is_limited _ = false
+
+-- what is kept of the tokens of a line
+unfoldable pub kept_tokens : LineKind → List Piece → List Piece
+kept_tokens kind tokens = if is_limited kind then take 516 tokens else cut_tokens tokens
+
 abbrev pub cut_line : ExpandedLine → ExpandedLine
-cut_line line = record line { tokens = cut_tokens line.tokens }
+cut_line line = record line { tokens = kept_tokens line.kind line.tokens }
 
 abbrev pub cut_lines : List ExpandedLine → List ExpandedLine
 cut_lines lines = map cut_line lines

@@ -12,3 +12,5 @@ pub mod Rest
 pub mod Kept
 -- what it knows of lines before it reads them
 pub mod Marks
+-- the most steps that it takes
+pub mod Budget

@@ -1,5 +1,5 @@
 -- What is left of a source within blocks that are open.
-use Rattle.std.specs.Prelude.{◌≡◌, ℕ, suc, ◌+◌, ◌-◌, ◌*◌, ◌≤◌, ◌<◌, ◌^◌, Bool, true, false, IsTrue, nat_eq, if◌then◌else◌, List, [], ◌∷◌, ◌++◌, length, drop, ⊤, Option, Some, None, Result, Ok, Err}
+use Rattle.std.specs.Prelude.{◌≡◌, ℕ, suc, ◌+◌, ◌-◌, ◌*◌, ◌≤◌, ◌<◌, Bool, true, false, IsTrue, nat_eq, if◌then◌else◌, List, [], ◌∷◌, ◌++◌, length, drop, ⊤, Option, Some, None, Result, Ok, Err}
 use Rattle.{std.specs.{Option.option_map, Str.bytes_eq}, war_types.specs.{declared.fault.AsmFault.AsmFault, declared.settings.RawSettings.RawSettings, declared.fault.AsmKind.AsmKind}}
 use Rattle.{redcode_lines.specs.{Line.SourceLine, Block.{Blocks, Parsed, parsed}}, redcode_copies.specs.Counter.{Counter, counter_of}}
 use Rattle.{redcode_names.specs.{Gives.{◌>>=◌, fault_at}, Name.{LabelList, address_of}}, redcode_expand.specs.{Cut.with_cut, Walk.{WalkState, walk, copies, copied, closed, unmatched, until_end}}}
@@ -60,10 +60,6 @@ counts (b ∷ bs) st = if nat_eq st.counted b.start then 0 else 1
 -- more than the steps that are left: each counts a line, or ends a copy in which one was counted, or goes on to a later line
 abbrev pub steps_left : List SourceLine → List OpenBlock → ℕ → WalkState → ℕ
 steps_left lines blocks at st = (4096 - st.counted) * 131074 + (counts blocks st * 65537 + (length lines - at))
-
--- more than the steps of a budget that a walk over the lines of a source takes: fewer than 2 ^ 32 a line
-abbrev pub walk_steps : ℕ
-walk_steps = 537010177 * 2 ^ 32
 
 -- how the walk goes on within these blocks at the line of this index: what is left is what was due, both cut, and fewer steps than these
 -- are left

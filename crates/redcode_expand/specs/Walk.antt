@@ -1,5 +1,5 @@
 -- The walk over the lines of a source, in the order in which they are written out.
-use Rattle.std.specs.Prelude.{◌≡◌, ◌≢◌, ℕ, zero, suc, ◌+◌, ◌<◌, ◌≤◌, ℤ, pos, negsuc, Bool, true, false, nat_lt, nat_eq, if◌then◌else◌, List, [], ◌∷◌, ◌++◌, drop, Option, Some, None, Result, Ok, Err}
+use Rattle.std.specs.Prelude.{◌≡◌, ◌≢◌, ℕ, zero, suc, ◌+◌, ◌<◌, ◌≤◌, ℤ, pos, negsuc, Bool, true, false, nat_lt, nat_eq, if◌then◌else◌, List, [], ◌∷◌, ◌++◌, drop, length, Option, Some, None, Result, Ok, Err}
 use Rattle.war_types.specs.{declared.fault.AsmFault.AsmFault, declared.settings.RawSettings.RawSettings, declared.fault.ExprFault.ExprFault, declared.fault.AsmKind.AsmKind}
 use Rattle.{redcode_text.specs.{Tokens.Piece, Value.value_of, declared.vocabulary.Word.Word}, redcode_lines.specs.{declared.reading.LineForm.LineForm, declared.line.LineKind.LineKind}}
 use Rattle.{redcode_lines.specs.{Line.{SourceLine, labels_of, behind_labels}, Block.{Blocks, Parsed, finish, one_line, block, open_for}}, redcode_copies.specs.Counter.{Counter, counter_of, in_copies}}
@@ -183,8 +183,9 @@ walk_all s source st = walk s [] source.0 st >>= until_end (unmatched source.1)
 
 -- ---- what the code keeps: no part of the definition
 
--- what every state of the walk keeps: an instruction is a line that counts, and these are few
+-- what every state of the walk keeps: an instruction is a line that counts, as each line that was written out is, and these are few
 pub record IsWalk (st : WalkState) : Type 0 where
+  pub lines : length st.lines ≤ st.counted
   pub before : st.before ≤ st.counted
   pub counted : st.counted ≤ 4096
 

@@ -1,15 +1,15 @@
 //! Lines of an expanded source.
 
-ghost use Rattle.std.specs.Prelude.{◌≡◌, ◌++◌, IfOk};
-ghost use Rattle.{redcode_text.specs.Tokens.{piece_of, pieces}, redcode_lines.specs.Line.is_bad, redcode_expand.specs.Cut.{cut_tokens, first_bad}};
+ghost use Rattle.std.specs.Prelude.{◌≡◌, ◌++◌, [], if◌then◌else◌, IfOk};
+ghost use Rattle.{redcode_text.specs.Tokens.{piece_of, pieces}, redcode_lines.specs.Line.is_bad, redcode_expand.specs.Cut.{first_bad, is_limited, kept_tokens}};
 
-use redcode_lines::Line;
+use redcode_lines::{Line, LineKind};
 use redcode_text::{Token, TokenKind, Word};
 use std::alloc::{AllocError, Allocator};
 use std::marker::Model;
 
 /// A word, a dot, a modifier's name, and one operand more than a line may have.
-const MOST_TOKENS: usize = 516;
+pub(crate) const MOST_TOKENS: usize = 516;
 
 /// A line of an expanded source, with its texts.
 #[derive(Drop)]
@@ -34,20 +34,31 @@ impl<'s, A: Allocator> Model for Entry<'s, A> {
     ghost view = { λ e. record { source_line = e.line.source_line; kind = e.line.kind; word = e.word; before = e.line.before; title = e.title.now; tokens = pieces e.tokens.items } };
 }
 
-/// Of the tokens of a line no more than shows what is wrong with it.
+/// Of the tokens of a line of this kind no more than shows what is wrong with it.
 pub(crate) fn cut<'s, A: Allocator>(
     alloc: A,
+    kind: LineKind,
     tokens: &[Token<'s>],
 ) -> Result<Vec<Token<'s>, A>, AllocError>
-    ensures { IfOk result (λ kept. pieces kept.items ≡ cut_tokens (pieces tokens.now)) }
+    ensures { IfOk result (λ kept. pieces kept.items ≡ kept_tokens kind (pieces tokens.now)) }
 {
     if tokens.len() <= MOST_TOKENS {
         let all = Vec::from_slice(alloc, tokens)?;
         return Ok(all);
     }
     let (front, behind) = tokens.split_at(MOST_TOKENS);
-    let kept = joined(alloc, front, first_bad(behind))?;
+    let kept = joined(alloc, front, told(kind, behind))?;
     Ok(kept)
+}
+
+/// What is kept of the tokens of a line after the first 516.
+fn told<'t, 's>(kind: LineKind, tokens: &'t [Token<'s>]) -> &'t [Token<'s>]
+    ensures { pieces result.now ≡ (if is_limited kind then [] else first_bad (pieces tokens.entry.now)) }
+{
+    match kind {
+        LineKind::Operation | LineKind::Org | LineKind::End | LineKind::Assert => &[],
+        _ => first_bad(tokens),
+    }
 }
 
 /// The first token that is none of the language's, alone; none if all are.

@@ -2,11 +2,11 @@
 
 ghost use Rattle.std.specs.Prelude.{◌≡◌, ◌<◌, ◌≤◌, ◌+◌, ◌^◌, [], length, IfOk, Err};
 ghost use Rattle.{war_types.specs.declared.fault.AsmKind.TheVariants.SourceTooLong, redcode_lines.specs.Block.parsed, redcode_names.specs.Gives.{Gives, fault_at}};
-ghost use Rattle.redcode_expand.specs.{Laws.{AreCounted, BlocksAreWrittenOut}, Expansion.{expansion, address_of, all_replaced, line_replaced, with_names, expansion_of_blocks}, Cut.{shown, with_shown}};
+ghost use Rattle.redcode_expand.specs.{Laws.{AreCounted, BlocksAreWrittenOut}, Expansion.{expansion, address_of, all_replaced, line_replaced, with_names, expansion_of_blocks}, Cut.{shown, with_shown}, Budget.{most_lines, most_steps, steps_of}};
 
 use crate::blocks::walk_all;
 use crate::entry::{Entry, joined};
-use crate::steps::Steps;
+use crate::steps::{Steps, line_steps};
 use bumpalo::Bump;
 use redcode_lines::{SourceLine, live_source, operands_of, source_lines};
 use redcode_names::{Equs, Labels, NameHash, Names, TOKEN_LIMIT, too_many, written};
@@ -60,7 +60,7 @@ pub fn expand<'s, A: Allocator + Copy>(
     expand_within(alloc, region, source, settings, &mut steps)
 }
 
-/// The same within a budget of steps: `Memory` is answered too if they are spent. No source takes 2^62 of them.
+/// The same within a budget of steps: `Memory` is answered too if they are spent. Each line that is written out takes one at least.
 #[tactic(auto, unfolding(crate::specs::Expansion::expansion))]
 pub fn expand_within<'s, A: Allocator + Copy>(
     alloc: A,
@@ -73,7 +73,8 @@ pub fn expand_within<'s, A: Allocator + Copy>(
     ensures too_long { 65536 < length source.entry.now → result ≡ Err (fault_at 0 SourceTooLong) }
     ensures written { BlocksAreWrittenOut settings.now }
     ensures counted { IfOk result AreCounted }
-    ensures steps { steps.old ≤ steps.new + 2 ^ 62 }
+    ensures steps { steps.old ≤ steps.new + most_steps (length source.entry.now) }
+    ensures each { IfOk result (λ expanded. length expanded.lines + steps.new ≤ steps.old) }
 {
     if source.len() > SOURCE_LIMIT {
         return Err(AsmFault {
@@ -84,7 +85,8 @@ pub fn expand_within<'s, A: Allocator + Copy>(
     let (number, live) = live_source(source);
     let lines = source_lines(alloc, number, live)?;
     let hash = NameHash::of(source, settings);
-    expanded_lines(alloc, region, lines.as_slice(), settings, hash, steps)
+    let most = line_steps(source.len());
+    expanded_lines(alloc, region, lines.as_slice(), settings, hash, most, steps)
 }
 
 /// Writes out these lines.
@@ -94,13 +96,16 @@ fn expanded_lines<'s, A: Allocator + Copy>(
     lines: &[SourceLine<'s, A>],
     settings: &Settings,
     hash: NameHash,
+    most: u64,
     steps: &mut Steps,
 ) -> Result<Expanded<'s, A>, AsmFault>
-    requires { length lines.now ≤ 65536 }
-    ensures steps { steps.old ≤ steps.new + 2 ^ 62 }
+    requires few { length lines.now ≤ 65536 }
+    requires some { 0 < most }
+    ensures steps { steps.old ≤ steps.new + (steps_of most most_lines + 2 ^ 32) }
+    ensures each { IfOk result (λ expanded. length expanded.lines + steps.new ≤ steps.old) }
     ensures expanded { Gives shown result (with_shown (expansion_of_blocks settings.now (parsed lines.now))) }
 {
-    match walk_all(alloc, region, lines, settings, hash, steps) {
+    match walk_all(alloc, region, lines, settings, hash, most, steps) {
         Ok(walk) => walk.finish(steps),
         Err(fault) => Err(fault),
     }
@@ -138,6 +143,9 @@ fn unchanged<'s, A: Allocator + Copy>(
     Ok(entries)
 }
 
+/// No more than these are counted when the names of `EQU`s are replaced in all operands.
+const REPLACING: u64 = 1 << 32;
+
 /// Replaces the names of EQUs in the operands of all lines.
 fn replace_each<'s, A: Allocator + Copy>(
     alloc: A,
@@ -146,9 +154,10 @@ fn replace_each<'s, A: Allocator + Copy>(
     steps: &mut Steps,
 ) -> Result<Vec<Entry<'s, A>, A>, AsmFault>
     ensures steps { steps.old ≤ steps.new + 2 ^ 32 }
+    ensures less { steps.new ≤ steps.old }
     ensures lines { Gives (λ lines. lines.items) result (all_replaced equs.now entries.entry.items) }
 {
-    let floor = steps.floor();
+    let floor = steps.floor(REPLACING);
     let mut lines = Vec::with_capacity(alloc, entries.len())?;
     for entry in entries {
         let mut work = 0;
@@ -196,6 +205,7 @@ pub(crate) fn expanded_of<'s, A: Allocator + Copy>(
     steps: &mut Steps,
 ) -> Result<Expanded<'s, A>, AsmFault>
     ensures steps { steps.old ≤ steps.new + 2 ^ 32 }
+    ensures less { steps.new ≤ steps.old }
     ensures expanded { Gives (λ expanded. expanded) result (with_names names.entry entries.entry.items) }
 {
     match names_replaced(alloc, &names, entries, steps) {
@@ -215,6 +225,7 @@ fn names_replaced<'s, A: Allocator + Copy>(
     steps: &mut Steps,
 ) -> Result<Vec<Entry<'s, A>, A>, AsmFault>
     ensures steps { steps.old ≤ steps.new + 2 ^ 32 }
+    ensures less { steps.new ≤ steps.old }
     ensures lines { Gives (λ lines. lines.items) result (all_replaced names.now.equs entries.entry.items) }
 {
     if names.has_no_equs() {

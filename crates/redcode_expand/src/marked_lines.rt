@@ -4,11 +4,12 @@
 //! say whether there is anything to read.
 
 ghost use Rattle.std.specs.Prelude.{◌≡◌, ◌+◌, ◌<◌, ◌∷◌, drop, length, IfOk};
-ghost use Rattle.{redcode_lines.specs.Views.line_read, redcode_expand.specs.Marks.{edge_of, is_bare, line_in, AreMarked, IsNextRof, IsSameCount}};
+ghost use Rattle.{redcode_lines.specs.Views.line_read, redcode_expand.specs.Marks.{edge_of, has_operands, is_bare, is_long, line_in, shortened, AreMarked, IsNextRof, IsSameCount}};
 
+use crate::entry::MOST_TOKENS;
 use crate::same_counts::SameCounts;
-use redcode_lines::{Reading, SourceLine, has_and, line_at};
-use redcode_text::Word;
+use redcode_lines::{LineForm, Reading, SourceLine, has_and, line_at};
+use redcode_text::{Token, Word};
 use std::alloc::{AllocError, Allocator};
 use std::marker::Model;
 
@@ -28,6 +29,8 @@ pub(crate) struct Mark {
     pub edge: Edge,
     /// Whether nothing stands before its word, and no `&` after it.
     pub is_bare: bool,
+    /// Whether it has too many operands in each copy.
+    pub is_long: bool,
     /// The index of the `ROF` that matches this `FOR`, or that ends the block of any other line; `lines.len()` or more if there is none.
     pub rof: usize,
     /// Whether an `&` is among its tokens.
@@ -61,6 +64,7 @@ impl<'l, 's, A: Allocator + Copy> MarkedLines<'l, 's, A> {
         let blank = Mark {
             edge: Edge::Neither,
             is_bare: false,
+            is_long: false,
             joins: false,
             rof: 0,
             count: 0,
@@ -85,6 +89,34 @@ impl<'l, 's, A: Allocator + Copy> MarkedLines<'l, 's, A> {
         ensures first { drop at self.now ≡ line_read result ∷ drop (at + 1) self.now }
     {
         line_at(self.lines, at).reading()
+    }
+
+    /// The same, but for tokens that can't matter.
+    pub(crate) fn shortened(&self, at: usize) -> Reading<'l, 's>
+        requires { at < length self.now }
+        ensures { line_read result ≡ shortened (line_in self.now at) }
+    {
+        let line = self.reading(at);
+        if !self.is_long(at) {
+            return line;
+        }
+        let (tokens, _) = line.tokens.split_at(MOST_TOKENS);
+        Reading {
+            number: line.number,
+            form: line.form,
+            word: line.word,
+            title: line.title,
+            front: line.front,
+            tokens,
+        }
+    }
+
+    /// Whether it has too many operands in each copy.
+    fn is_long(&self, at: usize) -> bool
+        requires { at < length self.now }
+        ensures { result ≡ is_long (line_in self.now at) }
+    {
+        self.marks[at].is_long
     }
 
     /// Its number in the source, counted from 1.
@@ -119,20 +151,21 @@ impl<'l, 's, A: Allocator + Copy> MarkedLines<'l, 's, A> {
         self.marks[at].rof
     }
 
-    /// The steps of a visit within this number of blocks: its tokens are read, and for each block again if an `&` is among them.
+    /// The steps of a visit within this number of blocks: its tokens are read. If an `&` is among them, they are read again for each block,
+    /// and each join copies a name, which may have all bytes of the line.
     pub(crate) fn steps(&self, at: usize, blocks: usize) -> u64
         requires { at < length self.now }
+        ensures { 0 < result }
     {
-        let line = line_at(self.lines, at).reading();
+        let line = self.shortened(at);
         let tokens = (line.front.len() as u64).saturating_add(line.tokens.len() as u64);
         let times = if self.marks[at].joins {
-            blocks as u64
+            let bytes = bytes_of(line.front).saturating_add(bytes_of(line.tokens));
+            (blocks as u64).saturating_add(bytes / 16)
         } else {
             0
         };
-        tokens
-            .saturating_mul(times.saturating_add(1))
-            .saturating_add(1)
+        1u64.saturating_add(tokens.saturating_mul(times.saturating_add(1)))
     }
 
     /// The index of a line whose count reads the same as that of the `FOR` at index `at`.
@@ -150,16 +183,51 @@ impl Mark {
     fn of(line: Reading<'_, '_>, rof: usize, count: usize) -> Mark
         ensures edge { result.edge ≡ edge_of (line_read line.entry).word }
         ensures bare { result.is_bare ≡ is_bare (line_read line.entry) }
+        ensures long { result.is_long ≡ is_long (line_read line.entry) }
         ensures rof { result.rof ≡ rof }
         ensures count { result.count ≡ count }
     {
         Mark {
             edge: edge_of(line.word),
             is_bare: line.front.is_empty() && !has_and(line.tokens),
+            is_long: is_long(line),
             joins: has_and(line.front) || has_and(line.tokens),
             rof,
             count,
         }
+    }
+}
+
+/// The bytes of all tokens.
+fn bytes_of(tokens: &[Token<'_>]) -> u64 {
+    let mut bytes: u64 = 0;
+    for token in tokens {
+        bytes = bytes.saturating_add(token.text.len() as u64);
+    }
+    bytes
+}
+
+/// Whether a line has too many operands in each copy.
+fn is_long(line: Reading<'_, '_>) -> bool
+    ensures { result ≡ is_long (line_read line.entry) }
+{
+    line.tokens.len() > MOST_TOKENS
+        && has_operands(line.form, line.word)
+        && !has_and(line.front)
+        && !has_and(line.tokens)
+}
+
+/// Whether a line of this form and word has operands or an expression.
+fn has_operands(form: LineForm, word: Option<Word>) -> bool
+    ensures { result ≡ has_operands form word }
+{
+    match (form, word) {
+        (LineForm::Assert, _) => true,
+        (LineForm::Statement, Some(word)) => matches!(
+            word,
+            Word::Operation(_) | Word::Pspace | Word::Org | Word::End
+        ),
+        _ => false,
     }
 }
 

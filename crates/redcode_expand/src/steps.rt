@@ -1,12 +1,20 @@
 //! The steps of an expansion.
 
-ghost use Rattle.std.specs.Prelude.{◌≡◌, ◌≤◌, ◌+◌, ◌^◌, nat_eq};
+ghost use Rattle.std.specs.Prelude.{◌≡◌, ◌≤◌, ◌<◌, ◌+◌, nat_eq, OnOk};
+ghost use Rattle.redcode_expand.specs.Budget.{line_steps};
 
 use std::alloc::AllocError;
 use std::marker::Model;
 
-/// More than the steps of a line: it has fewer than 2^16 tokens, and stands within fewer than 2^16 blocks.
-const MOST: u64 = 1 << 32;
+/// More than the steps of a line, of a source of this length: its tokens are read for each block that is open, and then replaced.
+pub(crate) fn line_steps(length: usize) -> u64
+    requires { length ≤ 65536 }
+    ensures steps { result ≡ line_steps length }
+    ensures some { 0 < result }
+{
+    let length = length as u64;
+    (length + 1) * (length + 16_385)
+}
 
 /// A budget of steps. What counts as one: a token that is read, replaced or worked out, a name that is looked up, a line that is
 /// walked over.
@@ -38,18 +46,22 @@ impl Steps {
         self.left == 0
     }
 
-    /// What is left at least after a line, or after all operands.
-    pub(crate) fn floor(&self) -> u64
+    /// What is left at least after something that takes `most` steps at most.
+    pub(crate) fn floor(&self, most: u64) -> u64
         ensures low { result ≤ self.now }
-        ensures few { self.now ≤ result + 2 ^ 32 }
+        ensures few { self.now ≤ result + most }
+        ensures less { 0 < most → 0 < self.now → result < self.now }
     {
-        self.left.saturating_sub(MOST)
+        self.left.saturating_sub(most)
     }
 
     /// Takes steps, down to a floor. It fails if none is left.
     pub(crate) fn spend(&mut self, steps: u64, floor: u64) -> Result<(), AllocError>
         requires { floor ≤ self.old }
-        ensures { floor ≤ self.new }
+        ensures low { floor ≤ self.new }
+        ensures less { self.new ≤ self.old }
+        ensures some { OnOk result (0 < self.new) }
+        ensures spent { OnOk result (0 < steps → floor < self.old → self.new < self.old) }
     {
         self.left -= steps.min(self.left - floor);
         if self.left == 0 {

@@ -1,6 +1,6 @@
 //! The walk over the lines of a source.
 
-ghost use Rattle.std.specs.Prelude.{◌≡◌, ◌+◌, ◌<◌, ◌≤◌, ◌^◌, [], true, Ok, OnOk};
+ghost use Rattle.std.specs.Prelude.{◌≡◌, ◌+◌, ◌<◌, ◌≤◌, ◌^◌, [], length, true, Ok, IfOk, OnOk};
 ghost use Rattle.{redcode_text.specs.Tokens.pieces, redcode_lines.specs.{declared.line.LineKind.TheVariants.{End, Operation}, Line.labels_of, Views.line_read}};
 ghost use Rattle.{redcode_names.specs.Gives.Gives, redcode_expand.specs.{Cut.{cut_walk, with_cut}, Expansion.finished, Rest.counters_of}};
 ghost use Rattle.redcode_expand.specs.Walk.{walk_begin, closed, copied, counted, labelled, with_line, placed, statement, lined, step, step_as, IsCopied};
@@ -143,6 +143,8 @@ impl<'s, A: Allocator + Copy> Walk<'s, A> {
     /// What the walk has found.
     pub(crate) fn finish(self, steps: &mut Steps) -> Result<Expanded<'s, A>, AsmFault>
         ensures steps { steps.old ≤ steps.new + 2 ^ 32 }
+        ensures less { steps.new ≤ steps.old }
+        ensures lines { IfOk result (λ expanded. length expanded.lines ≤ self.entry.counted) }
         ensures expanded { Gives (λ expanded. expanded) result (finished self.entry) }
     {
         expanded_of(self.alloc, self.names, self.entries, steps)
@@ -182,7 +184,8 @@ impl<'s, A: Allocator + Copy> Walk<'s, A> {
 
     /// A line without its labels.
     fn place(&mut self, line: Reading<'_, 's>) -> Result<(), AsmFault>
-        requires { self.old.before < self.old.counted }
+        requires before { self.old.before < self.old.counted }
+        requires lines { length self.old.lines < self.old.counted }
         ensures placed { Gives (λ _. cut_walk self.new) result (Ok (cut_walk (placed (line_read line.entry) self.old))) }
         ensures counted { self.new.counted ≡ self.old.counted }
     {
@@ -207,7 +210,8 @@ impl<'s, A: Allocator + Copy> Walk<'s, A> {
         word: Option<Word>,
         tokens: &[Token<'s>],
     ) -> Result<(), AsmFault>
-        requires { self.old.before < self.old.counted }
+        requires before { self.old.before < self.old.counted }
+        requires lines { length self.old.lines < self.old.counted }
         ensures pushed { Gives (λ _. cut_walk self.new) result (Ok (cut_walk (record (with_line number Operation word [] (pieces tokens.now) self.old) { before = self.old.before + 1 }))) }
         ensures counted { self.new.counted ≡ self.old.counted }
     {
@@ -223,6 +227,7 @@ impl<'s, A: Allocator + Copy> Walk<'s, A> {
         word: Option<Word>,
         tokens: &[Token<'s>],
     ) -> Result<(), AsmFault>
+        requires { length self.old.lines < self.old.counted }
         ensures pushed { Gives (λ _. cut_walk self.new) result (Ok (cut_walk (record (with_line number End word [] (pieces tokens.now) self.old) { ended = true }))) }
         ensures counted { self.new.counted ≡ self.old.counted }
     {
@@ -234,7 +239,7 @@ impl<'s, A: Allocator + Copy> Walk<'s, A> {
     /// A line that counts.
     fn count(&mut self, number: u32) -> Result<(), AsmFault>
         ensures counted { Gives (λ _. self.new) result (counted number self.old) }
-        ensures room { OnOk result (self.new.before < self.new.counted) }
+        ensures room { OnOk result ((self.new.before < self.new.counted) × (length self.new.lines < self.new.counted)) }
     {
         if self.counted == LINE_LIMIT {
             return Err(AsmFault {
@@ -251,6 +256,7 @@ impl<'s, A: Allocator + Copy> Walk<'s, A> {
         ensures labelled { Gives (λ _. self.new) result (labelled settings.now line.entry.number (labels_of (line_read line.entry)) self.old) }
         ensures before { self.new.before ≡ self.old.before }
         ensures counted { self.new.counted ≡ self.old.counted }
+        ensures lines { self.new.lines ≡ self.old.lines }
     {
         if line.word.is_some() && line.front.is_empty() {
             return Ok(());
@@ -269,6 +275,7 @@ impl<'s, A: Allocator + Copy> Walk<'s, A> {
         title: &'s [u8],
         tokens: &[Token<'s>],
     ) -> Result<(), AsmFault>
+        requires { length self.old.lines < self.old.counted }
         ensures pushed { Gives (λ _. cut_walk self.new) result (Ok (cut_walk (with_line number kind word title.entry.now (pieces tokens.now) self.old))) }
         ensures counted { self.new.counted ≡ self.old.counted }
     {
@@ -277,7 +284,7 @@ impl<'s, A: Allocator + Copy> Walk<'s, A> {
             kind,
             before: self.before,
         };
-        let tokens = cut(self.alloc, tokens)?;
+        let tokens = cut(self.alloc, kind, tokens)?;
         self.entries.push(Entry {
             line,
             word,

@@ -87,11 +87,12 @@ const COUNTS: [(&str, &str); 7] = rows! {
 };
 
 /// Refusals of tokens, operations, modifiers and operands that are missing or too many.
-const STATEMENTS: [(&str, &str); 23] = rows! {
+const STATEMENTS: [(&str, &str); 24] = rows! {
     "=" => "1:1+1 BadToken: `=` is no symbol; two values are compared by `==`";
     "step = 4\nDAT step" => "1:6+1 BadToken: `=` is no symbol here; a name is defined by `step EQU 4`";
     "DAT 0\n;assert CORESIZE = 8000" => "2:18+1 BadToken: `=` is no symbol; two values are compared by `==`";
     "LDP ?" => "1:5+1 BadToken: `?` is no symbol; it may stand in a comment";
+    "\u{feff}DAT 0" => "1:1+1 BadToken: a byte order mark; save the source without it";
     "x EQU ?\nDAT x" => "2:1+5 BadToken: the body of an `EQU` that is used here has a byte that is no symbol";
     "+" => "1:1+1 BadOperation: `+` stands where an operation is due";
     "here:" => "1:1+5 BadOperation: no operation stands behind the labels; labels alone have no `:`";

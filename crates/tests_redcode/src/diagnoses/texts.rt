@@ -56,7 +56,7 @@ fn check_written(rt: &(impl Abort + AllocGlobal), source: &[u8], form: Form, wan
 /// Sources, with the text of their refusals.
 const TEXTS: [(&[u8], &[u8]); 7] = rows! {
     b"MOV 0, 1\n" => b"";
-    b"" => b"a.red:0:1: Empty: the source is empty\n";
+    b"" => b"a.red:1:1: Empty: the source is empty\n";
     b"start\nMOV 0, 1\n      JMP strat\n"
         => b"a.red:3:11: UnknownName: nothing is called `strat`; did you mean `start`?\n    3 |       JMP strat\n      |           ^^^^^\n";
     b"\tDAT\t1/0\r\n" => b"a.red:1:6: DivideByZero: a division by zero\n    1 | \tDAT\t1/0\n      | \t   \t^^^\n";
@@ -153,8 +153,8 @@ fn check_count(rt: &(impl Abort + AllocGlobal), line: &str, count: usize, due: u
 #[test]
 fn long_sources(rt: HostRuntime) {
     check_count(&rt, "DAT x\n", 150, 100);
-    let want = b"a.red:0:1: TooLong: the warrior has 101 instructions, and may have 100\n";
+    let want = b"a.red:1:1: TooLong: the warrior has 101 instructions, and may have 100\n";
     check_repeated(&rt, "DAT 0\n", 101, want);
-    let want = b"a.red:0:1: SourceTooLong: the source has 65537 bytes, and may have 65536\n";
+    let want = b"a.red:1:1: SourceTooLong: the source has 65537 bytes, and may have 65536\n";
     check_repeated(&rt, "\n", 65_537, want);
 }

@@ -1,5 +1,5 @@
-use Rattle.{std.proofs.{lemmas.Grind.common_steps, Common.{arith, ap, sym, ◌∙◌}}, redcode_lines.specs.{Line.SourceLine, Views.line_read}, redcode_expand.specs.{Marks.{edge_of, line_in}, Rest.counters_of, Walk.{WalkState, step}}}
-use Rattle.redcode_expand.proofs.{GoingOn.{line-fails, line-goes-on}, Latest.kept-later, Marks.{line-drop, word-for, word-rof}}
+use Rattle.{std.proofs.{lemmas.Grind.common_steps, Common.{arith, sym, ◌∙◌}}, redcode_lines.specs.Views.line_read, redcode_expand.specs.{Marks.line_in, Rest.counters_of}}
+use Rattle.redcode_expand.proofs.{GoingOn.{line-fails, line-goes-on}, Latest.kept-later, Marks.{line-drop, word-for, word-rof}, Short.{fails-read, step-read}}
 use Rattle.redcode_expand.proofs.blocks.step.Goals as goal
 
 pub returns-in_ok-step-in-Neither-clause-kept : goal.returns-in_ok-step-in-Neither-clause-kept
@@ -21,16 +21,20 @@ end_copy-requires-clause-word g c = word-rof _ (sym c.edge.ensures ∙ c.in-Rof.
 
 pub returns-in_err-step-in-Neither-clause-goes_on : goal.returns-in_err-step-in-Neither-clause-goes_on
 returns-in_err-step-in-Neither-clause-goes_on g c =
-    let neither = ap (λ (l : SourceLine). edge_of l.word) c.reading.ensures.line ∙ sym c.edge.ensures ∙ c.in-Neither.is in
-    let fails = line-fails c.args.settings.now c.args.lines.now c.args.blocks.now c.args.at (line_read c.reading.result) c.args.walk.now _ c.requires.goes_on c.reading.ensures.first neither
-    c.in_err-step-in-Neither.ensures.step in
+    let line = line_in c.args.lines.now c.args.at in
+    let neither = sym c.edge.ensures ∙ c.in-Neither.is in
+    let fails = line-fails c.args.settings.now c.args.lines.now c.args.blocks.now c.args.at line c.args.walk.now _ c.requires.goes_on (line-drop c.args.lines.now c.args.at c.requires.some) neither
+    (fails-read c.args.settings.now (counters_of c.args.blocks.now) line (line_read c.shortened.result) c.args.walk.now _ c.shortened.ensures c.in_err-step-in-Neither.ensures.step) in
     grind (arith, common_steps)
 
 pub returns-in_ok-step-in-Neither-clause-goes_on : goal.returns-in_ok-step-in-Neither-clause-goes_on
 returns-in_ok-step-in-Neither-clause-goes_on g c =
-    let neither = ap (λ (l : SourceLine). edge_of l.word) c.reading.ensures.line ∙ sym c.edge.ensures ∙ c.in-Neither.is in
-    line-goes-on c.args.settings.now c.args.lines.now c.args.blocks.now c.args.at (line_read c.reading.result) c.args.walk.now c.step.new.self c.requires.some c.requires.goes_on
-    c.reading.ensures.first neither c.requires.opened c.in_ok-step-in-Neither.ensures.step c.in_ok-step-in-Neither.ensures.counted.0 c.in_ok-step-in-Neither.ensures.counted.1 c.requires.few
+    let line = line_in c.args.lines.now c.args.at in
+    let neither = sym c.edge.ensures ∙ c.in-Neither.is in
+    line-goes-on c.args.settings.now c.args.lines.now c.args.blocks.now c.args.at line c.args.walk.now c.step.new.self c.requires.some c.requires.goes_on
+    (line-drop c.args.lines.now c.args.at c.requires.some) neither c.requires.opened
+    (sym (step-read c.args.settings.now (counters_of c.args.blocks.now) line (line_read c.shortened.result) c.args.walk.now c.shortened.ensures) ∙ c.in_ok-step-in-Neither.ensures.step)
+    c.in_ok-step-in-Neither.ensures.counted.0 c.in_ok-step-in-Neither.ensures.counted.1 c.requires.few
 
 pub overflow_add-result : goal.overflow_add-result
 overflow_add-result g c = omega (arith, c.requires.some, c.requires.few)

@@ -1,5 +1,46 @@
-use Rattle.{std.proofs.{lemmas.Grind.common_steps, Common.arith}, redcode_expand.proofs.GoingOn.{rest-ended, rest-done}}
+use Rattle.{std.proofs.{lemmas.Grind.common_steps, Common.{arith, ◌<◌, ap, ◌∙◌}}, redcode_expand.specs.{Walk.WalkState, Rest.steps_left, Budget.{most_lines, steps_of}}}
+use Rattle.redcode_expand.proofs.{Budget.{steps-begin, steps-next, steps-within}, GoingOn.{rest-ended, rest-done}}
 use Rattle.redcode_expand.proofs.blocks.walk_lines.Goals as goal
+
+pub loop-at-init : goal.loop-at-init
+loop-at-init g c = (
+  grind (arith, common_steps),
+  grind (arith, common_steps),
+  grind (arith, common_steps),
+  steps-begin c.args.most c.args.steps.now c.args.lines.now c.args.blocks.now c.args.walk.now c.requires.none c.requires.few,
+  omega (arith, ap (λ (st : WalkState). st.counted) c.requires.begin),
+)
+
+pub loop-at-preserved : goal.loop-at-preserved
+loop-at-preserved g c =
+    let was = c.loop-at.invariant in
+    let goes = c.in_ok-at.ensures.goes_on in
+    let some : 0 < c.loop-at.steps = omega (arith, c.in_ok-spend.ensures.some, c.spend.ensures.less) in
+    let spent = c.in_ok-spend.ensures.spent c.steps.ensures (c.floor-floor.ensures.less c.requires.some some) in
+    rw c.take_work.ensures (
+      goes.rest ∙ was.0,
+      goes.opened,
+      c.in_ok-at.ensures.kept,
+      steps-next c.args.most (steps_left c.args.lines.now c.step.new.blocks c.in_ok-at.at c.step.new.walk) (steps_left c.args.lines.now c.loop-at.blocks c.loop-at.at c.loop-at.walk)
+          (steps_of c.args.most most_lines) c.args.steps.now c.loop-at.steps c.spend-in-loop-at.new.self goes.less was.3
+          (omega (arith, c.floor-floor.ensures.few, c.spend-in-loop-at.ensures.low)),
+      omega (arith, spent, c.spend-in-loop-at.ensures.less, c.in_ok-at.ensures.counted, was.4),
+    )
+
+pub returns-in_err-spend-clause-steps : goal.returns-in_err-spend-clause-steps
+returns-in_err-spend-clause-steps g c =
+    steps-within c.args.most (steps_left c.args.lines.now c.loop-at.blocks c.loop-at.at c.loop-at.walk) (steps_of c.args.most most_lines) c.args.steps.now c.loop-at.steps c.spend.new.self
+    (omega (arith, c.loop-at-test.true, c.len.ensures)) c.loop-at.invariant.3 (omega (arith, c.floor-floor.ensures.few, c.spend.ensures.low))
+
+pub returns-in_err-at-clause-steps : goal.returns-in_err-at-clause-steps
+returns-in_err-at-clause-steps g c =
+    steps-within c.args.most (steps_left c.args.lines.now c.loop-at.blocks c.loop-at.at c.loop-at.walk) (steps_of c.args.most most_lines) c.args.steps.now c.loop-at.steps c.spend.new.self
+    (omega (arith, c.loop-at-test.true, c.len.ensures)) c.loop-at.invariant.3 (omega (arith, c.floor-floor.ensures.few, c.spend.ensures.low))
+
+pub returns-in_err-spend-2-clause-steps : goal.returns-in_err-spend-2-clause-steps
+returns-in_err-spend-2-clause-steps g c =
+    steps-within c.args.most (steps_left c.args.lines.now c.loop-at.blocks c.loop-at.at c.loop-at.walk) (steps_of c.args.most most_lines) c.args.steps.now c.loop-at.steps c.spend-in-loop-at.new.self
+    (omega (arith, c.loop-at-test.true, c.len.ensures)) c.loop-at.invariant.3 (omega (arith, c.floor-floor.ensures.few, c.spend-in-loop-at.ensures.low))
 
 pub returns-else-not-walk : goal.returns-else-not-walk
 returns-else-not-walk g c = grind (arith, common_steps, rest-ended)

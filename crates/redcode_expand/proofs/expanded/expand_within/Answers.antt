@@ -1,6 +1,6 @@
 use Rattle.{std.proofs.Common.{◌≡◌, ℕ, ◌≤◌, List, Result, length, le-ltb, sym, ap, subst, ◌∙◌}, war_types.specs.{declared.settings.RawSettings.RawSettings, declared.fault.AsmFault.AsmFault}}
 use Rattle.{redcode_lines.specs.{Source.{NumberedLine, lines_of, numbered_from, live_lines}, Line.SourceLine, Block.{parsed, source_lines}}, redcode_names.specs.Gives.Gives}
-use Rattle.{redcode_expand.specs.{Expansion.{Expansion, expansion, expansion_of_blocks}, Cut.{shown, with_shown}}, redcode_expand.proofs.{Shown.if-counted, WrittenOut.blocks-written}}
+use Rattle.{redcode_expand.specs.{Expansion.{Expansion, expansion, expansion_of_blocks}, Cut.{shown, with_shown}}, redcode_expand.proofs.{Budget.most-within, Shown.if-counted, WrittenOut.blocks-written}}
 use Rattle.redcode_expand.proofs.expanded.expand_within.Goals as goal
 
 -- the result of the walk over all lines is due
@@ -30,3 +30,7 @@ returns-then-source-gt-SOURCE_LIMIT-clause-written g c = blocks-written c.args.s
 
 pub returns-in_err-lines-clause-written : goal.returns-in_err-lines-clause-written
 returns-in_err-lines-clause-written g c = blocks-written c.args.settings.now
+
+pub returns-clause-steps : goal.returns-clause-steps
+returns-clause-steps g c =
+    most-within c.args.steps.now c.expanded_lines.new.steps c.line_steps-most.result (length c.args.source.now) c.line_steps-most.ensures.steps c.expanded_lines.ensures.steps

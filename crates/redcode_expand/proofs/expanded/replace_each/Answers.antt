@@ -10,7 +10,8 @@ loop-entry-preserved g c =
       line-kept c.args.equs.now _ _ c.loop-entry.lines.items c.push.new.self.items c.in-Some.entry c.in_ok-line.line _
           steps.0 c.in_ok-line.ensures c.in_ok-push.ensures.items c.loop-entry.invariant.0,
       omega arith,
-      c.spend.ensures,
+      c.spend.ensures.low,
+      omega (arith, c.spend.ensures.less, c.loop-entry.invariant.3),
     )
 
 pub returns-clause-lines : goal.returns-clause-lines

@@ -7,3 +7,4 @@ invariant-loop-entry g l =
     (with_front l.lines.items (all_replaced l.equs (into_iter_items l.entry-iterator)) ≡ all_replaced l.equs l.fn.entries.items)
     × (into_iter_len l.entry-iterator ≡ length (into_iter_items l.entry-iterator))
     × (l.floor ≤ l.steps)
+    × (l.steps ≤ l.initial.steps)

@@ -1,5 +1,5 @@
 use Rattle.{std.proofs.{lemmas.Grind.common_steps, Common.arith}, redcode_expand.specs.{Marks.line_in, Rest.counters_of}, redcode_expand.proofs.{AddedEqus.closed-equs, Marks.rof-word}}
-use Rattle.redcode_expand.proofs.blocks.pass.Goals as goal
+use Rattle.redcode_expand.proofs.passing.pass.Goals as goal
 
 pub close-requires-clause-word : goal.close-requires-clause-word
 close-requires-clause-word g c = rof-word c.args.lines.now c.rof_behind-rof.result c.rof_behind-rof.ensures.from (omega (arith, c.len.ensures, c.if-rof-len.false))

@@ -1,5 +1,5 @@
 use Rattle.{std.proofs.Common.{sym, ◌∙◌}, redcode_expand.specs.{Marks.line_in, Rest.counters_of}, redcode_expand.proofs.Marks.closed-bare}
-use Rattle.redcode_expand.proofs.blocks.close.Goals as goal
+use Rattle.redcode_expand.proofs.passing.close.Goals as goal
 
 pub returns-then-is_bare-clause-closed : goal.returns-then-is_bare-clause-closed
 returns-then-is_bare-clause-closed g c =

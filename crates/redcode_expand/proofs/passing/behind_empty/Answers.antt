@@ -1,8 +1,8 @@
 use Rattle.std.proofs.{lemmas.Grind.common_steps, Common.{◌≡◌, ◌≤◌, ℕ, length, Some, arith, sym, ap, ◌∙◌}, lemmas.List.length-map}
 use Rattle.{redcode_text.specs.Tokens.piece_of, redcode_lines.specs.Line.SourceLine, redcode_expand.specs.{Kept.{counter_before, kept_at}, Marks.line_in, Rest.counters_of}}
 use Rattle.redcode_expand.proofs.{Latest.{begun-latest, latest-count}, Marks.empty-goes-on}
-use Rattle.redcode_expand.proofs.blocks.behind_empty.Goals.{in-Some-eq0, in_default, in_default-2}
-use Rattle.redcode_expand.proofs.blocks.behind_empty.Goals as goal
+use Rattle.redcode_expand.proofs.passing.behind_empty.Goals.{in-Some-eq0, in_default, in_default-2}
+use Rattle.redcode_expand.proofs.passing.behind_empty.Goals as goal
 
 pub returns : goal.returns
 returns g c =
