@@ -162,6 +162,8 @@ fn device_over<'f, R: Files>(
     file: PlacedFile<'f, R>,
     least: u32,
 ) -> Result<HillFile<'f, R>, OpenFault>
+where
+    R::File: TryLock,
     ensures enough { IfOk result (λ hill. least ≤ hill.sectors) }
     ensures faults { IfOk result (λ hill. hill.faults ≡ 0) }
     ensures system { IfErr result IsOfSystem }

@@ -6,9 +6,10 @@ ghost use Rattle.{std.specs.Prelude.IfErr, hill_file.specs.OpenFault.{IsOfSystem
 use crate::open_fault::OpenFault;
 use std::fs::{File, Files, TryLockError};
 use std::io::ErrorKind;
+use std::os::unix::fs::FileExt;
 
-/// A file whose lock can be taken without waiting. The system releases the lock with the handle, also if the program is stopped.
-pub trait TryLock {
+/// A file that is read and written at an offset, and whose lock can be taken without waiting. The system releases the lock with the handle, also if the program is stopped.
+pub trait TryLock: FileExt {
     /// Takes the lock. `Locked` if another open of the file holds it, and `Memory` or `Failed` if the system can't lock the file.
     fn lock_now(&self) -> Result<(), OpenFault>
         ensures { IfErr result IsWhateverHeld };

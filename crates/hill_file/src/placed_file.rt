@@ -3,12 +3,12 @@
 ghost use Rattle.std.specs.Prelude.{◌≡◌, ⊤, Ok, false, IsErr};
 ghost use Rattle.hill_file.specs.Done.{Looks, Writes};
 
+use crate::lock::TryLock;
 use crate::sector_file::{Headers, SectorFile};
 use sector_disk::{Fault, SECTOR_BYTES};
 use std::fs::{Files, Metadata, OpenFile};
 use std::io;
-use std::io::{Read, Seek, SeekFrom, Write};
-use std::os::unix::fs::MetadataExt;
+use std::os::unix::fs::{FileExt, MetadataExt};
 
 /// What the header of a hill begins with, in the format in which hills are written.
 const BEGINNING: &[u8] = b"KOTHHIL2";
@@ -31,7 +31,10 @@ pub struct PlacedFile<'f, R: Files> {
     pub(crate) sharing: Sharing,
 }
 
-impl<R: Files> PlacedFile<'_, R> {
+impl<R: Files> PlacedFile<'_, R>
+where
+    R::File: TryLock,
+{
     /// The number of the file's whole sectors, 2³² - 1 if it has more. Nothing if the path leads elsewhere by now.
     pub(crate) fn sectors_in_place(&self) -> io::Result<Option<u32>> {
         let open = self.handle.metadata()?;
@@ -50,7 +53,7 @@ impl<R: Files> PlacedFile<'_, R> {
     {
         match self.sharing {
             Sharing::Alone => {
-                let headers = read_headers(&mut self.handle)?;
+                let headers = read_headers(&self.handle)?;
                 Ok(headers.even.starts_with(BEGINNING) || headers.odd.starts_with(BEGINNING))
             }
             Sharing::Shared => Ok(false),
@@ -58,7 +61,10 @@ impl<R: Files> PlacedFile<'_, R> {
     }
 }
 
-impl<R: Files> SectorFile for PlacedFile<'_, R> {
+impl<R: Files> SectorFile for PlacedFile<'_, R>
+where
+    R::File: TryLock,
+{
     // What the system did is not recorded.
     ghost happened = { λ _ _. ⊤ };
 
@@ -76,13 +82,13 @@ impl<R: Files> SectorFile for PlacedFile<'_, R> {
         ensures shared { self.old.sharing ≡ Sharing.Shared → result ≡ Ok Headers.ZEROS }
     {
         match self.sharing {
-            Sharing::Alone => read_headers(&mut self.handle).or(Err(Fault)),
+            Sharing::Alone => read_headers(&self.handle).or(Err(Fault)),
             Sharing::Shared => Ok(Headers::ZEROS),
         }
     }
 
     fn read(&mut self, n: u32, to: &mut [u8; 512]) -> Result<(), Fault> {
-        read_from(&mut self.handle, n, to).or(Err(Fault))
+        self.handle.read_exact_at(to, offset_of(n)).or(Err(Fault))
     }
 
     fn write(&mut self, n: u32, from: &[u8; 512]) -> Result<(), Fault>
@@ -91,7 +97,7 @@ impl<R: Files> SectorFile for PlacedFile<'_, R> {
         ensures shared { self.old.sharing ≡ Sharing.Shared → IsErr result × (self.new ≡ self.old) }
     {
         match self.sharing {
-            Sharing::Alone => write_to(&mut self.handle, n, from).or(Err(Fault)),
+            Sharing::Alone => self.handle.write_all_at(from, offset_of(n)).or(Err(Fault)),
             Sharing::Shared => Err(Fault),
         }
     }
@@ -102,24 +108,16 @@ impl<R: Files> SectorFile for PlacedFile<'_, R> {
 }
 
 /// Reads both headers at once.
-fn read_headers<F: Read + Seek>(file: &mut F) -> io::Result<Headers> {
+fn read_headers<F: FileExt>(file: &F) -> io::Result<Headers> {
     let mut both = [[0; 512]; 2];
-    file.seek(SeekFrom::Start(0))?;
-    file.read_exact(both.as_flattened_mut())?;
+    file.read_exact_at(both.as_flattened_mut(), 0)?;
     let [even, odd] = both;
     Ok(Headers { even, odd })
 }
 
-/// Reads a sector.
-fn read_from<F: Read + Seek>(file: &mut F, n: u32, to: &mut [u8; 512]) -> io::Result<()> {
-    file.seek(SeekFrom::Start(u64::from(n) * SECTOR_BYTES))?;
-    file.read_exact(to)
-}
-
-/// Writes a sector.
-fn write_to<F: Write + Seek>(file: &mut F, n: u32, from: &[u8; 512]) -> io::Result<()> {
-    file.seek(SeekFrom::Start(u64::from(n) * SECTOR_BYTES))?;
-    file.write_all(from)
+/// The first byte of a sector.
+fn offset_of(sector: u32) -> u64 {
+    u64::from(sector) * SECTOR_BYTES
 }
 
 /// Whether they are of one file, by its device and its number there.
