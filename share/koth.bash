@@ -60,6 +60,19 @@ _koth_takes() {
             valued='--round --like --preset -s --core -p --processes -l --length -d --distance -c --cycles -r --rounds --read-limit --write-limit --seed --capacity'
             kinds=('source' 'source')
             ;;
+        'try')
+            options='--plain --table -h --help'
+            kinds=('file' 'source')
+            ;;
+        'copy')
+            options='--audit -h --help'
+            kinds=('file' 'file')
+            ;;
+        'reseed')
+            options='--seed -h --help'
+            valued='--seed'
+            kinds=('file' 'file')
+            ;;
         'help')
             kinds=('command')
             further='command'
@@ -109,7 +122,7 @@ _koth_read() {
 }
 
 _koth() {
-    local names='asm check fight create submit show serve audit migrate page replay help'
+    local names='asm check fight create submit show serve audit migrate page replay try copy reseed help'
     local word=${COMP_WORDS[COMP_CWORD]} options valued kinds further kind command='' owner='' ended='' count=0
     [[ $word == '=' ]] && word=''
     _koth_takes ''

@@ -1,6 +1,6 @@
 -- What `fight` writes of a match.
 use Rattle.{std.proofs.Common.{◌≡◌, ◌∙◌, ℕ, List, Result, Ok, Err, IfOk, ap}, war_types.specs.{Warrior.WarriorParts, declared.settings.RawSettings.RawSettings}}
-use Rattle.{koth_match.specs.{Match.match_of, declared.bout.Bout.Bout}, koth_words.specs.declared.words.View.View, koth_commands.specs.{Fight.{IsFought, bout_text}, Pair.IsWarriorOf}}
+use Rattle.{koth_match.specs.{Match.match_of, declared.bout.Bout.Bout}, koth_words.specs.declared.requests.View.View, koth_commands.specs.{Fight.{IsFought, bout_text}, Pair.IsWarriorOf}}
 
 -- the text of the match of two warriors whose sources assemble to them
 module _ (s : RawSettings) (view : View) (older younger : WarriorParts) (bout : Bout) where

@@ -1,7 +1,7 @@
 -- What the command `asm` writes, and how it ends.
 use Rattle.std.specs.{Prelude.{◌≡◌, ◌⊎◌, ℕ, Bool, true, false, Option, IfSome, List, [], Result, Ok, Err}, Io.KnownBytes.{Appends, Consumes, Keeps}}
 use Rattle.war_types.specs.{Warrior.WarriorParts, declared.fault.AsmFault.AsmFault, declared.settings.RawSettings.RawSettings, declared.settings.SettingsFault.SettingsFault}
-use Rattle.{redcode_asm.specs.{Assembly.assembly, LoadText.load_text}, koth_text.specs.{Refusal.refusal_line, Written.WritesPart}, koth_words.specs.declared.words.Source.Source}
+use Rattle.{redcode_asm.specs.{Assembly.assembly, LoadText.load_text}, koth_text.specs.{Refusal.refusal_line, Written.WritesPart}, koth_words.specs.declared.requests.Source.Source}
 use Rattle.koth_commands.specs.{Answer.{EndsGiven, Tells}, Streams.{Streams, Takes, unread}, Told.{TellsWord, WritesSome}, Failure.failure_word, declared.status.Status.Status}
 use Rattle.koth_commands.specs.declared.failure.Failure.{Failure}
 

@@ -1,7 +1,7 @@
 -- What the command `check` writes, and how it ends.
 use Rattle.std.specs.{Prelude.{◌≡◌, ◌⊎◌, ℕ, Bool, true, false, if◌then◌else◌, Option, List, length, All, Result, Ok, Err}, Io.KnownBytes.Keeps}
 use Rattle.war_types.specs.{Warrior.WarriorParts, declared.fault.AsmFault.AsmFault, declared.settings.RawSettings.RawSettings, declared.settings.SettingsFault.SettingsFault}
-use Rattle.{redcode_asm.specs.{Assembly.assembly, Within.MaySpend}, koth_words.specs.declared.given.TheConstants.STEPS, koth_commands.specs.{Answer.EndsGiven, Failure.failure_word, Pair.IsFaultOf, Streams.Streams, Told.{TellsWord, WritesSome}}}
+use Rattle.{redcode_asm.specs.{Assembly.assembly, Within.MaySpend}, koth_words.specs.declared.serving.TheConstants.STEPS, koth_commands.specs.{Answer.EndsGiven, Failure.failure_word, Pair.IsFaultOf, Streams.Streams, Told.{TellsWord, WritesSome}}}
 use Rattle.koth_commands.specs.{declared.status.Status.Status, declared.failure.Failure.Failure}
 
 -- the source assembles to a warrior

@@ -1,7 +1,7 @@
 -- What the command `fight` writes, and how it ends.
 use Rattle.std.specs.Prelude.{◌≡◌, ℕ, Option, List, ◌++◌, Result, codes, decimal}
 use Rattle.war_types.specs.{Warrior.WarriorParts, declared.settings.RawSettings.RawSettings, declared.settings.SettingsFault.SettingsFault}
-use Rattle.{koth_match.specs.{Match.match_of, declared.bout.Bout.Bout}, koth_text.specs.Bout.bout_view, koth_words.specs.declared.words.View.View}
+use Rattle.{koth_match.specs.{Match.match_of, declared.bout.Bout.Bout}, koth_text.specs.Bout.bout_view, koth_words.specs.declared.requests.View.View}
 use Rattle.koth_commands.specs.{Answer.EndsGiven, Pair.{EndsMatch, IsWarriorOf}, Streams.Streams, declared.status.Status.Status}
 
 -- the line of a match: rounds that the older won, that the younger won, and ties

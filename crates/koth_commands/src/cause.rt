@@ -53,6 +53,8 @@ pub enum Reason {
     TooShort,
     /// The file isn't empty.
     NotEmpty,
+    /// Something has the name of a new file.
+    NameInUse,
     /// The file holds no hill.
     NoHill,
     /// The file holds a hill of the old format.
@@ -91,7 +93,7 @@ impl Reason {
             Reason::Locked => { "another program uses it; koth submit --wait SECONDS waits for it" }
             Reason::Replaced => "another file has this name",
             Reason::Taken => {
-                "its name with .new after it is taken; remove that file, unless koth create is at work"
+                "its name with .new after it is taken; remove that file, unless another koth is at work"
             }
             Reason::Unfit => {
                 "its file system lacks locks or links that a hill needs; take a local disk"
@@ -100,8 +102,9 @@ impl Reason {
             Reason::ReaderGone => "its reader is gone",
             Reason::NoRoom => "no more can be written",
             Reason::Late => "there was no answer in time",
-            Reason::TooShort => "it is too short for its hill",
+            Reason::TooShort => "it is too short for a hill; is it the right file?",
             Reason::NotEmpty => "it isn't empty; --overwrite makes a hill of it all the same",
+            Reason::NameInUse => "something has this name; take a new one",
             Reason::NoHill => "it holds no hill",
             Reason::OldHill => {
                 "a hill of the old format; koth migrate FILE NEW moves it to a new file"

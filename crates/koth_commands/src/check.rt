@@ -1,7 +1,7 @@
 //! The command `check`: what is wrong with sources, for people or for editors.
 
 ghost use Rattle.std.specs.{Prelude.{◌≡◌, None, false, true, length, OnErr, OnOk, IfOk}, Io.KnownBytes.Keeps};
-ghost use Rattle.{war_types.specs.Settings.settings_of, redcode_asm.specs.Within.MaySpend, koth_words.specs.declared.given.TheConstants.STEPS, koth_commands.specs.{Check.{status_behind, EndsCheck, EndsCheckUnder, Checks, Finds, Warns}, Streams.streams, Told.WritesSome}};
+ghost use Rattle.{war_types.specs.Settings.settings_of, redcode_asm.specs.Within.MaySpend, koth_words.specs.declared.serving.TheConstants.STEPS, koth_commands.specs.{Check.{status_behind, EndsCheck, EndsCheckUnder, Checks, Finds, Warns}, Streams.streams, Told.WritesSome}};
 
 use crate::cause::Cause;
 use crate::failure::Trouble;
@@ -101,7 +101,7 @@ fn warn_if_slow<A: Allocator + Copy, E: Write>(
     ensures { Warns (E.contents errors.old) (E.contents errors.new) }
 {
     if is_slow(alloc, settings, source) {
-        let told = b": over 20000000 steps: a service doesn't assemble it (--steps)\n";
+        let told = b": over 1000000 steps: a service doesn't assemble it (--steps)\n";
         let _ = write_both(errors, path.as_bytes(), told);
     }
 }

@@ -56,6 +56,17 @@ impl<'t> HillTrouble<'t> {
         }
     }
 
+    /// A new file can't be made, since something has its name.
+    pub fn taken(path: &'t str) -> HillTrouble<'t>
+        ensures fault { result.fault ≡ HillFault.Occupied }
+        ensures cause { trouble_told result ≡ Some (reason_told (shown_name path.now) Reason.NameInUse) }
+    {
+        HillTrouble {
+            fault: HillFault::Occupied,
+            cause: Some(Cause::file(path, Reason::NameInUse)),
+        }
+    }
+
     /// The warrior with this entry, on the hill in a file, can't be read.
     pub fn damaged(path: &'t str, entry: u64) -> HillTrouble<'t>
         ensures fault { result.fault ≡ HillFault.Damaged }

@@ -3,14 +3,16 @@ use Rattle.std.proofs.Common.{◌≡◌, ◌≢◌, ◌⊎◌, ℕ, Bool, Bor, t
 use Rattle.{std.specs.{Prelude.{⊤, unwrap_or}, Str.bytes_eq}, std.proofs.{lemmas.List.length-map, KnownBytes.Keeps-refl}, std.specs.Io.KnownBytes.Keeps, clap.specs.Walk.{Row, Text}}
 use Rattle.{clap.specs.Words.{all_of, first_of, one_of}, war_types.specs.{declared.settings.RawSettings.RawSettings, declared.settings.SettingsFault.SettingsFault, Settings.settings_of}}
 use Rattle.koth_words.specs.{Options.number_or, Settings.{IsGiven, base_in, chosen_in, over, settings_in}, Words.{AsksBy, IsRefusal, IsSource, given_in, has_flag, is_input, view_in}}
-use Rattle.{koth_words.specs.{declared.settings.{Chosen.Chosen, Given.Given}, declared.words.NoRequest.NoRequest}}
-use Rattle.koth_words.specs.{declared.words.Request.Request, declared.words.Request.TheVariants.{Asm, Check, Fight, Create, Submit, Show, Serve, Audit, Migrate, Page, Replay}}
-use Rattle.{koth_words.specs.{declared.words.Source.Source, declared.words.View.View}, koth_commands.specs.{Answer.EndsGiven, Asm.{EndsAsmFrom, EndsAsmOf, EndsUnder, is_of_input}}}
+use Rattle.{koth_words.specs.{declared.settings.{Chosen.Chosen, Given.Given}, declared.requests.NoRequest.NoRequest}}
+use Rattle.koth_words.specs.{declared.requests.Request.Request, declared.requests.Request.TheVariants.{Asm, Check, Fight, Create, Submit, Show, Serve, Audit, Migrate, Page, Replay, Try, Copy, Reseed}}
+use Rattle.{koth_words.specs.{declared.requests.Source.Source, declared.requests.View.View}, koth_commands.specs.{Answer.EndsGiven, Asm.{EndsAsmFrom, EndsAsmOf, EndsUnder, is_of_input}}}
 use Rattle.koth_commands.specs.{Check.{EndsCheck, EndsCheckUnder}, Failure.failure_word, Fight.{EndsFight, EndsFightUnder}, Replay.{EndsReplay, EndsReplayUnder, with_round}}
 use Rattle.koth_commands.specs.{Streams.{Streams, streams, unread}, Told.TellsWord, declared.status.Status.Status, declared.status.Status.TheVariants.{NoMemory, WordFault}}
 use Rattle.{koth_commands.specs.declared.failure.Failure.Failure, koth_commands.proofs.Told.{kept_part, keeps_some, writes_nothing}}
-use Rattle.koth_server.specs.{Hills.{AfterNote, EndsCreate, EndsHill, EndsMade, EndsServe, EndsService, EndsSubmit, Said, SaysCreated, SaysShown, TellsFault, TellsNote, listening_line, sight_of}, Audit.EndsAudit}
-use Rattle.koth_server.specs.{Migration.SaysMigrated, Page.SaysPage, Run.{CommandEnds, EndsRequest, EndsRequestUnder, EndsWithout, sight_in, viewed}, Settled.{AreSettled, EndsBy, EndsSettled, EndsUnderGiven, TellsNoHill, names_hill}, Seed.seed_hint}
+use Rattle.koth_keeping.specs.{Created.{EndsCreate, EndsMade, SaysCreated}, Said.{EndsHill, Said, TellsFault}, Audit.EndsAudit, Copies.{EndsCopy, EndsReseed, SaysCopied, SaysReseeded}}
+use Rattle.koth_server.specs.Hills.{AfterNote, EndsServe, EndsService, EndsSubmit, SaysShown, TellsNote, listening_line, sight_of}
+use Rattle.koth_keeping.specs.{Migration.SaysMigrated, Seed.seed_hint}
+use Rattle.koth_server.specs.{Page.SaysPage, Trials.EndsTry, Run.{CommandEnds, EndsRequest, EndsRequestUnder, EndsWithout, sight_in, viewed}, Settled.{AreSettled, EndsBy, EndsSettled, EndsUnderGiven, TellsNoHill, names_hill}}
 use Rattle.koth_files.specs.declared.hill_fault.HillFault.TheVariants.{Failed}
 
 -- one fact or the other
@@ -38,7 +40,10 @@ EndsNamed name view given status before after =
     (Either (bytes_eq name (codes "migrate")) (EndsHill SaysMigrated status u v)
     (Either (bytes_eq name (codes "page")) (AfterNote (EndsHill SaysPage status) u v)
     (Either (bytes_eq name (codes "serve")) (AfterNote (EndsServe (settings_of (settings_in given)) status) u v)
-    (Either (bytes_eq name (codes "replay")) (EndsBy given (λ s. EndsReplay (number_or 1 (one_of (codes "round") given)) (settings_of s) status u v) status before after) ⊤))))))))))
+    (Either (bytes_eq name (codes "replay")) (EndsBy given (λ s. EndsReplay (number_or 1 (one_of (codes "round") given)) (settings_of s) status u v) status before after)
+    (Either (bytes_eq name (codes "try")) (AfterNote (EndsTry shown status) u v)
+    (Either (bytes_eq name (codes "copy")) (AfterNote (EndsCopy (has_flag (codes "audit") given) status) u v)
+    (Either (bytes_eq name (codes "reseed")) (AfterNote (EndsReseed status) u v) ⊤)))))))))))))
 
 -- ---- a request: the command that the arguments name ended so, under the settings that they give
 
@@ -117,6 +122,9 @@ module _ (view : View) (e : Text × List Row) (status : Status) (before after : 
   named (Replay given watched) asks ends = subst Ends (sym asks.0)
       (by_words e.1 given (Under (Replay given watched)) (λ s. EndsReplay (number_or 1 (one_of (codes "round") e.1)) (settings_of s) status (unread before) (unread after)) status before after asks.1
       (λ s ended. subst (λ n. EndsReplay n (settings_of s) status (unread before) (unread after)) asks.4 ended) ends.0)
+  named (Try files) asks ends = subst Ends (sym asks.0) (subst (λ v. AfterNote (EndsTry (viewed v view) status) (unread before) (unread after)) asks.3 ends.0.1)
+  named (Copy files) asks ends = subst Ends (sym asks.0) (subst (λ a. AfterNote (EndsCopy a status) (unread before) (unread after)) asks.3 ends.0.1)
+  named (Reseed files) asks ends = subst Ends (sym asks.0) ends.0.1
 
 pub carried : (view : View) (entered : Option (Text × List Row)) (request : Request) (status : Status) (before after : Streams) (name : Text)
     → AsksBy entered request → EndsRequest view request status before after → option_map (λ e. e.0) entered ≡ Some name
@@ -189,6 +197,9 @@ module _ (i o p e f : Option (List ℕ)) (kept : Keeps o p) (told : TellsWord (f
   submit_no_memory : (view : View) → EndsSubmit view NoMemory (streams i o e) (streams i p f)
   submit_no_memory view = inr (record { fault = Failed Failure.Memory; ends = refl; output = kept; told = told })
 
+  try_no_memory : (view : View) → EndsTry view NoMemory (streams i o e) (streams i p f)
+  try_no_memory view = inr (record { fault = Failed Failure.Memory; ends = refl; output = kept; told = told })
+
   service_no_memory : EndsService NoMemory (streams i o e) (streams i p f)
   service_no_memory = inr (record {
     fault = Failed Failure.Memory;
@@ -254,7 +265,10 @@ module _ (i o p e f : Option (List ℕ)) (kept : Keeps o p) (told : TellsWord (f
       (either (bytes_eq name (codes "migrate")) _ _ (hill_no_memory None o p e f kept told SaysMigrated)
       (either (bytes_eq name (codes "page")) _ _ (e, none, hill_no_memory None o p e f kept told SaysPage)
       (either (bytes_eq name (codes "serve")) _ _ (e, none, serve_no_memory (settings_of (settings_in given)))
-      (either (bytes_eq name (codes "replay")) _ ⊤ (by_no_memory given (λ s. EndsReplay round (settings_of s) NoMemory u v) (λ s. replay_no_memory round (settings_of s))) tt))))))))))
+      (either (bytes_eq name (codes "replay")) _ _ (by_no_memory given (λ s. EndsReplay round (settings_of s) NoMemory u v) (λ s. replay_no_memory round (settings_of s)))
+      (either (bytes_eq name (codes "try")) _ _ (e, none, try_no_memory None o p e f kept told shown)
+      (either (bytes_eq name (codes "copy")) _ _ (e, none, inl (hill_no_memory None o p e f kept told SaysCopied))
+      (either (bytes_eq name (codes "reseed")) _ ⊤ (e, none, inl (hill_no_memory None o p e f kept told SaysReseeded)) tt)))))))))))))
 
 module _ (i o p e f : Option (List ℕ)) (status : Status) where
   pub without : (name : Text) (view : View) (given : List Row) (none : NoRequest) → none ≡ NoRequest.Memory

@@ -1,7 +1,7 @@
-mod Audited
 mod Carried
 mod Logged
 mod Replies
 mod Said
 mod Shown
 mod Statuses
+mod Tried

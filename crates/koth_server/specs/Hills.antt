@@ -1,26 +1,44 @@
 -- What the commands on a hill in a file write, and how they end.
-use Rattle.std.specs.{Prelude.{◌≡◌, ◌≢◌, ◌⊎◌, ℕ, Bool, true, false, if◌then◌else◌, List, [], Option, ◌++◌, Result, Ok, Err, codes, decimal}, Io.KnownBytes.{Appends, Keeps}}
-use Rattle.war_types.specs.{Settings.settings_of, declared.settings.RawSettings.RawSettings, declared.settings.SettingsFault.SettingsFault}
-use Rattle.{koth_match.specs.Seeds.IsSeed, koth_hill.specs.Kept.{Kept, table_kept}, sector_disk.specs.Facts.DeviceFacts}
+use Rattle.std.specs.{Prelude.{◌≡◌, ◌≢◌, ◌⊎◌, ℕ, Bool, if◌then◌else◌, List, [], Option, ◌++◌, Result, Ok, codes, decimal}, Io.KnownBytes.{Appends, Keeps}}
+use Rattle.war_types.specs.{Warrior.WarriorParts, declared.settings.RawSettings.RawSettings, declared.settings.SettingsFault.SettingsFault}
+use Rattle.{redcode_asm.specs.Assembly.assembly, koth_hill.specs.{Kept.{Kept, table_kept, verdict_kept}, declared.verdict.Verdict.Verdict}, sector_disk.specs.Facts.DeviceFacts}
 use Rattle.{hill_store.specs.{Seen.{Seen, Submits}, declared.reply.Reply.Reply}, koth_protocol.specs.{Matches.matches_text, Table.show_text, Written.WritesPart}, koth_session.specs.Reply.reply_line}
-use Rattle.{koth_hills.specs.Settings.settings_text, koth_words.specs.{declared.words.Shown.Shown, declared.words.View.View}, koth_views.specs.{Standing.hill_view, Matrix.matches_view, Placing.placing_view, Roster.roster}}
+use Rattle.{koth_hills.specs.Settings.settings_text, koth_words.specs.{declared.requests.Shown.Shown, declared.requests.View.View}}
+use Rattle.koth_views.specs.{Standing.hill_view, Matrix.matches_view, Placing.placing_view, Fallen.fallen_view, Roster.roster, declared.entrants.Entered.Entered}
 use Rattle.koth_commands.specs.{Answer.{EndsGiven, Tells}, Failure.failure_word, Told.{TellsWord, WritesSome}, Streams.Streams, declared.status.Status.Status, declared.failure.Failure.Failure}
-use Rattle.koth_files.specs.{HillFault.{fault_status, fault_word}, declared.hill_fault.HillFault.HillFault, declared.trouble.HillTrouble.HillTrouble}
-use Rattle.koth_server.specs.{ReplyStatus.reply_status, Seed.seed_hint}
+use Rattle.{koth_files.specs.{HillFault.{fault_status, fault_word}, declared.hill_fault.HillFault.HillFault}, koth_keeping.specs.Said.{Said, SaysWhole, TellsFault}}
+use Rattle.koth_server.specs.ReplyStatus.{reply_status}
 
 -- the line that names the port
 abbrev pub listening_line : ℕ → List ℕ
 listening_line port = codes "LISTENING " ++ decimal port ++ codes "\n"
 
--- what stands after the line of a reply that turned the old hill into the new one: for people what became of the warrior, unless there was
--- no memory for that
-abbrev pub IsPlacing : View → Kept → Kept → Reply → List ℕ → Type 0
-IsPlacing View.Plain old new reply more = more ≡ []
-IsPlacing View.Table old new reply more = (more ≡ []) ⊎ (more ≡ placing_view (roster old) new reply)
+-- a submission of the source to this hill is due this verdict
+abbrev pub IsDue : Kept → List ℕ → Verdict → Type 0
+IsDue k source judged = (w : WarriorParts) × (assembly k.settings source ≡ Ok w) × (judged ≡ verdict_kept k w)
+
+-- for people, that the warrior of a source fell, by who stood before it and the hill after it, and then its matches with all on the hill
+pub record TellsFallen (stood : List Entered) (new : Kept) (source : List ℕ) (reply : Reply) (text : List ℕ) : Type 0 where
+  pub entry : ℕ
+  pub score : ℕ
+  pub fell : reply ≡ Reply.Fell entry score
+  pub judged : Verdict
+  pub due : IsDue new source judged
+  pub told : text ≡ placing_view stood new reply ++ fallen_view new judged.bouts
+
+-- for people, what became of the warrior of a source; if it fell with its matches, unless there was no memory to fight them again
+abbrev pub IsOutcome : List Entered → Kept → List ℕ → Reply → List ℕ → Type 0
+IsOutcome stood new source reply text = (text ≡ placing_view stood new reply) ⊎ TellsFallen stood new source reply text
+
+-- what stands after the line of a reply to a source that turned the old hill into the new one: for people what became of its warrior, unless
+-- there was no memory for that
+abbrev pub IsPlacing : View → Kept → Kept → List ℕ → Reply → List ℕ → Type 0
+IsPlacing View.Plain old new source reply more = more ≡ []
+IsPlacing View.Table old new source reply more = (more ≡ []) ⊎ IsOutcome (roster old) new source reply more
 
 -- the text of a reply
-abbrev pub IsReplyText : View → Kept → Kept → Reply → List ℕ → Type 0
-IsReplyText view old new reply text = (more : List ℕ) × IsPlacing view old new reply more × (text ≡ reply_line reply ++ more)
+abbrev pub IsReplyText : View → Kept → Kept → List ℕ → Reply → List ℕ → Type 0
+IsReplyText view old new source reply text = (more : List ℕ) × IsPlacing view old new source reply more × (text ≡ reply_line reply ++ more)
 
 -- what is written on standard error besides: some text that explains a refusal, and else nothing
 abbrev pub ExplainsReply : Reply → Option (List ℕ) → Option (List ℕ) → Type 0
@@ -32,18 +50,10 @@ ExplainsReply Reply.Memory old new = Keeps old new
 ExplainsReply Reply.Disk old new = Keeps old new
 ExplainsReply Reply.Reopen old new = Keeps old new
 
--- what a command that is carried out writes on the output, by the status with which it ends
-
-abbrev pub Said : Type 1
-Said = Status → List ℕ → Type 0
-
-abbrev pub SaysCreated : Said
-SaysCreated status text = (status ≡ Status.Done) × (text ≡ codes "CREATED\n")
-
 -- the text of a reply that a hill gives that was just opened
 abbrev pub SaysReply : View → Said
-SaysReply view status text = (old : Kept) × (new : Kept) × (reply : Reply)
-    × (reply ≢ Reply.Reopen) × (status ≡ reply_status reply) × IsReplyText view old new reply text
+SaysReply view status text = (old : Kept) × (new : Kept) × (source : List ℕ) × (reply : Reply)
+    × (reply ≢ Reply.Reopen) × (status ≡ reply_status reply) × IsReplyText view old new source reply text
 
 -- what is to be seen of a hill: its table, with the matrix of its matches or without, or its settings, with the seed or without
 pub record Sight : Type 0 where
@@ -81,41 +91,6 @@ SaysShown view sight status text = (hill : Kept) × ShowsOf view sight hill stat
 abbrev pub SaysPort : Said
 SaysPort status text = (port : ℕ) × (status ≡ Status.Done) × (text ≡ listening_line port)
 
--- such an answer was written
-pub record SaysWhole (said : Said) (status : Status) (old new : Option (List ℕ)) : Type 0 where
-  pub text : List ℕ
-  pub answer : said status text
-  pub written : Appends old new text
-
--- a part of such an answer was
-pub record SaysPart (said : Said) (old new : Option (List ℕ)) : Type 0 where
-  pub status : Status
-  pub text : List ℕ
-  pub answer : said status text
-  pub written : WritesPart old new text
-
--- if a stream failed, a part of such an answer may be on the output; else nothing is
-abbrev pub WritesAt : Said → HillFault → Option (List ℕ) → Option (List ℕ) → Type 0
-WritesAt said (HillFault.Failed Failure.Stream) old new = Keeps old new ⊎ SaysPart said old new
-WritesAt said (HillFault.Failed Failure.Memory) old new = Keeps old new
-WritesAt said HillFault.TooSmall old new = Keeps old new
-WritesAt said HillFault.Occupied old new = Keeps old new
-WritesAt said HillFault.NotAHill old new = Keeps old new
-WritesAt said HillFault.OldHill old new = Keeps old new
-WritesAt said HillFault.Damaged old new = Keeps old new
-
--- before a fault is reported
-abbrev pub Tries : Said → Result Status HillTrouble → Option (List ℕ) → Option (List ℕ) → Type 0
-Tries said (Ok status) old new = SaysWhole said status old new
-Tries said (Err trouble) old new = WritesAt said trouble.fault old new
-
--- a fault was reported on standard error
-pub record TellsFault (said : Said) (status : Status) (before after : Streams) : Type 0 where
-  pub fault : HillFault
-  pub ends : status ≡ fault_status fault
-  pub output : WritesAt said fault before.output after.output
-  pub told : TellsWord (fault_word fault) before.errors after.errors
-
 -- what is written on standard error before the hill in a file is opened: nothing, or that one of its headers can't be read
 abbrev pub TellsNote : Option (List ℕ) → Option (List ℕ) → Type 0
 TellsNote old new = Keeps old new ⊎ TellsWord (codes "NOTE") old new
@@ -124,33 +99,11 @@ TellsNote old new = Keeps old new ⊎ TellsWord (codes "NOTE") old new
 abbrev pub AfterNote : (Streams → Streams → Type 0) → Streams → Streams → Type 0
 AfterNote ends before after = (noted : Option (List ℕ)) × TellsNote before.errors noted × ends (record before { errors = noted }) after
 
--- how such a command ends: carried out, with nothing on standard error, or with a fault
-abbrev pub EndsHill : Said → Status → Streams → Streams → Type 0
-EndsHill said status before after =
-    (SaysWhole said status before.output after.output × Keeps before.errors after.errors) ⊎ TellsFault said status before after
-
--- how making a hill ends: with its line, and then a hint on standard error, or a part of the hint if that failed; or with a fault. If there
--- is no hint, nothing is on standard error but a fault.
-abbrev pub EndsMade : List ℕ → Status → Streams → Streams → Type 0
-EndsMade hint status before after =
-    (SaysWhole SaysCreated status before.output after.output × WritesPart before.errors after.errors hint) ⊎ TellsFault SaysCreated status before after
-
--- the same under the settings that are given, or with their refusal, or out of memory
-abbrev pub EndsMadeBy : List ℕ → RawSettings → Status → Streams → Streams → Type 0
-EndsMadeBy hint given status before after = EndsGiven (λ s. EndsMade hint) (settings_of given) status before after
-
--- How `create` ends: with a hint if the settings that are given have the default seed. If the seed is drawn, in place of theirs, there is no
--- hint, and the source of random numbers may fail.
-abbrev pub EndsCreate : Bool → RawSettings → Status → Streams → Streams → Type 0
-EndsCreate false given status before after = EndsMadeBy (seed_hint given.seed) given status before after
-EndsCreate true given status before after =
-    ((seed : ℕ) × IsSeed seed × EndsMadeBy [] (record given { seed = seed }) status before after) ⊎ TellsFault SaysCreated status before after
-
 -- a submission that a store answered, which turned the old hill into the new one: the text of the reply was written, and a refusal was
 -- explained
-pub record SaysSubmitted (view : View) (old new : Kept) (reply : Reply) (status : Status) (before after : Streams) : Type 0 where
+pub record SaysSubmitted (view : View) (old new : Kept) (source : List ℕ) (reply : Reply) (status : Status) (before after : Streams) : Type 0 where
   pub text : List ℕ
-  pub tells : IsReplyText view old new reply text
+  pub tells : IsReplyText view old new source reply text
   pub ends : status ≡ reply_status reply
   pub written : Appends before.output after.output text
   pub explained : ExplainsReply reply before.errors after.errors
@@ -158,7 +111,7 @@ pub record SaysSubmitted (view : View) (old new : Kept) (reply : Reply) (status 
 -- how `submit` ends: with the reply of a hill that was just opened, or with a fault
 abbrev pub EndsSubmit : View → Status → Streams → Streams → Type 0
 EndsSubmit view status before after =
-    ((old : Kept) × (new : Kept) × (reply : Reply) × (reply ≢ Reply.Reopen) × SaysSubmitted view old new reply status before after)
+    ((old : Kept) × (new : Kept) × (source : List ℕ) × (reply : Reply) × (reply ≢ Reply.Reopen) × SaysSubmitted view old new source reply status before after)
     ⊎ TellsFault (SaysReply view) status before after
 
 -- how writing a reply and a text after it ends, by what the output and then standard error hold before and after
@@ -170,8 +123,8 @@ EndsReply reply more status o p e f =
 -- how the submission of a source to a store ends: with its reply, or with a part of the reply's text if the output failed
 abbrev pub EndsSubmission : {D : Type 0} → DeviceFacts D → Seen D → List ℕ → Seen D → View → Status → Streams → Streams → Type 0
 EndsSubmission facts old source new view status before after = (reply : Reply) × Submits facts old source reply new
-    × (SaysSubmitted view old.hill new.hill reply status before after
-    ⊎ ((status ≡ Status.StreamFault) × ((text : List ℕ) × IsReplyText view old.hill new.hill reply text × WritesPart before.output after.output text)
+    × (SaysSubmitted view old.hill new.hill source reply status before after
+    ⊎ ((status ≡ Status.StreamFault) × ((text : List ℕ) × IsReplyText view old.hill new.hill source reply text × WritesPart before.output after.output text)
     × Tells Failure.Stream before after))
 
 -- how a service ends: after its line, or with a fault, and then a part of that line may stand on the output; the log stands on standard error

@@ -1,11 +1,9 @@
 -- How the program ends with a reply.
 pub mod ReplyStatus
--- The seed that is drawn for a hill, and what is told of the default one.
-pub mod Seed
 -- What each command on a hill writes and how it ends.
 pub mod Hills
-pub mod Audit
-pub mod Migration
+-- What `try` writes, and how it ends.
+pub mod Trials
 pub mod Page
 -- The pages that browsers ask for.
 pub mod Pages

@@ -1,11 +1,12 @@
 -- How a run ends.
 use Rattle.std.specs.{Prelude.{◌≡◌, ◌≢◌, ◌⊎◌, ℕ, List, [], length, Option, codes, unwrap_or}, Io.KnownBytes.Keeps}
 use Rattle.{clap.specs.Words.{Row, Text, all_of, one_of}, war_types.specs.{Settings.settings_of, declared.settings.RawSettings.RawSettings}, koth_words.specs.Options.number_or}
-use Rattle.koth_words.specs.{Words.{draw_seed_named, given_by, given_of, has_flag, matches_in, reads_input, settings_named, view_named, AreTaken, AreWrong, AsksFor}, declared.words.NoRequest.NoRequest}
-use Rattle.koth_words.specs.{declared.words.Request.Request, declared.words.Request.TheVariants.{Asm, Check, Fight, Create, Submit, Show, Serve, Audit, Migrate, Page, Replay}}
-use Rattle.{koth_words.specs.declared.words.View.View, koth_commands.specs.{Answer.Tells, Asm.{EndsAsmFrom, EndsAsmOf}, Check.EndsCheck, Fight.EndsFight, Replay.EndsReplay}}
+use Rattle.koth_words.specs.{Words.{draw_seed_named, given_by, given_of, has_flag, matches_in, reads_input, settings_named, view_named, AreTaken, AreWrong, AsksFor}, declared.requests.NoRequest.NoRequest}
+use Rattle.koth_words.specs.{declared.requests.Request.Request, declared.requests.Request.TheVariants.{Asm, Check, Fight, Create, Submit, Show, Serve, Audit, Migrate, Page, Replay, Try, Copy, Reseed}}
+use Rattle.{koth_words.specs.declared.requests.View.View, koth_commands.specs.{Answer.Tells, Asm.{EndsAsmFrom, EndsAsmOf}, Check.EndsCheck, Fight.EndsFight, Replay.EndsReplay}}
 use Rattle.koth_commands.specs.{Status.status_code, Streams.{Streams, unread}, declared.status.Status.Status, declared.failure.Failure.Failure}
-use Rattle.koth_server.specs.{Hills.{AfterNote, EndsCreate, EndsHill, EndsServe, EndsSubmit, SaysShown, Sight, sight_of}, Audit.EndsAudit, Migration.SaysMigrated, Page.SaysPage}
+use Rattle.koth_keeping.specs.{Created.EndsCreate, Said.EndsHill, Audit.EndsAudit, Copies.{EndsCopy, EndsReseed}, Migration.SaysMigrated}
+use Rattle.koth_server.specs.{Hills.{AfterNote, EndsServe, EndsSubmit, SaysShown, Sight, sight_of}, Trials.EndsTry, Page.SaysPage}
 use Rattle.koth_server.specs.Settled.{EndsBy, EndsSettled}
 
 -- the code is that of a status of which this holds
@@ -36,6 +37,9 @@ CommandEnds settings view (Migrate files) status before after = EndsHill SaysMig
 CommandEnds settings view (Page file) status before after = AfterNote (EndsHill SaysPage status) (unread before) (unread after)
 CommandEnds settings view (Serve given service) status before after = AfterNote (EndsServe (settings_of given) status) (unread before) (unread after)
 CommandEnds settings view (Replay given watched) status before after = EndsReplay watched.round (settings_of settings) status (unread before) (unread after)
+CommandEnds settings view (Try files) status before after = AfterNote (EndsTry (viewed files.view view) status) (unread before) (unread after)
+CommandEnds settings view (Copy files) status before after = AfterNote (EndsCopy files.audit status) (unread before) (unread after)
+CommandEnds settings view (Reseed files) status before after = AfterNote (EndsReseed status) (unread before) (unread after)
 
 -- the same, and never as at a fault of the arguments
 abbrev pub EndsRequestUnder : RawSettings → View → Request → Status → Streams → Streams → Type 0
@@ -83,6 +87,11 @@ pub record EndsRun (view : View) (given : List (List ℕ)) (status : Status) (be
       → AfterNote (EndsServe (settings_of (settings_named given)) status) (unread before) (unread after)
   pub replay : AsksFor (codes "replay") given
       → EndsBy (given_by given) (λ s. EndsReplay (round_named given) (settings_of s) status (unread before) (unread after)) status before after
+  pub trial : AsksFor (codes "try") given
+      → AfterNote (EndsTry (viewed (view_named given) view) status) (unread before) (unread after)
+  pub copy : AsksFor (codes "copy") given
+      → AfterNote (EndsCopy (has_flag (codes "audit") (given_by given)) status) (unread before) (unread after)
+  pub reseed : AsksFor (codes "reseed") given → AfterNote (EndsReseed status) (unread before) (unread after)
   pub words : AreTaken given → status ≢ Status.WordFault
   pub wrong : AreWrong given → (status ≡ Status.WordFault) ⊎ (status ≡ Status.NoMemory)
   pub word_fault : status ≡ Status.WordFault → Keeps before.input after.input × Keeps before.output after.output

@@ -2,10 +2,10 @@
 
 ghost use Rattle.koth_commands.specs.Told.{WritesSome};
 
-use crate::seed::seed_hint;
 use hill_store::Reply;
 use jiff::Timestamp;
 use koth_commands::write_whole;
+use koth_keeping::seed_hint;
 use koth_service::{Event, HowEnded, LogWrite, PeerEnd};
 use koth_session::line_of;
 use koth_words::Service;

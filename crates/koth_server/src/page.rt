@@ -1,7 +1,8 @@
 //! The command `page`: the page of the hill in a file.
 
 ghost use Rattle.std.specs.Prelude.{◌≡◌, ◌≢◌, IfOk, None};
-ghost use Rattle.{koth_page.specs.Page.hill_page, koth_commands.specs.Streams.streams, koth_server.specs.{Hills.{EndsHill, Tries}, Page.{PagesOf, SaysPage}}};
+ghost use Rattle.koth_keeping.specs.Said.{EndsHill, Tries};
+ghost use Rattle.{koth_page.specs.Page.hill_page, koth_commands.specs.Streams.streams, koth_server.specs.Page.{PagesOf, SaysPage}};
 
 use hill_store::Store;
 use koth_commands::{Status, write_whole};

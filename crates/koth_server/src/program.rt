@@ -3,21 +3,24 @@
 ghost use Rattle.std.specs.Prelude.{◌≡◌, None, map, string_bytes};
 ghost use Rattle.{koth_commands.specs.Streams.streams, koth_server.specs.Run.{viewed, EndsRequest, EndsRequestUnder, EndsRun, EndsWithout, Leaves}};
 
-use crate::audit::audit;
-use crate::create::create;
 use crate::damage::tell_lost_header;
-use crate::migrate::migrate;
 use crate::page::page;
 use crate::serve::serve;
 use crate::settled::settled;
 use crate::show::show;
 use crate::submit::submit;
+use crate::trial::try_submission;
 use hill_file::TryLock;
 use koth_commands::asm::asm;
 use koth_commands::check::check;
 use koth_commands::fight::fight;
 use koth_commands::replay::replay;
 use koth_commands::{Cause, Failure, Status, write_whole};
+use koth_keeping::audit::audit;
+use koth_keeping::copy::copy;
+use koth_keeping::create::create;
+use koth_keeping::migrate::migrate;
+use koth_keeping::reseed::reseed;
 use koth_service::LogWrite;
 use koth_words::{NoRequest, Request, View, parse};
 use std::alloc::{Allocator, Global};
@@ -180,6 +183,19 @@ where
             output,
             errors,
         ),
+        Request::Try(files) => {
+            let view = viewed(files.view, view);
+            tell_lost_header(rt, alloc, files.hill, errors);
+            try_submission(rt, alloc, files, view, output, errors)
+        }
+        Request::Copy(files) => {
+            tell_lost_header(rt, alloc, files.hill, errors);
+            copy(rt, alloc, files, output, errors)
+        }
+        Request::Reseed(files) => {
+            tell_lost_header(rt, alloc, files.hill, errors);
+            reseed(rt, alloc, files, output, errors)
+        }
     }
 }
 

@@ -1,7 +1,8 @@
 //! The command `show`: the table of the hill in a file, and the matrix of its matches.
 
 ghost use Rattle.std.specs.Prelude.{◌≡◌, ◌≢◌, IfOk, None, true};
-ghost use Rattle.{koth_commands.specs.Streams.streams, koth_server.specs.Hills.{EndsHill, SaysShown, ShowsOf, Tries, shown_lines, shown_table, shown_text, sight_of, sight_text}};
+ghost use Rattle.koth_keeping.specs.Said.{EndsHill, Tries};
+ghost use Rattle.{koth_commands.specs.Streams.streams, koth_server.specs.Hills.{SaysShown, ShowsOf, shown_lines, shown_table, shown_text, sight_of, sight_text}};
 
 use hill_store::Store;
 use koth_commands::{Status, write_whole};

@@ -1,8 +1,10 @@
 //! The command `submit`: one submission to the hill in a file.
 
 ghost use Rattle.std.specs.Prelude.{◌≡◌, ◌≢◌, ◌⊎◌, [], false, None, IfSome};
-ghost use Rattle.{koth_views.specs.{Placing.placing_view, Roster.roster}, koth_commands.specs.Streams.streams, koth_server.specs.Hills.{EndsReply, EndsSubmission, EndsSubmit, ExplainsReply}};
+ghost use Rattle.{koth_views.specs.Roster.roster, koth_commands.specs.Streams.streams};
+ghost use Rattle.koth_server.specs.Hills.{EndsReply, EndsSubmission, EndsSubmit, ExplainsReply, IsOutcome};
 
+use crate::outcome::outcome_text;
 use crate::reply_status::status_of;
 use hill_file::TryLock;
 use hill_store::{Reply, Store};
@@ -10,7 +12,7 @@ use koth_commands::{Status, explain, read_source, write_both};
 use koth_files::{HillTrouble, open_within, tell_output};
 use koth_hill::Hill;
 use koth_session::line_of;
-use koth_views::{Entered, placing_view, roster};
+use koth_views::{Entered, roster};
 use koth_words::{Submission, View};
 use sector_disk::Device;
 use std::alloc::{AllocError, Allocator};
@@ -19,8 +21,9 @@ use std::rt::{Clock, Files};
 use war_types::Settings;
 
 /// Submits the source in a file to the hill in another, and writes the reply. The hill is opened before the source is
-/// read. If another program has its lock, that is tried again for as long as the arguments say. The reply to a warrior that is placed or falls is written once that is durable. After a refusal's line standard error gets the
-/// place in the source and the reason.
+/// read. If another program has its lock, that is tried again for as long as the arguments say. The reply to a warrior
+/// that is placed or falls is written once that is durable. After a refusal's line standard error gets the place in the
+/// source and the reason.
 pub(crate) fn submit<R: Files + Clock, A: Allocator + Copy, O: Write, E: Write>(
     rt: &R,
     alloc: A,
@@ -72,12 +75,13 @@ fn submit_file<R: Files, D: Device, A: Allocator + Copy, O: Write, E: Write>(
 
 /// A source, and the path of its file.
 #[derive(Clone, Copy)]
-struct Source<'s> {
-    path: &'s str,
-    text: &'s [u8],
+pub(crate) struct Source<'s> {
+    pub path: &'s str,
+    pub text: &'s [u8],
 }
 
-/// Submits a source to a store, and then writes the reply: its line, and in the view for people after it where the warrior stands.
+/// Submits a source to a store, and then writes the reply: its line, and in the view for people after it what became of
+/// the warrior.
 fn submit_source<D: Device, A: Allocator + Copy, O: Write, E: Write>(
     alloc: A,
     store: &mut Store<D, A>,
@@ -94,7 +98,7 @@ fn submit_source<D: Device, A: Allocator + Copy, O: Write, E: Write>(
 {
     let before = roster_for(alloc, view, store.hill());
     let reply = store.submit(source.text);
-    let placing = placing_text(alloc, &before, store.hill(), &reply);
+    let placing = placing_text(alloc, &before, store, source.text, &reply);
     let settings = store.hill().settings();
     answer_reply(
         alloc,
@@ -107,8 +111,9 @@ fn submit_source<D: Device, A: Allocator + Copy, O: Write, E: Write>(
     )
 }
 
-/// Writes the line of a reply and this text after it, and for a refusal the place in the source and the reason on standard error.
-fn answer_reply<A: Allocator + Copy, O: Write, E: Write>(
+/// Writes the line of a reply and this text after it, and for a refusal the place in the source and the reason on
+/// standard error.
+pub(crate) fn answer_reply<A: Allocator + Copy, O: Write, E: Write>(
     alloc: A,
     settings: &Settings,
     source: Source<'_>,
@@ -141,18 +146,21 @@ fn roster_for<A: Allocator + Copy>(alloc: A, view: View, hill: &Hill<A>) -> Opti
     }
 }
 
-/// Where a warrior stands after its submission, if that was asked for and there is memory for it; else nothing.
-fn placing_text<A: Allocator + Copy>(
+/// What became of the warrior of a source, if that was asked for and there is memory for it; else nothing.
+fn placing_text<D: Device, A: Allocator + Copy>(
     alloc: A,
     before: &Option<Vec<Entered, A>>,
-    hill: &Hill<A>,
+    store: &mut Store<D, A>,
+    source: &[u8],
     reply: &Reply,
 ) -> Vec<u8, A>
     ensures none { before.now ≡ None → result.items ≡ [] }
-    ensures some { IfSome before.now (λ stood. (result.items ≡ []) ⊎ (result.items ≡ placing_view stood.items hill.now reply.now)) }
+    ensures some { IfSome before.now (λ stood. (result.items ≡ [])
+        ⊎ IsOutcome stood.items store.old.hill source.now reply.now result.items) }
+    ensures unchanged { store.new ≡ store.old }
 {
     match before {
-        Some(before) => match placing_view(alloc, before.as_slice(), hill, reply) {
+        Some(before) => match outcome_text(alloc, before.as_slice(), store, source, reply) {
             Ok(text) => text,
             Err(AllocError) => Vec::new(alloc),
         },

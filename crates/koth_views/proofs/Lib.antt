@@ -1,2 +1,3 @@
+mod Results
 mod Rows
 pub mod Steps

@@ -10,3 +10,5 @@ pub use Rattle.koth_text.specs.Bout
 pub mod Roster
 pub mod Placed
 pub mod Placing
+-- What a challenger that falls is told of those that stay.
+pub mod Fallen

@@ -5,7 +5,8 @@
 //!
 //! - `tally`: rounds that one entry won, lost and tied, which a page shows too;
 //! - `standing`: the table of a hill; `matrix`: its matches;
-//! - `entrants`, `placed` and `placing`: who stood on a hill, and what became of a submission.
+//! - `entrants`, `placed` and `placing`: who stood on a hill, and what became of a submission;
+//! - `fallen`: what a challenger that falls is told of those that stay.
 //!
 //! Cells, columns and the counts of one match are `koth_text`'s, and this crate passes `bout_view` on.
 //!
@@ -14,6 +15,7 @@
 #![tactic(auto)]
 
 mod entrants;
+mod fallen;
 mod matrix;
 mod placed;
 mod placing;
@@ -21,6 +23,7 @@ mod standing;
 mod tally;
 
 pub use entrants::{Entered, roster};
+pub use fallen::{challenged_view, fallen_view};
 pub use koth_text::{Tally, bout_view};
 pub use matrix::matches_view;
 pub use placing::placing_view;

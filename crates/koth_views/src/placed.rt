@@ -72,7 +72,7 @@ fn fell_line(entry: u64, score: u32) -> Line
     line.put(b"entry ");
     line.put_number(entry);
     line.put(b" with ");
-    put_points(&mut line, score);
+    put_points(&mut line, u64::from(score));
     line.put(b" fell: it is not on the hill\n");
     line
 }
@@ -139,7 +139,7 @@ fn rank_line(place: Place, count: u64) -> Line
     line.put(b" of ");
     line.put_number(count);
     line.put(b", ");
-    put_points(&mut line, place.score);
+    put_points(&mut line, u64::from(place.score));
     line.put(b"\n");
     line
 }
@@ -267,11 +267,11 @@ fn put_who<A: Allocator>(
     text.extend_from_slice(author)
 }
 
-fn put_points(line: &mut Line, points: u32)
+pub(crate) fn put_points(line: &mut Line, points: u64)
     requires { length line.old + 27 ≤ 96 }
     ensures value { line.new ≡ line.old ++ points_text points }
     ensures len { length line.new ≤ length line.old + 27 }
 {
-    line.put_number(u64::from(points));
+    line.put_number(points);
     line.put(if points == 1 { b" point" } else { b" points" });
 }

@@ -8,6 +8,12 @@ use koth_match::Bout;
 use koth_text::Tally;
 use std::alloc::Allocator;
 
+pub(crate) const NO_ROUNDS: Bout = Bout {
+    older_wins: 0,
+    younger_wins: 0,
+    ties: 0,
+};
+
 const NO_TALLY: Tally = Tally {
     won: 0,
     lost: 0,
@@ -52,16 +58,12 @@ fn kept_of_two<B: Allocator>(hill: &Hill<B>, older: u64, younger: u64) -> Bout
 {
     match hill.bout(older, younger) {
         Some(bout) => bout,
-        None => Bout {
-            older_wins: 0,
-            younger_wins: 0,
-            ties: 0,
-        },
+        None => NO_ROUNDS,
     }
 }
 
 /// The entry of the warrior at a place on the hill, in the order in which they entered.
-fn entry_at<B: Allocator>(hill: &Hill<B>, place: usize) -> u64
+pub(crate) fn entry_at<B: Allocator>(hill: &Hill<B>, place: usize) -> u64
     requires { place < length hill.now.members }
     ensures { result ≡ slice_index (entries_of hill.now.members) place }
 {

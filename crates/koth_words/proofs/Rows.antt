@@ -4,7 +4,7 @@ use Rattle.{clap.proofs.OnLiterals.clap_on_literals, clap.specs.declared.error.k
 use Rattle.koth_words.specs.{Options.{default_settings, number_given, number_or}, Settings.{chosen_in, given_as, over, preset_settings}}
 use Rattle.koth_words.specs.Words.{AreTaken, AreWrong, AsksFor, IsAddress}
 use Rattle.koth_words.specs.Words.{create_named, draw_seed_named, form_named, given_by, given_in, koth_app, matches_named, overwrite_named, reads_input, replays_named, settings_named}
-use Rattle.{koth_words.specs.{Words.view_named, declared.words.{Form.Form, View.View}}, koth_words.proofs.Addresses.{any_address, every_address, every_address_is_one, every_long_address, every_long_address_is_one, four, not_here, not_to_a_group, not_to_all, not_with_port, this_machine}}
+use Rattle.{koth_words.specs.{Words.view_named, declared.requests.{Form.Form, View.View}}, koth_words.proofs.Addresses.{any_address, every_address, every_address_is_one, every_long_address, every_long_address_is_one, four, not_here, not_to_a_group, not_to_all, not_with_port, this_machine}}
 
 -- the premise of `asm` is met by these words
 asm_asks : AsksFor (codes "asm") (codes "koth" ∷ codes "asm" ∷ [])
@@ -211,12 +211,12 @@ plain_given = given_by (codes "koth" ∷ codes "serve" ∷ codes "a.hill" ∷ co
 
 services : (number_or 64 (one_of (codes "peers") many_given) ≡ 1024)
     × (number_given 4294967296 (one_of (codes "peers-per-address") many_given) ≡ Some 4)
-    × (number_or 20000000 (one_of (codes "steps") many_given) ≡ 5)
+    × (number_or 1000000 (one_of (codes "steps") many_given) ≡ 5)
     × (first_of (codes "listen") many_given ≡ Some (codes "0.0.0.0"))
     × (number_given 4294967296 (one_of (codes "http") many_given) ≡ Some 8080)
     × (number_or 64 (one_of (codes "peers") plain_given) ≡ 64)
     × (number_given 4294967296 (one_of (codes "peers-per-address") plain_given) ≡ None)
-    × (number_or 20000000 (one_of (codes "steps") plain_given) ≡ 20000000)
+    × (number_or 1000000 (one_of (codes "steps") plain_given) ≡ 1000000)
     × (first_of (codes "listen") plain_given ≡ None)
     × (number_given 4294967296 (one_of (codes "http") plain_given) ≡ None)
     × (replays_named (codes "koth" ∷ codes "serve" ∷ codes "a.hill" ∷ codes "--port=0" ∷ codes "--http=8080" ∷ codes "--replays" ∷ []) ≡ true)

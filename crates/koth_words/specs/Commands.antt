@@ -76,10 +76,19 @@ page_app = with_file (new_app (codes "page")) (codes "FILE")
 abbrev pub replay_app : App
 replay_app = with_like (with_ranged (with_file (with_file (new_app (codes "replay")) (codes "A")) (codes "B")) (codes "round") 1 1000)
 
+abbrev pub try_app : App
+try_app = with_view (with_file (with_file (new_app (codes "try")) (codes "FILE")) (codes "SOURCE"))
+
+abbrev pub copy_app : App
+copy_app = with_flag (with_file (with_file (new_app (codes "copy")) (codes "FILE")) (codes "NEW")) (codes "audit")
+
+abbrev pub reseed_app : App
+reseed_app = with_option (with_file (with_file (new_app (codes "reseed")) (codes "FILE")) (codes "NEW")) (codes "seed")
+
 -- the commands, in the order of the help
 abbrev pub koth_commands : List App
 koth_commands = asm_app ∷ check_app ∷ fight_app ∷ create_app ∷ submit_app ∷ show_app ∷ serve_app ∷ audit_app
-    ∷ migrate_app ∷ page_app ∷ replay_app ∷ []
+    ∷ migrate_app ∷ page_app ∷ replay_app ∷ try_app ∷ copy_app ∷ reseed_app ∷ []
 
 -- the program: `koth`, and a command's name with its files and options
 unfoldable pub koth_app : App

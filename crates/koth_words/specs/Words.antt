@@ -3,8 +3,8 @@ use Rattle.std.specs.Prelude.{◌≡◌, ◌≢◌, ◌⊎◌, ◌&&◌, ◌||�
 use Rattle.std.specs.{Option.option_map_or, Net.{Addr.{IsMulticastV4, IsMulticastV6, MatchIp, ipv4_octets}, Grammar.IsIpText}, Str.bytes_eq, declared.net.ip_addr.IpAddr.IpAddr}
 use Rattle.clap.specs.{Words.{IsAmong, Row, Text, all_of, fault_of, first_of, one_of, subcommand_of, takes}, declared.error.kind.ErrorKind.ErrorKind}
 use Rattle.war_types.specs.declared.settings.RawSettings.{RawSettings}
-use Rattle.koth_words.specs.{Options.{number_below, number_given, number_or}, Settings.{IsGiven, has_known_preset, has_one_base, settings_in}, declared.words.Form.Form, declared.settings.Given.Given, declared.words.NoRequest.NoRequest, declared.words.Request.Request}
-use Rattle.koth_words.specs.{declared.words.Request.TheVariants.{Asm, Check, Fight, Create, Submit, Show, Serve, Audit, Migrate, Page, Replay}, declared.words.Source.Source, declared.words.View.View}
+use Rattle.koth_words.specs.{Options.{number_below, number_given, number_or}, Settings.{IsGiven, has_known_preset, has_one_base, settings_in}, declared.requests.Form.Form, declared.settings.Given.Given, declared.requests.NoRequest.NoRequest, declared.requests.Request.Request}
+use Rattle.koth_words.specs.{declared.requests.Request.TheVariants.{Asm, Check, Fight, Create, Submit, Show, Serve, Audit, Migrate, Page, Replay, Try, Copy, Reseed}, declared.requests.Source.Source, declared.requests.View.View}
 unfoldable pub use Rattle.koth_words.specs.Commands.{koth_app}
 
 -- what a command is given, if one is entered
@@ -211,7 +211,7 @@ Asks entered (Serve settings service) = (entered.0 ≡ codes "serve") × (settin
     × (service.port ≡ number_below 65536 0 (one_of (codes "port") entered.1))
     × (service.peers ≡ number_or 64 (one_of (codes "peers") entered.1))
     × (service.peers_per_address ≡ number_given 4294967296 (one_of (codes "peers-per-address") entered.1))
-    × (service.steps ≡ number_or 20000000 (one_of (codes "steps") entered.1))
+    × (service.steps ≡ number_or 1000000 (one_of (codes "steps") entered.1))
     × IsAddress (first_of (codes "listen") entered.1) service.listen
     × (service.connections ≡ number_given 4294967296 (one_of (codes "connections") entered.1))
     × (service.http ≡ number_given 4294967296 (one_of (codes "http") entered.1))
@@ -230,6 +230,18 @@ Asks entered (Replay given watched) = (entered.0 ≡ codes "replay") × IsGiven 
     × (watched.older.now ≡ text_or_none (first_of (codes "A") entered.1))
     × (watched.younger.now ≡ text_or_none (first_of (codes "B") entered.1))
     × (watched.round ≡ number_or 1 (one_of (codes "round") entered.1))
+Asks entered (Try files) = (entered.0 ≡ codes "try")
+    × (files.hill.now ≡ text_or_none (first_of (codes "FILE") entered.1))
+    × (files.source.now ≡ text_or_none (first_of (codes "SOURCE") entered.1))
+    × (files.view ≡ view_in entered.1)
+Asks entered (Copy files) = (entered.0 ≡ codes "copy")
+    × (files.hill.now ≡ text_or_none (first_of (codes "FILE") entered.1))
+    × (files.new.now ≡ text_or_none (first_of (codes "NEW") entered.1))
+    × (files.audit ≡ has_flag (codes "audit") entered.1)
+Asks entered (Reseed files) = (entered.0 ≡ codes "reseed")
+    × (files.hill.now ≡ text_or_none (first_of (codes "FILE") entered.1))
+    × (files.new.now ≡ text_or_none (first_of (codes "NEW") entered.1))
+    × (files.seed ≡ number_given 4294967296 (one_of (codes "seed") entered.1))
 
 -- the same, if a command was entered
 abbrev pub AsksBy : Option (Text × List Row) → Request → Type 0
@@ -249,13 +261,16 @@ given_of (Audit file) = None
 given_of (Migrate files) = None
 given_of (Page file) = None
 given_of (Replay given watched) = Some given
+given_of (Try files) = None
+given_of (Copy files) = None
+given_of (Reseed files) = None
 
 -- the name of a command
 abbrev pub IsCommandName : Text → Type 0
 IsCommandName name = (name ≡ codes "asm") ⊎ (name ≡ codes "check") ⊎ (name ≡ codes "fight")
     ⊎ (name ≡ codes "create") ⊎ (name ≡ codes "submit") ⊎ (name ≡ codes "show")
     ⊎ (name ≡ codes "serve") ⊎ (name ≡ codes "audit") ⊎ (name ≡ codes "migrate") ⊎ (name ≡ codes "page")
-    ⊎ (name ≡ codes "replay")
+    ⊎ (name ≡ codes "replay") ⊎ (name ≡ codes "try") ⊎ (name ≡ codes "copy") ⊎ (name ≡ codes "reseed")
 
 -- a command is named
 abbrev pub NamesCommand : Option Text → Type 0

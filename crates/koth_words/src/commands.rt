@@ -2,7 +2,7 @@
 
 ghost use Rattle.std.specs.Prelude.{◌≡◌, codes, false, IfOk};
 ghost use Rattle.clap.specs.Words.{App, Rule, new_app, rule_of, with_rule, with_subcommand};
-ghost use Rattle.koth_words.specs.Commands.{asm_app, audit_app, check_app, create_app, fight_app, koth_app, migrate_app, page_app, replay_app, serve_app, show_app, submit_app};
+ghost use Rattle.koth_words.specs.Commands.{asm_app, audit_app, check_app, copy_app, create_app, fight_app, koth_app, migrate_app, page_app, replay_app, reseed_app, serve_app, show_app, submit_app, try_app};
 ghost use Rattle.koth_words.specs.Commands.{wants_subcommand, with_version, with_view, IsReadAs};
 
 use crate::arguments::{file, files, flag, port, ranged, source, text, texts};
@@ -24,7 +24,10 @@ pub(crate) fn koth_command<'a>(heap: Global) -> Result<Command<'a>, AllocError>
     let command = with_command(command, audit_command(heap));
     let command = with_command(command, migrate_command(heap));
     let command = with_command(command, page_command(heap));
-    with_command(command, replay_command(heap))
+    let command = with_command(command, replay_command(heap));
+    let command = with_command(command, try_command(heap));
+    let command = with_command(command, copy_command(heap));
+    with_command(command, reseed_command(heap))
 }
 
 fn program<'a>(heap: Global) -> Command<'a>
@@ -116,7 +119,7 @@ fn serve_command<'a>(heap: Global) -> Result<Command<'a>, AllocError>
     let help =
         "Most peers of one address served at once, 1 to 1024; further ones are refused [default: no limit]";
     let command = with_arg(command, ranged(heap, "peers-per-address", 1, 1024, help));
-    let help = "Steps that the assembly of a source may take, 0 to 4294967295 [default: 20000000]";
+    let help = "Steps that the assembly of a source may take, 0 to 4294967295 [default: 1000000]";
     let command = with_arg(command, option(heap, "steps", help));
     let help =
         "Address to listen at, IPv4 or IPv6; whoever reaches it can submit [default: 127.0.0.1]";
@@ -178,6 +181,42 @@ fn replay_command<'a>(heap: Global) -> Result<Command<'a>, AllocError>
         heap,
         with_arg(command, ranged(heap, "round", 1, 1000, help)),
     )
+}
+
+fn try_command<'a>(heap: Global) -> Result<Command<'a>, AllocError>
+    ensures { IfOk result (IsReadAs try_app) }
+{
+    let about = "Writes what a submission of a warrior would be answered; nothing is submitted";
+    let hill = file(heap, "FILE", "Hill file, which stays as it is");
+    let source = file(heap, "SOURCE", "File of the warrior's source");
+    let command = with_arg(Ok(described(heap, "try", about)), hill);
+    with_view(heap, with_arg(command, source))
+}
+
+fn copy_command<'a>(heap: Global) -> Result<Command<'a>, AllocError>
+    ensures { IfOk result (IsReadAs copy_app) }
+{
+    let about = "Copies a hill, which may be served meanwhile, to a new file, and writes COPIED";
+    let hill = file(heap, "FILE", "Hill file, which stays as it is");
+    let new = file(heap, "NEW", "New hill file; nothing may have that name");
+    let command = with_arg(Ok(described(heap, "copy", about)), hill);
+    let command = with_arg(command, new);
+    let help =
+        "Play the match of each pair again first, and copy nothing if a kept result is wrong";
+    with_arg(command, flag(heap, "audit", help))
+}
+
+fn reseed_command<'a>(heap: Global) -> Result<Command<'a>, AllocError>
+    ensures { IfOk result (IsReadAs reseed_app) }
+{
+    let about =
+        "Makes a new hill with another seed, submits the warriors of a hill to it, and writes RESEEDED";
+    let hill = file(heap, "FILE", "Hill file, which stays as it is");
+    let new = file(heap, "NEW", "New hill file; nothing may have that name");
+    let command = with_arg(Ok(described(heap, "reseed", about)), hill);
+    let command = with_arg(command, new);
+    let help = "Seed of the new hill, 1 to 2147483646 [default: one that is drawn]";
+    with_arg(command, option(heap, "seed", help))
 }
 
 /// The command with this one among its own, if both were made.

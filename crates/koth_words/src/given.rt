@@ -1,26 +1,17 @@
 //! What the arguments that `clap` took give a command.
 
-ghost use Rattle.std.specs.Prelude.{◌≡◌, ◌↔◌, [], Some, codes, map, option_map, unwrap_or, IfOk, IsTrue};
-ghost use Rattle.{clap.specs.Words.{all_of, first_of, found_of, one_of, rows_of}, koth_words.specs.Options.{number_below, number_given, number_or}};
+ghost use Rattle.std.specs.Prelude.{◌≡◌, [], codes, map, option_map, unwrap_or, IfOk};
+ghost use Rattle.{clap.specs.Words.{all_of, first_of, found_of, one_of, rows_of}, koth_words.specs.Options.{number_given, number_or}};
 ghost use Rattle.koth_words.specs.Words.{form_in, has_flag, has_known_form, has_one_seed, has_one_sight, has_one_view, has_option, has_setting, matches_in, text_or_none};
-ghost use Rattle.koth_words.specs.Words.{uses_settings, view_in, HasAddress, IsAddress, IsOfMany, IsSource, WritesAddress};
+ghost use Rattle.koth_words.specs.Words.{uses_settings, view_in, IsSource};
 
 use crate::options::{number_given, number_if_given};
-use crate::words::{
-    Checked, Creation, Fighters, Form, Migration, Service, Shown, Source, Submission, View, Watched,
+use crate::requests::{
+    Checked, Copied, Creation, Fighters, Form, Migration, Reseeded, Shown, Source, Submission,
+    Trial, View, Watched,
 };
 use clap::ArgMatches;
 use std::alloc::{AllocError, Global};
-use std::net::IpAddr;
-
-/// Peers that are served at once, unless `--peers` is given.
-const PEERS: u32 = 64;
-
-/// Steps that the assembly of a source may take in a service, unless `--steps` is given.
-pub const STEPS: u32 = 20_000_000;
-
-/// The address to listen at, unless `--listen` is given.
-const THIS_MACHINE: &str = "127.0.0.1";
 
 /// The source that `asm` reads.
 pub(crate) fn source_named<'w>(matches: &ArgMatches<'w>) -> Source<'w>
@@ -48,7 +39,7 @@ pub(crate) fn checked_named<'w>(
 }
 
 /// The texts that are given under this name, in their order.
-fn texts_given<'w>(
+pub(crate) fn texts_given<'w>(
     heap: Global,
     matches: &ArgMatches<'w>,
     name: &str,
@@ -168,43 +159,6 @@ pub(crate) fn shown_named<'w>(matches: &ArgMatches<'w>) -> Shown<'w>
     }
 }
 
-pub(crate) fn service_named<'w>(
-    heap: Global,
-    matches: &ArgMatches<'w>,
-) -> Result<Service<'w>, AllocError>
-    requires { HasAddress (rows_of (found_of matches.now)) }
-    ensures hill { IfOk result (λ service. service.hill.now ≡ text_or_none (first_of (codes "FILE") (rows_of (found_of matches.now)))) }
-    ensures port { IfOk result (λ service. service.port ≡ number_below 65536 0 (one_of (codes "port") (rows_of (found_of matches.now)))) }
-    ensures peers { IfOk result (λ service. service.peers ≡ number_or 64 (one_of (codes "peers") (rows_of (found_of matches.now)))) }
-    ensures peers_per_address { IfOk result (λ service. service.peers_per_address
-        ≡ number_given 4294967296 (one_of (codes "peers-per-address") (rows_of (found_of matches.now)))) }
-    ensures steps { IfOk result (λ service. service.steps ≡ number_or 20000000 (one_of (codes "steps") (rows_of (found_of matches.now)))) }
-    ensures listen { IfOk result (λ service. IsAddress (first_of (codes "listen") (rows_of (found_of matches.now))) service.listen) }
-    ensures connections { IfOk result (λ service. service.connections
-        ≡ number_given 4294967296 (one_of (codes "connections") (rows_of (found_of matches.now)))) }
-    ensures http { IfOk result (λ service. service.http ≡ number_given 4294967296 (one_of (codes "http") (rows_of (found_of matches.now)))) }
-    ensures hosts { IfOk result (λ service. map (λ host. host.now) service.hosts.items
-        ≡ unwrap_or (all_of (codes "host") (rows_of (found_of matches.now))) []) }
-    ensures replays { IfOk result (λ service. service.replays ≡ has_flag (codes "replays") (rows_of (found_of matches.now))) }
-    ensures quiet { IfOk result (λ service. service.quiet ≡ has_flag (codes "quiet") (rows_of (found_of matches.now))) }
-    ensures create { IfOk result (λ service. service.create ≡ has_flag (codes "create") (rows_of (found_of matches.now))) }
-{
-    Ok(Service {
-        hill: file_named(matches, "FILE"),
-        port: port_given(matches),
-        peers: number_given(matches, "peers", PEERS),
-        peers_per_address: number_if_given(matches, "peers-per-address"),
-        steps: number_given(matches, "steps", STEPS),
-        listen: address_given(matches),
-        connections: number_if_given(matches, "connections"),
-        http: number_if_given(matches, "http"),
-        hosts: texts_given(heap, matches, "host")?,
-        replays: flag_given(matches, "replays"),
-        quiet: flag_given(matches, "quiet"),
-        create: flag_given(matches, "create"),
-    })
-}
-
 /// Whether each setting that is given is used. `serve`, which alone takes a port, uses them with `--create` alone.
 pub(crate) fn uses_settings(matches: &ArgMatches<'_>) -> bool
     ensures { result ≡ uses_settings (rows_of (found_of matches.now)) }
@@ -229,45 +183,6 @@ fn setting_given(matches: &ArgMatches<'_>) -> bool
         | option_given(matches, "preset")
 }
 
-/// The address to listen at.
-fn address_given(matches: &ArgMatches<'_>) -> IpAddr
-    requires { HasAddress (rows_of (found_of matches.now)) }
-    ensures { IsAddress (first_of (codes "listen") (rows_of (found_of matches.now))) result }
-{
-    let text = text_given(matches, "listen").unwrap_or(THIS_MACHINE);
-    text.parse().unwrap()
-}
-
-/// Whether the address to listen at is one of one machine, if it is given.
-pub(crate) fn has_address(matches: &ArgMatches<'_>) -> bool
-    ensures { IsTrue result ↔ HasAddress (rows_of (found_of matches.now)) }
-{
-    match text_given(matches, "listen") {
-        Some(text) => writes_address(text),
-        None => true,
-    }
-}
-
-/// Whether a text writes an address of one machine.
-fn writes_address(text: &str) -> bool
-    ensures { IsTrue result ↔ WritesAddress (Some text.now) }
-{
-    match text.parse::<IpAddr>() {
-        Ok(address) => !is_of_many(address),
-        Err(_) => false,
-    }
-}
-
-/// Whether an address is one of many machines at once, to which nobody can connect: 224.0.0.0/4, 255.255.255.255 or ff00::/8.
-fn is_of_many(address: IpAddr) -> bool
-    ensures { IsTrue result ↔ IsOfMany address }
-{
-    match address {
-        IpAddr::V4(address) => address.is_multicast() || address.is_broadcast(),
-        IpAddr::V6(address) => address.is_multicast(),
-    }
-}
-
 pub(crate) fn migration_named<'w>(matches: &ArgMatches<'w>) -> Migration<'w>
     ensures old { result.old.now ≡ text_or_none (first_of (codes "FILE") (rows_of (found_of matches.now))) }
     ensures new { result.new.now ≡ text_or_none (first_of (codes "NEW") (rows_of (found_of matches.now))) }
@@ -287,6 +202,42 @@ pub(crate) fn watched_named<'w>(matches: &ArgMatches<'w>) -> Watched<'w>
         older: file_named(matches, "A"),
         younger: file_named(matches, "B"),
         round: number_given(matches, "round", 1),
+    }
+}
+
+pub(crate) fn trial_named<'w>(matches: &ArgMatches<'w>) -> Trial<'w>
+    ensures hill { result.hill.now ≡ text_or_none (first_of (codes "FILE") (rows_of (found_of matches.now))) }
+    ensures source { result.source.now ≡ text_or_none (first_of (codes "SOURCE") (rows_of (found_of matches.now))) }
+    ensures view { result.view ≡ view_in (rows_of (found_of matches.now)) }
+{
+    Trial {
+        hill: file_named(matches, "FILE"),
+        source: file_named(matches, "SOURCE"),
+        view: view_given(matches),
+    }
+}
+
+pub(crate) fn copied_named<'w>(matches: &ArgMatches<'w>) -> Copied<'w>
+    ensures hill { result.hill.now ≡ text_or_none (first_of (codes "FILE") (rows_of (found_of matches.now))) }
+    ensures new { result.new.now ≡ text_or_none (first_of (codes "NEW") (rows_of (found_of matches.now))) }
+    ensures audit { result.audit ≡ has_flag (codes "audit") (rows_of (found_of matches.now)) }
+{
+    Copied {
+        hill: file_named(matches, "FILE"),
+        new: file_named(matches, "NEW"),
+        audit: flag_given(matches, "audit"),
+    }
+}
+
+pub(crate) fn reseeded_named<'w>(matches: &ArgMatches<'w>) -> Reseeded<'w>
+    ensures hill { result.hill.now ≡ text_or_none (first_of (codes "FILE") (rows_of (found_of matches.now))) }
+    ensures new { result.new.now ≡ text_or_none (first_of (codes "NEW") (rows_of (found_of matches.now))) }
+    ensures seed { result.seed ≡ number_given 4294967296 (one_of (codes "seed") (rows_of (found_of matches.now))) }
+{
+    Reseeded {
+        hill: file_named(matches, "FILE"),
+        new: file_named(matches, "NEW"),
+        seed: number_if_given(matches, "seed"),
     }
 }
 
@@ -310,15 +261,8 @@ pub(crate) fn option_given(matches: &ArgMatches<'_>, name: &str) -> bool
     text_given(matches, name).is_some()
 }
 
-/// The port. `clap` refuses a command line without it.
-fn port_given(matches: &ArgMatches<'_>) -> u16
-    ensures { result ≡ number_below 65536 0 (one_of (codes "port") (rows_of (found_of matches.now))) }
-{
-    matches.get_one("port").unwrap_or(0)
-}
-
 /// Whether the flag is given: `clap` then has the text `true` for it, else `false`.
-fn flag_given(matches: &ArgMatches<'_>, name: &str) -> bool
+pub(crate) fn flag_given(matches: &ArgMatches<'_>, name: &str) -> bool
     ensures { result ≡ has_flag name.now (rows_of (found_of matches.now)) }
 {
     matches.get_one(name).unwrap_or(false)

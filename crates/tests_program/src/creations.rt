@@ -35,7 +35,7 @@ fn the_file_is_new(rt: HostRuntime) {
 
 /// What is told if the name for the new file is taken.
 const TAKEN: &str =
-    "DISK begun.hill: its name with .new after it is taken; remove that file, unless koth create is at work\n";
+    "DISK begun.hill: its name with .new after it is taken; remove that file, unless another koth is at work\n";
 
 /// It is left over: nothing is made, also not for a service, until it is removed.
 const LEFT_OVER: [Step; 9] = steps! {

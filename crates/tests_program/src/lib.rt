@@ -8,6 +8,7 @@
 //! - `words`: which words are faults, ask for help, or give settings;
 //! - `assembling`, `fights` and `hills`: what the commands write, how they end, and what they do to files;
 //! - `creations`: how the file of a new hill comes to its place, and headers and names that are told;
+//! - `copies`: what a submission would be answered, a copy of a hill, and a hill with another seed;
 //! - `seeds`: the seed that is drawn, and what is told of the default one;
 //! - `logs`: the log of a service whose output takes no line for a while;
 //! - `audits`: the results that a hill keeps, shown, audited, and changed in its file;
@@ -27,6 +28,8 @@ mod audits;
 mod command_growths;
 #[cfg(test)]
 mod compare;
+#[cfg(test)]
+mod copies;
 #[cfg(test)]
 mod creations;
 #[cfg(test)]

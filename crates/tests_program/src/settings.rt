@@ -64,7 +64,7 @@ const OF_A_HILL: [Step; 22] = steps! {
     Run("koth show alike.hill --settings",
         "--core 64 --cycles 100 --processes 8 --length 10 --distance 10 --rounds 2 --capacity 2 --read-limit 32 --write-limit 0\n", "", 0);
     Tell("koth asm liked.red --like no_such_file", View::Table, "", "DISK no_such_file: no such file or folder\n", 3);
-    Tell("koth create other.hill --like liked.red", View::Table, "", "TooSmall liked.red: it is too short for its hill\n", 1);
+    Tell("koth create other.hill --like liked.red", View::Table, "", "TooSmall liked.red: it is too short for a hill; is it the right file?\n", 1);
     Missing("other.hill");
     Run("koth show liked.hill", ".\n", "", 0);
     Remove("liked.hill");

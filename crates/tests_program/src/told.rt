@@ -35,7 +35,7 @@ const FILES_THAT_HOLD_SOMETHING_ELSE: [Step; 9] = steps! {
     Tell("koth create told.red", View::Table, "",
         "Occupied told.red: it isn't empty; --overwrite makes a hill of it all the same\n", 1);
     Text("told.red", TEXT);
-    Tell("koth show told.red", View::Table, "", "TooSmall told.red: it is too short for its hill\n", 1);
+    Tell("koth show told.red", View::Table, "", "TooSmall told.red: it is too short for a hill; is it the right file?\n", 1);
     Run("koth create told.red --overwrite --capacity 1 --seed 7", "CREATED\n", "", 0);
     Run("koth show told.red", ".\n", "", 0);
     Run("koth create told.red --overwrite --capacity 2 --seed 7", "CREATED\n", "", 0);

@@ -64,3 +64,19 @@ returns-in-Replay g c =
     let after = streams (g.I.Read.remaining c.args.input.now) (g.O.Write.contents c.replay.new.output) (g.E.Write.contents c.replay.new.errors) in
     let words = replay_no_word c.in-Replay.watched.round (settings_of c.args.settings) c.replay.result _ _ c.replay.ensures in
     request_ends c.args.settings c.args.view _ _ _ _ after c.in-Replay.is c.replay.ensures words
+
+pub returns-in-Try : goal.returns-in-Try
+returns-in-Try g c =
+    let after = streams (g.I.Read.remaining c.args.input.now) (g.O.Write.contents c.try_submission.new.output) (g.E.Write.contents c.try_submission.new.errors) in
+    let ends = rw c.viewed-view-in-Try.ensures at c.try_submission.ensures.ends in
+    request_ends c.args.settings c.args.view _ _ _ _ after c.in-Try.is (_, c.tell_lost_header-in-Try.ensures, ends) c.try_submission.ensures.words
+
+pub returns-in-Copy : goal.returns-in-Copy
+returns-in-Copy g c =
+    let after = streams (g.I.Read.remaining c.args.input.now) (g.O.Write.contents c.copy.new.output) (g.E.Write.contents c.copy.new.errors) in
+    request_ends c.args.settings c.args.view _ _ _ _ after c.in-Copy.is (_, c.tell_lost_header-in-Copy.ensures, c.copy.ensures.ends) c.copy.ensures.words
+
+pub returns-in-Reseed : goal.returns-in-Reseed
+returns-in-Reseed g c =
+    let after = streams (g.I.Read.remaining c.args.input.now) (g.O.Write.contents c.reseed.new.output) (g.E.Write.contents c.reseed.new.errors) in
+    request_ends c.args.settings c.args.view _ _ _ _ after c.in-Reseed.is (_, c.tell_lost_header-in-Reseed.ensures, c.reseed.ensures.ends) c.reseed.ensures.words

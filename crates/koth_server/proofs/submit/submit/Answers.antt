@@ -1,5 +1,6 @@
 -- If the hill can't be opened, nothing is written.
-use Rattle.{std.proofs.Common.inr, koth_server.specs.Hills.SaysReply, koth_server.proofs.Said.nothing}
+use Rattle.koth_keeping.proofs.Said.{nothing}
+use Rattle.{std.proofs.Common.inr, koth_server.specs.Hills.SaysReply}
 use Rattle.koth_server.proofs.submit.submit.Goals as goal
 
 pub returns-in-Err-clause-ends : goal.returns-in-Err-clause-ends

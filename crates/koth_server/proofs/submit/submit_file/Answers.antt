@@ -1,5 +1,6 @@
 -- The hill was just opened, so its reply isn't `REOPEN`. If the source can't be read, nothing is written.
-use Rattle.{std.proofs.Common.inr, koth_server.specs.Hills.SaysReply, koth_server.proofs.Said.{nothing, says_submission}}
+use Rattle.koth_keeping.proofs.Said.{nothing}
+use Rattle.{std.proofs.Common.inr, koth_server.{specs.Hills.SaysReply, proofs.Said.says_submission}}
 use Rattle.koth_server.proofs.submit.submit_file.Goals as goal
 
 pub returns-in-Ok-clause-ends : goal.returns-in-Ok-clause-ends

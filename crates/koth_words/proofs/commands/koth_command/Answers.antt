@@ -15,4 +15,7 @@ returns c =
     let audit = c.with_command-command-8.ensures _ _ serve c.audit_command.ensures in
     let migrate = c.with_command-command-9.ensures _ _ audit c.migrate_command.ensures in
     let page = c.with_command-command-10.ensures _ _ migrate c.page_command.ensures in
-    c.with_command.ensures _ _ page c.replay_command.ensures
+    let replay = c.with_command-command-11.ensures _ _ page c.replay_command.ensures in
+    let trial = c.with_command-command-12.ensures _ _ replay c.try_command.ensures in
+    let copy = c.with_command-command-13.ensures _ _ trial c.copy_command.ensures in
+    c.with_command.ensures _ _ copy c.reseed_command.ensures

@@ -1,0 +1,3 @@
+pub mod Audited
+mod Holdings
+pub mod Said

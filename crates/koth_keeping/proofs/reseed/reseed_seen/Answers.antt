@@ -1,0 +1,11 @@
+-- If no seed is drawn, nothing is written but why.
+use Rattle.{std.proofs.Common.{inl, inr}, koth_keeping.specs.Copies.SaysReseeded, koth_keeping.proofs.Said.nothing}
+use Rattle.koth_keeping.proofs.reseed.reseed_seen.Goals as goal
+
+pub returns-in-Err-clause-ends : goal.returns-in-Err-clause-ends
+returns-in-Err-clause-ends g c = inl (inr record {
+  fault = c.file.result.fault;
+  ends = c.tell.ensures.status;
+  output = nothing SaysReseeded c.file.result.fault _;
+  told = c.tell.ensures.told;
+})

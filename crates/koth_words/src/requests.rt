@@ -1,0 +1,232 @@
+//! What command lines ask for.
+
+ghost use Rattle.std.specs.Prelude.{◌≡◌};
+ghost use Rattle.koth_words.specs.Words.{given_of};
+
+use crate::settings::Given;
+use std::net::IpAddr;
+use war_types::RawSettings;
+
+/// What a command line asks for.
+#[derive(Drop)]
+pub enum Request<'w> {
+    /// `asm`: assemble a source under these settings, and write its load text.
+    Asm(Given<'w>, Source<'w>),
+    /// `check`: assemble sources under these settings, and report what is wrong with them.
+    Check(Given<'w>, Checked<'w>),
+    /// `fight`: play a match under these settings, and write its counts.
+    Fight(Given<'w>, Fighters<'w>),
+    /// `create`: create a hill with these settings in a file.
+    Create(Given<'w>, Creation<'w>),
+    /// `submit`: submit a source to a hill, and write its reply.
+    Submit(Submission<'w>),
+    /// `show`: write the table of a hill.
+    Show(Shown<'w>),
+    /// `serve`: serve sessions on a hill, which is created with these settings if that is asked for and there is none.
+    Serve(RawSettings, Service<'w>),
+    /// `audit`: play the match of every pair on the hill in this file again, and write whether each kept result is right.
+    Audit(&'w str),
+    /// `migrate`: move a hill of the old format to a new file.
+    Migrate(Migration<'w>),
+    /// `page`: write the page of the hill in this file.
+    Page(&'w str),
+    /// `replay`: write the page of one round of a match under these settings.
+    Replay(Given<'w>, Watched<'w>),
+    /// `try`: write what a submission of a source to a hill would be answered.
+    Try(Trial<'w>),
+    /// `copy`: copy a hill to a new file.
+    Copy(Copied<'w>),
+    /// `reseed`: make a new hill with another seed, and submit the warriors of a hill to it.
+    Reseed(Reseeded<'w>),
+}
+
+impl<'w> Request<'w> {
+    /// The settings that it gives, if its command takes any but `serve`, whose hill keeps its own.
+    pub fn given(&self) -> Option<Given<'w>>
+        ensures { result ≡ given_of self.now }
+    {
+        match *self {
+            Request::Asm(given, _)
+            | Request::Check(given, _)
+            | Request::Fight(given, _)
+            | Request::Create(given, _)
+            | Request::Replay(given, _) => Some(given),
+            Request::Submit(_)
+            | Request::Show(_)
+            | Request::Serve(..)
+            | Request::Audit(_)
+            | Request::Migrate(_)
+            | Request::Page(_)
+            | Request::Try(_)
+            | Request::Copy(_)
+            | Request::Reseed(_) => None,
+        }
+    }
+}
+
+/// The place that a source is read from.
+#[derive(Clone, Copy, PartialEq, Eq)]
+pub enum Source<'w> {
+    /// The standard input: no file is named, or `-`.
+    Input,
+    /// The file of this name.
+    File(&'w str),
+}
+
+/// The files of sources that are checked.
+#[derive(Drop)]
+pub struct Checked<'w> {
+    /// In the order of the command line; one or more.
+    pub files: Vec<&'w str>,
+    /// The form of the report.
+    pub form: Form,
+}
+
+/// The form of the report of `check`.
+#[derive(Clone, Copy, PartialEq, Eq)]
+pub enum Form {
+    /// Lines for people.
+    Text,
+    /// JSON, for programs.
+    Json,
+}
+
+/// How output for people is laid out.
+#[derive(Clone, Copy, PartialEq, Eq)]
+pub enum View {
+    /// One fact a line.
+    Plain,
+    /// Columns under a heading.
+    Table,
+}
+
+/// The files of two warriors.
+#[derive(Clone, Copy, PartialEq, Eq)]
+pub struct Fighters<'w> {
+    pub older: &'w str,
+    pub younger: &'w str,
+    /// The layout that is asked for, if one is.
+    pub view: Option<View>,
+}
+
+/// The file of a new hill.
+#[derive(Clone, Copy, PartialEq, Eq)]
+pub struct Creation<'w> {
+    /// Created if missing.
+    pub hill: &'w str,
+    /// Whether what the file has is replaced.
+    pub overwrite: bool,
+    /// Whether its seed is drawn, in place of that of the settings.
+    pub draw_seed: bool,
+}
+
+/// The files of a hill and of a source for it.
+#[derive(Clone, Copy, PartialEq, Eq)]
+pub struct Submission<'w> {
+    pub hill: &'w str,
+    pub source: &'w str,
+    /// The layout that is asked for, if one is.
+    pub view: Option<View>,
+    /// Seconds for which the hill's lock is tried again if another program has it, at most 3,600; 0 if that isn't asked for.
+    pub wait: u32,
+}
+
+/// The file of a hill, and what is written of it.
+#[derive(Clone, Copy, PartialEq, Eq)]
+pub struct Shown<'w> {
+    pub hill: &'w str,
+    /// Whether the table of matches is written too: the rounds that each warrior won against each other one.
+    pub matches: bool,
+    /// Whether the settings are written in place of the table, as options.
+    pub settings: bool,
+    /// Whether the seed is among them.
+    pub with_seed: bool,
+    /// The layout that is asked for, if one is.
+    pub view: Option<View>,
+}
+
+/// The file of a hill, and how it is served.
+#[derive(Drop)]
+pub struct Service<'w> {
+    pub hill: &'w str,
+    /// 0 to 65,535; with 0 the system finds one.
+    pub port: u16,
+    /// Most peers that are served at once; with 1 it is one connection after the other.
+    pub peers: u32,
+    /// Most peers of one address that are served at once; further ones are refused. `None` for no limit.
+    pub peers_per_address: Option<u32>,
+    /// How many steps the assembly of a source may take.
+    pub steps: u32,
+    /// The address to listen at.
+    pub listen: IpAddr,
+    /// Connections to serve before the service ends; `None` for no limit.
+    pub connections: Option<u32>,
+    /// The port for browsers, 0 to 65,535; with 0 the system finds one. `None` for no pages.
+    pub http: Option<u32>,
+    /// The names of this machine that requests of browsers may be for, in the order of the command line.
+    pub hosts: Vec<&'w str>,
+    /// Whether browsers see rounds too: their pages have both warriors whole.
+    pub replays: bool,
+    /// Whether no line is written for a connection.
+    pub quiet: bool,
+    /// Whether the hill is created first if there is no file.
+    pub create: bool,
+}
+
+/// The file of a hill of the old format, and the file that it moves to.
+#[derive(Clone, Copy, PartialEq, Eq)]
+pub struct Migration<'w> {
+    /// Stays as it is.
+    pub old: &'w str,
+    /// Created if missing.
+    pub new: &'w str,
+}
+
+/// The files of two warriors, and which round of their match is shown.
+#[derive(Clone, Copy, PartialEq, Eq)]
+pub struct Watched<'w> {
+    pub older: &'w str,
+    pub younger: &'w str,
+    /// The first round is 1.
+    pub round: u32,
+}
+
+/// The files of a hill and of a source that is tried on it.
+#[derive(Clone, Copy)]
+pub struct Trial<'w> {
+    pub hill: &'w str,
+    pub source: &'w str,
+    /// The layout that is asked for, if one is.
+    pub view: Option<View>,
+}
+
+/// The files of a hill and of its copy.
+#[derive(Clone, Copy)]
+pub struct Copied<'w> {
+    pub hill: &'w str,
+    /// Nothing may have this name.
+    pub new: &'w str,
+    /// Whether its kept results are looked at first.
+    pub audit: bool,
+}
+
+/// The files of a hill and of a new one with another seed.
+#[derive(Clone, Copy)]
+pub struct Reseeded<'w> {
+    pub hill: &'w str,
+    /// Nothing may have this name.
+    pub new: &'w str,
+    /// The seed of the new one; one is drawn if it is `None`.
+    pub seed: Option<u32>,
+}
+
+/// Why a command line gives no request.
+#[derive(Drop)]
+pub enum NoRequest {
+    /// It asks for help or for the version, which is this text.
+    Help(String),
+    /// It is wrong, as this text says.
+    WordFault(String),
+    /// Out of memory.
+    Memory,
+}

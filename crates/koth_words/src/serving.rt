@@ -1,0 +1,104 @@
+//! What the arguments that `clap` took give a service.
+
+ghost use Rattle.std.specs.Prelude.{◌≡◌, ◌↔◌, [], Some, codes, map, unwrap_or, IfOk, IsTrue};
+ghost use Rattle.{clap.specs.Words.{all_of, first_of, found_of, one_of, rows_of}, koth_words.specs.Options.{number_below, number_given, number_or}};
+ghost use Rattle.koth_words.specs.Words.{has_flag, text_or_none, HasAddress, IsAddress, IsOfMany, WritesAddress};
+
+use crate::given::{file_named, flag_given, text_given, texts_given};
+use crate::options::{number_given, number_if_given};
+use crate::requests::Service;
+use clap::ArgMatches;
+use std::alloc::{AllocError, Global};
+use std::net::IpAddr;
+
+/// Peers that are served at once, unless `--peers` is given.
+const PEERS: u32 = 64;
+
+/// Steps that the assembly of a source may take in a service, unless `--steps` is given.
+pub const STEPS: u32 = 1_000_000;
+
+/// The address to listen at, unless `--listen` is given.
+const THIS_MACHINE: &str = "127.0.0.1";
+
+pub(crate) fn service_named<'w>(
+    heap: Global,
+    matches: &ArgMatches<'w>,
+) -> Result<Service<'w>, AllocError>
+    requires { HasAddress (rows_of (found_of matches.now)) }
+    ensures hill { IfOk result (λ service. service.hill.now ≡ text_or_none (first_of (codes "FILE") (rows_of (found_of matches.now)))) }
+    ensures port { IfOk result (λ service. service.port ≡ number_below 65536 0 (one_of (codes "port") (rows_of (found_of matches.now)))) }
+    ensures peers { IfOk result (λ service. service.peers ≡ number_or 64 (one_of (codes "peers") (rows_of (found_of matches.now)))) }
+    ensures peers_per_address { IfOk result (λ service. service.peers_per_address
+        ≡ number_given 4294967296 (one_of (codes "peers-per-address") (rows_of (found_of matches.now)))) }
+    ensures steps { IfOk result (λ service. service.steps ≡ number_or 1000000 (one_of (codes "steps") (rows_of (found_of matches.now)))) }
+    ensures listen { IfOk result (λ service. IsAddress (first_of (codes "listen") (rows_of (found_of matches.now))) service.listen) }
+    ensures connections { IfOk result (λ service. service.connections
+        ≡ number_given 4294967296 (one_of (codes "connections") (rows_of (found_of matches.now)))) }
+    ensures http { IfOk result (λ service. service.http ≡ number_given 4294967296 (one_of (codes "http") (rows_of (found_of matches.now)))) }
+    ensures hosts { IfOk result (λ service. map (λ host. host.now) service.hosts.items
+        ≡ unwrap_or (all_of (codes "host") (rows_of (found_of matches.now))) []) }
+    ensures replays { IfOk result (λ service. service.replays ≡ has_flag (codes "replays") (rows_of (found_of matches.now))) }
+    ensures quiet { IfOk result (λ service. service.quiet ≡ has_flag (codes "quiet") (rows_of (found_of matches.now))) }
+    ensures create { IfOk result (λ service. service.create ≡ has_flag (codes "create") (rows_of (found_of matches.now))) }
+{
+    Ok(Service {
+        hill: file_named(matches, "FILE"),
+        port: port_given(matches),
+        peers: number_given(matches, "peers", PEERS),
+        peers_per_address: number_if_given(matches, "peers-per-address"),
+        steps: number_given(matches, "steps", STEPS),
+        listen: address_given(matches),
+        connections: number_if_given(matches, "connections"),
+        http: number_if_given(matches, "http"),
+        hosts: texts_given(heap, matches, "host")?,
+        replays: flag_given(matches, "replays"),
+        quiet: flag_given(matches, "quiet"),
+        create: flag_given(matches, "create"),
+    })
+}
+
+/// The address to listen at.
+fn address_given(matches: &ArgMatches<'_>) -> IpAddr
+    requires { HasAddress (rows_of (found_of matches.now)) }
+    ensures { IsAddress (first_of (codes "listen") (rows_of (found_of matches.now))) result }
+{
+    let text = text_given(matches, "listen").unwrap_or(THIS_MACHINE);
+    text.parse().unwrap()
+}
+
+/// Whether the address to listen at is one of one machine, if it is given.
+pub(crate) fn has_address(matches: &ArgMatches<'_>) -> bool
+    ensures { IsTrue result ↔ HasAddress (rows_of (found_of matches.now)) }
+{
+    match text_given(matches, "listen") {
+        Some(text) => writes_address(text),
+        None => true,
+    }
+}
+
+/// Whether a text writes an address of one machine.
+fn writes_address(text: &str) -> bool
+    ensures { IsTrue result ↔ WritesAddress (Some text.now) }
+{
+    match text.parse::<IpAddr>() {
+        Ok(address) => !is_of_many(address),
+        Err(_) => false,
+    }
+}
+
+/// Whether an address is one of many machines at once, to which nobody can connect: 224.0.0.0/4, 255.255.255.255 or ff00::/8.
+fn is_of_many(address: IpAddr) -> bool
+    ensures { IsTrue result ↔ IsOfMany address }
+{
+    match address {
+        IpAddr::V4(address) => address.is_multicast() || address.is_broadcast(),
+        IpAddr::V6(address) => address.is_multicast(),
+    }
+}
+
+/// The port. `clap` refuses a command line without it.
+fn port_given(matches: &ArgMatches<'_>) -> u16
+    ensures { result ≡ number_below 65536 0 (one_of (codes "port") (rows_of (found_of matches.now))) }
+{
+    matches.get_one("port").unwrap_or(0)
+}
