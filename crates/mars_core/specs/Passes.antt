@@ -1,5 +1,5 @@
 -- Of the code alone: turns of both sides, one after the other.
-use Rattle.std.specs.Prelude.{ℕ, ◌≡◌, ◌<◌, ◌≤◌, ◌/◌, ◌%◌, Bool, true, false, List, All}
+use Rattle.std.specs.Prelude.{ℕ, ◌+◌, ◌*◌, ◌≡◌, ◌<◌, ◌≤◌, ◌/◌, ◌%◌, Bool, true, false, List, All}
 use Rattle.{war_types.specs.{declared.instr.Instr.Instr, declared.settings.RawSettings.RawSettings, Warrior.HasNumbersBelow}, mars_core.specs.declared.round.Side.Side}
 use Rattle.mars_core.specs.{Cells.{IsCore, cell}, Effect.queues, Queue.Processes, Whole.whole, Round.{Round, IsQueue, executed, side_turn}, Arena.round_in, Code.other}
 
@@ -37,3 +37,8 @@ round_at Side.Second s core mover others used = round_in s core others mover Sid
 abbrev pub round_after : Bool → Side → RawSettings → List Instr → List ℕ → List ℕ → ℕ → Round
 round_after false m s core mover others used = round_at m s core mover others used
 round_after true m s core mover others used = round_at (other m) s core others mover used
+
+-- the turns that passes leave unmade: two of each pass that wasn't begun, and the second one of a pass whose first turn was the last
+abbrev pub turns_left : Bool → ℕ → ℕ
+turns_left false passes = 2 * passes
+turns_left true passes = 2 * passes + 1

@@ -1,8 +1,8 @@
 //! Passes without limits: a turn of each side.
 
-ghost use Rattle.std.specs.Prelude.{◌≡◌, ℕ, ◌+◌, ◌-◌, ◌*◌, ◌≤◌, false};
+ghost use Rattle.std.specs.Prelude.{◌≡◌, ℕ, ◌+◌, ◌-◌, ◌*◌, ◌<◌, ◌≤◌, true, false};
 ghost use Rattle.{war_types.specs.declared.settings.RawSettings.RawSettings, mars_core.specs.{declared.round.Side.Side, Cells.IsCore, Whole.whole, Round.{after_turns, is_empty, reach_of, IsQueue}}};
-ghost use Rattle.mars_core.specs.{Arena.round_in, Passes.{IsTurnMade, round_at, round_after}, Window.{held, left_by, IsWindow}};
+ghost use Rattle.mars_core.specs.{Arena.round_in, Passes.{IsTurnMade, round_at, round_after, turns_left}, Window.{held, left_by, IsWindow}};
 
 use crate::cells::Core;
 use crate::effect::Queued;
@@ -44,16 +44,25 @@ pub(crate) fn passes<A: Allocator>(
     match to_move {
         Side::First => {
             let (left, is_odd) = alternate(core, size, first, second, most);
-            (left, if is_odd { Side::Second } else { Side::First })
+            if is_odd {
+                (2 * left + 1, Side::Second)
+            } else {
+                (2 * left, Side::First)
+            }
         }
         Side::Second => {
             let (left, is_odd) = alternate(core, size, second, first, most);
-            (left, if is_odd { Side::First } else { Side::Second })
+            if is_odd {
+                (2 * left + 1, Side::First)
+            } else {
+                (2 * left, Side::Second)
+            }
         }
     }
 }
 
-/// The same by the queue of the side to move and by the other side's. It answers whether the other side is next.
+/// The same by the queue of the side to move and by the other side's. It answers how many passes were not begun, and
+/// whether the other side is next.
 #[inline(never)]
 fn alternate<A: Allocator>(
     core: &mut Core<A>,
@@ -74,11 +83,12 @@ fn alternate<A: Allocator>(
     ensures others { IsQueue size others.new.limit others.new.addresses }
     ensures mover_limit { mover.new.limit ≡ mover.old.limit }
     ensures others_limit { others.new.limit ≡ others.old.limit }
-    ensures left { result.0 ≤ 2 * most }
+    ensures left { result.0 ≤ most }
+    ensures odd { result.1 ≡ true → result.0 < most }
     ensures after { (m : Side) (s : RawSettings) (used : ℕ) → reach_of s ≡ whole size → s.processes ≡ mover.old.limit → s.processes ≡ others.old.limit
         → used + 2 * most ≤ 2 * s.cycles
         → after_turns (2 * most) (round_at m s core.old mover.old.addresses others.old.addresses used)
-        ≡ round_after result.1 m s core.new mover.new.addresses others.new.addresses (used + (2 * most - result.0)) }
+        ≡ round_after result.1 m s core.new mover.new.addresses others.new.addresses (used + (2 * most - turns_left result.1 result.0)) }
 {
     let mut own_places = Window::places();
     let mut other_places = Window::places();
@@ -91,13 +101,13 @@ fn alternate<A: Allocator>(
             own.close(&own_places, mover);
             other.close(&other_places, others);
             mover.end();
-            return (2 * left + 1, true);
+            return (left, true);
         }
         if turn_of::<1, A>(core, size, &mut other, &mut other_places, others) {
             own.close(&own_places, mover);
             other.close(&other_places, others);
             others.end();
-            return (2 * left, false);
+            return (left, false);
         }
     }
     own.close(&own_places, mover);
