@@ -1,9 +1,9 @@
 -- How a session stands after a call of `Peer`.
-use Rattle.std.proofs.Common.{◌≡◌, ℕ, ◌+◌, ◌<◌, ◌≤◌, arith, nat_le, Bool, true, false, true≢false, if◌then◌else◌, List, [], ◌∷◌, ◌++◌, length, Option, None, Some, is_some, refl, sym, ap, subst}
+use Rattle.std.proofs.Common.{◌≡◌, ℕ, ◌+◌, ◌<◌, ◌≤◌, arith, nat_le, Bool, true, false, true≢false, if◌then◌else◌, List, [], ◌∷◌, ◌++◌, length, Option, None, Some, is_some, refl, sym, ap, ap₂, subst}
 use Rattle.{std.proofs.{Common.{◌∙◌, append-nil}, lemmas.Bool.{leb-false, leb-true}}, sector_disk.specs.Facts.DeviceFacts, hill_store.specs.Seen.Seen}
 use Rattle.koth_protocol.specs.{Commands.{Command, Reader, commands_read, kept_source, read_from}, Lines.lines_from, Reading.commands_met, declared.script.Met.Met}
 use Rattle.koth_session.specs.Transcript.{Exchange, command_in}
-use Rattle.koth_session.specs.{Inbox.{IsNext, IsReadTo, IsTaken, is_met}, Peer.{AnswersPeer, Closes, HasRead, IsPeer, Serves, Takes, command_due, command_of, is_due, is_due_now, settled, settled_now}}
+use Rattle.koth_session.specs.{Inbox.{IsNext, IsReadTo, IsTaken, is_met}, Peer.{AnswersPeer, Closes, HasRead, IsPeer, IsStillDue, Serves, Settles, Takes, command_due, command_of, is_due, is_due_now, settled, settled_now}}
 use Rattle.{koth_session.specs.{declared.end.PeerEnd.PeerEnd, declared.inbox.Inbox.Inbox, declared.peer.Peer.Peer}, koth_session.proofs.Readings.unmet}
 use Rattle.koth_protocol.specs.declared.script.Met.TheVariants as met
 
@@ -69,13 +69,24 @@ module _ {A : Type 0} where
       at true is = (r, λ none. absurd (true≢false (sym is ∙ none)))
       at false is = limit (nat_le 16777216 inbox.taken) refl is
 
+  -- ---- the command that was due is due
+
+  pub still_due : (old new : Peer A) → is_met new.inbox.due ≡ true → new.end ≡ settled_now None new → new.inbox.due ≡ old.inbox.due
+      → new.inbox.script.source ≡ old.inbox.script.source → IsStillDue old new
+  still_due old new met stands same_due same_source = record {
+    due = ap₂ is_due (stands ∙ ap (λ m. settled None m new.inbox.taken new.closed) met) met;
+    met_is = same_due;
+    source = same_source;
+  }
+
   -- ---- bytes come
 
   pub took : (old new : Peer A) (bytes : List ℕ) → old.end ≡ None → new.end ≡ settled_now None new → new.closed ≡ old.closed
       → new.outbox.unsent ≡ old.outbox.unsent → ((reader : Reader) (came : List ℕ) (done : List Command) → IsReadTo reader old.inbox came done → IsReadTo reader new.inbox (came ++ bytes) done)
       → (is_met old.inbox.due ≡ false → is_met new.inbox.due ≡ true → length new.inbox.waiting < length old.inbox.waiting + length bytes)
+      → (is_met old.inbox.due ≡ true → new.inbox.due ≡ old.inbox.due) → (is_met old.inbox.due ≡ true → new.inbox.script.source ≡ old.inbox.script.source)
       → Takes old bytes new
-  took old new bytes none stands same_closed same_unsent reads fewer = record {
+  took old new bytes none stands same_closed same_unsent reads fewer same_due same_source = record {
     reads = λ reader came done is.
         let was = reading reader old came done none is in
         let r = reads reader came done was.0 in
@@ -87,6 +98,9 @@ module _ {A : Type 0} where
     closed = same_closed;
     end = stands ∙ ap (λ e. settled_now e new) (sym none);
     fewer = λ waits due. fewer (unmet_then old.end (is_met old.inbox.due) none waits) (is_met_then new.end (is_met new.inbox.due) due);
+    still = λ due.
+        let met = is_met_then old.end (is_met old.inbox.due) due in
+        still_due old new (ap is_met (same_due met) ∙ met) stands (same_due met) (same_source met);
   }
 
   -- ---- no more come
@@ -200,3 +214,16 @@ module _ {D A : Type 0} (facts : DeviceFacts D) (steps : Option ℕ) where
     end = ended;
     fewer = λ more. absurd (true≢false (sym more ∙ ap (λ (e : Option PeerEnd). is_due e (is_met new.inbox.due)) ended));
   }
+
+  -- what an answer made of a peer, and what its session goes on or ends by
+  pub settled_so : (outcome : Option PeerEnd) (old mid new : Peer A) (store now : Seen D) → is_due_now old ≡ true → mid.inbox ≡ old.inbox → mid.closed ≡ old.closed
+      → Settles outcome mid new → AnswersPeer facts steps (command_of old) outcome old.outbox.unsent store mid.outbox.unsent now → Serves facts steps outcome old store new now
+  settled_so None old mid new store now due same_inbox same_closed s answers =
+      answered_now old new store now due (s.closed ∙ same_closed) s.end
+      (subst (λ (i : Inbox A). (reader : Reader) (came : List ℕ) (done : List Command) (command : Command) → IsReadTo reader i came done → IsNext reader i.due i.script.source command
+      → IsReadTo reader new.inbox came (done ++ command ∷ [])) same_inbox (s.reads refl))
+      (λ more. subst (λ (i : Inbox A). length new.inbox.waiting < length i.waiting) same_inbox (s.fewer refl more))
+      (subst (λ l. AnswersPeer facts steps (command_of old) None old.outbox.unsent store l now) (sym s.unsent) answers)
+  settled_so (Some end) old mid new store now due same_inbox same_closed s answers =
+      ended_now end old new store now due (s.closed ∙ same_closed) s.end
+      (subst (λ l. AnswersPeer facts steps (command_of old) (Some end) old.outbox.unsent store l now) (sym s.unsent) answers)

@@ -1,8 +1,8 @@
 -- What a submission makes of the store.
-use Rattle.std.proofs.Common.{◌≡◌, ℕ, ◌+◌, ◌-◌, ◌^◌, false, arith, List, [], ◌∷◌, refl, sym, ap, subst, ◌∙◌}
+use Rattle.std.proofs.Common.{◌≡◌, inl, inr, ℕ, ◌+◌, ◌-◌, ◌^◌, true, false, true≢false, arith, List, [], ◌∷◌, refl, sym, ap, subst, ◌∙◌}
 use Rattle.{koth_hill.specs.Kept.Kept, sector_disk.specs.{Facts.DeviceFacts, Served.IsKept, Image.Images}, hill_images.specs.Stands.Reads, hill_store.specs.Seen.{IsAnswered, Seen, Submits}}
 use Rattle.{hill_store.specs.{Earned.kept_next, declared.reply.Reply.Reply}, hill_store.proofs.Counting.source_counts}
-use Rattle.koth_session.specs.{Reply.reply_line, Sessions.{HasWorn, AreServed, has_failed}, Transcript.{Exchange, Mark, answer, hill_after}}
+use Rattle.koth_session.specs.{Reply.reply_line, Sessions.{HasWorn, AreServed, IsLeftOff, has_failed}, Transcript.{Exchange, Mark, answer, hill_after}}
 use Rattle.koth_session.proofs.Exchanges.{after_one, served_same}
 
 module _ {D : Type 0} (facts : DeviceFacts D) where
@@ -48,3 +48,31 @@ module _ {D : Type 0} (facts : DeviceFacts D) where
       (Mark.Worn, refl, left old new (Exchange.Submission source Mark.Worn) s.2.same refl (λ worn. s.0) s.2.was_open)
   exchanged old new source Reply.Disk s kept full sound = absurd (cc)
   exchanged old new source Reply.Reopen s kept full sound = absurd (cc)
+
+  -- the device failed in it, or before
+  pub left_off : (old new : Seen D) (source : List ℕ) (reply : Reply) → Submits facts old source reply new
+      → IsKept facts old.device new.device → (old.generation ≡ 2 ^ 64 - 1 → new ≡ old) → has_failed reply ≡ true → IsLeftOff facts old new source
+  left_off old new source (Reply.Placed entry rank score) s kept full failed = absurd (cc)
+  left_off old new source (Reply.Fell entry score) s kept full failed = absurd (cc)
+  left_off old new source (Reply.Refused fault) s kept full failed = absurd (cc)
+  left_off old new source Reply.Memory s kept full failed = absurd (cc)
+  left_off old new source Reply.Worn s kept full failed = absurd (cc)
+  left_off old new source Reply.Disk s kept full failed =
+      let cut = s.1 in record {
+        hill = cut.hill;
+        generation = cut.generation;
+        broken = cut.broken;
+        kept = kept;
+        cause = inr cut.cause;
+        full = λ most. ap (λ (x : Seen D). x.generation) (full most) ∙ most;
+        reads = λ lawful is_open. cut.reads lawful;
+      }
+  left_off old new source Reply.Reopen s kept full failed = record {
+    hill = ap (λ (x : Seen D). x.hill) s.1;
+    generation = ap (λ (x : Seen D). x.generation) s.1;
+    broken = ap (λ (x : Seen D). x.reopen) s.1 ∙ s.0;
+    kept = kept;
+    cause = inl s.0;
+    full = λ most. ap (λ (x : Seen D). x.generation) (full most) ∙ most;
+    reads = λ lawful is_open. absurd (true≢false (sym s.0 ∙ is_open));
+  }

@@ -23,6 +23,15 @@ is_request met.Quit = false
 is_request met.Request = true
 is_request met.Bad = false
 
+-- a submission was met
+abbrev pub is_submission : Met → Bool
+is_submission met.Nothing = false
+is_submission met.Submit = true
+is_submission met.Show = false
+is_submission met.Quit = false
+is_submission met.Request = false
+is_submission met.Bad = false
+
 -- what was met is a command for this reader
 abbrev pub IsTaken : Reader → Met → Type 0
 IsTaken Reader.Session m = ⊤

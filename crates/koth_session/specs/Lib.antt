@@ -10,6 +10,8 @@ pub mod Inbox
 pub mod Outbox
 -- One session as a value: what came of it, what was carried out, and what is to be sent.
 pub mod Peer
+-- The store that judges submissions, and the submission to it that is under way.
+pub mod Judge
 -- Many sessions on one store: whose turn it is, and what each call leaves as it is.
 pub mod Peers
 -- Of private contracts alone: how a session over two streams stands between its commands.

@@ -5,8 +5,8 @@ use Rattle.{koth_hill.specs.Kept.{Kept, table_kept}, sector_disk.specs.Facts.Dev
 use Rattle.{hill_store.specs.declared.reply.Reply.Reply, koth_session.specs.Reply.reply_line}
 use Rattle.koth_protocol.specs.Commands.{Command, Reader, commands_read, kept_source}
 use Rattle.koth_protocol.specs.{Table.show_text, declared.script.Met.Met}
-use Rattle.koth_session.specs.{Sessions.{AreServed, IsLeftOff}, Transcript.{Exchange, answer, command_in}}
-use Rattle.koth_session.specs.{Inbox.{IsReadTo, IsTaken, is_met, is_request, room_of}, declared.end.PeerEnd.PeerEnd}
+use Rattle.koth_session.specs.{Sessions.{AreServed, IsLeftOff, has_failed}, Transcript.{Exchange, answer, command_in}}
+use Rattle.koth_session.specs.{Inbox.{IsNext, IsReadTo, IsTaken, is_met, is_request, is_submission, room_of}, declared.end.PeerEnd.PeerEnd}
 use Rattle.koth_session.specs.{declared.inbox.Inbox.Inbox, declared.peer.Peer.Peer}
 use Rattle.koth_protocol.specs.declared.script.Met.TheVariants as met
 
@@ -33,6 +33,10 @@ is_due_now peer = is_due peer.end (is_met peer.inbox.due)
 -- and what is due is a browser's request
 abbrev pub asks_now : {A : Type 0} → Peer A → Bool
 asks_now peer = is_request peer.inbox.due
+
+-- or a submission
+abbrev pub submits_now : {A : Type 0} → Peer A → Bool
+submits_now peer = is_submission peer.inbox.due
 
 -- bytes that may come: none once the peer's bytes are at their end, or the session has ended
 abbrev pub may_come : Option PeerEnd → Bool → ℕ → ℕ
@@ -75,6 +79,12 @@ pub record IsNew {A : Type 0} (peer : Peer A) : Type 0 where
 
 -- ---- what each call makes of it
 
+-- the command that was due is due
+pub record IsStillDue {A : Type 0} (old new : Peer A) : Type 0 where
+  pub due : is_due_now new ≡ true
+  pub met_is : new.inbox.due ≡ old.inbox.due
+  pub source : new.inbox.script.source ≡ old.inbox.script.source
+
 -- these bytes came
 pub record Takes {A : Type 0} (old : Peer A) (bytes : List ℕ) (new : Peer A) : Type 0 where
   pub reads : (reader : Reader) (came : List ℕ) (done : List Command) → IsPeer reader old came done
@@ -85,6 +95,7 @@ pub record Takes {A : Type 0} (old : Peer A) (bytes : List ℕ) (new : Peer A) :
   -- a command that is due then was found in what came
   pub fewer : is_due_now old ≡ false → is_due_now new ≡ true
       → length new.inbox.waiting < length old.inbox.waiting + length bytes
+  pub still : is_due_now old ≡ true → IsStillDue old new
 
 -- no more bytes come
 pub record Closes {A : Type 0} (old new : Peer A) : Type 0 where
@@ -101,6 +112,10 @@ pub record Sends {A : Type 0} (old : Peer A) (count : ℕ) (new : Peer A) : Type
   pub inbox : new.inbox ≡ old.inbox
   pub closed : new.closed ≡ old.closed
   pub end : new.end ≡ old.end
+
+-- nothing of it changed
+abbrev pub Stays : {A : Type 0} → Peer A → Peer A → Type 0
+Stays old new = Sends old 0 new
 
 -- the command that is due, with the bytes of a source
 abbrev pub command_due : Met → List ℕ → Command
@@ -151,6 +166,21 @@ AnswersPeer facts steps command (Some PeerEnd.StoreFailed) unsent old unsent_new
 AnswersPeer facts steps command (Some PeerEnd.Memory) unsent old unsent_new new =
     ((command ≡ Command.Show) ⊎ (unsent ≢ [])) × (new ≡ old) × (unsent_new ≡ unsent)
 
+-- for want of a place for the line of a reply, which takes 96 bytes at most, the session ends so
+abbrev pub LacksPlace : PeerEnd → List ℕ → Type 0
+LacksPlace PeerEnd.Quit unsent = ⊥
+LacksPlace PeerEnd.EndOfInput unsent = ⊥
+LacksPlace PeerEnd.Limit unsent = ⊥
+LacksPlace PeerEnd.Unread unsent = 1048576 < length unsent + 96
+LacksPlace PeerEnd.StepsSpent unsent = ⊥
+LacksPlace PeerEnd.StoreFailed unsent = ⊥
+LacksPlace PeerEnd.Memory unsent = unsent ≢ []
+
+-- The line of a reply was put after the answers that are unsent, or the session ends, since the device failed.
+abbrev pub SaysReply : Reply → Option PeerEnd → List ℕ → List ℕ → Type 0
+SaysReply reply None unsent new = (has_failed reply ≡ false) × (new ≡ unsent ++ reply_line reply)
+SaysReply reply (Some end) unsent new = (end ≡ PeerEnd.StoreFailed) × (has_failed reply ≡ true) × (new ≡ unsent)
+
 -- If the command was a submission that was answered, this is its reply, and the reply's line is the answer.
 abbrev pub IsReplied : Option PeerEnd → List ℕ → List ℕ → Option Reply → Type 0
 IsReplied outcome unsent new None = ⊤
@@ -167,6 +197,17 @@ end_after (Some end) otherwise = Some end
 
 abbrev pub command_of : {A : Type 0} → Peer A → Command
 command_of peer = command_due peer.inbox.due (kept_source peer.inbox.script.source)
+
+-- Of private contracts alone: after the answer the command that was due is passed, or the session ends.
+pub record Settles {A : Type 0} (outcome : Option PeerEnd) (old new : Peer A) : Type 0 where
+  pub unsent : new.outbox.unsent ≡ old.outbox.unsent
+  pub reply : new.reply ≡ old.reply
+  pub closed : new.closed ≡ old.closed
+  pub end : new.end ≡ end_after outcome (settled_now None new)
+  pub reads : outcome ≡ None → (reader : Reader) (came : List ℕ) (done : List Command) (command : Command)
+      → IsReadTo reader old.inbox came done → IsNext reader old.inbox.due old.inbox.script.source command
+      → IsReadTo reader new.inbox came (done ++ command ∷ [])
+  pub fewer : outcome ≡ None → is_met new.inbox.due ≡ true → length new.inbox.waiting < length old.inbox.waiting
 
 -- the command that was due was carried out, a source within these steps if there are any, or it ended the session
 pub record Serves {D A : Type 0} (facts : DeviceFacts D) (steps : Option ℕ) (outcome : Option PeerEnd)

@@ -1,8 +1,10 @@
 -- Many sessions on one store: whose turn it is, and what each call leaves as it is.
-use Rattle.std.specs.Prelude.{◌≡◌, ◌≢◌, ◌⊎◌, ℕ, ◌+◌, ◌<◌, ◌≤◌, ◌==◌, ◌&&◌, Bool, true, false, List, [], length, Option}
+use Rattle.std.specs.Prelude.{◌≡◌, ◌≢◌, ◌⊎◌, ⊤, ℕ, ◌+◌, ◌<◌, ◌≤◌, ◌==◌, ◌&&◌, ◌||◌, Bool, true, false, not, List, [], length, Option}
 use Rattle.std.specs.Prelude.{None, Some, IsSome, is_some, Result, Ok, Err, slice_index_or}
-use Rattle.{sector_disk.specs.Facts.DeviceFacts, hill_store.specs.Seen.Seen}
-use Rattle.koth_session.specs.Peer.{IsNew, Serves, asks_now, is_due_now, may_come_now}
+use Rattle.war_types.specs.declared.settings.RawSettings.{RawSettings}
+use Rattle.{sector_disk.specs.Facts.DeviceFacts, hill_store.specs.Submission.SubmissionParts, koth_protocol.specs.Commands.kept_source}
+use Rattle.koth_session.specs.Judge.{Fight, GoesFurther, IsOfSource, Judged, fighting, without}
+use Rattle.koth_session.specs.Peer.{IsNew, Serves, Stays, asks_now, is_due_now, may_come_now, submits_now}
 use Rattle.koth_session.specs.{declared.end.PeerEnd.PeerEnd, declared.peers.NotConnected.NotConnected}
 use Rattle.koth_session.specs.{declared.peers.Step.Step, declared.peer.Peer.Peer}
 
@@ -73,20 +75,34 @@ unsent_at slots n = unsent_in (peer_at slots n)
 abbrev pub ComesBefore : ℕ → ℕ → ℕ → Type 0
 ComesBefore start p n = ((start ≤ p) × (p < n)) ⊎ ((n < start) × ((p < n) ⊎ (start ≤ p)))
 
--- it is the first one from there on that has a command that is due
-pub record IsFirstDue {A : Type 0} (slots : Slots A) (start n : ℕ) : Type 0 where
+-- Whether the turn may come to the peer of this number: while the submission of a peer is under way, only to that one, and to those whose
+-- command that is due is no submission.
+abbrev pub is_beside : Option ℕ → ℕ → Bool → Bool
+is_beside None n submits = true
+is_beside (Some k) n submits = (n == k) || not submits
+
+-- and a command of it is due
+abbrev pub may_serve_in : {A : Type 0} → Option ℕ → ℕ → Option (Peer A) → Bool
+may_serve_in busy n None = false
+may_serve_in busy n (Some peer) = is_due_now peer && is_beside busy n (submits_now peer)
+
+abbrev pub may_serve_at : {A : Type 0} → Option ℕ → Slots A → ℕ → Bool
+may_serve_at busy slots n = may_serve_in busy n (peer_at slots n)
+
+-- it is the first one from there on to which the turn may come
+pub record IsFirstDue {A : Type 0} (busy : Option ℕ) (slots : Slots A) (start n : ℕ) : Type 0 where
   pub within : n < length slots
-  pub due : is_due_at slots n ≡ true
-  pub before : (p : ℕ) → ComesBefore start p n → is_due_at slots p ≡ false
+  pub due : may_serve_at busy slots n ≡ true
+  pub before : (p : ℕ) → ComesBefore start p n → may_serve_at busy slots p ≡ false
 
-abbrev pub NoneIsDueWithin : {A : Type 0} → Slots A → ℕ → ℕ → Type 0
-NoneIsDueWithin slots from to = (p : ℕ) → from ≤ p → p < to → is_due_at slots p ≡ false
+abbrev pub NoneIsDueWithin : {A : Type 0} → Option ℕ → Slots A → ℕ → ℕ → Type 0
+NoneIsDueWithin busy slots from to = (p : ℕ) → from ≤ p → p < to → may_serve_at busy slots p ≡ false
 
-pub record IsFirstDueWithin {A : Type 0} (slots : Slots A) (from to n : ℕ) : Type 0 where
+pub record IsFirstDueWithin {A : Type 0} (busy : Option ℕ) (slots : Slots A) (from to n : ℕ) : Type 0 where
   pub above : from ≤ n
   pub below : n < to
-  pub due : is_due_at slots n ≡ true
-  pub before : NoneIsDueWithin slots from n
+  pub due : may_serve_at busy slots n ≡ true
+  pub before : NoneIsDueWithin busy slots from n
 
 pub record IsFirstFree {A : Type 0} (slots : Slots A) (n : ℕ) : Type 0 where
   pub within : n < length slots
@@ -95,13 +111,53 @@ pub record IsFirstFree {A : Type 0} (slots : Slots A) (n : ℕ) : Type 0 where
 
 -- ---- what a step makes of them
 
--- One peer's turn: the command that is due of the first peer from there on was carried out, or ended its session. It is
--- no browser's request.
-pub record ServesOne {D A : Type 0} (facts : DeviceFacts D) (steps : Option ℕ) (outcome : Option PeerEnd) (n : ℕ)
-    (old : Slots A) (start : ℕ) (old_store : Seen D) (new : Slots A) (next : ℕ) (new_store : Seen D) : Type 0 where
-  pub first : IsFirstDue old start n
+-- this is a submission of the source that is due of this peer
+abbrev pub IsOfPeer : {A : Type 0} → RawSettings → Option (Peer A) → SubmissionParts → Type 0
+IsOfPeer settings None submission = ⊥
+IsOfPeer settings (Some peer) submission =
+    (is_due_now peer ≡ true) × (submits_now peer ≡ true)
+    × IsOfSource settings (kept_source peer.inbox.script.source) submission
+
+-- the submission that is under way is of the source that is due of its peer
+abbrev pub IsOfOne : {A : Type 0} → RawSettings → Slots A → Option Fight → Type 0
+IsOfOne settings slots None = ⊤
+IsOfOne settings slots (Some (n, submission)) = IsOfPeer settings (peer_at slots n) submission
+
+-- if it is that of the peer of this number, it is of the source that is due of this peer
+abbrev pub IsOfIts : {D A : Type 0} → ℕ → Peer A → Judged D → Type 0
+IsOfIts n peer judge =
+    (submission : SubmissionParts) → judge.under_way ≡ Some (n, submission)
+    → (submits_now peer ≡ true) × IsOfSource judge.store.hill.settings (kept_source peer.inbox.script.source) submission
+
+abbrev pub IsOfIn : {D A : Type 0} → ℕ → Option (Peer A) → Judged D → Type 0
+IsOfIn n None judge = ⊤
+IsOfIn n (Some peer) judge = IsOfIts n peer judge
+
+-- A turn of the peer of this number: its command was carried out, or ended its session. Its submission is not under way any more. If
+-- another's is, the store is the same.
+pub record IsServed {D A : Type 0} (facts : DeviceFacts D) (steps : Option ℕ) (outcome : Option PeerEnd) (n : ℕ)
+    (old_peer : Peer A) (old : Judged D) (new_peer : Peer A) (new : Judged D) : Type 0 where
+  pub serves : Serves facts steps outcome old_peer old.store new_peer new.store
+  pub under_way : new.under_way ≡ without n old.under_way
+  pub beside : IsSome new.under_way → new.store ≡ old.store
+
+-- A turn of the peer of this number: its submission was begun, or went on by a step. The peer and the store are the same.
+pub record IsStepped {D A : Type 0} (n : ℕ) (old_peer : Peer A) (old : Judged D) (new_peer : Peer A)
+    (new : Judged D) : Type 0 where
+  pub submits : submits_now old_peer ≡ true
+  pub stays : Stays old_peer new_peer
+  pub store : new.store ≡ old.store
+  pub submission : SubmissionParts
+  pub under_way : new.under_way ≡ Some (n, submission)
+  pub further : GoesFurther old.store.hill.settings old.under_way submission
+  pub of_source : IsOfSource old.store.hill.settings (kept_source old_peer.inbox.script.source) submission
+
+-- One peer's turn: it is the first one from there on to which it may come, and no browser's request is due of it.
+pub record ServesOne {D A : Type 0} (R : Peer A → Peer A → Type 0) (n : ℕ) (old : Slots A) (start : ℕ)
+    (old_judge : Judged D) (new : Slots A) (next : ℕ) : Type 0 where
+  pub first : IsFirstDue (fighting old_judge.under_way) old start n
   pub taken : asks_at old n ≡ false
-  pub moves : MovesAt (λ p q. Serves facts steps outcome p old_store q new_store) n old new
+  pub moves : MovesAt R n old new
   pub next_is : next ≡ n + 1
 
 -- what a step reports
@@ -115,16 +171,20 @@ step_after (Some PeerEnd.StepsSpent) n = Step.Served n
 step_after (Some PeerEnd.StoreFailed) n = Step.StoreFailed n
 step_after (Some PeerEnd.Memory) n = Step.Served n
 
-abbrev pub ServesNext : {D A : Type 0} → DeviceFacts D → Option ℕ → Step → Slots A → ℕ → Seen D → Slots A → ℕ → Seen D → Type 0
-ServesNext facts steps Step.Nobody old start old_store new next new_store =
-    ((p : ℕ) → is_due_at old p ≡ false) × (new ≡ old) × (next ≡ start) × (new_store ≡ old_store)
-ServesNext facts steps (Step.Served n) old start old_store new next new_store =
+abbrev pub ServesNext : {D A : Type 0} → DeviceFacts D → Option ℕ → Step → Slots A → ℕ → Judged D → Slots A → ℕ → Judged D → Type 0
+ServesNext facts steps Step.Nobody old start old_judge new next new_judge =
+    ((p : ℕ) → may_serve_at (fighting old_judge.under_way) old p ≡ false) × (new ≡ old) × (next ≡ start)
+    × (new_judge ≡ old_judge)
+ServesNext facts steps (Step.Served n) old start old_judge new next new_judge =
     (outcome : Option PeerEnd) × (step_after outcome n ≡ Step.Served n)
-    × ServesOne facts steps outcome n old start old_store new next new_store
-ServesNext facts steps (Step.Asked n) old start old_store new next new_store =
-    IsFirstDue old start n × (asks_at old n ≡ true) × (new ≡ old) × (next ≡ start) × (new_store ≡ old_store)
-ServesNext facts steps (Step.StoreFailed n) old start old_store new next new_store =
-    ServesOne facts steps (Some PeerEnd.StoreFailed) n old start old_store new next new_store
+    × ServesOne (λ p q. IsServed facts steps outcome n p old_judge q new_judge) n old start old_judge new next
+ServesNext facts steps (Step.Stepped n) old start old_judge new next new_judge =
+    ServesOne (λ p q. IsStepped n p old_judge q new_judge) n old start old_judge new next
+ServesNext facts steps (Step.Asked n) old start old_judge new next new_judge =
+    IsFirstDue (fighting old_judge.under_way) old start n × (asks_at old n ≡ true) × (new ≡ old) × (next ≡ start)
+    × (new_judge ≡ old_judge)
+ServesNext facts steps (Step.StoreFailed n) old start old_judge new next new_judge =
+    ServesOne (λ p q. IsServed facts steps (Some PeerEnd.StoreFailed) n p old_judge q new_judge) n old start old_judge new next
 
 -- ---- what connecting makes of them
 

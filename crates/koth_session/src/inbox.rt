@@ -1,7 +1,7 @@
 //! What came from a peer, and the command that is due.
 
 ghost use Rattle.std.specs.Prelude.{◌≡◌, ℕ, ◌+◌, ◌<◌, ◌≤◌, true, false, [], ◌∷◌, ◌++◌, List, length, IfOk};
-ghost use Rattle.{koth_protocol.specs.Commands.{Command, Reader, kept_source}, koth_session.specs.Inbox.{is_met, room_of, IsFollowed, IsNext, IsReadTo}};
+ghost use Rattle.{koth_protocol.specs.Commands.{Command, Reader, kept_source}, koth_session.specs.Inbox.{is_met, is_submission, room_of, IsFollowed, IsNext, IsReadTo}};
 
 use crate::waiting::Waiting;
 use koth_protocol::{Met, Script};
@@ -68,6 +68,8 @@ impl<A: Allocator> Inbox<A> {
         requires { length bytes.now ≤ room_of self.old }
         ensures reads { (reader : Reader) (came : List ℕ) (done : List Command) → IsReadTo reader self.old came done → IsReadTo reader self.new (came ++ bytes.now) done }
         ensures fewer { is_met self.old.due ≡ false → is_met self.new.due ≡ true → length self.new.waiting < length self.old.waiting + length bytes.now }
+        ensures due { is_met self.old.due ≡ true → self.new.due ≡ self.old.due }
+        ensures source { is_met self.old.due ≡ true → self.new.script.source ≡ self.old.script.source }
     {
         self.waiting.put(bytes);
         self.taken += bytes.len();
@@ -88,6 +90,8 @@ impl<A: Allocator> Inbox<A> {
     fn read_on(&mut self)
         ensures reads { (reader : Reader) (came : List ℕ) (done : List Command) → IsFollowed reader self.old came done → IsReadTo reader self.new came done }
         ensures fewer { is_met self.old.due ≡ false → is_met self.new.due ≡ true → length self.new.waiting < length self.old.waiting }
+        ensures due { is_met self.old.due ≡ true → self.new.due ≡ self.old.due }
+        ensures source { is_met self.old.due ≡ true → self.new.script.source ≡ self.old.script.source }
     {
         'bytes: while !is_met(self.due) {
             match self.waiting.next() {
@@ -105,5 +109,15 @@ pub(crate) fn is_met(met: Met) -> bool
     match met {
         Met::Nothing => false,
         Met::Submit | Met::Show | Met::Quit | Met::Request | Met::Bad => true,
+    }
+}
+
+/// Whether a submission was met.
+pub(crate) fn is_submission(met: Met) -> bool
+    ensures { result ≡ is_submission met }
+{
+    match met {
+        Met::Submit => true,
+        Met::Nothing | Met::Show | Met::Quit | Met::Request | Met::Bad => false,
     }
 }

@@ -8,6 +8,7 @@
 //! - `outbox`: the answers that aren't sent yet;
 //! - `reply` and `answers`: the lines of the replies, and a command that is carried out on the store and answered;
 //! - `end` and `peer`: one session as a value, and how it ends;
+//! - `judge`: the store, and the submission to it that is under way, which is fought in steps;
 //! - `turns` and `peers`: many of them on one store, and whose turn it is;
 //! - `sessions`: one session over two streams: what is read is put into its peer, and each command is answered before more is read;
 //! - `laws`: what a session is in the life of its device.
@@ -17,8 +18,10 @@
 //! blames a stream only if that stream's count of faults rose. `write_reply` writes exactly the reply's line, or a part
 //! of it if the output fails. `line_of` and `table_of` give the program the same lines for its own outputs.
 //!
-//! Of many peers, a call on one leaves every other as it is (`OnlyAt`). The next one served is the first with a command due after the one
-//! served last (`IsFirstDue`). Its command is the next of what came from it, and the answer is that on the hill which stands then (`Serves`).
+//! Of many peers, a call on one leaves every other as it is (`OnlyAt`). The next one served is the first to which the turn may come after the
+//! one served last (`IsFirstDue`): it has a command due, and while a submission is under way it is the peer of that, or its command is no
+//! submission. Its command is the next of what came from it, and the answer is that on the hill which stands then (`Serves`). A step of a
+//! submission changes neither the peers nor the store (`IsStepped`).
 //! At most 4,096 bytes of a peer wait and 16,777,216 come, and at most 1,048,576 bytes of answers to it are unsent: beyond that its
 //! session ends, and no other. A service feeds them, and sends what they say.
 //!
@@ -29,6 +32,7 @@
 mod answers;
 mod end;
 mod inbox;
+mod judge;
 mod laws;
 mod outbox;
 mod peer;
@@ -39,6 +43,7 @@ mod turns;
 mod waiting;
 
 pub use end::PeerEnd;
+pub use judge::Judge;
 pub use koth_protocol::{Counted, Line, ReadFault, WriteFault};
 pub use laws::sessions_in_lives;
 pub use peer::Peer;

@@ -1,13 +1,15 @@
 //! One session as a value: bytes come in, commands are carried out one at a time, and answers wait until they are sent.
 
-ghost use Rattle.std.specs.Prelude.{◌≡◌, ◌+◌, ◌≤◌, true, length, None, IfOk};
-ghost use Rattle.koth_session.specs.Peer.{asks_now, is_due_now, may_come_now, settled_now, Closes, IsNew, IsReplied, Sends, Serves, Takes};
+ghost use Rattle.std.specs.Prelude.{◌≡◌, ◌+◌, ◌≤◌, true, false, ℕ, Option, length, None, Some, IfErr, IfOk};
+ghost use Rattle.{koth_hill.specs.Kept.verdict_kept, hill_store.specs.Submission.{IsSubmitting, MayChallenge}, koth_protocol.specs.Commands.kept_source, koth_session.specs.Judge.IsOfSource};
+ghost use Rattle.koth_session.specs.Peer.{asks_now, is_due_now, may_come_now, settled_now, submits_now, Closes, IsNew, IsReplied, Sends, Serves, Settles, Stays, Takes};
 
-use crate::answers::answer;
+use crate::answers::{answer, begin, finish, tell};
 use crate::end::PeerEnd;
-use crate::inbox::{Inbox, LIMIT, is_met};
+use crate::inbox::{Inbox, LIMIT, is_met, is_submission};
 use crate::outbox::Outbox;
-use hill_store::{Reply, Store};
+use hill_store::{Reply, Store, Submission};
+use koth_hill::Verdict;
 use koth_protocol::Met;
 use sector_disk::Device;
 use std::alloc::{AllocError, Allocator};
@@ -52,7 +54,7 @@ impl<A: Allocator + Copy> Peer<A> {
         ensures replied { IsReplied result self.old.outbox.unsent self.new.outbox.unsent self.new.reply }
     {
         self.reply = None;
-        match answer(
+        let outcome = answer(
             alloc,
             self.inbox.due(),
             self.inbox.source(),
@@ -60,17 +62,77 @@ impl<A: Allocator + Copy> Peer<A> {
             &mut self.outbox,
             &mut self.reply,
             store,
+        );
+        self.settle(outcome);
+        outcome
+    }
+
+    /// Carries out the command that is due, as `serve` does. It is no submission, so the store stays as it is.
+    pub(crate) fn tell<D: Device>(&mut self, alloc: A, store: &Store<D, A>) -> Option<PeerEnd>
+        requires due { is_due_now self.old ≡ true }
+        requires other { submits_now self.old ≡ false }
+        ensures { (steps : Option ℕ) → Serves D.facts steps result self.old store.now self.new store.now }
+    {
+        self.reply = None;
+        let outcome = tell(alloc, self.inbox.due(), &mut self.outbox, store);
+        self.settle(outcome);
+        outcome
+    }
+
+    /// Begins the submission that is due: its source is assembled, in these steps. If nothing is begun, its command was carried out, or it
+    /// ended the session, as `serve` has it.
+    pub(crate) fn begin<D: Device>(
+        &mut self,
+        steps: u64,
+        store: &Store<D, A>,
+    ) -> Result<Submission<A>, Option<PeerEnd>>
+        requires due { is_due_now self.old ≡ true }
+        requires submits { submits_now self.old ≡ true }
+        ensures begun { IfOk result (IsSubmitting store.now) }
+        ensures of_source { IfOk result (IsOfSource store.now.hill.settings (kept_source self.old.inbox.script.source)) }
+        ensures stays { IfOk result (λ submission. Stays self.old self.new) }
+        ensures serves { IfErr result (λ outcome. Serves D.facts (Some steps) outcome self.old store.now self.new store.now) }
+    {
+        self.reply = None;
+        match begin(
+            self.inbox.source(),
+            Some(steps),
+            &mut self.outbox,
+            &mut self.reply,
+            store,
         ) {
-            None => {
-                self.inbox.pass();
-                self.end = self.settled();
-                None
-            }
-            Some(end) => {
-                self.end = Some(end);
-                Some(end)
+            Ok(submission) => Ok(submission),
+            Err(outcome) => {
+                self.settle(outcome);
+                Err(outcome)
             }
         }
+    }
+
+    /// Finishes the submission of the source that is due, which was judged so, as `serve` does.
+    pub(crate) fn finish<D: Device>(
+        &mut self,
+        store: &mut Store<D, A>,
+        submission: Submission<A>,
+        judged: &Verdict,
+    ) -> Option<PeerEnd>
+        requires due { is_due_now self.old ≡ true }
+        requires submits { submits_now self.old ≡ true }
+        requires may { MayChallenge store.old submission.warrior }
+        requires verdict { judged.now ≡ verdict_kept store.old.hill submission.warrior }
+        ensures { (steps : Option ℕ) → IsOfSource store.old.hill.settings (kept_source self.old.inbox.script.source) submission
+            → Serves D.facts steps result self.old store.old self.new store.new }
+    {
+        self.reply = None;
+        let outcome = finish(
+            &mut self.outbox,
+            &mut self.reply,
+            store,
+            submission,
+            judged,
+        );
+        self.settle(outcome);
+        outcome
     }
 }
 
@@ -125,6 +187,13 @@ impl<A: Allocator> Peer<A> {
         matches!(self.inbox.due(), Met::Request)
     }
 
+    /// Whether the command that is due is a submission.
+    pub(crate) fn submits(&self) -> bool
+        ensures { result ≡ submits_now self.now }
+    {
+        is_submission(self.inbox.due())
+    }
+
     /// The answers that are to be sent, 1,048,576 bytes at most.
     pub fn unsent(&self) -> &[u8]
         ensures value { result.now ≡ self.now.outbox.unsent }
@@ -153,6 +222,21 @@ impl<A: Allocator> Peer<A> {
         ensures { result ≡ self.now.end }
     {
         self.end
+    }
+
+    /// The command that was due was carried out, or it ended the session so.
+    fn settle(&mut self, outcome: Option<PeerEnd>)
+        ensures { Settles outcome self.old self.new }
+    {
+        match outcome {
+            None => {
+                self.inbox.pass();
+                self.end = self.settled();
+            }
+            Some(end) => {
+                self.end = Some(end);
+            }
+        }
     }
 
     /// How the session stands after what came.

@@ -1,13 +1,14 @@
 //! Many sessions on one store, each served in turn.
 
-ghost use Rattle.std.specs.Prelude.{◌≡◌, ℕ, ◌≤◌, true, length, option_copied, None, Some, IfOk};
-ghost use Rattle.koth_session.specs.{Peer.{Closes, Sends, Serves, Takes}, Peers.{end_in, is_due_at, is_due_in, is_finished_in, may_come_at, may_come_in, peer_at}};
-ghost use Rattle.koth_session.specs.Peers.{step_after, unsent_at, unsent_in, Connects, Moves, MovesAt, OnlyAt, ServesNext};
+ghost use Rattle.std.specs.Prelude.{◌≡◌, ℕ, ◌≤◌, true, length, option_copied, None, Some, IfErr, IfOk};
+ghost use Rattle.koth_session.specs.{Judge.{fighting, without}, Peer.{Closes, Sends, Takes}, Peers.{end_in, is_due_at, is_finished_in, may_come_at, may_come_in, may_serve_in}};
+ghost use Rattle.koth_session.specs.Peers.{peer_at, step_after, unsent_at, unsent_in, Connects, IsOfIn, IsOfOne, IsServed, IsStepped, Moves, MovesAt, OnlyAt, ServesNext};
 
 use crate::end::PeerEnd;
+use crate::judge::{Judge, UnderWay};
 use crate::peer::Peer;
 use crate::turns::{asks, first_free, next_due};
-use hill_store::{Reply, Store};
+use hill_store::Reply;
 use sector_disk::Device;
 use std::alloc::{AllocError, Allocator};
 
@@ -27,6 +28,8 @@ pub enum Step {
     Nobody,
     /// A command of this peer was carried out, or ended its session.
     Served(usize),
+    /// A submission of this peer was begun, or some rounds of it were played: it is under way, and its command is still due.
+    Stepped(usize),
     /// The turn is this peer's, and a browser's request is due of it, which was not carried out: have it leave.
     Asked(usize),
     /// The device failed in a submission of this peer, whose session has ended: close the store, and open it again.
@@ -77,21 +80,27 @@ impl<A: Allocator + Copy> Peers<A> {
         }
     }
 
-    /// Carries out one command at most: that of the first peer that has one due, beginning after the peer served last and going
-    /// round. A browser's request is not carried out, and the turn stays where it is until that peer has left. Nor is a source whose assembly
-    /// spends these steps.
-    pub fn serve_next<D: Device>(&mut self, steps: u64, store: &mut Store<D, A>) -> Step
-        ensures { ServesNext D.facts (Some steps) result self.old.slots.items self.old.next store.old self.new.slots.items self.new.next store.new }
+    /// Carries out one command at most: that of the first peer to which the turn may come, beginning after the peer served last and going
+    /// round. Of a submission that is to be fought one step is made, and while it is under way the turn comes to its peer, and to those whose
+    /// command that is due is no submission. A browser's request is not carried out, and the turn stays where it is until that peer has left.
+    /// Nor is a source whose assembly spends these steps.
+    pub fn serve_next<D: Device>(&mut self, steps: u64, judge: &mut Judge<D, A>) -> Step
+        ensures serves { IsOfOne judge.old.store.hill.settings self.old.slots.items judge.old.under_way
+            → ServesNext D.facts (Some steps) result self.old.slots.items self.old.next judge.old self.new.slots.items self.new.next judge.new }
+        ensures of_one { IsOfOne judge.old.store.hill.settings self.old.slots.items judge.old.under_way
+            → IsOfOne judge.new.store.hill.settings self.new.slots.items judge.new.under_way }
     {
-        let Some(number) = next_due(self.slots.as_slice(), self.next) else {
+        let Some(number) = next_due(self.slots.as_slice(), self.next, judge.busy()) else {
             return Step::Nobody;
         };
         if asks(&self.slots[number]) {
             return Step::Asked(number);
         }
         self.next = number + 1;
-        let outcome = serve_at(self.alloc, steps, &mut self.slots[number], store);
-        step_after(outcome, number)
+        match serve_at(self.alloc, steps, number, &mut self.slots[number], judge) {
+            Ok(outcome) => step_after(outcome, number),
+            Err(UnderWay) => Step::Stepped(number),
+        }
     }
 }
 
@@ -186,12 +195,15 @@ impl<A: Allocator> Peers<A> {
         }
     }
 
-    /// Drops a peer, however its session stands: its number is free.
-    pub fn leave(&mut self, number: usize)
+    /// Drops a peer, however its session stands: its number is free. A submission of it that is under way is given up, and leaves no trace.
+    pub fn leave<D: Device>(&mut self, number: usize, judge: &mut Judge<D, A>)
         ensures only { OnlyAt number self.old.slots.items self.new.slots.items }
         ensures at { peer_at self.new.slots.items number ≡ None }
         ensures next { self.new.next ≡ self.old.next }
+        ensures store { judge.new.store ≡ judge.old.store }
+        ensures under_way { judge.new.under_way ≡ without number judge.old.under_way }
     {
+        judge.give_up(number);
         if number < self.slots.len() {
             self.slots[number] = None;
         }
@@ -235,18 +247,20 @@ fn pass_at<A: Allocator>(slot: &mut Option<Peer<A>>, count: usize)
     }
 }
 
-/// Carries out the command that is due of a peer.
+/// Carries out the command that is due of the peer of this number, or a part of its submission.
 fn serve_at<D: Device, A: Allocator + Copy>(
     alloc: A,
     steps: u64,
+    number: usize,
     slot: &mut Option<Peer<A>>,
-    store: &mut Store<D, A>,
-) -> Option<PeerEnd>
-    requires { is_due_in slot.old ≡ true }
-    ensures { Moves (λ old new. Serves D.facts (Some steps) result old store.old new store.new) slot.old slot.new }
+    judge: &mut Judge<D, A>,
+) -> Result<Option<PeerEnd>, UnderWay>
+    requires { may_serve_in (fighting judge.old.under_way) number slot.old ≡ true }
+    ensures served { IsOfIn number slot.old judge.old → IfOk result (λ outcome. Moves (λ p q. IsServed D.facts (Some steps) outcome number p judge.old q judge.new) slot.old slot.new) }
+    ensures stepped { IsOfIn number slot.old judge.old → IfErr result (λ on. Moves (λ p q. IsStepped number p judge.old q judge.new) slot.old slot.new) }
 {
     match slot {
-        Some(peer) => peer.serve(alloc, Some(steps), store),
+        Some(peer) => judge.serve(alloc, steps, number, peer),
         None => unreachable!(),
     }
 }

@@ -1,41 +1,62 @@
 //! Whose turn it is.
 
 ghost use Rattle.std.specs.Prelude.{◌≡◌, ℕ, ◌<◌, ◌≤◌, true, false, length, None, IsSome, MatchOption};
-ghost use Rattle.koth_session.specs.Peers.{asks_in, is_due_at, is_due_in, peer_at, IsFirstDue, IsFirstDueWithin, IsFirstFree, NoneIsDueWithin};
+ghost use Rattle.koth_session.specs.Peers.{asks_in, is_beside, may_serve_at, may_serve_in, peer_at, IsFirstDue, IsFirstDueWithin, IsFirstFree, NoneIsDueWithin};
 
 use crate::peer::Peer;
 use std::alloc::Allocator;
 
-/// The first peer that has a command due, if the turn begins at this number and goes round.
-pub(crate) fn next_due<A: Allocator>(slots: &[Option<Peer<A>>], start: usize) -> Option<usize>
-    ensures { MatchOption result ((p : ℕ) → is_due_at slots.now p ≡ false) (IsFirstDue slots.now start) }
+/// The first peer to which the turn may come, if it begins at this number and goes round. The submission of this peer is under way, if there
+/// is one.
+pub(crate) fn next_due<A: Allocator>(
+    slots: &[Option<Peer<A>>],
+    start: usize,
+    busy: Option<usize>,
+) -> Option<usize>
+    ensures { MatchOption result ((p : ℕ) → may_serve_at busy slots.now p ≡ false) (IsFirstDue busy slots.now start) }
 {
     let count = slots.len();
-    match first_due(slots, start, count) {
+    match first_due(slots, start, count, busy) {
         Some(number) => Some(number),
-        None => first_due(slots, 0, start.min(count)),
+        None => first_due(slots, 0, start.min(count), busy),
     }
 }
 
-/// The first peer that has a command due, with a number of at least `from` and below `to`.
-fn first_due<A: Allocator>(slots: &[Option<Peer<A>>], from: usize, to: usize) -> Option<usize>
+/// The first peer to which the turn may come, with a number of at least `from` and below `to`.
+fn first_due<A: Allocator>(
+    slots: &[Option<Peer<A>>],
+    from: usize,
+    to: usize,
+    busy: Option<usize>,
+) -> Option<usize>
     requires { to ≤ length slots.now }
-    ensures { MatchOption result (NoneIsDueWithin slots.now from to) (IsFirstDueWithin slots.now from to) }
+    ensures { MatchOption result (NoneIsDueWithin busy slots.now from to) (IsFirstDueWithin busy slots.now from to) }
 {
     for number in from..to {
-        if is_due(&slots[number]) {
+        if may_serve(busy, number, &slots[number]) {
             return Some(number);
         }
     }
     None
 }
 
-fn is_due<A: Allocator>(slot: &Option<Peer<A>>) -> bool
-    ensures { result ≡ is_due_in slot.now }
+/// Whether the turn may come to the peer of this number.
+fn may_serve<A: Allocator>(busy: Option<usize>, number: usize, slot: &Option<Peer<A>>) -> bool
+    ensures { result ≡ may_serve_in busy number slot.now }
 {
     match slot {
-        Some(peer) => peer.is_due(),
+        Some(peer) => peer.is_due() && is_beside(busy, number, peer.submits()),
         None => false,
+    }
+}
+
+/// Whether the turn may come to a peer with this number beside the submission that is under way.
+fn is_beside(busy: Option<usize>, number: usize, submits: bool) -> bool
+    ensures { result ≡ is_beside busy number submits }
+{
+    match busy {
+        Some(other) => number == other || !submits,
+        None => true,
     }
 }
 

@@ -1,14 +1,8 @@
--- A line that is no command.
-use Rattle.{std.proofs.Common.{◌≡◌, ◌⊎◌, inl, inr, ℕ, List, refl, subst}, koth_protocol.specs.{Commands.Command, declared.script.Met.Met}}
-use Rattle.koth_session.{specs.Peer.{AnswersPeer, command_due}, proofs.Answering.bad_said}
+-- A submission, or another command.
+use Rattle.{std.proofs.Common.{◌∙◌, subst, sym}, koth_session.specs.Peer.AnswersPeer, koth_session.proofs.Answering.submit_due}
 use Rattle.koth_session.proofs.answers.answer.Goals as goal
 
-either_bad : (m : Met) (bytes : List ℕ) → (m ≡ Met.Request) ⊎ (m ≡ Met.Bad) → Command.Bad ≡ command_due m bytes
-either_bad m bytes (inl is) = rw is refl
-either_bad m bytes (inr is) = rw is refl
-
-pub returns-in-Request-clause-answers : goal.returns-in-Request-clause-answers
-returns-in-Request-clause-answers g c =
-    subst (λ k. AnswersPeer g.D.Device.facts c.args.steps k c.say.result c.args.outbox.now.unsent c.args.store.now c.say.new.outbox.unsent c.args.store.now)
-    (either_bad c.args.due c.args.source.now c.in-Request.is)
-    (bad_said g.D.Device.facts c.args.steps c.say.result c.args.outbox.now.unsent c.say.new.outbox.unsent c.args.store.now c.say.ensures)
+pub returns-then-is_submission-clause-answers : goal.returns-then-is_submission-clause-answers
+returns-then-is_submission-clause-answers g c =
+    subst (λ k. AnswersPeer g.D.Device.facts c.args.steps k c.submit.result c.args.outbox.now.unsent c.args.store.now c.submit.new.outbox.unsent c.submit.new.store)
+    (submit_due c.args.due c.args.source.now (sym c.is_submission.ensures ∙ c.if-is_submission.true)) c.submit.ensures.answers

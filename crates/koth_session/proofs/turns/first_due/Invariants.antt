@@ -1,6 +1,6 @@
--- None before this one has a command due.
+-- The turn may come to none before this one.
 use Rattle.koth_session.specs.Peers.{NoneIsDueWithin}
 use Rattle.koth_session.proofs.turns.first_due.Given as goal
 
 abbrev pub invariant-loop-number : goal.invariant-loop-number
-invariant-loop-number g l = NoneIsDueWithin l.slots l.from l.number
+invariant-loop-number g l = NoneIsDueWithin l.busy l.slots l.from l.number

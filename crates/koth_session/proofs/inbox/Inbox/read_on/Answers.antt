@@ -1,5 +1,5 @@
 -- Byte by byte.
-use Rattle.{std.proofs.Common.{inl, length, arith, ap, refl, sym, true≢false, ◌∙◌}, koth_session.proofs.Readings.{byte_read, emptied, read_to, unmet}}
+use Rattle.{std.proofs.Common.{inl, length, arith, ap, refl, sym, true≢false, ◌∙◌}, koth_session.specs.Inbox.is_met, koth_session.proofs.Readings.{byte_read, emptied, read_to, unmet}}
 use Rattle.koth_session.proofs.inbox.Inbox.read_on.Goals as goal
 
 pub bytes-init : goal.bytes-init
@@ -7,6 +7,8 @@ bytes-init g c = record {
   reads = λ reader came done followed. followed;
   few = omega arith;
   fewer = λ none met. absurd (true≢false (sym met ∙ none));
+  due = λ met. refl;
+  source = λ met. refl;
 }
 
 pub bytes-preserved : goal.bytes-preserved
@@ -17,6 +19,8 @@ bytes-preserved g c =
           (c.bytes.invariant.reads reader came done followed);
       few = omega (arith, c.bytes.invariant.few, size);
       fewer = λ none met. omega (arith, c.bytes.invariant.few, size);
+      due = λ met. absurd (true≢false (sym met ∙ sym (ap is_met (c.bytes.invariant.due met)) ∙ sym c.is_met.ensures ∙ c.bytes-test.true));
+      source = λ met. absurd (true≢false (sym met ∙ sym (ap is_met (c.bytes.invariant.due met)) ∙ sym c.is_met.ensures ∙ c.bytes-test.true));
     }
 
 pub returns-in-None-clause-reads : goal.returns-in-None-clause-reads
@@ -32,3 +36,15 @@ returns-clause-reads g c = λ reader came done followed.
 
 pub returns-clause-fewer : goal.returns-clause-fewer
 returns-clause-fewer g c = c.bytes.invariant.fewer
+
+pub returns-in-None-clause-due : goal.returns-in-None-clause-due
+returns-in-None-clause-due g c = c.bytes.invariant.due
+
+pub returns-in-None-clause-source : goal.returns-in-None-clause-source
+returns-in-None-clause-source g c = c.bytes.invariant.source
+
+pub returns-clause-due : goal.returns-clause-due
+returns-clause-due g c = c.bytes.invariant.due
+
+pub returns-clause-source : goal.returns-clause-source
+returns-clause-source g c = c.bytes.invariant.source

@@ -8,6 +8,8 @@ invariant-bytes g l = record {
   reads : (reader : Reader) (came : List ℕ) (done : List Command) → IsFollowed reader l.fn.self came done → IsFollowed reader l.self came done;
   few : length l.self.waiting ≤ length l.fn.self.waiting;
   fewer : is_met l.fn.self.due ≡ false → is_met l.self.due ≡ true → length l.self.waiting < length l.fn.self.waiting;
+  due : is_met l.fn.self.due ≡ true → l.self.due ≡ l.fn.self.due;
+  source : is_met l.fn.self.due ≡ true → l.self.script.source ≡ l.fn.self.script.source;
 }
 
 abbrev pub decreases-bytes : goal.decreases-bytes
