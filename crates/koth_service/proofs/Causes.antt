@@ -1,10 +1,10 @@
 -- Why a peer is disconnected, and whose turn it is, by how the peers and their seats stand.
-use Rattle.std.proofs.Common.{◌≡◌, ◌≢◌, ◌⊎◌, inl, inr, ℕ, ◌-◌, ◌<◌, ◌≤◌, ◌==◌, ◌&&◌, arith, nat_le, Bool, true, true≢false, false, not, if◌then◌else◌, length, List, [], ◌∷◌, ◌++◌}
-use Rattle.std.proofs.{Common.{Option, None, Some, is_some, refl, sym, ap, subst, ◌∙◌, append_assoc, append-nil}, lemmas.List.append_cancel_left}
+use Rattle.std.proofs.Common.{◌≡◌, ◌≢◌, ◌⊎◌, inl, inr, ℕ, ◌-◌, ◌<◌, ◌≤◌, ◌==◌, ◌&&◌, ◌||◌, arith, nat_le, Bool, true, true≢false, false, not, if◌then◌else◌, length, List, [], ◌∷◌, ◌++◌}
+use Rattle.std.proofs.{Common.{Option, None, Some, is_some, refl, sym, ap, subst, ◌∙◌, append_assoc, append-nil}, lemmas.{Bool.Decides.eqb_tells, List.append_cancel_left}}
 use Rattle.koth_protocol.specs.{Commands.{Command, Reader, commands_read, kept_source}, Reading.commands_met, declared.script.Met.Met}
-use Rattle.koth_session.specs.{Inbox.{IsReadTo, is_met, is_request}, Peer.{HasRead, asks_now, command_due, is_due, is_due_now, settled}, Peers.{asks_in, end_in, is_due_in, is_finished_in}}
-use Rattle.{koth_session.specs.declared.{end.PeerEnd.PeerEnd, inbox.Inbox.Inbox, peer.Peer.Peer}, koth_session.proofs.Standing.{behind_met, settles, those_came}}
-use Rattle.koth_service.specs.{Seats.{IsPatienceOver, IsUnused, has_some}, Session.Session, Moment.{Moment, Round}, History.{AsksForPage, Begins, HasAll, HasEnded, HasNothingDue, IsCause, IsSilent, MayBeDisplaced, MayBeServed, MayDisconnect}}
+use Rattle.koth_session.specs.{Inbox.{IsReadTo, is_met, is_request, is_submission}, Peer.{HasRead, asks_now, command_due, command_of, is_due, is_due_now, settled, submits_now}, Peers.{asks_in, end_in, is_beside, is_due_in, is_finished_in, may_serve_in}}
+use Rattle.{koth_session.specs.declared.{end.PeerEnd.PeerEnd, inbox.Inbox.Inbox, peer.Peer.Peer}, koth_session.proofs.{Answering.submit_due, Standing.{behind_met, settles, those_came}}}
+use Rattle.koth_service.specs.{Seats.{IsPatienceOver, IsUnused, has_some}, Session.Session, Moment.{Moment, Round}, History.{AsksForPage, Begins, HasAll, HasEnded, HasNothingDue, IsBeside, IsCause, IsSilent, MayBeDisplaced, MayBeServed, MayDisconnect, SubmitsNothing}}
 use Rattle.koth_service.specs.{Standing.{AwaitedIn, IsSeatOf, Stands, StandsAt, over_by}, declared.{host.HowEnded.HowEnded, seats.Seat.Seat, times.TheConstants.{PATIENCE, UNSPOKEN, UNUSED}}}
 use Rattle.koth_service.proofs.Moments.{is_some_byte}
 
@@ -32,6 +32,29 @@ is_nothing c behind is = absurd (cc)
 
 not_same : (done : List Command) (c : Command) (behind : List Command) → done ≡ done ++ c ∷ behind → ⊥
 not_same done c behind is = is_nothing c behind (append_cancel_left done [] (c ∷ behind) (append-nil done ∙ is))
+
+not_true : (b : Bool) → not b ≡ true → b ≡ false
+not_true true is = sym is
+not_true false is = refl
+
+or_true : (b : Bool) → (b || true) ≡ true
+or_true true = refl
+or_true false = refl
+
+one_false : (a b : Bool) → (a && b) ≡ false → (a ≡ false) ⊎ ((a ≡ true) × (b ≡ false))
+one_false true b is = inr (refl, is)
+one_false false b is = inl refl
+
+same_head : (a b : Command) (xs ys : List Command) → a ∷ xs ≡ b ∷ ys → a ≡ b
+same_head a b xs ys is = cc
+
+not_submitted : (m : Met) (bytes source : List ℕ) → is_submission m ≡ false → command_due m bytes ≡ Command.Submit source → ⊥
+not_submitted Met.Nothing bytes source is same = absurd (cc)
+not_submitted Met.Submit bytes source is same = true≢false is
+not_submitted Met.Show bytes source is same = absurd (cc)
+not_submitted Met.Quit bytes source is same = absurd (cc)
+not_submitted Met.Request bytes source is same = absurd (cc)
+not_submitted Met.Bad bytes source is same = absurd (cc)
 
 request_is : (m : Met) → is_request m ≡ true → m ≡ Met.Request
 request_is Met.Nothing is = absurd (true≢false (sym is))
@@ -224,11 +247,58 @@ module _ {A : Type 0} where
 
   -- ---- whose turn it is
 
-  pub nobody_may : {D : Type 0} (m : Moment D) (p : ℕ) (slot : Option (Peer A)) (seat : Option Seat) → StandsAt (m.sessions p) slot seat → is_due_in slot ≡ false → MayBeServed m p → ⊥
-  nobody_may m p None None stands due may = true≢false (sym may.0 ∙ stands)
-  nobody_may m p None (Some seat) stands due may = absurd stands
-  nobody_may m p (Some peer) None stands due may = absurd stands
-  nobody_may m p (Some peer) (Some seat) stands due may = may.1 (idle (m.sessions p) peer stands.0 due)
+  -- the command that is due is the next one in what came
+  next_due : (s : Session) (peer : Peer A) → Stands s peer → is_due_now peer ≡ true
+      → (behind : List Command) × (commands_read Reader.Session s.came ≡ s.done ++ command_of peer ∷ behind)
+  next_due s peer stands due =
+      let those = those_came Reader.Session peer.inbox s.came s.done (goes_on_by Reader.Session s peer stands due) in
+      let here = behind_met Reader.Session peer.inbox.due peer.inbox.script.source those.0 (is_met_then peer.end (is_met peer.inbox.due) due) tt in
+      (here.0, those.1 ∙ ap (λ l. s.done ++ l) here.1)
+
+  -- a peer with a submission that is due, and one without
+  submits_some : (s : Session) (peer : Peer A) → Stands s peer → is_due_now peer ≡ true → submits_now peer ≡ true → SubmitsNothing s → ⊥
+  submits_some s peer stands due submits nothing =
+      let bytes = kept_source peer.inbox.script.source in
+      let next = next_due s peer stands due in
+      let command : Command.Submit bytes ≡ command_of peer = submit_due peer.inbox.due bytes submits in
+      nothing bytes (next.0, next.1 ∙ ap (λ (k : Command). s.done ++ k ∷ next.0) (sym command) ∙ sym (append_assoc s.done (Command.Submit bytes ∷ []) next.0))
+
+  submits_none : (s : Session) (peer : Peer A) → Stands s peer → is_due_now peer ≡ true → submits_now peer ≡ false → SubmitsNothing s
+  submits_none s peer stands due other source begins =
+      let next = next_due s peer stands due in
+      let same : command_of peer ∷ next.0 ≡ Command.Submit source ∷ begins.0 =
+      append_cancel_left s.done (command_of peer ∷ next.0) (Command.Submit source ∷ begins.0) (sym next.1 ∙ begins.1 ∙ append_assoc s.done (Command.Submit source ∷ []) begins.0) in
+      not_submitted peer.inbox.due (kept_source peer.inbox.script.source) source other (same_head (command_of peer) (Command.Submit source) next.0 begins.0 same)
+
+  -- the turn may come to it
+  pub beside_at : (busy : Option ℕ) (n : ℕ) (s : Session) (peer : Peer A) → Stands s peer → is_due_now peer ≡ true → is_beside busy n (submits_now peer) ≡ true → IsBeside busy n s
+  beside_at None n s peer stands due is = tt
+  beside_at (Some k) n s peer stands due is =
+      elim (eqb_tells n k) [
+        | inl same ↦ inl same.1
+        | inr differ ↦ inr (submits_none s peer stands due (not_true (submits_now peer) (sym (ap (λ b. b || not (submits_now peer)) differ.0) ∙ is)))
+      ]
+
+  -- or may not
+  not_beside : (busy : Option ℕ) (n : ℕ) (s : Session) (submits : Bool) → is_beside busy n submits ≡ false → (submits ≡ true → SubmitsNothing s → ⊥) → IsBeside busy n s → ⊥
+  not_beside None n s submits is some beside = true≢false is
+  not_beside (Some k) n s true is some (inl same) =
+      elim (eqb_tells n k) [ inl equal ↦ true≢false (sym (ap (λ b. b || false) equal.0) ∙ is) | inr differ ↦ differ.1 same ]
+  not_beside (Some k) n s true is some (inr nothing) = some refl nothing
+  not_beside (Some k) n s false is some beside = true≢false (sym (or_true (n == k)) ∙ is)
+
+  pub nobody_may : {D : Type 0} (busy : Option ℕ) (m : Moment D) (p : ℕ) (slot : Option (Peer A)) (seat : Option Seat) → StandsAt (m.sessions p) slot seat → m.round.fighting ≡ busy
+      → may_serve_in busy p slot ≡ false → MayBeServed m p → ⊥
+  nobody_may busy m p None None stands same never may = true≢false (sym may.0 ∙ stands)
+  nobody_may busy m p None (Some seat) stands same never may = absurd stands
+  nobody_may busy m p (Some peer) None stands same never may = absurd stands
+  nobody_may busy m p (Some peer) (Some seat) stands same never may =
+      let s = m.sessions p in
+      elim (one_false (is_due_now peer) (is_beside busy p (submits_now peer)) never) [
+        | inl none ↦ may.1 (idle s peer stands.0 none)
+        | inr late ↦ not_beside busy p s (submits_now peer) late.1 (λ submits nothing. submits_some s peer stands.0 late.0 submits nothing)
+            (subst (λ b. IsBeside b p s) same may.2)
+      ]
 
   -- ---- a browser's request
 

@@ -135,7 +135,7 @@ module _ {A : Type 0} where
   -- ---- answers went out
 
   -- what went out of its answers changes nothing of what a session read
-  same_peer : (old new : Peer A) (count : ℕ) (came : List ℕ) (done : List Command) → Sends old count new → (reader : Reader) → IsPeer reader old came done → IsPeer reader new came done
+  pub same_peer : (old new : Peer A) (count : ℕ) (came : List ℕ) (done : List Command) → Sends old count new → (reader : Reader) → IsPeer reader old came done → IsPeer reader new came done
   same_peer old new count came done sends reader is = record { has_read = rw (sends.end, sends.inbox, sends.closed) is.has_read; few = is.few }
 
   went_at : (count time : ℕ) (s : Session) (old new : Option (Peer A)) (seat now : Option Seat) → Moves (λ p q. Sends p count q) old new

@@ -1,8 +1,8 @@
 -- What one part of a moment makes of the others.
-use Rattle.std.proofs.{Common.{◌≡◌, ◌∙◌, inl, inr, ℕ, ◌≤◌, ◌==◌, Bool, true, false, if◌then◌else◌, length, List, [], Option, Some, refl, sym, subst}, lemmas.Bool.cases_eq}
+use Rattle.std.proofs.{Common.{◌≡◌, ◌∙◌, inl, inr, ℕ, ◌≤◌, ◌==◌, Bool, true, false, if◌then◌else◌, length, List, [], Option, None, Some, refl, sym, subst}, lemmas.Bool.cases_eq}
 use Rattle.sector_disk.specs.Facts.{DeviceFacts}
-use Rattle.{hill_store.specs.Seen.Seen, koth_session.proofs.{Exchanges.served_none, Holding.keeps_list}}
-use Rattle.koth_service.specs.{Noted.Noted, Session.{Browser, Session}, Moment.{Happening, Moment, Round, Start, ended_in, instead, moment, noted}, History.{IsHistory, IsSafe, Shows}}
+use Rattle.{hill_store.specs.Seen.Seen, koth_session.specs.{Judge.{Fight, fighting, without}, Peers.IsOfOne}, koth_session.proofs.{Exchanges.served_none, Holding.keeps_list}}
+use Rattle.koth_service.specs.{Noted.Noted, Session.{Browser, Session}, Moment.{Happening, Moment, Round, Start, ended_in, instead, moment, noted, other_than}, History.{IsHistory, IsSafe, Shows}}
 use Rattle.koth_service.specs.{Standing.{AreAtStages, AreStanding, CameToBe, IsAtStage, IsRound, PeersNow}, declared.connections.Stage.Stage}
 use Rattle.koth_service.proofs.Moments.{instead_other, instead_same}
 
@@ -49,6 +49,16 @@ module _ {A : Type 0} (visitors : ℕ → Browser) (browsers : ℕ → Option (S
   pub stages_over : (before : Option (Stage A)) → AreAtStages visitors (instead browsers n before) → AreAtStages visitors (instead browsers n (Some Stage.Parting))
   stages_over before are = λ p. parting_of_one (p == n) (visitors p) (browsers p) before (are p)
 
+-- ---- the submission of a peer is not under way any more
+
+pub fighting_without : (n : ℕ) (under_way : Option Fight) → fighting (without n under_way) ≡ other_than n (fighting under_way)
+fighting_without n None = refl
+fighting_without n (Some (k, submission)) = at (n == k)
+  where
+    at : (own : Bool) → fighting (if own then None else Some (k, submission)) ≡ (if own then None else Some k)
+    at true = refl
+    at false = refl
+
 -- ---- no stop loses what was answered before
 
 -- of a store that was opened just now
@@ -68,8 +78,8 @@ pub came_to_be : {S D A : Type 0} {happened : S → List Noted → Type 0} {fact
     {browsers : ℕ → Option (Stage A)} {store : Seen D} {history : List (Happening D)} → happened sockets (noted history) → IsHistory facts shows start history
     → AreStanding (moment start history).sessions peers.slots peers.seats → AreAtStages (moment start history).browsers browsers → (moment start history).now ≡ store
     → length peers.slots ≡ start.most → length peers.seats ≡ start.most → peers.ended ≤ ended_in (noted history) → IsRound (moment start history).round peers
-    → CameToBe happened facts shows start sockets peers browsers store history
-came_to_be logged follows standing visiting now_is places seats ended round = record {
+    → IsOfOne store.hill.settings peers.slots peers.under_way → CameToBe happened facts shows start sockets peers browsers store history
+came_to_be logged follows standing visiting now_is places seats ended round of_one = record {
   logged = logged;
   follows = follows;
   standing = standing;
@@ -79,4 +89,5 @@ came_to_be logged follows standing visiting now_is places seats ended round = re
   seats = seats;
   ended = ended;
   round = round;
+  of_one = of_one;
 }

@@ -1,14 +1,15 @@
 -- How a history goes on by what happens on the sockets.
 use Rattle.std.proofs.Common.{◌≡◌, ◌≢◌, ◌∙◌, ◌==◌, ℕ, ◌+◌, ◌<◌, ◌≤◌, Bool, true, true≢false, false, ap, arith, length, max, List, [], ◌∷◌, take, Option, None, Some, IsSome, is_some, Result, Ok, Err, refl, sym, subst}
 use Rattle.{sector_disk.specs.Facts.DeviceFacts, hill_store.specs.Seen.Seen, std.specs.declared.net.socket_addr.SocketAddr.SocketAddr}
-use Rattle.koth_session.specs.{Peer.{Closes, Sends, Takes}, Peers.{Connects, MovesAt, OnlyAt, Slots, end_in, is_finished_in, may_come_at, may_come_in, peer_at, unsent_at, unsent_in}}
+use Rattle.koth_session.{specs.Judge.{Fight, fighting, without}, proofs.Fights.{closes_still, of_moved, of_new, of_others, sends_still}}
+use Rattle.koth_session.specs.{Peer.{Closes, Sends, Takes}, Peers.{Connects, IsOfOne, MovesAt, OnlyAt, Slots, end_in, is_finished_in, may_come_at, may_come_in, peer_at, unsent_at, unsent_in}}
 use Rattle.koth_session.specs.declared.{peer.Peer.Peer, peers.{NotConnected.NotConnected, Step.Step}}
 use Rattle.koth_service.specs.{Noted.{Adds, Noted, Stays}, Seats.{OnlySeat, SeatMoves, Seats, seat_at, seat_drained, seat_heard, seat_new, seat_told}}
 use Rattle.koth_service.specs.Session.{Session, session_lost}
-use Rattle.koth_service.specs.{Moment.{Happening, Moment, Start, beginning, ended_in, moment, noted}, History.{MayDisconnect, OpensAgain, Reopens, Shows}}
+use Rattle.koth_service.specs.{Moment.{Happening, Moment, Start, beginning, ended_in, moment, noted, other_than}, History.{MayDisconnect, OpensAgain, Reopens, Shows}}
 use Rattle.koth_service.specs.Standing.{AwaitedIn, GoesOn, IsAtStage, IsCutOff, IsReopened, IsSoundAfter, PeersNow, StandsAfter, StandsAt, moved_to, peers_of, served_to, timed_to}
 use Rattle.koth_service.specs.declared.{connections.Stage.Stage, desk.Desk.Desk, host.HowEnded.HowEnded, seats.{Draining.Draining, Seat.Seat}}
-use Rattle.koth_service.proofs.{Causes.{finished_at, not_silent}, Stages.{came_to_be, safe_anew, safe_on}}
+use Rattle.koth_service.proofs.{Causes.{finished_at, not_silent}, Stages.{came_to_be, fighting_without, safe_anew, safe_on}}
 use Rattle.koth_service.proofs.Moments.{few_from, free_at, instead_same, owed_to, standing_came, standing_closed, standing_drained, standing_left, standing_lost, standing_new, standing_shut, standing_went, there_at}
 
 -- answers that there are
@@ -30,7 +31,7 @@ module _ {S D A : Type 0} (happened : S → List Noted → Type 0) (facts : Devi
   stays old new peers store same on =
       let before = on.1 in (
         on.0,
-        came_to_be (same (noted on.0) before.logged) before.follows before.standing before.visiting before.now_is before.places before.seats before.ended before.round,
+        came_to_be (same (noted on.0) before.logged) before.follows before.standing before.visiting before.now_is before.places before.seats before.ended before.round before.of_one,
         on.2,
       )
 
@@ -42,7 +43,7 @@ module _ {S D A : Type 0} (happened : S → List Noted → Type 0) (facts : Devi
       let before = on.1 in (
         (
           on.0,
-          came_to_be (same (noted on.0) before.logged) before.follows before.standing before.visiting before.now_is before.places before.seats before.ended before.round,
+          came_to_be (same (noted on.0) before.logged) before.follows before.standing before.visiting before.now_is before.places before.seats before.ended before.round before.of_one,
           on.2,
         ),
         may,
@@ -56,7 +57,7 @@ module _ {S D A : Type 0} (happened : S → List Noted → Type 0) (facts : Devi
       let round = before.round in (
         Happening.On (Noted.Clock time) ∷ on.0,
         came_to_be (adds (noted on.0) before.logged) (tt, before.follows) before.standing before.visiting before.now_is before.places before.seats before.ended
-            (record { clock = ap (λ c. max c time) round.clock ∙ sym is; read_at = round.read_at; turn = round.turn }),
+            (record { clock = ap (λ c. max c time) round.clock ∙ sym is; read_at = round.read_at; turn = round.turn; fighting = round.fighting }) before.of_one,
         safe_on on.2,
       )
 
@@ -72,7 +73,7 @@ module _ {S D A : Type 0} (happened : S → List Noted → Type 0) (facts : Devi
         Happening.On (Noted.Waited time) ∷ on.0,
         came_to_be (adds (noted on.0) before.logged)
             (λ p shut silent. not_silent p was.read_at m (peer_at was.slots p) (seat_at was.seats p) (before.standing p) round.read_at (awaited p) shut silent, before.follows)
-            before.standing before.visiting before.now_is before.places before.seats before.ended (record { clock = told; read_at = told; turn = round.turn }),
+            before.standing before.visiting before.now_is before.places before.seats before.ended (record { clock = told; read_at = told; turn = round.turn; fighting = round.fighting }) before.of_one,
         safe_on on.2,
       )
 
@@ -85,7 +86,7 @@ module _ {S D A : Type 0} (happened : S → List Noted → Type 0) (facts : Devi
         (
           Happening.On Noted.Arrived ∷ on.0,
           came_to_be (adds (noted on.0) before.logged) (tt, before.follows) before.standing before.visiting before.now_is before.places before.seats before.ended
-              (record { clock = round.clock; read_at = round.read_at; turn = round.turn }),
+              (record { clock = round.clock; read_at = round.read_at; turn = round.turn; fighting = round.fighting }) before.of_one,
           safe_on on.2,
         ),
         refl,
@@ -99,16 +100,16 @@ module _ {S D A : Type 0} (happened : S → List Noted → Type 0) (facts : Devi
       let round = before.round in (
         Happening.On Noted.Refused ∷ on.0,
         came_to_be (adds (noted on.0) before.logged) (tt, before.follows) before.standing before.visiting before.now_is before.places before.seats before.ended
-            (record { clock = round.clock; read_at = round.read_at; turn = round.turn }),
+            (record { clock = round.clock; read_at = round.read_at; turn = round.turn; fighting = round.fighting }) before.of_one,
         safe_on on.2,
       )
 
   -- a peer was seated
   pub seated : (old_sockets sockets : S) (was now : PeersNow A) (store : Seen D) (n : ℕ) (address : SocketAddr) → Connects (Ok n) was.slots now.slots → OnlySeat n was.seats now.seats
-      → (n < length was.seats → seat_at now.seats n ≡ Some (seat_new address was.clock)) → now.ended ≡ was.ended → now.turn ≡ was.turn → now.clock ≡ was.clock → now.read_at ≡ was.read_at
+      → (n < length was.seats → seat_at now.seats n ≡ Some (seat_new address was.clock)) → now.ended ≡ was.ended → now.turn ≡ was.turn → now.under_way ≡ was.under_way → now.clock ≡ was.clock → now.read_at ≡ was.read_at
       → Adds happened (Noted.Seated n) old_sockets sockets
       → GoesOn happened facts shows start old_sockets was browsers store → GoesOn happened facts shows start sockets now browsers store
-  seated old_sockets sockets was now store n address connects only sits ended turn clock read_at adds on =
+  seated old_sockets sockets was now store n address connects only sits ended turn under_way clock read_at adds on =
       let before = on.1 in
       let round = before.round in
       let m = moment start on.0 in
@@ -119,7 +120,9 @@ module _ {S D A : Type 0} (happened : S → List Noted → Type 0) (facts : Devi
         came_to_be (adds (noted on.0) before.logged) ((free_at m.sessions n was.slots was.seats connects.2 before.standing, few), before.follows)
             (standing_new m.sessions n m.round.clock connects.4 address was.slots now.slots was.seats now.seats connects.0 only connects.5 at connects.6 before.standing)
             before.visiting before.now_is (connects.0.size ∙ before.places) (only.size ∙ before.seats) (subst (λ (k : ℕ). k ≤ ended_in (noted on.0)) (sym ended) before.ended)
-            (record { clock = round.clock ∙ sym clock; read_at = round.read_at ∙ sym read_at; turn = round.turn ∙ sym turn }),
+            (record { clock = round.clock ∙ sym clock; read_at = round.read_at ∙ sym read_at; turn = round.turn ∙ sym turn; fighting = round.fighting ∙ sym (ap fighting under_way) })
+            (subst (λ (u : Option Fight). IsOfOne store.hill.settings now.slots u) (sym under_way)
+            (of_new store.hill.settings n was.slots now.slots was.under_way connects.0 connects.2 before.of_one)),
         safe_on on.2,
       )
 
@@ -150,7 +153,8 @@ module _ {S D A : Type 0} (happened : S → List Noted → Type 0) (facts : Devi
         came_to_be (adds (noted on.0) before.logged)
             ((there_at m.sessions n was.slots was.seats there before.standing, few_from m.sessions n bytes was.slots new was.seats there moves before.standing), before.follows)
             (standing_came m.sessions n bytes m.round.clock was.slots new was.seats seats moves heard before.standing) before.visiting before.now_is
-            (moves.only.size ∙ before.places) (hears.only.size ∙ before.seats) before.ended (record { clock = round.clock; read_at = round.read_at; turn = round.turn ∙ sym same }),
+            (moves.only.size ∙ before.places) (hears.only.size ∙ before.seats) before.ended (record { clock = round.clock; read_at = round.read_at; turn = round.turn ∙ sym same; fighting = round.fighting })
+            (of_moved (λ p q. Takes p bytes q) store.hill.settings n was.slots new was.under_way (λ p q takes due. takes.still due) moves before.of_one),
         safe_on on.2,
       )
 
@@ -163,7 +167,8 @@ module _ {S D A : Type 0} (happened : S → List Noted → Type 0) (facts : Devi
         Happening.On (Noted.AtEnd n) ∷ on.0,
         came_to_be (adds (noted on.0) before.logged) (tt, before.follows)
             (standing_closed (moment start on.0).sessions n was.slots new was.seats moves before.standing)
-            before.visiting before.now_is (moves.only.size ∙ before.places) before.seats before.ended (record { clock = round.clock; read_at = round.read_at; turn = round.turn ∙ sym same }),
+            before.visiting before.now_is (moves.only.size ∙ before.places) before.seats before.ended (record { clock = round.clock; read_at = round.read_at; turn = round.turn ∙ sym same; fighting = round.fighting })
+            (of_moved Closes store.hill.settings n was.slots new was.under_way closes_still moves before.of_one),
         safe_on on.2,
       )
 
@@ -179,7 +184,8 @@ module _ {S D A : Type 0} (happened : S → List Noted → Type 0) (facts : Devi
         Happening.On (Noted.Told n (take count (unsent_at was.slots n))) ∷ on.0,
         came_to_be (adds (noted on.0) before.logged) (owed_to m.sessions n count was.slots was.seats some before.standing, before.follows)
             (standing_went m.sessions n count m.round.clock was.slots new was.seats seats moves told before.standing) before.visiting before.now_is
-            (moves.only.size ∙ before.places) (tells.only.size ∙ before.seats) before.ended (record { clock = round.clock; read_at = round.read_at; turn = round.turn ∙ sym same }),
+            (moves.only.size ∙ before.places) (tells.only.size ∙ before.seats) before.ended (record { clock = round.clock; read_at = round.read_at; turn = round.turn ∙ sym same; fighting = round.fighting })
+            (of_moved (λ p q. Sends p count q) store.hill.settings n was.slots new was.under_way (sends_still count) moves before.of_one),
         safe_on on.2,
       )
 
@@ -194,7 +200,7 @@ module _ {S D A : Type 0} (happened : S → List Noted → Type 0) (facts : Devi
         Happening.On (Noted.Shut n) ∷ on.0,
         came_to_be (adds (noted on.0) before.logged) (finished_at (m.sessions n) (peer_at was.slots n) (seat_at was.seats n) (before.standing n) ended is, before.follows)
             (standing_shut m.sessions n draining was.slots was.seats seats drains before.standing) before.visiting before.now_is
-            before.places (drains.only.size ∙ before.seats) before.ended (record { clock = round.clock; read_at = round.read_at; turn = round.turn }),
+            before.places (drains.only.size ∙ before.seats) before.ended (record { clock = round.clock; read_at = round.read_at; turn = round.turn; fighting = round.fighting }) before.of_one,
         safe_on on.2,
       )
 
@@ -208,7 +214,7 @@ module _ {S D A : Type 0} (happened : S → List Noted → Type 0) (facts : Devi
         on.0,
         came_to_be (same (noted on.0) before.logged) before.follows
             (standing_drained (moment start on.0).sessions n draining was.slots was.seats seats shut_before drains before.standing) before.visiting before.now_is
-            before.places (drains.only.size ∙ before.seats) before.ended (record { clock = round.clock; read_at = round.read_at; turn = round.turn }),
+            before.places (drains.only.size ∙ before.seats) before.ended (record { clock = round.clock; read_at = round.read_at; turn = round.turn; fighting = round.fighting }) before.of_one,
         on.2,
       )
 
@@ -224,7 +230,7 @@ module _ {S D A : Type 0} (happened : S → List Noted → Type 0) (facts : Devi
         (
           Happening.On (Noted.Lost n) ∷ on.0,
           came_to_be (adds (noted on.0) before.logged) (tt, before.follows) (standing_lost m.sessions n was.slots was.seats before.standing) before.visiting before.now_is
-              before.places before.seats before.ended (record { clock = round.clock; read_at = round.read_at; turn = round.turn }),
+              before.places before.seats before.ended (record { clock = round.clock; read_at = round.read_at; turn = round.turn; fighting = round.fighting }) before.of_one,
           safe_on on.2,
         ),
         (
@@ -233,32 +239,41 @@ module _ {S D A : Type 0} (happened : S → List Noted → Type 0) (facts : Devi
         ),
       )
 
-  -- a peer was disconnected for a cause
-  pub left : (old_sockets sockets : S) (was now : PeersNow A) (store : Seen D) (n : ℕ) (how : HowEnded) → OnlyAt n was.slots now.slots
-      → peer_at now.slots n ≡ None → OnlySeat n was.seats now.seats → seat_at now.seats n ≡ None → now.ended ≤ was.ended + 1 → now.turn ≡ was.turn → now.clock ≡ was.clock
+  -- a peer was disconnected for a cause, and its submission is not under way any more
+  pub left : (old_sockets sockets : S) (was now : PeersNow A) (store same_store : Seen D) (n : ℕ) (how : HowEnded) → OnlyAt n was.slots now.slots
+      → peer_at now.slots n ≡ None → OnlySeat n was.seats now.seats → seat_at now.seats n ≡ None → now.ended ≤ was.ended + 1 → now.turn ≡ was.turn
+      → now.under_way ≡ without n was.under_way → same_store ≡ store → now.clock ≡ was.clock
       → now.read_at ≡ was.read_at → Adds happened (Noted.Closed n) old_sockets sockets
       → (on : GoesOn happened facts shows start old_sockets was browsers store) → MayDisconnect start.most n how (moment start on.0)
-      → GoesOn happened facts shows start sockets now browsers store
-  left old_sockets sockets was now store n how only free places empty more turn clock read_at adds on cause =
+      → GoesOn happened facts shows start sockets now browsers same_store
+  left old_sockets sockets was now store same_store n how only free places empty more turn under_way same clock read_at adds on cause =
       let before = on.1 in
       let round = before.round in
       let m = moment start on.0 in
       let counted : was.ended ≤ ended_in (noted on.0) = before.ended in
-      let counts : now.ended ≤ ended_in (noted on.0) + 1 = omega (arith, counted, more) in (
+      let counts : now.ended ≤ ended_in (noted on.0) + 1 = omega (arith, counted, more) in
+      let others : IsOfOne store.hill.settings now.slots now.under_way = subst (λ (u : Option Fight). IsOfOne store.hill.settings now.slots u) (sym under_way)
+      (of_others store.hill.settings n was.slots now.slots was.under_way only before.of_one) in (
         Happening.Disconnected n how ∷ on.0,
         came_to_be (adds (noted on.0) before.logged) (cause, before.follows)
-            (standing_left m.sessions n m.round.clock was.slots now.slots was.seats now.seats only places free empty before.standing) before.visiting before.now_is
+            (standing_left m.sessions n m.round.clock was.slots now.slots was.seats now.seats only places free empty before.standing) before.visiting (before.now_is ∙ sym same)
             (only.size ∙ before.places) (places.size ∙ before.seats) counts
-            (record { clock = round.clock ∙ sym clock; read_at = round.read_at ∙ sym read_at; turn = round.turn ∙ sym turn }),
+            (record {
+              clock = round.clock ∙ sym clock;
+              read_at = round.read_at ∙ sym read_at;
+              turn = round.turn ∙ sym turn;
+              fighting = ap (λ f. other_than n f) round.fighting ∙ sym (ap fighting under_way ∙ fighting_without n was.under_way);
+            })
+            (subst (λ (s : Seen D). IsOfOne s.hill.settings now.slots now.under_way) (sym same) others),
         safe_on on.2,
       )
 
   -- ---- the beginning, and a hill that was opened again
 
   pub begun : (sockets : S) (peers : PeersNow A) → ((p : ℕ) → peer_at peers.slots p ≡ None) → ((p : ℕ) → seat_at peers.seats p ≡ None) → ((p : ℕ) → browsers p ≡ None)
-      → peers.ended ≡ 0 → peers.turn ≡ 0 → peers.clock ≡ 0 → peers.read_at ≡ 0 → length peers.slots ≡ start.most → length peers.seats ≡ length peers.slots
+      → peers.ended ≡ 0 → peers.turn ≡ 0 → peers.under_way ≡ None → peers.clock ≡ 0 → peers.read_at ≡ 0 → length peers.slots ≡ start.most → length peers.seats ≡ length peers.slots
       → start.store.reopen ≡ false → happened sockets [] → GoesOn happened facts shows start sockets peers browsers start.store
-  begun sockets peers nobody empty nobody_visits no_ended turn clock read_at places seats sound none =
+  begun sockets peers nobody empty nobody_visits no_ended turn under_way clock read_at places seats sound none =
       let counts : peers.ended ≤ 0 = omega (arith, no_ended) in
       let m : Moment D = beginning start.store in (
         [],
@@ -266,30 +281,38 @@ module _ {S D A : Type 0} (happened : S → List Noted → Type 0) (facts : Devi
             (λ p. subst (λ (slot : Option (Peer A)). StandsAt (m.sessions p) slot (seat_at peers.seats p)) (sym (nobody p))
             (subst (λ (seat : Option Seat). StandsAt {A = A} (m.sessions p) None seat) (sym (empty p)) refl))
             (λ p. subst (λ (stage : Option (Stage A)). IsAtStage (m.browsers p) stage) (sym (nobody_visits p)) refl) refl places (seats ∙ places) counts
-            (record { clock = sym clock; read_at = sym read_at; turn = sym turn }),
+            (record { clock = sym clock; read_at = sym read_at; turn = sym turn; fighting = sym (ap fighting under_way) })
+            (subst (λ (u : Option Fight). IsOfOne start.store.hill.settings peers.slots u) (sym under_way) tt),
         safe_anew facts m.sessions m.browsers m.round start.store sound,
       )
 
   -- the desk that is sound again goes on
-  opened_again : (old new : Desk D A) (sockets : S) → IsReopened facts old new → IsCutOff happened facts shows start sockets (peers_of old) browsers old.store
-      → GoesOn happened facts shows start sockets (peers_of old) browsers new.store
+  opened_again : (old new : Desk D A) (sockets : S) → IsReopened facts old new → IsCutOff happened facts shows start sockets (peers_of old) browsers old.judge.store
+      → GoesOn happened facts shows start sockets (peers_of old) browsers new.judge.store
   opened_again old new sockets is cut =
       let before = cut.1 in
       let m : Moment D = moment start cut.0 in
-      let reopens : Reopens facts new.store m = record {
+      let reopens : Reopens facts new.judge.store m = record {
         failed = ap (λ (s : Seen D). s.reopen) before.now_is ∙ cut.2;
         open_now = is.open_now;
-        again = subst (λ (s : Seen D). OpensAgain facts s.device new.store) (sym before.now_is) is.again;
+        again = subst (λ (s : Seen D). OpensAgain facts s.device new.judge.store) (sym before.now_is) is.again;
       } in (
-        Happening.Reopened new.store ∷ cut.0,
-        came_to_be before.logged (reopens, before.follows) before.standing before.visiting refl before.places before.seats before.ended before.round,
-        safe_anew facts m.sessions m.browsers m.round new.store is.open_now,
+        Happening.Reopened new.judge.store ∷ cut.0,
+        came_to_be before.logged (reopens, before.follows) before.standing before.visiting refl before.places before.seats before.ended before.round
+            (subst (λ (u : Option Fight). IsOfOne new.judge.store.hill.settings old.peers.slots.items u) (sym cut.3) tt),
+        safe_anew facts m.sessions m.browsers m.round new.judge.store is.open_now,
       )
 
+  -- the desk is the same
+  same_desk : (old new : Desk D A) (sockets : S) → new ≡ old → GoesOn happened facts shows start sockets (peers_of old) browsers old.judge.store
+      → GoesOn happened facts shows start sockets (peers_of new) browsers new.judge.store
+  same_desk old new sockets same on = subst (λ (desk : Desk D A). GoesOn happened facts shows start sockets (peers_of desk) browsers desk.judge.store) (sym same) on
+
   pub sound_after : (step : Step) (old new : Desk D A) (sockets : S) → IsSoundAfter facts step old new
-      → StandsAfter happened facts shows step start sockets (peers_of old) browsers old.store → GoesOn happened facts shows start sockets (peers_of new) browsers new.store
-  sound_after Step.Nobody old new sockets same on = subst (λ (desk : Desk D A). GoesOn happened facts shows start sockets (peers_of desk) browsers desk.store) (sym same) on
-  sound_after (Step.Served n) old new sockets same on = subst (λ (desk : Desk D A). GoesOn happened facts shows start sockets (peers_of desk) browsers desk.store) (sym same) on
-  sound_after (Step.Asked n) old new sockets same on = subst (λ (desk : Desk D A). GoesOn happened facts shows start sockets (peers_of desk) browsers desk.store) (sym same) on
+      → StandsAfter happened facts shows step start sockets (peers_of old) browsers old.judge.store → GoesOn happened facts shows start sockets (peers_of new) browsers new.judge.store
+  sound_after Step.Nobody old new sockets same on = same_desk old new sockets same on
+  sound_after (Step.Served n) old new sockets same on = same_desk old new sockets same on
+  sound_after (Step.Stepped n) old new sockets same on = same_desk old new sockets same on
+  sound_after (Step.Asked n) old new sockets same on = same_desk old new sockets same on
   sound_after (Step.StoreFailed n) old new sockets is cut =
-      subst (λ (peers : PeersNow A). GoesOn happened facts shows start sockets peers browsers new.store) (sym is.peers) (opened_again old new sockets is cut)
+      subst (λ (peers : PeersNow A). GoesOn happened facts shows start sockets peers browsers new.judge.store) (sym (is.peers cut.3)) (opened_again old new sockets is cut)

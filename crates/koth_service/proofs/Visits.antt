@@ -26,7 +26,7 @@ module _ {S D A : Type 0} (happened : S → List Noted → Type 0) (facts : Devi
       let before = on.1 in (
         on.0,
         came_to_be before.logged before.follows before.standing
-            (stages_over (moment start on.0).browsers browsers n stage before.visiting) before.now_is before.places before.seats before.ended before.round,
+            (stages_over (moment start on.0).browsers browsers n stage before.visiting) before.now_is before.places before.seats before.ended before.round before.of_one,
         on.2,
       )
 
@@ -38,7 +38,7 @@ module _ {S D A : Type 0} (happened : S → List Noted → Type 0) (facts : Devi
       let b = browser_anew true in (
         Happening.On (Noted.Admitted n) ∷ on.0,
         came_to_be (adds (noted on.0) before.logged) (stage_here m.browsers browsers n None before.visiting, before.follows) before.standing
-            (stages_with m.browsers browsers n b None (Some (Stage.Asking [])) refl before.visiting) before.now_is before.places before.seats before.ended before.round,
+            (stages_with m.browsers browsers n b None (Some (Stage.Asking [])) refl before.visiting) before.now_is before.places before.seats before.ended before.round before.of_one,
         safe_on on.2,
       )
 
@@ -53,7 +53,7 @@ module _ {S D A : Type 0} (happened : S → List Noted → Type 0) (facts : Devi
         Happening.On (Noted.Requested n bytes) ∷ on.0,
         came_to_be (adds (noted on.0) before.logged) (tt, before.follows) before.standing
             (stages_with m.browsers browsers n b (Some (Stage.Asking visit)) (Some (Stage.Asking (visit ++ bytes))) (ap (λ (x : Browser). browser_came bytes x) here) before.visiting)
-            before.now_is before.places before.seats before.ended before.round,
+            before.now_is before.places before.seats before.ended before.round before.of_one,
         safe_on on.2,
       )
 
@@ -65,7 +65,7 @@ module _ {S D A : Type 0} (happened : S → List Noted → Type 0) (facts : Devi
       let b = browser_came bytes (m.browsers n) in (
         Happening.On (Noted.Requested n bytes) ∷ on.0,
         came_to_be (adds (noted on.0) before.logged) (tt, before.follows) before.standing
-            (stages_with m.browsers browsers n b (Some Stage.Parting) (Some Stage.Parting) tt before.visiting) before.now_is before.places before.seats before.ended before.round,
+            (stages_with m.browsers browsers n b (Some Stage.Parting) (Some Stage.Parting) tt before.visiting) before.now_is before.places before.seats before.ended before.round before.of_one,
         safe_on on.2,
       )
 
@@ -88,7 +88,7 @@ module _ {S D A : Type 0} (happened : S → List Noted → Type 0) (facts : Devi
         Happening.Replied n reply ∷ on.0,
         came_to_be before.logged (replies, before.follows) before.standing
             (stages_with m.browsers browsers n b (Some (Stage.Asking visit)) (Some (Stage.Answering reply)) (ap (λ (x : Browser). x.went ++ reply) here) before.visiting)
-            before.now_is before.places before.seats before.ended before.round,
+            before.now_is before.places before.seats before.ended before.round before.of_one,
         safe_on on.2,
       )
 
@@ -105,7 +105,7 @@ module _ {S D A : Type 0} (happened : S → List Noted → Type 0) (facts : Devi
       append_assoc now.went (take count unsent) (drop count unsent) ∙ ap (λ l. now.went ++ l) (take-append-drop count unsent) ∙ here in (
         Happening.On (Noted.Shown n (take count unsent)) ∷ on.0,
         came_to_be (adds (noted on.0) before.logged) ((drop count unsent, sym all), before.follows) before.standing
-            (stages_with m.browsers browsers n b (Some (Stage.Answering unsent)) (Some (Stage.Answering (drop count unsent))) all before.visiting) before.now_is before.places before.seats before.ended before.round,
+            (stages_with m.browsers browsers n b (Some (Stage.Answering unsent)) (Some (Stage.Answering (drop count unsent))) all before.visiting) before.now_is before.places before.seats before.ended before.round before.of_one,
         safe_on on.2,
       )
 
@@ -117,7 +117,7 @@ module _ {S D A : Type 0} (happened : S → List Noted → Type 0) (facts : Devi
       let b = browser_anew false in (
         Happening.On (Noted.Left n) ∷ on.0,
         came_to_be (adds (noted on.0) before.logged) (tt, before.follows) before.standing
-            (stages_with m.browsers browsers n b stage None refl before.visiting) before.now_is before.places before.seats before.ended before.round,
+            (stages_with m.browsers browsers n b stage None refl before.visiting) before.now_is before.places before.seats before.ended before.round before.of_one,
         safe_on on.2,
       )
 
@@ -164,7 +164,7 @@ module _ {S D A : Type 0} (happened : S → List Noted → Type 0) (facts : Devi
       let m = moment start on.0 in (
         on.0,
         came_to_be before.logged before.follows before.standing
-            (λ p. subst (λ (stage : Option (Stage A)). IsAtStage (m.browsers p) stage) (sym (is p)) (before.visiting p)) before.now_is before.places before.seats before.ended before.round,
+            (λ p. subst (λ (stage : Option (Stage A)). IsAtStage (m.browsers p) stage) (sym (is p)) (before.visiting p)) before.now_is before.places before.seats before.ended before.round before.of_one,
         on.2,
       )
 

@@ -85,6 +85,6 @@ abbrev pub AllGoOn : {S D A : Type 0} → (S → List Noted → Type 0) → Devi
     → S → Desk D A → Browsers A → Type 0
 AllGoOn {S} {D} {A} happened facts shows sockets desk browsers new_sockets new_desk new_browsers =
     (start : Start D)
-    → GoesOn happened facts shows start sockets (peers_of desk) (stage_at browsers.connections.items) desk.store
+    → GoesOn happened facts shows start sockets (peers_of desk) (stage_at browsers.connections.items) desk.judge.store
     → GoesOn happened facts shows start new_sockets (peers_of new_desk)
-    (stage_at new_browsers.connections.items) new_desk.store
+    (stage_at new_browsers.connections.items) new_desk.judge.store

@@ -1,7 +1,7 @@
 -- What may happen in a service.
 use Rattle.std.specs.Prelude.{◌≡◌, ◌⊎◌, ⊤, ℕ, ◌-◌, ◌<◌, ◌≤◌, true, false, List, [], ◌∷◌, ◌++◌, length}
 use Rattle.std.specs.Prelude.{Option, None, Some, IsSome}
-use Rattle.{sector_disk.specs.{Facts.DeviceFacts, Served.IsKept}, hill_store.specs.{Opened.IsOpened, Seen.{MayBeSpent, Seen}}}
+use Rattle.{sector_disk.specs.{Facts.DeviceFacts, Served.IsKept}, hill_store.specs.{Opened.IsOpened, Seen.{Assembled, MayBeSpent, Seen}}}
 use Rattle.koth_protocol.specs.Commands.{Command, Reader, commands_read}
 use Rattle.koth_session.specs.{Sessions.{AreServed, IsLeftOff, KeepsCut, KeepsList}, Transcript.{Exchange, command_in}}
 use Rattle.koth_session.specs.{Peer.IsFull, Peers.ComesBefore, declared.end.PeerEnd.PeerEnd}
@@ -18,17 +18,31 @@ Begins {T} short long = (rest : List T) × (long ≡ short ++ rest)
 abbrev pub HasNothingDue : Session → Type 0
 HasNothingDue s = IsSome s.over ⊎ (commands_read Reader.Session s.came ≡ s.done)
 
--- The peers of which a command may be carried out at this moment: all that are there and have one due.
+-- its next command is no submission
+abbrev pub SubmitsNothing : Session → Type 0
+SubmitsNothing s =
+    (source : List ℕ) → ¬ (Begins (s.done ++ Command.Submit source ∷ []) (commands_read Reader.Session s.came))
+
+-- While the submission of a peer is under way, the others have to wait with theirs: only its own goes on. Whatever is
+-- no submission is carried out meanwhile.
+abbrev pub IsBeside : Option ℕ → ℕ → Session → Type 0
+IsBeside None p s = ⊤
+IsBeside (Some k) p s = (p ≡ k) ⊎ SubmitsNothing s
+
+-- The peers of which a command may be carried out at this moment: all that are there and have one due. While a
+-- submission is under way, these are its own peer, of which it is the command, and those whose command is none.
 abbrev pub MayBeServed : {D : Type 0} → Moment D → ℕ → Type 0
-MayBeServed m p = ((m.sessions p).there ≡ true) × ¬ (HasNothingDue (m.sessions p))
+MayBeServed m p =
+    ((m.sessions p).there ≡ true) × ¬ (HasNothingDue (m.sessions p)) × IsBeside m.round.fighting p (m.sessions p)
 
 -- It is this peer's turn to have this command carried out: the command is the next one in what came, and came before
--- any request of a browser; no command ended its session; and of no peer before it, from the one served last on and
--- going round, one may be carried out.
+-- any request of a browser; no command ended its session; if the submission of another is under way, the command is
+-- none; and of no peer before it, from the one served last on and going round, one may be carried out.
 pub record IsTurn {D : Type 0} (n : ℕ) (command : Command) (m : Moment D) : Type 0 where
   pub in_turn : (reader : Reader)
       → Begins ((m.sessions n).done ++ command ∷ []) (commands_read reader (m.sessions n).came)
   pub goes_on : (m.sessions n).over ≡ None
+  pub beside : IsBeside m.round.fighting n (m.sessions n)
   pub first : (p : ℕ) → ComesBefore m.round.turn p n → ¬ (MayBeServed m p)
 
 -- ---- commands that are carried out
@@ -47,6 +61,13 @@ pub record Answers {D : Type 0} (facts : DeviceFacts D) (n : ℕ) (e : Exchange)
   pub turn : IsTurn n (command_in e) m
   pub served : AreServed facts m.now new (e ∷ [])
   pub safe : IsSafe facts (answered n e new m)
+
+-- A submission of this peer was begun or fought on in its turn, on the hill as it is: its source gives a warrior.
+-- Nothing was answered, and neither the hill nor any image of the device changed.
+pub record Fights {D : Type 0} (n : ℕ) (source : List ℕ) (m : Moment D) : Type 0 where
+  pub turn : IsTurn n (Command.Submit source) m
+  pub sound : m.now.reopen ≡ false
+  pub assembled : Assembled m.now source
 
 -- The device failed in a submission of this peer in its turn, and had failed in none before: each image has what was
 -- answered, with this submission or without it.
@@ -172,7 +193,7 @@ MayDisconnect most n how m = ((m.sessions n).there ≡ true) × IsCause most n h
 
 -- A number that is free, and below `most`, is given to a peer; or one that is free to a browser. At most 16,777,216
 -- bytes come from a peer. What goes out to a peer is the next of what it is owed, and its commands are carried out in
--- their order. No wait begins while a peer that was not shut is silent for too long. A peer's writing side is shut
+-- their order, one submission after the other. No wait begins while a peer that was not shut is silent for too long. A peer's writing side is shut
 -- once its session has ended and all answers went out, and its socket is closed for a cause. Each browser is given
 -- one answer at most, and what goes out to it is the next of that.
 abbrev pub Follows : {D : Type 0} → DeviceFacts D → Shows D → ℕ → Happening D → Moment D → Type 0
@@ -196,6 +217,7 @@ Follows facts shows most (Happening.On (Noted.Shown n bytes)) m =
 Follows facts shows most (Happening.On (Noted.Left n)) m = ⊤
 Follows facts shows most (Happening.Answered n e new) m = Answers facts n e new m
 Follows facts shows most (Happening.Stopped n end) m = Stops (shows m.now).steps n end m
+Follows facts shows most (Happening.Stepped n source) m = Fights n source m
 Follows facts shows most (Happening.CutOff n source new) m = Breaks facts n source new m
 Follows facts shows most (Happening.Reopened new) m = Reopens facts new m
 Follows facts shows most (Happening.Disconnected n how) m = MayDisconnect most n how m

@@ -1,6 +1,7 @@
 -- What happens in a service: on the sockets, and the commands and answers to browsers in between. And how it stands
 -- then.
 use Rattle.std.specs.Prelude.{ℕ, ◌+◌, ◌==◌, max, Bool, true, false, if◌then◌else◌, List, [], ◌∷◌, ◌++◌}
+use Rattle.std.specs.Prelude.{Option, None, Some}
 use Rattle.{hill_store.specs.Seen.Seen, koth_session.specs.Transcript.{Exchange, answer, command_in}}
 use Rattle.koth_session.specs.declared.end.PeerEnd.{PeerEnd}
 use Rattle.koth_service.specs.{Noted.Noted, Session.{Browser, Session, browser_anew, browser_came}}
@@ -10,12 +11,13 @@ use Rattle.koth_service.specs.Session.{session_over, session_shut, session_went}
 use Rattle.koth_service.specs.declared.host.HowEnded.{HowEnded}
 
 -- Something happened on the sockets. A command of a peer was carried out, and this is the store then. A command that
--- is due of a peer ended its session. The device failed in a submission of a peer. The hill was opened again. A peer
--- was disconnected for this cause. Or a browser was given this answer.
+-- is due of a peer ended its session. A submission of a peer was begun with this source, or fought on. The device failed in a submission of
+-- a peer. The hill was opened again. A peer was disconnected for this cause. Or a browser was given this answer.
 pub data Happening (D : Type 0) : Type 0 where
   On : Noted → Happening D
   Answered : ℕ → Exchange → Seen D → Happening D
   Stopped : ℕ → PeerEnd → Happening D
+  Stepped : ℕ → List ℕ → Happening D
   CutOff : ℕ → List ℕ → Seen D → Happening D
   Reopened : Seen D → Happening D
   Disconnected : ℕ → HowEnded → Happening D
@@ -27,6 +29,7 @@ noted [] = []
 noted (Happening.On what ∷ older) = what ∷ noted older
 noted (Happening.Answered n e new ∷ older) = noted older
 noted (Happening.Stopped n end ∷ older) = noted older
+noted (Happening.Stepped n source ∷ older) = noted older
 noted (Happening.CutOff n source new ∷ older) = noted older
 noted (Happening.Reopened new ∷ older) = noted older
 noted (Happening.Disconnected n how ∷ older) = Noted.Closed n ∷ noted older
@@ -53,13 +56,14 @@ ended_in (Noted.Left n ∷ older) = ended_in older
 
 -- ---- how it stands then
 
--- The time that was told last, and at the end of the last wait; whether a connection waits for a number; and the
--- number from which the turn goes on.
+-- The time that was told last, and at the end of the last wait; whether a connection waits for a number; the
+-- number from which the turn goes on; and that of the peer whose submission is under way.
 pub record Round : Type 0 where
   pub clock : ℕ
   pub read_at : ℕ
   pub waits : Bool
   pub turn : ℕ
+  pub fighting : Option ℕ
 
 -- The peers and the browsers by their numbers; the round; the store; and since it was opened last, how it was then
 -- and what was carried out.
@@ -80,7 +84,7 @@ abbrev pub beginning : {D : Type 0} → Seen D → Moment D
 beginning start = record {
   sessions = λ p. session_anew false 0;
   browsers = λ p. browser_anew false;
-  round = record { clock = 0; read_at = 0; waits = false; turn = 0 };
+  round = record { clock = 0; read_at = 0; waits = false; turn = 0; fighting = None };
   now = start;
   first = start;
   since = [];
@@ -122,18 +126,45 @@ with_round round m = record {
 
 -- the time was told, or it was told at the end of a wait
 abbrev pub round_at : ℕ → Round → Round
-round_at t r = record { clock = max r.clock t; read_at = r.read_at; waits = r.waits; turn = r.turn }
+round_at t r =
+    record { clock = max r.clock t; read_at = r.read_at; waits = r.waits; turn = r.turn; fighting = r.fighting }
 
 abbrev pub round_waited : ℕ → Round → Round
-round_waited t r = record { clock = max r.clock t; read_at = max r.clock t; waits = r.waits; turn = r.turn }
+round_waited t r =
+    record { clock = max r.clock t; read_at = max r.clock t; waits = r.waits; turn = r.turn; fighting = r.fighting }
 
 -- a connection waits for a number, or none does
 abbrev pub round_waits : Bool → Round → Round
-round_waits is r = record { clock = r.clock; read_at = r.read_at; waits = is; turn = r.turn }
+round_waits is r = record { clock = r.clock; read_at = r.read_at; waits = is; turn = r.turn; fighting = r.fighting }
 
--- the turn goes on after this number
+-- the submission of this peer is not under way
+abbrev pub other_than : ℕ → Option ℕ → Option ℕ
+other_than n None = None
+other_than n (Some k) = if n == k then None else Some k
+
+abbrev pub round_without : ℕ → Round → Round
+round_without n r = record {
+  clock = r.clock;
+  read_at = r.read_at;
+  waits = r.waits;
+  turn = r.turn;
+  fighting = other_than n r.fighting;
+}
+
+-- and the turn goes on after this number
 abbrev pub round_after : ℕ → Round → Round
-round_after n r = record { clock = r.clock; read_at = r.read_at; waits = r.waits; turn = n + 1 }
+round_after n r = record {
+  clock = r.clock;
+  read_at = r.read_at;
+  waits = r.waits;
+  turn = n + 1;
+  fighting = other_than n r.fighting;
+}
+
+-- or it is under way, and the turn goes on after this number
+abbrev pub round_stepped : ℕ → Round → Round
+round_stepped n r =
+    record { clock = r.clock; read_at = r.read_at; waits = r.waits; turn = n + 1; fighting = Some n }
 
 -- a command was carried out on the store as it was, and its answer is owed to the peer
 abbrev pub answered : {D : Type 0} → ℕ → Exchange → Seen D → Moment D → Moment D
@@ -183,9 +214,11 @@ next (Happening.On (Noted.Shown n bytes)) m = with_browser n (browser_went bytes
 next (Happening.On (Noted.Left n)) m = with_browser n (browser_anew false) m
 next (Happening.Answered n e new) m = answered n e new m
 next (Happening.Stopped n end) m = stopped n end m.now m
+next (Happening.Stepped n source) m = with_round (round_stepped n m.round) m
 next (Happening.CutOff n source new) m = stopped n PeerEnd.StoreFailed new m
 next (Happening.Reopened new) m = reopened new m
-next (Happening.Disconnected n how) m = with_session n (session_anew false m.round.clock) m
+next (Happening.Disconnected n how) m =
+    with_round (round_without n m.round) (with_session n (session_anew false m.round.clock) m)
 next (Happening.Replied n reply) m = with_browser n (browser_replied reply (m.browsers n)) m
 
 -- how it stands after a history, the latest first

@@ -3,7 +3,7 @@ use Rattle.std.specs.Prelude.{◌≡◌, ◌⊎◌, ⊤, ℕ, ◌≤◌, true, f
 use Rattle.std.specs.Prelude.{Option, None, Some, IsSome, Result, IfOk}
 use Rattle.{war_types.specs.declared.settings.RawSettings.RawSettings, sector_disk.specs.Facts.DeviceFacts}
 use Rattle.{hill_store.specs.{Holding.IsHolding, Seen.Seen}, koth_protocol.specs.Commands.Reader}
-use Rattle.koth_session.specs.{Peer.IsPeer, Peers.{OnlyAt, Slots, is_due_in, peer_at}}
+use Rattle.koth_session.specs.{Judge.{Fight, fighting}, Peer.IsPeer, Peers.{IsOfOne, OnlyAt, Slots, is_due_in, peer_at}}
 use Rattle.koth_session.specs.declared.{end.PeerEnd.PeerEnd, peer.Peer.Peer, peers.Step.Step}
 use Rattle.koth_service.specs.{Noted.Noted, Seats.{IsPatienceOver, OnlySeat, Seats, has_some, seat_at}}
 use Rattle.koth_service.specs.Session.{Browser, Session}
@@ -60,13 +60,14 @@ IsAtStage b (Some Stage.Parting) = ⊤
 abbrev pub AreAtStages : {A : Type 0} → (ℕ → Browser) → (ℕ → Option (Stage A)) → Type 0
 AreAtStages browsers at = (p : ℕ) → IsAtStage (browsers p) (at p)
 
--- the peers by their numbers with their seats; how many sessions have ended at least; the turn, the time, and when
--- bytes were read last
+-- the peers by their numbers with their seats; how many sessions have ended at least; the turn, the submission that
+-- is under way, the time, and when bytes were read last
 pub record PeersNow (A : Type 0) : Type 0 where
   pub slots : Slots A
   pub seats : Seats
   pub ended : ℕ
   pub turn : ℕ
+  pub under_way : Option Fight
   pub clock : ℕ
   pub read_at : ℕ
 
@@ -76,6 +77,7 @@ peers_of desk = record {
   seats = desk.seats.seats.items;
   ended = desk.sessions.ended;
   turn = desk.peers.next;
+  under_way = desk.judge.under_way;
   clock = desk.clock;
   read_at = desk.read_at;
 }
@@ -87,6 +89,7 @@ moved_to slots seats peers = record {
   seats = seats;
   ended = peers.ended;
   turn = peers.turn;
+  under_way = peers.under_way;
   clock = peers.clock;
   read_at = peers.read_at;
 }
@@ -98,6 +101,19 @@ served_to slots seats turn peers = record {
   seats = seats;
   ended = peers.ended;
   turn = turn;
+  under_way = peers.under_way;
+  clock = peers.clock;
+  read_at = peers.read_at;
+}
+
+-- and with this submission under way
+abbrev pub fought_to : {A : Type 0} → Slots A → Seats → ℕ → Option Fight → PeersNow A → PeersNow A
+fought_to slots seats turn under_way peers = record {
+  slots = slots;
+  seats = seats;
+  ended = peers.ended;
+  turn = turn;
+  under_way = under_way;
   clock = peers.clock;
   read_at = peers.read_at;
 }
@@ -109,15 +125,17 @@ timed_to clock read_at peers = record {
   seats = peers.seats;
   ended = peers.ended;
   turn = peers.turn;
+  under_way = peers.under_way;
   clock = clock;
   read_at = read_at;
 }
 
--- the round has the same times, and the same turn
+-- the round has the same times, and the same turn, and the submission of the same peer is under way
 pub record IsRound {A : Type 0} (round : Round) (peers : PeersNow A) : Type 0 where
   pub clock : round.clock ≡ peers.clock
   pub read_at : round.read_at ≡ peers.read_at
   pub turn : round.turn ≡ peers.turn
+  pub fighting : round.fighting ≡ fighting peers.under_way
 
 -- the sessions, the connections and the store are as this history left them, and it is true of the sockets
 pub record CameToBe {S D A : Type 0} (happened : S → List Noted → Type 0) (facts : DeviceFacts D) (shows : Shows D)
@@ -132,6 +150,7 @@ pub record CameToBe {S D A : Type 0} (happened : S → List Noted → Type 0) (f
   pub seats : length peers.seats ≡ start.most
   pub ended : peers.ended ≤ ended_in (noted history)
   pub round : IsRound (moment start history).round peers
+  pub of_one : IsOfOne store.hill.settings peers.slots peers.under_way
 
 -- as some history left them, in which the device is sound
 abbrev pub GoesOn : {S D A : Type 0} → (S → List Noted → Type 0) → DeviceFacts D → Shows D → Start D → S → PeersNow A
@@ -140,29 +159,29 @@ GoesOn {S} {D} {A} happened facts shows start sockets peers browsers store =
     (history : List (Happening D)) × CameToBe happened facts shows start sockets peers browsers store history
     × IsSafe facts (moment start history)
 
--- as some history left them, and the device has failed
+-- as some history left them, and the device has failed: no submission is under way
 abbrev pub IsCutOff : {S D A : Type 0} → (S → List Noted → Type 0) → DeviceFacts D → Shows D → Start D → S → PeersNow A
     → (ℕ → Option (Stage A)) → Seen D → Type 0
 IsCutOff {S} {D} {A} happened facts shows start sockets peers browsers store =
     (history : List (Happening D)) × CameToBe happened facts shows start sockets peers browsers store history
-    × (store.reopen ≡ true)
+    × (store.reopen ≡ true) × (peers.under_way ≡ None)
 
 -- the service goes on as it did, however the browsers stand
 abbrev pub KeepsOn : {S D A : Type 0} → (S → List Noted → Type 0) → DeviceFacts D → Shows D → S → Desk D A → S
     → Desk D A → Type 0
 KeepsOn {S} {D} {A} happened facts shows sockets desk new_sockets new_desk =
     (start : Start D) (browsers : ℕ → Option (Stage A))
-    → GoesOn happened facts shows start sockets (peers_of desk) browsers desk.store
-    → GoesOn happened facts shows start new_sockets (peers_of new_desk) browsers new_desk.store
+    → GoesOn happened facts shows start sockets (peers_of desk) browsers desk.judge.store
+    → GoesOn happened facts shows start new_sockets (peers_of new_desk) browsers new_desk.judge.store
 
 -- the same, if this is so at the moment to which the history led
 abbrev pub KeepsOnWhere : {S D A : Type 0} → (Start D → Moment D → Type 0) → (S → List Noted → Type 0) → DeviceFacts D
     → Shows D → S → Desk D A → S → Desk D A → Type 0
 KeepsOnWhere {S} {D} {A} P happened facts shows sockets desk new_sockets new_desk =
     (start : Start D) (browsers : ℕ → Option (Stage A))
-    → (on : GoesOn happened facts shows start sockets (peers_of desk) browsers desk.store)
+    → (on : GoesOn happened facts shows start sockets (peers_of desk) browsers desk.judge.store)
     → P start (moment start on.0)
-    → GoesOn happened facts shows start new_sockets (peers_of new_desk) browsers new_desk.store
+    → GoesOn happened facts shows start new_sockets (peers_of new_desk) browsers new_desk.judge.store
 
 -- if the peer of this number may be disconnected for this cause
 abbrev pub LeavesFor : {S D A : Type 0} → (S → List Noted → Type 0) → DeviceFacts D → Shows D → ℕ → HowEnded → S
@@ -182,6 +201,8 @@ StandsAfter happened facts shows Step.Nobody start sockets peers browsers store 
     GoesOn happened facts shows start sockets peers browsers store
 StandsAfter happened facts shows (Step.Served n) start sockets peers browsers store =
     GoesOn happened facts shows start sockets peers browsers store
+StandsAfter happened facts shows (Step.Stepped n) start sockets peers browsers store =
+    GoesOn happened facts shows start sockets peers browsers store
 StandsAfter happened facts shows (Step.Asked n) start sockets peers browsers store =
     GoesOn happened facts shows start sockets peers browsers store
 StandsAfter happened facts shows (Step.StoreFailed n) start sockets peers browsers store =
@@ -192,8 +213,8 @@ abbrev pub KeepsOnBy : {S D A : Type 0} → (S → List Noted → Type 0) → De
     → Desk D A → Type 0
 KeepsOnBy {S} {D} {A} happened facts shows step sockets desk new_sockets new_desk =
     (start : Start D) (browsers : ℕ → Option (Stage A))
-    → GoesOn happened facts shows start sockets (peers_of desk) browsers desk.store
-    → StandsAfter happened facts shows step start new_sockets (peers_of new_desk) browsers new_desk.store
+    → GoesOn happened facts shows start sockets (peers_of desk) browsers desk.judge.store
+    → StandsAfter happened facts shows step start new_sockets (peers_of new_desk) browsers new_desk.judge.store
 
 -- ---- one peer moves on
 
@@ -221,14 +242,15 @@ AreAwaited desk = (p : ℕ) → IsAwaited p desk
 
 -- the same peers, and the hill of this device opened again
 pub record IsReopened {D A : Type 0} (facts : DeviceFacts D) (old new : Desk D A) : Type 0 where
-  pub peers : peers_of new ≡ peers_of old
-  pub open_now : new.store.reopen ≡ false
-  pub again : OpensAgain facts old.store.device new.store
+  pub peers : old.judge.under_way ≡ None → peers_of new ≡ peers_of old
+  pub open_now : new.judge.store.reopen ≡ false
+  pub again : OpensAgain facts old.judge.store.device new.judge.store
 
 -- the same sessions, on the same store, or on one that was opened again if the device failed in this step
 abbrev pub IsSoundAfter : {D A : Type 0} → DeviceFacts D → Step → Desk D A → Desk D A → Type 0
 IsSoundAfter facts Step.Nobody old new = new ≡ old
 IsSoundAfter facts (Step.Served n) old new = new ≡ old
+IsSoundAfter facts (Step.Stepped n) old new = new ≡ old
 IsSoundAfter facts (Step.Asked n) old new = new ≡ old
 IsSoundAfter facts (Step.StoreFailed n) old new = IsReopened facts old new
 
@@ -261,7 +283,7 @@ abbrev pub start_of : {D : Type 0} → Seen D → ℕ → Start D
 start_of store most = record { store = store; most = most }
 
 abbrev pub start_at : {D A : Type 0} → Desk D A → Start D
-start_at desk = start_of desk.store (length desk.peers.slots.items)
+start_at desk = start_of desk.judge.store (length desk.peers.slots.items)
 
 -- nobody is at the desk yet, and its store takes submissions
 pub record IsBegun {D A : Type 0} (desk : Desk D A) : Type 0 where
@@ -270,6 +292,7 @@ pub record IsBegun {D A : Type 0} (desk : Desk D A) : Type 0 where
   pub places : length desk.seats.seats.items ≡ length desk.peers.slots.items
   pub ended : desk.sessions.ended ≡ 0
   pub turn : desk.peers.next ≡ 0
+  pub under_way : desk.judge.under_way ≡ None
   pub clock : desk.clock ≡ 0
   pub read_at : desk.read_at ≡ 0
-  pub sound : desk.store.reopen ≡ false
+  pub sound : desk.judge.store.reopen ≡ false

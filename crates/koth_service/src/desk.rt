@@ -1,4 +1,4 @@
-//! The peers, the store and the seats together, and how a peer is disconnected.
+//! The peers, the judge with its store, and the seats together, and how a peer is disconnected.
 #![tactic(auto, using(crate::proofs::Told::stays))]
 
 ghost use Rattle.std.specs.Prelude.{◌≡◌, ◌≢◌, ℕ, ◌+◌, ◌≤◌, length, true, false, None, IfOk};
@@ -11,7 +11,7 @@ use crate::log::LogWrite;
 use crate::seats::Seats;
 use crate::sockets::Sockets;
 use hill_store::Store;
-use koth_session::Peers;
+use koth_session::{Judge, Peers};
 use sector_disk::Device;
 use std::alloc::{AllocError, Allocator};
 
@@ -20,7 +20,7 @@ use std::alloc::{AllocError, Allocator};
 pub(crate) struct Desk<D: Device, A: Allocator + Copy> {
     pub(crate) limits: Limits,
     pub(crate) peers: Peers<A>,
-    pub(crate) store: Store<D, A>,
+    pub(crate) judge: Judge<D, A>,
     pub(crate) seats: Seats<A>,
     pub(crate) sessions: Sessions,
     /// Whether something came or went in this round: then more may, and nobody is waited for.
@@ -110,7 +110,7 @@ impl<D: Device, A: Allocator + Copy> Desk<D, A> {
             Ok(seats) => Ok(Desk {
                 limits,
                 peers,
-                store,
+                judge: Judge::new(store),
                 seats,
                 sessions: Sessions { begun: 0, ended: 0 },
                 is_busy: false,
@@ -139,7 +139,7 @@ pub(crate) fn let_go<S: Sockets, D: Device, A: Allocator + Copy, H: Host<D, A>, 
 {
     let address = desk.seats.at(number).map(|seat| seat.address);
     sockets.close(number);
-    desk.peers.leave(number);
+    desk.peers.leave(number, &mut desk.judge);
     desk.seats.leave(number);
     desk.sessions.end();
     desk.is_busy = true;

@@ -18,7 +18,7 @@ use crate::serving::serve_one;
 use crate::sockets::Sockets;
 use crate::times::RETRY;
 use hill_store::Store;
-use koth_session::Step;
+use koth_session::{Judge, Step};
 use sector_disk::Device;
 use std::alloc::{AllocError, Allocator};
 
@@ -125,12 +125,12 @@ fn give_out<S: Sockets, D: Device, A: Allocator + Copy, H: Host<D, A>, E: LogWri
     send_all(desk, sockets, host, errors);
     part_all(desk, sockets, host, errors);
     let now = desk.clock;
-    let round = serve_browsers(browsers, sockets, &desk.store, host, errors, now);
+    let round = serve_browsers(browsers, sockets, desk.judge.store(), host, errors, now);
     desk.is_busy |= round.moved;
     desk.retries |= round.retries;
 }
 
-/// Waits for peers, takes what comes from them, and carries out one command at most. What came is read before a place is given to another peer:
+/// Waits for peers, takes what comes from them, and carries out one command at most, or a step of a submission. What came is read before a place is given to another peer:
 /// else one would lose it whose bytes wait.
 fn take_in<S: Sockets, D: Device, A: Allocator + Copy, H: Host<D, A>, E: LogWrite>(
     desk: &mut Desk<D, A>,
@@ -184,6 +184,7 @@ fn sound<D: Device + Drop, A: Allocator + Copy, H: Host<D, A>>(
     match step {
         Step::Nobody => Ok(desk),
         Step::Served(_) => Ok(desk),
+        Step::Stepped(_) => Ok(desk),
         Step::Asked(_) => Ok(desk),
         Step::StoreFailed(_) => reopened(desk, host),
     }
@@ -197,9 +198,9 @@ fn reopened<D: Device + Drop, A: Allocator + Copy, H: Host<D, A>>(
     ensures { IfOk result (IsReopened D.facts desk) }
 {
     let mut desk = desk;
-    match host.reopen(desk.store.close()) {
+    match host.reopen(desk.judge.close()) {
         Ok(store) => {
-            desk.store = store;
+            desk.judge = Judge::new(store);
             Ok(desk)
         }
         Err(fault) => Err(fault),

@@ -11,7 +11,7 @@ use koth_session::Step;
 use sector_disk::Device;
 use std::alloc::Allocator;
 
-/// Carries out one command at most, and has the host report what a submission was answered. A peer that sent a request in place of a command
+/// Carries out one command at most, or a step of a submission, and has the host report what a submission was answered. A peer that sent a request in place of a command
 /// is disconnected.
 pub(crate) fn serve_one<S: Sockets, D: Device, A: Allocator + Copy, H: Host<D, A>, E: LogWrite>(
     desk: &mut Desk<D, A>,
@@ -22,11 +22,11 @@ pub(crate) fn serve_one<S: Sockets, D: Device, A: Allocator + Copy, H: Host<D, A
     ensures served { KeepsOnBy S.happened D.facts (H.shows host.now) result sockets.old desk.old sockets.new desk.new }
     ensures told { Grows (E.contents errors.old) (E.contents errors.new) }
 {
-    let step = desk.peers.serve_next(host.steps(), &mut desk.store);
+    let step = desk.peers.serve_next(host.steps(), &mut desk.judge);
     desk.clock = desk.clock.max(sockets.now());
     desk.is_busy |= !matches!(step, Step::Nobody);
     match step {
-        Step::Nobody => {}
+        Step::Nobody | Step::Stepped(_) => {}
         Step::Asked(number) => let_go(desk, sockets, host, errors, number, HowEnded::Browser),
         Step::Served(number) => {
             desk.seats.serve(number, desk.clock);

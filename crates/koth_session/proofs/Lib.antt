@@ -1,6 +1,7 @@
-mod Answering
+pub mod Answering
 mod Endings
 pub mod Exchanges
+pub mod Fights
 mod FirstDue
 pub mod Holding
 mod Lengths

@@ -12,7 +12,7 @@ pub loop-arrival-preserved : goal.loop-arrival-preserved
 loop-arrival-preserved g c = (
   λ start browsers on.
       let now = arrived g.S.Sockets.happened g.D.Device.facts (g.H.Host.shows c.args.host.now) start browsers c.loop-arrival.sockets c.accept.new.self (peers_of c.loop-arrival.desk)
-      c.loop-arrival.desk.store c.in-Peer.ensures (c.loop-arrival.invariant.0 start browsers on) in
+      c.loop-arrival.desk.judge.store c.in-Peer.ensures (c.loop-arrival.invariant.0 start browsers on) in
       c.take_in_one.ensures.served start browsers now.0 now.1,
   grows_on _ _ _ c.loop-arrival.invariant.1 c.take_in_one.ensures.told,
 )

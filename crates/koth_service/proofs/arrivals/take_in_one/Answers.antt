@@ -4,12 +4,12 @@ use Rattle.koth_service.proofs.arrivals.take_in_one.Goals as goal
 
 pub returns-then-is_some_and-clause-served : goal.returns-then-is_some_and-clause-served
 returns-then-is_some_and-clause-served g c = λ start browsers on waits.
-    refused g.S.Sockets.happened g.D.Device.facts (g.H.Host.shows c.args.host.now) start browsers c.args.sockets.now c.refuse.new.self (peers_of c.args.desk.now) c.args.desk.now.store c.refuse.ensures on
+    refused g.S.Sockets.happened g.D.Device.facts (g.H.Host.shows c.args.host.now) start browsers c.args.sockets.now c.refuse.new.self (peers_of c.args.desk.now) c.args.desk.now.judge.store c.refuse.ensures on
 
 pub returns-in-Of-clause-served : goal.returns-in-Of-clause-served
 returns-in-Of-clause-served g c = λ start browsers on waits.
     c.admit.ensures.served start browsers (c.let_go.ensures.served start browsers on
-    (displaced g.S.Sockets.happened g.D.Device.facts (g.H.Host.shows c.args.host.now) start browsers c.args.sockets.now c.args.desk.now c.args.desk.now.store c.in-Of.number
+    (displaced g.S.Sockets.happened g.D.Device.facts (g.H.Host.shows c.args.host.now) start browsers c.args.sockets.now c.args.desk.now c.args.desk.now.judge.store c.in-Of.number
     (rw c.in-Of.is at c.requires) on waits))
 
 pub returns-in-Of-clause-told : goal.returns-in-Of-clause-told

@@ -4,10 +4,10 @@ use Rattle.koth_service.proofs.desk.let_go.Goals as goal
 
 pub returns-in-Some-clause-served : goal.returns-in-Some-clause-served
 returns-in-Some-clause-served g c = λ start browsers on cause.
-    left g.S.Sockets.happened g.D.Device.facts (g.H.Host.shows c.args.host.now) start browsers c.args.sockets.now c.close.new.self (peers_of c.args.desk.now) _ _ c.args.number c.args.how
-    c.leave.ensures.only c.leave.ensures.at c.leave-2.ensures.only c.leave-2.ensures.at c.end.ensures c.leave.ensures.next refl refl c.close.ensures on cause
+    left g.S.Sockets.happened g.D.Device.facts (g.H.Host.shows c.args.host.now) start browsers c.args.sockets.now c.close.new.self (peers_of c.args.desk.now) _ _ _ c.args.number c.args.how
+    c.leave.ensures.only c.leave.ensures.at c.leave-2.ensures.only c.leave-2.ensures.at c.end.ensures c.leave.ensures.next c.leave.ensures.under_way c.leave.ensures.store refl refl c.close.ensures on cause
 
 pub returns-in_default-clause-served : goal.returns-in_default-clause-served
 returns-in_default-clause-served g c = λ start browsers on cause.
-    left g.S.Sockets.happened g.D.Device.facts (g.H.Host.shows c.args.host.now) start browsers c.args.sockets.now c.close.new.self (peers_of c.args.desk.now) _ _ c.args.number c.args.how
-    c.leave.ensures.only c.leave.ensures.at c.leave-2.ensures.only c.leave-2.ensures.at c.end.ensures c.leave.ensures.next refl refl c.close.ensures on cause
+    left g.S.Sockets.happened g.D.Device.facts (g.H.Host.shows c.args.host.now) start browsers c.args.sockets.now c.close.new.self (peers_of c.args.desk.now) _ _ _ c.args.number c.args.how
+    c.leave.ensures.only c.leave.ensures.at c.leave-2.ensures.only c.leave-2.ensures.at c.end.ensures c.leave.ensures.next c.leave.ensures.under_way c.leave.ensures.store refl refl c.close.ensures on cause

@@ -15,7 +15,7 @@ returns-in-End-clause-served g c = λ start browsers on.
 
 pub returns-in-Gone-clause-served : goal.returns-in-Gone-clause-served
 returns-in-Gone-clause-served g c = λ start browsers on.
-    let gone = lost g.S.Sockets.happened g.D.Device.facts (g.H.Host.shows c.args.host.now) start browsers c.args.sockets.now c.read.new.self (peers_of c.args.desk.now) c.args.desk.now.store
+    let gone = lost g.S.Sockets.happened g.D.Device.facts (g.H.Host.shows c.args.host.now) start browsers c.args.sockets.now c.read.new.self (peers_of c.args.desk.now) c.args.desk.now.judge.store
     c.args.number (there_by_room c.args.desk.now.peers.slots.items c.args.number c.room-room.result c.room-room.ensures.room c.if-room-eq0.false) c.in-Gone.ensures on in
     c.let_go.ensures.served start browsers gone.0 gone.1
 

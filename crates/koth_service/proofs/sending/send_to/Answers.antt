@@ -12,7 +12,7 @@ returns-in-Bytes-clause-served g c = λ start browsers on.
 
 pub returns-in-Gone-clause-served : goal.returns-in-Gone-clause-served
 returns-in-Gone-clause-served g c = λ start browsers on.
-    let gone = lost g.S.Sockets.happened g.D.Device.facts (g.H.Host.shows c.args.host.now) start browsers c.args.sockets.now c.write.new.self (peers_of c.args.desk.now) c.args.desk.now.store
+    let gone = lost g.S.Sockets.happened g.D.Device.facts (g.H.Host.shows c.args.host.now) start browsers c.args.sockets.now c.write.new.self (peers_of c.args.desk.now) c.args.desk.now.judge.store
     c.args.number (there_by_unsent c.args.desk.now.peers.slots.items c.args.number (some_unsent _ _ _ c.unsent-unsent.ensures.value c.is_empty.ensures c.if-is_empty.false)) c.in-Gone.ensures on in
     c.let_go.ensures.served start browsers gone.0 gone.1
 

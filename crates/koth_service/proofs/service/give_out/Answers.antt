@@ -10,5 +10,5 @@ returns-clause-served g c = λ start on.
     let browsers = stage_at c.args.browsers.now.connections.items in
     c.serve_browsers-round.ensures.served start (peers_of c.part_all.new.desk)
     (c.part_all.ensures.served start browsers (c.send_all.ensures.served start browsers (
-    ticked g.S.Sockets.happened g.D.Device.facts (g.H.Host.shows c.args.host.now) start browsers c.args.sockets.now c.now.new.self (peers_of c.args.desk.now) c.args.desk.now.store c.now.result
+    ticked g.S.Sockets.happened g.D.Device.facts (g.H.Host.shows c.args.host.now) start browsers c.args.sockets.now c.now.new.self (peers_of c.args.desk.now) c.args.desk.now.judge.store c.now.result
     c.max-desk.result c.now.ensures c.max-desk.ensures on)))

@@ -8,5 +8,8 @@ returns-in-Nobody g c = rw c.in-Nobody.is refl
 pub returns-in-Served : goal.returns-in-Served
 returns-in-Served g c = rw c.in-Served.is refl
 
+pub returns-in-Stepped : goal.returns-in-Stepped
+returns-in-Stepped g c = rw c.in-Stepped.is refl
+
 pub returns-in-StoreFailed : goal.returns-in-StoreFailed
 returns-in-StoreFailed g c = rw c.in-StoreFailed.is c.reopened.ensures

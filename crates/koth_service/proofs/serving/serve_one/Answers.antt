@@ -1,32 +1,45 @@
--- The time was told, and a command was carried out.
-use Rattle.koth_service.{specs.Standing.peers_of, proofs.{Servings.{asked, cut_off, nobody, served}, Steps.ticked}}
+-- The time was told, and a command was carried out, or a step of a submission was made.
+use Rattle.{std.proofs.Common.refl, koth_service.specs.Standing.peers_of, koth_service.proofs.{Servings.{asked, cut_off, nobody, served, stepped}, Steps.ticked}}
 use Rattle.koth_service.proofs.serving.serve_one.Goals as goal
 
 pub returns-in-Nobody-step-clause-served : goal.returns-in-Nobody-step-clause-served
 returns-in-Nobody-step-clause-served g c = λ start browsers on.
-    let ticks = ticked g.S.Sockets.happened g.D.Device.facts (g.H.Host.shows c.args.host.now) start browsers c.args.sockets.now c.now.new.self (peers_of c.args.desk.now) c.args.desk.now.store
+    let ticks = ticked g.S.Sockets.happened g.D.Device.facts (g.H.Host.shows c.args.host.now) start browsers c.args.sockets.now c.now.new.self (peers_of c.args.desk.now) c.args.desk.now.judge.store
     c.now.result c.max-desk.result c.now.ensures c.max-desk.ensures on in
-    rw c.in-Nobody-step.is (nobody g.S.Sockets.happened g.D.Device.facts (g.H.Host.shows c.args.host.now) start browsers c.now.new.self c.steps.result c.steps.ensures _ c.serve_next-step.new.self.slots.items c.serve_next-step.new.self.next c.args.desk.now.store
-    c.serve_next-step.new.store (rw c.in-Nobody-step.is at c.serve_next-step.ensures) ticks)
+    let serves = c.serve_next-step.ensures.serves ticks.1.of_one in
+    rw c.in-Nobody-step.is (nobody g.S.Sockets.happened g.D.Device.facts (g.H.Host.shows c.args.host.now) start browsers c.now.new.self c.steps.result c.steps.ensures _ c.serve_next-step.new.self.slots.items
+    c.serve_next-step.new.self.next c.args.desk.now.judge c.serve_next-step.new.judge refl (rw c.in-Nobody-step.is at serves) ticks)
 
 pub returns-in-Asked-clause-served : goal.returns-in-Asked-clause-served
 returns-in-Asked-clause-served g c = λ start browsers on.
-    let ticks = ticked g.S.Sockets.happened g.D.Device.facts (g.H.Host.shows c.args.host.now) start browsers c.args.sockets.now c.now.new.self (peers_of c.args.desk.now) c.args.desk.now.store
+    let ticks = ticked g.S.Sockets.happened g.D.Device.facts (g.H.Host.shows c.args.host.now) start browsers c.args.sockets.now c.now.new.self (peers_of c.args.desk.now) c.args.desk.now.judge.store
     c.now.result c.max-desk.result c.now.ensures c.max-desk.ensures on in
-    let next = asked g.S.Sockets.happened g.D.Device.facts (g.H.Host.shows c.args.host.now) start browsers c.now.new.self c.steps.result c.steps.ensures c.in-Asked.number _ c.serve_next-step.new.self.slots.items c.serve_next-step.new.self.next c.args.desk.now.store
-    c.serve_next-step.new.store (rw c.in-Asked.is at c.serve_next-step.ensures) ticks in
+    let serves = c.serve_next-step.ensures.serves ticks.1.of_one in
+    let next = asked g.S.Sockets.happened g.D.Device.facts (g.H.Host.shows c.args.host.now) start browsers c.now.new.self c.steps.result c.steps.ensures c.in-Asked.number _ c.serve_next-step.new.self.slots.items
+    c.serve_next-step.new.self.next c.args.desk.now.judge c.serve_next-step.new.judge refl (rw c.in-Asked.is at serves) ticks in
     c.let_go.ensures.served start browsers next.0 next.1
 
 pub returns-in-Served-clause-served : goal.returns-in-Served-clause-served
 returns-in-Served-clause-served g c = λ start browsers on.
-    let ticks = ticked g.S.Sockets.happened g.D.Device.facts (g.H.Host.shows c.args.host.now) start browsers c.args.sockets.now c.now.new.self (peers_of c.args.desk.now) c.args.desk.now.store
+    let ticks = ticked g.S.Sockets.happened g.D.Device.facts (g.H.Host.shows c.args.host.now) start browsers c.args.sockets.now c.now.new.self (peers_of c.args.desk.now) c.args.desk.now.judge.store
     c.now.result c.max-desk.result c.now.ensures c.max-desk.ensures on in
+    let serves = c.serve_next-step.ensures.serves ticks.1.of_one in
     served g.S.Sockets.happened g.D.Device.facts (g.H.Host.shows c.args.host.now) start browsers c.now.new.self c.steps.result c.steps.ensures c.in-Served.number _ c.serve_next-step.new.self.slots.items c.serve.new.self.seats.items
-    c.serve_next-step.new.self.next c.args.desk.now.store c.serve_next-step.new.store (rw c.in-Served.is at c.serve_next-step.ensures) c.serve.ensures ticks
+    c.serve_next-step.new.self.next c.args.desk.now.judge c.serve_next-step.new.judge refl (rw c.in-Served.is at serves) (c.serve_next-step.ensures.of_one ticks.1.of_one) c.serve.ensures ticks
+
+pub returns-in-Stepped-clause-served : goal.returns-in-Stepped-clause-served
+returns-in-Stepped-clause-served g c = λ start browsers on.
+    let ticks = ticked g.S.Sockets.happened g.D.Device.facts (g.H.Host.shows c.args.host.now) start browsers c.args.sockets.now c.now.new.self (peers_of c.args.desk.now) c.args.desk.now.judge.store
+    c.now.result c.max-desk.result c.now.ensures c.max-desk.ensures on in
+    let serves = c.serve_next-step.ensures.serves ticks.1.of_one in
+    rw c.in-Stepped.is (stepped g.S.Sockets.happened g.D.Device.facts (g.H.Host.shows c.args.host.now) start browsers c.now.new.self c.steps.result c.steps.ensures c.in-Stepped.field-0 _ c.serve_next-step.new.self.slots.items
+    c.serve_next-step.new.self.next c.args.desk.now.judge c.serve_next-step.new.judge refl (rw c.in-Stepped.is at serves) (c.serve_next-step.ensures.of_one ticks.1.of_one) ticks)
 
 pub returns-in-StoreFailed-clause-served : goal.returns-in-StoreFailed-clause-served
 returns-in-StoreFailed-clause-served g c = λ start browsers on.
-    let ticks = ticked g.S.Sockets.happened g.D.Device.facts (g.H.Host.shows c.args.host.now) start browsers c.args.sockets.now c.now.new.self (peers_of c.args.desk.now) c.args.desk.now.store
+    let ticks = ticked g.S.Sockets.happened g.D.Device.facts (g.H.Host.shows c.args.host.now) start browsers c.args.sockets.now c.now.new.self (peers_of c.args.desk.now) c.args.desk.now.judge.store
     c.now.result c.max-desk.result c.now.ensures c.max-desk.ensures on in
-    cut_off g.S.Sockets.happened g.D.Device.facts (g.H.Host.shows c.args.host.now) start browsers c.now.new.self c.steps.result c.steps.ensures c.in-StoreFailed.number _ c.serve_next-step.new.self.slots.items c.serve-in-StoreFailed.new.self.seats.items
-    c.serve_next-step.new.self.next c.args.desk.now.store c.serve_next-step.new.store (rw c.in-StoreFailed.is at c.serve_next-step.ensures) c.serve-in-StoreFailed.ensures ticks
+    let serves = c.serve_next-step.ensures.serves ticks.1.of_one in
+    cut_off g.S.Sockets.happened g.D.Device.facts (g.H.Host.shows c.args.host.now) start browsers c.now.new.self c.steps.result c.steps.ensures c.in-StoreFailed.number _ c.serve_next-step.new.self.slots.items
+    c.serve-in-StoreFailed.new.self.seats.items c.serve_next-step.new.self.next c.args.desk.now.judge c.serve_next-step.new.judge refl (rw c.in-StoreFailed.is at serves) (c.serve_next-step.ensures.of_one ticks.1.of_one)
+    c.serve-in-StoreFailed.ensures ticks
