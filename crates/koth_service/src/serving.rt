@@ -26,7 +26,8 @@ pub(crate) fn serve_one<S: Sockets, D: Device, A: Allocator + Copy, H: Host<D, A
     desk.clock = desk.clock.max(sockets.now());
     desk.is_busy |= !matches!(step, Step::Nobody);
     match step {
-        Step::Nobody | Step::Stepped(_) => {}
+        Step::Nobody => {}
+        Step::Stepped(_) => {}
         Step::Asked(number) => let_go(desk, sockets, host, errors, number, HowEnded::Browser),
         Step::Served(number) => {
             desk.seats.serve(number, desk.clock);

@@ -6,12 +6,14 @@
 //!   those of `tests_fixtures`, the hills those of `tests_stores`;
 //! - `compare`: what is compared, each by a function;
 //! - `sessions`: what a session answers, and how it ends if a stream, the device or memory fails;
-//! - `peers`: sessions of several peers at once;
+//! - `peers`: sessions of several peers at once; `beside`: those that are served while a submission is under way;
 //! - `services`: services over sockets that do what a test wants, and over those of the system.
 //!
 //! What they expect was counted by hand. A test here must not show what a contract could say instead.
 #![tactic(auto)]
 
+#[cfg(test)]
+mod beside;
 #[cfg(test)]
 mod calls;
 #[cfg(test)]

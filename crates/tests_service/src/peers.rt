@@ -1,21 +1,21 @@
 //! Peers on a hill of two, on a device in memory.
 
-use crate::calls::{blank_in, empty_hill, empty_hill_on, reopened};
+use crate::calls::{blank_in, empty_hill, empty_hill_on};
 use crate::compare::{expect, expect_bytes, expect_length, expect_number};
-use hill_store::Store;
-use koth_session::{NotConnected, PeerEnd, Peers, Step};
+use koth_session::{Judge, NotConnected, PeerEnd, Peers, Step};
 use sector_disk::{Device, FuseDevice, FuseKind};
 use std::alloc::{Allocator, Global};
 use std::process::Abort;
 use tests_fixtures::Refusing;
+use tests_stores::opened;
 
 /// Room for `most` peers.
-fn room_for<A: Allocator + Copy>(rt: &impl Abort, alloc: A, most: usize) -> Peers<A> {
+pub(crate) fn room_for<A: Allocator + Copy>(rt: &impl Abort, alloc: A, most: usize) -> Peers<A> {
     Peers::new(alloc, most).expect(rt, "there is memory")
 }
 
 /// A session begins with this number, or none does for this reason.
-fn connect<A: Allocator + Copy>(
+pub(crate) fn connect<A: Allocator + Copy>(
     rt: &impl Abort,
     peers: &mut Peers<A>,
     number: Result<usize, NotConnected>,
@@ -23,34 +23,46 @@ fn connect<A: Allocator + Copy>(
     assert_eq!(rt; peers.connect(), number);
 }
 
-/// A step serves this.
-fn serve<D: Device, A: Allocator + Copy>(
+/// A step serves this, after the steps of a submission that is under way.
+pub(crate) fn serve<D: Device, A: Allocator + Copy>(
     rt: &impl Abort,
     peers: &mut Peers<A>,
-    store: &mut Store<D, A>,
+    judge: &mut Judge<D, A>,
     step: Step,
 ) {
-    serve_within(rt, peers, store, 1_000_000, step);
+    serve_within(rt, peers, judge, 1_000_000, step);
 }
 
-/// A step within this number of steps of an assembly serves this.
+/// The same within this number of steps of an assembly.
 fn serve_within<D: Device, A: Allocator + Copy>(
     rt: &impl Abort,
     peers: &mut Peers<A>,
-    store: &mut Store<D, A>,
+    judge: &mut Judge<D, A>,
     steps: u64,
     step: Step,
 ) {
-    assert_eq!(rt; peers.serve_next(steps, store), step);
+    for _step in 0..100 {
+        let found = peers.serve_next(steps, judge);
+        if !matches!(found, Step::Stepped(_)) {
+            expect_step(rt, found, step);
+            return;
+        }
+    }
+    expect(rt, false, "the submission ends");
+}
+
+/// This is what a step served.
+pub(crate) fn expect_step(rt: &impl Abort, found: Step, due: Step) {
+    assert_eq!(rt; found, due);
 }
 
 /// A peer's session has ended so, or goes on.
-fn ended<A: Allocator>(rt: &impl Abort, peers: &Peers<A>, number: usize, end: Option<PeerEnd>) {
+pub(crate) fn ended<A: Allocator>(rt: &impl Abort, peers: &Peers<A>, number: usize, end: Option<PeerEnd>) {
     assert_eq!(rt; peers.end(number), end);
 }
 
 /// `count` bytes of answers wait for a peer.
-fn waits<A: Allocator>(rt: &impl Abort, peers: &Peers<A>, number: usize, count: usize) {
+pub(crate) fn waits<A: Allocator>(rt: &impl Abort, peers: &Peers<A>, number: usize, count: usize) {
     expect_length(rt, peers.unsent(number).len(), count);
 }
 
@@ -62,14 +74,14 @@ fn close<A: Allocator>(rt: &impl Abort, peers: &mut Peers<A>, number: usize) {
 }
 
 /// These bytes of a peer come.
-fn come<A: Allocator>(rt: &impl Abort, peers: &mut Peers<A>, number: usize, text: &str) {
+pub(crate) fn come<A: Allocator>(rt: &impl Abort, peers: &mut Peers<A>, number: usize, text: &str) {
     let room = peers.room(number);
     assert!(rt; text.len() <= room);
     peers.take(number, text.as_bytes());
 }
 
 /// A peer was given these answers, and they are sent.
-fn send<A: Allocator>(rt: &impl Abort, peers: &mut Peers<A>, number: usize, answers: &str) {
+pub(crate) fn send<A: Allocator>(rt: &impl Abort, peers: &mut Peers<A>, number: usize, answers: &str) {
     expect_bytes(rt, peers.unsent(number), answers.as_bytes());
     let count = peers.unsent(number).len();
     peers.sent(number, count);
@@ -88,20 +100,20 @@ enum Script {
 
 /// Peers, for `most` of whom there is room, do this on an empty hill.
 fn follow(rt: &(impl Abort + AllocGlobal), most: usize, script: Script) {
-    let mut store = empty_hill(rt);
+    let mut judge = Judge::new(empty_hill(rt));
     let mut peers = room_for(rt, rt.alloc(), most);
     match script {
-        Script::InTurn => serve_in_turn(rt, &mut peers, &mut store),
+        Script::InTurn => serve_in_turn(rt, &mut peers, &mut judge),
         Script::OneHill => {
-            submit_and_show(rt, &mut peers, &mut store);
-            end_each(rt, &mut peers, &mut store);
+            submit_and_show(rt, &mut peers, &mut judge);
+            end_each(rt, &mut peers, &mut judge);
         }
-        Script::Unread => leave_unread(rt, &mut peers, &mut store),
-        Script::Spent => spend(rt, &mut peers, &mut store),
-        Script::Asked => ask(rt, &mut peers, &mut store),
+        Script::Unread => leave_unread(rt, &mut peers, &mut judge),
+        Script::Spent => spend(rt, &mut peers, &mut judge),
+        Script::Asked => ask(rt, &mut peers, &mut judge),
     }
     drop(peers);
-    drop(store);
+    drop(judge);
 }
 
 /// Of a peer with many commands one is served, and then the others' come.
@@ -113,24 +125,24 @@ fn in_turn(rt: HostRuntime) {
 fn serve_in_turn<D: Device>(
     rt: &impl Abort,
     peers: &mut Peers<Global>,
-    store: &mut Store<D, Global>,
+    judge: &mut Judge<D, Global>,
 ) {
     for number in 0..3 {
         connect(rt, peers, Ok(number));
     }
     connect(rt, peers, Err(NotConnected::Full));
-    serve(rt, peers, store, Step::Nobody);
+    serve(rt, peers, judge, Step::Nobody);
     come(rt, peers, 0, "a\nb\nc\nd");
     come(rt, peers, 2, "SHOW\nSH");
     for number in [0, 2, 0] {
-        serve(rt, peers, store, Step::Served(number));
+        serve(rt, peers, judge, Step::Served(number));
     }
     come(rt, peers, 1, "\n");
     come(rt, peers, 2, "OW\n");
     for number in [1, 2, 0] {
-        serve(rt, peers, store, Step::Served(number));
+        serve(rt, peers, judge, Step::Served(number));
     }
-    serve(rt, peers, store, Step::Nobody);
+    serve(rt, peers, judge, Step::Nobody);
     send(rt, peers, 0, "BAD\nBAD\nBAD\n");
     send(rt, peers, 1, "BAD\n");
     send(rt, peers, 2, ".\n.\n");
@@ -145,23 +157,25 @@ fn one_hill(rt: HostRuntime) {
 fn submit_and_show<D: Device>(
     rt: &impl Abort,
     peers: &mut Peers<Global>,
-    store: &mut Store<D, Global>,
+    judge: &mut Judge<D, Global>,
 ) {
     for number in 0..4 {
         connect(rt, peers, Ok(number));
     }
     for byte in ["S", "U", "B", "M", "I", "T", "\r", "\n", "MOV 0,1\n", "."] {
         come(rt, peers, 0, byte);
-        serve(rt, peers, store, Step::Nobody);
+        serve(rt, peers, judge, Step::Nobody);
     }
     come(rt, peers, 0, "\n");
     come(rt, peers, 1, "SUBMIT\nJMP 0\n.\n");
     come(rt, peers, 2, "SUBMIT\nDAT 0,0\n.\nSUBMIT\nDAT 0,0\n");
-    come(rt, peers, 3, "SHOW\nQUIT\nSHOW\n");
-    for number in 0..4 {
+    for number in 0..3 {
         close(rt, peers, number);
-        serve(rt, peers, store, Step::Served(number));
+        serve(rt, peers, judge, Step::Served(number));
     }
+    come(rt, peers, 3, "SHOW\nQUIT\nSHOW\n");
+    close(rt, peers, 3);
+    serve(rt, peers, judge, Step::Served(3));
 }
 
 /// How the four sessions end.
@@ -172,10 +186,10 @@ const ENDS: [PeerEnd; 4] = [
     PeerEnd::Quit,
 ];
 
-fn end_each<D: Device>(rt: &impl Abort, peers: &mut Peers<Global>, store: &mut Store<D, Global>) {
+fn end_each<D: Device>(rt: &impl Abort, peers: &mut Peers<Global>, judge: &mut Judge<D, Global>) {
     ended(rt, peers, 3, None);
-    serve(rt, peers, store, Step::Served(3));
-    serve(rt, peers, store, Step::Nobody);
+    serve(rt, peers, judge, Step::Served(3));
+    serve(rt, peers, judge, Step::Nobody);
     send(rt, peers, 0, "PLACED 1 1 0\n");
     send(rt, peers, 1, "PLACED 2 2 2\n");
     send(rt, peers, 2, "FELL 3 0\n");
@@ -185,7 +199,7 @@ fn end_each<D: Device>(rt: &impl Abort, peers: &mut Peers<Global>, store: &mut S
         ended(rt, peers, number, Some(*end));
         expect(rt, peers.is_finished(number), "it is finished");
     }
-    peers.leave(1);
+    peers.leave(1, judge);
     connect(rt, peers, Ok(1));
 }
 
@@ -204,19 +218,19 @@ fn connect_two(rt: &impl Abort, peers: &mut Peers<Global>) {
 fn leave_unread<D: Device>(
     rt: &impl Abort,
     peers: &mut Peers<Global>,
-    store: &mut Store<D, Global>,
+    judge: &mut Judge<D, Global>,
 ) {
     connect_two(rt, peers);
     for _ in 0..262_144 {
         come(rt, peers, 0, "\n");
-        serve(rt, peers, store, Step::Served(0));
+        serve(rt, peers, judge, Step::Served(0));
     }
     waits(rt, peers, 0, 1_048_576);
     ended(rt, peers, 0, None);
     come(rt, peers, 0, "\n");
     come(rt, peers, 1, "\n");
-    serve(rt, peers, store, Step::Served(1));
-    serve(rt, peers, store, Step::Served(0));
+    serve(rt, peers, judge, Step::Served(1));
+    serve(rt, peers, judge, Step::Served(0));
     ended(rt, peers, 0, Some(PeerEnd::Unread));
     waits(rt, peers, 0, 1_048_576);
     expect(rt, !peers.is_finished(0), "it is not finished");
@@ -230,16 +244,16 @@ fn spent(rt: HostRuntime) {
     follow(&rt, 2, Script::Spent);
 }
 
-fn spend<D: Device>(rt: &impl Abort, peers: &mut Peers<Global>, store: &mut Store<D, Global>) {
+fn spend<D: Device>(rt: &impl Abort, peers: &mut Peers<Global>, judge: &mut Judge<D, Global>) {
     connect_two(rt, peers);
     come(rt, peers, 0, "\nSUBMIT\nMOV 0, 1\n.\nSHOW\n");
     come(rt, peers, 1, "SHOW\nSHOW\n");
-    serve(rt, peers, store, Step::Served(0));
-    serve(rt, peers, store, Step::Served(1));
-    serve_within(rt, peers, store, 0, Step::Served(0));
+    serve(rt, peers, judge, Step::Served(0));
+    serve(rt, peers, judge, Step::Served(1));
+    serve_within(rt, peers, judge, 0, Step::Served(0));
     ended(rt, peers, 0, Some(PeerEnd::StepsSpent));
-    serve(rt, peers, store, Step::Served(1));
-    serve(rt, peers, store, Step::Nobody);
+    serve(rt, peers, judge, Step::Served(1));
+    serve(rt, peers, judge, Step::Nobody);
     send(rt, peers, 0, "BAD\n");
     send(rt, peers, 1, ".\n.\n");
     expect(rt, peers.is_finished(0), "it is finished");
@@ -251,7 +265,7 @@ fn asked(rt: HostRuntime) {
     follow(&rt, 2, Script::Asked);
 }
 
-fn ask<D: Device>(rt: &impl Abort, peers: &mut Peers<Global>, store: &mut Store<D, Global>) {
+fn ask<D: Device>(rt: &impl Abort, peers: &mut Peers<Global>, judge: &mut Judge<D, Global>) {
     connect_two(rt, peers);
     come(rt, peers, 0, "a\nGET / HTTP/1.1\nb\n");
     come(rt, peers, 1, "\n");
@@ -264,12 +278,12 @@ fn ask<D: Device>(rt: &impl Abort, peers: &mut Peers<Global>, store: &mut Store<
         Step::Asked(0),
         Step::Asked(0),
     ] {
-        serve(rt, peers, store, step);
+        serve(rt, peers, judge, step);
     }
     ended(rt, peers, 0, None);
     send(rt, peers, 0, "BAD\n");
-    peers.leave(0);
-    serve(rt, peers, store, Step::Nobody);
+    peers.leave(0, judge);
+    serve(rt, peers, judge, Step::Nobody);
     expect(rt, !peers.is_due(0) & !peers.is_due(1), "no command is due");
 }
 
@@ -294,21 +308,29 @@ fn serve_over<D: Device + Drop>(
     peers: &mut Peers<Global>,
     device: D,
 ) {
-    let mut store = empty_hill_on(rt, rt.alloc(), device);
-    fail_the_first(rt, peers, &mut store);
-    let mut store = reopened(rt, rt.alloc(), store);
-    serve_the_second(rt, peers, &mut store);
-    drop(store);
+    let mut judge = Judge::new(empty_hill_on(rt, rt.alloc(), device));
+    fail_the_first(rt, peers, &mut judge);
+    let mut judge = again(rt, judge);
+    serve_the_second(rt, peers, &mut judge);
+    drop(judge);
+}
+
+/// The hill of this device opened again.
+fn again<D: Device + Drop>(
+    rt: &(impl Abort + AllocGlobal),
+    judge: Judge<D, Global>,
+) -> Judge<D, Global> {
+    Judge::new(opened(rt.alloc(), judge.close()).expect(rt, "it opens"))
 }
 
 fn fail_the_first<D: Device>(
     rt: &impl Abort,
     peers: &mut Peers<Global>,
-    store: &mut Store<D, Global>,
+    judge: &mut Judge<D, Global>,
 ) {
     come(rt, peers, 0, "SUBMIT\nMOV 0,1\n.\nSHOW\n");
+    serve(rt, peers, judge, Step::StoreFailed(0));
     come(rt, peers, 1, "SHOW\n");
-    serve(rt, peers, store, Step::StoreFailed(0));
     waits(rt, peers, 0, 0);
     ended(rt, peers, 0, Some(PeerEnd::StoreFailed));
     expect(rt, peers.is_finished(0), "it is finished");
@@ -317,11 +339,11 @@ fn fail_the_first<D: Device>(
 fn serve_the_second<D: Device>(
     rt: &impl Abort,
     peers: &mut Peers<Global>,
-    store: &mut Store<D, Global>,
+    judge: &mut Judge<D, Global>,
 ) {
-    serve(rt, peers, store, Step::Served(1));
+    serve(rt, peers, judge, Step::Served(1));
     send(rt, peers, 1, "1 1 0 0 Unnamed by Anonymous\n.\n");
-    serve(rt, peers, store, Step::Nobody);
+    serve(rt, peers, judge, Step::Nobody);
 }
 
 /// A peer takes four growths: for a line, a source, the bytes that wait and 96 bytes of answers. Then one is taken for the answer after
@@ -334,18 +356,18 @@ fn growths(rt: HostRuntime) {
 }
 
 fn serve_without_growths(rt: &(impl Abort + AllocGlobal), memory: &Refusing<Global>) {
-    let mut store = empty_hill_on(rt, memory, blank_in(rt, rt.alloc()));
+    let mut judge = Judge::new(empty_hill_on(rt, memory, blank_in(rt, rt.alloc())));
     let mut peers = room_for(rt, memory, 1);
-    refuse_growths(rt, memory, &mut peers, &mut store);
+    refuse_growths(rt, memory, &mut peers, &mut judge);
     drop(peers);
-    drop(store);
+    drop(judge);
 }
 
 fn refuse_growths<'m, D: Device>(
     rt: &impl Abort,
     memory: &'m Refusing<Global>,
     peers: &mut Peers<&'m Refusing<Global>>,
-    store: &mut Store<D, &'m Refusing<Global>>,
+    judge: &mut Judge<D, &'m Refusing<Global>>,
 ) {
     for passed in 0..4 {
         memory.refuse(passed, 1);
@@ -356,12 +378,12 @@ fn refuse_growths<'m, D: Device>(
     connect(rt, peers, Ok(0));
     for _ in 0..24 {
         come(rt, peers, 0, "\n");
-        serve(rt, peers, store, Step::Served(0));
+        serve(rt, peers, judge, Step::Served(0));
     }
     expect_number(rt, memory.refused(), 0, "refused");
     ended(rt, peers, 0, None);
     come(rt, peers, 0, "\n");
-    serve(rt, peers, store, Step::Served(0));
+    serve(rt, peers, judge, Step::Served(0));
     expect_number(rt, memory.refused(), 1, "refused");
     ended(rt, peers, 0, Some(PeerEnd::Memory));
     waits(rt, peers, 0, 96);

@@ -84,12 +84,12 @@ const A_LONG_SUBMISSION: [Cue; 10] = [
 
 const A_LONG_SUBMISSION_DUE: [Due; 4] = [
     Due::Heard(1, "PLACED 1 1 0\n1 1 0 0 Unnamed by Anonymous\n.\n"),
-    Due::Heard(2, "1 1 0 0 Unnamed by Anonymous\n.\n"),
+    Due::Heard(2, ".\n"),
     Due::Closed(2, Some(90_000)),
     Due::Told("2 ", &["connected", "By(EndOfInput)"]),
 ];
 
-/// A peer that speaks during a submission of 70 seconds is not silent, and is answered.
+/// A peer that speaks during a submission of 70 seconds is not silent, and is answered by the hill before it.
 #[test]
 fn a_long_submission(rt: HostRuntime) {
     act_out(&rt, &A_LONG_SUBMISSION, 2, &A_LONG_SUBMISSION_DUE);

@@ -125,14 +125,14 @@ const A_TURN_THAT_IS_AWAITED: [Cue; 13] = [
 
 const A_TURN_THAT_IS_AWAITED_DUE: [Due; 5] = [
     Due::Told("1 ", &["connected", "PLACED 1 1 0", "By(EndOfInput)"]),
-    Due::Heard(2, "1 1 0 0 Unnamed by Anonymous\n.\n"),
+    Due::Heard(2, ".\n"),
     Due::Closed(2, Some(80_000)),
     Due::Told("2 ", &["connected", "By(EndOfInput)"]),
     Due::Heard(3, "BAD\n"),
 ];
 
 /// A peer whose command waits for its turn during a submission of 70 seconds isn't displaced for another one, neither before its command is
-/// carried out nor right after it; nor is the one that submitted.
+/// carried out nor right after it; nor is the one that submitted. Its table is that of the hill before the submission.
 #[test]
 fn a_turn_that_is_awaited(rt: HostRuntime) {
     act_out(&rt, &A_TURN_THAT_IS_AWAITED, 3, &A_TURN_THAT_IS_AWAITED_DUE);
