@@ -162,11 +162,11 @@ module _ {D A : Type 0} (facts : DeviceFacts D) (R : Peer A → Peer A → Type 
       ]
 
 -- a command was carried out, or ended a session
-abbrev served_by_turn : {D A : Type 0} → DeviceFacts D → Option ℕ → Option PeerEnd → ℕ → Judged D → Judged D → Peer A → Peer A → Type 0
-served_by_turn facts steps outcome n judge now p q = IsServed facts steps outcome n p judge q now
+abbrev ServedBy : {D A : Type 0} → DeviceFacts D → Option ℕ → Option PeerEnd → ℕ → Judged D → Judged D → Peer A → Peer A → Type 0
+ServedBy facts steps outcome n judge now p q = IsServed facts steps outcome n p judge q now
 
 abbrev IsServingSo : {D A : Type 0} → DeviceFacts D → Option ℕ → Option PeerEnd → ℕ → ℕ → PeersNow A → Slots A → Seats → ℕ → Judged D → Judged D → Type 0
-IsServingSo facts steps outcome n time was new seats turn judge now = IsServing (served_by_turn facts steps outcome n judge now) (seat_served time) n was new seats turn judge
+IsServingSo facts steps outcome n time was new seats turn judge now = IsServing (ServedBy facts steps outcome n judge now) (seat_served time) n was new seats turn judge
 
 module _ {S D A : Type 0} (happened : S → List Noted → Type 0) (facts : DeviceFacts D) (shows : Shows D) (start : Start D) (browsers : ℕ → Option (Stage A)) (sockets : S)
     (steps : ℕ) (same_steps : (store : Seen D) → steps ≡ (shows store).steps) where
@@ -190,7 +190,7 @@ module _ {S D A : Type 0} (happened : S → List Noted → Type 0) (facts : Devi
       let m = moment start on.0 in
       let s = m.sessions n in
       let time = m.round.clock in
-      let R = served_by_turn facts (Some steps) None n judge now in
+      let R = ServedBy facts (Some steps) None n judge now in
       let at = there facts R (seat_served time) m n was new seats turn judge before.standing is round in
       let serves = at.moved.serves in
       let e = serves.answers.0 in
@@ -208,7 +208,7 @@ module _ {S D A : Type 0} (happened : S → List Noted → Type 0) (facts : Devi
 
   -- a command ended the session, and was not carried out
   stops : (end : PeerEnd) (n time : ℕ) (m : Moment D) (new : Slots A) (seats : Seats) (judge now : Judged D) → step_after (Some end) n ≡ Step.Served n → m.now ≡ judge.store
-      → IsThere (served_by_turn facts (Some steps) (Some end) n judge now) (seat_served time) n new seats m → Stops (shows m.now).steps n end m
+      → IsThere (ServedBy facts (Some steps) (Some end) n judge now) (seat_served time) n new seats m → Stops (shows m.now).steps n end m
   stops PeerEnd.Quit n time m new seats judge now sound is at = turn_by n m (command_of at.peer) Command.Quit at.moved.serves.answers.0 at.turn
   stops PeerEnd.EndOfInput n time m new seats judge now sound is at = absurd at.moved.serves.answers
   stops PeerEnd.Limit n time m new seats judge now sound is at = absurd at.moved.serves.answers
@@ -235,7 +235,7 @@ module _ {S D A : Type 0} (happened : S → List Noted → Type 0) (facts : Devi
       let m = moment start on.0 in
       let s = m.sessions n in
       let time = m.round.clock in
-      let R = served_by_turn facts (Some steps) (Some end) n judge now in
+      let R = ServedBy facts (Some steps) (Some end) n judge now in
       let at = there facts R (seat_served time) m n was new seats turn judge before.standing is round in
       let serves = at.moved.serves in
       let still : m.now ≡ now.store = before.now_is ∙ sym (same_store facts (Some steps) end (command_of at.peer) at.peer.outbox.unsent at.next.outbox.unsent judge.store now.store none serves.answers) in (
@@ -263,7 +263,7 @@ module _ {S D A : Type 0} (happened : S → List Noted → Type 0) (facts : Devi
       let m = moment start on.0 in
       let s = m.sessions n in
       let time = m.round.clock in
-      let R = served_by_turn facts (Some steps) (Some PeerEnd.StoreFailed) n judge now in
+      let R = ServedBy facts (Some steps) (Some PeerEnd.StoreFailed) n judge now in
       let at = there facts R (seat_served time) m n was new seats turn judge before.standing is round in
       let serves = at.moved.serves in
       let source = serves.answers.0 in
@@ -290,10 +290,10 @@ module _ {S D A : Type 0} (happened : S → List Noted → Type 0) (facts : Devi
   served_by None n was new seats turn judge now sound on is of_one = answered_by n was new seats turn judge now on is of_one
   served_by (Some PeerEnd.Quit) n was new seats turn judge now sound on is of_one = stopped_by PeerEnd.Quit n was new seats turn judge now refl sound refl on is of_one
   served_by (Some PeerEnd.EndOfInput) n was new seats turn judge now sound on is of_one =
-      absurd (there facts (served_by_turn facts (Some steps) (Some PeerEnd.EndOfInput) n judge now) (seat_served (moment start on.0).round.clock) (moment start on.0) n was new seats turn judge
+      absurd (there facts (ServedBy facts (Some steps) (Some PeerEnd.EndOfInput) n judge now) (seat_served (moment start on.0).round.clock) (moment start on.0) n was new seats turn judge
       on.1.standing is on.1.round).moved.serves.answers
   served_by (Some PeerEnd.Limit) n was new seats turn judge now sound on is of_one =
-      absurd (there facts (served_by_turn facts (Some steps) (Some PeerEnd.Limit) n judge now) (seat_served (moment start on.0).round.clock) (moment start on.0) n was new seats turn judge
+      absurd (there facts (ServedBy facts (Some steps) (Some PeerEnd.Limit) n judge now) (seat_served (moment start on.0).round.clock) (moment start on.0) n was new seats turn judge
       on.1.standing is on.1.round).moved.serves.answers
   served_by (Some PeerEnd.Unread) n was new seats turn judge now sound on is of_one = stopped_by PeerEnd.Unread n was new seats turn judge now refl sound refl on is of_one
   served_by (Some PeerEnd.StepsSpent) n was new seats turn judge now sound on is of_one = stopped_by PeerEnd.StepsSpent n was new seats turn judge now refl sound refl on is of_one
@@ -302,7 +302,7 @@ module _ {S D A : Type 0} (happened : S → List Noted → Type 0) (facts : Devi
 
   serving : (outcome : Option PeerEnd) (n : ℕ) (was : PeersNow A) (new : Slots A) (seats : Seats) (turn : ℕ) (judge now : Judged D) → was.under_way ≡ judge.under_way
       → (on : GoesOn happened facts shows start sockets was browsers judge.store)
-      → ServesOne (served_by_turn facts (Some steps) outcome n judge now) n was.slots was.turn judge new turn → SeatMoves (seat_served was.clock) n was.seats seats
+      → ServesOne (ServedBy facts (Some steps) outcome n judge now) n was.slots was.turn judge new turn → SeatMoves (seat_served was.clock) n was.seats seats
       → IsServingSo facts (Some steps) outcome n (moment start on.0).round.clock was new seats turn judge now
   serving outcome n was new seats turn judge now same on one serves =
       record { one = one; under_way = same; serves = subst (λ c. SeatMoves (seat_served c) n was.seats seats) (sym on.1.round.clock) serves }

@@ -27,10 +27,24 @@ without_own n submission = rw (same_number n) refl
 pub without_other : (n k : ℕ) (submission : SubmissionParts) → n ≢ k → without n (Some (k, submission)) ≡ Some (k, submission)
 without_other n k submission other = rw (other_number n k other) refl
 
+pub still_submitting : {D : Type 0} (n : ℕ) (store : Seen D) (under_way : Option Fight) → AreSubmitting store under_way → AreSubmitting store (without n under_way)
+still_submitting n store None are = tt
+still_submitting {D} n store (Some (k, submission)) are = at (n == k)
+  where
+    at : (own : Bool) → AreSubmitting store (if own then None else Some (k, submission))
+    at true = tt
+    at false = are
+
 -- the turn comes with a submission only to the peer whose submission is under way
 pub own_beside : (n k : ℕ) → is_beside (Some k) n true ≡ true → n ≡ k
 own_beside n k is =
     elim (eqb_tells n k) [ inl same ↦ same.1 | inr differ ↦ absurd (true≢false (sym is ∙ ap (λ b. b || not true) differ.0)) ]
+
+pub own_is : (n k : ℕ) (under_way : Option Fight) (submission : SubmissionParts) (submits : Bool) → under_way ≡ Some (k, submission) → submits ≡ true
+    → is_beside (fighting under_way) n submits ≡ true → under_way ≡ Some (n, submission)
+own_is n k under_way submission submits is due beside =
+    let here : is_beside (Some k) n true ≡ true = subst (λ b. is_beside (Some k) n b ≡ true) due (subst (λ (u : Option Fight). is_beside (fighting u) n submits ≡ true) is beside) in
+    is ∙ ap (λ (p : ℕ). Some (p, submission)) (sym (own_beside n k here))
 
 -- a turn to a peer without a submission leaves what is under way
 pub without_told : {D A : Type 0} (n : ℕ) (peer : Peer A) (store : Seen D) (under_way : Option Fight) → submits_now peer ≡ false → IsOfIts n peer (judged store under_way)
@@ -101,7 +115,7 @@ module _ {A : Type 0} where
   -- nothing of it changed but what was sent
   pub sends_still : (count : ℕ) (p q : Peer A) → Sends p count q → is_due_now p ≡ true → IsStillDue p q
   sends_still count p q sends due = record {
-    due = ap₂ (λ (e : _) (i : Inbox A). is_due e (is_met i.due)) sends.end sends.inbox ∙ due;
+    due = ap₂ (λ (e : Option PeerEnd). λ (i : Inbox A). is_due e (is_met i.due)) sends.end sends.inbox ∙ due;
     met_is = ap (λ (i : Inbox A). i.due) sends.inbox;
     source = ap (λ (i : Inbox A). i.script.source) sends.inbox;
   }

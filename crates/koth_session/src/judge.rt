@@ -61,10 +61,7 @@ impl<D: Device, A: Allocator> Judge<D, A> {
     pub(crate) fn busy(&self) -> Option<usize>
         ensures { result ≡ fighting self.now.under_way }
     {
-        match &self.under_way {
-            Some((number, _)) => Some(*number),
-            None => None,
-        }
+        number_of(&self.under_way)
     }
 
     /// The submission of this peer is given up, if it is under way: it leaves no trace.
@@ -72,9 +69,7 @@ impl<D: Device, A: Allocator> Judge<D, A> {
         ensures store { self.new.store ≡ self.old.store }
         ensures under_way { self.new.under_way ≡ without number self.old.under_way }
     {
-        if self.busy() == Some(number) {
-            self.under_way = None;
-        }
+        drop_of(number, &mut self.under_way);
     }
 }
 
@@ -101,6 +96,29 @@ impl<D: Device, A: Allocator + Copy> Judge<D, A> {
             &mut self.store,
             &mut self.under_way,
         )
+    }
+}
+
+/// The number of the peer whose submission is under way.
+fn number_of<A: Allocator>(under_way: &Option<(usize, Submission<A>)>) -> Option<usize>
+    ensures { result ≡ fighting under_way.now }
+{
+    match under_way {
+        Some((number, _)) => Some(*number),
+        None => None,
+    }
+}
+
+/// Drops the submission that is under way, if it is that of this peer.
+fn drop_of<A: Allocator>(number: usize, under_way: &mut Option<(usize, Submission<A>)>)
+    ensures { under_way.new ≡ without number under_way.old }
+{
+    let is_own = match under_way {
+        Some((other, _)) => number == *other,
+        None => false,
+    };
+    if is_own {
+        *under_way = None;
     }
 }
 

@@ -124,13 +124,7 @@ impl<A: Allocator + Copy> Peer<A> {
             → Serves D.facts steps result self.old store.old self.new store.new }
     {
         self.reply = None;
-        let outcome = finish(
-            &mut self.outbox,
-            &mut self.reply,
-            store,
-            submission,
-            judged,
-        );
+        let outcome = finish(&mut self.outbox, &mut self.reply, store, submission, judged);
         self.settle(outcome);
         outcome
     }

@@ -57,7 +57,12 @@ pub(crate) fn expect_step(rt: &impl Abort, found: Step, due: Step) {
 }
 
 /// A peer's session has ended so, or goes on.
-pub(crate) fn ended<A: Allocator>(rt: &impl Abort, peers: &Peers<A>, number: usize, end: Option<PeerEnd>) {
+pub(crate) fn ended<A: Allocator>(
+    rt: &impl Abort,
+    peers: &Peers<A>,
+    number: usize,
+    end: Option<PeerEnd>,
+) {
     assert_eq!(rt; peers.end(number), end);
 }
 
@@ -81,7 +86,12 @@ pub(crate) fn come<A: Allocator>(rt: &impl Abort, peers: &mut Peers<A>, number: 
 }
 
 /// A peer was given these answers, and they are sent.
-pub(crate) fn send<A: Allocator>(rt: &impl Abort, peers: &mut Peers<A>, number: usize, answers: &str) {
+pub(crate) fn send<A: Allocator>(
+    rt: &impl Abort,
+    peers: &mut Peers<A>,
+    number: usize,
+    answers: &str,
+) {
     expect_bytes(rt, peers.unsent(number), answers.as_bytes());
     let count = peers.unsent(number).len();
     peers.sent(number, count);

@@ -9,4 +9,4 @@ returns-in-Some-clause-answers g c =
 pub returns-in-Some-Err-clause-answers : goal.returns-in-Some-Err-clause-answers
 returns-in-Some-Err-clause-answers g c =
     reply_said g.D.Device.facts c.args.steps c.args.source.now c.in-Some-Err.reply c.put_reply.result c.args.outbox.now.unsent c.make_room.new.outbox.unsent c.put_reply.new.outbox.unsent
-    c.args.store.now c.args.store.now c.in-Some-Err.ensures.begun (kept_same g.D.Device.facts c.args.store.now.device) (λ most. refl) c.make_room.ensures.same c.put_reply.ensures.says
+    c.args.store.now c.args.store.now (rw c.in-Some-Err.field-0-is at c.in-Some-Err.ensures.begun) (kept_same g.D.Device.facts c.args.store.now.device) (λ most. refl) c.make_room.ensures.same c.put_reply.ensures.says
