@@ -76,6 +76,14 @@ is_met_then : (end : Option PeerEnd) (met : Bool) → is_due end met ≡ true �
 is_met_then None met is = is
 is_met_then (Some end) met is = absurd (true≢false (sym is))
 
+-- the turn may not come to it
+not_beside : (busy : Option ℕ) (n : ℕ) (s : Session) (submits : Bool) → is_beside busy n submits ≡ false → (submits ≡ true → SubmitsNothing s → ⊥) → IsBeside busy n s → ⊥
+not_beside None n s submits is some beside = true≢false is
+not_beside (Some k) n s true is some (inl same) =
+    elim (eqb_tells n k) [ inl equal ↦ true≢false (sym (ap (λ b. b || false) equal.0) ∙ is) | inr differ ↦ differ.1 same ]
+not_beside (Some k) n s true is some (inr nothing) = some refl nothing
+not_beside (Some k) n s false is some beside = true≢false (sym (or_true (n == k)) ∙ is)
+
 module _ {A : Type 0} where
   -- ---- what came
 
@@ -278,14 +286,6 @@ module _ {A : Type 0} where
         | inl same ↦ inl same.1
         | inr differ ↦ inr (submits_none s peer stands due (not_true (submits_now peer) (sym (ap (λ b. b || not (submits_now peer)) differ.0) ∙ is)))
       ]
-
-  -- or may not
-  not_beside : (busy : Option ℕ) (n : ℕ) (s : Session) (submits : Bool) → is_beside busy n submits ≡ false → (submits ≡ true → SubmitsNothing s → ⊥) → IsBeside busy n s → ⊥
-  not_beside None n s submits is some beside = true≢false is
-  not_beside (Some k) n s true is some (inl same) =
-      elim (eqb_tells n k) [ inl equal ↦ true≢false (sym (ap (λ b. b || false) equal.0) ∙ is) | inr differ ↦ differ.1 same ]
-  not_beside (Some k) n s true is some (inr nothing) = some refl nothing
-  not_beside (Some k) n s false is some beside = true≢false (sym (or_true (n == k)) ∙ is)
 
   pub nobody_may : {D : Type 0} (busy : Option ℕ) (m : Moment D) (p : ℕ) (slot : Option (Peer A)) (seat : Option Seat) → StandsAt (m.sessions p) slot seat → m.round.fighting ≡ busy
       → may_serve_in busy p slot ≡ false → MayBeServed m p → ⊥

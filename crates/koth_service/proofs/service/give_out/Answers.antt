@@ -1,5 +1,6 @@
 -- The reports of parting stand after those of sending, and those of browsers after both. Browsers go on after the peers.
-use Rattle.koth_service.{specs.{Connections.stage_at, Standing.peers_of}, proofs.{Steps.ticked, Told.grows_on}}
+use Rattle.{std.proofs.Common.subst, hill_store.specs.Seen.Seen}
+use Rattle.koth_service.{specs.{Connections.{BrowsersGoOn, stage_at}, Standing.peers_of}, proofs.{Steps.ticked, Told.grows_on}}
 use Rattle.koth_service.proofs.service.give_out.Goals as goal
 
 pub returns-clause-told : goal.returns-clause-told
@@ -8,7 +9,9 @@ returns-clause-told g c = grows_on _ _ _ c.send_all.ensures.told (grows_on _ _ _
 pub returns-clause-served : goal.returns-clause-served
 returns-clause-served g c = λ start on.
     let browsers = stage_at c.args.browsers.now.connections.items in
-    c.serve_browsers-round.ensures.served start (peers_of c.part_all.new.desk)
+    let goes = subst (λ (store : Seen _). BrowsersGoOn g.S.Sockets.happened g.D.Device.facts (g.H.Host.shows c.args.host.now) store c.part_all.new.sockets c.args.browsers.now
+    c.serve_browsers-round.new.sockets c.serve_browsers-round.new.browsers) c.store.ensures c.serve_browsers-round.ensures.served in
+    goes start (peers_of c.part_all.new.desk)
     (c.part_all.ensures.served start browsers (c.send_all.ensures.served start browsers (
     ticked g.S.Sockets.happened g.D.Device.facts (g.H.Host.shows c.args.host.now) start browsers c.args.sockets.now c.now.new.self (peers_of c.args.desk.now) c.args.desk.now.judge.store c.now.result
     c.max-desk.result c.now.ensures c.max-desk.ensures on)))
