@@ -1,11 +1,11 @@
 -- Why a peer is disconnected, and whose turn it is, by how the peers and their seats stand.
-use Rattle.std.proofs.Common.{◌≡◌, ◌≢◌, ◌⊎◌, inl, inr, ℕ, ◌-◌, ◌<◌, ◌≤◌, ◌==◌, ◌&&◌, ◌||◌, arith, nat_le, Bool, true, true≢false, false, not, if◌then◌else◌, length, List, [], ◌∷◌, ◌++◌}
+use Rattle.std.proofs.Common.{◌≡◌, ◌⊎◌, inl, inr, ℕ, ◌<◌, ◌==◌, ◌&&◌, ◌||◌, arith, nat_le, Bool, true, true≢false, false, not, if◌then◌else◌, length, List, [], ◌∷◌, ◌++◌}
 use Rattle.std.proofs.{Common.{Option, None, Some, is_some, refl, sym, ap, subst, ◌∙◌, append_assoc, append-nil}, lemmas.{Bool.Decides.eqb_tells, List.append_cancel_left}}
 use Rattle.koth_protocol.specs.{Commands.{Command, Reader, commands_read, kept_source}, Reading.commands_met, declared.script.Met.Met}
-use Rattle.koth_session.specs.{Inbox.{IsReadTo, is_met, is_request, is_submission}, Peer.{HasRead, asks_now, command_due, command_of, is_due, is_due_now, settled, submits_now}, Peers.{asks_in, end_in, is_beside, is_due_in, is_finished_in, may_serve_in}}
+use Rattle.koth_session.specs.{Inbox.{IsReadTo, is_met, is_request, is_submission}, Peer.{HasRead, command_due, command_of, is_due, is_due_now, settled, submits_now}, Peers.{asks_in, end_in, is_beside, is_due_in, is_finished_in, may_serve_in}}
 use Rattle.{koth_session.specs.declared.{end.PeerEnd.PeerEnd, inbox.Inbox.Inbox, peer.Peer.Peer}, koth_session.proofs.{Answering.submit_due, Standing.{behind_met, settles, those_came}}}
-use Rattle.koth_service.specs.{Seats.{IsPatienceOver, IsUnused, has_some}, Session.Session, Moment.{Moment, Round}, History.{AsksForPage, Begins, HasAll, HasEnded, HasNothingDue, IsBeside, IsCause, IsSilent, MayBeDisplaced, MayBeServed, MayDisconnect, SubmitsNothing}}
-use Rattle.koth_service.specs.{Standing.{AwaitedIn, IsSeatOf, Stands, StandsAt, over_by}, declared.{host.HowEnded.HowEnded, seats.Seat.Seat, times.TheConstants.{PATIENCE, UNSPOKEN, UNUSED}}}
+use Rattle.koth_service.specs.{Seats.{IsPatienceOver, IsUnused, has_some}, Session.Session, Moment.{Moment}, History.{AsksForPage, Begins, HasAll, HasEnded, HasNothingDue, IsBeside, IsCause, IsSilent, MayBeDisplaced, MayBeServed, MayDisconnect, SubmitsNothing}}
+use Rattle.koth_service.specs.{Standing.{AwaitedIn, Stands, StandsAt, over_by}, declared.{host.HowEnded.HowEnded, seats.Seat.Seat}}
 use Rattle.koth_service.proofs.Moments.{is_some_byte}
 
 -- ---- truth values and lists

@@ -1,5 +1,5 @@
 -- What has happened by the end of a service.
-use Rattle.std.proofs.Common.{◌≡◌, ℕ, ◌≤◌, arith, List, [], Option, None, Some, Result, Ok, Err, IfOk}
+use Rattle.std.proofs.Common.{ℕ, ◌≤◌, arith, List, [], Option, None, Some, Result, Ok, Err, IfOk}
 use Rattle.{sector_disk.specs.Facts.DeviceFacts, hill_store.specs.Seen.Seen, koth_session.specs.declared.peers.Step.Step}
 use Rattle.koth_service.specs.{Noted.Noted, Moment.{Happening, Start, ended_in, noted}, History.Shows}
 use Rattle.koth_service.specs.Standing.{CameToBe, GoesOn, HaveEnded, IsServed, PeersNow, StandsAfter}

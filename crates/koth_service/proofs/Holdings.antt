@@ -1,5 +1,5 @@
 -- What the device holds at each moment of a service, and what the service is in the life of its device.
-use Rattle.std.proofs.Common.{◌≡◌, ℕ, true, true≢false, false, List, [], ◌∷◌, ◌++◌, Option, None, Some, refl, sym, subst, ◌∙◌, append-nil}
+use Rattle.std.proofs.Common.{◌≡◌, ℕ, true≢false, false, List, [], ◌∷◌, ◌++◌, Option, None, Some, refl, sym, subst, ◌∙◌, append-nil}
 use Rattle.{war_types.specs.declared.settings.RawSettings.RawSettings, sector_disk.specs.Facts.DeviceFacts, hill_store.specs.{Holding.{AreDecided, Holds, IsCutOff, IsHeldWith, IsHolding}, Seen.Seen}}
 use Rattle.{hill_store.proofs.Decided.decided, koth_session.specs.{Sessions.{AreServed, IsLeftOff}, Transcript.{Exchange, submitted}}}
 use Rattle.koth_session.proofs.{Exchanges.served_none, Holding.{keeps_cut, keeps_list}}

@@ -1,16 +1,16 @@
 -- How a history goes on by a command, or by a step of a submission.
-use Rattle.{std.proofs.Common.{◌≡◌, ◌≢◌, inl, inr, ℕ, ◌+◌, Bool, true, false, true≢false, length, List, [], ◌∷◌, ◌++◌, Option, None, Some, IsSome, refl, sym, ap, subst, ◌∙◌, append_assoc}, std.proofs.lemmas.Bool.cases_eq}
+use Rattle.{std.proofs.Common.{◌≡◌, inl, inr, ℕ, ◌+◌, Bool, true, false, true≢false, length, List, [], ◌∷◌, ◌++◌, Option, None, Some, IsSome, refl, sym, ap, subst, ◌∙◌, append_assoc}, std.proofs.lemmas.Bool.cases_eq}
 use Rattle.{sector_disk.specs.Facts.DeviceFacts, hill_store.specs.Seen.{Assembled, MayBeSpent, Seen}, koth_protocol.specs.Commands.{Command, Reader, commands_read, kept_source}}
 use Rattle.{koth_protocol.specs.declared.script.Met.Met, koth_session.specs.{Sessions.{AreServed, IsLeftOff}, Transcript.{Exchange, answer, command_in}}}
 use Rattle.koth_session.proofs.{Answering.submit_due, Exchanges.served_on, Fights.may_serve_now, Holding.{keeps_cut, keeps_list}}
 use Rattle.koth_session.specs.{Inbox.{IsTaken, is_met, is_request}, Judge.{Fight, Judged, fighting, without}, Peer.{HasRead, IsFull, IsPeer, Serves, command_due, command_of, is_due}}
-use Rattle.koth_session.specs.Peers.{ComesBefore, IsFirstDue, IsOfOne, IsServed, IsStepped, Moves, MovesAt, ServesNext, ServesOne, Slots, asks_in, is_due_in, may_serve_in, peer_at, step_after}
+use Rattle.koth_session.specs.Peers.{ComesBefore, IsFirstDue, IsOfOne, IsServed, IsStepped, Moves, ServesNext, ServesOne, Slots, asks_in, is_due_in, may_serve_in, peer_at, step_after}
 use Rattle.koth_session.specs.declared.{end.PeerEnd.PeerEnd, inbox.Inbox.Inbox, peer.Peer.Peer, peers.Step.Step}
 use Rattle.koth_session.proofs.{Steps.{same_store, same_unsent}, Standing.{behind_met, those_came}}
 use Rattle.koth_service.specs.{Noted.Noted, Seats.{SeatMoves, Seats, seat_at, seat_map, seat_served}, Session.{Session, session_answered, session_over}}
 use Rattle.koth_service.specs.Moment.{Happening, Moment, Start, answered, instead, moment, other_than, round_after}
 use Rattle.koth_service.specs.History.{Answers, Begins, Breaks, Fights, HasNoRoom, IsBeside, IsSafe, IsTurn, MayBeServed, MayDisconnect, Shows, Stops}
-use Rattle.koth_service.specs.Standing.{AreStanding, CameToBe, GoesOn, IsCutOff, IsRound, IsSeatOf, PeersNow, Stands, StandsAfter, StandsAt, fought_to, over_by}
+use Rattle.koth_service.specs.Standing.{AreStanding, CameToBe, GoesOn, IsCutOff, IsRound, PeersNow, Stands, StandsAt, fought_to, over_by}
 use Rattle.koth_service.specs.declared.{connections.Stage.Stage, host.HowEnded.HowEnded, seats.Seat.Seat}
 use Rattle.koth_service.proofs.{Causes.{asks, beside_at, nobody_may, not_over}, Moments.{at_both, only_seats, over_settled, same_peer, standing_with}, Stages.{came_to_be, fighting_without, safe_on}}
 

@@ -1,5 +1,5 @@
 -- How a history goes on by what happens on the sockets.
-use Rattle.std.proofs.Common.{◌≡◌, ◌≢◌, ◌∙◌, ◌==◌, ℕ, ◌+◌, ◌<◌, ◌≤◌, Bool, true, true≢false, false, ap, arith, length, max, List, [], ◌∷◌, take, Option, None, Some, IsSome, is_some, Result, Ok, Err, refl, sym, subst}
+use Rattle.std.proofs.Common.{◌≡◌, ◌≢◌, ◌∙◌, ◌==◌, ℕ, ◌+◌, ◌<◌, ◌≤◌, Bool, true, true≢false, false, ap, arith, length, max, List, [], ◌∷◌, take, Option, None, Some, IsSome, is_some, Ok, Err, refl, sym, subst}
 use Rattle.{sector_disk.specs.Facts.DeviceFacts, hill_store.specs.Seen.Seen, std.specs.declared.net.socket_addr.SocketAddr.SocketAddr}
 use Rattle.koth_session.{specs.Judge.{Fight, fighting, without}, proofs.Fights.{closes_still, of_moved, of_new, of_others, sends_still}}
 use Rattle.koth_session.specs.{Peer.{Closes, Sends, Takes}, Peers.{Connects, IsOfOne, MovesAt, OnlyAt, Slots, end_in, is_finished_in, may_come_at, may_come_in, peer_at, unsent_at, unsent_in}}

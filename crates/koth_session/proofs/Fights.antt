@@ -1,7 +1,7 @@
 -- A submission that is under way, and the peers beside it: for `Judge` and `serve_next`.
 use Rattle.std.proofs.Common.{◌≡◌, ◌≢◌, ◌∙◌, inl, inr, ℕ, ◌==◌, ◌&&◌, ◌||◌, Bool, true, false, true≢false, not, if◌then◌else◌, Option, None, Some, IsSome, refl, sym, ap, ap₂, subst}
 use Rattle.std.proofs.lemmas.Bool.{cases_eq, Decides.eqb_tells}
-use Rattle.{sector_disk.specs.Facts.DeviceFacts, war_types.specs.declared.settings.RawSettings.RawSettings, hill_store.specs.{Seen.Seen, Submission.{IsSubmitting, SubmissionParts}}, koth_protocol.specs.Commands.kept_source}
+use Rattle.{sector_disk.specs.Facts.DeviceFacts, war_types.specs.declared.settings.RawSettings.RawSettings, hill_store.specs.{Seen.Seen, Submission.{SubmissionParts}}, koth_protocol.specs.Commands.kept_source}
 use Rattle.koth_session.specs.{Inbox.{is_met, is_submission}, Judge.{AreSubmitting, Fight, IsOfSource, Judged, fighting, judged, without}, Peer.{Closes, IsStillDue, Sends, is_due, is_due_now, settled_now, submits_now}}
 use Rattle.koth_session.specs.Peers.{IsOfIn, IsOfIts, IsOfOne, IsOfPeer, IsServed, IsStepped, Moves, MovesAt, OnlyAt, Slots, is_beside, may_serve_in, peer_at}
 use Rattle.{koth_session.specs.declared.{end.PeerEnd.PeerEnd, inbox.Inbox.Inbox, peer.Peer.Peer}, koth_session.proofs.Standing.{goes_on_still, is_met_then, still_due}}

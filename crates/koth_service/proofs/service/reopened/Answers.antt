@@ -1,5 +1,5 @@
 -- The hill of the device that was left, and no submission is under way.
-use Rattle.{std.proofs.Common.{◌≡◌, ◌∙◌, false, ap, refl, subst, sym}, hill_store.specs.Seen.Seen, koth_session.specs.Judge.Judged, koth_service.specs.{History.OpensAgain, Standing.{PeersNow, fought_to, peers_of}}}
+use Rattle.{std.proofs.Common.{◌≡◌, ◌∙◌, false, ap, subst, sym}, koth_session.specs.Judge.Judged, koth_service.specs.{History.OpensAgain, Standing.{fought_to, peers_of}}}
 use Rattle.koth_service.proofs.service.reopened.Goals as goal
 
 pub returns-in-Ok : goal.returns-in-Ok

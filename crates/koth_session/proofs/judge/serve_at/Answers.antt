@@ -1,5 +1,5 @@
 -- A command that is no submission, or the turn of one.
-use Rattle.{std.proofs.Common.{◌≡◌, ◌∙◌, IfErr, IfOk, None, Some, refl, subst, sym}, koth_session.specs.Judge.{AreSubmitting, Fight, judged}}
+use Rattle.{std.proofs.Common.{◌∙◌, IfErr, IfOk, Some, refl, subst, sym}, koth_session.specs.Judge.{AreSubmitting, judged}}
 use Rattle.koth_session.{specs.{Peer.submits_now, Peers.{IsServed, IsStepped}}, proofs.Fights.{own_is, without_told}}
 use Rattle.koth_session.proofs.judge.serve_at.Goals as goal
 
