@@ -10,7 +10,7 @@ use koth_commands::{Status, read_source};
 use koth_files::{HillTrouble, look_hill};
 use koth_hill::{Hill, Verdict};
 use koth_views::{challenged_view, fallen_view};
-use koth_words::{Trial, View};
+use koth_words::{Submission, View};
 use sector_disk::Device;
 use std::alloc::{AllocError, Allocator};
 use std::io::Write;
@@ -22,7 +22,7 @@ use std::rt::Files;
 pub(crate) fn try_submission<R: Files, A: Allocator + Copy, O: Write, E: Write>(
     rt: &R,
     alloc: A,
-    files: Trial<'_>,
+    files: Submission<'_>,
     view: View,
     output: &mut O,
     errors: &mut E,

@@ -8,7 +8,7 @@ ghost use Rattle.koth_words.specs.Words.{uses_settings, view_in, IsSource};
 use crate::options::{number_given, number_if_given};
 use crate::requests::{
     Checked, Copied, Creation, Fighters, Form, Migration, Reseeded, Shown, Source, Submission,
-    Trial, View, Watched,
+    View, Watched,
 };
 use clap::ArgMatches;
 use std::alloc::{AllocError, Global};
@@ -202,18 +202,6 @@ pub(crate) fn watched_named<'w>(matches: &ArgMatches<'w>) -> Watched<'w>
         older: file_named(matches, "A"),
         younger: file_named(matches, "B"),
         round: number_given(matches, "round", 1),
-    }
-}
-
-pub(crate) fn trial_named<'w>(matches: &ArgMatches<'w>) -> Trial<'w>
-    ensures hill { result.hill.now ≡ text_or_none (first_of (codes "FILE") (rows_of (found_of matches.now))) }
-    ensures source { result.source.now ≡ text_or_none (first_of (codes "SOURCE") (rows_of (found_of matches.now))) }
-    ensures view { result.view ≡ view_in (rows_of (found_of matches.now)) }
-{
-    Trial {
-        hill: file_named(matches, "FILE"),
-        source: file_named(matches, "SOURCE"),
-        view: view_given(matches),
     }
 }
 

@@ -20,7 +20,7 @@ mod words;
 pub use options::DEFAULTS;
 pub use requests::{
     Checked, Copied, Creation, Fighters, Form, Migration, NoRequest, Request, Reseeded, Service,
-    Shown, Source, Submission, Trial, View, Watched,
+    Shown, Source, Submission, View, Watched,
 };
 pub use serving::STEPS;
 pub use settings::{Chosen, Given, given_as};

@@ -32,8 +32,8 @@ pub enum Request<'w> {
     Page(&'w str),
     /// `replay`: write the page of one round of a match under these settings.
     Replay(Given<'w>, Watched<'w>),
-    /// `try`: write what a submission of a source to a hill would be answered.
-    Try(Trial<'w>),
+    /// `try`: write what a submission would be answered.
+    Try(Submission<'w>),
     /// `copy`: copy a hill to a new file.
     Copy(Copied<'w>),
     /// `reseed`: make a new hill with another seed, and submit the warriors of a hill to it.
@@ -65,7 +65,7 @@ impl<'w> Request<'w> {
 }
 
 /// The place that a source is read from.
-#[derive(Clone, Copy, PartialEq, Eq)]
+#[derive(Clone, Copy)]
 pub enum Source<'w> {
     /// The standard input: no file is named, or `-`.
     Input,
@@ -83,7 +83,7 @@ pub struct Checked<'w> {
 }
 
 /// The form of the report of `check`.
-#[derive(Clone, Copy, PartialEq, Eq)]
+#[derive(Clone, Copy)]
 pub enum Form {
     /// Lines for people.
     Text,
@@ -92,7 +92,7 @@ pub enum Form {
 }
 
 /// How output for people is laid out.
-#[derive(Clone, Copy, PartialEq, Eq)]
+#[derive(Clone, Copy)]
 pub enum View {
     /// One fact a line.
     Plain,
@@ -101,7 +101,7 @@ pub enum View {
 }
 
 /// The files of two warriors.
-#[derive(Clone, Copy, PartialEq, Eq)]
+#[derive(Clone, Copy)]
 pub struct Fighters<'w> {
     pub older: &'w str,
     pub younger: &'w str,
@@ -110,7 +110,7 @@ pub struct Fighters<'w> {
 }
 
 /// The file of a new hill.
-#[derive(Clone, Copy, PartialEq, Eq)]
+#[derive(Clone, Copy)]
 pub struct Creation<'w> {
     /// Created if missing.
     pub hill: &'w str,
@@ -121,7 +121,7 @@ pub struct Creation<'w> {
 }
 
 /// The files of a hill and of a source for it.
-#[derive(Clone, Copy, PartialEq, Eq)]
+#[derive(Clone, Copy)]
 pub struct Submission<'w> {
     pub hill: &'w str,
     pub source: &'w str,
@@ -132,7 +132,7 @@ pub struct Submission<'w> {
 }
 
 /// The file of a hill, and what is written of it.
-#[derive(Clone, Copy, PartialEq, Eq)]
+#[derive(Clone, Copy)]
 pub struct Shown<'w> {
     pub hill: &'w str,
     /// Whether the table of matches is written too: the rounds that each warrior won against each other one.
@@ -174,7 +174,7 @@ pub struct Service<'w> {
 }
 
 /// The file of a hill of the old format, and the file that it moves to.
-#[derive(Clone, Copy, PartialEq, Eq)]
+#[derive(Clone, Copy)]
 pub struct Migration<'w> {
     /// Stays as it is.
     pub old: &'w str,
@@ -183,21 +183,12 @@ pub struct Migration<'w> {
 }
 
 /// The files of two warriors, and which round of their match is shown.
-#[derive(Clone, Copy, PartialEq, Eq)]
+#[derive(Clone, Copy)]
 pub struct Watched<'w> {
     pub older: &'w str,
     pub younger: &'w str,
     /// The first round is 1.
     pub round: u32,
-}
-
-/// The files of a hill and of a source that is tried on it.
-#[derive(Clone, Copy)]
-pub struct Trial<'w> {
-    pub hill: &'w str,
-    pub source: &'w str,
-    /// The layout that is asked for, if one is.
-    pub view: Option<View>,
 }
 
 /// The files of a hill and of its copy.

@@ -8,7 +8,7 @@ use crate::commands::koth_command;
 use crate::given::{
     checked_named, copied_named, creation_named, fighters_named, file_named, has_known_form,
     has_one_seed, has_one_sight, has_one_view, migration_named, reseeded_named, shown_named,
-    source_named, submission_named, trial_named, uses_settings, watched_named,
+    source_named, submission_named, uses_settings, watched_named,
 };
 use crate::requests::{NoRequest, Request};
 use crate::serving::{has_address, service_named};
@@ -17,48 +17,24 @@ use clap::error::ErrorKind;
 use clap::{ArgMatches, Error};
 use std::alloc::{AllocError, Global};
 
-const TWO_VIEWS: &str = "error: the argument '--plain' cannot be used with '--table'
+const TWO_VIEWS: &str = "the argument '--plain' cannot be used with '--table'";
 
-For more information, try '--help'.
-";
-
-const UNKNOWN_FORM: &str = "error: the argument '--format <FORM>' takes 'text' or 'json'
-
-For more information, try '--help'.
-";
+const UNKNOWN_FORM: &str = "the argument '--format <FORM>' takes 'text' or 'json'";
 
 const UNUSED_SETTINGS: &str =
-    "error: options that give settings need '--create': a hill that is there keeps its own
-
-For more information, try '--help'.
-";
+    "options that give settings need '--create': a hill that is there keeps its own";
 
 const NO_ADDRESS: &str =
-    "error: the argument '--listen <ADDRESS>' takes an IPv4 or IPv6 address of one machine, without a port
+    "the argument '--listen <ADDRESS>' takes an IPv4 or IPv6 address of one machine, without a port";
 
-For more information, try '--help'.
-";
+const TWO_SEEDS: &str = "the argument '--draw-seed' cannot be used with '--seed <NUMBER>'";
 
-const TWO_SEEDS: &str = "error: the argument '--draw-seed' cannot be used with '--seed <NUMBER>'
+const UNKNOWN_PRESET: &str = "the argument '--preset <NAME>' takes '94nop', 'tiny' or 'nano'";
 
-For more information, try '--help'.
-";
-
-const UNKNOWN_PRESET: &str = "error: the argument '--preset <NAME>' takes '94nop', 'tiny' or 'nano'
-
-For more information, try '--help'.
-";
-
-const TWO_BASES: &str = "error: the argument '--like <FILE>' cannot be used with '--preset <NAME>'
-
-For more information, try '--help'.
-";
+const TWO_BASES: &str = "the argument '--like <FILE>' cannot be used with '--preset <NAME>'";
 
 const TWO_SIGHTS: &str =
-    "error: the argument '--settings' cannot be used with '--matches', and '--with-seed' needs '--settings'
-
-For more information, try '--help'.
-";
+    "the argument '--settings' cannot be used with '--matches', and '--with-seed' needs '--settings'";
 
 /// What a command line asks for. The first of `words` is the program's name.
 ///
@@ -148,17 +124,18 @@ fn asked<'w>(heap: Global, name: &str, given: &ArgMatches<'w>) -> Result<Request
         "migrate" => Ok(Request::Migrate(migration_named(given))),
         "page" => Ok(Request::Page(file_named(given, "FILE"))),
         "replay" => Ok(Request::Replay(given_named(given), watched_named(given))),
-        "try" => Ok(Request::Try(trial_named(given))),
+        "try" => Ok(Request::Try(submission_named(given))),
         "copy" => Ok(Request::Copy(copied_named(given))),
         "reseed" => Ok(Request::Reseed(reseeded_named(given))),
         _ => unreachable!(),
     }
 }
 
-fn word_fault(heap: Global, text: &str) -> NoRequest
+/// The refusal of words that `clap` takes, as it writes those of others.
+fn word_fault(heap: Global, why: &str) -> NoRequest
     ensures { IsRefusal result }
 {
-    match String::from_str(heap, text) {
+    match format!(in heap; "error: {why}\n\nFor more information, try '--help'.\n") {
         Ok(text) => NoRequest::WordFault(text),
         Err(AllocError) => NoRequest::Memory,
     }
