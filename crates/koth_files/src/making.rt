@@ -1,6 +1,6 @@
 //! How a hill is made in a file.
 
-ghost use Rattle.std.specs.Prelude.{◌≡◌, ◌⊎◌, IfOk, OnOk};
+ghost use Rattle.std.specs.Prelude.{◌≡◌, ◌⊎◌, IfErr, IfOk, OnOk};
 ghost use Rattle.{koth_hill.specs.Kept.new_kept, sector_disk.specs.{Image.Images, Served.IsKept}};
 ghost use Rattle.hill_images.specs.{Opening.HoldsNone, Stands.Reads};
 ghost use Rattle.{hill_store.specs.{Opened.IsCreated, Read.IsCopied}, koth_files.specs.HillFault.fault_of_file};
@@ -107,9 +107,6 @@ pub fn copy_hill<'f, R: Files, D: Device, A: Allocator + Copy>(
 where
     R::File: TryLock,
 {
-    if rt.symlink_metadata(path).is_ok() {
-        return Err(HillTrouble::taken(path));
-    }
     match name_beside(alloc, path) {
         Ok(new) => copy_beside(rt, store, path, new.as_str()),
         Err(AllocError) => Err(HillTrouble::memory()),
@@ -126,10 +123,13 @@ fn copy_beside<'f, R: Files, D: Device, A: Allocator + Copy>(
 where
     R::File: TryLock,
 {
+    // the place of a file of zeros would be filled: so nothing is here before the place is taken, and nothing after that
+    require_none(rt, path)?;
     let place = match Place::take(rt, path, Existing::Kept) {
         Ok(place) => place,
         Err(fault) => return Err(trouble_of_new(path, fault)),
     };
+    require_none(rt, path)?;
     match copy_new(rt, store, path, new) {
         Ok(_device) => match place.fill(new) {
             Ok(()) => Ok(()),
@@ -178,6 +178,16 @@ fn copy_on<D: Device, N: Device, A: Allocator>(
     match store.copy_to(new) {
         Ok(()) => Ok(()),
         Err(refusal) => Err(fault_of_refusal(refusal)),
+    }
+}
+
+/// Refuses a path at which something is.
+fn require_none<'f, R: Files>(rt: &R, path: &'f str) -> Result<(), HillTrouble<'f>>
+    ensures { IfErr result (λ trouble. trouble.fault ≡ HillFault.Occupied) }
+{
+    match rt.symlink_metadata(path) {
+        Ok(_) => Err(HillTrouble::taken(path)),
+        Err(_) => Ok(()),
     }
 }
 

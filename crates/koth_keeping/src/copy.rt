@@ -2,15 +2,14 @@
 
 ghost use Rattle.std.specs.Prelude.{◌≡◌, ◌≢◌, None, Some, true, IfSome};
 ghost use Rattle.{koth_hill.specs.Kept.AreTrue, koth_commands.specs.Streams.streams};
-ghost use Rattle.koth_keeping.specs.{Audit.IsAudited, Copies.{EndsCopy, EndsCopyOf, SaysCopied}, Said.EndsHill};
-ghost use Rattle.koth_keeping.specs.Said.{Tries};
+ghost use Rattle.koth_keeping.specs.{Audit.IsAudited, Copies.{EndsCopy, EndsCopyOf}};
 
 use crate::audit::answer_found;
-use crate::line::say_line;
+use crate::line::answer_line;
 use hill_file::TryLock;
 use hill_store::{Store, Untrue};
 use koth_commands::Status;
-use koth_files::{HillTrouble, copy_hill, look_hill};
+use koth_files::{copy_hill, look_hill};
 use koth_words::Copied;
 use sector_disk::Device;
 use std::alloc::Allocator;
@@ -59,7 +58,10 @@ where
 {
     match first_untrue(store, files.audit) {
         Some(untrue) => answer_found(alloc, Some(untrue), output, errors),
-        None => copy_store(rt, alloc, store, files.new, output, errors),
+        None => {
+            let copied = copy_hill(rt, alloc, store, files.new);
+            answer_line(alloc, copied, b"COPIED\n", output, errors)
+        }
     }
 }
 
@@ -76,43 +78,4 @@ fn first_untrue<D: Device, A: Allocator + Copy>(
         return store.first_untrue();
     }
     None
-}
-
-/// Copies the hill of a store to a new file, and says so.
-fn copy_store<R: Files, D: Device, A: Allocator + Copy, O: Write, E: Write>(
-    rt: &R,
-    alloc: A,
-    store: &Store<D, A>,
-    path: &str,
-    output: &mut O,
-    errors: &mut E,
-) -> Status
-where
-    R::File: TryLock,
-    ensures ends { EndsHill SaysCopied result
-        (streams None (O.contents output.old) (E.contents errors.old))
-        (streams None (O.contents output.new) (E.contents errors.new)) }
-    ensures words { result ≢ Status.WordFault }
-{
-    match copy_file(rt, alloc, store, path, output) {
-        Ok(status) => status,
-        Err(trouble) => trouble.tell(alloc, errors),
-    }
-}
-
-fn copy_file<'p, R: Files, D: Device, A: Allocator + Copy, O: Write>(
-    rt: &R,
-    alloc: A,
-    store: &Store<D, A>,
-    path: &'p str,
-    output: &mut O,
-) -> Result<Status, HillTrouble<'p>>
-where
-    R::File: TryLock,
-    ensures { Tries SaysCopied result (O.contents output.old) (O.contents output.new) }
-{
-    match copy_hill(rt, alloc, store, path) {
-        Ok(()) => say_line(output, b"COPIED\n"),
-        Err(trouble) => Err(trouble),
-    }
 }

@@ -3,9 +3,9 @@
 ghost use Rattle.std.specs.Prelude.{◌≡◌, ◌≢◌, None};
 ghost use Rattle.{war_types.specs.Settings.settings_of, koth_words.specs.Settings.given_as};
 ghost use Rattle.koth_commands.specs.Streams.{streams};
-ghost use Rattle.koth_keeping.specs.{Copies.{EndsReseed, SaysReseeded}, Said.{EndsHill, Tries}};
+ghost use Rattle.koth_keeping.specs.{Copies.{EndsReseed, SaysReseeded}, Said.EndsHill};
 
-use crate::line::say_line;
+use crate::line::answer_line;
 use crate::reseeding::reseeded;
 use crate::seed::drawn_seed;
 use hill_file::TryLock;
@@ -119,30 +119,11 @@ where
         (streams None (O.contents output.new) (E.contents errors.new)) }
     ensures words { result ≢ Status.WordFault }
 {
-    match reseed_file(rt, alloc, hill, settings, path, output) {
-        Ok(status) => status,
-        Err(trouble) => trouble.tell(alloc, errors),
-    }
-}
-
-fn reseed_file<'p, R: Files, A: Allocator + Copy, O: Write>(
-    rt: &R,
-    alloc: A,
-    hill: &Hill<A>,
-    settings: Settings,
-    path: &'p str,
-    output: &mut O,
-) -> Result<Status, HillTrouble<'p>>
-where
-    R::File: TryLock,
-    ensures { Tries SaysReseeded result (O.contents output.old) (O.contents output.new) }
-{
-    let store = match reseeded(alloc, hill, settings) {
-        Ok(store) => store,
-        Err(AllocError) => return Err(HillTrouble::memory()),
-    };
-    match copy_hill(rt, alloc, &store, path) {
-        Ok(()) => say_line(output, b"RESEEDED\n"),
-        Err(trouble) => Err(trouble),
+    match reseeded(alloc, hill, settings) {
+        Ok(store) => {
+            let copied = copy_hill(rt, alloc, &store, path);
+            answer_line(alloc, copied, b"RESEEDED\n", output, errors)
+        }
+        Err(AllocError) => HillTrouble::memory().tell(alloc, errors),
     }
 }

@@ -58,6 +58,20 @@ const COMMANDS: [Row; 8] = commands! {
     6 + 1, 9 => "koth submit growths.hill growths.red", "" => "PLACED 2 2 2\n", 0;
 };
 
+/// The commands that only look at the hill. For one with another seed, a device and a hill on it are made in memory, and its warrior is
+/// written as a source and submitted by 33 growths. Then come two for the name of the new file.
+const OTHERS: [Row; 5] = commands! {
+    1 + 6 + 5, 0 => "koth show growths.hill --settings", ""
+        => "--core 64 --cycles 100 --processes 8 --length 10 --distance 10 --rounds 2 --capacity 2 --read-limit 0 --write-limit 0\n", 0;
+    1 + 6 + 1, 9 => "koth try growths.hill growths.red", "" => "PLACED 2 2 2\n", 0;
+    1 + 6 + 2, 0 => "koth copy growths.hill growing.hill --audit", "" => "COPIED\n", 0;
+    1 + 6 + 1 + 5 + 33 + 2, 0 => "koth reseed growths.hill growing.hill --seed 8", "" => "RESEEDED\n", 0;
+    1 + 6 + 2 + 5, 0 => "koth create growing.hill --like growths.hill", "" => "CREATED\n", 0;
+};
+
+/// A trial whose matches are to be read: after the 17 growths up to its reply it has these 15.
+const TRIAL: &str = "koth try growths.hill growths.red --table";
+
 /// The files as the commands find them: the hill has these bytes, and the other one is not there.
 fn put_files(rt: &(impl Abort + Files), hill: &[u8]) {
     put_bytes(rt, HILL, hill);
@@ -198,6 +212,51 @@ fn of_commands(rt: HostRuntime) {
     play(&rt, &HILLS);
     check_on_hill(&rt, &COMMANDS);
     play(&rt, &REMOVED);
+}
+
+/// The same of those that don't write it.
+#[test]
+fn of_commands_that_look(rt: HostRuntime) {
+    play(&rt, &HILLS);
+    check_on_hill(&rt, &OTHERS);
+    play(&rt, &REMOVED);
+}
+
+/// Each growth of the matches after a reply is refused in turn: the reply stands alone then.
+#[test]
+fn of_the_matches_of_a_trial(rt: HostRuntime) {
+    play(&rt, &HILLS);
+    check_matches(&rt);
+    play(&rt, &REMOVED);
+}
+
+fn check_matches(rt: &(impl Abort + Host)) {
+    let memory = Refusing::new(rt.alloc());
+    for k in 17..32 {
+        check_trial(rt, &memory, k, 1, "PLACED 2 2 2\n");
+    }
+    let table =
+        "PLACED 2 2 2\nwarrior  author     won  lost  tied\nUnnamed  Anonymous    0     0     2\n";
+    check_trial(rt, &memory, 32, 0, table);
+    drop(memory);
+}
+
+/// The trial, of which growth `k` is refused, writes this, and this number of growths was refused.
+fn check_trial(
+    rt: &(impl Abort + Host),
+    memory: &Refusing<Global>,
+    k: u64,
+    refusals: u64,
+    output: &'static str,
+) {
+    let trial = Command {
+        line: TRIAL,
+        input: "",
+        output,
+        status: 0,
+    };
+    let refused = check_run(rt, memory, k, &trial, "");
+    expect_number(rt, refused, refusals, TRIAL);
 }
 
 /// Each of these commands, on the hill as it is.

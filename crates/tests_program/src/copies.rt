@@ -136,6 +136,23 @@ fn a_hill_with_another_seed(rt: HostRuntime) {
     play(&rt, &RESEEDED);
 }
 
+/// What is done in `a_name_that_loses_its_last_blank`: a name of 47 letters, a blank as its 48th byte, and more, which is cut off.
+const LAST_BLANK: [Step; 8] = steps! {
+    Run(small!("koth create blank.hill"), "CREATED\n", "", 0);
+    Put("blank.red", ";name ABCDEFGHIJKLMNOPQRSTUVWXYZABCDEFGHIJKLMNOPQRSTU VWXYZ\nJMP 0\n");
+    Run("koth submit blank.hill blank.red", "PLACED 1 1 0\n", "", 0);
+    Run("koth show blank.hill", "1 1 0 0 ABCDEFGHIJKLMNOPQRSTUVWXYZABCDEFGHIJKLMNOPQRSTU  by Anonymous\n.\n", "", 0);
+    Run("koth copy blank.hill as_it_is.hill", "COPIED\n", "", 0);
+    Run("koth show as_it_is.hill", "1 1 0 0 ABCDEFGHIJKLMNOPQRSTUVWXYZABCDEFGHIJKLMNOPQRSTU  by Anonymous\n.\n", "", 0);
+    Run("koth reseed blank.hill without.hill --seed 8", "RESEEDED\n", "", 0);
+    Run("koth show without.hill", "1 1 0 0 ABCDEFGHIJKLMNOPQRSTUVWXYZABCDEFGHIJKLMNOPQRSTU by Anonymous\n.\n", "", 0);
+};
+
+#[test]
+fn a_name_that_loses_its_last_blank(rt: HostRuntime) {
+    play(&rt, &LAST_BLANK);
+}
+
 /// Words that the commands refuse.
 const REFUSED: [Step; 5] = steps! {
     Fault("koth copy copied.hill", "<NEW>");

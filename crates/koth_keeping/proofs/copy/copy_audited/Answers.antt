@@ -8,4 +8,4 @@ returns-in-Some-clause-ends g c =
     inr (some.0, record { untrue = c.in-Some.untrue; audited = some.1; ends = c.answer_found.ensures.ends })
 
 pub returns-in-None-clause-ends : goal.returns-in-None-clause-ends
-returns-in-None-clause-ends g c = inl (λ asked. c.first_untrue.ensures.none asked c.in-None.is, c.copy_store.ensures.ends)
+returns-in-None-clause-ends g c = inl (λ asked. c.first_untrue.ensures.none asked c.in-None.is, c.answer_line.ensures.ends)
