@@ -22,175 +22,50 @@ abbrev titled : Result WarriorParts AsmFault → List ℕ × List ℕ
 titled (Ok w) = (w.name, w.author)
 titled (Err fault) = ([], [])
 
-move : gives (codes "MOV 0, 1") (codes "ORG 0\nMOV.I  $     0, $     1\nEND\n")
+rows :
+    (move : gives (codes "MOV 0, 1") (codes "ORG 0\nMOV.I  $     0, $     1\nEND\n")) ×
+    (one_operand : gives (codes "DAT 5") (codes "ORG 0\nDAT.F  $     0, $     5\nEND\n")) ×
+    (immediate : gives (codes "MOV #1, <2") (codes "ORG 0\nMOV.AB #     1, <     2\nEND\n")) ×
+    (slt : gives (codes "SLT 1, #2") (codes "ORG 0\nSLT.B  $     1, #     2\nEND\n")) ×
+    (folded : gives (codes "DAT 0, 7999") (codes "ORG 0\nDAT.F  $     0, $    -1\nEND\n")) ×
+    (half : gives (codes "DAT 0, 4000") (codes "ORG 0\nDAT.F  $     0, $  4000\nEND\n")) ×
+    (largest : gives (codes "dat.i # -9223372036854775807 , > + 9223372036854775807 ; c\n\t;x\norg 0\nEnd 3\nfoo") (codes "ORG 0\nDAT.I  #   193, >  -193\nEND\n")) ×
+    (labels : gives (codes "ORG start\nbomb DAT #0, #0\nstart ADD #4, bomb\nMOV bomb, @bomb\nJMP start") (codes "ORG 1\nDAT.F  #     0, #     0\nADD.AB #     4, $    -1\nMOV.I  $    -2, @    -2\nJMP.B  $    -2, $     0\nEND\n")) ×
+    (comments : gives (codes "here ; a label\nJMP here ; text\n;assert 1 ; text") (codes "ORG 0\nJMP.B  $     0, $     0\nEND\n")) ×
+    (label_behind_all : gives (codes "JMP x\nx") (codes "ORG 0\nJMP.B  $     1, $     0\nEND\n")) ×
+    (line_is_absolute : gives (codes "DAT 0\nx DAT CURLINE, x") (codes "ORG 0\nDAT.F  $     0, $     0\nDAT.F  $     1, $     0\nEND\n")) ×
+    (redcode_behind : gives (codes "DAT 5\nEND\n;redcode\nDAT 6") (codes "ORG 0\nDAT.F  $     0, $     6\nEND\n")) ×
+    (last_org : gives (codes "ORG 99\nORG 0\nDAT 0\nEND 5") (codes "ORG 0\nDAT.F  $     0, $     0\nEND\n")) ×
+    (names_are_no_name : gives (codes "DAT 0\n;names Imp\r\n;assert") (codes "ORG 0\nDAT.F  $     0, $     0\nEND\n")) ×
+    (empty : refused [] (fault_at 0 AsmKind.Empty)) ×
+    (jump : refused (codes "JMP") (fault_at 1 AsmKind.MissingOperand)) ×
+    (end_five : refused (codes "DAT 0\nEND 5\n") (fault_at 2 AsmKind.BadStart)) ×
+    (overflow : refused (codes "DAT 0\nDAT 9223372036854775808") (fault_at 2 (AsmKind.Expression ExprFault.Overflow))) ×
+    (second_label : refused (codes "x DAT 0\nx DAT 1") (fault_at 2 AsmKind.DuplicateName)) ×
+    (bad_token : refused (codes "DAT 0 = 1") (fault_at 1 AsmKind.BadToken)) ×
+    (pspace : refused (codes "LDP 0, 1") (fault_at 1 AsmKind.Pspace)) ×
+    (pin_with_a_bad_token : refused (codes "PIN ?") (fault_at 1 AsmKind.BadToken)) ×
+    (bad_modifier : refused (codes "MOV.Q 0, 1") (fault_at 1 AsmKind.BadModifier)) ×
+    (third_operand : refused (codes "MOV 0, 1, 2") (fault_at 1 AsmKind.ExtraText)) ×
+    (second_missing : refused (codes "MOV 0,,2") (fault_at 1 AsmKind.MissingOperand)) ×
+    (not_a_line : refused (codes "FOO 0") (fault_at 1 AsmKind.BadOperation)) ×
+    (parted_within_parentheses : refused (codes "MOV (1, 2)") (fault_at 1 (AsmKind.Expression ExprFault.BadExpression))) ×
+    (mode_alone : refused (codes "MOV #, 1") (fault_at 1 (AsmKind.Expression ExprFault.BadExpression))) ×
+    (unknown_before_extra : refused (codes "MOV foo, 1, 2") (fault_at 1 (AsmKind.Expression ExprFault.UnknownName))) ×
+    (a_before_b : refused (codes "MOV 1/0, foo") (fault_at 1 (AsmKind.Expression ExprFault.DivideByZero))) ×
+    (unused_end : refused (codes "ORG 0\nDAT 0\nEND foo") (fault_at 3 (AsmKind.Expression ExprFault.UnknownName))) ×
+    (walk_first : refused (codes "SPL\nDAT foo\nx\nx") (fault_at 4 AsmKind.DuplicateName)) ×
+    (first_false : refused (codes ";assert 1\n;assert 0\n;assert 0\nDAT 0") (fault_at 2 AsmKind.AssertFalse)) ×
+    (start_before_assertions : refused (codes ";assert 0\nDAT 0\nEND 1") (fault_at 3 AsmKind.BadStart)) ×
+    (prefix_of_labels : refused (codes "ORG start\nbomb DAT #0, #") (fault_at 1 (AsmKind.Expression ExprFault.UnknownName))) ×
+    (prefix_within_a_name : refused (codes "ORG start\nbomb DAT #0, #0\nstart ADD #4, bo") (fault_at 3 (AsmKind.Expression ExprFault.UnknownName))) ×
+    (prefix_behind_a_comma : refused (codes "ORG start\nbomb DAT #0, #0\nstart ADD #4,") (fault_at 3 AsmKind.MissingOperand)) ×
+    (later_equ : gives (codes "a EQU b+1\nb EQU 2\nDAT 0, a*2") (codes "ORG 0\nDAT.F  $     0, $     4\nEND\n")) ×
+    (modifier_of_a_body : gives (codes "m EQU .AB 1\nMOV m, 2") (codes "ORG 0\nMOV.AB $     1, $     2\nEND\n")) ×
+    (word_in_a_body : refused (codes "DAT foo\nx EQU MOV 0, 1") (fault_at 2 AsmKind.BadEqu)) ×
+    (titles : titled (assembly defaults (codes ";name Imp\n;author A. K. Dewdney\nMOV 0,1")) ≡ (codes "Imp", codes "A. K. Dewdney")) ×
+    (last_titles : titled (assembly defaults (codes ";name x\n;name\n;Author\ta\n;author b \nDAT\nEND\n;name y")) ≡ (codes "Unnamed", codes "b")) ×
+    -- the body of an EQU stands for its name as tokens, and not as a value
+    gives (codes "x EQU 3+4\nDAT 0, x*2") (codes "ORG 0\nDAT.F  $     0, $    11\nEND\n")
 unfolding assembly expansion replaced said_by value_within load_text instr_line digits
-move = refl
-
-one_operand : gives (codes "DAT 5") (codes "ORG 0\nDAT.F  $     0, $     5\nEND\n")
-unfolding assembly expansion replaced said_by value_within load_text instr_line digits
-one_operand = refl
-
-immediate : gives (codes "MOV #1, <2") (codes "ORG 0\nMOV.AB #     1, <     2\nEND\n")
-unfolding assembly expansion replaced said_by value_within load_text instr_line digits
-immediate = refl
-
-slt : gives (codes "SLT 1, #2") (codes "ORG 0\nSLT.B  $     1, #     2\nEND\n")
-unfolding assembly expansion replaced said_by value_within load_text instr_line digits
-slt = refl
-
-folded : gives (codes "DAT 0, 7999") (codes "ORG 0\nDAT.F  $     0, $    -1\nEND\n")
-unfolding assembly expansion replaced said_by value_within load_text instr_line digits
-folded = refl
-
-half : gives (codes "DAT 0, 4000") (codes "ORG 0\nDAT.F  $     0, $  4000\nEND\n")
-unfolding assembly expansion replaced said_by value_within load_text instr_line digits
-half = refl
-
-largest : gives (codes "dat.i # -9223372036854775807 , > + 9223372036854775807 ; c\n\t;x\norg 0\nEnd 3\nfoo") (codes "ORG 0\nDAT.I  #   193, >  -193\nEND\n")
-unfolding assembly expansion replaced said_by value_within load_text instr_line digits
-largest = refl
-
-labels : gives (codes "ORG start\nbomb DAT #0, #0\nstart ADD #4, bomb\nMOV bomb, @bomb\nJMP start") (codes "ORG 1\nDAT.F  #     0, #     0\nADD.AB #     4, $    -1\nMOV.I  $    -2, @    -2\nJMP.B  $    -2, $     0\nEND\n")
-unfolding assembly expansion replaced said_by value_within load_text instr_line digits
-labels = refl
-
-comments : gives (codes "here ; a label\nJMP here ; text\n;assert 1 ; text") (codes "ORG 0\nJMP.B  $     0, $     0\nEND\n")
-unfolding assembly expansion replaced said_by value_within load_text instr_line digits
-comments = refl
-
-label_behind_all : gives (codes "JMP x\nx") (codes "ORG 0\nJMP.B  $     1, $     0\nEND\n")
-unfolding assembly expansion replaced said_by value_within load_text instr_line digits
-label_behind_all = refl
-
-line_is_absolute : gives (codes "DAT 0\nx DAT CURLINE, x") (codes "ORG 0\nDAT.F  $     0, $     0\nDAT.F  $     1, $     0\nEND\n")
-unfolding assembly expansion replaced said_by value_within load_text instr_line digits
-line_is_absolute = refl
-
-redcode_behind : gives (codes "DAT 5\nEND\n;redcode\nDAT 6") (codes "ORG 0\nDAT.F  $     0, $     6\nEND\n")
-unfolding assembly expansion replaced said_by value_within load_text instr_line digits
-redcode_behind = refl
-
-last_org : gives (codes "ORG 99\nORG 0\nDAT 0\nEND 5") (codes "ORG 0\nDAT.F  $     0, $     0\nEND\n")
-unfolding assembly expansion replaced said_by value_within load_text instr_line digits
-last_org = refl
-
-names_are_no_name : gives (codes "DAT 0\n;names Imp\r\n;assert") (codes "ORG 0\nDAT.F  $     0, $     0\nEND\n")
-unfolding assembly expansion replaced said_by value_within load_text instr_line digits
-names_are_no_name = refl
-
-empty : refused [] (fault_at 0 AsmKind.Empty)
-unfolding assembly expansion replaced said_by value_within load_text instr_line digits
-empty = refl
-
-jump : refused (codes "JMP") (fault_at 1 AsmKind.MissingOperand)
-unfolding assembly expansion replaced said_by value_within load_text instr_line digits
-jump = refl
-
-end_five : refused (codes "DAT 0\nEND 5\n") (fault_at 2 AsmKind.BadStart)
-unfolding assembly expansion replaced said_by value_within load_text instr_line digits
-end_five = refl
-
-overflow : refused (codes "DAT 0\nDAT 9223372036854775808") (fault_at 2 (AsmKind.Expression ExprFault.Overflow))
-unfolding assembly expansion replaced said_by value_within load_text instr_line digits
-overflow = refl
-
-second_label : refused (codes "x DAT 0\nx DAT 1") (fault_at 2 AsmKind.DuplicateName)
-unfolding assembly expansion replaced said_by value_within load_text instr_line digits
-second_label = refl
-
-bad_token : refused (codes "DAT 0 = 1") (fault_at 1 AsmKind.BadToken)
-unfolding assembly expansion replaced said_by value_within load_text instr_line digits
-bad_token = refl
-
-pspace : refused (codes "LDP 0, 1") (fault_at 1 AsmKind.Pspace)
-unfolding assembly expansion replaced said_by value_within load_text instr_line digits
-pspace = refl
-
-pin_with_a_bad_token : refused (codes "PIN ?") (fault_at 1 AsmKind.BadToken)
-unfolding assembly expansion replaced said_by value_within load_text instr_line digits
-pin_with_a_bad_token = refl
-
-bad_modifier : refused (codes "MOV.Q 0, 1") (fault_at 1 AsmKind.BadModifier)
-unfolding assembly expansion replaced said_by value_within load_text instr_line digits
-bad_modifier = refl
-
-third_operand : refused (codes "MOV 0, 1, 2") (fault_at 1 AsmKind.ExtraText)
-unfolding assembly expansion replaced said_by value_within load_text instr_line digits
-third_operand = refl
-
-second_missing : refused (codes "MOV 0,,2") (fault_at 1 AsmKind.MissingOperand)
-unfolding assembly expansion replaced said_by value_within load_text instr_line digits
-second_missing = refl
-
-not_a_line : refused (codes "FOO 0") (fault_at 1 AsmKind.BadOperation)
-unfolding assembly expansion replaced said_by value_within load_text instr_line digits
-not_a_line = refl
-
-parted_within_parentheses : refused (codes "MOV (1, 2)") (fault_at 1 (AsmKind.Expression ExprFault.BadExpression))
-unfolding assembly expansion replaced said_by value_within load_text instr_line digits
-parted_within_parentheses = refl
-
-mode_alone : refused (codes "MOV #, 1") (fault_at 1 (AsmKind.Expression ExprFault.BadExpression))
-unfolding assembly expansion replaced said_by value_within load_text instr_line digits
-mode_alone = refl
-
-unknown_before_extra : refused (codes "MOV foo, 1, 2") (fault_at 1 (AsmKind.Expression ExprFault.UnknownName))
-unfolding assembly expansion replaced said_by value_within load_text instr_line digits
-unknown_before_extra = refl
-
-a_before_b : refused (codes "MOV 1/0, foo") (fault_at 1 (AsmKind.Expression ExprFault.DivideByZero))
-unfolding assembly expansion replaced said_by value_within load_text instr_line digits
-a_before_b = refl
-
-unused_end : refused (codes "ORG 0\nDAT 0\nEND foo") (fault_at 3 (AsmKind.Expression ExprFault.UnknownName))
-unfolding assembly expansion replaced said_by value_within load_text instr_line digits
-unused_end = refl
-
-walk_first : refused (codes "SPL\nDAT foo\nx\nx") (fault_at 4 AsmKind.DuplicateName)
-unfolding assembly expansion replaced said_by value_within load_text instr_line digits
-walk_first = refl
-
-first_false : refused (codes ";assert 1\n;assert 0\n;assert 0\nDAT 0") (fault_at 2 AsmKind.AssertFalse)
-unfolding assembly expansion replaced said_by value_within load_text instr_line digits
-first_false = refl
-
-start_before_assertions : refused (codes ";assert 0\nDAT 0\nEND 1") (fault_at 3 AsmKind.BadStart)
-unfolding assembly expansion replaced said_by value_within load_text instr_line digits
-start_before_assertions = refl
-
-prefix_of_labels : refused (codes "ORG start\nbomb DAT #0, #") (fault_at 1 (AsmKind.Expression ExprFault.UnknownName))
-unfolding assembly expansion replaced said_by value_within load_text instr_line digits
-prefix_of_labels = refl
-
-prefix_within_a_name : refused (codes "ORG start\nbomb DAT #0, #0\nstart ADD #4, bo") (fault_at 3 (AsmKind.Expression ExprFault.UnknownName))
-unfolding assembly expansion replaced said_by value_within load_text instr_line digits
-prefix_within_a_name = refl
-
-prefix_behind_a_comma : refused (codes "ORG start\nbomb DAT #0, #0\nstart ADD #4,") (fault_at 3 AsmKind.MissingOperand)
-unfolding assembly expansion replaced said_by value_within load_text instr_line digits
-prefix_behind_a_comma = refl
-
--- the body of an EQU stands for its name as tokens, and not as a value
-body_as_tokens : gives (codes "x EQU 3+4\nDAT 0, x*2") (codes "ORG 0\nDAT.F  $     0, $    11\nEND\n")
-unfolding assembly expansion replaced said_by value_within load_text instr_line digits
-body_as_tokens = refl
-
-later_equ : gives (codes "a EQU b+1\nb EQU 2\nDAT 0, a*2") (codes "ORG 0\nDAT.F  $     0, $     4\nEND\n")
-unfolding assembly expansion replaced said_by value_within load_text instr_line digits
-later_equ = refl
-
-modifier_of_a_body : gives (codes "m EQU .AB 1\nMOV m, 2") (codes "ORG 0\nMOV.AB $     1, $     2\nEND\n")
-unfolding assembly expansion replaced said_by value_within load_text instr_line digits
-modifier_of_a_body = refl
-
-word_in_a_body : refused (codes "DAT foo\nx EQU MOV 0, 1") (fault_at 2 AsmKind.BadEqu)
-unfolding assembly expansion replaced said_by value_within load_text instr_line digits
-word_in_a_body = refl
-
-titles : titled (assembly defaults (codes ";name Imp\n;author A. K. Dewdney\nMOV 0,1")) ≡ (codes "Imp", codes "A. K. Dewdney")
-unfolding assembly expansion replaced said_by value_within
-titles = refl
-
-last_titles : titled (assembly defaults (codes ";name x\n;name\n;Author\ta\n;author b \nDAT\nEND\n;name y")) ≡ (codes "Unnamed", codes "b")
-unfolding assembly expansion replaced said_by value_within
-last_titles = refl
+rows = (refl, refl, refl, refl, refl, refl, refl, refl, refl, refl, refl, refl, refl, refl, refl, refl, refl, refl, refl, refl, refl, refl, refl, refl, refl, refl, refl, refl, refl, refl, refl, refl, refl, refl, refl, refl, refl, refl, refl, refl, refl, refl, refl)

@@ -1,6 +1,6 @@
 -- A walk whose lines and EQUs are cut goes on in the same way: each step gives the same when it is cut again.
 use Rattle.std.proofs.Common.{◌≡◌, ◌⊎◌, ℕ, zero, suc, ◌+◌, ◌-◌, ◌<◌, ◌≤◌, Bool, true, false, nat_lt, nat_eq, if◌then◌else◌, List, [], ◌∷◌, ◌++◌, length, take, drop, map, Option, Some, None, Result, Ok, Err, refl, sym, ap, ◌∙◌, arith, inl, inr}
-use Rattle.std.proofs.{Common.{append-nil, length-append, lt-ltb}, lemmas.Bool.{cases_Bool, ltb-true, ltb-false}, lemmas.List.{map-append, take_all, drop_all, take-map, drop-map, length-take-le}}
+use Rattle.std.proofs.{Common.{append-nil, length-append, lt-ltb}, lemmas.Bool.{cases_Bool, ltb-true, ltb-false}, lemmas.List.{map-append, take_all, drop_all, take_at, drop_at, take-take, take-map, drop-map, length-take-le}}
 use Rattle.{war_types.specs.declared.fault.AsmKind.AsmKind, redcode_lines.specs.Operand.operands_of, redcode_lines.specs.Line.is_bad}
 use Rattle.{redcode_names.specs.{Equ.replaced, Gives.{◌>>=◌, fault_at}, Cut.{cut_equs, cut_names}}, redcode_names.proofs.{Unchanged.tokens-same, Cut.{cut-twice, replaced-cut, all-cut, last_cut, last-cut, line-cut}}}
 use Rattle.redcode_text.specs.{declared.token.Token.Token, Tokens.{piece_of, pieces}}
@@ -9,13 +9,10 @@ use Rattle.redcode_expand.specs.Walk.{ExpandedLine, WalkState, Begun, begun_as, 
 use Rattle.redcode_expand.specs.Walk.{walk, with_line, with_word, worded, is_equ_word}
 use Rattle.redcode_expand.specs.{Expansion.{Expansion, all_replaced, finished, line_replaced}, Rest.{OpenBlock, counters_of, behind_copy, more_copies, rest_of}}
 use Rattle.redcode_expand.specs.Cut.{first_bad, cut_tokens, cut_line, cut_lines, cut_walk, is_limited, kept_tokens, with_cut}
-use Rattle.redcode_expand.proofs.Words.{AsmFault, RawSettings, Piece, SourceLine, labels_of, behind_labels, Counter, counter_of, in_copies, Names, all_defined, equ_line, LineKind, LineForm, Word, Blocks, Parsed, parsed, finish, one_line, block, open_for}
+use Rattle.redcode_expand.proofs.Words.{AsmFault, RawSettings, Walked, Piece, SourceLine, labels_of, behind_labels, Counter, counter_of, in_copies, Names, all_defined, equ_line, LineKind, LineForm, Word, Blocks, Parsed, parsed, finish, one_line, block, open_for}
 use Rattle.redcode_text.specs.declared.vocabulary.Word.TheVariants as words
 use Rattle.redcode_lines.specs.declared.line.LineKind.TheVariants as lines
 use Rattle.redcode_lines.specs.declared.reading.LineForm.TheVariants as forms
-
-abbrev Walked : Type 0
-Walked = Result WalkState AsmFault
 
 -- ---- what is cut once stays
 
@@ -38,34 +35,21 @@ tokens-long : (ts : List Piece) → 516 ≤ length ts → 516 ≤ length (cut_to
 unfolding cut_tokens
 tokens-long ts long = omega (arith, length-append (take 516 ts) (first_bad (drop 516 ts)), length-take-le 516 ts long)
 
-cut-at : (n : ℕ) (xs ys : List Piece) → length xs ≡ n → (take n (xs ++ ys) ≡ xs) × (drop n (xs ++ ys) ≡ ys)
-cut-at zero [] ys is = (refl, refl)
-cut-at (suc n) [] ys is = absurd (omega (arith, is))
-cut-at zero (x ∷ xs) ys is = absurd (omega (arith, is))
-cut-at (suc n) (x ∷ xs) ys is =
-    let others = cut-at n xs ys (omega (arith, is)) in
-    (ap (λ (l : List Piece). x ∷ l) others.0, others.1)
-
 pub tokens-twice : (ts : List Piece) → cut_tokens (cut_tokens ts) ≡ cut_tokens ts
 unfolding cut_tokens
 tokens-twice ts = elim (cases_Bool (nat_lt 516 (length ts))) [
   | inl long ↦
-      let parts = cut-at 516 (take 516 ts) (first_bad (drop 516 ts)) (length-take-le 516 ts (omega (arith, ltb-true 516 (length ts) long))) in
-      rw (parts.0, parts.1, bad-twice (drop 516 ts)) refl
+      let room = length-take-le 516 ts (omega (arith, ltb-true 516 (length ts) long)) in
+      rw (take_at (take 516 ts) (first_bad (drop 516 ts)) 516 room, drop_at (take 516 ts) (first_bad (drop 516 ts)) 516 room, bad-twice (drop 516 ts)) refl
   | inr short ↦ ap cut_tokens (tokens-short ts (ltb-false 516 (length ts) short))
 ]
-
-taken-twice : (n : ℕ) (ts : List Piece) → take n (take n ts) ≡ take n ts
-taken-twice zero ts = refl
-taken-twice (suc n) [] = refl
-taken-twice (suc n) (t ∷ ts) = ap (λ (us : List Piece). t ∷ us) (taken-twice n ts)
 
 -- ---- what is kept of a line
 
 pub kept-twice : (kind : LineKind) (ts : List Piece) → kept_tokens kind (kept_tokens kind ts) ≡ kept_tokens kind ts
 unfolding kept_tokens
 kept-twice kind ts = elim (cases_Bool (is_limited kind)) [
-  | inl limited ↦ rw limited (taken-twice 516 ts)
+  | inl limited ↦ rw limited (take-take 516 516 ts (omega arith))
   | inr other ↦ rw other (tokens-twice ts)
 ]
 
@@ -174,22 +158,17 @@ line-kept line kind word title ts kept counted before ns ls new ended st is kept
     ∙ ap (λ (us : List Piece). walked counted before ns (ls ++ new_line line kind word before title us ∷ []) ended) (sym kept-is)
     ∙ ap (λ (all : List ExpandedLine). walked counted before ns all ended) (sym new-is)
 
-other-put : (line : ℕ) (ts : List Piece) (st : WalkState) → cut_walk (placed_by line None ts (cut_walk st)) ≡ cut_walk (placed_by line None ts st)
-other-put line [] st = walk-twice st
-other-put line (t ∷ ts) st = line-put line lines.Other None [] (t ∷ ts) st
-
 word-put : (line : ℕ) (word : Word) (ts : List Piece) (st : WalkState) → cut_walk (with_word line word ts (cut_walk st)) ≡ cut_walk (with_word line word ts st)
 word-put line (words.Operation op) ts st = ap (λ (w : WalkState). record w { before = st.before + 1 }) (line-put line lines.Operation (Some (words.Operation op)) [] ts st)
 word-put line words.Pspace ts st = ap (λ (w : WalkState). record w { before = st.before + 1 }) (line-put line lines.Operation (Some words.Pspace) [] ts st)
 word-put line words.Org ts st = line-put line lines.Org (Some words.Org) [] ts st
 word-put line words.End ts st = ap (λ (w : WalkState). record w { ended = true }) (line-put line lines.End (Some words.End) [] ts st)
 word-put line words.Pin ts st = line-put line lines.Other (Some words.Pin) [] ts st
-word-put line words.Equ ts st = walk-twice st
-word-put line words.For ts st = walk-twice st
-word-put line words.Rof ts st = walk-twice st
+word-put line _ ts st = walk-twice st
 
 placed-put : (line : ℕ) (word : Option Word) (ts : List Piece) (st : WalkState) → cut_walk (placed_by line word ts (cut_walk st)) ≡ cut_walk (placed_by line word ts st)
-placed-put line None ts st = other-put line ts st
+placed-put line None [] st = walk-twice st
+placed-put line None (t ∷ ts) st = line-put line lines.Other None [] (t ∷ ts) st
 placed-put line (Some word) ts st = word-put line word ts st
 
 worded-cut : (s : RawSettings) (line : SourceLine) → Stable (worded s line)

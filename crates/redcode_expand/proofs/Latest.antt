@@ -35,9 +35,6 @@ learned epoch n place xs latest is =
     map-set (latest_of epoch) xs place (record { epoch = epoch; copies = n }) ∙ ap (λ (os : List (Option ℕ)). slice_set os place (latest_of epoch (record { epoch = epoch; copies = n }))) is
     ∙ ap (λ (o : Option ℕ). slice_set latest place o) (this-epoch epoch n)
 
-pub stamped-later : (epoch : ℕ) (xs : List Stamped) → All (IsStamped epoch) xs → All (IsStamped (epoch + 1)) xs
-stamped-later epoch xs are = λ x within. omega (arith, are x within)
-
 abbrev no-stamp : Stamped
 no-stamp = record { epoch = 0; copies = 0 }
 
@@ -139,22 +136,6 @@ began-alone s cs line st new counter n word short is =
     let found = began-by st new (counter_before line.front) counter n (copies_of s line.number st.before st.names.equs count) (sym (begun-alone s cs line st word short) ∙ is) in
     record { state = found.0; count = any-line s line.number 0 st.before n st.names.equs count found.1 }
 
--- a FOR stays at its CURLINE
-before-found : (r : Result ℕ AsmFault) (found : Names × List ℕ) (st : WalkState) (b : Begun) → r >>= (λ n. Ok (begun_as (record st { names = found.0 }) found.1 n)) ≡ Ok b
-    → b.state.before ≡ st.before
-before-found (Ok n) found st b is = grind arith
-before-found (Err fault) found st b is = absurd cc
-
-before-by : (r : Result (Names × List ℕ) AsmFault) (counts : Names × List ℕ → Result ℕ AsmFault) (st : WalkState) (b : Begun)
-    → r >>= (λ found. counts found >>= λ n. Ok (begun_as (record st { names = found.0 }) found.1 n)) ≡ Ok b → b.state.before ≡ st.before
-before-by (Ok found) counts st b is = before-found (counts found) found st b is
-before-by (Err fault) counts st b is = absurd cc
-
-pub begun-before : (s : RawSettings) (cs : List Counter) (line : SourceLine) (st : WalkState) (b : Begun) → begun s cs line st ≡ Ok b → b.state.before ≡ st.before
-begun-before s cs line st b is =
-    let copy : SourceLine = in_copies cs line in
-    before-by (for_labels s copy.number st.before (labels_of copy) st.names) (λ found. copies_of s copy.number st.before found.0.equs (drop 1 copy.tokens)) st b is
-
 -- ---- what is kept
 
 latest-none : (s : RawSettings) (lines : List SourceLine) (cs : List Counter) (st : WalkState) (n : ℕ) → n ≡ length lines → AreKept s lines cs st (replicate n None)
@@ -182,15 +163,13 @@ kept-same s lines cs st new counts equs before are = record {
       record { count = rw (equs, before) was.count; few = was.few };
 }
 
-some-same : (n m : ℕ) → Some n ≡ Some m → n ≡ m
-some-same n m is = cc
-
 latest-at : (s : RawSettings) (lines : List SourceLine) (cs : List Counter) (st : WalkState) (counts : List (Option ℕ)) (at place n m : ℕ) (b : Bool) → nat_eq place at ≡ b → at < length counts
     → place < length lines → kept_at (slice_set counts at (Some n)) place ≡ Some m → IsLatest s cs st (line_in lines at) n → AreKept s lines cs st counts → IsLatest s cs st (line_in lines place) m
 latest-at s lines cs st counts at place n m true same within some read is are =
     let here : place ≡ at = eqb-true place at same in
     let value : Some n ≡ Some m = sym (get_or-set_same counts at (Some n) None within) ∙ ap (λ (k : ℕ). kept_at (slice_set counts at (Some n)) k) (sym here) ∙ read in
-    rw here (subst (IsLatest s cs st (line_in lines at)) (some-same n m value) is)
+    let same-count : n ≡ m = cc in
+    rw here (subst (IsLatest s cs st (line_in lines at)) same-count is)
 latest-at s lines cs st counts at place n m false other within some read is are =
     are.kept place m some (sym (get_or-set_other counts at place (Some n) None (nat_eq-other place at other)) ∙ read)
 
@@ -225,22 +204,3 @@ pub kept-learned : (s : RawSettings) (lines : List SourceLine) (cs : List Counte
 kept-learned s lines cs st new counts after at count n counter word short is few same are learns =
     let began = began-alone s cs (line_in lines at) st new counter n word short is in
     subst (λ (w : WalkState). AreKept s lines cs w after) (sym began.state) (kept-with s lines cs st counts after at count n same began.count few are learns)
-
--- ---- a block as it reads
-
--- what is due after the labels of a FOR
-pub begun-due : (s : RawSettings) (line : SourceLine) (st : WalkState) (counted before : ℕ) (old new : Names) (lines : List ExpandedLine) (ended : Bool) (labels : List (List ℕ)) (count : List Piece)
-    (name : List ℕ) → walk_state counted before old lines ended ≡ st → labels ≡ labels_of line → for_labels s line.number before labels old ≡ Ok (new, name) → count ≡ drop 1 line.tokens
-    → begun_of s line st ≡ copies_of s line.number before new.equs count >>= λ n. Ok (begun_as (walk_state counted before new lines ended) name n)
-begun-due s line st counted before old new lines ended labels count name st-is labels-are defines count-is =
-    let counts : List Piece → Names × List ℕ → Result Begun AsmFault =
-    λ ts found. copies_of s line.number before found.0.equs ts >>= λ n. Ok (begun_as (walk_state counted before found.0 lines ended) found.1 n) in
-    ap (begun_of s line) (sym st-is) ∙ ap (λ (ls : List (List ℕ)). for_labels s line.number before ls old >>= counts (drop 1 line.tokens)) (sym labels-are)
-    ∙ ap (λ (r : Result (Names × List ℕ) AsmFault). r >>= counts (drop 1 line.tokens)) defines ∙ ap (λ (ts : List Piece). counts ts (new, name)) (sym count-is)
-
-pub begun-refused : (due : Result Begun AsmFault) (st : WalkState) (name : List ℕ) (m : Result ℕ AsmFault) (fault : AsmFault) → due ≡ m >>= (λ n. Ok (begun_as st name n)) → Fails fault m
-    → Fails fault due
-begun-refused due st name m fault due-is fails = elim fails [
-  | inl none ↦ inl none
-  | inr refused ↦ inr (due-is ∙ ap (λ (r : Result ℕ AsmFault). r >>= λ n. Ok (begun_as st name n)) refused)
-]

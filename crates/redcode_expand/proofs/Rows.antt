@@ -1,5 +1,5 @@
 -- The definition computed on small sources, with what it has to give.
-use Rattle.{std.proofs.Common.{◌≡◌, ℕ, List, [], ◌∷◌, map, Result, Ok, Err, refl, codes}, std.specs.Bool.⊤, war_types.specs.declared.fault.AsmFault.AsmFault}
+use Rattle.{std.proofs.Common.{◌≡◌, ℕ, List, [], ◌∷◌, ◌==◌, if◌then◌else◌, drop, get_or, map, Result, Ok, Err, refl, codes}, std.specs.Bool.⊤, war_types.specs.declared.fault.AsmFault.AsmFault}
 use Rattle.{war_types.specs.{declared.settings.RawSettings.RawSettings, declared.fault.AsmKind.AsmKind}, redcode_text.specs.Tokens.Piece, redcode_lines.specs.declared.line.LineKind.LineKind}
 use Rattle.{redcode_names.specs.{Gives.fault_at, Equ.replaced, Name.LabelList}, redcode_expand.specs.Expansion.{Expansion, ExpandedLine, expansion}}
 
@@ -9,6 +9,17 @@ defaults = record { core = 8000; cycles = 80000; processes = 8000; length = 100;
 -- a line by its number, its kind, the instructions before it, its title and the texts of its tokens
 abbrev Outline : Type 0
 Outline = ℕ × (LineKind × (ℕ × (List ℕ × List (List ℕ))))
+
+-- texts with a blank between each two
+abbrev texts : List ℕ → List (List ℕ)
+texts [] = [] ∷ []
+texts (c ∷ cs) = if c == 32 then [] ∷ texts cs else (c ∷ get_or (texts cs) 0 []) ∷ drop 1 (texts cs)
+
+abbrev pub lined : ℕ → LineKind → ℕ → List ℕ → Outline
+lined number kind before tokens = (number, (kind, (before, ([], texts tokens))))
+
+abbrev pub operation : ℕ → ℕ → List ℕ → Outline
+operation number before tokens = lined number LineKind.Operation before tokens
 
 abbrev text_of : Piece → List ℕ
 text_of token = token.text
@@ -31,36 +42,30 @@ abbrev pub AreRefused : List (List ℕ × AsmFault) → Type 0
 AreRefused [] = ⊤
 AreRefused (row ∷ rows) = refused row.0 row.1 × AreRefused rows
 
-labels_and_lines : gives (codes "ORG start\nbomb DAT #0\nstart b: ADD 4 ; c\n\nJMP x\nx")
-    ((1, (LineKind.Org, (0, ([], codes "ORG" ∷ codes "start" ∷ []))))
-    ∷ (2, (LineKind.Operation, (0, ([], codes "DAT" ∷ codes "#" ∷ codes "0" ∷ []))))
-    ∷ (3, (LineKind.Operation, (1, ([], codes "ADD" ∷ codes "4" ∷ []))))
-    ∷ (5, (LineKind.Operation, (2, ([], codes "JMP" ∷ codes "x" ∷ [])))) ∷ []) ((codes "bomb", 0) ∷ (codes "start", 1) ∷ (codes "b", 1) ∷ (codes "x", 3) ∷ [])
+rows :
+    (labels_and_lines : gives (codes "ORG start\nbomb DAT #0\nstart b: ADD 4 ; c\n\nJMP x\nx")
+    (lined 1 LineKind.Org 0 (codes "ORG start") ∷ operation 2 0 (codes "DAT # 0") ∷ operation 3 1 (codes "ADD 4") ∷ operation 5 2 (codes "JMP x") ∷ []) ((codes "bomb", 0) ∷ (codes "start", 1) ∷ (codes "b", 1) ∷ (codes "x", 3) ∷ [])) ×
+    (titles_and_assertions : gives (codes ";name  Imp \n;Author\n;ASSERT\t1,x ;c\n;names\n;assert0\n;assert;x\n; name")
+    ((1, (LineKind.Name, (0, (codes "  Imp ", [])))) ∷ (2, (LineKind.Author, (0, ([], [])))) ∷ lined 3 LineKind.Assert 0 (codes "1 , x") ∷ []) []) ×
+    (other_lines : gives (codes "here:\nx PIN ?\nLDP\nFOO 0 DAT\nEND\nDAT")
+    (lined 1 LineKind.Other 0 (codes ":") ∷ lined 2 LineKind.Other 0 (codes "PIN ?") ∷ operation 3 0 (codes "LDP") ∷ lined 4 LineKind.Other 1 (codes "0 DAT") ∷ lined 5 LineKind.End 1 (codes "END") ∷ []) ((codes "here", 0) ∷ (codes "x", 0) ∷ (codes "FOO", 1) ∷ [])) ×
+    (from_redcode : gives (codes "x x\nROF\n ;ReDcOdEx\nDAT\n;redcode\nX NOP\nEND\n;redcode")
+    (operation 4 0 (codes "DAT") ∷ operation 6 1 (codes "NOP") ∷ lined 7 LineKind.End 2 (codes "END") ∷ []) ((codes "X", 1) ∷ [])) ×
+    -- a name may be defined by a later line, and one body may name another
+    (later_name : gives (codes "a EQU b+1\nb EQU 2\nDAT a*2") (operation 3 0 (codes "DAT 2 + 1 * 2") ∷ []) []) ×
+    -- the labels before the last one stand at the next instruction; a dot of a body is one of the line
+    (labels_before_the_name : gives (codes "DAT\nx: y & m EQU .AB 1\nz MOV m\nORG m")
+    (operation 1 0 (codes "DAT") ∷ operation 3 1 (codes "MOV . AB 1") ∷ lined 4 LineKind.Org 2 (codes "ORG . AB 1") ∷ []) ((codes "x", 1) ∷ (codes "y", 1) ∷ (codes "z", 1) ∷ [])) ×
+    -- assertions are replaced, commas and all; titles, PIN lines and other lines are not
+    (kinds_of_lines : gives (codes ";assert m,m\n;name m\nPIN m\n+ m\nm EQU 1\nEND m")
+    (lined 1 LineKind.Assert 0 (codes "1 , 1") ∷ (2, (LineKind.Name, (0, (codes " m", [])))) ∷ lined 3 LineKind.Other 0 (codes "PIN m") ∷ lined 4 LineKind.Other 0 (codes "+ m") ∷ lined 6 LineKind.End 0 (codes "END 1") ∷ []) []) ×
+    -- the names after the dot of an operation are the modifier's
+    (modifier_left_alone : gives (codes "I EQU 5\nMOV.I I") (operation 2 0 (codes "MOV . I 5") ∷ []) []) ×
+    (unused_cycle : gives (codes "a EQU a\nDAT") (operation 2 0 (codes "DAT") ∷ []) []) ×
+    -- the body of an EQU stands for the name as tokens, not as a value
+    gives (codes "x EQU 3+4 ; seven\nDAT 0, x*2") (operation 2 0 (codes "DAT 0 , 3 + 4 * 2") ∷ []) []
 unfolding expansion replaced
-labels_and_lines = refl
-
-titles_and_assertions : gives (codes ";name  Imp \n;Author\n;ASSERT\t1,x ;c\n;names\n;assert0\n;assert;x\n; name")
-    ((1, (LineKind.Name, (0, (codes "  Imp ", []))))
-    ∷ (2, (LineKind.Author, (0, ([], []))))
-    ∷ (3, (LineKind.Assert, (0, ([], codes "1" ∷ codes "," ∷ codes "x" ∷ [])))) ∷ []) []
-unfolding expansion replaced
-titles_and_assertions = refl
-
-other_lines : gives (codes "here:\nx PIN ?\nLDP\nFOO 0 DAT\nEND\nDAT")
-    ((1, (LineKind.Other, (0, ([], codes ":" ∷ []))))
-    ∷ (2, (LineKind.Other, (0, ([], codes "PIN" ∷ codes "?" ∷ []))))
-    ∷ (3, (LineKind.Operation, (0, ([], codes "LDP" ∷ []))))
-    ∷ (4, (LineKind.Other, (1, ([], codes "0" ∷ codes "DAT" ∷ []))))
-    ∷ (5, (LineKind.End, (1, ([], codes "END" ∷ [])))) ∷ []) ((codes "here", 0) ∷ (codes "x", 0) ∷ (codes "FOO", 1) ∷ [])
-unfolding expansion replaced
-other_lines = refl
-
-from_redcode : gives (codes "x x\nROF\n ;ReDcOdEx\nDAT\n;redcode\nX NOP\nEND\n;redcode")
-    ((4, (LineKind.Operation, (0, ([], codes "DAT" ∷ []))))
-    ∷ (6, (LineKind.Operation, (1, ([], codes "NOP" ∷ []))))
-    ∷ (7, (LineKind.End, (2, ([], codes "END" ∷ [])))) ∷ []) ((codes "X", 1) ∷ [])
-unfolding expansion replaced
-from_redcode = refl
+rows = (refl, refl, refl, refl, refl, refl, refl, refl, refl, refl)
 
 -- a second definition, a predefined label, a misspelt operation twice, a label twice on a line
 names_refused : AreRefused (
@@ -70,46 +75,6 @@ names_refused : AreRefused (
     ∷ (codes "x & x : DAT", fault_at 1 AsmKind.DuplicateName) ∷ [])
 unfolding expansion replaced
 names_refused = (refl, (refl, (refl, (refl, tt))))
-
--- ---- EQU
-
--- the body stands for the name as tokens, not as a value
-body_as_tokens : gives (codes "x EQU 3+4 ; seven\nDAT 0, x*2")
-    ((2, (LineKind.Operation, (0, ([], codes "DAT" ∷ codes "0" ∷ codes "," ∷ codes "3" ∷ codes "+" ∷ codes "4" ∷ codes "*" ∷ codes "2" ∷ [])))) ∷ []) []
-unfolding expansion replaced
-body_as_tokens = refl
-
--- a name may be defined by a later line, and one body may name another
-later_name : gives (codes "a EQU b+1\nb EQU 2\nDAT a*2") ((3, (LineKind.Operation, (0, ([], codes "DAT" ∷ codes "2" ∷ codes "+" ∷ codes "1" ∷ codes "*" ∷ codes "2" ∷ [])))) ∷ []) []
-unfolding expansion replaced
-later_name = refl
-
--- the labels before the last one stand at the next instruction; a dot of a body is one of the line
-labels_before_the_name : gives (codes "DAT\nx: y & m EQU .AB 1\nz MOV m\nORG m")
-    ((1, (LineKind.Operation, (0, ([], codes "DAT" ∷ []))))
-    ∷ (3, (LineKind.Operation, (1, ([], codes "MOV" ∷ codes "." ∷ codes "AB" ∷ codes "1" ∷ []))))
-    ∷ (4, (LineKind.Org, (2, ([], codes "ORG" ∷ codes "." ∷ codes "AB" ∷ codes "1" ∷ [])))) ∷ []) ((codes "x", 1) ∷ (codes "y", 1) ∷ (codes "z", 1) ∷ [])
-unfolding expansion replaced
-labels_before_the_name = refl
-
--- assertions are replaced, commas and all; titles, PIN lines and other lines are not
-kinds_of_lines : gives (codes ";assert m,m\n;name m\nPIN m\n+ m\nm EQU 1\nEND m")
-    ((1, (LineKind.Assert, (0, ([], codes "1" ∷ codes "," ∷ codes "1" ∷ []))))
-    ∷ (2, (LineKind.Name, (0, (codes " m", []))))
-    ∷ (3, (LineKind.Other, (0, ([], codes "PIN" ∷ codes "m" ∷ []))))
-    ∷ (4, (LineKind.Other, (0, ([], codes "+" ∷ codes "m" ∷ []))))
-    ∷ (6, (LineKind.End, (0, ([], codes "END" ∷ codes "1" ∷ [])))) ∷ []) []
-unfolding expansion replaced
-kinds_of_lines = refl
-
--- the names after the dot of an operation are the modifier's
-modifier_left_alone : gives (codes "I EQU 5\nMOV.I I") ((2, (LineKind.Operation, (0, ([], codes "MOV" ∷ codes "." ∷ codes "I" ∷ codes "5" ∷ [])))) ∷ []) []
-unfolding expansion replaced
-modifier_left_alone = refl
-
-unused_cycle : gives (codes "a EQU a\nDAT") ((2, (LineKind.Operation, (0, ([], codes "DAT" ∷ [])))) ∷ []) []
-unfolding expansion replaced
-unused_cycle = refl
 
 -- a cycle, no name, no body, a word in a body, a name twice, a label and a name
 equs_refused : AreRefused (

@@ -1,16 +1,13 @@
 -- A line with too many operands is walked over without those that can't matter: what is kept of it is the same.
 use Rattle.std.proofs.Common.{◌≡◌, ℕ, zero, suc, ◌+◌, ◌<◌, ◌≤◌, Bool, true, false, not, ◌&&◌, nat_lt, if◌then◌else◌, List, [], ◌∷◌, length, map, take, Option, Some, None, Result, Ok, Err, refl, sym, ap, ◌∙◌, subst, arith}
-use Rattle.std.proofs.{Common.{inl, inr, append-nil}, lemmas.Bool.{true≢false, cases_Bool, ltb-true, or_parts}, lemmas.List.{map-append, take-map}}
+use Rattle.std.proofs.{Common.{inl, inr, append-nil}, lemmas.Bool.{true≢false, cases_Bool, ltb-true, or_parts}, lemmas.List.{map-append, take-map, take-take}}
 use Rattle.{redcode_copies.proofs.PlainLines.copies-plain, redcode_copies.specs.Plain.modifier_count, redcode_names.specs.Gives.{◌>>=◌, Fails}}
 use Rattle.redcode_expand.specs.Walk.{ExpandedLine, WalkState, counted, labelled, lined, step, step_as, walk_state, with_line, with_word, worded, is_equ_word}
 use Rattle.redcode_expand.specs.{Cut.{cut_line, cut_lines, cut_walk, is_limited, kept_tokens, with_cut}, Marks.{has_operands, is_long, shortened}}
-use Rattle.redcode_expand.proofs.{Marks.both-first, Words.{AsmFault, RawSettings, Piece, SourceLine, label_tokens, names_among, Counter, in_copies, changed_from, kept_count, number_by, plain_copy, Word, LineKind, LineForm, has_and}}
+use Rattle.redcode_expand.proofs.{Marks.both-first, Words.{AsmFault, RawSettings, Walked, Piece, SourceLine, label_tokens, names_among, Counter, in_copies, changed_from, kept_count, number_by, plain_copy, Word, LineKind, LineForm, has_and}}
 use Rattle.redcode_text.specs.declared.vocabulary.Word.TheVariants as words
 use Rattle.redcode_lines.specs.declared.line.LineKind.TheVariants as lines
 use Rattle.redcode_lines.specs.declared.reading.LineForm.TheVariants as forms
-
-abbrev Walked : Type 0
-Walked = Result WalkState AsmFault
 
 -- ---- the tokens of a copy
 
@@ -97,11 +94,6 @@ step-same s line forms.Author word ts us st is word-is limited same = absurd (tr
 
 -- ---- a line within copies
 
-taken-twice : (n : ℕ) (ts : List Piece) → take n (take n ts) ≡ take n ts
-taken-twice zero ts = refl
-taken-twice (suc n) [] = refl
-taken-twice (suc n) (t ∷ ts) = ap (λ (us : List Piece). t ∷ us) (taken-twice n ts)
-
 long-parts : (a b c d : Bool) → (a && (b && (not c && not d))) ≡ true → (b ≡ true) × (c ≡ false) × (d ≡ false)
 long-parts a b c d h = grind arith
 
@@ -117,7 +109,7 @@ short-long s cs line st long =
     let same : us ≡ take 516 ts =
     ap (λ (k : ℕ). changed_from (number_by cs) k (take 516 line.tokens)) (count-taken 513 line.form line.word line.tokens parts.0)
     ∙ changed-taken (number_by cs) (kept_count line.form line.word line.tokens) 516 line.tokens in
-    rw (here, there) (step-same s line line.form line.word ts us st refl refl parts.0 (ap (λ (vs : List Piece). take 516 vs) same ∙ taken-twice 516 ts))
+    rw (here, there) (step-same s line line.form line.word ts us st refl refl parts.0 (ap (λ (vs : List Piece). take 516 vs) same ∙ take-take 516 516 ts (omega arith)))
 
 -- what is read of a line that is long
 pub long-many : (line : SourceLine) → is_long line ≡ true → 516 < length line.tokens

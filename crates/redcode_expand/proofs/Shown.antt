@@ -100,9 +100,6 @@ shown-found (Ok st) walk result is gives =
     seen result due h = grind arith
 shown-found (Err fault) walk result is gives = absurd cc
 
-pub shown-fails : (m : Result WalkState AsmFault) (fault : AsmFault) → Fails fault (with_cut m) → Fails fault (with_shown (m >>= finished))
-shown-fails m fault h = grind arith
-
 -- ---- addresses
 
 before-shown : (ls : List ExpandedLine) (i : ℕ) → before_at (shown_lines ls) i ≡ before_at ls i
@@ -115,42 +112,22 @@ instructions-shown ls zero = refl
 instructions-shown [] (suc i) = refl
 instructions-shown (l ∷ ls) (suc i) = ap (λ (n : ℕ). instruction_of l.kind + n) (instructions-shown ls i)
 
-counted-shown : (e : Expansion) → AreCounted e → AreCounted (shown e)
-counted-shown e are = record {
-  before = λ i some. before-shown e.lines i ∙ are.before i (omega (arith, some, length-map e.lines shown_line)) ∙ sym (instructions-shown e.lines i);
-  labels = λ name address is.
-      let place = are.labels name address is in
-      record {
-        behind = place.behind;
-        within = omega (arith, place.within, length-map e.lines shown_line);
-        counts = place.counts ∙ sym (instructions-shown e.lines place.behind);
-      };
-}
-
-shown-counted : (e : Expansion) → AreCounted (shown e) → AreCounted e
-shown-counted e are = record {
-  before = λ i some. sym (before-shown e.lines i) ∙ are.before i (omega (arith, some, length-map e.lines shown_line)) ∙ instructions-shown e.lines i;
-  labels = λ name address is.
-      let place = are.labels name address is in
-      record {
-        behind = place.behind;
-        within = omega (arith, place.within, length-map e.lines shown_line);
-        counts = place.counts ∙ instructions-shown e.lines place.behind;
-      };
-}
-
 -- an expansion of which the same is shown
 same-counted : (a b : Expansion) → shown a ≡ shown b → AreCounted b → AreCounted a
-same-counted a b same are = shown-counted a (subst AreCounted (sym same) (counted-shown b are))
-
-abbrev found : Expansion → Result Expansion AsmFault
-found e = Ok e
-
-ok-same : (a b : Expansion) → found a ≡ found b → a ≡ b
-ok-same a b is = cc
+same-counted a b same are =
+    let room : length a.lines ≡ length b.lines = sym (length-map a.lines shown_line) ∙ ap (λ (e : Expansion). length e.lines) same ∙ length-map b.lines shown_line in
+    let taken : (i : ℕ) → instructions (take i b.lines) ≡ instructions (take i a.lines) = λ (i : ℕ).
+    sym (instructions-shown b.lines i) ∙ ap (λ (e : Expansion). instructions (take i e.lines)) (sym same) ∙ instructions-shown a.lines i in
+    record {
+      before = λ i some.
+          sym (before-shown a.lines i) ∙ ap (λ (e : Expansion). before_at e.lines i) same ∙ before-shown b.lines i ∙ are.before i (omega (arith, some, room)) ∙ taken i;
+      labels = λ name address is.
+          let place = are.labels name address (ap (λ (e : Expansion). address_of e.labels name) (sym same) ∙ is) in
+          record { behind = place.behind; within = omega (arith, place.within, room); counts = place.counts ∙ taken place.behind };
+    }
 
 by-shown : (m result : Result Expansion AsmFault) → Holds AreCounted m → Gives shown result (with_shown m) → IfOk result AreCounted
-by-shown (Ok b) (Ok e) are is = same-counted e b (sym (ok-same (shown b) (shown e) is)) are
+by-shown (Ok b) (Ok e) are is = let same : shown e ≡ shown b = cc in same-counted e b same are
 by-shown (Ok b) (Err fault) are is = tt
 by-shown (Err other) (Ok e) are is = absurd cc
 by-shown (Err other) (Err fault) are is = tt

@@ -5,15 +5,6 @@ use Rattle.{std.proofs.lemmas.List.{drop_all, drop_more}, war_types.specs.declar
 use Rattle.{redcode_names.specs.Gives.{Fails, fault_at, ◌>>=◌}, redcode_names.proofs.Unchanged.{tokens-same, tokens-over}}
 use Rattle.{redcode_expand.specs.Expansion.{ExpandedLine, line_replaced, all_replaced}, redcode_expand.proofs.Words.{AsmFault, Piece, EquList, has_equ, LineKind}}
 
--- ---- the operands are the last tokens
-
--- tokens, the last of which these are
-abbrev EndIn : List Piece → List Piece → Type 0
-EndIn xs ts = take (length ts - length xs) ts ++ xs ≡ ts
-
-none-kept : (ts : List Piece) → EndIn [] ts
-none-kept ts = grind (arith, append-nil, take_all)
-
 -- ---- what becomes of such a line
 
 -- it stays as it is

@@ -11,3 +11,7 @@ pub use Rattle.redcode_names.specs.Name.{Names, defined, all_defined, but_last, 
 pub use Rattle.redcode_text.specs.declared.vocabulary.Word.{Word}
 pub use Rattle.redcode_lines.specs.declared.line.LineKind.{LineKind}
 pub use Rattle.redcode_lines.specs.declared.reading.LineForm.{LineForm}
+use Rattle.{std.proofs.Common.Result, redcode_expand.specs.Walk.WalkState}
+
+abbrev pub Walked : Type 0
+Walked = Result WalkState AsmFault

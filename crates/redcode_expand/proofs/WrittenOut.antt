@@ -1,10 +1,7 @@
 -- A block is its body written out, copy by copy.
 use Rattle.{std.proofs.Common.{arith, ◌≡◌, ℕ, zero, suc, ◌+◌, if◌then◌else◌, List, [], ◌∷◌, ◌++◌, Result, Ok, refl, ap}, redcode_names.specs.Gives.◌>>=◌}
 use Rattle.redcode_expand.specs.{Walk.{WalkState, begun, closed, copied, copies, step, until_end, walk}, Laws.{written_out, BlocksAreWrittenOut}}
-use Rattle.redcode_expand.proofs.Words.{AsmFault, RawSettings, Blocks, finish, one_line, block, open_for, Counter, counter_of, in_copy}
-
-abbrev Walked : Type 0
-Walked = Result WalkState AsmFault
+use Rattle.redcode_expand.proofs.Words.{AsmFault, RawSettings, Walked, Blocks, finish, one_line, block, open_for, Counter, counter_of, in_copy}
 
 bind-same : {A : Type 0} (m n : Result A AsmFault) (f g : A → Walked) → m ≡ n → ((x : A) → f x ≡ g x) → m >>= f ≡ n >>= g
 bind-same m n f g h1 h2 = grind arith

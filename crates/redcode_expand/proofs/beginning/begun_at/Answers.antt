@@ -1,6 +1,6 @@
 use Rattle.{std.proofs.{Common.{ℕ, List, Ok, sym, ap, ◌∙◌, ◌≤◌, length, arith}, lemmas.List.length-map}, redcode_text.specs.Tokens.{piece_of}}
-use Rattle.{redcode_lines.specs.{Line.SourceLine, Views.line_read}, redcode_expand.specs.{Kept.{counter_before}, Marks.line_in, Rest.counters_of, Walk.{begun, begun_as}}}
-use Rattle.redcode_expand.proofs.{AddedEqus.begun-equs, Latest.{begun-before, begun-latest, kept-learned, kept-same, latest-count}}
+use Rattle.{redcode_lines.specs.{Line.SourceLine, Views.line_read}, redcode_copies.specs.Counter.in_copies, redcode_expand.specs.{Kept.{counter_before}, Marks.line_in, Rest.counters_of, Walk.{begun, begun_as}}}
+use Rattle.redcode_expand.proofs.{AddedEqus.begun-same, Latest.{begun-latest, kept-learned, kept-same, latest-count}}
 use Rattle.redcode_expand.proofs.beginning.begun_at.Goals as goal
 
 pub returns-then-line-gt1-clause-kept : goal.returns-then-line-gt1-clause-kept
@@ -9,8 +9,8 @@ returns-then-line-gt1-clause-kept g c =
     let cs = counters_of c.args.blocks.now in
     let line = line_read c.reading-line.result in
     let b = begun_as c.begin.new.self c.in_ok-begun.begun.counter.now c.in_ok-begun.begun.copies in
-    kept-same s c.args.lines.now cs c.args.walk.now c.begin.new.self c.args.counts.now (begun-equs s cs line c.args.walk.now b c.in_ok-begun.ensures.begun)
-    (begun-before s cs line c.args.walk.now b c.in_ok-begun.ensures.begun) c.requires.kept
+    let same = begun-same s (in_copies cs line) c.args.walk.now b c.in_ok-begun.ensures.begun in
+    kept-same s c.args.lines.now cs c.args.walk.now c.begin.new.self c.args.counts.now same.0 same.1 c.requires.kept
 
 pub returns-in-Some-clause-begun : goal.returns-in-Some-clause-begun
 returns-in-Some-clause-begun g c =
