@@ -1,7 +1,7 @@
 //! What failed, and why, as people are told it.
 
 ghost use Rattle.std.specs.Prelude.{◌≡◌, ◌++◌, codes, decimal, IfOk, OnOk};
-ghost use Rattle.koth_commands.specs.{Cause.{cause_told, error_reason, reason_text, reason_told, source_name, subject_name}, Name.shown_name};
+ghost use Rattle.koth_commands.specs.{Cause.{cause_told, error_reason, reason_text, reason_told, subject_name}, Name.shown_name};
 
 use crate::name::put_name;
 use koth_text::put_number;
@@ -160,24 +160,8 @@ pub enum Subject<'s> {
     Port(u16),
     /// A connection to a peer.
     Connection,
-    /// Standard input.
-    Input,
     /// Standard output.
     Output,
-}
-
-impl<'s> Subject<'s> {
-    /// What diagnostics call a source that comes from it.
-    pub(crate) fn name(self) -> &'s str
-        ensures { result.now ≡ source_name self.entry }
-    {
-        match self {
-            Subject::File(path) | Subject::Warrior(path, _) => path,
-            Subject::Port(_) | Subject::Connection => "a peer",
-            Subject::Input => "standard input",
-            Subject::Output => "standard output",
-        }
-    }
 }
 
 /// What failed, and why.
@@ -228,7 +212,6 @@ fn put_subject<A: Allocator>(text: &mut Vec<u8, A>, subject: Subject<'_>) -> Res
         Subject::Warrior(path, entry) => put_warrior(text, path, entry),
         Subject::Port(port) => put_port(text, port),
         Subject::Connection => text.extend_from_slice(b"a connection"),
-        Subject::Input => text.extend_from_slice(b"standard input"),
         Subject::Output => text.extend_from_slice(b"standard output"),
     }
 }

@@ -48,9 +48,17 @@ fn files_that_hold_something_else(rt: HostRuntime) {
     play(&rt, &FILES_THAT_HOLD_SOMETHING_ELSE);
 }
 
-/// Settings out of their ranges, and what is told of them.
-const OUT_OF_RANGE: [Step; 4] = steps! {
+/// Settings out of their ranges, and what is told of them: the ranges that help has (`HELPS` in `words`).
+const OUT_OF_RANGE: [Step; 11] = steps! {
     Tell("koth create x --rounds 2000", View::Table, "", "BadSettings Rounds: --rounds is 2000, and must be 1 to 1000\n", 1);
+    Tell("koth fight a b -r 0", View::Table, "",
+        "BadSettings Rounds: --rounds is 0, and must be 1 to 1000; koth asm and koth check play none\n", 1);
+    Tell("koth create x --core 65536", View::Table, "", "BadSettings Core: --core is 65536, and must be 64 to 65535\n", 1);
+    Tell("koth create x --cycles 1000001", View::Table, "", "BadSettings Cycles: --cycles is 1000001, and must be 1 to 1000000\n", 1);
+    Tell("koth create x --processes 65536", View::Table, "", "BadSettings Processes: --processes is 65536, and must be 1 to 65535\n", 1);
+    Tell("koth create x --length 201", View::Table, "", "BadSettings Length: --length is 201, and must be 1 to 200\n", 1);
+    Tell("koth create x --seed 2147483647", View::Table, "", "BadSettings Seed: --seed is 2147483647, and must be 1 to 2147483646\n", 1);
+    Tell("koth create x --capacity 21", View::Table, "", "BadSettings Capacity: --capacity is 21, and must be 1 to 20\n", 1);
     Tell("koth create x --core 100", View::Table, "",
         "BadSettings Distance: --distance is 100 (its default), and must be --length 100 (its default) to half of --core 100\n",
         1);
@@ -99,7 +107,7 @@ const COLUMNS_FOR_PEOPLE: [Step; 11] = steps! {
     Put("told_jmp.red", ";name Jmp\nJMP 0\n");
     Run("koth submit told.hill told_dat.red", "PLACED 1 1 0\n", "", 0);
     Tell("koth submit told.hill told_jmp.red", View::Table,
-        "PLACED 2 1 6\nJmp by Anonymous is warrior 2 of this hill: rank 1 of 2, 6 points\nwarrior  author     won  lost  tied\nDat      Anonymous    2     0     0\n",
+        "PLACED 2 1 6\nJmp by Anonymous is warrior 2 of this hill: rank 1 of 2, 6 points\nwon  lost  tied  warrior  author\n  2     0     0  Dat      Anonymous\n",
         "", 0);
     Tell("koth show told.hill --table", View::Plain,
         "rank  entry  points  won  lost  tied  age  warrior  author\n   1      2       6    2     0     0    0  Jmp      Anonymous\n   2      1       0    0     2     0    1  Dat      Anonymous\n",
@@ -107,7 +115,7 @@ const COLUMNS_FOR_PEOPLE: [Step; 11] = steps! {
     Tell("koth show told.hill --plain", View::Table, "1 2 6 0 Jmp by Anonymous\n2 1 0 1 Dat by Anonymous\n.\n", "", 0);
     Tell("koth fight told_dat.red told_jmp.red --core=64 --cycles=100 --processes=8 --length=10 --distance=10 --rounds=2",
         View::Table,
-        "warrior  author     won  lost  tied\nDat      Anonymous    0     2     0\nJmp      Anonymous    2     0     0\n", "", 0);
+        "won  lost  tied  warrior  author\n  0     2     0  Dat      Anonymous\n  2     0     0  Jmp      Anonymous\n", "", 0);
     Remove("told.hill");
     Remove("told_dat.red");
     Remove("told_jmp.red");

@@ -1,0 +1,6 @@
+mod Answered
+mod Due
+mod Fought
+mod Found
+mod Meetings
+mod Written
