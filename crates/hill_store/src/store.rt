@@ -121,6 +121,7 @@ impl<D: Device, A: Allocator + Copy> Store<D, A> {
         mut new: D,
     ) -> Result<(O, Store<D, A>), (O, D, MigrateFault)>
         ensures kept { MatchResult result (λ moved. IsKept O.facts old moved.0 × IsKept D.facts new moved.1.device) (λ refused. IsKept O.facts old refused.0 × IsKept D.facts new refused.1) }
+        ensures small { O.facts.size old < 2 → result ≡ Err (old, new, record { side = MigrateSide.Old; refusal = Refusal.TooSmall }) }
         ensures migrated { IfOk result (λ moved. IsMigrated O.facts D.facts old moved.0 new moved.1) }
         ensures refused { IfErr result (λ refused. IsNotMigrated O.facts D.facts old refused.0 new refused.1 refused.2) }
         ensures holds { (s : RawSettings) (sources : List (List ℕ)) (more : Option (List ℕ)) → O.facts.lawful old → D.facts.lawful new

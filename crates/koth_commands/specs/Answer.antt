@@ -1,20 +1,8 @@
 -- What is written of an answer, of settings that are refused, and of a command that failed.
-use Rattle.{std.specs.{Prelude.{ℕ, Option, List, Result, Ok, Err, codes}, Io.KnownBytes.{Appends, Keeps}}, war_types.specs.declared.fault.AsmFault.AsmFault}
+use Rattle.{std.specs.{Prelude.{◌≡◌, ◌⊎◌, ℕ, Option, List, Result, Ok, Err}, Io.KnownBytes.{Appends, Keeps}}, war_types.specs.declared.fault.AsmFault.AsmFault}
 use Rattle.{war_types.specs.{declared.settings.RawSettings.RawSettings, declared.settings.SettingsFault.SettingsFault}, koth_text.specs.{Refusal.refusal_line, Written.WritesPart}}
-use Rattle.koth_commands.specs.{Failure.failure_word, Streams.Streams, Told.{TellsWord, WritesSome}, declared.failure.Failure.Failure, declared.status.Status.Status}
-
--- the word of settings that are refused: the first field that is out of its range
-abbrev pub settings_word : SettingsFault → List ℕ
-settings_word SettingsFault.Core = codes "BadSettings Core"
-settings_word SettingsFault.Cycles = codes "BadSettings Cycles"
-settings_word SettingsFault.Processes = codes "BadSettings Processes"
-settings_word SettingsFault.Length = codes "BadSettings Length"
-settings_word SettingsFault.Distance = codes "BadSettings Distance"
-settings_word SettingsFault.Rounds = codes "BadSettings Rounds"
-settings_word SettingsFault.Seed = codes "BadSettings Seed"
-settings_word SettingsFault.Capacity = codes "BadSettings Capacity"
-settings_word SettingsFault.ReadLimit = codes "BadSettings ReadLimit"
-settings_word SettingsFault.WriteLimit = codes "BadSettings WriteLimit"
+use Rattle.koth_commands.specs.{Failure.failure_word, Streams.Streams, Told.{TellsWord, WritesSome}, Trouble.{Tells as TellsTrouble, fault_word, settings_word}}
+use Rattle.koth_commands.specs.declared.{failure.Failure.Failure, status.Status.Status, trouble.{Fault.Fault, Trouble.Trouble}}
 
 -- the word was written on standard error, nothing was read, and nothing was written on the output
 pub record RefusesSettings (fault : SettingsFault) (before after : Streams) : Type 0 where
@@ -56,3 +44,23 @@ EndsRefusal fault Status.Refused o p e f = Appends o p (refusal_line fault) × W
 EndsRefusal fault Status.WordFault o p e f = ⊥
 EndsRefusal fault Status.StreamFault o p e f = WritesPart o p (refusal_line fault) × TellsWord (failure_word Failure.Stream) e f
 EndsRefusal fault Status.NoMemory o p e f = ⊥
+
+-- an answer without its place in memory: how the program ends, the text for the output, and the note for standard error
+pub record AnswerParts : Type 0 where
+  pub status : Status
+  pub text : List ℕ
+  pub note : List ℕ
+
+abbrev pub answer_parts : Status → List ℕ → List ℕ → AnswerParts
+answer_parts status text note = record { status = status; text = text; note = note }
+
+-- the text was written whole and then the note, or a part of it. Or the output failed: a part of the text was written, and that is told
+abbrev pub DeliversText : AnswerParts → Status → Option (List ℕ) → Option (List ℕ) → Option (List ℕ) → Option (List ℕ) → Type 0
+DeliversText answer status o p e f = ((status ≡ answer.status) × Appends o p answer.text × WritesPart e f answer.note)
+    ⊎ ((status ≡ Status.StreamFault) × WritesPart o p answer.text × TellsWord (fault_word Fault.Stream) e f)
+
+-- what a command answers was written, or that there is no answer was told and nothing was written on the output, by what the output and
+-- then standard error hold before and after
+abbrev pub Delivers : Result AnswerParts Trouble → Status → Option (List ℕ) → Option (List ℕ) → Option (List ℕ) → Option (List ℕ) → Type 0
+Delivers (Ok answer) status o p e f = DeliversText answer status o p e f
+Delivers (Err trouble) status o p e f = Keeps o p × TellsTrouble trouble status e f

@@ -5,6 +5,7 @@ pub mod Name
 pub mod Cause
 pub mod Told
 pub mod Failure
+pub mod Trouble
 pub mod Answer
 -- Two warriors, and how a command of their match ends.
 pub mod Pair

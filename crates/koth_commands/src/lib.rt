@@ -30,8 +30,9 @@ mod source;
 mod status;
 mod stream;
 mod telling;
+pub mod trouble;
 
-pub use answer::{RefusedSource, write_answer, write_refusal};
+pub use answer::{Answer, RefusedSource, deliver, write_answer, write_refusal};
 pub use cause::{Cause, Reason, Subject, reason_of};
 pub use explanation::explain;
 pub use failure::{Failure, Trouble};
@@ -40,3 +41,4 @@ pub use source::read_source;
 pub use status::Status;
 pub use stream::{StreamFault, write_whole};
 pub use telling::{Apart, tell_text, tell_word, write_both};
+pub use trouble::{About, Fault};

@@ -5,15 +5,13 @@ use Rattle.{clap.specs.Words.{all_of, first_of, one_of}, war_types.specs.{declar
 use Rattle.koth_words.specs.{Options.number_or, Settings.{IsGiven, base_in, chosen_in, over, settings_in}, Words.{AsksBy, IsRefusal, IsSource, given_in, has_flag, is_input, view_in}}
 use Rattle.{koth_words.specs.{declared.settings.{Chosen.Chosen, Given.Given}, declared.requests.NoRequest.NoRequest}}
 use Rattle.koth_words.specs.{declared.requests.Request.Request, declared.requests.Request.TheVariants.{Asm, Check, Fight, Create, Submit, Show, Serve, Audit, Migrate, Page, Replay, Try, Copy, Reseed}}
-use Rattle.{koth_words.specs.{declared.requests.Source.Source, declared.requests.View.View}, koth_commands.specs.{Answer.EndsGiven, Asm.{EndsAsmFrom, EndsAsmOf, EndsUnder, is_of_input}}}
-use Rattle.koth_commands.specs.{Check.{EndsCheck, EndsCheckUnder}, Failure.failure_word, Fight.{EndsFight, EndsFightUnder}, Replay.{EndsReplay, EndsReplayUnder, with_round}}
-use Rattle.koth_commands.specs.{Streams.{Streams, streams, unread}, Told.TellsWord, declared.status.Status.Status, declared.status.Status.TheVariants.{NoMemory, WordFault}}
-use Rattle.{koth_commands.specs.declared.failure.Failure.Failure, koth_commands.proofs.Told.{kept_part, keeps_some, writes_nothing}}
-use Rattle.koth_keeping.specs.{Created.{EndsCreate, EndsMade, SaysCreated}, Said.{EndsHill, Said, TellsFault}, Audit.EndsAudit, Copies.{EndsCopy, EndsReseed, SaysCopied, SaysReseeded}}
-use Rattle.koth_server.specs.Hills.{AfterNote, EndsServe, EndsService, EndsSubmit, SaysShown, TellsNote, listening_line, sight_of}
-use Rattle.koth_keeping.specs.{Migration.SaysMigrated, Seed.seed_hint}
-use Rattle.koth_server.specs.{Page.SaysPage, Trials.EndsTry, Run.{CommandEnds, EndsRequest, EndsRequestUnder, EndsWithout, sight_in, viewed}, Settled.{AreSettled, EndsBy, EndsSettled, EndsUnderGiven, TellsNoHill, names_hill}}
-use Rattle.koth_files.specs.declared.hill_fault.HillFault.TheVariants.{Failed}
+use Rattle.{koth_words.specs.{declared.requests.Source.Source, declared.requests.View.View}, koth_commands.specs.{Answer.{AnswerParts, EndsGiven}, Asm.{EndsAsmFrom, EndsAsmOf, EndsUnder, is_of_input}}}
+use Rattle.koth_commands.specs.{Check.{EndsCheck, EndsCheckUnder}, Fight.{EndsFight, EndsFightUnder}, Replay.{EndsReplay, EndsReplayUnder, with_round}}
+use Rattle.koth_commands.specs.{Streams.{Streams, streams, unread}, Trouble.{Tells, no_memory}, declared.status.Status.{Status, TheVariants.{NoMemory, WordFault}}}
+use Rattle.koth_commands.proofs.Told.{kept_part, keeps_some, writes_nothing}
+use Rattle.koth_keeping.specs.{Answers.{Answers, AnswersGiven, Ends, Outcome, SaysLine}, Created.{MayCreate, SaysCreated}, Audit.SaysAudit, Copies.{MayReseed, SaysCopied}, Migration.migrated_line, Seed.seed_hint}
+use Rattle.koth_server.specs.Hills.{AfterNote, EndsServe, EndsService, EndsSource, SaysReply, SaysShown, TellsNote, listening_line, sight_of}
+use Rattle.koth_server.specs.{Page.SaysPage, Trials.SaysTrial, Run.{CommandEnds, EndsRequest, EndsRequestUnder, EndsWithout, sight_in, viewed}, Settled.{AreSettled, EndsBy, EndsSettled, EndsUnderGiven, TellsNoHill, names_hill}}
 
 -- one fact or the other
 abbrev Either : Bool → Type 0 → Type 0 → Type 0
@@ -33,17 +31,17 @@ EndsNamed name view given status before after =
     Either (bytes_eq name (codes "asm")) (EndsBy given (λ s. EndsAsmOf (is_input (first_of (codes "FILE") given)) (settings_of s) status before after) status before after)
     (Either (bytes_eq name (codes "check")) (EndsBy given (λ s. EndsCheck (length (unwrap_or (all_of (codes "FILE") given) [])) (settings_of s) status u v) status before after)
     (Either (bytes_eq name (codes "fight")) (EndsBy given (λ s. EndsFight shown (settings_of s) status u v) status before after)
-    (Either (bytes_eq name (codes "create")) (EndsBy given (λ s. EndsCreate (has_flag (codes "draw-seed") given) s status u v) status before after)
-    (Either (bytes_eq name (codes "submit")) (AfterNote (EndsSubmit shown status) u v)
-    (Either (bytes_eq name (codes "show")) (AfterNote (EndsHill (SaysShown shown (sight_in given)) status) u v)
-    (Either (bytes_eq name (codes "audit")) (AfterNote (EndsAudit status) u v)
-    (Either (bytes_eq name (codes "migrate")) (EndsHill SaysMigrated status u v)
-    (Either (bytes_eq name (codes "page")) (AfterNote (EndsHill SaysPage status) u v)
+    (Either (bytes_eq name (codes "create")) (EndsBy given (λ s. Ends (MayCreate (has_flag (codes "draw-seed") given) s) status u v) status before after)
+    (Either (bytes_eq name (codes "submit")) (AfterNote (EndsSource false (SaysReply shown) status) before after)
+    (Either (bytes_eq name (codes "show")) (AfterNote (Ends (Answers (SaysShown shown (sight_in given))) status) u v)
+    (Either (bytes_eq name (codes "audit")) (AfterNote (Ends (Answers SaysAudit) status) u v)
+    (Either (bytes_eq name (codes "migrate")) (Ends (Answers (SaysLine migrated_line)) status u v)
+    (Either (bytes_eq name (codes "page")) (AfterNote (Ends (Answers SaysPage) status) u v)
     (Either (bytes_eq name (codes "serve")) (AfterNote (EndsServe (settings_of (settings_in given)) status) u v)
     (Either (bytes_eq name (codes "replay")) (EndsBy given (λ s. EndsReplay (number_or 1 (one_of (codes "round") given)) (settings_of s) status u v) status before after)
-    (Either (bytes_eq name (codes "try")) (AfterNote (EndsTry shown status) u v)
-    (Either (bytes_eq name (codes "copy")) (AfterNote (EndsCopy (has_flag (codes "audit") given) status) u v)
-    (Either (bytes_eq name (codes "reseed")) (AfterNote (EndsReseed status) u v) ⊤)))))))))))))
+    (Either (bytes_eq name (codes "try")) (AfterNote (EndsSource false (SaysTrial shown) status) before after)
+    (Either (bytes_eq name (codes "copy")) (AfterNote (Ends (Answers (SaysCopied (has_flag (codes "audit") given))) status) u v)
+    (Either (bytes_eq name (codes "reseed")) (AfterNote (Ends MayReseed status) u v) ⊤)))))))))))))
 
 -- ---- a request: the command that the arguments name ended so, under the settings that they give
 
@@ -86,45 +84,45 @@ unsettled_ends None ends status before after names tells = absurd (true≢false 
 unsettled_ends (Some given) ends status before after names tells = inr (names, tells)
 
 module _ (view : View) (e : Text × List Row) (status : Status) (before after : Streams) where
-  abbrev Ends : Text → Type 0
-  Ends name = EndsNamed name view e.1 status before after
+  abbrev Carries : Text → Type 0
+  Carries name = EndsNamed name view e.1 status before after
 
   -- how this request's command ends under these settings
   abbrev Under : Request → RawSettings → Type 0
   Under request s = CommandEnds s view request status before after
 
-  named : (request : Request) → AsksBy (Some e) request → EndsRequest view request status before after → Ends e.0
-  named (Asm given source) asks ends = subst Ends (sym asks.0)
+  named : (request : Request) → AsksBy (Some e) request → EndsRequest view request status before after → Carries e.0
+  named (Asm given source) asks ends = subst Carries (sym asks.0)
       (by_words e.1 given (Under (Asm given source)) (λ s. EndsAsmOf (is_input (first_of (codes "FILE") e.1)) (settings_of s) status before after) status before after asks.1
       (λ s ended. subst (λ b. EndsAsmOf b (settings_of s) status before after) (same_source (first_of (codes "FILE") e.1) source asks.2) ended) ends.0)
-  named (Check given checked) asks ends = subst Ends (sym asks.0)
+  named (Check given checked) asks ends = subst Carries (sym asks.0)
       (by_words e.1 given (Under (Check given checked))
       (λ s. EndsCheck (length (unwrap_or (all_of (codes "FILE") e.1) [])) (settings_of s) status (unread before) (unread after)) status before after asks.1
       (λ s ended. subst (λ n. EndsCheck n (settings_of s) status (unread before) (unread after))
       (sym (length-map checked.files.items (λ file. file.now)) ∙ ap length asks.2) ended) ends.0)
-  named (Fight given files) asks ends = subst Ends (sym asks.0)
+  named (Fight given files) asks ends = subst Carries (sym asks.0)
       (by_words e.1 given (Under (Fight given files)) (λ s. EndsFight (viewed (view_in e.1) view) (settings_of s) status (unread before) (unread after)) status before after asks.1
       (λ s ended. subst (λ v. EndsFight (viewed v view) (settings_of s) status (unread before) (unread after)) asks.4 ended) ends.0)
-  named (Create given creation) asks ends = subst Ends (sym asks.0)
-      (by_words e.1 given (Under (Create given creation)) (λ s. EndsCreate (has_flag (codes "draw-seed") e.1) s status (unread before) (unread after)) status before after asks.1
-      (λ s ended. subst (λ d. EndsCreate d s status (unread before) (unread after)) asks.4 ended) ends.0)
-  named (Submit files) asks ends = subst Ends (sym asks.0) (subst (λ v. AfterNote (EndsSubmit (viewed v view) status) (unread before) (unread after)) asks.3 ends.0.1)
+  named (Create given creation) asks ends = subst Carries (sym asks.0)
+      (by_words e.1 given (Under (Create given creation)) (λ s. Ends (MayCreate (has_flag (codes "draw-seed") e.1) s) status (unread before) (unread after)) status before after asks.1
+      (λ s ended. subst (λ d. Ends (MayCreate d s) status (unread before) (unread after)) asks.4 ended) ends.0)
+  named (Submit files) asks ends = subst Carries (sym asks.0) (subst (λ v. AfterNote (EndsSource false (SaysReply (viewed v view)) status) before after) asks.3 ends.0.1)
   named (Show shown) asks ends =
       let same : sight_of shown ≡ sight_in e.1 = λ i. record { matches = asks.2 i; settings = asks.3 i; with_seed = asks.4 i } in
-      subst Ends (sym asks.0)
-      (subst (λ v. AfterNote (EndsHill (SaysShown (viewed v view) (sight_in e.1)) status) (unread before) (unread after)) asks.5
-      (subst (λ m. AfterNote (EndsHill (SaysShown (viewed shown.view view) m) status) (unread before) (unread after)) same ends.0.1))
+      subst Carries (sym asks.0)
+      (subst (λ v. AfterNote (Ends (Answers (SaysShown (viewed v view) (sight_in e.1))) status) (unread before) (unread after)) asks.5
+      (subst (λ m. AfterNote (Ends (Answers (SaysShown (viewed shown.view view) m)) status) (unread before) (unread after)) same ends.0.1))
   named (Serve given service) asks ends =
-      subst Ends (sym asks.0) (subst (λ s. AfterNote (EndsServe (settings_of s) status) (unread before) (unread after)) asks.1 ends.0.1)
-  named (Audit file) asks ends = subst Ends (sym asks.0) ends.0.1
-  named (Migrate files) asks ends = subst Ends (sym asks.0) ends.0.1
-  named (Page file) asks ends = subst Ends (sym asks.0) ends.0.1
-  named (Replay given watched) asks ends = subst Ends (sym asks.0)
+      subst Carries (sym asks.0) (subst (λ s. AfterNote (EndsServe (settings_of s) status) (unread before) (unread after)) asks.1 ends.0.1)
+  named (Audit file) asks ends = subst Carries (sym asks.0) ends.0.1
+  named (Migrate files) asks ends = subst Carries (sym asks.0) ends.0.1
+  named (Page file) asks ends = subst Carries (sym asks.0) ends.0.1
+  named (Replay given watched) asks ends = subst Carries (sym asks.0)
       (by_words e.1 given (Under (Replay given watched)) (λ s. EndsReplay (number_or 1 (one_of (codes "round") e.1)) (settings_of s) status (unread before) (unread after)) status before after asks.1
       (λ s ended. subst (λ n. EndsReplay n (settings_of s) status (unread before) (unread after)) asks.4 ended) ends.0)
-  named (Try files) asks ends = subst Ends (sym asks.0) (subst (λ v. AfterNote (EndsTry (viewed v view) status) (unread before) (unread after)) asks.3 ends.0.1)
-  named (Copy files) asks ends = subst Ends (sym asks.0) (subst (λ a. AfterNote (EndsCopy a status) (unread before) (unread after)) asks.3 ends.0.1)
-  named (Reseed files) asks ends = subst Ends (sym asks.0) ends.0.1
+  named (Try files) asks ends = subst Carries (sym asks.0) (subst (λ v. AfterNote (EndsSource false (SaysTrial (viewed v view)) status) before after) asks.3 ends.0.1)
+  named (Copy files) asks ends = subst Carries (sym asks.0) (subst (λ a. AfterNote (Ends (Answers (SaysCopied a)) status) (unread before) (unread after)) asks.3 ends.0.1)
+  named (Reseed files) asks ends = subst Carries (sym asks.0) ends.0.1
 
 pub carried : (view : View) (entered : Option (Text × List Row)) (request : Request) (status : Status) (before after : Streams) (name : Text)
     → AsksBy entered request → EndsRequest view request status before after → option_map (λ e. e.0) entered ≡ Some name
@@ -179,31 +177,22 @@ request_ends settings view request asked status before after is ends words = sub
 memory_is_no_fault : (status : Status) → status ≡ NoMemory → status ≡ WordFault → ⊥
 memory_is_no_fault status memory word = absurd (cc)
 
-module _ (i o p e f : Option (List ℕ)) (kept : Keeps o p) (told : TellsWord (failure_word Failure.Memory) e f) where
+module _ (i o p e f : Option (List ℕ)) (kept : Keeps o p) (told : Tells no_memory NoMemory e f) where
   given_no_memory : (ends : RawSettings → Status → Streams → Streams → Type 0) (r : Result RawSettings SettingsFault)
       → ((s : RawSettings) → ends s NoMemory (streams i o e) (streams i p f)) → EndsGiven ends r NoMemory (streams i o e) (streams i p f)
   given_no_memory ends (Ok s) no_memory = no_memory s
-  given_no_memory ends (Err fault) no_memory = (record { input = Keeps-refl i; output = kept }, told)
+  given_no_memory ends (Err fault) no_memory = (record { input = Keeps-refl i; output = kept }, told.word)
 
-  fault_no_memory : (said : Said) → TellsFault said NoMemory (streams i o e) (streams i p f)
-  fault_no_memory said = record { fault = Failed Failure.Memory; ends = refl; output = kept; told = told }
+  may_no_memory : (May : Outcome → Type 0) → May (Err no_memory) → Ends May NoMemory (streams i o e) (streams i p f)
+  may_no_memory May may = record { outcome = Err no_memory; may = may; delivered = (kept, told) }
 
-  hill_no_memory : (said : Said) → EndsHill said NoMemory (streams i o e) (streams i p f)
-  hill_no_memory said = inr (fault_no_memory said)
-
-  audit_no_memory : EndsAudit NoMemory (streams i o e) (streams i p f)
-  audit_no_memory = inr (record { fault = Failed Failure.Memory; ends = refl; output = kept; told = told })
-
-  submit_no_memory : (view : View) → EndsSubmit view NoMemory (streams i o e) (streams i p f)
-  submit_no_memory view = inr (record { fault = Failed Failure.Memory; ends = refl; output = kept; told = told })
-
-  try_no_memory : (view : View) → EndsTry view NoMemory (streams i o e) (streams i p f)
-  try_no_memory view = inr (record { fault = Failed Failure.Memory; ends = refl; output = kept; told = told })
+  source_no_memory : (Says : List ℕ → AnswerParts → Type 0) → EndsSource false Says NoMemory (streams i o e) (streams i p f)
+  source_no_memory Says = record { outcome = Err no_memory; may = ((refl, ([], tt)), Keeps-refl i); delivered = (kept, told) }
 
   service_no_memory : EndsService NoMemory (streams i o e) (streams i p f)
   service_no_memory = inr (record {
-    fault = Failed Failure.Memory;
-    ends = refl;
+    trouble = no_memory;
+    of_hill = refl;
     port = 0;
     output = kept_part o p (listening_line 0) kept;
     logged = e;
@@ -211,27 +200,30 @@ module _ (i o p e f : Option (List ℕ)) (kept : Keeps o p) (told : TellsWord (f
     told = told;
   })
 
-module _ (i o p e f : Option (List ℕ)) (kept : Keeps o p) (told : TellsWord (failure_word Failure.Memory) e f) where
+make_no_memory : (hint : List ℕ) (given : RawSettings) (r : Result RawSettings SettingsFault) → AnswersGiven (λ s. Answers (SaysCreated hint)) r (Err no_memory)
+make_no_memory hint given (Ok s) = refl
+make_no_memory hint given (Err fault) = inr refl
+
+create_no_memory : (drawn : Bool) (given : RawSettings) → MayCreate drawn given (Err no_memory)
+create_no_memory false given = make_no_memory (seed_hint given.seed) given (settings_of given)
+create_no_memory true given = inr refl
+
+module _ (i o p e f : Option (List ℕ)) (kept : Keeps o p) (told : Tells no_memory NoMemory e f) where
   asm_no_memory : (of_input : Bool) (r : Result RawSettings SettingsFault) → EndsAsmOf of_input r NoMemory (streams i o e) (streams i p f)
-  asm_no_memory true r = given_no_memory i o p e f kept told EndsUnder r (λ s. (kept, told))
-  asm_no_memory false r = (given_no_memory None o p e f kept told EndsUnder r (λ s. (kept, told)), Keeps-refl i)
+  asm_no_memory true r = given_no_memory i o p e f kept told EndsUnder r (λ s. (kept, told.word))
+  asm_no_memory false r = (given_no_memory None o p e f kept told EndsUnder r (λ s. (kept, told.word)), Keeps-refl i)
 
   check_no_memory : (count : ℕ) (r : Result RawSettings SettingsFault) → EndsCheck count r NoMemory (streams None o e) (streams None p f)
   check_no_memory count r = given_no_memory None o p e f kept told (λ s end u v. EndsCheckUnder s count end u.output v.output u.errors v.errors) r
-      (λ s. (keeps_some o p kept, (e, inl (Keeps-refl e), told)))
+      (λ s. (keeps_some o p kept, (e, inl (Keeps-refl e), told.word)))
 
   fight_no_memory : (view : View) (r : Result RawSettings SettingsFault) → EndsFight view r NoMemory (streams None o e) (streams None p f)
   fight_no_memory view r = given_no_memory None o p e f kept told (λ s end u v. EndsFightUnder s view end u.output v.output u.errors v.errors) r
-      (λ s. (kept, told))
+      (λ s. (kept, told.word))
 
   replay_no_memory : (round : ℕ) (r : Result RawSettings SettingsFault) → EndsReplay round r NoMemory (streams None o e) (streams None p f)
   replay_no_memory round r = given_no_memory None o p e f kept told (λ s end u v. EndsReplayUnder s round end u.output v.output u.errors v.errors) (with_round round r)
-      (λ s. (kept, told))
-
-  create_no_memory : (drawn : Bool) (given : RawSettings) → EndsCreate drawn given NoMemory (streams None o e) (streams None p f)
-  create_no_memory false given = given_no_memory None o p e f kept told (λ s. EndsMade (seed_hint given.seed)) (settings_of given)
-      (λ s. inr (fault_no_memory None o p e f kept told SaysCreated))
-  create_no_memory true given = inr (fault_no_memory None o p e f kept told SaysCreated)
+      (λ s. (kept, told.word))
 
   serve_no_memory : (r : Result RawSettings SettingsFault) → EndsServe r NoMemory (streams None o e) (streams None p f)
   serve_no_memory r = given_no_memory None o p e f kept told (λ s. EndsService) r (λ s. service_no_memory None o p e f kept told)
@@ -240,7 +232,7 @@ module _ (i o p e f : Option (List ℕ)) (kept : Keeps o p) (told : TellsWord (f
       → EndsUnderGiven like base chosen ends NoMemory (streams i o e) (streams i p f)
   under_no_memory false base chosen ends holds = inl (over base chosen, refl, holds (over base chosen))
   under_no_memory true base chosen ends holds =
-      inr (refl, record { fault = Failed Failure.Memory; ends = refl; input = Keeps-refl i; output = kept; told = told })
+      inr (refl, record { trouble = no_memory; of_hill = refl; input = Keeps-refl i; output = kept; told = told })
 
   by_no_memory : (rows : List Row) (ends : RawSettings → Type 0) → ((s : RawSettings) → ends s) → EndsBy rows ends NoMemory (streams i o e) (streams i p f)
   by_no_memory rows ends holds = under_no_memory (is_some (first_of (codes "like") rows)) (base_in rows) (chosen_in rows) ends holds
@@ -255,20 +247,21 @@ module _ (i o p e f : Option (List ℕ)) (kept : Keeps o p) (told : TellsWord (f
       let u = streams None o e in
       let v = streams None p f in
       let none : TellsNote e e = inl (Keeps-refl e) in
+      let may = may_no_memory None o p e f kept told in
       either (bytes_eq name (codes "asm")) _ _ (by_no_memory given (λ s. EndsAsmOf of_input (settings_of s) NoMemory (streams i o e) (streams i p f)) (λ s. asm_no_memory of_input (settings_of s)))
       (either (bytes_eq name (codes "check")) _ _ (by_no_memory given (λ s. EndsCheck count (settings_of s) NoMemory u v) (λ s. check_no_memory count (settings_of s)))
       (either (bytes_eq name (codes "fight")) _ _ (by_no_memory given (λ s. EndsFight shown (settings_of s) NoMemory u v) (λ s. fight_no_memory shown (settings_of s)))
-      (either (bytes_eq name (codes "create")) _ _ (by_no_memory given (λ s. EndsCreate drawn s NoMemory u v) (λ s. create_no_memory drawn s))
-      (either (bytes_eq name (codes "submit")) _ _ (e, none, submit_no_memory None o p e f kept told shown)
-      (either (bytes_eq name (codes "show")) _ _ (e, none, hill_no_memory None o p e f kept told (SaysShown shown (sight_in given)))
-      (either (bytes_eq name (codes "audit")) _ _ (e, none, audit_no_memory None o p e f kept told)
-      (either (bytes_eq name (codes "migrate")) _ _ (hill_no_memory None o p e f kept told SaysMigrated)
-      (either (bytes_eq name (codes "page")) _ _ (e, none, hill_no_memory None o p e f kept told SaysPage)
+      (either (bytes_eq name (codes "create")) _ _ (by_no_memory given (λ s. Ends (MayCreate drawn s) NoMemory u v) (λ s. may (MayCreate drawn s) (create_no_memory drawn s)))
+      (either (bytes_eq name (codes "submit")) _ _ (e, none, source_no_memory i o p e f kept told (SaysReply shown))
+      (either (bytes_eq name (codes "show")) _ _ (e, none, may (Answers (SaysShown shown (sight_in given))) refl)
+      (either (bytes_eq name (codes "audit")) _ _ (e, none, may (Answers SaysAudit) refl)
+      (either (bytes_eq name (codes "migrate")) _ _ (may (Answers (SaysLine migrated_line)) refl)
+      (either (bytes_eq name (codes "page")) _ _ (e, none, may (Answers SaysPage) refl)
       (either (bytes_eq name (codes "serve")) _ _ (e, none, serve_no_memory (settings_of (settings_in given)))
       (either (bytes_eq name (codes "replay")) _ _ (by_no_memory given (λ s. EndsReplay round (settings_of s) NoMemory u v) (λ s. replay_no_memory round (settings_of s)))
-      (either (bytes_eq name (codes "try")) _ _ (e, none, try_no_memory None o p e f kept told shown)
-      (either (bytes_eq name (codes "copy")) _ _ (e, none, inl (hill_no_memory None o p e f kept told SaysCopied))
-      (either (bytes_eq name (codes "reseed")) _ ⊤ (e, none, inl (hill_no_memory None o p e f kept told SaysReseeded)) tt)))))))))))))
+      (either (bytes_eq name (codes "try")) _ _ (e, none, source_no_memory i o p e f kept told (SaysTrial shown))
+      (either (bytes_eq name (codes "copy")) _ _ (e, none, may (Answers (SaysCopied (has_flag (codes "audit") given))) refl)
+      (either (bytes_eq name (codes "reseed")) _ ⊤ (e, none, may MayReseed tt) tt)))))))))))))
 
 module _ (i o p e f : Option (List ℕ)) (status : Status) where
   pub without : (name : Text) (view : View) (given : List Row) (none : NoRequest) → none ≡ NoRequest.Memory
@@ -276,22 +269,24 @@ module _ (i o p e f : Option (List ℕ)) (status : Status) where
   without name view given none is ends =
       let memory : EndsWithout NoRequest.Memory status (streams None o e) (streams None p f) =
       subst (λ n. EndsWithout n status (streams None o e) (streams None p f)) is ends in
-      subst (λ t. EndsNamed name view given t (streams i o e) (streams i p f)) (sym memory.0) (named_no_memory i o p e f memory.1 memory.2 name view given)
+      let ends_so : status ≡ NoMemory = memory.1.ends in
+      subst (λ t. EndsNamed name view given t (streams i o e) (streams i p f)) (sym ends_so)
+      (named_no_memory i o p e f memory.0 (subst (λ t. Tells no_memory t e f) ends_so memory.1) name view given)
 
   -- such a run doesn't end as at a fault of the arguments
   pub words_without : (none : NoRequest) → none ≡ NoRequest.Memory → EndsWithout none status (streams None o e) (streams None p f) → status ≢ WordFault
-  words_without NoRequest.Memory is ends word = memory_is_no_fault status ends.0 word
+  words_without NoRequest.Memory is ends word = memory_is_no_fault status ends.1.ends word
   words_without (NoRequest.Help text) is ends word = absurd (cc)
   words_without (NoRequest.WordFault text) is ends word = absurd (cc)
 
   -- wrong arguments end so, or out of memory
   pub wrong_without : (none : NoRequest) → IsRefusal none → EndsWithout none status (streams None o e) (streams None p f) → (status ≡ WordFault) ⊎ (status ≡ NoMemory)
-  wrong_without NoRequest.Memory is ends = inr ends.0
+  wrong_without NoRequest.Memory is ends = inr ends.1.ends
   wrong_without (NoRequest.Help text) is ends = absurd is
   wrong_without (NoRequest.WordFault text) is ends = inl ends.0
 
   -- at a fault of the arguments nothing is read, and nothing is written on the output
   pub fault_without : (none : NoRequest) → EndsWithout none status (streams None o e) (streams None p f) → status ≡ WordFault → Keeps i i × Keeps o p
-  fault_without NoRequest.Memory ends is = absurd (memory_is_no_fault status ends.0 is)
+  fault_without NoRequest.Memory ends is = absurd (memory_is_no_fault status ends.1.ends is)
   fault_without (NoRequest.Help text) ends is = absurd (ends is)
   fault_without (NoRequest.WordFault text) ends is = (Keeps-refl i, ends.1)
