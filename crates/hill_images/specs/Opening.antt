@@ -53,6 +53,15 @@ pub record IsNotOpenedIn {D : Type 0} (layout : Layout) (facts : DeviceFacts D) 
   pub reason : facts.lawful old → RefusesIn layout (facts.size old) (current (facts.disk old)) why
   pub kept : facts.lawful old → Begun (synced ∷ []) (facts.disk old) (facts.disk new)
 
+-- a refusal for another reason than a fault or a lack of memory: no call of the device failed before it
+abbrev pub IsUnfaulted : {D : Type 0} → DeviceFacts D → D → D → Refusal → Type 0
+IsUnfaulted facts old new Refusal.Disk = Unit {0}
+IsUnfaulted facts old new Refusal.Memory = Unit {0}
+IsUnfaulted facts old new Refusal.TooSmall = facts.faults new ≡ facts.faults old
+IsUnfaulted facts old new Refusal.Occupied = facts.faults new ≡ facts.faults old
+IsUnfaulted facts old new Refusal.NotAHill = facts.faults new ≡ facts.faults old
+IsUnfaulted facts old new Refusal.Damaged = facts.faults new ≡ facts.faults old
+
 -- ---- a hill is written to a device that held none
 
 -- an image after that, if the device failed in it: one that was there before, one without a hill, or one that reads as this hill

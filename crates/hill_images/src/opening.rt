@@ -3,7 +3,7 @@
 ghost use Rattle.std.specs.Prelude.{◌≡◌, ℕ, ◌<◌, ◌≤◌, [], ◌∷◌, Err, IfOk, IfErr, OnOk};
 ghost use Rattle.sector_disk.specs.{Disk.{current, synced}, Image.Images, Changes.{Changes, Begun}, Served.{Failed, IsKept, IsServed}};
 ghost use Rattle.hill_bytes.specs.Layout.{IsHeaderParts, code_room, layout_of, sectors_in};
-ghost use Rattle.hill_images.specs.{Found.IsNewestFound, Named.IsNamed, Opening.{IsRecovered, IsNotOpenedIn}, Reading.{HillRefused, IsHillFound}};
+ghost use Rattle.hill_images.specs.{Found.IsNewestFound, Named.IsNamed, Opening.{IsRecovered, IsNotOpenedIn, IsUnfaulted}, Reading.{HillRefused, IsHillFound}};
 
 use crate::found::newest_header;
 use crate::reading::{read_hill, refusal_of};
@@ -46,6 +46,7 @@ pub fn recover<D: Device, A: Allocator + Copy>(
     ensures small { D.facts.size device.old < 2 → (result ≡ Err Refusal.TooSmall) × (device.new ≡ device.old) }
     ensures found { IfOk result (λ r. IsRecovered (layout_of format) D.facts device.old device.new r.header r.hill r.arena.settings) }
     ensures refused { IfErr result (IsNotOpenedIn (layout_of format) D.facts device.old device.new) }
+    ensures unfaulted { IfErr result (IsUnfaulted D.facts device.old device.new) }
 {
     if device.sectors() < 2 {
         return Err(Refusal::TooSmall);
@@ -70,6 +71,7 @@ fn recover_hill<D: Device, A: Allocator + Copy>(
     ensures faultless { OnOk result (D.facts.faults device.new ≡ D.facts.faults device.old) }
     ensures found { IfOk result (λ r. IsHillFound (layout_of format) D.facts device.old header r.header r.hill r.arena.settings) }
     ensures refused { IfErr result (HillRefused (layout_of format) D.facts device.old device.new header) }
+    ensures unfaulted { IfErr result (IsUnfaulted D.facts device.old device.new) }
 {
     if device.sectors() < sectors_in(format, header.settings().capacity()) {
         return Err(Refusal::TooSmall);

@@ -3,6 +3,7 @@
 ghost use Rattle.std.specs.Prelude.{◌≡◌, ◌+◌, ◌<◌, ◌≤◌, All, IfErr, IfOk, OnOk, get_or, length, map, take};
 ghost use Rattle.{war_types.specs.Warrior.Fits, sector_disk.specs.Served.IsKept, hill_bytes.specs.Layout.{FitRounds, code_room, layout_of, sectors_in}};
 ghost use Rattle.hill_images.specs.{Stands.{bout_of, no_wins}, Reading.{refusal_of, HillNotRead, HillRead, IsDecodedAs, ResultsRead, WarriorNotRead, WarriorRead}};
+ghost use Rattle.hill_images.specs.declared.reading.Unread.{Unread};
 
 use crate::refusal::Refusal;
 use crate::slots::read_slot;
@@ -57,6 +58,7 @@ pub(crate) fn read_hill<D: Device, A: Allocator + Copy>(
     ensures faultless { OnOk result (D.facts.faults device.new ≡ D.facts.faults device.old) }
     ensures read { IfOk result (HillRead (layout_of format) D.facts device.old header.now) }
     ensures unread { IfErr result (HillNotRead (layout_of format) D.facts device.old device.new header.now) }
+    ensures unfaulted { IfErr result (λ unread. unread ≡ Unread.Damaged → D.facts.faults device.new ≡ D.facts.faults device.old) }
 {
     let settings = *header.settings();
     let entries = header.entries();
@@ -130,6 +132,7 @@ pub(crate) fn read_warrior<D: Device, A: Allocator + Copy>(
     ensures read { IfOk result (λ held. WarriorRead (layout_of format) D.facts device.old settings.now slot held.warrior) }
     ensures results { IfOk result (λ held. ResultsRead (layout_of format) D.facts device.old slot held.results) }
     ensures unread { IfErr result (WarriorNotRead (layout_of format) D.facts device.old device.new settings.now slot) }
+    ensures unfaulted { IfErr result (λ unread. unread ≡ Unread.Damaged → D.facts.faults device.new ≡ D.facts.faults device.old) }
 {
     let content = match read_slot(device, format, slot) {
         Ok(content) => content,

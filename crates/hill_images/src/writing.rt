@@ -3,7 +3,7 @@
 ghost use Rattle.std.specs.Prelude.{◌≡◌, ◌≤◌, [], ◌∷◌, IfOk, IfErr, OnOk};
 ghost use Rattle.{war_types.specs.Settings.AreSettings, koth_hill.specs.Kept.{hill_in, new_kept}, sector_disk.specs.{Disk.{current, synced, IsSettled}, Image.Images, Changes.Changes}};
 ghost use Rattle.{sector_disk.specs.Served.{Failed, IsKept, IsServed}, hill_bytes.specs.Layout.{IsHeaderParts, sectors_for}};
-ghost use Rattle.hill_images.specs.{Named.IsNamed, Opening.{HoldsNone, HoldsOneIf, IsFirst, IsNotWritten, IsWritten, first_header}, Writing.{AreStored, IsPut, NoneOrHill}};
+ghost use Rattle.hill_images.specs.{Named.IsNamed, Opening.{HoldsNone, HoldsOneIf, IsFirst, IsNotWritten, IsUnfaulted, IsWritten, first_header}, Writing.{AreStored, IsPut, NoneOrHill}};
 
 use crate::durable::commit;
 use crate::entries::results_by_slot;
@@ -23,6 +23,7 @@ pub fn write_first<D: Device>(device: &mut D, settings: Settings) -> Result<Head
     ensures faultless { OnOk result (D.facts.faults device.new ≡ D.facts.faults device.old) }
     ensures first { IfOk result (IsFirst D.facts device.old settings device.new) }
     ensures refused { IfErr result (IsNotWritten D.facts device.old (new_kept settings 0) device.new) }
+    ensures unfaulted { IfErr result (IsUnfaulted D.facts device.old device.new) }
 {
     match settled_and_holds(device) {
         Ok(true) => Err(Refusal::Occupied),
@@ -44,6 +45,7 @@ pub fn write_hill<D: Device, A: Allocator>(
     ensures faultless { OnOk result (D.facts.faults device.new ≡ D.facts.faults device.old) }
     ensures written { OnOk result (IsWritten D.facts device.old header.now hill.now device.new) }
     ensures refused { IfErr result (IsNotWritten D.facts device.old hill.now device.new) }
+    ensures unfaulted { IfErr result (IsUnfaulted D.facts device.old device.new) }
 {
     match settled_and_holds(device) {
         Ok(true) => Err(Refusal::Occupied),

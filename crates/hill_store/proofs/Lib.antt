@@ -3,6 +3,7 @@ pub mod Replies
 pub mod Lists
 pub mod Holdings
 pub mod Living
+pub mod Newest
 pub mod Decided
 pub mod Moving
 pub mod Eventful

@@ -1,5 +1,5 @@
 -- A hill that moves from a device of the old format to another one: for `Store::migrate` and `migrations_in_lives`.
-use Rattle.{std.proofs.Common.{◌≡◌, ◌⊎◌, inl, inr, ℕ, ◌<◌, List, [], ◌∷◌, ◌++◌, Option, Some, None, refl, sym, subst}, war_types.specs.declared.settings.RawSettings.RawSettings}
+use Rattle.{std.proofs.Common.{◌≡◌, ◌⊎◌, inl, inr, ℕ, ◌<◌, ◌≤◌, List, [], ◌∷◌, ◌++◌, Option, Some, None, refl, sym, subst}, war_types.specs.declared.settings.RawSettings.RawSettings}
 use Rattle.{koth_hill.specs.Kept.{Kept, fought}, sector_disk.specs.{Facts.DeviceFacts, Disk.{current, synced}, Image.{IsImage, Images}, Changes.Begun, Served.IsKept}}
 use Rattle.{sector_disk.proofs.Images.{image-current, images_read, images_sync}, hill_bytes.specs.Layout.{HeaderParts, Layout, old_layout, sectors_for}}
 use Rattle.{hill_images.specs.{declared.refusal.Refusal.Refusal, Stands.{Reads, ReadsIn, Stands, StandsIn}, Opening.{HoldsNone, IsNotWritten}}, hill_images.proofs.Newest.reads_once}
@@ -66,7 +66,7 @@ module _ {O D : Type 0} (old_facts : DeviceFacts O) (facts : DeviceFacts D) (old
   -- the new one did not take it
   not_taken : (new new_after : D) (hill : Kept) (why : Refusal) → facts.lawful new → IsReadOf old_facts old after hill → IsNotTaken facts new hill new_after why → Images (facts.disk new_after) (MayBe new new_after)
   not_taken new new_after hill Refusal.TooSmall lawful_new read is = same_images new new_after is.1
-  not_taken new new_after hill Refusal.Disk lawful_new read is = λ image. λ at. elim (is.images lawful_new image at) [
+  not_taken new new_after hill Refusal.Disk lawful_new read is = λ image. λ at. elim (is.1.images lawful_new image at) [
     | inl before ↦ inl before
     | inr written ↦ elim written [
       | inl none ↦ inr (inl none)
@@ -77,7 +77,7 @@ module _ {O D : Type 0} (old_facts : DeviceFacts O) (facts : DeviceFacts D) (old
     ]
   ]
   not_taken new new_after hill Refusal.Occupied lawful_new read is =
-      subst (λ d. Images d (MayBe new new_after)) (sym (is lawful_new).1) (images_sync (facts.disk new) (MayBe new new_after) (inl (image-current (facts.disk new))))
+      subst (λ d. Images d (MayBe new new_after)) (sym (is.1 lawful_new).1) (images_sync (facts.disk new) (MayBe new new_after) (inl (image-current (facts.disk new))))
   not_taken new new_after hill Refusal.Memory lawful_new read is = absurd is
   not_taken new new_after hill Refusal.NotAHill lawful_new read is = absurd is
   not_taken new new_after hill Refusal.Damaged lawful_new read is = absurd is
@@ -109,13 +109,14 @@ pub too_small : {D : Type 0} (facts : DeviceFacts D) (new : D) (h : HeaderParts)
 too_small facts new h hill settings few = (subst (λ (s : RawSettings). facts.size new < sectors_for s.capacity) settings few, refl)
 
 -- why it did not take the hill that was to be written
-pub taken_or_not : {D : Type 0} (facts : DeviceFacts D) (new after : D) (hill : Kept) (why : Refusal) → IsNotWritten facts new hill after why → IsNotTaken facts new hill after why
-taken_or_not facts new after hill Refusal.Disk is = is
-taken_or_not facts new after hill Refusal.Occupied is = is
-taken_or_not facts new after hill Refusal.TooSmall is = absurd is
-taken_or_not facts new after hill Refusal.Memory is = is
-taken_or_not facts new after hill Refusal.NotAHill is = is
-taken_or_not facts new after hill Refusal.Damaged is = is
+pub taken_or_not : {D : Type 0} (facts : DeviceFacts D) (new after : D) (hill : Kept) (why : Refusal) → sectors_for hill.settings.capacity ≤ facts.size new
+    → IsNotWritten facts new hill after why → IsNotTaken facts new hill after why
+taken_or_not facts new after hill Refusal.Disk room is = (room, is)
+taken_or_not facts new after hill Refusal.Occupied room is = (room, is)
+taken_or_not facts new after hill Refusal.TooSmall room is = absurd is
+taken_or_not facts new after hill Refusal.Memory room is = is
+taken_or_not facts new after hill Refusal.NotAHill room is = is
+taken_or_not facts new after hill Refusal.Damaged room is = is
 
 -- nothing but a sync was done to the old device
 begun_by : {O D : Type 0} (old_facts : DeviceFacts O) (facts : DeviceFacts D) (old after : O) (new new_after : D) (why : Refusal) (side : MigrateSide) → old_facts.lawful old → IsNotMigratedBy old_facts facts old after new new_after why side

@@ -1,9 +1,9 @@
 -- What creating and opening a store makes of a device, and what moving a hill from one of the old format makes of both.
-use Rattle.std.specs.Prelude.{◌≡◌, ◌<◌, false}
+use Rattle.std.specs.Prelude.{◌≡◌, ◌<◌, ◌≤◌, false}
 use Rattle.{war_types.specs.declared.settings.RawSettings.RawSettings, koth_hill.specs.{Step.new_hill, Kept.{Kept, new_kept}}}
 use Rattle.{sector_disk.specs.{Facts.DeviceFacts, Disk.{current, synced}, Image.Images}, hill_bytes.specs.Layout.{HeaderParts, old_layout, sectors_for}}
 use Rattle.hill_images.specs.{declared.refusal.Refusal.Refusal, Stands.{IsNewest, IsNewestIn, Reads, ReadsIn, Stands}, Opening.{HoldsNone, IsNotOpenedIn, IsNotWritten}}
-use Rattle.hill_store.specs.{declared.migration.MigrateFault.MigrateFault, declared.migration.MigrateSide.MigrateSide, Seen.Seen}
+use Rattle.hill_store.specs.{declared.migration.MigrateFault.MigrateFault, declared.migration.MigrateSide.MigrateSide, Seen.{HasNewest, Seen}}
 
 -- a hill was created: its first header was written, and no call of the device failed
 pub record IsCreated {D : Type 0} (facts : DeviceFacts D) (old : D) (s : RawSettings) (store : Seen D) : Type 0 where
@@ -12,6 +12,7 @@ pub record IsCreated {D : Type 0} (facts : DeviceFacts D) (old : D) (s : RawSett
   pub faultless : facts.faults store.device ≡ facts.faults old
   pub open_now : store.reopen ≡ false
   pub was_none : facts.lawful old → HoldsNone (current (facts.disk old))
+  pub newest : facts.lawful old → Images (facts.disk store.device) (λ image. HasNewest image store.generation)
   pub stands : facts.lawful old → Images (facts.disk store.device) (λ image. Stands (facts.size store.device) image (new_hill s 0))
 
 -- why no hill was created, and what became of the device
@@ -47,13 +48,14 @@ pub record IsMigrated {O D : Type 0} (old_facts : DeviceFacts O) (facts : Device
   pub open_now : store.reopen ≡ false
   pub faultless : facts.faults store.device ≡ facts.faults new
   pub was_none : facts.lawful new → HoldsNone (current (facts.disk new))
+  pub newest : facts.lawful new → Images (facts.disk store.device) (λ image. HasNewest image store.generation)
   pub reads : facts.lawful new → Images (facts.disk store.device) (λ image. Reads (facts.size store.device) image store.hill)
 
 -- why the new device did not take it, and what became of that
 abbrev pub IsNotTaken : {D : Type 0} → DeviceFacts D → D → Kept → D → Refusal → Type 0
 IsNotTaken facts new hill after Refusal.TooSmall = (facts.size new < sectors_for hill.settings.capacity) × (after ≡ new)
-IsNotTaken facts new hill after Refusal.Disk = IsNotWritten facts new hill after Refusal.Disk
-IsNotTaken facts new hill after Refusal.Occupied = IsNotWritten facts new hill after Refusal.Occupied
+IsNotTaken facts new hill after Refusal.Disk = (sectors_for hill.settings.capacity ≤ facts.size new) × IsNotWritten facts new hill after Refusal.Disk
+IsNotTaken facts new hill after Refusal.Occupied = (sectors_for hill.settings.capacity ≤ facts.size new) × IsNotWritten facts new hill after Refusal.Occupied
 IsNotTaken facts new hill after Refusal.Memory = ⊥
 IsNotTaken facts new hill after Refusal.NotAHill = ⊥
 IsNotTaken facts new hill after Refusal.Damaged = ⊥

@@ -1,7 +1,7 @@
 -- A store as its caller sees it, and what a submission makes of it.
 use Rattle.std.specs.Prelude.{◌≡◌, ◌≢◌, ◌⊎◌, ℕ, ◌+◌, ◌-◌, ◌^◌, Bool, true, false, List, Option, None, Some, Ok}
 use Rattle.{war_types.specs.{Warrior.WarriorParts, declared.fault.AsmFault.AsmFault, declared.fault.AsmKind.AsmKind}, redcode_asm.specs.{Assembly.assembly, Within.MaySpend}}
-use Rattle.{koth_hill.specs.Kept.{Kept, IsKept, step_kept, verdict_kept}, sector_disk.specs.{Facts.DeviceFacts, Image.Images, Served.Failed}, hill_images.specs.Stands.Reads}
+use Rattle.{koth_hill.specs.Kept.{Kept, IsKept, step_kept, verdict_kept}, sector_disk.specs.{Facts.DeviceFacts, Image.Images, Served.Failed}, hill_bytes.specs.Layout.HeaderParts, hill_images.specs.Stands.{IsNewest, Reads}}
 use Rattle.hill_store.specs.{declared.reply.Reply.Reply, Earned.{kept_reply, kept_next, reply_judged}}
 
 -- the device, the hill with the results that it keeps, how many headers were written before the last, and whether a submission was answered `Disk`
@@ -13,6 +13,10 @@ pub record Seen (D : Type 0) : Type 0 where
 
 abbrev pub seen : {D : Type 0} → D → Kept → ℕ → Bool → Seen D
 seen device hill generation reopen = record { device = device; hill = hill; generation = generation; reopen = reopen }
+
+-- the newest header of an image has this generation
+abbrev pub HasNewest : (ℕ → List ℕ) → ℕ → Type 0
+HasNewest image generation = (h : HeaderParts) × IsNewest image h × (generation ≡ h.generation)
 
 -- a store that may take submissions: every image reads as its hill
 pub record IsStanding {D : Type 0} (facts : DeviceFacts D) (store : Seen D) : Type 0 where
@@ -27,6 +31,7 @@ pub record IsAnswered {D : Type 0} (facts : DeviceFacts D) (old : Seen D) (next 
   pub generation : new.generation ≡ old.generation + 1
   pub faultless : facts.faults new.device ≡ facts.faults old.device
   pub open_still : new.reopen ≡ false
+  pub newest : facts.lawful old.device → Images (facts.disk new.device) (λ image. HasNewest image new.generation)
   pub reads : facts.lawful old.device → Images (facts.disk new.device) (λ image. Reads (facts.size new.device) image next)
 
 -- a submission in which the device failed

@@ -4,7 +4,7 @@ ghost use Rattle.std.specs.Prelude.{◌≡◌, ◌⊎◌, ◌↔◌, ℕ, ◌+�
 ghost use Rattle.war_types.specs.{Warrior.{WarriorParts, Fits}, declared.settings.RawSettings.RawSettings};
 ghost use Rattle.redcode_asm.specs.{Assembly.assembly, Within.AssemblesWithin};
 ghost use Rattle.{koth_hill.specs.{Table.table, Kept.{AreTrue, AreTrueBefore, IsKept as IsKeptHill, IsUntrue, hill_in, table_kept, verdict_kept}, Rows.rows_parts}, sector_disk.specs.Served.IsKept};
-ghost use Rattle.{hill_bytes.specs.Layout.{old_layout, sectors_for}, hill_images.specs.Opening.IsNotOpened};
+ghost use Rattle.{hill_bytes.specs.Layout.{old_layout, sectors_for}, hill_images.specs.Opening.{IsNotOpened, IsUnfaulted}};
 ghost use Rattle.hill_store.specs.{Kept.IsAnew, Runs.{Runs, texts}, Opened.{IsCreated, IsMigrated, IsNotCreated, IsNotMigrated, IsOpened}};
 ghost use Rattle.hill_store.specs.{Holding.{Holds, HoldsIn, HoldsMore, IsDecided, IsHolding, IsMoved, IsUndecided, IsUnmoved}, Seen.{Seen, IsAnswered, IsCut, IsLeft, MayBeSpent, Submits, SubmitsWithin, Challenges, IsRefusal}};
 
@@ -59,6 +59,7 @@ impl<D: Device, A: Allocator + Copy> Store<D, A> {
         ensures created { IfOk result (IsCreated D.facts device settings) }
         ensures holds { IfOk result (λ store. D.facts.lawful device → IsHolding D.facts settings [] store) }
         ensures refused { IfErr result (λ refused. IsNotCreated D.facts device settings refused.0 refused.1) }
+        ensures unfaulted { IfErr result (λ refused. IsUnfaulted D.facts device refused.0 refused.1) }
     {
         if device.sectors() < sectors_for(settings.capacity()) {
             return Err((device, Refusal::TooSmall));
@@ -94,6 +95,7 @@ impl<D: Device, A: Allocator + Copy> Store<D, A> {
         ensures small { D.facts.size device < 2 → result ≡ Err (device, Refusal.TooSmall) }
         ensures opened { IfOk result (IsOpened D.facts device) }
         ensures refused { IfErr result (λ refused. IsNotOpened D.facts device refused.0 refused.1) }
+        ensures unfaulted { IfErr result (λ refused. IsUnfaulted D.facts device refused.0 refused.1) }
         ensures holds { (s : RawSettings) (sources : List (List ℕ)) (more : Option (List ℕ)) → D.facts.lawful device → Holds (D.facts.size device) (D.facts.disk device) s sources more
             → MatchResult result (IsDecided D.facts s sources more) (λ refused. IsUndecided D.facts s sources more refused.0 refused.1) }
     {
@@ -121,8 +123,11 @@ impl<D: Device, A: Allocator + Copy> Store<D, A> {
         mut new: D,
     ) -> Result<(O, Store<D, A>), (O, D, MigrateFault)>
         ensures kept { MatchResult result (λ moved. IsKept O.facts old moved.0 × IsKept D.facts new moved.1.device) (λ refused. IsKept O.facts old refused.0 × IsKept D.facts new refused.1) }
+        ensures small { O.facts.size old < 2 → result ≡ Err (old, new, record { side = MigrateSide.Old; refusal = Refusal.TooSmall }) }
         ensures migrated { IfOk result (λ moved. IsMigrated O.facts D.facts old moved.0 new moved.1) }
         ensures refused { IfErr result (λ refused. IsNotMigrated O.facts D.facts old refused.0 new refused.1 refused.2) }
+        ensures unfaulted { IfErr result (λ refused. IsUnfaulted O.facts old refused.0 refused.2.refusal
+            × IsUnfaulted D.facts new refused.1 refused.2.refusal) }
         ensures holds { (s : RawSettings) (sources : List (List ℕ)) (more : Option (List ℕ)) → O.facts.lawful old → D.facts.lawful new
             → HoldsIn old_layout (O.facts.size old) (O.facts.disk old) s sources more
             → MatchResult result (λ moved. IsMoved O.facts D.facts s sources more moved.0 moved.1) (λ refused. IsUnmoved O.facts D.facts s sources more refused.0 new refused.1 refused.2) }

@@ -1,7 +1,7 @@
 //! The program `koth`.
 #![tactic(auto)]
 
-use koth_server::{Failure, PolledLog, Typed, View, refuse_arguments, run};
+use koth_server::{PolledLog, Trouble, Typed, View, refuse_arguments, run};
 use std::env::Env;
 use std::io::{ErrorKind, IsTerminal};
 use std::process::ExitCode;
@@ -67,7 +67,7 @@ fn words_given(rt: &(impl Env + AllocGlobal)) -> Result<Vec<String>, ErrorKind> 
 /// Reports that there are no arguments, for this reason, and returns the status.
 fn code_without(rt: &HostRuntime, kind: ErrorKind) -> u8 {
     let status = match kind {
-        ErrorKind::OutOfMemory => Failure::Memory.tell_alone(&mut rt.stderr()),
+        ErrorKind::OutOfMemory => Trouble::memory().tell(rt.alloc(), &mut rt.stderr()),
         _ => refuse_arguments(rt, rt.alloc(), &mut rt.stderr()),
     };
     status.code()

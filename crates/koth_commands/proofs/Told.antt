@@ -1,7 +1,8 @@
 -- A text of which a part was written.
 use Rattle.std.proofs.Common.{◌≡◌, inl, inr, ℕ, List, [], ◌++◌, Option, None, Some, Result, Ok, Err, OnOk, OnErr, refl, sym, ap, subst, ◌∙◌, append-nil, append_assoc}
 use Rattle.{std.specs.Io.KnownBytes.{Appends, Keeps}, std.proofs.KnownBytes.{Appends-nil, Appends-trans}, koth_text.specs.Written.WritesPart}
-use Rattle.koth_commands.specs.{Cause.cause_told, Told.{TellsAlone, TellsCause, TellsWord, WritesSome}, declared.cause.Cause.Cause, declared.telling.Apart.TheVariants.{Line, Blank}}
+use Rattle.koth_commands.specs.{Cause.cause_told, Told.{TellsAlone, TellsCause, TellsWord, WritesSome}, Trouble.TellsAbout}
+use Rattle.koth_commands.specs.declared.{cause.Cause.Cause, telling.Apart.TheVariants.{Line, Blank}, trouble.About.About}
 
 -- all of it was
 pub whole_part : (old new : Option (List ℕ)) (text line : List ℕ) → text ≡ line → Appends old new text → WritesPart old new line
@@ -89,3 +90,9 @@ cause_word word (Some cause) a b told = elim told [
   | inl alone ↦ alone_word word a b alone
   | inr both ↦ record { apart = Blank; text = cause_told cause; written = both }
 ]
+
+pub about_word : (word : List ℕ) (about : About) (a b : Option (List ℕ)) → TellsAbout word about a b → TellsWord word a b
+about_word word About.Nothing a b told = alone_word word a b told
+about_word word (About.Cause cause) a b told = cause_word word (Some cause) a b told
+about_word word (About.Given given) a b told = told
+about_word word (About.Round rounds round) a b told = told

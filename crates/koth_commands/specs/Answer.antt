@@ -1,30 +1,15 @@
--- What is written of an answer, of settings that are refused, and of a command that failed.
-use Rattle.{std.specs.{Prelude.{ℕ, Option, List, Result, Ok, Err, codes}, Io.KnownBytes.{Appends, Keeps}}, war_types.specs.declared.fault.AsmFault.AsmFault}
+-- What a command answers, how that is delivered, and how settings are refused.
+use Rattle.{std.specs.{Prelude.{◌≡◌, ◌⊎◌, ℕ, false, Option, List, Result, Ok, Err}, Io.KnownBytes.{Appends, Keeps}}, war_types.specs.declared.fault.AsmFault.AsmFault}
+use Rattle.redcode_diagnosis.specs.Told.{is_memory}
 use Rattle.{war_types.specs.{declared.settings.RawSettings.RawSettings, declared.settings.SettingsFault.SettingsFault}, koth_text.specs.{Refusal.refusal_line, Written.WritesPart}}
-use Rattle.koth_commands.specs.{Failure.failure_word, Streams.Streams, Told.{TellsWord, WritesSome}, declared.failure.Failure.Failure, declared.status.Status.Status}
-
--- the word of settings that are refused: the first field that is out of its range
-abbrev pub settings_word : SettingsFault → List ℕ
-settings_word SettingsFault.Core = codes "BadSettings Core"
-settings_word SettingsFault.Cycles = codes "BadSettings Cycles"
-settings_word SettingsFault.Processes = codes "BadSettings Processes"
-settings_word SettingsFault.Length = codes "BadSettings Length"
-settings_word SettingsFault.Distance = codes "BadSettings Distance"
-settings_word SettingsFault.Rounds = codes "BadSettings Rounds"
-settings_word SettingsFault.Seed = codes "BadSettings Seed"
-settings_word SettingsFault.Capacity = codes "BadSettings Capacity"
-settings_word SettingsFault.ReadLimit = codes "BadSettings ReadLimit"
-settings_word SettingsFault.WriteLimit = codes "BadSettings WriteLimit"
+use Rattle.koth_commands.specs.{Streams.Streams, Told.TellsWord, Trouble.{Tells, fault_word, no_memory, settings_word}}
+use Rattle.koth_commands.specs.declared.{status.Status.Status, trouble.{Fault.Fault, Trouble.Trouble}}
 
 -- the word was written on standard error, nothing was read, and nothing was written on the output
 pub record RefusesSettings (fault : SettingsFault) (before after : Streams) : Type 0 where
   pub input : Keeps before.input after.input
   pub output : Keeps before.output after.output
   pub told : TellsWord (settings_word fault) before.errors after.errors
-
--- the failure was reported on standard error
-abbrev pub Tells : Failure → Streams → Streams → Type 0
-Tells failure before after = TellsWord (failure_word failure) before.errors after.errors
 
 -- nothing was read, and nothing was written on the output
 pub record KeepsAll (before after : Streams) : Type 0 where
@@ -38,21 +23,42 @@ EndsGiven ends (Err fault) Status.Done before after = ⊥
 EndsGiven ends (Err fault) Status.Refused before after = RefusesSettings fault before after
 EndsGiven ends (Err fault) Status.WordFault before after = ⊥
 EndsGiven ends (Err fault) Status.StreamFault before after = ⊥
-EndsGiven ends (Err fault) Status.NoMemory before after = KeepsAll before after × Tells Failure.Memory before after
+EndsGiven ends (Err fault) Status.NoMemory before after = KeepsAll before after × TellsWord (fault_word Fault.Memory) before.errors after.errors
 
--- how a command ends whose answer is this text, by what the output and then standard error hold before and after. The text is written and
--- nothing reported, or a part of it is written and the failed stream reported, or memory runs out and nothing is written
-abbrev pub EndsText : List ℕ → Status → Option (List ℕ) → Option (List ℕ) → Option (List ℕ) → Option (List ℕ) → Type 0
-EndsText text Status.Done o p e f = Appends o p text × Keeps e f
-EndsText text Status.Refused o p e f = ⊥
-EndsText text Status.WordFault o p e f = ⊥
-EndsText text Status.StreamFault o p e f = WritesPart o p text × TellsWord (failure_word Failure.Stream) e f
-EndsText text Status.NoMemory o p e f = Keeps o p × TellsWord (failure_word Failure.Memory) e f
+-- an answer without its place in memory: how the program ends, the text for the output, and the note for standard error
+pub record AnswerParts : Type 0 where
+  pub status : Status
+  pub text : List ℕ
+  pub note : List ℕ
 
--- how a command ends whose source is refused: the refusal's line is written, and some text on standard error that explains it
-abbrev pub EndsRefusal : AsmFault → Status → Option (List ℕ) → Option (List ℕ) → Option (List ℕ) → Option (List ℕ) → Type 0
-EndsRefusal fault Status.Done o p e f = ⊥
-EndsRefusal fault Status.Refused o p e f = Appends o p (refusal_line fault) × WritesSome e f
-EndsRefusal fault Status.WordFault o p e f = ⊥
-EndsRefusal fault Status.StreamFault o p e f = WritesPart o p (refusal_line fault) × TellsWord (failure_word Failure.Stream) e f
-EndsRefusal fault Status.NoMemory o p e f = ⊥
+abbrev pub answer_parts : Status → List ℕ → List ℕ → AnswerParts
+answer_parts status text note = record { status = status; text = text; note = note }
+
+-- the text was written whole and then the note, or a part of it. Or the output failed: a part of the text was written, and that is told
+abbrev pub DeliversText : AnswerParts → Status → Option (List ℕ) → Option (List ℕ) → Option (List ℕ) → Option (List ℕ) → Type 0
+DeliversText answer status o p e f = ((status ≡ answer.status) × Appends o p answer.text × WritesPart e f answer.note)
+    ⊎ ((status ≡ Status.StreamFault) × WritesPart o p answer.text × TellsWord (fault_word Fault.Stream) e f)
+
+-- what a command answers was written, or that there is no answer was told and nothing was written on the output, by what the output and
+-- then standard error hold before and after
+abbrev pub Delivers : Result AnswerParts Trouble → Status → Option (List ℕ) → Option (List ℕ) → Option (List ℕ) → Option (List ℕ) → Type 0
+Delivers (Ok answer) status o p e f = DeliversText answer status o p e f
+Delivers (Err trouble) status o p e f = Keeps o p × Tells trouble status e f
+
+-- what was done is delivered, by the streams before and after
+abbrev pub EndsAs : (Option (List ℕ) → Option (List ℕ) → Result AnswerParts Trouble → Type 0) → Status → Streams → Streams → Type 0
+EndsAs IsDone status before after =
+    (done : Result AnswerParts Trouble) × IsDone before.input after.input done × Delivers done status before.output after.output before.errors after.errors
+
+-- what is done under the settings that are given, by what the input has left before and after. Or a setting is refused and nothing is read
+abbrev pub IsGiven : (RawSettings → Option (List ℕ) → Option (List ℕ) → Result AnswerParts Trouble → Type 0) → Result RawSettings SettingsFault
+    → Option (List ℕ) → Option (List ℕ) → Result AnswerParts Trouble → Type 0
+IsGiven IsDone (Ok s) i j done = IsDone s i j done
+IsGiven IsDone (Err fault) i j (Ok answer) = ⊥
+IsGiven IsDone (Err fault) i j (Err trouble) = Keeps i j × ((trouble.fault ≡ Fault.Settings fault) ⊎ (trouble ≡ no_memory))
+
+-- a source is refused: its line, and some note that explains it
+pub record IsRefusal (fault : AsmFault) (answer : AnswerParts) : Type 0 where
+  pub refused : answer.status ≡ Status.Refused
+  pub text : answer.text ≡ refusal_line fault
+  pub kind : is_memory fault.kind ≡ false

@@ -1,5 +1,6 @@
 -- What a command takes from its input, and its three streams.
-use Rattle.std.specs.{Prelude.{ℕ, ◌<◌, ◌≤◌, Option, None, List, length}, Io.KnownBytes.{Consumes, IsAtEnd}}
+use Rattle.std.specs.{Prelude.{ℕ, ◌<◌, ◌≤◌, Bool, true, false, Option, None, List, length}, Io.KnownBytes.{Consumes, IsAtEnd, Keeps}}
+use Rattle.koth_words.specs.declared.requests.Source.{Source}
 
 -- bytes of a source that are read: one more than a source may have
 abbrev pub read_limit : ℕ
@@ -10,6 +11,21 @@ pub record Takes (old new : Option (List ℕ)) (source : List ℕ) : Type 0 wher
   pub bytes : Consumes old new source
   pub most : length source ≤ read_limit
   pub whole : length source < read_limit → IsAtEnd new
+
+-- whether a source is standard input
+abbrev pub is_input : Source → Bool
+is_input (Source.Input name) = true
+is_input (Source.File path) = false
+
+-- what messages call a source
+abbrev pub source_name : Source → List ℕ
+source_name (Source.Input name) = name.now
+source_name (Source.File path) = path.now
+
+-- what is done to a reader, by what that has left before and after, is done to the input, or else to a file, of which no bytes are known, and the input stays
+abbrev pub From : Bool → (Option (List ℕ) → Option (List ℕ) → Type 0) → Option (List ℕ) → Option (List ℕ) → Type 0
+From true Reads old new = Reads old new
+From false Reads old new = Reads None None × Keeps old new
 
 -- the bytes of the three streams: those that the input has left, and those that the others hold
 pub record Streams : Type 0 where

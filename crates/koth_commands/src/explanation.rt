@@ -20,13 +20,26 @@ pub fn explain<A: Allocator + Copy, E: Write>(
 )
     ensures { WritesSome (E.contents errors.old) (E.contents errors.new) }
 {
-    if let Ok(Some(text)) = explanation(alloc, path, source, settings) {
-        let _ = write_whole(errors, text.as_slice());
+    let text = explanation_of(alloc, path, source, settings);
+    let _ = write_whole(errors, text.as_slice());
+}
+
+/// Where in a source its first refusal is, and why: the line's number and text, a caret under the fault, and a sentence. It is empty if the
+/// source is not refused or memory runs out.
+pub fn explanation_of<A: Allocator + Copy>(
+    alloc: A,
+    path: &str,
+    source: &[u8],
+    settings: &Settings,
+) -> Vec<u8, A> {
+    match first_told(alloc, path, source, settings) {
+        Ok(Some(text)) => text,
+        _ => Vec::new(alloc),
     }
 }
 
 /// The explanation of the first refusal of a source, if there is one.
-fn explanation<A: Allocator + Copy>(
+fn first_told<A: Allocator + Copy>(
     alloc: A,
     path: &str,
     source: &[u8],

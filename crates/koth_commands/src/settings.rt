@@ -1,7 +1,7 @@
-//! The report of settings that are refused, and of a round that a match doesn't have.
+//! What is told of settings that are refused, and of a round that a match doesn't have.
 
 ghost use Rattle.std.specs.Prelude.{◌≡◌};
-ghost use Rattle.koth_commands.specs.{Answer.settings_word, Told.TellsWord};
+ghost use Rattle.koth_commands.specs.{Trouble.settings_word, Told.TellsWord};
 
 use crate::status::Status;
 use crate::telling::{Apart, tell_text};
@@ -20,44 +20,42 @@ pub fn refuse_settings<A: Allocator, E: Write>(
     ensures status { result ≡ Status.Refused }
     ensures told { TellsWord (settings_word fault) (E.contents errors.old) (E.contents errors.new) }
 {
-    tell_settings(fault, range_text(alloc, given, fault), errors)
-}
-
-/// Reports a round that a match of `rounds` rounds doesn't have, like settings that are refused. Rounds are counted from 1.
-pub(crate) fn refuse_round<A: Allocator, E: Write>(
-    alloc: A,
-    rounds: u32,
-    round: u32,
-    errors: &mut E,
-) -> Status
-    ensures status { result ≡ Status.Refused }
-    ensures told { TellsWord (settings_word SettingsFault.Rounds) (E.contents errors.old) (E.contents errors.new) }
-{
-    let told = format!(in alloc;
-        "--round is {}, and must be 1 to --rounds {}\n",
-        round, rounds
+    tell_range(
+        settings_word(fault),
+        range_text(alloc, given, fault),
+        errors,
     );
-    tell_settings(SettingsFault::Rounds, told, errors)
-}
-
-/// Reports which setting is refused, followed by this text if there was memory for it.
-fn tell_settings<A: Allocator, E: Write>(
-    fault: SettingsFault,
-    told: Result<String<A>, AllocError>,
-    errors: &mut E,
-) -> Status
-    ensures status { result ≡ Status.Refused }
-    ensures told { TellsWord (settings_word fault) (E.contents errors.old) (E.contents errors.new) }
-{
-    let word = settings_word(fault);
-    match told {
-        Ok(text) => tell_text(word, Apart::Colon, text.as_bytes(), errors),
-        Err(AllocError) => tell_text(word, Apart::Line, b"", errors),
-    }
     Status::Refused
 }
 
-fn settings_word(fault: SettingsFault) -> &'static str
+/// A round that a match doesn't have, and its range.
+pub(crate) fn round_range<A: Allocator>(
+    alloc: A,
+    rounds: u32,
+    round: u32,
+) -> Result<String<A>, AllocError> {
+    format!(in alloc;
+        "--round is {}, and must be 1 to --rounds {}\n",
+        round, rounds
+    )
+}
+
+/// Writes the word of what is refused, followed by its range if there was memory for that.
+pub(crate) fn tell_range<A: Allocator, E: Write>(
+    word: &str,
+    range: Result<String<A>, AllocError>,
+    errors: &mut E,
+)
+    ensures { TellsWord word.now (E.contents errors.old) (E.contents errors.new) }
+{
+    match range {
+        Ok(text) => tell_text(word, Apart::Colon, text.as_bytes(), errors),
+        Err(AllocError) => tell_text(word, Apart::Line, b"", errors),
+    }
+}
+
+/// The word of the setting that is refused.
+pub(crate) fn settings_word(fault: SettingsFault) -> &'static str
     ensures { result.now ≡ settings_word fault }
 {
     match fault {
@@ -75,7 +73,7 @@ fn settings_word(fault: SettingsFault) -> &'static str
 }
 
 /// The value of the setting that is refused, and its range.
-fn range_text<A: Allocator>(
+pub(crate) fn range_text<A: Allocator>(
     alloc: A,
     given: RawSettings,
     fault: SettingsFault,

@@ -1,43 +1,69 @@
-//! A source that is read from a file.
+//! A source that is read from standard input or from a file.
 
-ghost use Rattle.std.specs.Prelude.{◌≡◌, ◌≤◌, vec_len, length, IfOk};
+ghost use Rattle.std.specs.{Prelude.{◌≡◌, IfOk, IfErr, List, ℕ}, Io.KnownBytes.Consumes};
+ghost use Rattle.koth_commands.specs.{Trouble.IsReadFault, Streams.{From, Takes, is_input, source_name}};
 
-use crate::cause::{Cause, reason_of};
-use crate::failure::Trouble;
+use crate::cause::reason_of;
 use crate::stream::fill;
+use crate::trouble::Trouble;
+use koth_words::Source;
 use redcode_asm::SOURCE_LIMIT;
-use std::alloc::{AllocError, Allocator};
+use std::alloc::Allocator;
 use std::fs;
+use std::io::Read;
 use std::rt::Files;
 
 /// Bytes of a source that are read: one more than a source may have, which shows that it is too long.
 const READ_LIMIT: usize = SOURCE_LIMIT + 1;
 
-/// A buffer for a source: one byte longer than a source may be, which shows that one is too long.
-pub(crate) fn source_buffer<A: Allocator + Copy>(alloc: A) -> Result<Vec<u8, A>, AllocError>
-    ensures { IfOk result (λ zeros. vec_len zeros ≡ 65537) }
+/// What messages call a source.
+pub fn source_name<'w>(source: Source<'w>) -> &'w str
+    ensures { result.now ≡ source_name source.entry }
 {
-    Vec::from_elem(alloc, 0, READ_LIMIT)
+    match source {
+        Source::Input(name) => name,
+        Source::File(path) => path,
+    }
 }
 
-/// What a file has, up to one byte more than a source may have.
-pub fn read_source<'p, R: Files, A: Allocator + Copy>(
+/// What a source has, up to one byte more than it may have. Nothing is taken from the input for a file.
+pub fn source_text<'w, R: Files, A: Allocator + Copy, I: Read>(
     rt: &R,
     alloc: A,
-    path: &'p str,
-) -> Result<Vec<u8, A>, Trouble<'p>> {
-    let Ok(mut buffer) = source_buffer(alloc) else {
-        return Err(Trouble::Memory);
+    source: Source<'w>,
+    input: &mut I,
+) -> Result<Vec<u8, A>, Trouble<'w>>
+    ensures taken { IfOk result (λ text. From (is_input source.entry) (λ old new. Takes old new text.items)
+        (I.remaining input.old) (I.remaining input.new)) }
+    ensures lost { IfErr result (λ trouble. IsReadFault trouble × From (is_input source.entry) (λ old new. (taken : List ℕ) × Consumes old new taken)
+        (I.remaining input.old) (I.remaining input.new)) }
+{
+    match source {
+        Source::Input(name) => text_from(alloc, name, input),
+        Source::File(path) => match fs::open(rt, path) {
+            Ok(mut file) => text_from(alloc, path, &mut file),
+            Err(error) => Err(Trouble::file(path, reason_of(error.kind()))),
+        },
+    }
+}
+
+/// What a reader has, up to one byte more than a source may have. `name` is what messages call it.
+fn text_from<'w, A: Allocator + Copy, I: Read>(
+    alloc: A,
+    name: &'w str,
+    input: &mut I,
+) -> Result<Vec<u8, A>, Trouble<'w>>
+    ensures taken { IfOk result (λ text. Takes (I.remaining input.old) (I.remaining input.new) text.items) }
+    ensures lost { IfErr result (λ trouble. IsReadFault trouble × ((taken : List ℕ) × Consumes (I.remaining input.old) (I.remaining input.new) taken)) }
+{
+    let Ok(mut buffer) = Vec::from_elem(alloc, 0, READ_LIMIT) else {
+        return Err(Trouble::memory());
     };
-    let mut file = match fs::open(rt, path) {
-        Ok(file) => file,
-        Err(error) => return Err(Trouble::Failed(Cause::file(path, reason_of(error.kind())))),
-    };
-    match fill(&mut file, buffer.as_mut_slice()) {
+    match fill(input, buffer.as_mut_slice()) {
         Ok(count) => {
             buffer.truncate(count);
             Ok(buffer)
         }
-        Err(fault) => Err(Trouble::Failed(Cause::file(path, fault.reason))),
+        Err(fault) => Err(Trouble::file(name, fault.reason)),
     }
 }

@@ -1,6 +1,6 @@
--- What is reported of a fault of a hill, and how the program ends with it.
-pub mod HillFault
--- What is reported of a device whose hill is not opened, and of a hill of the old format.
+-- What is told of a hill's file that can't be worked on.
+pub mod Trouble
+-- What is told of a device whose hill is not opened, and of a hill of the old format.
 pub mod OldHill
--- What is reported of a hill that was looked at and isn't shown, and what it has lost.
+-- What is told of a hill that was looked at and isn't shown, and what it has lost.
 pub mod Looking

@@ -1,24 +1,22 @@
 //! Hills in files: how one is opened, made, and opened again, and why that can't be.
 //!
-//! `hill_fault` is why a command on a hill was not carried out, and `trouble` that with what it worked on. `opening`
-//! opens the hill in a file, and `making` makes one, without warriors or as a copy, whole or not at all. `looking`
-//! looks at one without writing its file, and `damage` at what it has lost.
+//! `trouble` is why a hill's file can't be worked on. `opening` opens the hill in a file, and `making` makes one, without
+//! warriors or as a copy, whole or not at all. `looking` looks at one without writing its file, and `damage` at what it has
+//! lost.
 //!
-//! The main clauses: a fault has its word, its status and its reason (`HillFault`), and what is reported of a device
-//! whose hill is not opened is what was found on it (`OldHill`). A hill that is looked at stood while it was read, and
-//! so did why none is shown (`Looking`). Of files no contract can say what they hold; tests and scripts do.
+//! The main clauses: what is told of a file, and for which fault (`Trouble`), and what is told of a device whose hill is not
+//! opened is what was found on it (`OldHill`). A hill that is looked at stood while it was read, and so did why none is
+//! shown (`Looking`). Of files no contract can say what they hold; tests and scripts do.
 #![tactic(auto)]
 
 mod damage;
-mod hill_fault;
 mod looking;
 mod making;
 mod opening;
 mod trouble;
 
 pub use damage::has_lost_header;
-pub use hill_fault::HillFault;
 pub use looking::{SeenHill, look_hill};
 pub use making::{copy_hill, create_hill};
 pub use opening::{HillStore, open_alone, open_within, reopen_hill};
-pub use trouble::{HillTrouble, tell_output};
+pub use trouble::{refused_at, unopened_at};

@@ -1,14 +1,14 @@
 //! How the hill in a file is looked at: it is read, and nothing is written.
 
-ghost use Rattle.std.specs.Prelude.{◌≡◌, false, Some, IfErr, IfOk};
-ghost use Rattle.{sector_disk.specs.Served.IsKept, hill_look.specs.Looked.{HillStood, shown}, koth_commands.specs.{Cause.reason_told, Name.shown_name}, koth_files.specs.{HillFault.trouble_told, Looking.{IsUnseen, TellsLook, TellsNone}}};
+ghost use Rattle.std.specs.Prelude.{◌≡◌, false, IfErr, IfOk};
+ghost use Rattle.{sector_disk.specs.Served.IsKept, hill_look.specs.Looked.{HillStood, shown}, koth_files.specs.{Looking.{IsUnseen, TellsDamage, TellsLook, TellsNone}, Trouble.IsOfHill}};
 
 use crate::damage::damaged_seen;
-use crate::hill_fault::HillFault;
-use crate::opening::fault_without_hill;
-use crate::trouble::HillTrouble;
+use crate::opening::without_hill;
+use crate::trouble::{damaged_at, refused_at, told_at, unopened_at};
 use hill_look::{FileSource, LookRefusal, Source, look, look_at_hill};
 use hill_store::{Refusal, Store};
+use koth_commands::trouble::{Fault, Trouble};
 use koth_commands::Reason;
 use sector_disk::MemoryDevice;
 use std::alloc::Allocator;
@@ -24,12 +24,13 @@ pub fn look_hill<'f, R: Files, A: Allocator + Copy>(
     rt: &R,
     alloc: A,
     path: &'f str,
-) -> Result<SeenHill<A>, HillTrouble<'f>>
-    ensures { IfOk result (λ store. store.reopen ≡ false) }
+) -> Result<SeenHill<A>, Trouble<'f>>
+    ensures open_now { IfOk result (λ store. store.reopen ≡ false) }
+    ensures of_hill { IfErr result IsOfHill }
 {
     match FileSource::open(rt, path) {
         Ok(mut source) => look_on(alloc, &mut source, path),
-        Err(fault) => Err(HillTrouble::unopened(path, fault)),
+        Err(fault) => Err(unopened_at(path, fault)),
     }
 }
 
@@ -38,11 +39,12 @@ fn look_on<'f, S: Source, A: Allocator + Copy>(
     alloc: A,
     source: &mut S,
     path: &'f str,
-) -> Result<SeenHill<A>, HillTrouble<'f>>
+) -> Result<SeenHill<A>, Trouble<'f>>
     ensures kept { IsKept S.facts source.old source.new }
     ensures open_now { IfOk result (λ store. store.reopen ≡ false) }
     ensures stood { S.facts.lawful source.old → IfOk result (λ store. HillStood (S.facts.size source.old) (shown S.facts source.old) (shown S.facts source.new) store.hill store.generation) }
-    ensures refused { S.facts.lawful source.old → IfErr result (λ trouble. IsUnseen S.facts source.old source.new trouble.fault) }
+    ensures refused { S.facts.lawful source.old → IfErr result (IsUnseen S.facts path.entry source.old source.new) }
+    ensures of_hill { IfErr result IsOfHill }
 {
     match look_at_hill(alloc, source) {
         Ok(store) => Ok(store),
@@ -57,31 +59,47 @@ fn trouble_of_look<'f, S: Source, A: Allocator + Copy>(
     source: &mut S,
     path: &'f str,
     refusal: LookRefusal,
-) -> HillTrouble<'f>
+) -> Trouble<'f>
     ensures kept { IsKept S.facts source.old source.new }
-    ensures fault { S.facts.lawful source.old → TellsLook S.facts source.old source.new refusal result.fault }
-    ensures changing { refusal ≡ LookRefusal.Changing → trouble_told result ≡ Some (reason_told (shown_name path.now) Reason.InUse) }
+    ensures told { S.facts.lawful source.old → TellsLook S.facts path.entry source.old source.new refusal result }
+    ensures of_hill { IsOfHill result }
 {
     match refusal {
-        LookRefusal::Changing => HillTrouble::file(path, Reason::InUse),
-        LookRefusal::Refused(Refusal::NotAHill) => {
-            HillTrouble::of(path, fault_unseen(alloc, source))
-        }
-        LookRefusal::Refused(Refusal::Damaged) => match damaged_seen(alloc, source) {
-            Some(entry) => HillTrouble::damaged(path, entry),
-            None => HillTrouble::of(path, HillFault::Damaged),
-        },
-        LookRefusal::Refused(refusal) => HillTrouble::refused(path, refusal),
+        LookRefusal::Changing => told_at(path, Fault::Stream, Reason::InUse),
+        LookRefusal::Refused(Refusal::NotAHill) => trouble_unseen(alloc, source, path),
+        LookRefusal::Refused(Refusal::Damaged) => damage_seen(alloc, source, path),
+        LookRefusal::Refused(refusal) => refused_at(path, refusal),
     }
 }
 
-/// The fault for a source that holds no hill. If it can't be read, the fault says nothing of the old format.
-fn fault_unseen<S: Source, A: Allocator + Copy>(alloc: A, source: &mut S) -> HillFault
+/// What is told of a source that holds no hill. If it can't be read, nothing is said of the old format.
+fn trouble_unseen<'f, S: Source, A: Allocator + Copy>(
+    alloc: A,
+    source: &mut S,
+    path: &'f str,
+) -> Trouble<'f>
     ensures kept { IsKept S.facts source.old source.new }
-    ensures told { S.facts.lawful source.old → TellsNone S.facts source.old source.new result }
+    ensures told { S.facts.lawful source.old → TellsNone S.facts path.entry source.old source.new result }
+    ensures of_hill { IsOfHill result }
 {
     match look(alloc, source) {
-        Ok(mut device) => fault_without_hill(&mut device),
-        Err(_) => HillFault::NotAHill,
+        Ok(mut device) => without_hill(path, &mut device),
+        Err(_) => refused_at(path, Refusal::NotAHill),
+    }
+}
+
+/// What is told of a source in which a warrior can't be read. If the source can't be read again, that doesn't say which one it is.
+fn damage_seen<'f, S: Source, A: Allocator + Copy>(
+    alloc: A,
+    source: &mut S,
+    path: &'f str,
+) -> Trouble<'f>
+    ensures kept { IsKept S.facts source.old source.new }
+    ensures told { S.facts.lawful source.old → TellsDamage S.facts path.entry source.old source.new result }
+    ensures of_hill { IsOfHill result }
+{
+    match damaged_seen(alloc, source) {
+        Some(entry) => damaged_at(path, entry),
+        None => refused_at(path, Refusal::Damaged),
     }
 }

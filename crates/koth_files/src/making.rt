@@ -3,13 +3,14 @@
 ghost use Rattle.std.specs.Prelude.{◌≡◌, ◌⊎◌, IfErr, IfOk, OnOk};
 ghost use Rattle.{koth_hill.specs.Kept.new_kept, sector_disk.specs.{Image.Images, Served.IsKept}};
 ghost use Rattle.hill_images.specs.{Opening.HoldsNone, Stands.Reads};
-ghost use Rattle.{hill_store.specs.{Opened.IsCreated, Read.IsCopied}, koth_files.specs.HillFault.fault_of_file};
+ghost use Rattle.{hill_store.specs.{Opened.IsCreated, Read.IsCopied}, koth_commands.specs.declared.{cause.Reason.Reason, trouble.Fault.Fault}, koth_files.specs.Trouble.{not_made_at, told_at, IsOfHill}};
 
-use crate::hill_fault::HillFault;
 use crate::opening::HillStore;
-use crate::trouble::{HillTrouble, fault_of_refusal};
+use crate::trouble::{refused_at, told_at, unopened_at};
 use hill_file::{Existing, HillFile, OpenFault, Place, TryLock, name_beside};
-use hill_store::{Store, sectors_for};
+use hill_store::{Refusal, Store, sectors_for};
+use koth_commands::trouble::{Fault, Trouble};
+use koth_commands::Reason;
 use sector_disk::Device;
 use std::alloc::{AllocError, Allocator};
 use std::rt::Files;
@@ -22,13 +23,14 @@ pub fn create_hill<'f, R: Files, A: Allocator + Copy>(
     settings: Settings,
     path: &'f str,
     existing: Existing,
-) -> Result<(), HillTrouble<'f>>
+) -> Result<(), Trouble<'f>>
 where
     R::File: TryLock,
+    ensures { IfErr result IsOfHill }
 {
     match name_beside(alloc, path) {
         Ok(new) => create_beside(rt, alloc, settings, path, new.as_str(), existing),
-        Err(AllocError) => Err(HillTrouble::memory()),
+        Err(AllocError) => Err(Trouble::memory()),
     }
 }
 
@@ -40,18 +42,19 @@ fn create_beside<'f, R: Files, A: Allocator + Copy>(
     path: &'f str,
     new: &str,
     existing: Existing,
-) -> Result<(), HillTrouble<'f>>
+) -> Result<(), Trouble<'f>>
 where
     R::File: TryLock,
+    ensures { IfErr result IsOfHill }
 {
     let place = match Place::take(rt, path, existing) {
         Ok(place) => place,
-        Err(fault) => return Err(HillTrouble::unopened(path, fault)),
+        Err(fault) => return Err(unopened_at(path, fault)),
     };
     match create_new(rt, alloc, settings, path, new) {
         Ok(_store) => match place.fill(new) {
             Ok(()) => Ok(()),
-            Err(fault) => Err(HillTrouble::unopened(path, fault)),
+            Err(fault) => Err(unopened_at(path, fault)),
         },
         Err(trouble) => Err(trouble),
     }
@@ -64,20 +67,21 @@ fn create_new<'f, 'n, R: Files, A: Allocator + Copy>(
     settings: Settings,
     path: &'f str,
     new: &'n str,
-) -> Result<HillStore<'n, R, A>, HillTrouble<'f>>
+) -> Result<HillStore<'n, R, A>, Trouble<'f>>
 where
     R::File: TryLock,
-    ensures { IfOk result (λ store. store.hill ≡ new_kept settings 0) }
+    ensures made { IfOk result (λ store. store.hill ≡ new_kept settings 0) }
+    ensures of_hill { IfErr result IsOfHill }
 {
     let device = match HillFile::make_new(rt, new, sectors_for(settings.capacity())) {
         Ok(device) => device,
-        Err(fault) => return Err(HillTrouble::unopened(path, fault)),
+        Err(fault) => return Err(unopened_at(path, fault)),
     };
     match create_on(alloc, settings, device) {
         Ok(store) => Ok(store),
-        Err(fault) => {
+        Err(refusal) => {
             let _ = rt.remove_file(new);
-            Err(HillTrouble::of(path, fault))
+            Err(refused_at(path, refusal))
         }
     }
 }
@@ -87,12 +91,12 @@ fn create_on<D: Device + Drop, A: Allocator + Copy>(
     alloc: A,
     settings: Settings,
     device: D,
-) -> Result<Store<D, A>, HillFault>
+) -> Result<Store<D, A>, Refusal>
     ensures { IfOk result (IsCreated D.facts device settings) }
 {
     match Store::create(alloc, device, settings) {
         Ok(store) => Ok(store),
-        Err((_device, refusal)) => Err(fault_of_refusal(refusal)),
+        Err((_device, refusal)) => Err(refusal),
     }
 }
 
@@ -103,13 +107,14 @@ pub fn copy_hill<'f, R: Files, D: Device, A: Allocator + Copy>(
     alloc: A,
     store: &Store<D, A>,
     path: &'f str,
-) -> Result<(), HillTrouble<'f>>
+) -> Result<(), Trouble<'f>>
 where
     R::File: TryLock,
+    ensures { IfErr result IsOfHill }
 {
     match name_beside(alloc, path) {
         Ok(new) => copy_beside(rt, store, path, new.as_str()),
-        Err(AllocError) => Err(HillTrouble::memory()),
+        Err(AllocError) => Err(Trouble::memory()),
     }
 }
 
@@ -119,9 +124,10 @@ fn copy_beside<'f, R: Files, D: Device, A: Allocator + Copy>(
     store: &Store<D, A>,
     path: &'f str,
     new: &str,
-) -> Result<(), HillTrouble<'f>>
+) -> Result<(), Trouble<'f>>
 where
     R::File: TryLock,
+    ensures { IfErr result IsOfHill }
 {
     // the place of a file of zeros would be filled: so nothing is here before the place is taken, and nothing after that
     require_none(rt, path)?;
@@ -146,20 +152,21 @@ fn copy_new<'f, 'n, R: Files, D: Device, A: Allocator + Copy>(
     store: &Store<D, A>,
     path: &'f str,
     new: &'n str,
-) -> Result<HillFile<'n, R>, HillTrouble<'f>>
+) -> Result<HillFile<'n, R>, Trouble<'f>>
 where
     R::File: TryLock,
+    ensures { IfErr result IsOfHill }
 {
     let sectors = sectors_for(store.hill().settings().capacity());
     let mut device = match HillFile::make_new(rt, new, sectors) {
         Ok(device) => device,
-        Err(fault) => return Err(HillTrouble::unopened(path, fault)),
+        Err(fault) => return Err(unopened_at(path, fault)),
     };
     match copy_on(store, &mut device) {
         Ok(()) => Ok(device),
-        Err(fault) => {
+        Err(refusal) => {
             let _ = rt.remove_file(new);
-            Err(HillTrouble::of(path, fault))
+            Err(refused_at(path, refusal))
         }
     }
 }
@@ -169,34 +176,32 @@ where
 fn copy_on<D: Device, N: Device, A: Allocator>(
     store: &Store<D, A>,
     new: &mut N,
-) -> Result<(), HillFault>
+) -> Result<(), Refusal>
     ensures kept { IsKept N.facts new.old new.new }
     ensures copied { OnOk result (IsCopied N.facts store.now.hill store.now.generation new.old new.new) }
     ensures stopped { N.facts.lawful new.old → Images (N.facts.disk new.old) HoldsNone
         → Images (N.facts.disk new.new) (λ image. HoldsNone image ⊎ Reads (N.facts.size new.new) image store.now.hill) }
 {
-    match store.copy_to(new) {
-        Ok(()) => Ok(()),
-        Err(refusal) => Err(fault_of_refusal(refusal)),
-    }
+    store.copy_to(new)
 }
 
 /// Refuses a path at which something is.
-fn require_none<'f, R: Files>(rt: &R, path: &'f str) -> Result<(), HillTrouble<'f>>
-    ensures { IfErr result (λ trouble. trouble.fault ≡ HillFault.Occupied) }
+fn require_none<'f, R: Files>(rt: &R, path: &'f str) -> Result<(), Trouble<'f>>
+    ensures { IfErr result (λ trouble. trouble ≡ told_at path.entry Fault.Occupied Reason.NameInUse) }
 {
     match rt.symlink_metadata(path) {
-        Ok(_) => Err(HillTrouble::taken(path)),
+        Ok(_) => Err(told_at(path, Fault::Occupied, Reason::NameInUse)),
         Err(_) => Ok(()),
     }
 }
 
 /// Why no new file can be made at this path.
-fn trouble_of_new<'f>(path: &'f str, fault: OpenFault) -> HillTrouble<'f>
-    ensures { result.fault ≡ fault_of_file fault }
+fn trouble_of_new<'f>(path: &'f str, fault: OpenFault) -> Trouble<'f>
+    ensures told { result ≡ not_made_at path.entry fault }
+    ensures of_hill { IsOfHill result }
 {
     match fault {
-        OpenFault::Occupied => HillTrouble::taken(path),
-        fault => HillTrouble::unopened(path, fault),
+        OpenFault::Occupied => told_at(path, Fault::Occupied, Reason::NameInUse),
+        fault => unopened_at(path, fault),
     }
 }

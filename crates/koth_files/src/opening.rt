@@ -1,16 +1,16 @@
 //! How the hill in a file is opened.
 
 ghost use Rattle.std.specs.Prelude.{◌≡◌, ◌≤◌, false, IfErr, IfOk};
-ghost use Rattle.{hill_store.specs.Opened.IsOpened, koth_files.specs.OldHill.{IsUnopened, TellsNoHill, TellsRefusal}};
+ghost use Rattle.{hill_store.specs.Opened.IsOpened, koth_files.specs.{OldHill.{IsUnopened, TellsNoHill, TellsRefusal}, Trouble.IsOfHill}};
 
 use crate::damage::damaged_in;
-use crate::hill_fault::HillFault;
-use crate::trouble::{HillTrouble, fault_of_refusal};
+use crate::trouble::{damaged_at, is_lock, refused_at, told_at, unopened_at};
 use hill_file::{Headers, HillFile, Sharing, TryLock, is_another_hill, require_held};
 use hill_images::holds_old_hill;
 use hill_store::{Refusal, Store};
+use koth_commands::trouble::{Fault, Trouble};
 use koth_commands::Reason;
-use sector_disk::{Device, Fault};
+use sector_disk::Device;
 use std::alloc::Allocator;
 use std::rt::{Clock, Files};
 use std::thread::sleep;
@@ -27,17 +27,15 @@ fn open_hill<'f, R: Files, A: Allocator + Copy>(
     rt: &'f R,
     alloc: A,
     path: &'f str,
-) -> Result<HillStore<'f, R, A>, HillTrouble<'f>>
+) -> Result<HillStore<'f, R, A>, Trouble<'f>>
 where
     R::File: TryLock,
-    ensures { IfOk result (λ store. store.reopen ≡ false) }
+    ensures open_now { IfOk result (λ store. store.reopen ≡ false) }
+    ensures of_hill { IfErr result IsOfHill }
 {
     match HillFile::open(rt, path, Sharing::Alone) {
-        Ok(device) => match open_on(alloc, device) {
-            Ok(store) => Ok(store),
-            Err(fault) => Err(trouble_of_opening(rt, alloc, path, fault)),
-        },
-        Err(fault) => Err(HillTrouble::unopened(path, fault)),
+        Ok(device) => open_device(rt, alloc, path, device),
+        Err(fault) => Err(unopened_at(path, fault)),
     }
 }
 
@@ -46,15 +44,16 @@ pub fn open_alone<'f, R: Files, A: Allocator + Copy>(
     rt: &'f R,
     alloc: A,
     path: &'f str,
-) -> Result<HillStore<'f, R, A>, HillTrouble<'f>>
+) -> Result<HillStore<'f, R, A>, Trouble<'f>>
 where
     R::File: TryLock,
-    ensures { IfOk result (λ store. store.reopen ≡ false) }
+    ensures open_now { IfOk result (λ store. store.reopen ≡ false) }
+    ensures of_hill { IfErr result IsOfHill }
 {
     match open_hill(rt, alloc, path) {
         Ok(store) => match require_held(rt, path) {
             Ok(()) => Ok(store),
-            Err(fault) => Err(HillTrouble::unopened(path, fault)),
+            Err(fault) => Err(unopened_at(path, fault)),
         },
         Err(trouble) => Err(trouble),
     }
@@ -67,14 +66,15 @@ pub fn open_within<'f, R: Files + Clock, A: Allocator + Copy>(
     alloc: A,
     path: &'f str,
     seconds: u32,
-) -> Result<HillStore<'f, R, A>, HillTrouble<'f>>
+) -> Result<HillStore<'f, R, A>, Trouble<'f>>
 where
     R::File: TryLock,
-    ensures { IfOk result (λ store. store.reopen ≡ false) }
+    ensures open_now { IfOk result (λ store. store.reopen ≡ false) }
+    ensures of_hill { IfErr result IsOfHill }
 {
     for _ in 0..u64::from(seconds) * TRIES {
         match open_hill(rt, alloc, path) {
-            Err(trouble) if trouble.is_lock() => {
+            Err(trouble) if is_lock(&trouble) => {
                 sleep(rt, Duration::from_millis(1000 / TRIES));
             }
             opened => return opened,
@@ -90,77 +90,95 @@ pub fn reopen_hill<'f, R: Files, A: Allocator + Copy>(
     alloc: A,
     path: &'f str,
     left: &Headers,
-) -> Result<HillStore<'f, R, A>, HillTrouble<'f>>
+) -> Result<HillStore<'f, R, A>, Trouble<'f>>
 where
     R::File: TryLock,
-    ensures { IfOk result (λ store. store.reopen ≡ false) }
+    ensures open_now { IfOk result (λ store. store.reopen ≡ false) }
+    ensures of_hill { IfErr result IsOfHill }
 {
     match HillFile::open(rt, path, Sharing::Alone) {
         Ok(device) => {
             if is_another_hill(left, &device.settled()) {
-                return Err(HillTrouble::file(path, Reason::InUse));
+                return Err(told_at(path, Fault::Stream, Reason::InUse));
             }
-            match open_on(alloc, device) {
-                Ok(store) => Ok(store),
-                Err(fault) => Err(trouble_of_opening(rt, alloc, path, fault)),
-            }
+            open_device(rt, alloc, path, device)
         }
-        Err(fault) => Err(HillTrouble::unopened(path, fault)),
+        Err(fault) => Err(unopened_at(path, fault)),
     }
 }
 
-/// Why the hill in a file isn't opened. If a warrior in it can't be read, the file is read once more for which one it is.
-fn trouble_of_opening<'f, R: Files, A: Allocator + Copy>(
+/// Opens the hill on the device of a file. If a warrior in it can't be read, the file is read once more for which one it is.
+fn open_device<'f, R: Files, A: Allocator + Copy>(
     rt: &'f R,
     alloc: A,
     path: &'f str,
-    fault: HillFault,
-) -> HillTrouble<'f>
+    device: HillFile<'f, R>,
+) -> Result<HillStore<'f, R, A>, Trouble<'f>>
 where
     R::File: TryLock,
-    ensures { result.fault ≡ fault }
+    ensures open_now { IfOk result (λ store. store.reopen ≡ false) }
+    ensures of_hill { IfErr result IsOfHill }
 {
-    match fault {
-        HillFault::Damaged => match damaged_in(rt, alloc, path) {
-            Some(entry) => HillTrouble::damaged(path, entry),
-            None => HillTrouble::of(path, fault),
-        },
-        fault => HillTrouble::of(path, fault),
+    match open_on(alloc, path, device) {
+        Ok(store) => Ok(store),
+        Err(trouble) => Err(with_warrior(rt, alloc, path, trouble)),
     }
 }
 
-/// Opens the hill on a device.
-fn open_on<D: Device + Drop, A: Allocator + Copy>(
+/// The same, with the entry of the first warrior that can't be read if it is that and the entry can be known.
+fn with_warrior<'f, R: Files, A: Allocator + Copy>(
+    rt: &'f R,
     alloc: A,
+    path: &'f str,
+    trouble: Trouble<'f>,
+) -> Trouble<'f>
+    ensures { result.fault ≡ trouble.entry.fault }
+{
+    match trouble.fault {
+        Fault::Damaged => match damaged_in(rt, alloc, path) {
+            Some(entry) => damaged_at(path, entry),
+            None => trouble,
+        },
+        _ => trouble,
+    }
+}
+
+/// Opens the hill on a device, as the one in the file at this path.
+fn open_on<'f, D: Device + Drop, A: Allocator + Copy>(
+    alloc: A,
+    path: &'f str,
     device: D,
-) -> Result<Store<D, A>, HillFault>
+) -> Result<Store<D, A>, Trouble<'f>>
     ensures opened { IfOk result (IsOpened D.facts device) }
-    ensures refused { IfErr result (IsUnopened D.facts device) }
+    ensures refused { IfErr result (IsUnopened D.facts path.entry device) }
+    ensures of_hill { IfErr result IsOfHill }
 {
     match Store::open(alloc, device) {
         Ok(store) => Ok(store),
-        Err((mut device, refusal)) => Err(fault_of_opening(&mut device, refusal)),
+        Err((mut device, refusal)) => Err(trouble_of_opening(path, &mut device, refusal)),
     }
 }
 
-/// The fault for a refused opening.
-fn fault_of_opening<D: Device>(device: &mut D, refusal: Refusal) -> HillFault
+/// What is told of a refused opening.
+fn trouble_of_opening<'f, D: Device>(path: &'f str, device: &mut D, refusal: Refusal) -> Trouble<'f>
     requires { refusal ≡ Refusal.NotAHill → 2 ≤ D.facts.size device.old }
-    ensures { TellsRefusal D.facts device.old device.new refusal result }
+    ensures told { TellsRefusal D.facts path.entry device.old device.new refusal result }
+    ensures of_hill { IsOfHill result }
 {
     match refusal {
-        Refusal::NotAHill => fault_without_hill(device),
-        refusal => fault_of_refusal(refusal),
+        Refusal::NotAHill => without_hill(path, device),
+        refusal => refused_at(path, refusal),
     }
 }
 
-/// The fault for a device that holds no hill. If the device fails, the fault says nothing of the old format.
-pub(crate) fn fault_without_hill<D: Device>(device: &mut D) -> HillFault
+/// What is told of a device that holds no hill. If the device fails, nothing is said of the old format.
+pub(crate) fn without_hill<'f, D: Device>(path: &'f str, device: &mut D) -> Trouble<'f>
     requires { 2 ≤ D.facts.size device.old }
-    ensures { TellsNoHill D.facts device.old device.new result }
+    ensures told { TellsNoHill D.facts path.entry device.old device.new result }
+    ensures of_hill { IsOfHill result }
 {
     match holds_old_hill(device) {
-        Ok(true) => HillFault::OldHill,
-        Ok(false) | Err(Fault) => HillFault::NotAHill,
+        Ok(true) => told_at(path, Fault::OldHill, Reason::OldHill),
+        Ok(false) | Err(_) => refused_at(path, Refusal::NotAHill),
     }
 }

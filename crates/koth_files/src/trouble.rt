@@ -1,178 +1,72 @@
-//! Why a command on a hill was not carried out, what it worked on, and what is reported of it.
+//! Why a hill's file can't be worked on.
 
-ghost use Rattle.std.specs.Prelude.{◌≡◌, ◌↔◌, IsTrue, codes, option_map};
-ghost use Rattle.koth_commands.specs.{Cause.reason_told, Name.shown_name, Failure.{cause_of, failure_of, failure_word}, Told.{TellsCause, TellsWord}};
-ghost use Rattle.koth_files.specs.HillFault.{damage_told, fault_of_file, fault_of_refusal, fault_reason, open_reason, stream_failed, trouble_told, IsLock};
+ghost use Rattle.std.specs.Prelude.{◌≡◌, ◌↔◌, IsTrue};
+ghost use Rattle.koth_files.specs.Trouble.{damaged_at, refused_at, told_at, unopened_at, IsLock, IsOfHill};
 
-use crate::hill_fault::HillFault;
 use hill_file::OpenFault;
 use hill_store::Refusal;
-use koth_commands::{
-    Cause, Failure, Reason, Status, StreamFault, Subject, Trouble, reason_of, tell_word,
-};
-use std::alloc::Allocator;
-use std::io::Write;
+use koth_commands::trouble::{About, Fault, Trouble};
+use koth_commands::{Cause, Reason, Subject, reason_of};
 
-/// Why a command on a hill was not carried out, and what it worked on then.
-#[derive(Clone, Copy)]
-pub struct HillTrouble<'t> {
-    pub fault: HillFault,
-    /// What failed, and why, if that is known.
-    pub cause: Option<Cause<'t>>,
-}
-
-impl<'t> HillTrouble<'t> {
-    ghost use Rattle.koth_files.specs.HillFault.{fault_status, fault_word};
-
-    /// Writes the fault's word, and after it what failed and why, and returns how the program ends. If that can't be written, the status
-    /// alone says it.
-    pub fn tell<A: Allocator, E: Write>(self, alloc: A, errors: &mut E) -> Status
-        ensures status { result ≡ fault_status self.entry.fault }
-        ensures told { TellsWord (fault_word self.entry.fault) (E.contents errors.old) (E.contents errors.new) }
-        ensures cause { TellsCause (fault_word self.entry.fault) self.entry.cause (E.contents errors.old) (E.contents errors.new) }
-    {
-        tell_word(alloc, self.fault.word(), self.cause, errors);
-        self.fault.status()
-    }
-
-    /// Whether it is that another program has the lock of a hill's file.
-    pub fn is_lock(&self) -> bool
-        ensures { IsTrue result ↔ IsLock self.now }
-    {
-        match self.cause {
-            Some(cause) => cause.reason == Reason::Locked,
-            None => false,
-        }
-    }
-
-    /// This fault of the hill in a file.
-    pub fn of(path: &'t str, fault: HillFault) -> HillTrouble<'t>
-        ensures fault { result.fault ≡ fault }
-        ensures cause { trouble_told result ≡ Some (reason_told (shown_name path.now) (fault_reason fault)) }
-    {
-        HillTrouble {
-            fault,
-            cause: Some(Cause::file(path, fault.reason())),
-        }
-    }
-
-    /// A new file can't be made, since something has its name.
-    pub fn taken(path: &'t str) -> HillTrouble<'t>
-        ensures fault { result.fault ≡ HillFault.Occupied }
-        ensures cause { trouble_told result ≡ Some (reason_told (shown_name path.now) Reason.NameInUse) }
-    {
-        HillTrouble {
-            fault: HillFault::Occupied,
-            cause: Some(Cause::file(path, Reason::NameInUse)),
-        }
-    }
-
-    /// The warrior with this entry, on the hill in a file, can't be read.
-    pub fn damaged(path: &'t str, entry: u64) -> HillTrouble<'t>
-        ensures fault { result.fault ≡ HillFault.Damaged }
-        ensures cause { trouble_told result ≡ Some (damage_told path.now entry) }
-    {
-        HillTrouble {
-            fault: HillFault::Damaged,
-            cause: Some(Cause {
-                subject: Subject::Warrior(path, entry),
-                reason: Reason::Unreadable,
-            }),
-        }
-    }
-
-    /// A file that failed for this reason.
-    pub fn file(path: &'t str, reason: Reason) -> HillTrouble<'t>
-        ensures fault { result.fault ≡ stream_failed }
-        ensures cause { trouble_told result ≡ Some (reason_told (shown_name path.now) reason) }
-    {
-        HillTrouble {
-            fault: HillFault::Failed(Failure::Stream),
-            cause: Some(Cause::file(path, reason)),
-        }
-    }
-
-    /// A stream or a port that failed.
-    pub fn stream(cause: Cause<'t>) -> HillTrouble<'t>
-        ensures fault { result.fault ≡ stream_failed }
-        ensures cause { result.cause ≡ Some cause.entry }
-    {
-        HillTrouble {
-            fault: HillFault::Failed(Failure::Stream),
-            cause: Some(cause),
-        }
-    }
-
-    /// Standard output failed.
-    pub fn output(fault: StreamFault) -> HillTrouble<'t>
-        ensures fault { result.fault ≡ stream_failed }
-        ensures cause { trouble_told result ≡ Some (reason_told (codes "standard output") fault.reason) }
-    {
-        HillTrouble::stream(Cause::output(fault.reason))
-    }
-
-    /// Memory ran out.
-    pub fn memory() -> HillTrouble<'t>
-        ensures fault { result.fault ≡ HillFault.Failed Failure.Memory }
-        ensures cause { result.cause ≡ None }
-    {
-        HillTrouble {
-            fault: HillFault::Failed(Failure::Memory),
-            cause: None,
-        }
-    }
-
-    /// A source's file can't be read, or memory ran out.
-    pub fn from_source(trouble: Trouble<'t>) -> HillTrouble<'t>
-        ensures fault { result.fault ≡ HillFault.Failed (failure_of trouble.entry) }
-        ensures cause { result.cause ≡ cause_of trouble.entry }
-    {
-        match trouble {
-            Trouble::Failed(cause) => HillTrouble::stream(cause),
-            Trouble::Memory => HillTrouble::memory(),
-        }
-    }
-
-    /// A store refused the hill in a file.
-    pub fn refused(path: &'t str, refusal: Refusal) -> HillTrouble<'t>
-        ensures fault { result.fault ≡ fault_of_refusal refusal }
-        ensures cause { trouble_told result ≡ Some (reason_told (shown_name path.now) (fault_reason (fault_of_refusal refusal))) }
-    {
-        HillTrouble::of(path, fault_of_refusal(refusal))
-    }
-
-    /// A hill's file can't be worked on.
-    pub fn unopened(path: &'t str, fault: OpenFault) -> HillTrouble<'t>
-        ensures fault { result.fault ≡ fault_of_file fault }
-        ensures cause { trouble_told result ≡ option_map (λ reason. reason_told (shown_name path.now) reason) (open_reason fault) }
-    {
-        match fault {
-            OpenFault::Memory => HillTrouble::memory(),
-            OpenFault::Locked => HillTrouble::file(path, Reason::Locked),
-            OpenFault::Occupied => HillTrouble::of(path, HillFault::Occupied),
-            OpenFault::Failed(kind) => HillTrouble::file(path, reason_of(kind)),
-        }
+/// This fault of the file at this path, and why.
+pub(crate) fn told_at<'f>(path: &'f str, fault: Fault, reason: Reason) -> Trouble<'f>
+    ensures { result ≡ told_at path.entry fault reason }
+{
+    let subject = Subject::File(path);
+    Trouble {
+        fault,
+        about: About::Cause(Cause { subject, reason }),
     }
 }
 
-/// The fault for a store's refusal.
-pub(crate) fn fault_of_refusal(refusal: Refusal) -> HillFault
-    ensures { result ≡ fault_of_refusal refusal }
+/// A store refused the hill in the file at this path.
+pub fn refused_at<'f>(path: &'f str, refusal: Refusal) -> Trouble<'f>
+    ensures told { result ≡ refused_at path.entry refusal }
+    ensures of_hill { IsOfHill result }
 {
     match refusal {
-        Refusal::Disk => HillFault::Failed(Failure::Stream),
-        Refusal::TooSmall => HillFault::TooSmall,
-        Refusal::Occupied => HillFault::Occupied,
-        Refusal::Memory => HillFault::Failed(Failure::Memory),
-        Refusal::NotAHill => HillFault::NotAHill,
-        Refusal::Damaged => HillFault::Damaged,
+        Refusal::Disk => told_at(path, Fault::Stream, Reason::Device),
+        Refusal::TooSmall => told_at(path, Fault::TooSmall, Reason::TooShort),
+        Refusal::Occupied => told_at(path, Fault::Occupied, Reason::NotEmpty),
+        Refusal::Memory => told_at(path, Fault::Memory, Reason::Memory),
+        Refusal::NotAHill => told_at(path, Fault::NotAHill, Reason::NoHill),
+        Refusal::Damaged => told_at(path, Fault::Damaged, Reason::Damaged),
     }
 }
 
-/// Reports that standard output failed, and returns how the program ends.
-pub fn tell_output<A: Allocator, E: Write>(alloc: A, fault: StreamFault, errors: &mut E) -> Status
-    ensures status { result ≡ Status.StreamFault }
-    ensures told { TellsWord (failure_word Failure.Stream) (E.contents errors.old) (E.contents errors.new) }
+/// The file at this path can't be worked on.
+pub fn unopened_at<'f>(path: &'f str, fault: OpenFault) -> Trouble<'f>
+    ensures told { result ≡ unopened_at path.entry fault }
+    ensures of_hill { IsOfHill result }
 {
-    Failure::Stream.tell(alloc, Some(Cause::output(fault.reason)), errors)
+    match fault {
+        OpenFault::Memory => Trouble::memory(),
+        OpenFault::Locked => told_at(path, Fault::Stream, Reason::Locked),
+        OpenFault::Occupied => told_at(path, Fault::Occupied, Reason::NotEmpty),
+        OpenFault::Failed(kind) => told_at(path, Fault::Stream, reason_of(kind)),
+    }
+}
+
+/// The warrior with this entry, on the hill in the file at this path, can't be read.
+pub(crate) fn damaged_at<'f>(path: &'f str, entry: u64) -> Trouble<'f>
+    ensures { result ≡ damaged_at path.entry entry }
+{
+    let cause = Cause {
+        subject: Subject::Warrior(path, entry),
+        reason: Reason::Unreadable,
+    };
+    Trouble {
+        fault: Fault::Damaged,
+        about: About::Cause(cause),
+    }
+}
+
+/// Whether it is that another program has the lock of a hill's file.
+pub(crate) fn is_lock(trouble: &Trouble<'_>) -> bool
+    ensures { IsTrue result ↔ IsLock trouble.now }
+{
+    match trouble.about {
+        About::Cause(cause) => cause.reason == Reason::Locked,
+        _ => false,
+    }
 }

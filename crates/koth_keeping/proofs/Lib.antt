@@ -1,3 +1,1 @@
-pub mod Audited
 mod Holdings
-pub mod Said

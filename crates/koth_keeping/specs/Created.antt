@@ -1,26 +1,19 @@
--- What making a hill in a file writes, and how it ends.
-use Rattle.std.specs.Prelude.{◌≡◌, ◌⊎◌, ℕ, Bool, true, false, List, [], codes}
+-- What making a hill in a file comes to.
+use Rattle.std.specs.Prelude.{◌≡◌, ◌⊎◌, ℕ, Bool, true, false, List, [], IsErrAnd, codes}
 use Rattle.war_types.specs.{Settings.settings_of, declared.settings.RawSettings.RawSettings}
-use Rattle.{koth_match.specs.Seeds.IsSeed, koth_protocol.specs.Written.WritesPart}
-use Rattle.koth_commands.specs.{Answer.EndsGiven, Streams.Streams, declared.status.Status.Status}
-use Rattle.koth_keeping.specs.{Said.{Said, SaysLine, SaysWhole, TellsFault}, Seed.seed_hint}
+use Rattle.{koth_match.specs.Seeds.IsSeed, koth_commands.specs.{Answer.{AnswerParts, answer_parts}, declared.status.Status.Status}}
+use Rattle.{koth_files.specs.Trouble.IsOfHill, koth_keeping.specs.{Answers.{Answers, AnswersGiven, Outcome}, Seed.seed_hint}}
 
-abbrev pub SaysCreated : Said
-SaysCreated = SaysLine (codes "CREATED\n")
+-- the line of a hill that was made, and then a hint as a note
+abbrev pub SaysCreated : List ℕ → AnswerParts → Type 0
+SaysCreated hint answer = answer ≡ answer_parts Status.Done (codes "CREATED\n") hint
 
--- how making a hill ends: with its line, and then a hint on standard error, or a part of the hint if that failed; or
--- with a fault. If there is no hint, nothing is on standard error but a fault.
-abbrev pub EndsMade : List ℕ → Status → Streams → Streams → Type 0
-EndsMade hint status before after =
-    (SaysWhole SaysCreated status before.output after.output × WritesPart before.errors after.errors hint) ⊎ TellsFault SaysCreated status before after
+-- so it is under the settings that are given
+abbrev pub MayMake : List ℕ → RawSettings → Outcome → Type 0
+MayMake hint given outcome = AnswersGiven (λ s. Answers (SaysCreated hint)) (settings_of given) outcome
 
--- the same under the settings that are given, or with their refusal, or out of memory
-abbrev pub EndsMadeBy : List ℕ → RawSettings → Status → Streams → Streams → Type 0
-EndsMadeBy hint given status before after = EndsGiven (λ s. EndsMade hint) (settings_of given) status before after
-
--- How `create` ends: with a hint if the settings that are given have the default seed. If the seed is drawn, in place
+-- What `create` comes to: with a hint if the settings that are given have the default seed. If the seed is drawn, in place
 -- of theirs, there is no hint, and the source of random numbers may fail.
-abbrev pub EndsCreate : Bool → RawSettings → Status → Streams → Streams → Type 0
-EndsCreate false given status before after = EndsMadeBy (seed_hint given.seed) given status before after
-EndsCreate true given status before after =
-    ((seed : ℕ) × IsSeed seed × EndsMadeBy [] (record given { seed = seed }) status before after) ⊎ TellsFault SaysCreated status before after
+abbrev pub MayCreate : Bool → RawSettings → Outcome → Type 0
+MayCreate false given outcome = MayMake (seed_hint given.seed) given outcome
+MayCreate true given outcome = ((seed : ℕ) × IsSeed seed × MayMake [] (record given { seed = seed }) outcome) ⊎ IsErrAnd outcome IsOfHill

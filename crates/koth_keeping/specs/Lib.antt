@@ -1,8 +1,8 @@
--- What a command writes, and how it ends, in words of what it says.
-pub mod Said
+-- What a command on a hill comes to, and how it ends.
+pub mod Answers
 -- The seed that is drawn for a hill, and what is told of the default one.
 pub mod Seed
--- What each command writes.
+-- What each command answers.
 pub mod Created
 pub mod Audit
 pub mod Copies

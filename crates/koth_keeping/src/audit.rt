@@ -1,79 +1,100 @@
 //! The command `audit`: whether the results that the hill in a file keeps are those of its matches.
 
-ghost use Rattle.std.specs.Prelude.{◌≡◌, ◌≢◌, ◌≤◌, ◌++◌, None, OnErr, OnOk, codes, decimal, length};
-ghost use Rattle.std.specs.Io.KnownBytes.{Appends};
-ghost use Rattle.{koth_protocol.specs.Written.WritesPart, koth_commands.specs.Streams.streams};
-ghost use Rattle.koth_keeping.specs.Audit.{EndsAudit, EndsAuditOf, EndsFound, audit_answer, audit_status, counts_line};
-ghost use Rattle.koth_keeping.specs.Audit.{pair_line, told_of, untrue_text};
+ghost use Rattle.std.specs.Prelude.{◌≡◌, ◌≤◌, IfOk, length};
+ghost use Rattle.{koth_json.specs.Reply.audit_line, koth_keeping.specs.{Answers.Answers, Audit.{AuditsOf, SaysAudit, audit_answer, audit_text, counts_line, pair_line, plain_line, untrue_text}}};
 
 use hill_store::{Store, Untrue};
-use koth_commands::{Status, StreamFault, write_both, write_whole};
-use koth_files::{look_hill, tell_output};
+use koth_commands::trouble::Trouble;
+use koth_commands::{Answer, Status};
+use koth_files::look_hill;
+use koth_json::put_audit;
 use koth_match::Bout;
 use koth_protocol::Line;
+use koth_words::View;
 use sector_disk::Device;
-use std::alloc::Allocator;
-use std::io::Write;
+use std::alloc::{AllocError, Allocator};
 use std::rt::Files;
 
-/// Fights every pair of the hill in a file again, and writes `true` if each result that is kept is its match's, else
-/// `false`. Then it writes on standard error the first pair whose result isn't, by the younger warrior's entry and then
-/// the older's. It writes their entries, the result that is kept, and that of their match, each as the rounds that the
-/// older won, that the younger won, and ties. The file is only read, and its lock is not taken.
-pub fn audit<R: Files, A: Allocator + Copy, O: Write, E: Write>(
+/// Fights every pair of the hill in a file again, and answers `true` if each result that is kept is its match's, else
+/// `false`; or that as a line of JSON. The note is then the first pair whose result isn't, by the younger warrior's entry and then the older's: their
+/// entries, the result that is kept, and that of their match, each as the rounds that the older won, that the younger won,
+/// and ties. The file is only read, and its lock is not taken.
+pub fn perform_audit<'p, R: Files, A: Allocator + Copy>(
     rt: &R,
     alloc: A,
-    path: &str,
-    output: &mut O,
-    errors: &mut E,
-) -> Status
-    ensures ends { EndsAudit result
-        (streams None (O.contents output.old) (E.contents errors.old))
-        (streams None (O.contents output.new) (E.contents errors.new)) }
-    ensures words { result ≢ Status.WordFault }
+    path: &'p str,
+    view: View,
+) -> Result<Answer<A>, Trouble<'p>>
+    ensures { Answers (SaysAudit view) result }
 {
     match look_hill(rt, alloc, path) {
-        Ok(mut store) => audit_store(alloc, &mut store, output, errors),
-        Err(trouble) => trouble.tell(alloc, errors),
+        Ok(mut store) => Ok(audit_store(alloc, &mut store, view)?),
+        Err(trouble) => Err(trouble),
     }
 }
 
 /// Audits a store's hill.
-fn audit_store<D: Device, A: Allocator + Copy, O: Write, E: Write>(
+fn audit_store<D: Device, A: Allocator + Copy>(
     alloc: A,
     store: &mut Store<D, A>,
-    output: &mut O,
-    errors: &mut E,
-) -> Status
-    ensures ends { EndsAuditOf store.old.hill result
-        (streams None (O.contents output.old) (E.contents errors.old))
-        (streams None (O.contents output.new) (E.contents errors.new)) }
-    ensures words { result ≢ Status.WordFault }
+    view: View,
+) -> Result<Answer<A>, AllocError>
+    ensures { IfOk result (AuditsOf view store.old.hill) }
 {
     let found = store.first_untrue();
-    answer_found(alloc, found, output, errors)
+    answer_found(alloc, view, found)
 }
 
-/// Writes the answer to an audit that found this, and reports it.
-pub(crate) fn answer_found<A: Allocator, O: Write, E: Write>(
+/// The answer to an audit that found this.
+pub(crate) fn answer_found<A: Allocator + Copy>(
     alloc: A,
+    view: View,
     found: Option<Untrue>,
-    output: &mut O,
-    errors: &mut E,
-) -> Status
-    ensures ends { EndsFound found result
-        (streams None (O.contents output.old) (E.contents errors.old))
-        (streams None (O.contents output.new) (E.contents errors.new)) }
-    ensures words { result ≢ Status.WordFault }
+) -> Result<Answer<A>, AllocError>
+    ensures { IfOk result (λ answer. answer ≡ audit_answer view found) }
 {
-    match write_whole(output, answer(found)) {
-        Ok(()) => finish(found, errors),
-        Err(fault) => tell_output(alloc, fault, errors),
+    let text = audit_text(alloc, view, found)?;
+    match found {
+        None => Ok(Answer {
+            status: Status::Done,
+            text,
+            note: Vec::new(alloc),
+        }),
+        Some(untrue) => Ok(Answer {
+            status: Status::Refused,
+            text,
+            note: untrue_text(alloc, &untrue)?,
+        }),
     }
 }
 
-fn answer(found: Option<Untrue>) -> &'static [u8]
-    ensures { result.now ≡ audit_answer found }
+/// What an audit that found this says.
+fn audit_text<A: Allocator>(
+    alloc: A,
+    view: View,
+    found: Option<Untrue>,
+) -> Result<Vec<u8, A>, AllocError>
+    ensures { IfOk result (λ text. text.items ≡ audit_text view found) }
+{
+    match view {
+        View::Json => json_text(alloc, found),
+        View::Plain | View::Table => Vec::from_slice(alloc, plain_line(found)),
+    }
+}
+
+fn json_text<A: Allocator>(
+    alloc: A,
+    found: Option<Untrue>,
+) -> Result<Vec<u8, A>, AllocError>
+    ensures { IfOk result (λ text. text.items ≡ audit_line found) }
+{
+    let mut text = Vec::new(alloc);
+    put_audit(&mut text, found)?;
+    Ok(text)
+}
+
+fn plain_line(found: Option<Untrue>) -> &'static [u8]
+    ensures { result.now ≡ plain_line found }
 {
     match found {
         None => b"true\n",
@@ -81,31 +102,17 @@ fn answer(found: Option<Untrue>) -> &'static [u8]
     }
 }
 
-/// Reports an untrue result, and returns how the program ends. If it can't be reported, the answer and the status still
-/// say it.
-fn finish<E: Write>(found: Option<Untrue>, errors: &mut E) -> Status
-    ensures status { result ≡ audit_status found }
-    ensures told { WritesPart (E.contents errors.old) (E.contents errors.new) (told_of found) }
-{
-    match found {
-        None => Status::Done,
-        Some(untrue) => {
-            let _ = write_untrue(&untrue, errors);
-            Status::Refused
-        }
-    }
-}
-
-/// Writes the pair of an untrue result, the result that is kept, and that of its match.
-fn write_untrue<E: Write>(untrue: &Untrue, errors: &mut E) -> Result<(), StreamFault>
-    ensures whole { OnOk result (Appends (E.contents errors.old) (E.contents errors.new) (untrue_text untrue.now)) }
-    ensures part { OnErr result (WritesPart (E.contents errors.old) (E.contents errors.new) (untrue_text untrue.now)) }
+/// The pair of an untrue result, the result that is kept, and that of its match.
+fn untrue_text<A: Allocator>(alloc: A, untrue: &Untrue) -> Result<Vec<u8, A>, AllocError>
+    ensures { IfOk result (λ text. text.items ≡ untrue_text untrue.now) }
 {
     let pair = pair_line(untrue.older, untrue.younger);
     let kept = counts_line(b"KEPT ", untrue.kept);
     let fought = counts_line(b"FOUGHT ", untrue.fought);
-    write_whole(errors, pair.as_slice())?;
-    write_both(errors, kept.as_slice(), fought.as_slice())
+    let mut text = Vec::from_slice(alloc, pair.as_slice())?;
+    text.extend_from_slice(kept.as_slice())?;
+    text.extend_from_slice(fought.as_slice())?;
+    Ok(text)
 }
 
 fn pair_line(older: u64, younger: u64) -> Line

@@ -1,17 +1,17 @@
 //! The command `migrate`: the hill in a file of the old format, moved to a new file.
 
-ghost use Rattle.std.specs.Prelude.{◌≡◌, ◌≢◌, None};
-ghost use Rattle.koth_keeping.specs.{Said.{EndsHill, Tries}, Migration.{MigratesTo, SaysMigrated, TellsMigrated}};
-ghost use Rattle.koth_commands.specs.Streams.{streams};
+ghost use Rattle.std.specs.Prelude.{◌≡◌};
+ghost use Rattle.koth_keeping.specs.{Answers.{Answers, SaysLine}, Migration.{MigratesTo, file_of, migrated_line}};
 
+use crate::answer::answer_of;
 use hill_file::{Existing, HillFile, Sharing, TryLock};
 use hill_store::{MigrateSide, Store, sectors_for};
-use koth_commands::{Status, write_whole};
-use koth_files::HillTrouble;
+use koth_commands::trouble::Trouble;
+use koth_commands::{Answer, Status};
+use koth_files::{refused_at, unopened_at};
 use koth_words::Migration;
 use sector_disk::Device;
 use std::alloc::Allocator;
-use std::io::Write;
 use std::rt::Files;
 
 /// Warriors that a hill holds at most, whatever its settings are.
@@ -21,75 +21,50 @@ const GREATEST_CAPACITY: u16 = 20;
 /// new one is made if it is missing, large enough for any hill. That is done before it is known whether the old one
 /// holds a hill, and the file stays if the hill is not moved. A new file that holds anything but zeros is refused as
 /// `Occupied` and stays as it is.
-pub fn migrate<R: Files, A: Allocator + Copy, O: Write, E: Write>(
+pub fn perform_migrate<'m, R: Files, A: Allocator + Copy>(
     rt: &R,
     alloc: A,
-    files: Migration<'_>,
-    output: &mut O,
-    errors: &mut E,
-) -> Status
-where
-    R::File: TryLock,
-    ensures ends { EndsHill SaysMigrated result
-        (streams None (O.contents output.old) (E.contents errors.old))
-        (streams None (O.contents output.new) (E.contents errors.new)) }
-    ensures words { result ≢ Status.WordFault }
-{
-    match migrate_files(rt, alloc, files, output) {
-        Ok(status) => status,
-        Err(trouble) => trouble.tell(alloc, errors),
-    }
-}
-
-fn migrate_files<'m, R: Files, A: Allocator + Copy, O: Write>(
-    rt: &'m R,
-    alloc: A,
     files: Migration<'m>,
-    output: &mut O,
-) -> Result<Status, HillTrouble<'m>>
+) -> Result<Answer<A>, Trouble<'m>>
 where
     R::File: TryLock,
-    ensures { Tries SaysMigrated result (O.contents output.old) (O.contents output.new) }
+    ensures { Answers (SaysLine migrated_line) result }
 {
     let old = match HillFile::open(rt, files.old, Sharing::Alone) {
         Ok(device) => device,
-        Err(fault) => return Err(HillTrouble::unopened(files.old, fault)),
+        Err(fault) => return Err(unopened_at(files.old, fault)),
     };
     let sectors = sectors_for(GREATEST_CAPACITY);
     let new = match HillFile::make(rt, alloc, files.new, sectors, Existing::Kept) {
         Ok(device) => device,
-        Err(fault) => return Err(HillTrouble::unopened(files.new, fault)),
+        Err(fault) => return Err(unopened_at(files.new, fault)),
     };
-    migrate_between(alloc, files, old, new, output)
+    migrate_between(alloc, files, old, new)
 }
 
-/// Moves the hill on one device to another, and then writes that it is done. The devices are those of these files.
-fn migrate_between<'m, D: Device + Drop, A: Allocator + Copy, O: Write>(
+/// Moves the hill on one device to another. The devices are those of these files.
+fn migrate_between<'m, D: Device + Drop, A: Allocator + Copy>(
     alloc: A,
     files: Migration<'m>,
     old: D,
     new: D,
-    output: &mut O,
-) -> Result<Status, HillTrouble<'m>>
-    ensures { MigratesTo D.facts old new result (O.contents output.old) (O.contents output.new) }
+) -> Result<Answer<A>, Trouble<'m>>
+    ensures moved { MigratesTo D.facts files.entry old new result }
+    ensures answers { Answers (SaysLine migrated_line) result }
 {
+    let answer = answer_of(alloc, Status::Done, b"MIGRATED\n", b"")?;
     match Store::migrate(alloc, old, new) {
-        Ok(_) => say_migrated(output),
-        Err((_old, _new, fault)) => {
-            let path = match fault.side {
-                MigrateSide::Old => files.old,
-                MigrateSide::New => files.new,
-            };
-            Err(HillTrouble::refused(path, fault.refusal))
-        }
+        Ok(_) => Ok(answer),
+        Err((_old, _new, fault)) => Err(refused_at(file_of(files, fault.side), fault.refusal)),
     }
 }
 
-fn say_migrated<'m, O: Write>(output: &mut O) -> Result<Status, HillTrouble<'m>>
-    ensures { TellsMigrated result (O.contents output.old) (O.contents output.new) }
+/// The file of a side of a move.
+fn file_of<'m>(files: Migration<'m>, side: MigrateSide) -> &'m str
+    ensures { result ≡ file_of files.entry side }
 {
-    match write_whole(output, b"MIGRATED\n") {
-        Ok(()) => Ok(Status::Done),
-        Err(fault) => Err(HillTrouble::output(fault)),
+    match side {
+        MigrateSide::Old => files.old,
+        MigrateSide::New => files.new,
     }
 }

@@ -1,9 +1,10 @@
 //! The seed of a hill that is made: one that is drawn, and what the default one means.
 
-ghost use Rattle.std.specs.Prelude.{◌≡◌, IfOk};
-ghost use Rattle.koth_keeping.specs.Seed.{seed_hint, seed_of};
-ghost use Rattle.koth_match.specs.Seeds.{IsSeed};
+ghost use Rattle.std.specs.Prelude.{◌≡◌, IfOk, MatchResult};
+ghost use Rattle.{koth_match.specs.Seeds.IsSeed, koth_files.specs.Trouble.IsOfHill, koth_keeping.specs.Seed.{seed_hint, seed_of}};
 
+use koth_commands::trouble::Trouble;
+use koth_commands::reason_of;
 use koth_words::DEFAULTS;
 use std::io;
 use std::random::RandomSource;
@@ -20,6 +21,16 @@ pub fn drawn_seed<R: RandomSource>(rt: &R) -> io::Result<u32>
     match rt.fill_bytes(&mut bytes) {
         Ok(()) => Ok(seed_of(u64::from_le_bytes(bytes))),
         Err(error) => Err(error),
+    }
+}
+
+/// The same, or what is told if there are no random numbers.
+pub(crate) fn new_seed<'t, R: RandomSource>(rt: &R) -> Result<u32, Trouble<'t>>
+    ensures { MatchResult result IsSeed IsOfHill }
+{
+    match drawn_seed(rt) {
+        Ok(seed) => Ok(seed),
+        Err(error) => Err(Trouble::file("random numbers", reason_of(error.kind()))),
     }
 }
 

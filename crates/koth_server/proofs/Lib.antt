@@ -1,7 +1,8 @@
 mod Carried
 mod Logged
+mod Performed
 mod Replies
-mod Said
 mod Shown
+mod Sources
 mod Statuses
 mod Tried

@@ -1,8 +1,8 @@
--- The text of a reply.
-use Rattle.{std.proofs.Common.{◌≡◌, ◌⊎◌, ℕ, List, [], Option, None, Some, IfSome, ◌++◌, inl, inr, refl, subst}, koth_hill.specs.Kept.Kept, sector_disk.specs.Facts.DeviceFacts}
-use Rattle.{hill_store.specs.{Seen.{Seen, Submits}, declared.reply.Reply.Reply}, koth_session.specs.Reply.reply_line, koth_words.specs.declared.requests.View.View}
-use Rattle.{koth_views.specs.{Roster.roster, declared.entrants.Entered.Entered}, koth_commands.specs.{Streams.streams, declared.status.Status.Status}}
-use Rattle.koth_server.specs.Hills.{EndsReply, EndsSubmission, IsOutcome, IsPlacing}
+-- The answer to a source.
+use Rattle.std.proofs.Common.{◌≡◌, ◌≢◌, ◌⊎◌, ◌∙◌, ℕ, List, [], Option, None, Some, IfSome, false, true≢false, inl, inr, refl, sym, subst}
+use Rattle.{koth_hill.specs.Kept.Kept, sector_disk.specs.Facts.DeviceFacts, hill_store.specs.{Seen.{Seen, Submits}, declared.reply.Reply.Reply}}
+use Rattle.{koth_words.specs.declared.requests.View.View, koth_views.specs.{Roster.roster, declared.entrants.Entered.Entered}, koth_commands.specs.Answer.AnswerParts}
+use Rattle.koth_server.specs.Hills.{AnswersReply, IsOutcome, IsPlacing, SaysReply, Submitted}
 
 -- what became of the warrior is written if it is known who stood on the hill
 pub is_placing : {V : Type 0} (items : V → List Entered) (view : View) (old new : Kept) (source : List ℕ) (reply : Reply) (stood : Option V) (more : List ℕ)
@@ -15,15 +15,25 @@ is_placing items View.Table old new source reply (Some v) more plain known none 
   | inr is ↦ inr (subst (λ r. IsOutcome r new source reply more) known is)
 ]
 
--- how a submission ends, from how its reply is written
-pub submitted : {D : Type 0} (facts : DeviceFacts D) (old new : Seen D) (source : List ℕ) (view : View) (reply : Reply) (more : List ℕ) (status : Status)
-    (o p e f : Option (List ℕ)) → Submits facts old source reply new → IsPlacing view old.hill new.hill source reply more → EndsReply reply more status o p e f
-    → EndsSubmission facts old source new view status (streams None o e) (streams None p f)
-submitted facts old new source view reply more status o p e f submits placing ends = (
-  reply,
-  submits,
-  elim ends [
-    | inl said ↦ inl (record { text = reply_line reply ++ more; tells = (more, placing, refl); ends = said.0; written = said.1; explained = said.2 })
-    | inr failed ↦ inr (failed.0, (reply_line reply ++ more, (more, placing, refl), failed.1), failed.2)
-  ],
-)
+-- without memory for it nothing is
+placed_none : (view : View) (old new : Kept) (source : List ℕ) (reply : Reply) → IsPlacing view old new source reply []
+placed_none View.Plain old new source reply = refl
+placed_none View.Table old new source reply = inl refl
+
+module _ {D : Type 0} (facts : DeviceFacts D) (old new : Seen D) (source : List ℕ) (view : View) where
+  -- the answer to a submission, from that to its reply
+  pub submitted : (reply : Reply) (more : List ℕ) (answer : AnswerParts) → Submits facts old source reply new
+      → IsPlacing view old.hill new.hill source reply more → AnswersReply reply more answer ⊎ AnswersReply reply [] answer
+      → Submitted facts old source new view answer
+  submitted reply more answer submits placing (inl whole) = (reply, submits, (more, placing, whole))
+  submitted reply more answer submits placing (inr line) = (reply, submits, ([], placed_none view old.hill new.hill source reply, line))
+
+  -- a hill that was open answers no `REOPEN`
+  never_reopen : (reply : Reply) → Submits facts old source reply new → old.reopen ≡ false → reply ≢ Reply.Reopen
+  never_reopen reply submits is_open is =
+      let reopened : Submits facts old source Reply.Reopen new = subst (λ r. Submits facts old source r new) is submits in
+      true≢false (sym reopened.0 ∙ is_open)
+
+  -- its answer is that of some hill
+  pub says_reply : (answer : AnswerParts) → old.reopen ≡ false → Submitted facts old source new view answer → SaysReply view source answer
+  says_reply answer is_open (reply, submits, said) = (old.hill, new.hill, reply, never_reopen reply submits is_open, said)

@@ -1,17 +1,23 @@
--- What the commands on a hill in a file write, and how they end.
-use Rattle.std.specs.{Prelude.{◌≡◌, ◌≢◌, ◌⊎◌, ℕ, Bool, if◌then◌else◌, List, [], Option, ◌++◌, Result, Ok, codes, decimal}, Io.KnownBytes.{Appends, Keeps}}
-use Rattle.war_types.specs.{Warrior.WarriorParts, declared.settings.RawSettings.RawSettings, declared.settings.SettingsFault.SettingsFault}
+-- What the commands on a hill in a file answer, and how they end.
+use Rattle.std.specs.{Prelude.{◌≡◌, ◌≢◌, ◌⊎◌, ℕ, Bool, if◌then◌else◌, List, [], Option, ◌++◌, Result, Ok, Err, codes, decimal}, Io.KnownBytes.{Appends, Consumes, Keeps}}
+use Rattle.war_types.specs.{Warrior.WarriorParts, declared.{fault.AsmFault.AsmFault, settings.{RawSettings.RawSettings, SettingsFault.SettingsFault}}}
 use Rattle.{redcode_asm.specs.Assembly.assembly, koth_hill.specs.{Kept.{Kept, table_kept, verdict_kept}, declared.verdict.Verdict.Verdict}, sector_disk.specs.Facts.DeviceFacts}
 use Rattle.{hill_store.specs.{Seen.{Seen, Submits}, declared.reply.Reply.Reply}, koth_protocol.specs.{Matches.matches_text, Table.show_text, Written.WritesPart}, koth_session.specs.Reply.reply_line}
-use Rattle.{koth_hills.specs.Settings.settings_text, koth_words.specs.{declared.requests.Shown.Shown, declared.requests.View.View}}
+use Rattle.{koth_hills.specs.Settings.settings_text, koth_json.specs.Hill.hill_text, koth_words.specs.{Settings.given_as, declared.requests.Shown.Shown, declared.requests.View.View}}
 use Rattle.koth_views.specs.{Standing.hill_view, Matrix.matches_view, Placing.placing_view, Fallen.fallen_view, Roster.roster, declared.entrants.Entered.Entered}
-use Rattle.koth_commands.specs.{Answer.{EndsGiven, Tells}, Failure.failure_word, Told.{TellsWord, WritesSome}, Streams.Streams, declared.status.Status.Status, declared.failure.Failure.Failure}
-use Rattle.{koth_files.specs.{HillFault.{fault_status, fault_word}, declared.hill_fault.HillFault.HillFault}, koth_keeping.specs.Said.{Said, SaysWhole, TellsFault}}
-use Rattle.koth_server.specs.ReplyStatus.{reply_status}
+use Rattle.koth_commands.specs.{Answer.{AnswerParts, EndsGiven, answer_parts}, Told.{TellsWord, WritesSome}, Trouble.Tells, Streams.{From, Streams, Takes}, declared.{status.Status.Status, trouble.Trouble.Trouble}}
+use Rattle.{koth_files.specs.Trouble.IsOfHill, koth_keeping.specs.Answers.{Ends, Outcome}, koth_server.specs.ReplyStatus.reply_status}
 
 -- the line that names the port
 abbrev pub listening_line : ℕ → List ℕ
 listening_line port = codes "LISTENING " ++ decimal port ++ codes "\n"
+
+-- the line of a port was written, or a part of one
+abbrev pub Announces : Option (List ℕ) → Option (List ℕ) → Type 0
+Announces old new = (port : ℕ) × Appends old new (listening_line port)
+
+abbrev pub AnnouncesPart : Option (List ℕ) → Option (List ℕ) → Type 0
+AnnouncesPart old new = (port : ℕ) × WritesPart old new (listening_line port)
 
 -- a submission of the source to this hill is due this verdict
 abbrev pub IsDue : Kept → List ℕ → Verdict → Type 0
@@ -36,24 +42,38 @@ abbrev pub IsPlacing : View → Kept → Kept → List ℕ → Reply → List �
 IsPlacing View.Plain old new source reply more = more ≡ []
 IsPlacing View.Table old new source reply more = (more ≡ []) ⊎ IsOutcome (roster old) new source reply more
 
--- the text of a reply
-abbrev pub IsReplyText : View → Kept → Kept → List ℕ → Reply → List ℕ → Type 0
-IsReplyText view old new source reply text = (more : List ℕ) × IsPlacing view old new source reply more × (text ≡ reply_line reply ++ more)
+-- the note of an answer to a source: some text that explains a refusal, and else nothing
+abbrev pub IsNote : Reply → List ℕ → Type 0
+IsNote reply note = ((fault : AsmFault) → reply ≢ Reply.Refused fault) → note ≡ []
 
--- what is written on standard error besides: some text that explains a refusal, and else nothing
-abbrev pub ExplainsReply : Reply → Option (List ℕ) → Option (List ℕ) → Type 0
-ExplainsReply (Reply.Refused fault) old new = WritesSome old new
-ExplainsReply (Reply.Placed entry rank score) old new = Keeps old new
-ExplainsReply (Reply.Fell entry score) old new = Keeps old new
-ExplainsReply Reply.Worn old new = Keeps old new
-ExplainsReply Reply.Memory old new = Keeps old new
-ExplainsReply Reply.Disk old new = Keeps old new
-ExplainsReply Reply.Reopen old new = Keeps old new
+-- the answer to a source: the line of its reply and this text after it
+pub record AnswersReply (reply : Reply) (more : List ℕ) (answer : AnswerParts) : Type 0 where
+  pub ends : answer.status ≡ reply_status reply
+  pub text : answer.text ≡ reply_line reply ++ more
+  pub note : IsNote reply answer.note
 
--- the text of a reply that a hill gives that was just opened
-abbrev pub SaysReply : View → Said
-SaysReply view status text = (old : Kept) × (new : Kept) × (source : List ℕ) × (reply : Reply)
-    × (reply ≢ Reply.Reopen) × (status ≡ reply_status reply) × IsReplyText view old new source reply text
+-- the answer to a submission that turned the old hill into the new one
+abbrev pub SaysSubmitted : View → Kept → Kept → List ℕ → Reply → AnswerParts → Type 0
+SaysSubmitted view old new source reply answer = (more : List ℕ) × IsPlacing view old new source reply more × AnswersReply reply more answer
+
+-- the answer to the submission of a source to a store
+abbrev pub Submitted : {D : Type 0} → DeviceFacts D → Seen D → List ℕ → Seen D → View → AnswerParts → Type 0
+Submitted facts old source new view answer = (reply : Reply) × Submits facts old source reply new × SaysSubmitted view old.hill new.hill source reply answer
+
+-- the same of some hill that was just opened
+abbrev pub SaysReply : View → List ℕ → AnswerParts → Type 0
+SaysReply view source answer = (old : Kept) × (new : Kept) × (reply : Reply) × (reply ≢ Reply.Reopen) × SaysSubmitted view old new source reply answer
+
+-- what is answered to a source, by what its reader has left before and after: the answer to the source that was taken; or a fault, and then
+-- some of it may have been taken
+abbrev pub AnswersSource : (List ℕ → AnswerParts → Type 0) → Option (List ℕ) → Option (List ℕ) → Outcome → Type 0
+AnswersSource Says i j (Ok answer) = (source : List ℕ) × Takes i j source × Says source answer
+AnswersSource Says i j (Err trouble) = IsOfHill trouble × ((taken : List ℕ) × Consumes i j taken)
+
+-- how a command on a source ends, that is read from the input or from a file
+abbrev pub EndsSource : Bool → (List ℕ → AnswerParts → Type 0) → Status → Streams → Streams → Type 0
+EndsSource of_input Says status before after =
+    Ends (λ outcome. From of_input (λ i j. AnswersSource Says i j outcome) before.input after.input) status before after
 
 -- what is to be seen of a hill: its table, with the matrix of its matches or without, or its settings, with the seed or without
 pub record Sight : Type 0 where
@@ -75,21 +95,15 @@ shown_table matches hill = if matches then hill_view hill ++ (codes "\n" ++ matc
 abbrev pub shown_text : View → Bool → Kept → List ℕ
 shown_text View.Plain matches hill = shown_lines matches hill
 shown_text View.Table matches hill = shown_table matches hill
+shown_text View.Json matches hill = hill_text (given_as hill.settings) matches hill
 
 -- the table, or the settings in its place
 abbrev pub sight_text : View → Sight → Kept → List ℕ
 sight_text view sight hill = if sight.settings then settings_text sight.with_seed hill.settings else shown_text view sight.matches hill
 
-abbrev pub ShowsOf : View → Sight → Kept → Said
-ShowsOf view sight hill status text = (status ≡ Status.Done) × (text ≡ sight_text view sight hill)
-
--- the same of some hill
-abbrev pub SaysShown : View → Sight → Said
-SaysShown view sight status text = (hill : Kept) × ShowsOf view sight hill status text
-
--- a port
-abbrev pub SaysPort : Said
-SaysPort status text = (port : ℕ) × (status ≡ Status.Done) × (text ≡ listening_line port)
+-- the answer with that of some hill
+abbrev pub SaysShown : View → Sight → AnswerParts → Type 0
+SaysShown view sight answer = (hill : Kept) × (answer ≡ answer_parts Status.Done (sight_text view sight hill) [])
 
 -- what is written on standard error before the hill in a file is opened: nothing, or that one of its headers can't be read
 abbrev pub TellsNote : Option (List ℕ) → Option (List ℕ) → Type 0
@@ -99,55 +113,20 @@ TellsNote old new = Keeps old new ⊎ TellsWord (codes "NOTE") old new
 abbrev pub AfterNote : (Streams → Streams → Type 0) → Streams → Streams → Type 0
 AfterNote ends before after = (noted : Option (List ℕ)) × TellsNote before.errors noted × ends (record before { errors = noted }) after
 
--- a submission that a store answered, which turned the old hill into the new one: the text of the reply was written, and a refusal was
--- explained
-pub record SaysSubmitted (view : View) (old new : Kept) (source : List ℕ) (reply : Reply) (status : Status) (before after : Streams) : Type 0 where
-  pub text : List ℕ
-  pub tells : IsReplyText view old new source reply text
-  pub ends : status ≡ reply_status reply
-  pub written : Appends before.output after.output text
-  pub explained : ExplainsReply reply before.errors after.errors
-
--- how `submit` ends: with the reply of a hill that was just opened, or with a fault
-abbrev pub EndsSubmit : View → Status → Streams → Streams → Type 0
-EndsSubmit view status before after =
-    ((old : Kept) × (new : Kept) × (source : List ℕ) × (reply : Reply) × (reply ≢ Reply.Reopen) × SaysSubmitted view old new source reply status before after)
-    ⊎ TellsFault (SaysReply view) status before after
-
--- how writing a reply and a text after it ends, by what the output and then standard error hold before and after
-abbrev pub EndsReply : Reply → List ℕ → Status → Option (List ℕ) → Option (List ℕ) → Option (List ℕ) → Option (List ℕ) → Type 0
-EndsReply reply more status o p e f =
-    ((status ≡ reply_status reply) × Appends o p (reply_line reply ++ more) × ExplainsReply reply e f)
-    ⊎ ((status ≡ Status.StreamFault) × WritesPart o p (reply_line reply ++ more) × TellsWord (failure_word Failure.Stream) e f)
-
--- how the submission of a source to a store ends: with its reply, or with a part of the reply's text if the output failed
-abbrev pub EndsSubmission : {D : Type 0} → DeviceFacts D → Seen D → List ℕ → Seen D → View → Status → Streams → Streams → Type 0
-EndsSubmission facts old source new view status before after = (reply : Reply) × Submits facts old source reply new
-    × (SaysSubmitted view old.hill new.hill source reply status before after
-    ⊎ ((status ≡ Status.StreamFault) × ((text : List ℕ) × IsReplyText view old.hill new.hill source reply text × WritesPart before.output after.output text)
-    × Tells Failure.Stream before after))
-
 -- how a service ends: after its line, or with a fault, and then a part of that line may stand on the output; the log stands on standard error
 pub record TellsServeFault (status : Status) (before after : Streams) : Type 0 where
-  pub fault : HillFault
-  pub ends : status ≡ fault_status fault
+  pub trouble : Trouble
+  pub of_hill : IsOfHill trouble
   pub port : ℕ
   pub output : WritesPart before.output after.output (listening_line port)
   pub logged : Option (List ℕ)
   pub log : WritesSome before.errors logged
-  pub told : TellsWord (fault_word fault) logged after.errors
+  pub told : Tells trouble status logged after.errors
 
 abbrev pub EndsService : Status → Streams → Streams → Type 0
 EndsService status before after =
-    (SaysWhole SaysPort status before.output after.output × WritesSome before.errors after.errors) ⊎ TellsServeFault status before after
+    ((status ≡ Status.Done) × Announces before.output after.output × WritesSome before.errors after.errors) ⊎ TellsServeFault status before after
 
 -- how `serve` ends: as a service under the settings that are given for a hill that it creates, with their refusal, or out of memory
 abbrev pub EndsServe : Result RawSettings SettingsFault → Status → Streams → Streams → Type 0
 EndsServe settings status before after = EndsGiven (λ s. EndsService) settings status before after
-
--- the line of a port was written, or a part of one
-abbrev pub Announces : Option (List ℕ) → Option (List ℕ) → Type 0
-Announces old new = (port : ℕ) × Appends old new (listening_line port)
-
-abbrev pub AnnouncesPart : Option (List ℕ) → Option (List ℕ) → Type 0
-AnnouncesPart old new = (port : ℕ) × WritesPart old new (listening_line port)

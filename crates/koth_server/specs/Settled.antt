@@ -2,8 +2,7 @@
 use Rattle.std.specs.{Prelude.{◌≡◌, ◌⊎◌, Bool, true, false, Option, None, Some, List, codes, is_some, ⊤}, Option.option_map_or, Io.KnownBytes.Keeps}
 use Rattle.{clap.specs.Words.{Row, first_of}, war_types.specs.{Settings.AreSettings, declared.settings.RawSettings.RawSettings}}
 use Rattle.koth_words.specs.{Settings.{base_in, chosen_in, given_as, over}, declared.settings.{Chosen.Chosen, Given.Given}}
-use Rattle.koth_commands.specs.{Streams.Streams, Told.TellsWord, declared.status.Status.Status}
-use Rattle.koth_files.specs.{HillFault.{fault_status, fault_word}, declared.hill_fault.HillFault.HillFault}
+use Rattle.{koth_commands.specs.{Streams.Streams, Trouble.Tells, declared.{status.Status.Status, trouble.Trouble.Trouble}}, koth_files.specs.Trouble.IsOfHill}
 
 -- these are the settings that are given: those of the preset or the default ones, or if a hill is named those of some hill, with what options
 -- give in place of theirs
@@ -13,11 +12,11 @@ AreGiven true base chosen settings = (hill : RawSettings) × AreSettings hill ×
 
 -- the hill that is named can't be read: that was reported, nothing was read from the input, and nothing was written on the output
 pub record TellsNoHill (status : Status) (before after : Streams) : Type 0 where
-  pub fault : HillFault
-  pub ends : status ≡ fault_status fault
+  pub trouble : Trouble
+  pub of_hill : IsOfHill trouble
   pub input : Keeps before.input after.input
   pub output : Keeps before.output after.output
-  pub told : TellsWord (fault_word fault) before.errors after.errors
+  pub told : Tells trouble status before.errors after.errors
 
 -- how a command ends: as it does under settings that are given, or with the fault of the hill that is named
 abbrev pub EndsUnderGiven : Bool → RawSettings → Chosen → (RawSettings → Type 0) → Status → Streams → Streams → Type 0

@@ -1,10 +1,9 @@
--- What `try` writes, and how it ends.
+-- What `try` answers.
 use Rattle.std.specs.Prelude.{◌≡◌, ◌⊎◌, ℕ, if◌then◌else◌, List, []}
 use Rattle.{koth_hill.specs.{Kept.Kept, declared.verdict.Verdict.Verdict}, sector_disk.specs.Facts.DeviceFacts}
 use Rattle.hill_store.specs.{Earned.kept_reply, Seen.{Seen, Submits}, declared.reply.Reply.Reply}
 use Rattle.{koth_words.specs.declared.requests.View.View, koth_views.specs.Fallen.{challenged_view, fallen_view}}
-use Rattle.koth_commands.specs.{Streams.Streams, declared.status.Status.Status}
-use Rattle.{koth_keeping.specs.Said.{Said, TellsFault}, koth_server.specs.Hills.{EndsReply, IsDue}}
+use Rattle.{koth_commands.specs.Answer.AnswerParts, koth_server.specs.Hills.{AnswersReply, IsDue}}
 
 -- for people, the matches of a challenger with all on the hill, and if it would fall the least points with which one stays
 abbrev pub trial_view : Kept → Verdict → List ℕ
@@ -27,27 +26,11 @@ abbrev pub IsTrial : {D : Type 0} → DeviceFacts D → Seen D → View → List
 IsTrial facts store view source reply more =
     IsForetold view store.hill source reply more ⊎ (Submits facts store source reply store × (more ≡ []))
 
--- how trying a source on a store ends
-pub record EndsTrial {D : Type 0} (facts : DeviceFacts D) (store : Seen D) (source : List ℕ) (view : View) (status : Status)
-    (before after : Streams) : Type 0 where
-  pub reply : Reply
-  pub more : List ℕ
-  pub trial : IsTrial facts store view source reply more
-  pub ends : EndsReply reply more status before.output after.output before.errors after.errors
+-- the answer to a source that is tried on a store
+abbrev pub Tried : {D : Type 0} → DeviceFacts D → Seen D → List ℕ → View → AnswerParts → Type 0
+Tried facts store source view answer = (reply : Reply) × (more : List ℕ) × IsTrial facts store view source reply more × AnswersReply reply more answer
 
 -- the same of some hill
-pub record EndsTried (view : View) (status : Status) (before after : Streams) : Type 0 where
-  pub hill : Kept
-  pub source : List ℕ
-  pub reply : Reply
-  pub more : List ℕ
-  pub trial : IsForetold view hill source reply more ⊎ (more ≡ [])
-  pub ends : EndsReply reply more status before.output after.output before.errors after.errors
-
--- nothing is written
-abbrev pub SaysNothing : Said
-SaysNothing status text = ⊥
-
--- how `try` ends: so, or with a fault
-abbrev pub EndsTry : View → Status → Streams → Streams → Type 0
-EndsTry view status before after = EndsTried view status before after ⊎ TellsFault SaysNothing status before after
+abbrev pub SaysTrial : View → List ℕ → AnswerParts → Type 0
+SaysTrial view source answer = (hill : Kept) × (reply : Reply) × (more : List ℕ)
+    × (IsForetold view hill source reply more ⊎ (more ≡ [])) × AnswersReply reply more answer

@@ -1,20 +1,36 @@
 //! The host of a service: its hill is opened again if its device failed.
 
 ghost use Rattle.std.specs.Prelude.{map};
-ghost use Rattle.koth_server.specs.Pages.{IsShown};
+ghost use Rattle.{koth_files.specs.Trouble.IsOfHill, koth_server.specs.Pages.IsShown};
 
 use crate::log::Log;
 use crate::pages::page_shown;
-use hill_file::{Headers, HillFile, TryLock};
-use koth_commands::Failure;
-use koth_files::{HillFault, HillStore, HillTrouble, reopen_hill};
+use hill_file::{HillFile, TryLock};
+use koth_commands::trouble::{About, Fault, Trouble};
+use koth_files::{HillStore, reopen_hill};
 use koth_http::Page;
 use koth_page::Links;
 use koth_service::{Event, Host, LogWrite, ServiceFault};
 use std::alloc::{AllocError, Allocator};
-use std::cell::Cell;
+use std::marker::Model;
 use std::net::SocketAddr;
 use std::rt::{Clock, Files};
+
+/// Why the hill can't be opened again.
+#[derive(Drop)]
+pub(crate) struct Lost<'f> {
+    trouble: Trouble<'f>,
+}
+
+impl<'f> Model for Lost<'f> {
+    ghost use Rattle.{koth_commands.specs.declared.trouble.Trouble.Trouble, koth_files.specs.Trouble.IsOfHill};
+
+    ghost Value = { Trouble };
+
+    ghost view = { λ lost. lost.trouble };
+
+    ghost invariant = { λ lost. IsOfHill lost.trouble };
+}
 
 /// The hill in a file, which is opened again if its device failed, and the log of its service.
 #[derive(Drop)]
@@ -26,26 +42,23 @@ pub(crate) struct Hosting<'f, R, A> {
     pub links: Links,
     pub names: &'f [&'f str],
     pub steps: u32,
-    /// The headers with which the hill was left when its device failed.
-    pub left: Cell<Headers>,
 }
 
 impl<'f, R: Files + Clock, A: Allocator + Copy> Host<HillFile<'f, R>, A> for Hosting<'f, R, A>
 where
     R::File: TryLock,
 {
-    type Fault = HillFault;
+    type Fault = Lost<'f>;
 
     ghost shows = { λ host store. record { names = map (λ name. name.now) host.names.now; pages = λ page text. IsShown host.links store.hill page text; steps = host.steps } };
 
     /// The file is closed first, since it is locked while it is open. If another hill is in it then, that isn't opened.
-    fn reopen(&self, device: HillFile<'f, R>) -> Result<HillStore<'f, R, A>, HillFault> {
+    fn reopen(&self, device: HillFile<'f, R>) -> Result<HillStore<'f, R, A>, Lost<'f>> {
         let left = device.settled();
-        self.left.set(left);
         drop(device);
         match reopen_hill(self.rt, self.alloc, self.path, &left) {
             Ok(store) => Ok(store),
-            Err(trouble) => Err(trouble.fault),
+            Err(trouble) => Err(Lost { trouble }),
         }
     }
 
@@ -71,32 +84,15 @@ where
 }
 
 /// Why a service has ended.
-pub(crate) fn trouble_of<'f, R: Files + Clock, A: Allocator + Copy>(
-    host: &Hosting<'f, R, A>,
-    fault: ServiceFault<HillFault>,
-) -> HillTrouble<'f>
-where
-    R::File: TryLock,
+pub(crate) fn trouble_of(fault: ServiceFault<Lost<'_>>) -> Trouble<'_>
+    ensures { IsOfHill result }
 {
     match fault {
-        ServiceFault::Memory => HillTrouble::memory(),
-        ServiceFault::Reopening(fault) => trouble_at(host, fault),
-        ServiceFault::Rounds => HillTrouble {
-            fault: HillFault::Failed(Failure::Stream),
-            cause: None,
+        ServiceFault::Memory => Trouble::memory(),
+        ServiceFault::Reopening(lost) => lost.trouble,
+        ServiceFault::Rounds => Trouble {
+            fault: Fault::Stream,
+            about: About::Nothing,
         },
     }
-}
-
-/// Why the hill can't be opened again: it is tried once more for what failed, and why.
-fn trouble_at<'f, R: Files + Clock, A: Allocator + Copy>(
-    host: &Hosting<'f, R, A>,
-    fault: HillFault,
-) -> HillTrouble<'f>
-where
-    R::File: TryLock,
-{
-    reopen_hill(host.rt, host.alloc, host.path, &host.left.get())
-        .err()
-        .unwrap_or(HillTrouble::of(host.path, fault))
 }

@@ -19,8 +19,8 @@
 //! `koth_service`.
 //!
 //! Settings must be checked before anything is read, and a hill opened before a source is. `asm`, `fight` and the
-//! statuses are in `koth_commands`, hills in files and their faults in `koth_files`, what a keeper does with these in
-//! `koth_keeping`, a session and its lines in `koth_session`, and this crate passes on what is public of them.
+//! statuses are in `koth_commands`, hills in files in `koth_files`, what a keeper does with these in `koth_keeping`, a
+//! session and its lines in `koth_session`, and this crate passes on what is public of them.
 #![tactic(auto)]
 
 mod arguments;
@@ -41,8 +41,8 @@ mod trial;
 mod typed;
 
 pub use arguments::refuse_arguments;
-pub use koth_commands::{Failure, Status};
-pub use koth_files::{HillFault, HillTrouble};
+pub use koth_commands::Status;
+pub use koth_commands::trouble::{Fault, Trouble};
 pub use koth_keeping::drawn_seed;
 pub use koth_protocol::{Counted, ReadFault, WriteFault};
 pub use koth_service::LogWrite;

@@ -1,10 +1,10 @@
 //! The ports of a service: where peers and browsers connect.
 
-ghost use Rattle.std.specs.Prelude.{◌≡◌, MatchResult};
-ghost use Rattle.koth_server.specs.Hills.{listening_line, Announces, AnnouncesPart};
+ghost use Rattle.std.specs.Prelude.{◌≡◌, IfErr, MatchResult};
+ghost use Rattle.{koth_files.specs.Trouble.IsOfHill, koth_server.specs.Hills.{listening_line, Announces, AnnouncesPart}};
 
+use koth_commands::trouble::Trouble;
 use koth_commands::{Cause, Subject, reason_of, write_whole};
-use koth_files::HillTrouble;
 use koth_protocol::Line;
 use koth_sockets::PolledSockets;
 use koth_words::Service;
@@ -23,9 +23,9 @@ pub(crate) fn announced<'r, 't, R: Net + Clock, A: Allocator + Copy, O: Write>(
     alloc: A,
     service: &Service<'_>,
     output: &mut O,
-) -> Result<PolledSockets<'r, R, A>, HillTrouble<'t>>
+) -> Result<PolledSockets<'r, R, A>, Trouble<'t>>
     ensures { MatchResult result (λ _. Announces (O.contents output.old) (O.contents output.new))
-        (λ _. AnnouncesPart (O.contents output.old) (O.contents output.new)) }
+        (λ trouble. AnnouncesPart (O.contents output.old) (O.contents output.new) × IsOfHill trouble) }
 {
     match bound(rt, alloc, service) {
         Ok(sockets) => match announce(sockets.local_addr(), service.port, output) {
@@ -41,7 +41,9 @@ fn bound<'r, 't, R: Net + Clock, A: Allocator + Copy>(
     rt: &'r R,
     alloc: A,
     service: &Service<'_>,
-) -> Result<PolledSockets<'r, R, A>, HillTrouble<'t>> {
+) -> Result<PolledSockets<'r, R, A>, Trouble<'t>>
+    ensures { IfErr result IsOfHill }
+{
     let address = SocketAddr::new(service.listen, service.port);
     let mut sockets = match PolledSockets::bind(rt, alloc, address, service.peers as usize) {
         Ok(sockets) => sockets,
@@ -62,9 +64,9 @@ fn announce<'t, O: Write>(
     address: io::Result<SocketAddr>,
     asked: u16,
     output: &mut O,
-) -> Result<(), HillTrouble<'t>>
+) -> Result<(), Trouble<'t>>
     ensures { MatchResult result (λ _. Announces (O.contents output.old) (O.contents output.new))
-        (λ _. AnnouncesPart (O.contents output.old) (O.contents output.new)) }
+        (λ trouble. AnnouncesPart (O.contents output.old) (O.contents output.new) × IsOfHill trouble) }
 {
     let port = match address {
         Ok(address) => address.port(),
@@ -72,15 +74,17 @@ fn announce<'t, O: Write>(
     };
     match write_whole(output, listening_line(port).as_slice()) {
         Ok(()) => Ok(()),
-        Err(fault) => Err(HillTrouble::output(fault)),
+        Err(fault) => Err(Trouble::stream(Cause::output(fault.reason))),
     }
 }
 
 /// A port can't be listened at, or there is no memory for its sockets.
-fn port_failed<'t>(port: u16, error: &io::Error) -> HillTrouble<'t> {
+fn port_failed<'t>(port: u16, error: &io::Error) -> Trouble<'t>
+    ensures { IsOfHill result }
+{
     match error.kind() {
-        ErrorKind::OutOfMemory => HillTrouble::memory(),
-        kind => HillTrouble::stream(Cause {
+        ErrorKind::OutOfMemory => Trouble::memory(),
+        kind => Trouble::stream(Cause {
             subject: Subject::Port(port),
             reason: reason_of(kind),
         }),

@@ -4,23 +4,20 @@ ghost use Rattle.std.specs.Prelude.{◌≡◌, None, map, string_bytes};
 ghost use Rattle.{koth_commands.specs.Streams.streams, koth_server.specs.Run.{viewed, EndsRequest, EndsRequestUnder, EndsRun, EndsWithout, Leaves}};
 
 use crate::damage::tell_lost_header;
-use crate::page::page;
+use crate::page::perform_page;
 use crate::serve::serve;
 use crate::settled::settled;
-use crate::show::show;
-use crate::submit::submit;
-use crate::trial::try_submission;
+use crate::show::perform_show;
+use crate::submit::perform_submit;
+use crate::trial::perform_try;
 use hill_file::TryLock;
 use koth_commands::asm::asm;
 use koth_commands::check::check;
-use koth_commands::fight::fight;
-use koth_commands::replay::replay;
-use koth_commands::{Cause, Failure, Status, write_whole};
-use koth_keeping::audit::audit;
-use koth_keeping::copy::copy;
-use koth_keeping::create::create;
-use koth_keeping::migrate::migrate;
-use koth_keeping::reseed::reseed;
+use koth_commands::trouble::Trouble;
+use koth_commands::{Cause, Status, deliver, write_whole};
+use koth_contests::fight::fight;
+use koth_contests::replay::replay;
+use koth_keeping::{perform_audit, perform_copy, perform_create, perform_migrate, perform_reseed};
 use koth_service::LogWrite;
 use koth_words::{NoRequest, Request, View, parse};
 use std::alloc::{Allocator, Global};
@@ -80,7 +77,7 @@ where
         (streams (I.remaining input.old) (O.contents output.old) (E.contents errors.old))
         (streams (I.remaining input.new) (O.contents output.new) (E.contents errors.new)) }
 {
-    match parse(heap, words) {
+    match parse(heap, words, view) {
         Ok(request) => fulfil(rt, alloc, &request, view, input, output, errors),
         Err(none) => answer_without(alloc, none, output, errors),
     }
@@ -137,66 +134,58 @@ where
         (streams (I.remaining input.old) (O.contents output.old) (E.contents errors.old))
         (streams (I.remaining input.new) (O.contents output.new) (E.contents errors.new)) }
 {
-    match *request {
-        Request::Asm(_, source) => asm(rt, alloc, settings, source, input, output, errors),
-        Request::Check(_, ref checked) => check(rt, alloc, settings, checked, output, errors),
-        Request::Fight(_, files) => fight(
-            rt,
-            alloc,
-            settings,
-            files,
-            viewed(files.view, view),
-            output,
-            errors,
-        ),
-        Request::Create(_, creation) => create(rt, alloc, settings, creation, output, errors),
-        Request::Submit(files) => {
-            let view = viewed(files.view, view);
-            tell_lost_header(rt, alloc, files.hill, errors);
-            submit(rt, alloc, files, view, output, errors)
+    let done = match *request {
+        Request::Asm(_, source) => {
+            return asm(rt, alloc, settings, source, input, output, errors);
         }
-        Request::Show(shown) => {
-            let view = viewed(shown.view, view);
-            tell_lost_header(rt, alloc, shown.hill, errors);
-            show(rt, alloc, shown, view, output, errors)
+        Request::Check(_, ref checked) => {
+            return check(rt, alloc, settings, checked, input, output, errors);
         }
-        Request::Audit(file) => {
-            tell_lost_header(rt, alloc, file, errors);
-            audit(rt, alloc, file, output, errors)
+        Request::Fight(_, ref fighters) => {
+            let view = viewed(fighters.view, view);
+            return fight(rt, alloc, settings, fighters, view, input, output, errors);
         }
-        Request::Migrate(files) => migrate(rt, alloc, files, output, errors),
-        Request::Page(file) => {
-            tell_lost_header(rt, alloc, file, errors);
-            page(rt, alloc, file, output, errors)
+        Request::Replay(_, watched) => {
+            return replay(rt, alloc, settings, watched, input, output, errors);
         }
         Request::Serve(given, ref service) => {
             tell_lost_header(rt, alloc, service.hill, errors);
-            serve(rt, alloc, given, service, output, errors)
+            return serve(rt, alloc, given, service, output, errors);
         }
-        Request::Replay(_, watched) => replay(
-            rt,
-            alloc,
-            settings,
-            watched.older,
-            watched.younger,
-            watched.round,
-            output,
-            errors,
-        ),
-        Request::Try(files) => {
-            let view = viewed(files.view, view);
+        Request::Create(_, creation) => perform_create(rt, alloc, settings, creation),
+        Request::Migrate(files) => perform_migrate(rt, alloc, files),
+        Request::Submit(files) => {
             tell_lost_header(rt, alloc, files.hill, errors);
-            try_submission(rt, alloc, files, view, output, errors)
+            let view = viewed(files.view, view);
+            perform_submit(rt, alloc, files.hill, files.wait, files.source, view, input)
+        }
+        Request::Try(files) => {
+            tell_lost_header(rt, alloc, files.hill, errors);
+            let view = viewed(files.view, view);
+            perform_try(rt, alloc, files.hill, files.source, view, input)
+        }
+        Request::Show(shown) => {
+            tell_lost_header(rt, alloc, shown.hill, errors);
+            perform_show(rt, alloc, shown, viewed(shown.view, view))
+        }
+        Request::Page(hill) => {
+            tell_lost_header(rt, alloc, hill, errors);
+            perform_page(rt, alloc, hill)
+        }
+        Request::Audit(audited) => {
+            tell_lost_header(rt, alloc, audited.hill, errors);
+            perform_audit(rt, alloc, audited.hill, viewed(audited.view, view))
         }
         Request::Copy(files) => {
             tell_lost_header(rt, alloc, files.hill, errors);
-            copy(rt, alloc, files, output, errors)
+            perform_copy(rt, alloc, files)
         }
         Request::Reseed(files) => {
             tell_lost_header(rt, alloc, files.hill, errors);
-            reseed(rt, alloc, files, output, errors)
+            perform_reseed(rt, alloc, files)
         }
-    }
+    };
+    deliver(alloc, done, output, errors)
 }
 
 /// Writes why the arguments ask for no command: help on the output, a fault on standard error.
@@ -213,13 +202,13 @@ fn answer_without<A: Allocator, O: Write, E: Write>(
     match none {
         NoRequest::Help(text) => match write_whole(output, text.as_bytes()) {
             Ok(()) => Status::Done,
-            Err(fault) => Failure::Stream.tell(alloc, Some(Cause::output(fault.reason)), errors),
+            Err(fault) => Trouble::stream(Cause::output(fault.reason)).tell(alloc, errors),
         },
         NoRequest::WordFault(text) => {
             let _ = write_whole(errors, text.as_bytes());
             Status::WordFault
         }
-        NoRequest::Memory => Failure::Memory.tell_alone(errors),
+        NoRequest::Memory => Trouble::memory().tell(alloc, errors),
     }
 }
 

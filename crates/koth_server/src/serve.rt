@@ -1,21 +1,21 @@
 //! The command `serve`: sessions of many peers over sockets on the hill in a file.
 
-ghost use Rattle.std.specs.Prelude.{◌≡◌, ◌≢◌, None, false, IfOk, MatchResult};
-ghost use Rattle.{war_types.specs.Settings.settings_of, koth_commands.specs.{Streams.streams, Told.WritesSome}};
+ghost use Rattle.std.specs.Prelude.{◌≡◌, ◌≢◌, None, false, IfErr, IfOk, MatchResult};
+ghost use Rattle.{war_types.specs.Settings.settings_of, koth_commands.specs.{Streams.streams, Told.WritesSome}, koth_files.specs.Trouble.IsOfHill};
 ghost use Rattle.koth_server.specs.Hills.{Announces, AnnouncesPart, EndsServe, EndsService};
 
 use crate::host::{Hosting, trouble_of};
 use crate::log::Log;
 use crate::pages::links_for;
 use crate::ports::{BROWSERS, announced};
-use hill_file::{Existing, Headers, TryLock};
+use hill_file::{Existing, TryLock};
+use koth_commands::trouble::{Fault, Trouble};
 use koth_commands::{Status, refuse_settings};
-use koth_files::{HillFault, HillStore, HillTrouble, create_hill, open_alone};
+use koth_files::{HillStore, create_hill, open_alone};
 use koth_service::{LogWrite, serve_peers};
 use koth_sockets::PolledSockets;
 use koth_words::Service;
 use std::alloc::Allocator;
-use std::cell::Cell;
 use std::io::Write;
 use std::net::Net;
 use std::rt::{Clock, Files};
@@ -72,7 +72,6 @@ where
         links: links_for(service.replays),
         names: service.hosts.as_slice(),
         steps: service.steps,
-        left: Cell::new(Headers::ZEROS),
     };
     let (store, mut sockets) = match begin(&host, settings, service, output, errors) {
         Ok(begun) => begun,
@@ -88,7 +87,7 @@ where
     let served = serve_peers(alloc, &mut sockets, limits, store, &host, errors);
     match served {
         Ok(()) => Status::Done,
-        Err(fault) => trouble_of(&host, fault).tell(alloc, errors),
+        Err(fault) => trouble_of(fault).tell(alloc, errors),
     }
 }
 
@@ -99,12 +98,12 @@ fn begin<'f, R: Files + Net + Clock, A: Allocator + Copy, O: Write, E: LogWrite>
     service: &'f Service<'f>,
     output: &mut O,
     errors: &mut E,
-) -> Result<(HillStore<'f, R, A>, PolledSockets<'f, R, A>), HillTrouble<'f>>
+) -> Result<(HillStore<'f, R, A>, PolledSockets<'f, R, A>), Trouble<'f>>
 where
     R::File: TryLock,
     ensures open { IfOk result (λ begun. begun.0.reopen ≡ false) }
     ensures announced { MatchResult result (λ _. Announces (O.contents output.old) (O.contents output.new))
-        (λ _. AnnouncesPart (O.contents output.old) (O.contents output.new)) }
+        (λ trouble. AnnouncesPart (O.contents output.old) (O.contents output.new) × IsOfHill trouble) }
     ensures told { WritesSome (E.contents errors.old) (E.contents errors.new) }
 {
     let store = match hill_served(host, settings, service, errors) {
@@ -124,10 +123,11 @@ fn hill_served<'f, R: Files + Clock, A: Allocator + Copy, E: LogWrite>(
     settings: Settings,
     service: &'f Service<'f>,
     errors: &mut E,
-) -> Result<HillStore<'f, R, A>, HillTrouble<'f>>
+) -> Result<HillStore<'f, R, A>, Trouble<'f>>
 where
     R::File: TryLock,
     ensures open { IfOk result (λ store. store.reopen ≡ false) }
+    ensures of_hill { IfErr result IsOfHill }
     ensures told { WritesSome (E.contents errors.old) (E.contents errors.new) }
 {
     match create_if_asked(host, settings, service, errors) {
@@ -142,10 +142,11 @@ fn create_if_asked<'f, R: Files + Clock, A: Allocator + Copy, E: LogWrite>(
     settings: Settings,
     service: &'f Service<'f>,
     errors: &mut E,
-) -> Result<(), HillTrouble<'f>>
+) -> Result<(), Trouble<'f>>
 where
     R::File: TryLock,
-    ensures { WritesSome (E.contents errors.old) (E.contents errors.new) }
+    ensures told { WritesSome (E.contents errors.old) (E.contents errors.new) }
+    ensures of_hill { IfErr result IsOfHill }
 {
     if !service.create {
         return Ok(());
@@ -156,7 +157,7 @@ where
                 .tell_created(host.alloc, service, settings.seed(), errors);
             Ok(())
         }
-        Err(trouble) if matches!(trouble.fault, HillFault::Occupied) => Ok(()),
+        Err(trouble) if matches!(trouble.fault, Fault::Occupied) => Ok(()),
         Err(trouble) => Err(trouble),
     }
 }

@@ -1,76 +1,43 @@
 //! The command `show`: the table of the hill in a file, and the matrix of its matches.
 
-ghost use Rattle.std.specs.Prelude.{◌≡◌, ◌≢◌, IfOk, None, true};
-ghost use Rattle.koth_keeping.specs.Said.{EndsHill, Tries};
-ghost use Rattle.{koth_commands.specs.Streams.streams, koth_server.specs.Hills.{SaysShown, ShowsOf, shown_lines, shown_table, shown_text, sight_of, sight_text}};
+ghost use Rattle.std.specs.Prelude.{◌≡◌, IfOk, true};
+ghost use Rattle.{koth_keeping.specs.Answers.Answers, koth_server.specs.Hills.{SaysShown, shown_lines, shown_table, shown_text, sight_of, sight_text}};
 
 use hill_store::Store;
-use koth_commands::{Status, write_whole};
-use koth_files::{HillTrouble, look_hill};
+use koth_commands::trouble::Trouble;
+use koth_commands::{Answer, Status};
+use koth_files::look_hill;
 use koth_hills::settings_text;
+use koth_json::hill_text;
 use koth_protocol::matches_text;
 use koth_session::table_of;
 use koth_views::{hill_view, matches_view};
-use koth_words::{Shown, View};
+use koth_words::{Shown, View, given_as};
 use sector_disk::Device;
 use std::alloc::{AllocError, Allocator};
-use std::io::Write;
 use std::rt::Files;
 
-/// Writes the table of the hill in a file, as a session answers `SHOW`, or in columns for people. If that is asked for, the matrix of its
-/// matches follows: who won how many rounds against whom. Or it writes the hill's settings as options in place of these. The file is only
+/// Answers with the table of the hill in a file, as a session answers `SHOW`, in columns for people, or as lines of JSON. If that is asked for, the matrix of its
+/// matches follows: who won how many rounds against whom. Or it answers with the hill's settings as options in place of these. The file is only
 /// read, and its lock is not taken: so `show` can show a hill while a service works on it.
-pub(crate) fn show<R: Files, A: Allocator + Copy, O: Write, E: Write>(
+pub(crate) fn perform_show<'s, R: Files, A: Allocator + Copy>(
     rt: &R,
-    alloc: A,
-    shown: Shown<'_>,
-    view: View,
-    output: &mut O,
-    errors: &mut E,
-) -> Status
-    ensures ends { EndsHill (SaysShown view (sight_of shown.entry)) result
-        (streams None (O.contents output.old) (E.contents errors.old))
-        (streams None (O.contents output.new) (E.contents errors.new)) }
-    ensures words { result ≢ Status.WordFault }
-{
-    match show_file(rt, alloc, shown, view, output) {
-        Ok(status) => status,
-        Err(trouble) => trouble.tell(alloc, errors),
-    }
-}
-
-fn show_file<'s, R: Files, A: Allocator + Copy, O: Write>(
-    rt: &'s R,
     alloc: A,
     shown: Shown<'s>,
     view: View,
-    output: &mut O,
-) -> Result<Status, HillTrouble<'s>>
-    ensures { Tries (SaysShown view (sight_of shown.entry)) result (O.contents output.old) (O.contents output.new) }
+) -> Result<Answer<A>, Trouble<'s>>
+    ensures { Answers (SaysShown view (sight_of shown.entry)) result }
 {
     match look_hill(rt, alloc, shown.hill) {
-        Ok(store) => show_store(alloc, &store, shown, view, output),
+        Ok(store) => {
+            let text = sight_text(alloc, &store, shown, view)?;
+            Ok(Answer {
+                status: Status::Done,
+                text,
+                note: Vec::new(alloc),
+            })
+        }
         Err(trouble) => Err(trouble),
-    }
-}
-
-/// Writes what is asked for of a store's hill.
-fn show_store<'s, D: Device, A: Allocator + Copy, O: Write>(
-    alloc: A,
-    store: &Store<D, A>,
-    shown: Shown<'_>,
-    view: View,
-    output: &mut O,
-) -> Result<Status, HillTrouble<'s>>
-    ensures { Tries (ShowsOf view (sight_of shown.entry) store.now.hill) result (O.contents output.old) (O.contents output.new) }
-{
-    let text = match sight_text(alloc, store, shown, view) {
-        Ok(text) => text,
-        Err(AllocError) => return Err(HillTrouble::memory()),
-    };
-    match write_whole(output, text.as_slice()) {
-        Ok(()) => Ok(Status::Done),
-        Err(fault) => Err(HillTrouble::output(fault)),
     }
 }
 
@@ -102,6 +69,10 @@ fn shown_text<D: Device, A: Allocator + Copy>(
     match view {
         View::Plain => shown_lines(alloc, store, matches),
         View::Table => shown_table(alloc, store, matches),
+        View::Json => {
+            let hill = store.hill();
+            hill_text(alloc, hill, given_as(hill.settings()), matches)
+        }
     }
 }
 

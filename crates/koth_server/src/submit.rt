@@ -1,137 +1,136 @@
 //! The command `submit`: one submission to the hill in a file.
 
-ghost use Rattle.std.specs.Prelude.{◌≡◌, ◌≢◌, ◌⊎◌, [], false, None, IfSome};
-ghost use Rattle.{koth_views.specs.Roster.roster, koth_commands.specs.Streams.streams};
-ghost use Rattle.koth_server.specs.Hills.{EndsReply, EndsSubmission, EndsSubmit, ExplainsReply, IsOutcome};
+ghost use Rattle.std.specs.Prelude.{◌≡◌, ◌+◌, ◌≤◌, ◌⊎◌, [], false, None, IfOk, IfSome, OnErr, vec_capacity, vec_len};
+ghost use Rattle.{koth_views.specs.Roster.roster, koth_commands.specs.Streams.{From, is_input}};
+ghost use Rattle.koth_server.specs.Hills.{AnswersReply, AnswersSource, IsNote, IsOutcome, SaysReply, Submitted};
 
 use crate::outcome::outcome_text;
 use crate::reply_status::status_of;
 use hill_file::TryLock;
 use hill_store::{Reply, Store};
-use koth_commands::{Status, explain, read_source, write_both};
-use koth_files::{HillTrouble, open_within, tell_output};
+use koth_commands::trouble::Trouble;
+use koth_commands::{Answer, explanation_of, source_name, source_text};
+use koth_files::open_within;
 use koth_hill::Hill;
 use koth_session::line_of;
 use koth_views::{Entered, roster};
-use koth_words::{Submission, View};
+use koth_words::{Source, View};
 use sector_disk::Device;
 use std::alloc::{AllocError, Allocator};
-use std::io::Write;
+use std::io::Read;
 use std::rt::{Clock, Files};
 use war_types::Settings;
 
-/// Submits the source in a file to the hill in another, and writes the reply. The hill is opened before the source is
-/// read. If another program has its lock, that is tried again for as long as the arguments say. The reply to a warrior
-/// that is placed or falls is written once that is durable. After a refusal's line standard error gets the place in the
-/// source and the reason.
-pub(crate) fn submit<R: Files + Clock, A: Allocator + Copy, O: Write, E: Write>(
-    rt: &R,
+/// Bytes of the line of a reply at most.
+pub(crate) const REPLY_LINE: usize = 96;
+
+/// Submits a source to the hill in a file, and answers with the reply. The hill is opened before the source is read. If
+/// another program has its lock, that is tried again for as long as the arguments say. The reply to a warrior that is
+/// placed or falls comes once that is durable. The note of a refusal is the place in the source and the reason.
+pub(crate) fn perform_submit<'s, R: Files + Clock, A: Allocator + Copy, I: Read>(
+    rt: &'s R,
     alloc: A,
-    files: Submission<'_>,
+    hill: &'s str,
+    wait: u32,
+    source: Source<'s>,
     view: View,
-    output: &mut O,
-    errors: &mut E,
-) -> Status
+    input: &mut I,
+) -> Result<Answer<A>, Trouble<'s>>
 where
     R::File: TryLock,
-    ensures ends { EndsSubmit view result
-        (streams None (O.contents output.old) (E.contents errors.old))
-        (streams None (O.contents output.new) (E.contents errors.new)) }
-    ensures words { result ≢ Status.WordFault }
+    ensures { From (is_input source.entry) (λ i j. AnswersSource (SaysReply view) i j result) (I.remaining input.old) (I.remaining input.new) }
 {
-    match open_within(rt, alloc, files.hill, files.wait) {
-        Ok(mut store) => submit_file(rt, alloc, &mut store, files.source, view, output, errors),
-        Err(trouble) => trouble.tell(alloc, errors),
+    match open_within(rt, alloc, hill, wait) {
+        Ok(mut store) => submit_read(rt, alloc, &mut store, source, view, input),
+        Err(trouble) => Err(trouble),
     }
 }
 
-/// Submits the source in a file to a store that was just opened, and then writes the reply.
-fn submit_file<R: Files, D: Device, A: Allocator + Copy, O: Write, E: Write>(
+/// Reads a source, and submits it to a store that was just opened.
+fn submit_read<'s, R: Files, D: Device, A: Allocator + Copy, I: Read>(
     rt: &R,
     alloc: A,
     store: &mut Store<D, A>,
-    path: &str,
+    source: Source<'s>,
     view: View,
-    output: &mut O,
-    errors: &mut E,
-) -> Status
+    input: &mut I,
+) -> Result<Answer<A>, Trouble<'s>>
     requires { store.old.reopen ≡ false }
-    ensures ends { EndsSubmit view result
-        (streams None (O.contents output.old) (E.contents errors.old))
-        (streams None (O.contents output.new) (E.contents errors.new)) }
-    ensures words { result ≢ Status.WordFault }
+    ensures { From (is_input source.entry) (λ i j. AnswersSource (SaysReply view) i j result) (I.remaining input.old) (I.remaining input.new) }
 {
-    match read_source(rt, alloc, path) {
+    match source_text(rt, alloc, source, input) {
         Ok(text) => {
-            let source = Source {
-                path,
+            let source = SourceText {
+                name: source_name(source),
                 text: text.as_slice(),
             };
-            submit_source(alloc, store, source, view, output, errors)
+            Ok(submit_source(alloc, store, source, view)?)
         }
-        Err(trouble) => HillTrouble::from_source(trouble).tell(alloc, errors),
+        Err(trouble) => Err(trouble),
     }
 }
 
-/// A source, and the path of its file.
+/// The text of a source, and what messages call it.
 #[derive(Clone, Copy)]
-pub(crate) struct Source<'s> {
-    pub path: &'s str,
+pub(crate) struct SourceText<'s> {
+    pub name: &'s str,
     pub text: &'s [u8],
 }
 
-/// Submits a source to a store, and then writes the reply: its line, and in the view for people after it what became of
-/// the warrior.
-fn submit_source<D: Device, A: Allocator + Copy, O: Write, E: Write>(
+/// Submits a source to a store. The answer is the reply's line, and in the view for people after it what became of the
+/// warrior. If there is no memory for the line, nothing is submitted.
+fn submit_source<D: Device, A: Allocator + Copy>(
     alloc: A,
     store: &mut Store<D, A>,
-    source: Source<'_>,
+    source: SourceText<'_>,
     view: View,
-    output: &mut O,
-    errors: &mut E,
-) -> Status
-    requires { store.old.reopen ≡ false }
-    ensures ends { EndsSubmission D.facts store.old source.entry.text.now store.new view result
-        (streams None (O.contents output.old) (E.contents errors.old))
-        (streams None (O.contents output.new) (E.contents errors.new)) }
-    ensures words { result ≢ Status.WordFault }
+) -> Result<Answer<A>, AllocError>
+    ensures submitted { IfOk result (Submitted D.facts store.old source.entry.text.now store.new view) }
+    ensures memory { OnErr result (store.new ≡ store.old) }
 {
+    let room = Vec::with_capacity(alloc, REPLY_LINE)?;
     let before = roster_for(alloc, view, store.hill());
     let reply = store.submit(source.text);
     let placing = placing_text(alloc, &before, store, source.text, &reply);
     let settings = store.hill().settings();
-    answer_reply(
-        alloc,
-        settings,
-        source,
-        &reply,
-        placing.as_slice(),
-        output,
-        errors,
-    )
+    Ok(reply_answer(alloc, room, settings, source, &reply, placing.as_slice()))
 }
 
-/// Writes the line of a reply and this text after it, and for a refusal the place in the source and the reason on
-/// standard error.
-pub(crate) fn answer_reply<A: Allocator + Copy, O: Write, E: Write>(
+/// The answer to a source: the line of the reply, in this room, and this text after it if there is memory for that. The
+/// note of a refusal is the place in the source and the reason.
+pub(crate) fn reply_answer<A: Allocator + Copy>(
+    alloc: A,
+    mut room: Vec<u8, A>,
+    settings: &Settings,
+    source: SourceText<'_>,
+    reply: &Reply,
+    more: &[u8],
+) -> Answer<A>
+    requires empty { room.items ≡ [] }
+    requires fits { vec_len room + 96 ≤ vec_capacity room }
+    ensures { AnswersReply reply.now more.now result ⊎ AnswersReply reply.now [] result }
+{
+    line_of(reply).append_to(&mut room);
+    let _ = room.extend_from_slice(more);
+    Answer {
+        status: status_of(reply),
+        text: room,
+        note: note_of(alloc, settings, source, reply),
+    }
+}
+
+/// The place in a source and the reason, if it is refused and there is memory for that.
+fn note_of<A: Allocator + Copy>(
     alloc: A,
     settings: &Settings,
-    source: Source<'_>,
+    source: SourceText<'_>,
     reply: &Reply,
-    placing: &[u8],
-    output: &mut O,
-    errors: &mut E,
-) -> Status
-    ensures ends { EndsReply reply.now placing.now result
-        (O.contents output.old) (O.contents output.new) (E.contents errors.old) (E.contents errors.new) }
-    ensures words { result ≢ Status.WordFault }
+) -> Vec<u8, A>
+    ensures { IsNote reply.now result.items }
 {
-    match write_both(output, line_of(reply).as_slice(), placing) {
-        Ok(()) => {
-            explain_refusal(alloc, settings, source, reply, errors);
-            status_of(reply)
-        }
-        Err(fault) => tell_output(alloc, fault, errors),
+    match *reply {
+        Reply::Refused(_) => explanation_of(alloc, source.name, source.text, settings),
+        _ => Vec::new(alloc),
     }
 }
 
@@ -165,20 +164,5 @@ fn placing_text<D: Device, A: Allocator + Copy>(
             Err(AllocError) => Vec::new(alloc),
         },
         None => Vec::new(alloc),
-    }
-}
-
-/// Writes on standard error the place in a source and the reason, if it is refused.
-fn explain_refusal<A: Allocator + Copy, E: Write>(
-    alloc: A,
-    settings: &Settings,
-    source: Source<'_>,
-    reply: &Reply,
-    errors: &mut E,
-)
-    ensures { ExplainsReply reply.now (E.contents errors.old) (E.contents errors.new) }
-{
-    if let Reply::Refused(_) = *reply {
-        explain(alloc, source.path, source.text, settings, errors);
     }
 }

@@ -1,103 +1,84 @@
 //! The command `try`: what a submission would be answered.
 
-ghost use Rattle.std.specs.Prelude.{◌≡◌, ◌≢◌, None, IfOk};
-ghost use Rattle.koth_commands.specs.Streams.{streams};
-ghost use Rattle.koth_server.specs.Trials.{EndsTrial, EndsTry, IsTrialText, trial_view};
+ghost use Rattle.std.specs.Prelude.{◌≡◌, IfOk};
+ghost use Rattle.{koth_commands.specs.Streams.{From, is_input}, koth_server.specs.{Hills.AnswersSource, Trials.{IsTrialText, SaysTrial, Tried, trial_view}}};
 
-use crate::submit::{Source, answer_reply};
+use crate::submit::{REPLY_LINE, SourceText, reply_answer};
 use hill_store::{Reply, Store};
-use koth_commands::{Status, read_source};
-use koth_files::{HillTrouble, look_hill};
+use koth_commands::trouble::Trouble;
+use koth_commands::{Answer, source_name, source_text};
+use koth_files::look_hill;
 use koth_hill::{Hill, Verdict};
 use koth_views::{challenged_view, fallen_view};
-use koth_words::{Submission, View};
+use koth_words::{Source, View};
 use sector_disk::Device;
 use std::alloc::{AllocError, Allocator};
-use std::io::Write;
+use std::io::Read;
 use std::rt::Files;
 
-/// Writes what a submission of the source in a file to the hill in another would be answered, and for people its matches
-/// with all on the hill. Nothing is submitted: the hill is looked at before the source is read, its file is only read,
-/// and its lock is not taken.
-pub(crate) fn try_submission<R: Files, A: Allocator + Copy, O: Write, E: Write>(
+/// Answers what a submission of a source to the hill in a file would be answered, and for people its matches with all on
+/// the hill. Nothing is submitted: the hill is looked at before the source is read, its file is only read, and its lock
+/// is not taken.
+pub(crate) fn perform_try<'s, R: Files, A: Allocator + Copy, I: Read>(
     rt: &R,
     alloc: A,
-    files: Submission<'_>,
+    hill: &'s str,
+    source: Source<'s>,
     view: View,
-    output: &mut O,
-    errors: &mut E,
-) -> Status
-    ensures ends { EndsTry view result
-        (streams None (O.contents output.old) (E.contents errors.old))
-        (streams None (O.contents output.new) (E.contents errors.new)) }
-    ensures words { result ≢ Status.WordFault }
+    input: &mut I,
+) -> Result<Answer<A>, Trouble<'s>>
+    ensures { From (is_input source.entry) (λ i j. AnswersSource (SaysTrial view) i j result) (I.remaining input.old) (I.remaining input.new) }
 {
-    match look_hill(rt, alloc, files.hill) {
-        Ok(mut store) => try_file(rt, alloc, &mut store, files.source, view, output, errors),
-        Err(trouble) => trouble.tell(alloc, errors),
+    match look_hill(rt, alloc, hill) {
+        Ok(mut store) => try_read(rt, alloc, &mut store, source, view, input),
+        Err(trouble) => Err(trouble),
     }
 }
 
-/// The same of the hill of a store.
-fn try_file<R: Files, D: Device, A: Allocator + Copy, O: Write, E: Write>(
+/// Reads a source, and tries it on the hill of a store.
+fn try_read<'s, R: Files, D: Device, A: Allocator + Copy, I: Read>(
     rt: &R,
     alloc: A,
     store: &mut Store<D, A>,
-    path: &str,
+    source: Source<'s>,
     view: View,
-    output: &mut O,
-    errors: &mut E,
-) -> Status
-    ensures ends { EndsTry view result
-        (streams None (O.contents output.old) (E.contents errors.old))
-        (streams None (O.contents output.new) (E.contents errors.new)) }
-    ensures words { result ≢ Status.WordFault }
+    input: &mut I,
+) -> Result<Answer<A>, Trouble<'s>>
+    ensures { From (is_input source.entry) (λ i j. AnswersSource (SaysTrial view) i j result) (I.remaining input.old) (I.remaining input.new) }
 {
-    match read_source(rt, alloc, path) {
+    match source_text(rt, alloc, source, input) {
         Ok(text) => {
-            let source = Source {
-                path,
+            let source = SourceText {
+                name: source_name(source),
                 text: text.as_slice(),
             };
-            try_source(alloc, store, source, view, output, errors)
+            Ok(try_source(alloc, store, source, view)?)
         }
-        Err(trouble) => HillTrouble::from_source(trouble).tell(alloc, errors),
+        Err(trouble) => Err(trouble),
     }
 }
 
 /// The same of a source.
-fn try_source<D: Device, A: Allocator + Copy, O: Write, E: Write>(
+fn try_source<D: Device, A: Allocator + Copy>(
     alloc: A,
     store: &mut Store<D, A>,
-    source: Source<'_>,
+    source: SourceText<'_>,
     view: View,
-    output: &mut O,
-    errors: &mut E,
-) -> Status
-    ensures ends { EndsTrial D.facts store.old source.entry.text.now view result
-        (streams None (O.contents output.old) (E.contents errors.old))
-        (streams None (O.contents output.new) (E.contents errors.new)) }
+) -> Result<Answer<A>, AllocError>
+    ensures tried { IfOk result (Tried D.facts store.old source.entry.text.now view) }
     ensures unchanged { store.new ≡ store.old }
-    ensures words { result ≢ Status.WordFault }
 {
+    let room = Vec::with_capacity(alloc, REPLY_LINE)?;
     match store.try_source(source.text, None) {
         Some(Ok(judged)) => {
             let reply = Reply::judged(&judged);
             let more = trial_text(alloc, store.hill(), view, &judged);
             let settings = store.hill().settings();
-            answer_reply(
-                alloc,
-                settings,
-                source,
-                &reply,
-                more.as_slice(),
-                output,
-                errors,
-            )
+            Ok(reply_answer(alloc, room, settings, source, &reply, more.as_slice()))
         }
         Some(Err(reply)) => {
             let settings = store.hill().settings();
-            answer_reply(alloc, settings, source, &reply, b"", output, errors)
+            Ok(reply_answer(alloc, room, settings, source, &reply, b""))
         }
         None => unreachable!(),
     }

@@ -1,7 +1,7 @@
 -- Small texts, computed.
 use Rattle.{std.proofs.Common.{◌≡◌, [], ◌∷◌, ◌++◌, codes, refl}, std.specs.{Char.encode_utf8, Fmt.digits, Str.{chars, is_utf8}, Str.Lossy.{utf8_error_len, utf8_lossy, utf8_valid_len}}}
 use Rattle.war_types.specs.{Warrior.warrior_parts, declared.fault.AsmKind.AsmKind, declared.fault.ExprFault.ExprFault}
-use Rattle.koth_text.specs.{Bout.bout_view, Columns.columns_text, Escape.escaped, Refusal.refusal_line, declared.columns.Alignment.Alignment}
+use Rattle.koth_text.specs.{Bout.bout_view, Columns.{columns_text, table_text}, Escape.escaped, Refusal.refusal_line, declared.columns.Alignment.Alignment}
 
 no_line_to_blame : refusal_line (record { line = 0; kind = AsmKind.Empty }) ≡ codes "REFUSED 0 Empty\n"
 unfolding digits
@@ -26,9 +26,13 @@ columns : columns_text (Alignment.Left ∷ Alignment.Right ∷ []) ((codes "a" �
     ≡ codes "a   bb  c\ndd   e\nf\n"
 columns = refl
 
+-- no headings over an empty table
+no_headings : table_text (Alignment.Left ∷ []) ((codes "a" ∷ []) ∷ []) ≡ []
+no_headings = refl
+
 counts : bout_view (warrior_parts [] 0 (codes "Imp") (codes "A. K. Dewdney")) (warrior_parts [] 0 (codes "Scanner") (codes "koth")) (record { older_wins = 1; younger_wins = 9; ties = 0 })
-    ≡ codes "warrior  author         won  lost  tied\n"
-    ++ codes "Imp      A. K. Dewdney    1     9     0\n"
-    ++ codes "Scanner  koth             9     1     0\n"
+    ≡ codes "won  lost  tied  warrior  author\n"
+    ++ codes "  1     9     0  Imp      A. K. Dewdney\n"
+    ++ codes "  9     1     0  Scanner  koth\n"
 unfolding digits
 counts = refl

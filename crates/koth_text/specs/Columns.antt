@@ -39,3 +39,9 @@ row_text alignments rows row = before_blanks (cells_text alignments rows row) ++
 -- the lines of these rows: each column as wide as the longest of its cells
 abbrev pub columns_text : List Alignment → List (List (List ℕ)) → List ℕ
 columns_text alignments rows = flat_map (row_text alignments rows) rows
+
+-- the same of a table, whose first row has the headings: nothing if it has no other row
+abbrev pub table_text : List Alignment → List (List (List ℕ)) → List ℕ
+table_text alignments [] = []
+table_text alignments (heading ∷ []) = []
+table_text alignments (heading ∷ row ∷ rows) = columns_text alignments (heading ∷ row ∷ rows)

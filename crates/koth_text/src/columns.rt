@@ -1,7 +1,7 @@
 //! Rows of cells, laid out in columns. The words, numbers and names in cells are printable ASCII, so a byte takes one place.
 
 ghost use Rattle.std.specs.Prelude.{◌≡◌, ◌+◌, ◌-◌, ◌<◌, ◌≤◌, ◌++◌, length, codes, replicate, IfOk, OnOk};
-ghost use Rattle.koth_text.specs.Columns.{alignment_at, cell_text, cells_text, columns_text, gap, padded, row_text, width};
+ghost use Rattle.koth_text.specs.Columns.{alignment_at, cell_text, cells_text, columns_text, gap, padded, row_text, table_text, width};
 
 use crate::cells::Cells;
 use std::alloc::{AllocError, Allocator};
@@ -30,6 +30,20 @@ pub fn columns_text<A: Allocator + Copy>(
         put_row(alloc, &mut text, alignments, rows, &rows[place])?;
     }
     Ok(text)
+}
+
+/// The lines of a table, whose first row has the headings; no text if it has no other row. The error is lack of memory.
+pub fn table_text<A: Allocator + Copy>(
+    alloc: A,
+    alignments: &[Alignment],
+    rows: &[Cells<A>],
+) -> Result<Vec<u8, A>, AllocError>
+    ensures { IfOk result (λ text. text.items ≡ table_text alignments.now rows.now) }
+{
+    match rows {
+        [] | [_] => Ok(Vec::new(alloc)),
+        [_, _, ..] => columns_text(alloc, alignments, rows),
+    }
 }
 
 fn put_row<A: Allocator + Copy>(
@@ -80,8 +94,8 @@ fn put_cell<A: Allocator>(
     )
 }
 
-/// Puts a text at one side of `places` places; a longer text stands as it is.
-fn put_padded<A: Allocator>(
+/// Puts a text at one side of `places` places; a longer text stands as it is. The error is lack of memory.
+pub fn put_padded<A: Allocator>(
     line: &mut Vec<u8, A>,
     alignment: Alignment,
     places: usize,

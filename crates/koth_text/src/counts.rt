@@ -10,11 +10,17 @@ use koth_match::Bout;
 use std::alloc::{AllocError, Allocator};
 use war_types::{Title, Warrior};
 
-/// The sides of the two columns of names. The columns of rounds after them are aligned at the right.
-pub const SIDES: [Alignment; 2] = [Alignment::Left, Alignment::Left];
+/// The sides of the three columns of rounds, and of the two of names after them.
+pub const SIDES: [Alignment; 5] = [
+    Alignment::Right,
+    Alignment::Right,
+    Alignment::Right,
+    Alignment::Left,
+    Alignment::Left,
+];
 
-/// The counts of a match with headings: a line for the older warrior and then a line for the younger, each with its name, its author and
-/// the rounds that it won, lost and tied. The error is lack of memory.
+/// The counts of a match with headings: a line for the older warrior and then a line for the younger, each with the rounds that it won,
+/// lost and tied, its name and its author. The error is lack of memory.
 pub fn bout_view<A: Allocator + Copy, B: Allocator, C: Allocator>(
     alloc: A,
     older: &Warrior<B>,
@@ -40,18 +46,18 @@ fn side_of<A: Allocator, B: Allocator>(
     cells_of(alloc, warrior.name(), warrior.author(), rounds)
 }
 
-/// The headings of names and rounds. The error is lack of memory.
+/// The headings of rounds and names. The error is lack of memory.
 pub fn heading<A: Allocator>(alloc: A) -> Result<Cells<A>, AllocError>
     ensures { IfOk result (λ cells. cells ≡ rounds_heading) }
 {
     Cells::of(
         alloc,
         [
-            word(b"warrior"),
-            word(b"author"),
             word(b"won"),
             word(b"lost"),
             word(b"tied"),
+            word(b"warrior"),
+            word(b"author"),
         ],
     )
 }
@@ -68,11 +74,11 @@ pub fn cells_of<A: Allocator>(
     Cells::of(
         alloc,
         [
-            named(name),
-            named(author),
             number(rounds.won),
             number(rounds.lost),
             number(rounds.tied),
+            named(name),
+            named(author),
         ],
     )
 }

@@ -1,9 +1,10 @@
 //! A line that is built in place.
 
-ghost use Rattle.std.specs.Prelude.{◌≡◌, ◌+◌, ◌≤◌, ◌++◌, [], length, codes, decimal};
+ghost use Rattle.std.specs.Prelude.{◌≡◌, ◌+◌, ◌≤◌, ◌++◌, [], length, codes, decimal, vec_capacity, vec_len};
 ghost use Rattle.war_types.specs.Fault.{kind_name};
 
 use itoa::Buffer;
+use std::alloc::Allocator;
 use std::marker::Model;
 use war_types::AsmKind;
 
@@ -64,6 +65,14 @@ impl Line {
         ensures len { length self.new ≤ length self.old + 20 }
     {
         self.put(kind.name().as_bytes());
+    }
+
+    /// Appends the line to a text that has room for any line.
+    pub fn append_to<A: Allocator>(&self, text: &mut Vec<u8, A>)
+        requires { vec_len text.old + 96 ≤ vec_capacity text.old }
+        ensures { text.new.items ≡ text.old.items ++ self.now }
+    {
+        let _ = text.extend_from_slice(&self.bytes[..self.len]);
     }
 
     /// The bytes that were put.

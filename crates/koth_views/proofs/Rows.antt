@@ -30,7 +30,7 @@ table_of_three : hill_view three
 unfolding digits
 table_of_three = refl
 
-table_of_none : hill_view none ≡ codes "rank  entry  points  won  lost  tied  age  warrior  author\nno warriors yet\n"
+table_of_none : hill_view none ≡ codes "no warriors yet\n"
 unfolding digits
 table_of_none = refl
 
@@ -52,10 +52,19 @@ two_before = kept_of settings 2 (entered 1 1 (codes "Imp") ∷ entered 2 0 (code
 placed : placed_text (roster two_before) two_left (record { entry = 3; rank = 1; score = 22 })
     ≡ codes "Scanner by koth is warrior 3 of this hill: rank 1 of 2, 22 points\n"
     ++ codes "Imp by koth (entry 1) fell\n"
-    ++ codes "warrior  author  won  lost  tied\n"
-    ++ codes "Dwarf    koth      7     2     1\n"
+    ++ codes "won  lost  tied  warrior  author\n"
+    ++ codes "  7     2     1  Dwarf    koth\n"
 unfolding digits
 placed = refl
+
+-- the first warrior of a hill has no matches
+abbrev alone : Kept
+alone = kept_of settings 1 (entered 1 0 (codes "Imp") ∷ []) ([] ∷ [])
+
+placed_first : placed_text (roster none) alone (record { entry = 1; rank = 1; score = 0 })
+    ≡ codes "Imp by koth is warrior 1 of this hill: rank 1 of 1, 0 points\n"
+unfolding digits
+placed_first = refl
 
 -- an entry that fell, with one point and with more
 fell : (fell_text 21 1 ≡ codes "entry 21 with 1 point fell: it is not on the hill\n")

@@ -2,7 +2,7 @@
 use Rattle.std.specs.Prelude.{ℕ, ◌+◌, ◌==◌, nat_lt, if◌then◌else◌, List, [], ◌∷◌, ◌++◌, drop, map, codes}
 use Rattle.{koth_match.specs.{declared.bout.Bout.Bout, Match.no_rounds}, koth_hill.specs.{Hill.older_points, Kept.Kept}}
 use Rattle.koth_hill.specs.{Kept.{entries_of, table_kept}, Table.RowParts}
-use Rattle.koth_text.specs.{Bout.{rounds_cells, rounds_heading, rounds_sides}, Columns.columns_text, Tally.of_younger}
+use Rattle.koth_text.specs.{Bout.{rounds_cells, rounds_heading, rounds_sides}, Columns.table_text, Tally.of_younger}
 use Rattle.koth_views.specs.Placed.{points_text}
 
 -- the first of these results, if there is one
@@ -38,7 +38,7 @@ challenged_cells k bouts row = rounds_cells row.name row.author (of_younger (bou
 
 -- the matches with the warriors in these rows
 abbrev pub challenged_among : Kept → List Bout → List RowParts → List ℕ
-challenged_among k bouts rows = columns_text rounds_sides (rounds_heading ∷ map (challenged_cells k bouts) rows)
+challenged_among k bouts rows = table_text rounds_sides (rounds_heading ∷ map (challenged_cells k bouts) rows)
 
 -- by the results of a challenger's matches with all on the hill: the matches by rank
 abbrev pub challenged_view : Kept → List Bout → List ℕ

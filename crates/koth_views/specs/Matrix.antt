@@ -1,6 +1,6 @@
 -- The matches on a hill, for people: who won, lost and tied how many rounds against whom.
 use Rattle.std.specs.{Prelude.{ℕ, ◌==◌, if◌then◌else◌, List, [], ◌∷◌, ◌++◌, length, map, codes, decimal}, List.{enumerate_from, range_with_len}}
-use Rattle.{koth_hill.specs.{Kept.{Kept, table_kept}, Table.RowParts}, koth_text.specs.{declared.columns.Alignment.Alignment, declared.tally.Tally.Tally, Columns.columns_text}}
+use Rattle.{koth_hill.specs.{Kept.{Kept, table_kept}, Table.RowParts}, koth_text.specs.{declared.columns.Alignment.Alignment, declared.tally.Tally.Tally, Columns.table_text}}
 use Rattle.koth_views.specs.{Standing.note_of_none, Tally.between}
 
 -- ranks and rounds at the right, names at the left
@@ -29,7 +29,7 @@ matrix_rows k rows shown = map (λ (rank, row). matrix_cells k rows rank row) (e
 
 -- the matches of these rows
 abbrev pub matrix_text : Kept → List RowParts → List ℕ
-matrix_text k rows = columns_text matrix_sides (matrix_heading (length rows) ∷ matrix_rows k rows rows) ++ note_of_none rows
+matrix_text k rows = table_text matrix_sides (matrix_heading (length rows) ∷ matrix_rows k rows rows) ++ note_of_none rows
 
 -- the matches on a hill
 abbrev pub matches_view : Kept → List ℕ

@@ -1,6 +1,6 @@
 -- What became of a warrior that was submitted, for people.
 use Rattle.std.specs.{Prelude.{ℕ, ◌==◌, Bool, true, false, if◌then◌else◌, List, [], ◌∷◌, ◌++◌, length, codes, decimal}, List.flat_map}
-use Rattle.{koth_hill.specs.{Kept.{Kept, table_kept}, Table.RowParts}, koth_text.specs.{Bout.{rounds_cells, rounds_heading, rounds_sides}, Columns.columns_text}}
+use Rattle.{koth_hill.specs.{Kept.{Kept, table_kept}, Table.RowParts}, koth_text.specs.{Bout.{rounds_cells, rounds_heading, rounds_sides}, Columns.table_text}}
 use Rattle.koth_views.specs.{declared.entrants.Entered.Entered, declared.placed.Place.Place, Tally.between}
 
 -- points, in words
@@ -50,7 +50,7 @@ opponent_cells k entry row = if row.entry == entry then [] else rounds_cells row
 
 -- the matches of this entry against the warriors of these rows, from its side
 abbrev pub opponents_text : Kept → ℕ → List RowParts → List ℕ
-opponents_text k entry rows = columns_text rounds_sides (rounds_heading ∷ flat_map (opponent_cells k entry) rows)
+opponents_text k entry rows = table_text rounds_sides (rounds_heading ∷ flat_map (opponent_cells k entry) rows)
 
 -- a warrior that was placed, by who stood before and the rows after it: its place, who fell, and its matches by rank
 abbrev pub placed_among : List Entered → Kept → List RowParts → Place → List ℕ

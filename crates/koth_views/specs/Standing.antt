@@ -1,6 +1,6 @@
 -- The table of a hill, for people.
 use Rattle.std.specs.{Prelude.{ℕ, List, [], ◌∷◌, ◌++◌, map, codes, decimal}, List.enumerate_from}
-use Rattle.{koth_hill.specs.{Kept.{Kept, table_kept}, Table.RowParts}, koth_text.specs.{declared.columns.Alignment.Alignment, declared.tally.Tally.Tally, Columns.columns_text}}
+use Rattle.{koth_hill.specs.{Kept.{Kept, table_kept}, Table.RowParts}, koth_text.specs.{declared.columns.Alignment.Alignment, declared.tally.Tally.Tally, Columns.table_text}}
 use Rattle.koth_views.specs.Tally.{against_all}
 
 -- numbers at the right, texts at the left
@@ -27,7 +27,7 @@ note_of_none (row ∷ rows) = []
 
 -- the table of these rows
 abbrev pub standing_text : Kept → List RowParts → List ℕ
-standing_text k rows = columns_text hill_sides (hill_heading ∷ hill_rows k rows) ++ note_of_none rows
+standing_text k rows = table_text hill_sides (hill_heading ∷ hill_rows k rows) ++ note_of_none rows
 
 -- the table of a hill
 abbrev pub hill_view : Kept → List ℕ

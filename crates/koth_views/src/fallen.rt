@@ -2,7 +2,7 @@
 
 ghost use Rattle.std.specs.Prelude.{◌≡◌, ◌+◌, ◌<◌, ◌≤◌, ◌^◌, ◌++◌, ◌∷◌, drop, nat_lt, if◌then◌else◌, length, map, IfOk, OnOk};
 ghost use Rattle.koth_hill.specs.{Hill.older_points, Kept.entries_of, Rows.{row_parts, rows_parts}};
-ghost use Rattle.koth_text.specs.{Bout.{rounds_heading, rounds_sides}, Columns.columns_text};
+ghost use Rattle.koth_text.specs.{Bout.{rounds_heading, rounds_sides}, Columns.table_text};
 ghost use Rattle.koth_views.specs.Fallen.{bout_of, bout_with, challenged_among, challenged_cells, challenged_view, first_bout};
 ghost use Rattle.koth_views.specs.Fallen.{fallen_among, fallen_view, least_line};
 ghost use Rattle.koth_views.specs.Fallen.{least_with, points_with};
@@ -12,7 +12,7 @@ use crate::tally::{NO_ROUNDS, entry_at};
 use koth_hill::{Hill, Row};
 use koth_match::Bout;
 use koth_text::cells::Cells;
-use koth_text::columns::columns_text;
+use koth_text::columns::table_text;
 use koth_text::counts::{SIDES, cells_of, heading};
 use koth_text::{Line, Tally, put_line};
 use std::alloc::{AllocError, Allocator};
@@ -97,7 +97,7 @@ fn challenged_among<A: Allocator + Copy, B: Allocator>(
     let mut lines = Vec::new(alloc);
     lines.push(heading(alloc)?)?;
     push_matches(alloc, &mut lines, hill, bouts, rows)?;
-    columns_text(alloc, &SIDES, lines.as_slice())
+    table_text(alloc, &SIDES, lines.as_slice())
 }
 
 fn push_matches<A: Allocator, B: Allocator>(

@@ -16,7 +16,7 @@ const SIDES: [Alignment; 2] = [Alignment::Right, Alignment::Left];
 
 /// The matches on a hill with headings: a line for each warrior by rank with its name, and a column for each warrior by rank. A cell
 /// has the rounds that the line's warrior won, lost and tied against the column's, as `45-10-7`, and a dot if the two are one. A hill
-/// without warriors has the headings and the line `no warriors yet`. No match is fought. The error is lack of memory.
+/// without warriors has the line `no warriors yet` alone. No match is fought. The error is lack of memory.
 pub fn matches_view<A: Allocator + Copy, B: Allocator>(
     alloc: A,
     hill: &Hill<B>,

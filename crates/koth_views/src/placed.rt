@@ -9,7 +9,7 @@ use crate::entrants::Entered;
 use crate::tally::between;
 use koth_hill::{Hill, Row};
 use koth_text::cells::Cells;
-use koth_text::columns::columns_text;
+use koth_text::columns::table_text;
 use koth_text::counts::{SIDES, cells_of, heading};
 use koth_text::{Line, put_line};
 use std::alloc::{AllocError, Allocator};
@@ -220,7 +220,7 @@ fn opponents_text<A: Allocator + Copy, B: Allocator>(
     let mut lines = Vec::new(alloc);
     lines.push(heading(alloc)?)?;
     push_opponents(alloc, &mut lines, hill, entry, rows)?;
-    columns_text(alloc, &SIDES, lines.as_slice())
+    table_text(alloc, &SIDES, lines.as_slice())
 }
 
 fn push_opponents<A: Allocator + Copy, B: Allocator>(

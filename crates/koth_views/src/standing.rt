@@ -1,13 +1,13 @@
 //! The table of a hill.
 
 ghost use Rattle.std.specs.Prelude.{◌≡◌, ◌+◌, ◌<◌, ◌^◌, ◌++◌, ◌∷◌, [], length, IfOk, OnOk};
-ghost use Rattle.{koth_hill.specs.Rows.{row_parts, rows_parts}, koth_text.specs.Columns.columns_text};
+ghost use Rattle.{koth_hill.specs.Rows.{row_parts, rows_parts}, koth_text.specs.Columns.table_text};
 ghost use Rattle.koth_views.specs.{Standing.{hill_cells, hill_heading, hill_rows, hill_view, note_of_none, standing_text}, Tally.against_all};
 
 use crate::tally::against_all;
 use koth_hill::{Hill, Row};
 use koth_text::cells::{Cells, named, number, word};
-use koth_text::columns::{Alignment, columns_text};
+use koth_text::columns::{Alignment, table_text};
 use std::alloc::{AllocError, Allocator};
 
 const SIDES: [Alignment; 9] = [
@@ -23,8 +23,8 @@ const SIDES: [Alignment; 9] = [
 ];
 
 /// The table of a hill with headings: a line for each warrior by rank, with its entry, its points, the rounds that it won, lost
-/// and tied against all others on the hill, its age, its name and its author. A hill without warriors has the headings and
-/// the line `no warriors yet`. No match is fought. The error is lack of memory.
+/// and tied against all others on the hill, its age, its name and its author. A hill without warriors has the line
+/// `no warriors yet` alone. No match is fought. The error is lack of memory.
 pub fn hill_view<A: Allocator + Copy, B: Allocator>(
     alloc: A,
     hill: &Hill<B>,
@@ -59,9 +59,9 @@ pub(crate) fn noted_text<A: Allocator + Copy>(
     lines: &[Cells<A>],
     rows: &[Row<'_>],
 ) -> Result<Vec<u8, A>, AllocError>
-    ensures { IfOk result (λ text. text.items ≡ columns_text sides.now lines.now ++ note_of_none (rows_parts rows.now)) }
+    ensures { IfOk result (λ text. text.items ≡ table_text sides.now lines.now ++ note_of_none (rows_parts rows.now)) }
 {
-    let mut text = match columns_text(alloc, sides, lines) {
+    let mut text = match table_text(alloc, sides, lines) {
         Ok(text) => text,
         Err(error) => return Err(error),
     };

@@ -255,6 +255,14 @@ impl<A: Allocator> Arena<A> {
         }
     }
 
+    /// How many turns were made in the round.
+    pub fn used(&self) -> u32
+        ensures value { result ≡ self.now.used }
+        ensures round { IsRound self.now }
+    {
+        self.used
+    }
+
     fn is_over(&self) -> bool
         ensures value { result ≡ is_over self.now }
         ensures round { IsRound self.now }

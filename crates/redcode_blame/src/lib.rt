@@ -6,8 +6,8 @@
 //!
 //! What a line says and stands for is `redcode_asm`'s, so that nothing here can disagree with the assembler.
 //!
-//! Which part of a line is blamed, the sentences, and the refusals after the first are help and no promise: no clause speaks of them, and
-//! tests compare them word for word. Nothing here changes what is refused.
+//! The main clause: `told_faults` answers the faults of `Faults` in `specs`. Which part of a line is blamed, and the sentences are help
+//! and no promise: no clause speaks of them, and tests compare them word for word. Nothing here changes what is refused.
 #![tactic(auto)]
 
 mod blame;
@@ -29,6 +29,6 @@ mod warriors;
 
 pub use blame::{Blame, blame_of};
 pub use copies::{Copied, copy_of};
-pub use judge::further_faults;
+pub use judge::told_faults;
 pub use said::{Part, append_shown, say};
 pub use scene::Scene;

@@ -1,6 +1,7 @@
 -- The refusals that are reported for a source.
-use Rattle.std.specs.Prelude.{◌≡◌, Bool, true, false, List, [], ◌∷◌, Result, Ok, Err}
-use Rattle.war_types.specs.{declared.fault.AsmKind.AsmKind, declared.fault.AsmFault.AsmFault, Warrior.WarriorParts}
+use Rattle.std.specs.Prelude.{◌≡◌, ℕ, Bool, true, false, List, [], ◌∷◌, Result, Ok, Err}
+use Rattle.war_types.specs.{declared.fault.AsmKind.AsmKind, declared.fault.AsmFault.AsmFault, declared.settings.RawSettings.RawSettings, Warrior.WarriorParts}
+use Rattle.redcode_blame.specs.Faults.{faults_of}
 
 -- a fault before others
 abbrev pub IsFirst : AsmFault → List AsmFault → Type 0
@@ -11,11 +12,16 @@ abbrev pub Tells : List AsmFault → Result WarriorParts AsmFault → Type 0
 Tells faults (Ok warrior) = faults ≡ []
 Tells faults (Err fault) = IsFirst fault faults
 
+-- none if the source gives a warrior, and else all that are told after the one that the assembler answers
+abbrev pub TellsAll : RawSettings → List ℕ → List AsmFault → Result WarriorParts AsmFault → Type 0
+TellsAll s source faults (Ok warrior) = faults ≡ []
+TellsAll s source faults (Err fault) = faults ≡ faults_of s source fault
+
 -- memory ran out
 abbrev pub is_memory : AsmKind → Bool
 is_memory AsmKind.Memory = true
 is_memory _ = false
 
--- faults of a source; the first is not that memory ran out
-abbrev pub AreToldFrom : AsmFault → List AsmFault → Type 0
-AreToldFrom fault faults = (is_memory fault.kind ≡ false) × IsFirst fault faults
+-- the faults of a source from this one on, which is not that memory ran out
+abbrev pub AreToldFrom : RawSettings → List ℕ → AsmFault → List AsmFault → Type 0
+AreToldFrom s source fault faults = (is_memory fault.kind ≡ false) × (faults ≡ faults_of s source fault)

@@ -1,11 +1,12 @@
 //! The refusals of a source.
 
 ghost use Rattle.std.specs.Prelude.{◌≡◌, All, IfOk, map};
-ghost use Rattle.{redcode_lines.specs.Place.{IsPlaceIn, line_text}, redcode_asm.specs.Assembly.assembly, redcode_diagnosis.specs.Told.{AreToldFrom, IsFirst, Tells, is_memory}};
+ghost use Rattle.{redcode_lines.specs.Place.{IsPlaceIn, line_text}, redcode_asm.specs.Assembly.assembly, redcode_blame.specs.Faults.{faults_known, faults_of}};
+ghost use Rattle.redcode_diagnosis.specs.Told.{AreToldFrom, Tells, TellsAll, is_memory};
 
 use bumpalo::Bump;
 use redcode_asm::assemble;
-use redcode_blame::{Copied, Scene, blame_of, copy_of, further_faults};
+use redcode_blame::{Copied, Scene, blame_of, copy_of, told_faults};
 use redcode_lines::{line_text, place_in};
 use std::alloc::{AllocError, Allocator};
 use war_types::{AsmFault, AsmKind, Settings};
@@ -36,6 +37,8 @@ pub fn diagnose<A: Allocator + Copy>(
     settings: &Settings,
 ) -> Result<Vec<Diagnosis<A>, A>, AllocError>
     ensures told { IfOk result (λ all. Tells (map (λ d. d.fault) all.items) (assembly settings.now source.now)) }
+    ensures all { IfOk result (λ all.
+        TellsAll settings.now source.now (map (λ d. d.fault) all.items) (assembly settings.now source.now)) }
     ensures placed { IfOk result (λ all. All (λ d. IsPlaceIn (line_text source.now d.fault.line) d.column d.width) all.items) }
 {
     match assemble(alloc, source, settings) {
@@ -51,7 +54,7 @@ fn diagnose_refused<A: Allocator + Copy>(
     settings: &Settings,
     first: AsmFault,
 ) -> Result<Vec<Diagnosis<A>, A>, AllocError>
-    ensures told { IfOk result (λ all. AreToldFrom first (map (λ d. d.fault) all.items)) }
+    ensures told { IfOk result (λ all. AreToldFrom settings.now source.now first (map (λ d. d.fault) all.items)) }
     ensures placed { IfOk result (λ all. All (λ d. IsPlaceIn (line_text source.now d.fault.line) d.column d.width) all.items) }
 {
     if is_memory(first.kind) {
@@ -69,7 +72,7 @@ fn told_within<'s, A: Allocator + Copy>(
     settings: &'s Settings,
     first: AsmFault,
 ) -> Result<Vec<Diagnosis<A>, A>, AllocError>
-    ensures told { IfOk result (λ all. IsFirst first (map (λ d. d.fault) all.items)) }
+    ensures told { IfOk result (λ all. map (λ d. d.fault) all.items ≡ faults_of settings.entry.now source.entry.now first) }
     ensures placed { IfOk result (λ all. All (λ d. IsPlaceIn (line_text source.entry.now d.fault.line) d.column d.width) all.items) }
 {
     let scene = Scene::new(alloc, region, source, settings)?;
@@ -82,10 +85,11 @@ fn told_from<A: Allocator + Copy>(
     source: &[u8],
     first: AsmFault,
 ) -> Result<Vec<Diagnosis<A>, A>, AllocError>
-    ensures told { IfOk result (λ all. IsFirst first (map (λ d. d.fault) all.items)) }
+    ensures told { IfOk result (λ all.
+        map (λ d. d.fault) all.items ≡ faults_known scene.now.settings.now first scene.now.expanded) }
     ensures placed { IfOk result (λ all. All (λ d. IsPlaceIn (line_text source.now d.fault.line) d.column d.width) all.items) }
 {
-    let faults = faults_from(scene, first)?;
+    let faults = told_faults(scene, first)?;
     told_all(scene, source, faults.as_slice())
 }
 
@@ -94,31 +98,6 @@ fn is_memory(kind: AsmKind) -> bool
     ensures { result ≡ is_memory kind }
 {
     matches!(kind, AsmKind::Memory)
-}
-
-/// The first fault, and the faults of the other lines.
-fn faults_from<A: Allocator + Copy>(
-    scene: &Scene<'_, A>,
-    first: AsmFault,
-) -> Result<Vec<AsmFault, A>, AllocError>
-    ensures { IfOk result (λ all. IsFirst first all.items) }
-{
-    let others = further_faults(scene, first)?;
-    before_others(scene.alloc, first, others.as_slice())
-}
-
-/// The first fault, and the others after it.
-fn before_others<A: Allocator>(
-    alloc: A,
-    first: AsmFault,
-    others: &[AsmFault],
-) -> Result<Vec<AsmFault, A>, AllocError>
-    ensures { IfOk result (λ all. IsFirst first all.items) }
-{
-    let mut all = Vec::new(alloc);
-    all.push(first)?;
-    all.extend_from_slice(others)?;
-    Ok(all)
 }
 
 /// These faults, as they are reported to people.

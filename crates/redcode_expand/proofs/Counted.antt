@@ -1,9 +1,9 @@
 -- Each address of a walk is a number of instructions among its lines, and each of an expansion as well.
-use Rattle.std.proofs.Common.{◌≡◌, ℕ, zero, suc, ◌+◌, ◌<◌, Bool, if◌then◌else◌, List, [], ◌∷◌, ◌++◌, length, take, drop, unwrap_or, Option, Some, None, Result, Ok, Err, refl, arith, true}
+use Rattle.std.proofs.Common.{◌≡◌, ℕ, zero, suc, ◌+◌, ◌<◌, Bool, if◌then◌else◌, List, [], ◌∷◌, ◌++◌, length, take, drop, unwrap_or, Option, Some, None, Result, Ok, Err, IfOk, refl, arith, true}
 use Rattle.{std.proofs.Common.{false, nat_lt, sym, ◌∙◌}, std.specs.Bool.⊤, std.proofs.lemmas.List.{take_all, take-append-le, length-append}, std.specs.Str.bytes_eq}
 use Rattle.{war_types.specs.declared.fault.AsmKind.AsmKind, redcode_lines.specs.Source.live_lines, redcode_names.specs.Gives.{◌>>=◌, fault_at}}
 use Rattle.redcode_expand.specs.Walk.{ExpandedLine, WalkState, Begun, begun, begun_as, begun_of, closed, copied, copies, copies_of, counted, equated, labelled, step, step_by, until_end}
-use Rattle.redcode_expand.specs.{Walk.{walk, walk_all, walk_begin, with_line, with_other, with_word, worded}, Laws.{instruction_of, instructions, before_at, IsPlace, AreCounted}}
+use Rattle.redcode_expand.specs.{Walk.{walk, walk_all, walk_begin, with_line, with_other, with_word, worded}, Laws.{instruction_of, instructions, before_at, IsPlace, AreCounted, LabelsStandBehindInstructions}}
 use Rattle.redcode_expand.specs.Expansion.{Expansion, all_replaced, expansion, finished, line_replaced}
 use Rattle.redcode_expand.proofs.Words.{AsmFault, RawSettings, Piece, SourceLine, labels_of, Blocks, Parsed, finish, one_line, block, open_for, parsed, source_lines, Counter, counter_of}
 use Rattle.redcode_expand.proofs.Words.{in_copies, LabelList, Names, all_defined, but_last, defined, equ_line, equ_named, for_labels, address_of, EquList, Word, LineKind, LineForm}
@@ -202,6 +202,13 @@ holds-walk s cs (open_for for) st is = holds-until (λ st. Err (fault_at for.num
 
 pub holds-all : (s : RawSettings) (source : Parsed) → Holds IsCounted (walk_all s source walk_begin)
 holds-all s source = grind (arith, holds-walk)
+
+counts-of : (m : Result WalkState AsmFault) → Holds IsCounted m → IfOk m (λ st. st.before ≡ instructions st.lines)
+counts-of (Ok st) is = is.before
+counts-of (Err fault) is = tt
+
+pub labels-stand : (s : RawSettings) → LabelsStandBehindInstructions s
+labels-stand s = λ source. counts-of (walk_all s source walk_begin) (holds-all s source)
 
 -- ---- the names of EQUs replaced
 

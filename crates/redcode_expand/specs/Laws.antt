@@ -1,8 +1,8 @@
 -- What holds of every walk and of every expansion: a block is its body written out, and addresses count instructions.
-use Rattle.std.specs.Prelude.{◌≡◌, ◌<◌, ◌≤◌, ℕ, ◌+◌, zero, suc, List, [], ◌∷◌, length, take, Some}
+use Rattle.std.specs.Prelude.{◌≡◌, ◌<◌, ◌≤◌, ℕ, ◌+◌, zero, suc, List, [], ◌∷◌, length, take, Some, IfOk}
 use Rattle.{war_types.specs.declared.settings.RawSettings.RawSettings, redcode_lines.specs.{declared.line.LineKind.LineKind, Line.{SourceLine, labels_of}}}
-use Rattle.{redcode_lines.specs.Block.{Blocks, finish, one_line, block, open_for}, redcode_copies.specs.Counter.{Counter, counter_of, in_copy}}
-use Rattle.{redcode_names.specs.{Gives.◌>>=◌, Name.address_of}, redcode_expand.specs.{Walk.{ExpandedLine, WalkState, begun_of, copies, labelled, until_end, walk}, Expansion.Expansion}}
+use Rattle.{redcode_lines.specs.Block.{Blocks, Parsed, finish, one_line, block, open_for}, redcode_copies.specs.Counter.{Counter, counter_of, in_copy}}
+use Rattle.{redcode_names.specs.{Gives.◌>>=◌, Name.address_of}, redcode_expand.specs.{Walk.{ExpandedLine, WalkState, begun_of, copies, labelled, until_end, walk, walk_all, walk_begin}, Expansion.Expansion}}
 use Rattle.redcode_lines.specs.declared.line.LineKind.TheVariants as lines
 
 -- ---- blocks
@@ -43,6 +43,11 @@ pub record IsPlace (lines : List ExpandedLine) (address : ℕ) : Type 0 where
   pub behind : ℕ
   pub within : behind ≤ length lines
   pub counts : address ≡ instructions (take behind lines)
+
+-- whatever is walked over, the number of instructions so far is that of the instructions among its lines: so a label, which gets that number for its
+-- address (`labelled`), stands behind so many instructions
+abbrev pub LabelsStandBehindInstructions : RawSettings → Type 0
+LabelsStandBehindInstructions s = (source : Parsed) → IfOk (walk_all s source walk_begin) (λ st. st.before ≡ instructions st.lines)
 
 -- each line says how many instructions stand before it, and each label's address is such a number
 pub record AreCounted (expanded : Expansion) : Type 0 where

@@ -2,7 +2,7 @@
 
 ghost use Rattle.std.specs.Prelude.{◌≡◌, ◌<◌, ◌≤◌, ◌+◌, ◌^◌, [], length, IfOk, Err};
 ghost use Rattle.{war_types.specs.declared.fault.AsmKind.TheVariants.SourceTooLong, redcode_lines.specs.Block.parsed, redcode_names.specs.Gives.{Gives, fault_at}};
-ghost use Rattle.redcode_expand.specs.{Laws.{AreCounted, BlocksAreWrittenOut}, Expansion.{expansion, address_of, all_replaced, line_replaced, with_names, expansion_of_blocks}, Cut.{shown, with_shown}, Budget.{most_lines, most_steps, steps_of}};
+ghost use Rattle.redcode_expand.specs.{Laws.{AreCounted, BlocksAreWrittenOut, LabelsStandBehindInstructions}, Expansion.{expansion, address_of, all_replaced, line_replaced, with_names, expansion_of_blocks}, Cut.{shown, with_shown}, Budget.{most_lines, most_steps, steps_of}};
 
 use crate::blocks::walk_all;
 use crate::entry::{Entry, joined};
@@ -54,6 +54,7 @@ pub fn expand<'s, A: Allocator + Copy>(
     ensures gives { Gives shown result (with_shown (expansion settings.now source.entry.now)) }
     ensures too_long { 65536 < length source.entry.now → result ≡ Err (fault_at 0 SourceTooLong) }
     ensures written { BlocksAreWrittenOut settings.now }
+    ensures labels { LabelsStandBehindInstructions settings.now }
     ensures counted { IfOk result AreCounted }
 {
     let mut steps = Steps::new(u64::MAX);
@@ -72,6 +73,7 @@ pub fn expand_within<'s, A: Allocator + Copy>(
     ensures gives { Gives shown result (with_shown (expansion settings.now source.entry.now)) }
     ensures too_long { 65536 < length source.entry.now → result ≡ Err (fault_at 0 SourceTooLong) }
     ensures written { BlocksAreWrittenOut settings.now }
+    ensures labels { LabelsStandBehindInstructions settings.now }
     ensures counted { IfOk result AreCounted }
     ensures steps { steps.old ≤ steps.new + most_steps (length source.entry.now) }
     ensures each { IfOk result (λ expanded. length expanded.lines + steps.new ≤ steps.old) }

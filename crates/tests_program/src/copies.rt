@@ -66,15 +66,15 @@ const NO_COPY: [Step; 18] = steps! {
 
 /// What is told of the third that loses at once: it has three points of each match, as both that stay have of theirs.
 const FALLS: &str =
-    "FELL 3 6\nthe lowest that stays has 6 points\nwarrior  author     won  lost  tied\nUnnamed  Anonymous    1     1     0\nUnnamed  Anonymous    1     1     0\n";
+    "FELL 3 6\nthe lowest that stays has 6 points\nwon  lost  tied  warrior  author\n  1     1     0  Unnamed  Anonymous\n  1     1     0  Unnamed  Anonymous\n";
 
 /// And when it is submitted.
 const FELL: &str =
-    "FELL 3 6\nentry 3 with 6 points fell: it is not on the hill\nthe lowest that stays has 6 points\nwarrior  author     won  lost  tied\nUnnamed  Anonymous    1     1     0\nUnnamed  Anonymous    1     1     0\n";
+    "FELL 3 6\nentry 3 with 6 points fell: it is not on the hill\nthe lowest that stays has 6 points\nwon  lost  tied  warrior  author\n  1     1     0  Unnamed  Anonymous\n  1     1     0  Unnamed  Anonymous\n";
 
 /// What is told of one that never loses.
 const STAYS: &str =
-    "PLACED 4 1 6\nwarrior  author     won  lost  tied\nUnnamed  Anonymous    2     0     0\nUnnamed  Anonymous    2     0     0\n";
+    "PLACED 4 1 6\nwon  lost  tied  warrior  author\n  2     0     0  Unnamed  Anonymous\n  2     0     0  Unnamed  Anonymous\n";
 
 /// What is done in `a_submission_that_is_tried`: it is answered as it is when it is submitted then.
 const TRIED: [Step; 18] = steps! {

@@ -81,6 +81,31 @@ fn the_older_source_is_refused_first(rt: HostRuntime) {
     play(&rt, &THE_OLDER_SOURCE_IS_REFUSED_FIRST);
 }
 
+/// What is done in `one_against_many`: a warrior that stays, against one that dies, one that stays, and files that have no warrior.
+const ONE_AGAINST_MANY: [Step; 13] = steps! {
+    Put("many_mine.red", "JMP 0\n");
+    Put("many_dat.red", "DAT 0,0\n");
+    Put("many_typo.red", "JMP\n");
+    Run(small!("koth fight many_mine.red many_dat.red many_mine.red"), "2 0 0 6 many_dat.red\n0 0 2 2 many_mine.red\n2 0 2 8\n", "", 0);
+    Run(small!("koth fight many_dat.red many_mine.red many_dat.red"), "0 2 0 0 many_mine.red\n1 1 0 3 many_dat.red\n1 3 0 3\n", "", 0);
+    Run(small!("koth fight many_dat.red many_mine.red", " --both"), "0 4 0 0 many_mine.red\n0 4 0 0\n", "", 0);
+    Run(small!("koth fight many_mine.red many_typo.red many_dat.red"), "2 0 0 6 many_dat.red\n2 0 0 6\n", "", 1);
+    Run(small!("koth fight many_mine.red many_none.red many_dat.red"), "2 0 0 6 many_dat.red\n2 0 0 6\n", "DISK many_none.red: no such file or folder\n", 1);
+    Run(small!("koth fight many_typo.red many_mine.red many_dat.red"), "REFUSED 1 MissingOperand\n", "", 1);
+    Run(small!("koth fight many_none.red many_mine.red many_dat.red"), "", "DISK many_none.red: no such file or folder\n", 3);
+    Run(small!("koth fight many_mine.red many_dat.red", " --each"), "1 1 11 A A 2\n2 16807 32 B A 1\n", "", 0);
+    Run(small!("koth fight many_dat.red many_mine.red", " --each"), "1 1 11 A B 1\n2 16807 32 B B 2\n", "", 0);
+    Tell(small!("koth replay many_mine.red many_dat.red", " --lost"), View::Plain, "", "none of the 2 rounds is lost by A\n", 1);
+};
+
+#[test]
+fn one_against_many(rt: HostRuntime) {
+    play(&rt, &ONE_AGAINST_MANY);
+    for name in ["many_mine.red", "many_dat.red", "many_typo.red"] {
+        remove(&rt, name);
+    }
+}
+
 /// A fight of which a file is missing.
 fn check_missing(rt: &(impl Abort + Host)) {
     let ran = run_line(rt, small!("koth fight first.red second.red"));

@@ -99,7 +99,7 @@ const COLUMNS_FOR_PEOPLE: [Step; 11] = steps! {
     Put("told_jmp.red", ";name Jmp\nJMP 0\n");
     Run("koth submit told.hill told_dat.red", "PLACED 1 1 0\n", "", 0);
     Tell("koth submit told.hill told_jmp.red", View::Table,
-        "PLACED 2 1 6\nJmp by Anonymous is warrior 2 of this hill: rank 1 of 2, 6 points\nwarrior  author     won  lost  tied\nDat      Anonymous    2     0     0\n",
+        "PLACED 2 1 6\nJmp by Anonymous is warrior 2 of this hill: rank 1 of 2, 6 points\nwon  lost  tied  warrior  author\n  2     0     0  Dat      Anonymous\n",
         "", 0);
     Tell("koth show told.hill --table", View::Plain,
         "rank  entry  points  won  lost  tied  age  warrior  author\n   1      2       6    2     0     0    0  Jmp      Anonymous\n   2      1       0    0     2     0    1  Dat      Anonymous\n",
@@ -107,7 +107,7 @@ const COLUMNS_FOR_PEOPLE: [Step; 11] = steps! {
     Tell("koth show told.hill --plain", View::Table, "1 2 6 0 Jmp by Anonymous\n2 1 0 1 Dat by Anonymous\n.\n", "", 0);
     Tell("koth fight told_dat.red told_jmp.red --core=64 --cycles=100 --processes=8 --length=10 --distance=10 --rounds=2",
         View::Table,
-        "warrior  author     won  lost  tied\nDat      Anonymous    0     2     0\nJmp      Anonymous    2     0     0\n", "", 0);
+        "won  lost  tied  warrior  author\n  0     2     0  Dat      Anonymous\n  2     0     0  Jmp      Anonymous\n", "", 0);
     Remove("told.hill");
     Remove("told_dat.red");
     Remove("told_jmp.red");

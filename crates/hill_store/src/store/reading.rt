@@ -2,7 +2,7 @@
 
 ghost use Rattle.std.specs.Prelude.{◌≡◌, ◌⊎◌, ◌-◌, ◌^◌, ◌<◌, false, IfErr, IfOk, OnOk};
 ghost use Rattle.{war_types.specs.Warrior.Fits, koth_hill.specs.Kept.verdict_kept, sector_disk.specs.{Image.Images, Served.IsKept}};
-ghost use Rattle.{hill_images.specs.{Opening.HoldsNone, Stands.Reads}, hill_store.specs.{Opened.IsNotTaken, Read.{IsCopied, IsTried}}};
+ghost use Rattle.{hill_images.specs.{Opening.{HoldsNone, IsUnfaulted}, Stands.Reads}, hill_store.specs.{Opened.IsNotTaken, Read.{IsCopied, IsTried}}};
 
 use crate::reply::Reply;
 use crate::store::{Store, assembled, refused};
@@ -61,6 +61,7 @@ impl<D: Device, A: Allocator> Store<D, A> {
         ensures faultless { OnOk result (N.facts.faults new.new ≡ N.facts.faults new.old) }
         ensures copied { OnOk result (IsCopied N.facts self.now.hill self.now.generation new.old new.new) }
         ensures refused { IfErr result (IsNotTaken N.facts new.old self.now.hill new.new) }
+        ensures unfaulted { IfErr result (IsUnfaulted N.facts new.old new.new) }
         ensures fresh { N.facts.lawful new.old → Images (N.facts.disk new.old) HoldsNone
             → Images (N.facts.disk new.new) (λ image. HoldsNone image ⊎ Reads (N.facts.size new.new) image self.now.hill) }
     {

@@ -123,3 +123,6 @@ returns-in-Err-clause-same g c = λ lawful. refl
 
 pub returns-clause-faultless : goal.returns-clause-faultless
 returns-clause-faultless g c = c.loop-i.invariant.faultless
+
+pub returns-in-Err-read_warrior-clause-unfaulted : goal.returns-in-Err-read_warrior-clause-unfaulted
+returns-in-Err-read_warrior-clause-unfaulted g c = λ is. c.in-Err-read_warrior.ensures.unfaulted is ∙ c.loop-i.invariant.faultless

@@ -12,15 +12,13 @@ returns-in-Ok g c =
 
 pub returns-in-Err : goal.returns-in-Err
 returns-in-Err g c =
-    let input = g.I.Read.remaining c.args.input.now in
-    let output = g.O.Write.contents c.args.output.now in
-    let names = subst (λ given. names_hill given ≡ true) c.given.ensures c.in-Err.ensures.unreadable in (
+    let names = subst (λ given. names_hill given ≡ true) c.given.ensures c.in-Err.ensures.unreadable.0 in (
       unsettled_ends (given_of c.args.request.now) _ _ _ _ names record {
-        fault = c.in-Err.trouble.fault;
-        ends = c.tell.ensures.status;
-        input = Keeps-refl input;
-        output = Keeps-refl output;
-        told = c.tell.ensures.told;
+        trouble = c.in-Err.trouble;
+        of_hill = c.in-Err.ensures.unreadable.1;
+        input = Keeps-refl (g.I.Read.remaining c.args.input.now);
+        output = Keeps-refl (g.O.Write.contents c.args.output.now);
+        told = c.tell.ensures;
       },
-      λ is. never-words c.in-Err.trouble.fault (sym c.tell.ensures.status ∙ is),
+      λ is. never-words c.in-Err.trouble.fault (sym c.tell.ensures.ends ∙ is),
     )

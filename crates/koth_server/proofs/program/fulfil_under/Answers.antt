@@ -1,63 +1,35 @@
 -- Each command ends as its request says, and none of them ends as at a fault of the arguments.
-use Rattle.{std.proofs.Common.length, war_types.specs.Settings.settings_of, koth_commands.specs.Streams.streams}
-use Rattle.koth_server.proofs.Carried.{asm_no_word, check_no_word, fight_no_word, replay_no_word, request_ends}
+use Rattle.{std.proofs.Common.{ap, subst, sym}, war_types.specs.Settings.settings_of, koth_commands.specs.{Check.names_of, Report.manner_of, Streams.{From, is_input, streams}}}
+use Rattle.koth_keeping.specs.{Answers.{Answers, SaysLine}, Audit.SaysAudit, Copies.{MayReseed, SaysCopied}, Created.MayCreate, Migration.migrated_line}
+use Rattle.koth_server.specs.{Hills.{AnswersSource, SaysReply, SaysShown, TellsNote, sight_of}, Page.SaysPage, Run.viewed, Trials.SaysTrial}
+use Rattle.koth_server.proofs.{Carried.{asm_no_word, check_no_word, fight_no_word, replay_no_word, request_ends}, Performed.{noted, of_source, plain}}
+use Rattle.koth_server.proofs.Statuses.{audited, copied, created, migrated, paged, replied, reseeded, shown, tried}
+use Rattle.koth_server.proofs.program.fulfil_under.Goals.{in-Create, in-Migrate, in-Submit, in-Try, in-Show, in-Page, in-Audit, in-Copy, in-Reseed}
 use Rattle.koth_server.proofs.program.fulfil_under.Goals as goal
 
 pub returns-in-Asm : goal.returns-in-Asm
 returns-in-Asm g c =
     let after = streams (g.I.Read.remaining c.asm.new.input) (g.O.Write.contents c.asm.new.output) (g.E.Write.contents c.asm.new.errors) in
-    let words = asm_no_word c.in-Asm.source (settings_of c.args.settings) c.asm.result _ after c.asm.ensures in
+    let words = asm_no_word (is_input c.in-Asm.source) (settings_of c.args.settings) c.asm.result _ after c.asm.ensures in
     request_ends c.args.settings c.args.view _ _ _ _ after c.in-Asm.is c.asm.ensures words
 
 pub returns-in-Check : goal.returns-in-Check
 returns-in-Check g c =
-    let after = streams (g.I.Read.remaining c.args.input.now) (g.O.Write.contents c.check.new.output) (g.E.Write.contents c.check.new.errors) in
-    let words = check_no_word (length c.in-Check.checked.files.items) (settings_of c.args.settings) c.check.result _ _ c.check.ensures in
+    let after = streams (g.I.Read.remaining c.check.new.input) (g.O.Write.contents c.check.new.output) (g.E.Write.contents c.check.new.errors) in
+    let words = check_no_word (manner_of c.in-Check.checked) (names_of c.in-Check.checked) (settings_of c.args.settings) c.check.result _ _ c.check.ensures in
     request_ends c.args.settings c.args.view _ _ _ _ after c.in-Check.is c.check.ensures words
 
 pub returns-in-Fight : goal.returns-in-Fight
 returns-in-Fight g c =
     let after = streams (g.I.Read.remaining c.args.input.now) (g.O.Write.contents c.fight.new.output) (g.E.Write.contents c.fight.new.errors) in
-    let ends = rw c.viewed.ensures at c.fight.ensures in
-    let words = fight_no_word c.viewed.result (settings_of c.args.settings) c.fight.result _ _ c.fight.ensures in
+    let ends = rw c.viewed-view.ensures at c.fight.ensures in
+    let words = fight_no_word c.viewed-view.result (settings_of c.args.settings) c.fight.result _ _ c.fight.ensures in
     request_ends c.args.settings c.args.view _ _ _ _ after c.in-Fight.is ends words
-
-pub returns-in-Create : goal.returns-in-Create
-returns-in-Create g c =
-    let after = streams (g.I.Read.remaining c.args.input.now) (g.O.Write.contents c.create.new.output) (g.E.Write.contents c.create.new.errors) in
-    request_ends c.args.settings c.args.view _ _ _ _ after c.in-Create.is c.create.ensures.ends c.create.ensures.words
-
-pub returns-in-Submit : goal.returns-in-Submit
-returns-in-Submit g c =
-    let after = streams (g.I.Read.remaining c.args.input.now) (g.O.Write.contents c.submit.new.output) (g.E.Write.contents c.submit.new.errors) in
-    let ends = rw c.viewed-view.ensures at c.submit.ensures.ends in
-    request_ends c.args.settings c.args.view _ _ _ _ after c.in-Submit.is (_, c.tell_lost_header.ensures, ends) c.submit.ensures.words
-
-pub returns-in-Show : goal.returns-in-Show
-returns-in-Show g c =
-    let after = streams (g.I.Read.remaining c.args.input.now) (g.O.Write.contents c.show.new.output) (g.E.Write.contents c.show.new.errors) in
-    let ends = rw c.viewed-view-in-Show.ensures at c.show.ensures.ends in
-    request_ends c.args.settings c.args.view _ _ _ _ after c.in-Show.is (_, c.tell_lost_header-in-Show.ensures, ends) c.show.ensures.words
-
-pub returns-in-Audit : goal.returns-in-Audit
-returns-in-Audit g c =
-    let after = streams (g.I.Read.remaining c.args.input.now) (g.O.Write.contents c.audit.new.output) (g.E.Write.contents c.audit.new.errors) in
-    request_ends c.args.settings c.args.view _ _ _ _ after c.in-Audit.is (_, c.tell_lost_header-in-Audit.ensures, c.audit.ensures.ends) c.audit.ensures.words
-
-pub returns-in-Migrate : goal.returns-in-Migrate
-returns-in-Migrate g c =
-    let after = streams (g.I.Read.remaining c.args.input.now) (g.O.Write.contents c.migrate.new.output) (g.E.Write.contents c.migrate.new.errors) in
-    request_ends c.args.settings c.args.view _ _ _ _ after c.in-Migrate.is c.migrate.ensures.ends c.migrate.ensures.words
-
-pub returns-in-Page : goal.returns-in-Page
-returns-in-Page g c =
-    let after = streams (g.I.Read.remaining c.args.input.now) (g.O.Write.contents c.page.new.output) (g.E.Write.contents c.page.new.errors) in
-    request_ends c.args.settings c.args.view _ _ _ _ after c.in-Page.is (_, c.tell_lost_header-in-Page.ensures, c.page.ensures.ends) c.page.ensures.words
 
 pub returns-in-Serve : goal.returns-in-Serve
 returns-in-Serve g c =
     let after = streams (g.I.Read.remaining c.args.input.now) (g.O.Write.contents c.serve.new.output) (g.E.Write.contents c.serve.new.errors) in
-    request_ends c.args.settings c.args.view _ _ _ _ after c.in-Serve.is (_, c.tell_lost_header-in-Serve.ensures, c.serve.ensures.ends) c.serve.ensures.words
+    request_ends c.args.settings c.args.view _ _ _ _ after c.in-Serve.is (_, c.tell_lost_header.ensures, c.serve.ensures.ends) c.serve.ensures.words
 
 pub returns-in-Replay : goal.returns-in-Replay
 returns-in-Replay g c =
@@ -65,18 +37,61 @@ returns-in-Replay g c =
     let words = replay_no_word c.in-Replay.watched.round (settings_of c.args.settings) c.replay.result _ _ c.replay.ensures in
     request_ends c.args.settings c.args.view _ _ _ _ after c.in-Replay.is c.replay.ensures words
 
-pub returns-in-Try : goal.returns-in-Try
-returns-in-Try g c =
-    let after = streams (g.I.Read.remaining c.args.input.now) (g.O.Write.contents c.try_submission.new.output) (g.E.Write.contents c.try_submission.new.errors) in
-    let ends = rw c.viewed-view-in-Try.ensures at c.try_submission.ensures.ends in
-    request_ends c.args.settings c.args.view _ _ _ _ after c.in-Try.is (_, c.tell_lost_header-in-Try.ensures, ends) c.try_submission.ensures.words
-
-pub returns-in-Copy : goal.returns-in-Copy
-returns-in-Copy g c =
-    let after = streams (g.I.Read.remaining c.args.input.now) (g.O.Write.contents c.copy.new.output) (g.E.Write.contents c.copy.new.errors) in
-    request_ends c.args.settings c.args.view _ _ _ _ after c.in-Copy.is (_, c.tell_lost_header-in-Copy.ensures, c.copy.ensures.ends) c.copy.ensures.words
-
-pub returns-in-Reseed : goal.returns-in-Reseed
-returns-in-Reseed g c =
-    let after = streams (g.I.Read.remaining c.args.input.now) (g.O.Write.contents c.reseed.new.output) (g.E.Write.contents c.reseed.new.errors) in
-    request_ends c.args.settings c.args.view _ _ _ _ after c.in-Reseed.is (_, c.tell_lost_header-in-Reseed.ensures, c.reseed.ensures.ends) c.reseed.ensures.words
+pub returns : goal.returns
+returns g c =
+    let i = g.I.Read.remaining c.args.input.now in
+    let j = g.I.Read.remaining c.match-request.input in
+    let o = g.O.Write.contents c.args.output.now in
+    let p = g.O.Write.contents c.deliver.new.output in
+    let e = g.E.Write.contents c.args.errors.now in
+    let n = g.E.Write.contents c.match-request.errors in
+    let f = g.E.Write.contents c.deliver.new.errors in
+    let done = c.match-request.done in
+    let s = c.args.settings in
+    let v = c.args.view in
+    elim c.match-request.branch [
+      | in-Create w ↦
+          let files = w.in-Create.creation in
+          plain s v _ _ _ i j o p e n f done _ w.in-Create.is w.done-is c.deliver.ensures (MayCreate files.draw_seed s) (created files.draw_seed s)
+          (ap (λ x. g.E.Write.contents x) w.errors-is) (λ ends. ends) w.perform_create-done.ensures
+      | in-Migrate w ↦
+          plain s v _ _ _ i j o p e n f done _ w.in-Migrate.is w.done-is c.deliver.ensures (Answers (SaysLine migrated_line)) migrated
+          (ap (λ x. g.E.Write.contents x) w.errors-is) (λ ends. ends) w.perform_migrate-done.ensures
+      | in-Submit w ↦
+          let shown = viewed w.in-Submit.files.view v in
+          let of_input = is_input w.in-Submit.files.source in
+          let may = subst (λ x. From of_input (λ a b. AnswersSource (SaysReply x) a b w.perform_submit-done.result) i (g.I.Read.remaining w.perform_submit-done.new.input))
+          w.viewed-view-in-Submit.ensures w.perform_submit-done.ensures in
+          of_source s v _ _ _ i j o p e n f done _ w.in-Submit.is w.done-is c.deliver.ensures of_input (SaysReply shown) (replied of_input shown i j)
+          (subst (λ x. TellsNote e (g.E.Write.contents x)) (sym w.errors-is) w.tell_lost_header-in-Submit.ensures) (λ ends. ends)
+          (subst (λ x. From of_input (λ a b. AnswersSource (SaysReply shown) a b w.perform_submit-done.result) i (g.I.Read.remaining x)) (sym w.input-is) may)
+      | in-Try w ↦
+          let shown = viewed w.in-Try.files.view v in
+          let of_input = is_input w.in-Try.files.source in
+          let may = subst (λ x. From of_input (λ a b. AnswersSource (SaysTrial x) a b w.perform_try-done.result) i (g.I.Read.remaining w.perform_try-done.new.input))
+          w.viewed-view-in-Try.ensures w.perform_try-done.ensures in
+          of_source s v _ _ _ i j o p e n f done _ w.in-Try.is w.done-is c.deliver.ensures of_input (SaysTrial shown) (tried of_input shown i j)
+          (subst (λ x. TellsNote e (g.E.Write.contents x)) (sym w.errors-is) w.tell_lost_header-in-Try.ensures) (λ ends. ends)
+          (subst (λ x. From of_input (λ a b. AnswersSource (SaysTrial shown) a b w.perform_try-done.result) i (g.I.Read.remaining x)) (sym w.input-is) may)
+      | in-Show w ↦
+          let sight = sight_of w.in-Show.shown in
+          let asked = viewed w.in-Show.shown.view v in
+          noted s v _ _ _ i j o p e n f done _ w.in-Show.is w.done-is c.deliver.ensures (Answers (SaysShown asked sight)) (shown asked sight)
+          (subst (λ x. TellsNote e (g.E.Write.contents x)) (sym w.errors-is) w.tell_lost_header-in-Show.ensures) (λ ends. ends)
+          (subst (λ x. Answers (SaysShown x sight) w.perform_show-done.result) w.viewed.ensures w.perform_show-done.ensures)
+      | in-Page w ↦
+          noted s v _ _ _ i j o p e n f done _ w.in-Page.is w.done-is c.deliver.ensures (Answers SaysPage) paged
+          (subst (λ x. TellsNote e (g.E.Write.contents x)) (sym w.errors-is) w.tell_lost_header-in-Page.ensures) (λ ends. ends) w.perform_page-done.ensures
+      | in-Audit w ↦
+          let asked = viewed w.in-Audit.audited.view v in
+          noted s v _ _ _ i j o p e n f done _ w.in-Audit.is w.done-is c.deliver.ensures (Answers (SaysAudit asked)) (audited asked)
+          (subst (λ x. TellsNote e (g.E.Write.contents x)) (sym w.errors-is) w.tell_lost_header-in-Audit.ensures) (λ ends. ends)
+          (subst (λ x. Answers (SaysAudit x) w.perform_audit-done.result) w.viewed-in-Audit.ensures w.perform_audit-done.ensures)
+      | in-Copy w ↦
+          let asked = w.in-Copy.files.audit in
+          noted s v _ _ _ i j o p e n f done _ w.in-Copy.is w.done-is c.deliver.ensures (Answers (SaysCopied asked)) (copied asked)
+          (subst (λ x. TellsNote e (g.E.Write.contents x)) (sym w.errors-is) w.tell_lost_header-in-Copy.ensures) (λ ends. ends) w.perform_copy-done.ensures
+      | in-Reseed w ↦
+          noted s v _ _ _ i j o p e n f done _ w.in-Reseed.is w.done-is c.deliver.ensures MayReseed reseeded
+          (subst (λ x. TellsNote e (g.E.Write.contents x)) (sym w.errors-is) w.tell_lost_header-in-Reseed.ensures) (λ ends. ends) w.perform_reseed-done.ensures
+    ]

@@ -1,6 +1,6 @@
 use Rattle.{std.proofs.Common.{◌≡◌, ℕ, ◌≤◌, List, Result, length, le-ltb, sym, ap, subst, ◌∙◌}, war_types.specs.{declared.settings.RawSettings.RawSettings, declared.fault.AsmFault.AsmFault}}
 use Rattle.{redcode_lines.specs.{Source.{NumberedLine, lines_of, numbered_from, live_lines}, Line.SourceLine, Block.{parsed, source_lines}}, redcode_names.specs.Gives.Gives}
-use Rattle.{redcode_expand.specs.{Expansion.{Expansion, expansion, expansion_of_blocks}, Cut.{shown, with_shown}}, redcode_expand.proofs.{Budget.most-within, Shown.if-counted, WrittenOut.blocks-written}}
+use Rattle.{redcode_expand.specs.{Expansion.{Expansion, expansion, expansion_of_blocks}, Cut.{shown, with_shown}}, redcode_expand.proofs.{Budget.most-within, Counted.labels-stand, Shown.if-counted, WrittenOut.blocks-written}}
 use Rattle.redcode_expand.proofs.expanded.expand_within.Goals as goal
 
 -- the result of the walk over all lines is due
@@ -22,14 +22,23 @@ returns-clause-gives g c =
 pub returns-clause-written : goal.returns-clause-written
 returns-clause-written g c = blocks-written c.args.settings.now
 
+pub returns-clause-labels : goal.returns-clause-labels
+returns-clause-labels g c = labels-stand c.args.settings.now
+
 pub returns-clause-counted : goal.returns-clause-counted
 returns-clause-counted g c = if-counted c.args.settings.now c.args.source.now c.expanded_lines.result (returns-clause-gives g c)
 
 pub returns-then-source-gt-SOURCE_LIMIT-clause-written : goal.returns-then-source-gt-SOURCE_LIMIT-clause-written
 returns-then-source-gt-SOURCE_LIMIT-clause-written g c = blocks-written c.args.settings.now
 
+pub returns-then-source-gt-SOURCE_LIMIT-clause-labels : goal.returns-then-source-gt-SOURCE_LIMIT-clause-labels
+returns-then-source-gt-SOURCE_LIMIT-clause-labels g c = labels-stand c.args.settings.now
+
 pub returns-in_err-lines-clause-written : goal.returns-in_err-lines-clause-written
 returns-in_err-lines-clause-written g c = blocks-written c.args.settings.now
+
+pub returns-in_err-lines-clause-labels : goal.returns-in_err-lines-clause-labels
+returns-in_err-lines-clause-labels g c = labels-stand c.args.settings.now
 
 pub returns-clause-steps : goal.returns-clause-steps
 returns-clause-steps g c =

@@ -2,7 +2,7 @@ use Rattle.{std.proofs.Common.{◌≡◌, ◌<◌, ◌⊎◌, ◌+◌, ◌-◌, 
 use Rattle.{war_types.specs.Warrior.Fits, koth_hill.specs.Kept.{IsKept as IsKeptHill, step_kept, verdict_kept}, sector_disk.specs.{Changes.{after, Begun}, Image.Images, Served.IsKept}}
 use Rattle.{sector_disk.proofs.Kept.kept_where_served, hill_bytes.specs.{declared.header.HeaderEntry.HeaderEntry, Layout.HeaderParts}}
 use Rattle.{hill_images.specs.{Stands.Reads, Named.IsSound, Places.header_placed}, hill_images.proofs.{Nexts.slots_low, Exits.{admit_header, admit_sound, admit_cut, admit_reads}}}
-use Rattle.{hill_store.specs.Seen.{Seen, seen, Challenges}, hill_store.proofs.{Replies.answers, Written.{may_admit, places_are, results_are, results_each}}}
+use Rattle.{hill_store.specs.Seen.{Seen, seen, Challenges}, hill_store.proofs.{Newest.sound_newest, Replies.answers, Written.{may_admit, places_are, results_are, results_each}}}
 use Rattle.hill_store.proofs.store.Store.admit.Goals as goal
 
 pub header_placed-header-requires : goal.header_placed-header-requires
@@ -32,6 +32,10 @@ returns-in-Ok-clause-challenges g c =
       generation = ap (λ (h : HeaderParts). h.generation) c.header_placed-header.ensures ∙ ap (λ (s : Seen _). s.generation + 1) c.self.view_is;
       faultless = c.in-Ok.ensures.served.ok refl ∙ ap (λ (s : Seen _). g.D.Device.facts.faults s.device) c.self.view_is;
       open_still = ap (λ (s : Seen _). s.reopen) c.self.view_is ∙ c.requires.is_open;
+      newest = λ lawful.
+          sound_newest g.D.Device.facts c.place.new.device c.header_placed-header.result c.admit.new.self c.self.inside.arena.settings c.self.inside.reopen (invariant_of-self g c)
+          (ap (λ (s : Seen _). s.reopen) c.self.view_is ∙ c.requires.is_open)
+          (c.in-Ok.ensures.served.same_laws.1 (subst (λ (s : Seen _). g.D.Device.facts.lawful s.device) (sym c.self.view_is) lawful));
       reads = λ lawful.
           subst (λ (s : Seen _). Images (g.D.Device.facts.disk c.place.new.device) (λ image. Reads (g.D.Device.facts.size c.place.new.device) image (step_kept s.hill c.args.warrior))) c.self.view_is
           (admit_reads g.D.Device.facts c.self.inside.device c.place.new.device c.self.inside.header c.self.inside.hill c.self.inside.arena.settings c.self.inside.reopen c.args.warrior c.args.judged.now c.free_slot-slot.result

@@ -1,6 +1,6 @@
-use Rattle.{std.proofs.Common.{◌<◌, ◌≤◌, ap, arith, refl, sym, subst}, war_types.specs.declared.settings.RawSettings.RawSettings, hill_bytes.specs.Layout.sectors_for}
+use Rattle.{std.proofs.Common.{◌<◌, ◌≤◌, false, ap, arith, refl, sym, subst}, war_types.specs.declared.settings.RawSettings.RawSettings, hill_bytes.specs.Layout.sectors_for}
 use Rattle.{hill_images.specs.declared.refusal.Refusal.Refusal, hill_images.proofs.Submitted.ready_reads, hill_store.specs.{Opened.IsReadOf, declared.migration.MigrateSide.MigrateSide}}
-use Rattle.hill_store.proofs.Moving.{moved, not_migrated_by, taken_or_not, too_small, unmoved}
+use Rattle.hill_store.proofs.{Moving.{moved, not_migrated_by, taken_or_not, too_small, unmoved}, Newest.sound_newest}
 use Rattle.hill_store.proofs.store.Store.migrate.Goals as goal
 
 pub returns-in-Err-clause-refused : goal.returns-in-Err-clause-refused
@@ -29,13 +29,19 @@ returns-then-sectors-sectors_for-clause-holds g c = λ s. λ sources. λ more. �
 
 pub returns-in-Err-write_hill-clause-refused : goal.returns-in-Err-write_hill-clause-refused
 returns-in-Err-write_hill-clause-refused g c =
+    let enough : sectors_for c.in-Ok.found.header.settings.capacity ≤ g.D.Device.facts.size c.args.new =
+    omega (arith, c.if-sectors-sectors_for.false, c.sectors.ensures, c.sectors_for.ensures, c.capacity.ensures.value, ap (λ (s : RawSettings). s.capacity) c.settings.ensures.value) in
     let read : IsReadOf g.O.Device.facts c.args.old c.recover.new.device c.in-Ok.found.hill = record {
       faultless = c.in-Ok.ensures.faultless;
       synced_now = c.in-Ok.ensures.found.synced_now;
       reads_as = λ lawful. record { header = c.in-Ok.found.header; shows = c.in-Ok.ensures.found.shows lawful; room = c.in-Ok.ensures.found.room };
     } in
-    not_migrated_by g.O.Device.facts g.D.Device.facts c.args.old c.recover.new.device c.args.new c.write_hill.new.device c.in-Err-write_hill.refusal MigrateSide.New c.fault_of-in-Err-write_hill.result c.fault_of-in-Err-write_hill.ensures.side c.fault_of-in-Err-write_hill.ensures.refusal
-    (c.in-Ok.found.hill, read, taken_or_not g.D.Device.facts c.args.new c.write_hill.new.device c.in-Ok.found.hill c.in-Err-write_hill.refusal c.in-Err-write_hill.ensures.refused)
+    not_migrated_by g.O.Device.facts g.D.Device.facts c.args.old c.recover.new.device c.args.new c.write_hill.new.device c.in-Err-write_hill.refusal MigrateSide.New c.fault_of-in-Err-write_hill.result c.fault_of-in-Err-write_hill.ensures.side c.fault_of-in-Err-write_hill.ensures.refusal (
+      c.in-Ok.found.hill,
+      read,
+      taken_or_not g.D.Device.facts c.args.new c.write_hill.new.device c.in-Ok.found.hill c.in-Err-write_hill.refusal
+          (subst (λ (s : RawSettings). sectors_for s.capacity ≤ g.D.Device.facts.size c.args.new) c.in-Ok.ensures.found.sound.named.settings enough) c.in-Err-write_hill.ensures.refused,
+    )
 
 pub returns-in-Err-write_hill-clause-holds : goal.returns-in-Err-write_hill-clause-holds
 returns-in-Err-write_hill-clause-holds g c = λ s. λ sources. λ more. λ lawful_old. λ lawful_new. λ holds.
@@ -65,6 +71,9 @@ returns-in-Ok-write_hill-clause-migrated g c = record {
   open_now = refl;
   faultless = c.in-Ok-write_hill.ensures.faultless;
   was_none = c.in-Ok-write_hill.ensures.written.was_none;
+  newest = λ lawful.
+      sound_newest g.D.Device.facts c.write_hill.new.device c.in-Ok.found.header c.in-Ok.found.hill c.in-Ok.found.arena.settings false (invariant_of-store g c) refl
+      (c.in-Ok-write_hill.ensures.kept.same_laws.1 lawful);
   reads = λ lawful. ready_reads (g.D.Device.facts.size c.write_hill.new.device) (g.D.Device.facts.disk c.write_hill.new.device) c.in-Ok.found.header c.in-Ok.found.hill (invariant_of-store g c).room
       (c.in-Ok-write_hill.ensures.written.ready lawful);
 }

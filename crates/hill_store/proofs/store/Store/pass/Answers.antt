@@ -1,7 +1,7 @@
 use Rattle.{std.proofs.Common.{◌≡◌, ◌<◌, ◌⊎◌, ◌+◌, ◌-◌, ◌^◌, refl, sym, ap, ◌∙◌, subst}, koth_hill.specs.Kept.{IsKept as IsKeptHill, hill_in, kept_fall, step_kept}}
 use Rattle.{koth_hill.proofs.RowsKept.IsKept-fall, sector_disk.specs.{Changes.{after, Begun}, Image.Images, Served.IsKept}, sector_disk.proofs.Kept.kept_where_served}
 use Rattle.{hill_bytes.specs.Layout.{HeaderParts, new_layout}, hill_images.specs.{Stands.Reads, Named.IsSound, Places.{header_passed, commits}}, hill_images.proofs.Submitted.hill_passed}
-use Rattle.{hill_images.proofs.Exits.{pass_header, pass_sound, pass_reads, pass_step, pass_cut}, hill_store.specs.Seen.{Seen, seen, Challenges}, hill_store.proofs.Replies.answers}
+use Rattle.{hill_images.proofs.Exits.{pass_header, pass_sound, pass_reads, pass_step, pass_cut}, hill_store.specs.Seen.{Seen, seen, Challenges}, hill_store.proofs.{Newest.sound_newest, Replies.answers}}
 use Rattle.hill_store.proofs.store.Store.pass.Goals as goal
 
 pub header_passed-header-requires : goal.header_passed-header-requires
@@ -33,6 +33,10 @@ returns-in-Ok-clause-challenges g c = λ w. λ judged_is.
       generation = ap (λ (h : HeaderParts). h.generation) c.header_passed-header.ensures ∙ ap (λ (s : Seen _). s.generation + 1) c.self.view_is;
       faultless = c.in-Ok.ensures.served.ok refl ∙ ap (λ (s : Seen _). g.D.Device.facts.faults s.device) c.self.view_is;
       open_still = ap (λ (s : Seen _). s.reopen) c.self.view_is ∙ c.requires.is_open;
+      newest = λ lawful.
+          sound_newest g.D.Device.facts c.commit.new.device c.header_passed-header.result c.pass.new.self c.self.inside.arena.settings c.self.inside.reopen (invariant_of-self g c)
+          (ap (λ (s : Seen _). s.reopen) c.self.view_is ∙ c.requires.is_open)
+          (c.in-Ok.ensures.served.same_laws.1 (subst (λ (s : Seen _). g.D.Device.facts.lawful s.device) (sym c.self.view_is) lawful));
       reads = λ lawful.
           subst (λ hill. Images (g.D.Device.facts.disk c.commit.new.device) (λ image. Reads (g.D.Device.facts.size c.commit.new.device) image hill)) (sym next)
           (subst (λ (s : Seen _). Images (g.D.Device.facts.disk c.commit.new.device) (λ image. Reads (g.D.Device.facts.size c.commit.new.device) image (kept_fall s.hill))) c.self.view_is

@@ -1,0 +1,3 @@
+mod Mended
+mod Lines
+mod Rows

@@ -1,0 +1,14 @@
+//! The commands of the program `koth` with their files and options, as `clap` reads them and as help shows them.
+//!
+//! What they give a command is the crate `koth_words`.
+//!
+//! - `options`: the options that give settings;
+//! - `arguments`: the files, options and flags of commands, one by one;
+//! - `commands`: the commands.
+#![tactic(auto)]
+
+mod arguments;
+mod commands;
+mod options;
+
+pub use commands::koth_command;
